@@ -1,0 +1,12 @@
+pub mod Grammar
+pub mod Machine
+pub mod Meaning
+pub mod Parsing
+pub mod Reading
+pub mod Runs
+pub mod Script
+pub mod Served
+pub mod Stream
+pub mod Tokens
+pub mod Typing
+pub mod Visible

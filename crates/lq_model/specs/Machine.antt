@@ -1,0 +1,67 @@
+-- «Session machine»: a step of the session, a function of its state and a line to the reply and the new state.
+use Rattle.std.specs.Prelude.{◌≡◌, ◌∷◌, ◌++◌, List, [], map, ℕ, Option, Some, None, codes, slice_get, option_and_then}
+use Rattle.serde_json.specs.Data.{Data}
+use Rattle.lq_value.specs.Tables.{Table}
+use Rattle.lq_value.specs.declared.scalar.Scalar.{Scalar}
+use Rattle.lq_value.specs.declared.table.Schema.{Schema}
+use Rattle.lq_value.specs.declared.ty.Ty.{Ty}
+use Rattle.lq_model.specs.Meaning.{World, query_meaning}
+use Rattle.lq_model.specs.Reading.{reading_of}
+use Rattle.lq_model.specs.Served.{error_data, line_of, stream_data}
+use Rattle.lq_model.specs.Typing.{item_type}
+use Rattle.lq_model.specs.Visible.{TableRow, cell_named, tables_as_seen}
+use Rattle.lq_model.specs.declared.policy.PolicyParts.{PolicyParts}
+use Rattle.lq_model.specs.declared.syntax.Expr.{Expr}
+use Rattle.lq_model.specs.declared.syntax.Query.{Query}
+use Rattle.lq_model.specs.declared.syntax.Statement.{Statement}
+use Rattle.lq_model.specs.declared.syntax.Statement.TheVariants as statement
+
+-- what the session is between two statements: the tables, the policies, and the number of the role
+pub record State : Type 0 where
+  pub tables : List Table
+  pub policies : PolicyParts
+  pub role : ℕ
+
+-- a reply's bytes with their line feed; None where there is no statement on the line
+abbrev pub Reply : Type 0
+Reply = Option (List ℕ)
+
+-- the line that may stand in place of any reply where memory was refused
+abbrev pub memory_line : List ℕ
+memory_line = codes "{\"error\":\"memory\"}" ++ 10 ∷ []
+
+abbrev pub schemas_of : State → List Schema
+schemas_of s = map (λ table. table.schema) s.tables
+
+-- the tables as the role sees them: the only way from a state to its rows
+abbrev pub seen_by_role : State → List (List TableRow)
+seen_by_role s = tables_as_seen s.policies s.role s.tables
+
+abbrev pub columns_in : Option Schema → List (List ℕ)
+columns_in None = []
+columns_in (Some schema) = map (λ column. column.name) schema.columns
+
+-- what queries read: these schemas, and these rows alone
+abbrev pub world_of : List Schema → List (List TableRow) → World TableRow
+world_of schemas rows = record { schemas = schemas; rows = rows; cell = λ r. cell_named (columns_in (slice_get schemas r.table)) r.row.cells }
+
+-- a query without a type is refused, any other serves its stream
+abbrev pub served : World TableRow → Query Expr → Option Ty → Data
+served world q None = error_data (codes "type")
+served world q (Some t) = stream_data (query_meaning world q [])
+
+-- the reply of `run` over these schemas and rows
+unfoldable pub run_reply : List Schema → List (List TableRow) → Query Expr → Data
+run_reply schemas rows q = served (world_of schemas rows) q (item_type q (record { tables = schemas; locals = [] }))
+
+abbrev pub answer_to : State → Statement → Data
+answer_to s (statement.Run q) = run_reply (schemas_of s) (seen_by_role s) q
+
+abbrev pub reply_to : State → Option (Option Statement) → Reply
+reply_to s None = Some (line_of (error_data (codes "syntax")))
+reply_to s (Some None) = None
+reply_to s (Some (Some statement)) = Some (line_of (answer_to s statement))
+
+-- no statement changes the state yet
+unfoldable pub step : State → List ℕ → Reply × State
+step old line = (reply_to old (reading_of line), old)

@@ -1,0 +1,48 @@
+-- «Output»: the replies to the lines of a script, stepped in order.
+use Rattle.std.specs.Prelude.{◌≡◌, ◌+◌, ◌∷◌, ◌++◌, List, [], ℕ, Option, Some, None, IsSome}
+use Rattle.lq_model.specs.Machine.{State, Reply, step, memory_line}
+
+-- The session does a step of the machine, or it answers the memory line in place of a reply and stays as it was.
+pub data Answers (old : State) (line : List ℕ) (reply : Reply) (new : State) : Type 0 where
+  as_machine : (reply, new) ≡ step old line → Answers old line reply new
+  no_memory : IsSome (step old line).0 → reply ≡ Some memory_line → new ≡ old → Answers old line reply new
+
+-- These replies, one for each line, may be given to the lines in turn.
+abbrev pub Runs : State → List (List ℕ) → List Reply → State → Type 0
+Runs old [] [] new = new ≡ old
+Runs old (line ∷ lines) (reply ∷ replies) new = (mid : State) × Answers old line reply mid × Runs mid lines replies new
+Runs old [] (reply ∷ replies) new = ⊥
+Runs old (line ∷ lines) [] new = ⊥
+
+-- the machine alone, over the lines in order
+abbrev pub run : State → List (List ℕ) → List Reply × State
+run old [] = ([], old)
+run old (line ∷ lines) =
+    let now : Reply × State = step old line in
+    let rest : List Reply × State = run now.1 lines in
+    (now.0 ∷ rest.0, rest.1)
+
+-- a reply's bytes, of which a line without a statement has none
+abbrev pub bytes_of : Reply → List ℕ
+bytes_of None = []
+bytes_of (Some bytes) = bytes
+
+-- the replies' lines joined
+abbrev pub joined : List Reply → List ℕ
+joined [] = []
+joined (reply ∷ replies) = bytes_of reply ++ joined replies
+
+-- how many lines were answered
+abbrev pub one_if_some : Reply → ℕ
+one_if_some None = 0
+one_if_some (Some bytes) = 1
+
+abbrev pub count_of_replies : List Reply → ℕ
+count_of_replies [] = 0
+count_of_replies (reply ∷ replies) = one_if_some reply + count_of_replies replies
+
+-- the replies' lines, of which the last may be cut short
+abbrev pub IsCutOff : List Reply → List ℕ → Type 0
+IsCutOff [] bytes = bytes ≡ []
+IsCutOff (reply ∷ []) bytes = (left : List ℕ) × (bytes_of reply ≡ bytes ++ left)
+IsCutOff (reply ∷ next ∷ more) bytes = (rest : List ℕ) × (bytes ≡ bytes_of reply ++ rest) × IsCutOff (next ∷ more) rest

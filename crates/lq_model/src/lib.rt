@@ -1,0 +1,12 @@
+//! What every answer of the server means: tokens, grammar, types, meanings, policies, the session
+//! machine and its output. The definitions stand in `specs/`, the laws about them are the contracts
+//! of the functions of `laws`, and the syntax trees and policies are plain types.
+#![tactic(auto)]
+
+mod policy;
+mod syntax;
+mod token;
+
+pub use policy::{Policy, PolicyParts, Role, TablePart};
+pub use syntax::{Clause, Comparison, Expr, Last, Query, Statement};
+pub use token::{Kind, Token};

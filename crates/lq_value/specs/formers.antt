@@ -1,0 +1,2 @@
+pub mod held
+pub mod list

@@ -1,0 +1,48 @@
+//! A box that contracts see as the value in it.
+ghost use Rattle.std.specs.Prelude.{◌≡◌, IfOk};
+
+use std::alloc::{AllocError, Global};
+use std::marker::Model;
+
+/// A `Box` that contracts see as the value it holds, so that a tree of them is plain data.
+#[derive(Debug, Drop)]
+pub struct Held<T> {
+    /// The box itself.
+    pub inner: Box<T>,
+}
+
+impl<T> Model for Held<T> {
+    ghost Value = { T };
+
+    ghost coded = { T.code };
+
+    ghost view = { λ h. h.inner.value };
+}
+
+impl<T> Held<T> {
+    /// The value held.
+    pub fn get(&self) -> &T
+        ensures { result.now ≡ self.now }
+    {
+        &self.inner
+    }
+
+    /// The value, taken out of its box.
+    pub fn into_inner(self) -> T
+        ensures { result ≡ self }
+    {
+        let Held { inner } = self;
+        Box::into_inner(inner)
+    }
+}
+
+impl<T: Drop> Held<T> {
+    /// Puts `value` in a box of its own.
+    pub fn new(alloc: Global, value: T) -> Result<Held<T>, AllocError>
+        ensures { IfOk result (λ held. held ≡ value) }
+    {
+        Ok(Held {
+            inner: Box::new(alloc, value)?,
+        })
+    }
+}
