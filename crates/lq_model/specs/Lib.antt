@@ -1,4 +1,5 @@
 pub mod Grammar
+pub mod GrammarLaws
 pub mod Machine
 pub mod Meaning
 pub mod Parsing

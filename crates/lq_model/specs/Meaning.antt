@@ -79,6 +79,11 @@ compared operator.GreaterOrEqual a b = ordered_by int_le b a
 compared operator.Equal a b = same_content a b
 compared operator.NotEqual a b = not (same_content a b)
 
+-- the truth value of a condition; no typed condition is another scalar
+abbrev pub truth_of : Scalar → Result Bool Fault
+truth_of (scalar.Bool b) = Ok b
+truth_of s = Err fault.NullReference
+
 module _ {R : Type 0} where
   -- the local name's binding
   abbrev pub binding_of : List ℕ → Scope R → Option (Binding R)
@@ -131,13 +136,9 @@ module _ {R : Type 0} where
 
   -- ---- clauses
 
-  abbrev pub truth_of : Value-F R (Value R) → Result Bool Fault
-  truth_of (Value-F.Scalar (scalar.Bool b)) = Ok b
-  truth_of layer = Err fault.NullReference
-
   -- whether a condition is true
   abbrev pub condition_at : World R → Expr → Scope R → Result Bool Fault
-  condition_at world c scope = on_ok (meaning world c scope) (λ v. truth_of (out-Value R v))
+  condition_at world c scope = on_scalar (meaning world c scope) truth_of
 
   -- a clause maps a stream of scopes to a stream of scopes
   abbrev pub clause_meaning : World R → Clause Expr → Stream (Scope R) → Stream (Scope R)

@@ -81,7 +81,7 @@ module _ (line : List ℕ) where
   unfoldable pub query : Parser (Query Expr)
   query =
       expect k.From >>= (λ from. name >>= (λ x. expect k.In >>= (λ within. name >>= (λ t. clauses >>= (λ cs.
-      expect k.Select >>= (λ select. column >>= (λ v. pure (record { name = x; source = expr.Name t; clauses = cs; last = last.Select v })))))))) 
+      expect k.Select >>= (λ select. column >>= (λ v. pure (record { name = x; source = expr.Name t; clauses = cs; last = last.Select v }))))))))
 
   -- "run" query ";"
   unfoldable pub statement_line : Parser Statement

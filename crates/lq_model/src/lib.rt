@@ -3,6 +3,7 @@
 //! of the functions of `laws`, and the syntax trees and policies are plain types.
 #![tactic(auto)]
 
+pub mod grammar_laws;
 mod policy;
 mod syntax;
 mod token;

@@ -6,8 +6,8 @@ mod held;
 mod list;
 mod scalar;
 mod table;
-mod ty;
 mod txt;
+mod ty;
 mod value;
 
 pub use copies::{copy, copy_scalar};
@@ -15,6 +15,6 @@ pub use held::Held;
 pub use list::List;
 pub use scalar::Scalar;
 pub use table::{Column, ColumnType, Row, Schema};
-pub use ty::Ty;
 pub use txt::Txt;
+pub use ty::Ty;
 pub use value::{End, Fault, RowRef, Value};

@@ -1,0 +1,2 @@
+mod DeviceLemmas
+mod ServingLemmas

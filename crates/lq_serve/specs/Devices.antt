@@ -1,0 +1,31 @@
+-- What a device shows of itself, and what a write that fails midway leaves.
+use Rattle.std.specs.Prelude.{◌≡◌, ◌+◌, ◌-◌, ◌^◌, ◌++◌, ℕ, Bool, List, Option, min}
+use Rattle.std.specs.Io.KnownBytes.{Appends}
+use Rattle.lq_serve.specs.declared.device.Device.{Device}
+
+-- the reader or writer inside
+abbrev pub inner_of : {T : Type 0} → Device T → T
+inner_of device = device.inner
+
+-- how many reads it has made
+abbrev pub read_count : {T : Type 0} → Device T → ℕ
+read_count device = device.reads
+
+-- whether it is marked as failed
+abbrev pub is_failed : {T : Type 0} → Device T → Bool
+is_failed device = device.failed
+
+-- whether a read of it has answered an error or the end
+abbrev pub is_ended : {T : Type 0} → Device T → Bool
+is_ended device = device.ended
+
+-- a count that stays at 2^64 - 1
+abbrev pub one_more : ℕ → ℕ
+one_more n = min (n + 1) (2 ^ 64 - 1)
+
+-- A front of the bytes was appended to the known ones.
+pub record AppendsFront (before after : Option (List ℕ)) (bytes : List ℕ) : Type 0 where
+  pub front : List ℕ
+  pub left : List ℕ
+  pub split : bytes ≡ front ++ left
+  pub written : Appends before after front

@@ -1,0 +1,17 @@
+//! The server over its devices: a script is read whole, its lines are stepped in order, and the replies are written.
+#![tactic(auto)]
+
+mod device;
+mod fault;
+mod finishing;
+mod output;
+mod script;
+mod serving;
+#[cfg(test)]
+mod tests;
+mod text;
+
+pub use device::Device;
+pub use fault::{ReadFailed, ServeError, WriteFailed};
+pub use finishing::finish;
+pub use serving::{Summary, serve};

@@ -1,0 +1,177 @@
+-- What an expression is on one row is what it means in the scope of that row.
+use Rattle.std.proofs.Common.{◌≡◌, ◌∷◌, if◌then◌else◌, List, [], map, ℕ, ℤ, Bool, true, false, Option, Some, None, Result, Ok, Err, ap, ◌∙◌, sym, refl, subst, bytes_eq, codes, map-id}
+use Rattle.std.specs.Result.{result_unwrap_or}
+use Rattle.lq_value.specs.declared.scalar.Scalar.{Scalar}
+use Rattle.lq_value.specs.declared.scalar.Scalar.TheVariants as scalar
+use Rattle.lq_value.specs.declared.ty.Ty.{Ty}
+use Rattle.lq_value.specs.declared.ty.Ty.TheVariants as ty
+use Rattle.lq_value.specs.declared.value.End.TheVariants as end
+use Rattle.lq_value.specs.declared.value.Fault.{Fault}
+use Rattle.lq_value.specs.declared.value.Fault.TheVariants as fault
+use Rattle.lq_value.specs.declared.value.Value.{Value, out-Value}
+use Rattle.lq_value.specs.declared.value.Value.TheVariants.{outs-Row, outs-Scalar, outs-Seq}
+use Rattle.lq_value.specs.declared.value.Value.TheVariants as value
+use Rattle.lq_model.specs.Meaning.{Scope, World, cell_value, compared, meaning, member_value, name_value, condition_at, on_ok, scalar_of, table_value, truth_of}
+use Rattle.lq_model.specs.declared.syntax.Comparison.{Comparison}
+use Rattle.lq_model.specs.declared.syntax.Expr.{Expr, fold_out-Expr, ind-Expr, map-Expr, out-Expr, roll-Expr}
+use Rattle.lq_model.specs.declared.syntax.Expr.TheOpen.{Expr-F}
+use Rattle.lq_model.specs.declared.syntax.Expr.TheVariants.{outs-Compare, outs-Integer, outs-Member, outs-Name, rolls-Compare, rolls-Integer, rolls-Member, rolls-Name}
+use Rattle.lq_model.specs.declared.syntax.Expr.TheVariants as expr
+use Rattle.lq_model.specs.Visible.{cell_named, is_true, rule_holds, rule_world}
+use Rattle.lq_model.proofs.Opens.{meaning_compare, meaning_integer, meaning_member, meaning_name}
+use Rattle.lq_session.specs.OneRow.{Shape, TheRow, TheScalar, cell_in, member_in, scalar_at, scalar_in, shape_of, shape_step, truth_at}
+
+-- ---- the equations of the evaluator
+
+module _ (variable : List ℕ) (cell : List ℕ → Option Scalar) where
+  abbrev layer_shape : Expr-F Expr → Result Shape Fault
+  layer_shape layer = shape_step variable cell (map-Expr Expr (Result Shape Fault) (shape_of variable cell) layer)
+
+  pub shape_out : (e : Expr) → shape_of variable cell e ≡ layer_shape (out-Expr e)
+  unfolding shape_of
+  shape_out e = fold_out-Expr (Result Shape Fault) (shape_step variable cell) e
+
+  pub shape_integer : (n : ℤ) → shape_of variable cell (expr.Integer n) ≡ Ok (TheScalar (scalar.Int n))
+  shape_integer n = shape_out (expr.Integer n) ∙ ap layer_shape (outs-Integer n)
+
+  pub shape_name : (x : List ℕ) → shape_of variable cell (expr.Name x) ≡ (if bytes_eq variable x then Ok TheRow else Err fault.NullReference)
+  shape_name x = shape_out (expr.Name x) ∙ ap layer_shape (outs-Name x)
+
+  pub shape_member : (row : Expr) (c : List ℕ) → shape_of variable cell (expr.Member row c) ≡ on_ok (shape_of variable cell row) (member_in (cell c))
+  shape_member row c = shape_out (expr.Member row c) ∙ ap layer_shape (outs-Member row c)
+
+  pub shape_compare : (op : Comparison) (a b : Expr) → shape_of variable cell (expr.Compare op a b)
+      ≡ on_ok (on_ok (shape_of variable cell a) scalar_in) (λ s. on_ok (on_ok (shape_of variable cell b) scalar_in) (λ t. Ok (TheScalar (scalar.Bool (compared op s t)))))
+  shape_compare op a b = shape_out (expr.Compare op a b) ∙ ap layer_shape (outs-Compare op a b)
+
+-- the equations, and how a layer is read
+pub ruleset shapes = (shape_integer, shape_name, shape_member, shape_compare)
+
+-- ---- agreement with the meaning
+
+-- A value or fault agrees with what the evaluator finds: the row, the scalar, or a fault wherever a row or a scalar is asked for.
+abbrev pub Agrees : {R : Type 0} → World R → R → Result (Value R) Fault → Result Shape Fault → Type 0
+Agrees world r m (Ok TheRow) = m ≡ Ok (value.Row r)
+Agrees world r m (Ok (TheScalar s)) = m ≡ Ok (value.Scalar s)
+Agrees {R} world r m (Err f) = ((c : List ℕ) → on_ok m (λ v. member_value world c (out-Value R v)) ≡ Err f) × (on_ok m (λ v. scalar_of (out-Value R v)) ≡ Err f)
+
+module _ {R : Type 0} (world : World R) (variable : List ℕ) (t : Ty) (r : R) where
+  -- the scope of the row
+  abbrev pub row_scope : Scope R
+  row_scope = record { name = variable; ty = t; value = value.Row r } ∷ []
+
+  abbrev pub Means : Expr → Type 0
+  Means e = Agrees world r (meaning world e row_scope) (shape_of variable (world.cell r) e)
+
+  -- a scalar is asked of both alike
+  pub scalars_agree : (m : Result (Value R) Fault) (o : Result Shape Fault) → Agrees world r m o → on_ok m (λ v. scalar_of (out-Value R v)) ≡ on_ok o scalar_in
+  scalars_agree m (Ok TheRow) h = ap (λ (n : Result (Value R) Fault). on_ok n (λ v. scalar_of (out-Value R v))) h ∙ ap scalar_of (outs-Row r)
+  scalars_agree m (Ok (TheScalar s)) h = ap (λ (n : Result (Value R) Fault). on_ok n (λ v. scalar_of (out-Value R v))) h ∙ ap scalar_of (outs-Scalar s)
+  scalars_agree m (Err f) h = h.1
+
+  -- a cell, or the fault of a column that the row doesn't have
+  cell_agrees : (o : Option Scalar) → Agrees world r (cell_value o) (cell_in o)
+  cell_agrees (Some s) = refl
+  cell_agrees None = (λ c. refl, refl)
+
+  faulty : (f : Fault) → Agrees world r (Err f) (Err f)
+  faulty f = (λ c. refl, refl)
+
+  member_agrees : (m : Result (Value R) Fault) (o : Result Shape Fault) (c : List ℕ) → Agrees world r m o
+      → Agrees world r (on_ok m (λ v. member_value world c (out-Value R v))) (on_ok o (member_in (world.cell r c)))
+  member_agrees m (Ok TheRow) c h =
+      subst (λ (n : Result (Value R) Fault). Agrees world r n (cell_in (world.cell r c)))
+      (sym (ap (λ (n : Result (Value R) Fault). on_ok n (λ v. member_value world c (out-Value R v))) h ∙ ap (member_value world c) (outs-Row r)))
+      (cell_agrees (world.cell r c))
+  member_agrees m (Ok (TheScalar s)) c h =
+      subst (λ (n : Result (Value R) Fault). Agrees world r n (Err fault.NullReference))
+      (sym (ap (λ (n : Result (Value R) Fault). on_ok n (λ v. member_value world c (out-Value R v))) h ∙ ap (member_value world c) (outs-Scalar s)))
+      (faulty fault.NullReference)
+  member_agrees m (Err f) c h = subst (λ (n : Result (Value R) Fault). Agrees world r n (Err f)) (sym (h.0 c)) (faulty f)
+
+  -- the same operator on the same scalars
+  abbrev pub as_value : Comparison → Result Scalar Fault → Result Scalar Fault → Result (Value R) Fault
+  as_value op a b = on_ok a (λ s. on_ok b (λ t'. Ok (value.Scalar (scalar.Bool (compared op s t')))))
+
+  abbrev pub as_shape : Comparison → Result Scalar Fault → Result Scalar Fault → Result Shape Fault
+  as_shape op a b = on_ok a (λ s. on_ok b (λ t'. Ok (TheScalar (scalar.Bool (compared op s t')))))
+
+  compared_agrees : (op : Comparison) (a b : Result Scalar Fault) → Agrees world r (as_value op a b) (as_shape op a b)
+  compared_agrees op (Ok s) (Ok t') = refl
+  compared_agrees op (Ok s) (Err f) = faulty f
+  compared_agrees op (Err f) b = faulty f
+
+  compared_alike : (op : Comparison) (a b c d : Result Scalar Fault) → a ≡ c → b ≡ d → Agrees world r (as_value op a b) (as_shape op c d)
+  compared_alike op a b c d e f =
+      subst (λ (x : Result Scalar Fault). Agrees world r (as_value op x b) (as_shape op c d)) (sym e)
+      (subst (λ (y : Result Scalar Fault). Agrees world r (as_value op c y) (as_shape op c d)) (sym f) (compared_agrees op c d))
+
+  -- the sequence of a table's rows is neither a row nor a scalar
+  table_agrees : (o : Option (List R)) → Agrees world r (table_value o) (Err fault.NullReference)
+  table_agrees None = faulty fault.NullReference
+  table_agrees (Some rows) = (λ c. ap (member_value world c) (outs-Seq (map value.Row rows) end.Done), ap scalar_of (outs-Seq (map value.Row rows) end.Done))
+
+  name_agrees : (x : List ℕ) (b : Bool)
+      → Agrees world r (name_value world x (if b then Some (record { name = variable; ty = t; value = value.Row r }) else None)) (if b then Ok TheRow else Err fault.NullReference)
+  name_agrees x true = refl
+  name_agrees x false = table_agrees _
+
+  -- both by what they are equal to
+  agrees_by : (m n : Result (Value R) Fault) (o p : Result Shape Fault) → m ≡ n → o ≡ p → Agrees world r n p → Agrees world r m o
+  agrees_by m n o p e f h = subst (λ (q : Result Shape Fault). Agrees world r m q) (sym f) (subst (λ (q : Result (Value R) Fault). Agrees world r q p) (sym e) h)
+
+  abbrev Both : Type 0
+  Both = (e : Expr) × Means e
+
+  means_integer : (n : ℤ) → Means (expr.Integer n)
+  means_integer n = agrees_by _ _ _ _ (meaning_integer world n row_scope) (shape_integer variable (world.cell r) n) refl
+
+  means_name : (x : List ℕ) → Means (expr.Name x)
+  means_name x = agrees_by _ _ _ _ (meaning_name world x row_scope) (shape_name variable (world.cell r) x) (name_agrees x (bytes_eq variable x))
+
+  means_member : (row : Expr) (c : List ℕ) → Means row → Means (expr.Member row c)
+  means_member row c h = agrees_by _ _ _ _ (meaning_member world row c row_scope) (shape_member variable (world.cell r) row c) (member_agrees _ _ c h)
+
+  means_compare : (op : Comparison) (a b : Expr) → Means a → Means b → Means (expr.Compare op a b)
+  means_compare op a b h k =
+      agrees_by _ _ _ _ (meaning_compare world op a b row_scope) (shape_compare variable (world.cell r) op a b)
+      (compared_alike op (on_ok (meaning world a row_scope) (λ v. scalar_of (out-Value R v))) (on_ok (meaning world b row_scope) (λ v. scalar_of (out-Value R v)))
+      (on_ok (shape_of variable (world.cell r) a) scalar_in) (on_ok (shape_of variable (world.cell r) b) scalar_in) (scalars_agree _ _ h) (scalars_agree _ _ k))
+
+  means_layer : (x : Expr-F Expr) (y : Expr-F Both) → map-Expr Both Expr (λ e. e.0) y ≡ x → Means (roll-Expr x)
+  means_layer x (Expr-F.Integer n) h = subst (λ d. Means (roll-Expr d)) h (subst Means (sym (rolls-Integer n)) (means_integer n))
+  means_layer x (Expr-F.Name s) h = subst (λ d. Means (roll-Expr d)) h (subst Means (sym (rolls-Name s)) (means_name s))
+  means_layer x (Expr-F.Member row c) h = subst (λ d. Means (roll-Expr d)) h (subst Means (sym (rolls-Member row.0 c)) (means_member row.0 c row.1))
+  means_layer x (Expr-F.Compare op a b) h = subst (λ d. Means (roll-Expr d)) h (subst Means (sym (rolls-Compare op a.0 b.0)) (means_compare op a.0 b.0 a.1 b.1))
+
+  -- in the scope of the row an expression means what the evaluator finds
+  pub means : (e : Expr) → Means e
+  means e = ind-Expr Means means_layer e
+
+  pub scalar_means : (e : Expr) → on_ok (meaning world e row_scope) (λ v. scalar_of (out-Value R v)) ≡ scalar_at variable (world.cell r) e
+  unfolding scalar_at
+  scalar_means e = scalars_agree _ _ (means e)
+
+  -- a condition of the row
+  pub condition_means : (c : Expr) → condition_at world c row_scope ≡ truth_at variable (world.cell r) c
+  unfolding truth_at
+  condition_means c = ap (λ (m : Result Scalar Fault). on_ok m truth_of) (scalar_means c)
+
+-- a rule of a row policy holds where it is true on the row
+pub rule_means : (columns : List (List ℕ)) (table : ℕ) (rule : Expr) (cells : List Scalar)
+    → rule_holds columns table rule cells ≡ is_true (truth_at (codes "row") (cell_named columns cells) rule)
+rule_means columns table rule cells = ap is_true (condition_means (rule_world columns) (codes "row") (ty.Row table) cells rule)
+
+is_true_is : (found : Result Bool Fault) → result_unwrap_or found false ≡ is_true found
+is_true_is (Ok b) = refl
+is_true_is (Err f) = refl
+
+-- the same, as the code finds it: a rule that faults doesn't hold
+pub rule_decides : (columns : List (List ℕ)) (rule : Expr) (cells : List Scalar) (found : Result Bool Fault)
+    → found ≡ truth_at (codes "row") (cell_named (map (λ (name : List ℕ). name) columns) cells) rule
+    → (table : ℕ) → result_unwrap_or found false ≡ rule_holds columns table rule cells
+rule_decides columns rule cells found is table =
+    is_true_is found
+    ∙ ap is_true is
+    ∙ ap (λ (names : List (List ℕ)). is_true (truth_at (codes "row") (cell_named names cells) rule)) (map-id columns)
+    ∙ sym (rule_means columns table rule cells)

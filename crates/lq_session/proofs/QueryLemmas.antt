@@ -1,0 +1,145 @@
+-- A typed query over a table serves what its visible rows give, one row at a time.
+use Rattle.std.proofs.Common.{◌≡◌, ◌∷◌, if◌then◌else◌, List, [], map, ℕ, Bool, true, false, Option, Some, None, Result, Ok, Err, ap, ◌∙◌, sym, refl}
+use Rattle.std.proofs.lemmas.List.{map-append}
+use Rattle.serde_json.specs.Data.{Data}
+use Rattle.lq_value.specs.declared.scalar.Scalar.{Scalar}
+use Rattle.lq_value.specs.declared.ty.Ty.{Ty}
+use Rattle.lq_value.specs.declared.ty.Ty.TheVariants as ty
+use Rattle.lq_value.specs.declared.ty.Ty.TheVariants.{outs-Row, outs-Seq}
+use Rattle.lq_value.specs.declared.value.End.{End}
+use Rattle.lq_value.specs.declared.value.End.TheVariants as end
+use Rattle.lq_value.specs.declared.value.Fault.{Fault}
+use Rattle.lq_value.specs.declared.value.Value.{Value}
+use Rattle.lq_value.specs.declared.value.Value.TheVariants.{outs-Scalar}
+use Rattle.lq_model.specs.Meaning.{Scope, World, clause_meaning, clauses_meaning, condition_at, last_meaning, meaning, on_ok}
+use Rattle.lq_model.specs.Served.{item_data, layer_data, scalar_data}
+use Rattle.lq_model.specs.Stream.{Stream, each, kept, one, then_ending, then_stream}
+use Rattle.lq_model.specs.Typing.{Names, with_local}
+use Rattle.lq_model.specs.declared.syntax.Clause.{Clause}
+use Rattle.lq_model.specs.declared.syntax.Clause.TheVariants as clause
+use Rattle.lq_model.specs.declared.syntax.Expr.{Expr}
+use Rattle.lq_model.specs.declared.syntax.Last.{Last}
+use Rattle.lq_model.specs.declared.syntax.Last.TheVariants as last
+use Rattle.lq_session.specs.OneRow.{given_at, passes, selected, truth_at}
+use Rattle.lq_session.specs.Given.{selects_scalar, top_names}
+use Rattle.lq_session.proofs.OneRowLemmas.{condition_means, row_scope}
+use Rattle.lq_session.proofs.ScalarLemmas.{as_values, scalar_found}
+
+-- ---- streams that keep or drop items by a test
+
+-- the stream behind a test that was passed
+abbrev pub gated : {A : Type 0} → Result Bool Fault → Stream A → Stream A
+gated (Ok b) s = if b then s else ([], end.Done)
+gated (Err f) s = ([], end.Fault f)
+
+-- a test, and where it was passed the next one
+abbrev pub both : Result Bool Fault → Result Bool Fault → Result Bool Fault
+both t u = on_ok t (λ b. if b then u else Ok false)
+
+both-assoc : (t u v : Result Bool Fault) → both (both t u) v ≡ both t (both u v)
+both-assoc (Ok true) u v = refl
+both-assoc (Ok false) u v = refl
+both-assoc (Err f) u v = refl
+
+both-true : (t : Result Bool Fault) → both t (Ok true) ≡ t
+both-true (Ok true) = refl
+both-true (Ok false) = refl
+both-true (Err f) = refl
+
+-- the step behind one more test
+kept_first : {A B : Type 0} (g : A → Stream B) (x : A) (u : Result Bool Fault) (rest : Stream A) (after : Stream B)
+    → each g rest.0 rest.1 ≡ after → each g (then_stream (kept u x) rest).0 (then_stream (kept u x) rest).1 ≡ then_stream (gated u (g x)) after
+kept_first g x (Ok true) rest after h = ap (then_stream (g x)) h
+kept_first g x (Ok false) rest after h = h
+kept_first g x (Err f) rest after h = refl
+
+-- a step over the items that passed a test is a step behind the test
+pub each-kept : {A B R : Type 0} (scope : R → A) (g : A → Stream B) (t : R → Result Bool Fault) (rows : List R) (e : End)
+    → each g (each (λ r. kept (t r) (scope r)) rows e).0 (each (λ r. kept (t r) (scope r)) rows e).1 ≡ each (λ r. gated (t r) (g (scope r))) rows e
+each-kept scope g t [] e = refl
+each-kept scope g t (r ∷ rows) e = kept_first g (scope r) (t r) _ _ (each-kept scope g t rows e)
+
+gated-kept : {A : Type 0} (t u : Result Bool Fault) (x : A) → gated t (kept u x) ≡ kept (both t u) x
+gated-kept (Ok true) u x = refl
+gated-kept (Ok false) u x = refl
+gated-kept (Err f) u x = refl
+
+-- ---- clauses
+
+module _ {R : Type 0} (world : World R) (variable : List ℕ) (t : Ty) where
+  -- the scopes of the rows that pass a test
+  abbrev pub kept_rows : (R → Result Bool Fault) → List R → End → Stream (Scope R)
+  kept_rows test rows e = each (λ r. kept (test r) (row_scope world variable t r)) rows e
+
+  where_rows : (c : Expr) (test : R → Result Bool Fault) (rows : List R) (e : End)
+      → clause_meaning world (clause.Where c) (kept_rows test rows e) ≡ kept_rows (λ r. both (test r) (truth_at variable (world.cell r) c)) rows e
+  where_rows c test rows e =
+      each-kept (row_scope world variable t) (λ s. kept (condition_at world c s) s) test rows e
+      ∙ (λ i. each (λ r. (gated-kept (test r) (condition_at world c (row_scope world variable t r)) (row_scope world variable t r)
+      ∙ ap (λ (u : Result Bool Fault). kept (both (test r) u) (row_scope world variable t r)) (condition_means world variable t r c)) i) rows e)
+
+  pub clauses_rows : (cs : List (Clause Expr)) (test : R → Result Bool Fault) (rows : List R) (e : End)
+      → clauses_meaning world cs (kept_rows test rows e) ≡ kept_rows (λ r. both (test r) (passes variable (world.cell r) cs)) rows e
+  clauses_rows [] test rows e = λ i. kept_rows (λ r. sym (both-true (test r)) i) rows e
+  clauses_rows (clause.Where c ∷ cs) test rows e =
+      ap (clauses_meaning world cs) (where_rows c test rows e)
+      ∙ clauses_rows cs (λ r. both (test r) (truth_at variable (world.cell r) c)) rows e
+      ∙ (λ i. kept_rows (λ r. both-assoc (test r) (truth_at variable (world.cell r) c) (passes variable (world.cell r) cs) i) rows e)
+
+-- ---- what is selected
+
+-- a scalar that was found, as a stream of its data
+abbrev pub given_stream : Result (Option Scalar) Fault → Stream Data
+given_stream (Ok None) = ([], end.Done)
+given_stream (Ok (Some s)) = (scalar_data s ∷ [], end.Done)
+given_stream (Err f) = ([], end.Fault f)
+
+-- a stream's items as data
+abbrev pub as_data : {R : Type 0} → Stream (Value R) → Stream Data
+as_data s = (map item_data s.0, s.1)
+
+as_data-then : {R : Type 0} (xs : List (Value R)) (e : End) (rest : Stream (Value R)) → as_data (then_ending xs e rest) ≡ then_ending (map item_data xs) e (as_data rest)
+as_data-then xs end.Done rest = ap (λ (ds : List Data). (ds, rest.1)) (map-append item_data xs rest.0)
+as_data-then xs (end.Fault f) rest = refl
+
+pub as_data-each : {R S : Type 0} (f : S → Stream (Value R)) (rows : List S) (e : End) → as_data (each f rows e) ≡ each (λ r. as_data (f r)) rows e
+as_data-each f [] e = refl
+as_data-each f (r ∷ rows) e = as_data-then (f r).0 (f r).1 (each f rows e) ∙ ap (then_stream (as_data (f r))) (as_data-each f rows e)
+
+-- what a row gives, by the outcome of its test and of what it selects
+selected_as : (R : Type 0) (test : Result Bool Fault) (found : Result Scalar Fault)
+    → as_data {R = R} (gated test (one (as_values found))) ≡ given_stream (on_ok test (λ b. if b then on_ok found (λ s. Ok (Some s)) else Ok None))
+selected_as R (Ok true) (Ok s) = ap (λ u. (layer_data u ∷ [], end.Done)) (outs-Scalar s)
+selected_as R (Ok true) (Err f) = refl
+selected_as R (Ok false) found = refl
+selected_as R (Err f) found = refl
+
+module _ {R : Type 0} (world : World R) (variable : List ℕ) (number : ℕ) where
+  abbrev item : Ty
+  item = ty.Row number
+
+  -- the names of a query's body
+  abbrev body_names : Names
+  body_names = with_local (top_names world.schemas) variable item
+
+  pub last_rows : (cs : List (Clause Expr)) (l : Last Expr) (test : R → Result Bool Fault) (rows : List R) (e : End) → selects_scalar body_names l ≡ true
+      → as_data (last_meaning world l (kept_rows world variable item test rows e))
+      ≡ each (λ r. as_data {R = R} (gated (test r) (one (as_values (selected variable (world.cell r) l))))) rows e
+  last_rows cs (last.Select v) test rows e typed =
+      ap as_data (each-kept (row_scope world variable item) (λ s. one (meaning world v s)) test rows e)
+      ∙ as_data-each (λ r. gated (test r) (one (meaning world v (row_scope world variable item r)))) rows e
+      ∙ (λ i. each (λ r. as_data (gated (test r) (one (scalar_found world world.schemas variable number r v typed i)))) rows e)
+
+  -- the rows of a query, from its clauses to what it selects
+  pub body_rows : (cs : List (Clause Expr)) (l : Last Expr) (rows : List R) → selects_scalar body_names l ≡ true
+      → as_data (last_meaning world l (clauses_meaning world cs (map (row_scope world variable item) rows, end.Done)))
+      ≡ each (λ r. given_stream (given_at variable (world.cell r) cs l)) rows end.Done
+  body_rows cs l rows typed =
+      ap (λ (s : Stream (Scope R)). as_data (last_meaning world l (clauses_meaning world cs s))) (all_rows rows)
+      ∙ ap (λ (s : Stream (Scope R)). as_data (last_meaning world l s)) (clauses_rows world variable item cs (λ r. Ok true) rows end.Done)
+      ∙ last_rows cs l (λ r. passes variable (world.cell r) cs) rows end.Done typed
+      ∙ (λ i. each (λ r. selected_as R (passes variable (world.cell r) cs) (selected variable (world.cell r) l) i) rows end.Done)
+    where
+      all_rows : (rs : List R) → (map (row_scope world variable item) rs, end.Done) ≡ kept_rows world variable item (λ r. Ok true) rs end.Done
+      all_rows [] = refl
+      all_rows (r ∷ rs) = ap (λ (s : Stream (Scope R)). (row_scope world variable item r ∷ s.0, s.1)) (all_rows rs)

@@ -1,0 +1,113 @@
+-- The reply of a `run` over a table is made of what the table's rows give under the policies.
+use Rattle.std.proofs.Common.{◌≡◌, ◌+◌, ◌∷◌, if◌then◌else◌, List, [], map, filter, ℕ, Bool, true, false, Option, Some, None, Result, Ok, Err, ap, ◌∙◌, sym, refl, slice_get, option_and_then, option_map, is_some, true≢false, codes, zero-add}
+use Rattle.std.proofs.lemmas.Simd.{map-map}
+use Rattle.serde_json.specs.Data.{Data, object}
+use Rattle.lq_value.specs.Tables.{Table}
+use Rattle.lq_value.specs.declared.scalar.Scalar.{Scalar}
+use Rattle.lq_value.specs.declared.table.Row.{Row}
+use Rattle.lq_value.specs.declared.table.Schema.{Schema}
+use Rattle.lq_value.specs.declared.ty.Ty.{Ty, out-Ty}
+use Rattle.lq_value.specs.declared.ty.Ty.TheVariants as ty
+use Rattle.lq_value.specs.declared.ty.Ty.TheVariants.{outs-Seq}
+use Rattle.lq_value.specs.declared.value.End.{End}
+use Rattle.lq_value.specs.declared.value.End.TheVariants as end
+use Rattle.lq_value.specs.declared.value.Fault.{Fault}
+use Rattle.lq_value.specs.declared.value.Value.{Value}
+use Rattle.lq_value.specs.declared.value.Value.TheVariants as value
+use Rattle.lq_value.specs.declared.value.Value.TheVariants.{outs-Seq as outs-value-Seq}
+use Rattle.lq_model.specs.Machine.{columns_in, run_reply, served, world_of}
+use Rattle.lq_model.specs.Meaning.{Scope, World, bound, bound_stream, clauses_meaning, item_type_at, items_of, last_meaning, meaning, or_null, query_meaning, stream_of, table_value}
+use Rattle.lq_model.specs.Served.{error_data, stream_data, stream_members}
+use Rattle.lq_model.specs.Stream.{Stream, each, then_stream}
+use Rattle.lq_model.specs.Typing.{item_of, item_type}
+use Rattle.lq_model.specs.Visible.{TableRow, cell_named, seen_rows, tables_as_seen, visible_to}
+use Rattle.lq_model.specs.declared.policy.PolicyParts.{PolicyParts}
+use Rattle.lq_model.specs.declared.syntax.Expr.{Expr}
+use Rattle.lq_model.specs.declared.syntax.Query.{Query}
+use Rattle.lq_session.specs.Given.{IsOver, given_to, top_names}
+use Rattle.lq_session.specs.Items.{before_items, items_given}
+use Rattle.lq_session.specs.KnownTypes.{schemas_of}
+use Rattle.lq_session.specs.OneRow.{given_at}
+use Rattle.lq_session.proofs.OneRowLemmas.{row_scope}
+use Rattle.lq_session.proofs.QueryLemmas.{as_data, body_rows, given_stream}
+use Rattle.lq_session.proofs.SourceLemmas.{rows_of_table, table_of_rows, schema_at, seen_at, source_means}
+
+-- ---- rows, one at a time
+
+before_is : (found : Result (Option Scalar) Fault) (rest : Stream Data) → then_stream (given_stream found) rest ≡ before_items found rest
+before_is (Ok None) rest = refl
+before_is (Ok (Some s)) rest = refl
+before_is (Err f) rest = refl
+
+-- the rows that pass a test, and then what they give, is what all rows give where the others give nothing
+given_visible : {R : Type 0} (given : R → Result (Option Scalar) Fault) (as_row : Row → R) (seen : Row → Bool) (rows : List Row)
+    → each (λ r. given_stream (given r)) (map as_row (filter seen rows)) end.Done ≡ items_given (λ row. if seen row then given (as_row row) else Ok None) rows
+given_visible given as_row seen [] = refl
+given_visible given as_row seen (row ∷ rows) = by (seen row) (given_visible given as_row seen rows) where
+  rest : Stream Data
+  rest = items_given (λ x. if seen x then given (as_row x) else Ok None) rows
+
+  by : (b : Bool) → each (λ r. given_stream (given r)) (map as_row (filter seen rows)) end.Done ≡ rest
+      → each (λ r. given_stream (given r)) (map as_row (if b then row ∷ filter seen rows else filter seen rows)) end.Done ≡ before_items (if b then given (as_row row) else Ok None) rest
+  by true h = ap (then_stream (given_stream (given (as_row row)))) h ∙ before_is (given (as_row row)) rest
+  by false h = h
+
+-- ---- the query
+
+module _ {R : Type 0} (world : World R) (q : Query Expr) (number : ℕ) (rows : List R) where
+  -- the source's items, each bound to the range variable
+  bound_rows : (over : IsOver world.schemas q number) → slice_get world.rows number ≡ Some rows
+      → bound_stream q.name (item_type_at world q.source []) [] (stream_of (meaning world q.source [])) ≡ (map (row_scope world q.name (ty.Row number)) rows, end.Done)
+  bound_rows over at =
+      ap (λ (m : Result (Value R) Fault). bound_stream q.name (item_type_at world q.source []) [] (stream_of m))
+      (source_means world number q.source (ap table_of_rows over.source ∙ rows_of_table number) ∙ ap table_value at)
+      ∙ ap (λ u. bound_stream q.name (item_type_at world q.source []) [] (items_of u)) (outs-value-Seq (map value.Row rows) end.Done)
+      ∙ ap (λ (t : Ty). bound_stream q.name t [] (map value.Row rows, end.Done)) item_is
+      ∙ ap (λ (scopes : List (Scope R)). (scopes, end.Done)) (map-map (bound q.name (ty.Row number) []) value.Row rows)
+    where
+      item_is : item_type_at world q.source [] ≡ ty.Row number
+      item_is = ap (λ (o : Option Ty). or_null (option_and_then (λ t. item_of (out-Ty t)) o)) over.source ∙ ap (λ u. or_null (item_of u)) (outs-Seq (ty.Row number))
+
+  -- the stream of the query, as data
+  pub query_rows : (over : IsOver world.schemas q number) → slice_get world.rows number ≡ Some rows
+      → as_data (query_meaning world q []) ≡ each (λ r. given_stream (given_at q.name (world.cell r) q.clauses q.last)) rows end.Done
+  unfolding query_meaning
+  query_rows over at =
+      ap (λ (s : Stream (Scope R)). as_data (last_meaning world q.last (clauses_meaning world q.clauses s))) (bound_rows over at)
+      ∙ body_rows world q.name number q.clauses q.last rows over.selected
+
+-- ---- the reply
+
+served_typed : (world : World TableRow) (q : Query Expr) (o : Option Ty) → is_some o ≡ true → served world q o ≡ stream_data (query_meaning world q [])
+served_typed world q None h = absurd (true≢false (sym h))
+served_typed world q (Some t) h = refl
+
+pub reply_untyped : (schemas : List Schema) (rows : List (List TableRow)) (q : Query Expr) → item_type q (top_names schemas) ≡ None → run_reply schemas rows q ≡ error_data (codes "type")
+unfolding run_reply
+reply_untyped schemas rows q h = ap (served (world_of schemas rows) q) h
+
+-- what a table's rows give to a query under the policies of a role
+abbrev pub items_to : PolicyParts → ℕ → ℕ → Table → Query Expr → List Data × End
+items_to parts role number table q = items_given (given_to parts role number (map (λ column. column.name) table.schema.columns) q) table.rows
+
+abbrev pub reply_of_items : List Data × End → Data
+reply_of_items items = object (stream_members items.0 items.1)
+
+pub reply_typed : (parts : PolicyParts) (role number : ℕ) (tables : List Table) (table : Table) (q : Query Expr)
+    → slice_get tables number ≡ Some table → IsOver (schemas_of tables) q number
+    → run_reply (schemas_of tables) (tables_as_seen parts role tables) q ≡ reply_of_items (items_to parts role number table q)
+unfolding run_reply tables_as_seen
+reply_typed parts role number tables table q at over =
+    served_typed world q (item_type q (top_names (schemas_of tables))) over.typed
+    ∙ ap reply_of_items (query_rows world q number (seen_rows parts role number table.rows) over rows_at)
+    ∙ ap reply_of_items (given_visible (λ r. given_at q.name (world.cell r) q.clauses q.last) (λ row. record { table = number; row = row }) (λ row. visible_to parts role number row.cells) table.rows)
+    ∙ ap (λ (o : Option Schema). reply_of_items (items_given (λ row. if visible_to parts role number row.cells then given_at q.name (cell_named (columns_in o) row.cells) q.clauses q.last else Ok None) table.rows)) schema_is
+  where
+    world : World TableRow
+    world = world_of (schemas_of tables) (tables_as_seen parts role tables)
+
+    rows_at : slice_get (tables_as_seen parts role tables) number ≡ Some (seen_rows parts role number table.rows)
+    rows_at = seen_at parts role 0 number tables ∙ ap (option_map (λ t. seen_rows parts role (0 + number) t.rows)) at ∙ ap (λ n. Some (seen_rows parts role n table.rows)) (zero-add number)
+
+    schema_is : slice_get (schemas_of tables) number ≡ Some table.schema
+    schema_is = schema_at number tables ∙ ap (option_map (λ t. t.schema)) at

@@ -1,0 +1,118 @@
+-- Where a query's source has the type of a table's rows, it means the rows of that table as they are seen.
+use Rattle.std.proofs.Common.{◌≡◌, ◌+◌, ◌∷◌, ◌&&◌, if◌then◌else◌, List, [], map, ℕ, ℤ, Bool, true, false, Option, Some, None, ap, ◌∙◌, sym, refl, subst, slice_get, option_and_then, option_map, zero, suc, add-zero, arith}
+use Rattle.std.proofs.lemmas.Option.{slice_get-map}
+use Rattle.lq_value.specs.Tables.{Table}
+use Rattle.lq_value.specs.declared.table.Column.{Column}
+use Rattle.lq_value.specs.declared.table.ColumnType.{ColumnType}
+use Rattle.lq_value.specs.declared.table.ColumnType.TheVariants as of
+use Rattle.lq_value.specs.declared.table.Schema.{Schema}
+use Rattle.lq_value.specs.declared.ty.Ty.{Ty, out-Ty}
+use Rattle.lq_value.specs.declared.ty.Ty.TheVariants as ty
+use Rattle.lq_value.specs.declared.ty.Ty.TheVariants.{outs-Bool, outs-Int, outs-IntN, outs-Row, outs-Seq, outs-Str}
+use Rattle.lq_model.specs.Meaning.{World, meaning, table_value}
+use Rattle.lq_model.specs.Typing.{column_named, column_type, is_number, item_of, row_table, table_number, type_of, type_of_column}
+use Rattle.lq_model.specs.Visible.{seen_from, seen_rows}
+use Rattle.lq_model.specs.declared.policy.PolicyParts.{PolicyParts}
+use Rattle.lq_model.specs.declared.syntax.Comparison.{Comparison}
+use Rattle.lq_model.specs.declared.syntax.Expr.{Expr, ind-Expr, map-Expr, roll-Expr}
+use Rattle.lq_model.specs.declared.syntax.Expr.TheOpen.{Expr-F}
+use Rattle.lq_model.specs.declared.syntax.Expr.TheVariants.{rolls-Compare, rolls-Integer, rolls-Member, rolls-Name}
+use Rattle.lq_model.specs.declared.syntax.Expr.TheVariants as expr
+use Rattle.lq_model.proofs.Opens.{meaning_name, type_compare, type_integer, type_member, type_name}
+use Rattle.lq_session.specs.Given.{top_names}
+
+-- the table whose rows a sequence of this type has
+abbrev pub table_of_rows : Option Ty → Option ℕ
+table_of_rows None = None
+table_of_rows (Some t) = option_and_then (λ item. row_table (out-Ty item)) (item_of (out-Ty t))
+
+-- nothing is something
+none_is_none : {A : Type 0} {n : ℕ} → None ≡ Some n → A
+none_is_none e = absurd cc
+
+column_no_rows : (t : ColumnType) → table_of_rows (Some (type_of_column t)) ≡ None
+column_no_rows of.Int = ap (λ u. option_and_then (λ item. row_table (out-Ty item)) (item_of u)) outs-Int
+column_no_rows of.IntN = ap (λ u. option_and_then (λ item. row_table (out-Ty item)) (item_of u)) outs-IntN
+column_no_rows of.Bool = ap (λ u. option_and_then (λ item. row_table (out-Ty item)) (item_of u)) outs-Bool
+column_no_rows of.Str = ap (λ u. option_and_then (λ item. row_table (out-Ty item)) (item_of u)) outs-Str
+
+columns_no_rows : (o : Option Column) → table_of_rows (option_map (λ column. type_of_column column.ty) o) ≡ None
+columns_no_rows None = refl
+columns_no_rows (Some column) = column_no_rows column.ty
+
+column_type_no_rows : (c : List ℕ) (o : Option Schema) → table_of_rows (option_and_then (λ schema. option_map (λ column. type_of_column column.ty) (column_named c schema.columns)) o) ≡ None
+column_type_no_rows c None = refl
+column_type_no_rows c (Some schema) = columns_no_rows (column_named c schema.columns)
+
+member_no_rows : (tables : List Schema) (c : List ℕ) (o : Option ℕ) → table_of_rows (option_and_then (λ n. column_type tables n c) o) ≡ None
+member_no_rows tables c None = refl
+member_no_rows tables c (Some n) = column_type_no_rows c (slice_get tables n)
+
+members_no_rows : (tables : List Schema) (c : List ℕ) (o : Option Ty) → table_of_rows (option_and_then (λ t. option_and_then (λ n. column_type tables n c) (row_table (out-Ty t))) o) ≡ None
+members_no_rows tables c None = refl
+members_no_rows tables c (Some t) = member_no_rows tables c (row_table (out-Ty t))
+
+truth_no_rows : (b : Bool) → table_of_rows (if b then Some ty.Bool else None) ≡ None
+truth_no_rows true = column_no_rows of.Bool
+truth_no_rows false = refl
+
+compare_no_rows : (o p : Option Ty)
+    → table_of_rows (option_and_then (λ s. option_and_then (λ t. if is_number (out-Ty s) && is_number (out-Ty t) then Some ty.Bool else None) p) o) ≡ None
+compare_no_rows None p = refl
+compare_no_rows (Some s) None = refl
+compare_no_rows (Some s) (Some t) = truth_no_rows (is_number (out-Ty s) && is_number (out-Ty t))
+
+pub rows_of_table : (m : ℕ) → table_of_rows (Some (ty.Seq (ty.Row m))) ≡ Some m
+rows_of_table m = ap (λ u. option_and_then (λ item. row_table (out-Ty item)) (item_of u)) (outs-Seq (ty.Row m)) ∙ ap row_table (outs-Row m)
+
+module _ {R : Type 0} (world : World R) (number : ℕ) where
+  abbrev IsSource : Expr → Type 0
+  IsSource e = table_of_rows (type_of e (top_names world.schemas)) ≡ Some number → meaning world e [] ≡ table_value (slice_get world.rows number)
+
+  source_integer : (n : ℤ) → IsSource (expr.Integer n)
+  source_integer n h = none_is_none (sym (ap table_of_rows (type_integer n (top_names world.schemas)) ∙ column_no_rows of.Int) ∙ h)
+
+  source_member : (row : Expr) (c : List ℕ) → IsSource (expr.Member row c)
+  source_member row c h =
+      none_is_none (sym (ap table_of_rows (type_member row c (top_names world.schemas)) ∙ members_no_rows world.schemas c (type_of row (top_names world.schemas))) ∙ h)
+
+  source_compare : (op : Comparison) (a b : Expr) → IsSource (expr.Compare op a b)
+  source_compare op a b h =
+      none_is_none (sym (ap table_of_rows (type_compare op a b (top_names world.schemas)) ∙ compare_no_rows (type_of a (top_names world.schemas)) (type_of b (top_names world.schemas))) ∙ h)
+
+  -- the table that a name stands for
+  found_table : (o : Option ℕ) → table_of_rows (option_map (λ m. ty.Seq (ty.Row m)) o) ≡ Some number
+      → table_value (option_and_then (λ m. slice_get world.rows m) o) ≡ table_value (slice_get world.rows number)
+  found_table None h = none_is_none h
+  found_table (Some m) h = let same : Some m ≡ Some number = sym (rows_of_table m) ∙ h in let e : m ≡ number = cc in ap (λ k. table_value (slice_get world.rows k)) e
+
+  source_name : (x : List ℕ) → IsSource (expr.Name x)
+  source_name x h = meaning_name world x [] ∙ found_table (table_number x world.schemas) (sym (ap table_of_rows (type_name x (top_names world.schemas))) ∙ h)
+
+  abbrev Both : Type 0
+  Both = (e : Expr) × IsSource e
+
+  source_layer : (x : Expr-F Expr) (y : Expr-F Both) → map-Expr Both Expr (λ e. e.0) y ≡ x → IsSource (roll-Expr x)
+  source_layer x (Expr-F.Integer n) h = subst (λ d. IsSource (roll-Expr d)) h (subst IsSource (sym (rolls-Integer n)) (source_integer n))
+  source_layer x (Expr-F.Name s) h = subst (λ d. IsSource (roll-Expr d)) h (subst IsSource (sym (rolls-Name s)) (source_name s))
+  source_layer x (Expr-F.Member row c) h = subst (λ d. IsSource (roll-Expr d)) h (subst IsSource (sym (rolls-Member row.0 c)) (source_member row.0 c))
+  source_layer x (Expr-F.Compare op a b) h = subst (λ d. IsSource (roll-Expr d)) h (subst IsSource (sym (rolls-Compare op a.0 b.0)) (source_compare op a.0 b.0))
+
+  pub source_means : (e : Expr) → table_of_rows (type_of e (top_names world.schemas)) ≡ Some number → meaning world e [] ≡ table_value (slice_get world.rows number)
+  source_means e = ind-Expr IsSource source_layer e
+
+same_place : (start number : ℕ) → (start + 1) + number ≡ start + suc number
+same_place start number = omega arith
+
+-- the rows of a table as seen, by its number
+pub seen_at : (parts : PolicyParts) (role start number : ℕ) (tables : List Table)
+    → slice_get (seen_from parts role start tables) number ≡ option_map (λ table. seen_rows parts role (start + number) table.rows) (slice_get tables number)
+seen_at parts role start number [] = refl
+seen_at parts role start zero (table ∷ tables) = ap (λ n. Some (seen_rows parts role n table.rows)) (sym (add-zero start))
+seen_at parts role start (suc number) (table ∷ tables) =
+    seen_at parts role (start + 1) number tables
+    ∙ ap (λ n. option_map (λ t. seen_rows parts role n t.rows) (slice_get tables number)) (same_place start number)
+
+-- the table with a number, and its schema
+pub schema_at : (number : ℕ) (tables : List Table) → slice_get (map (λ table. table.schema) tables) number ≡ option_map (λ table. table.schema) (slice_get tables number)
+schema_at number tables = slice_get-map (λ table. table.schema) tables number

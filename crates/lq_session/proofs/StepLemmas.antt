@@ -1,0 +1,87 @@
+-- From what a statement's calls give to the machine's step.
+use Rattle.std.proofs.Common.{◌≡◌, ◌∷◌, ◌++◌, List, [], map, ℕ, false, Option, Some, None, IsSome, ap, ap₂, ◌∙◌, sym, refl, codes, option_map, slice_get}
+use Rattle.serde_json.specs.Data.{Data}
+use Rattle.lq_value.specs.Tables.{Table}
+use Rattle.lq_value.specs.declared.table.Row.{Row}
+use Rattle.lq_value.specs.declared.table.Schema.{Schema}
+use Rattle.lq_value.specs.declared.value.End.{End}
+use Rattle.lq_model.specs.Machine.{State, reply_to, run_reply, step}
+use Rattle.lq_model.specs.Reading.{reading_of, reading_of_tokens}
+use Rattle.lq_model.specs.Parsing.{statement_of}
+use Rattle.lq_model.specs.Served.{error_data, line_of}
+use Rattle.lq_model.specs.Tokens.{tokens_of}
+use Rattle.lq_model.specs.Typing.{item_type}
+use Rattle.lq_model.specs.Visible.{tables_as_seen}
+use Rattle.lq_model.specs.declared.policy.PolicyParts.{PolicyParts}
+use Rattle.lq_model.specs.declared.syntax.Expr.{Expr}
+use Rattle.lq_model.specs.declared.syntax.Query.{Query}
+use Rattle.lq_model.specs.declared.syntax.Statement.{Statement}
+use Rattle.lq_model.specs.declared.token.Token.{Token}
+use Rattle.lq_session.specs.Given.{IsOver, given_to, top_names}
+use Rattle.lq_session.specs.Items.{items_given, listed, opening}
+use Rattle.lq_session.proofs.ItemLemmas.{line-listed}
+use Rattle.lq_session.proofs.ServesLemmas.{items_to, reply_of_items, reply_typed, reply_untyped}
+
+-- ---- lines with and without a statement
+
+read_reply : (old : State) (o : Option Statement) → IsSome (reply_to old (option_map Some o))
+read_reply old None = refl
+read_reply old (Some s) = refl
+
+tokens_reply : (old : State) (line : List ℕ) (o : Option (List Token)) → (o ≡ Some [] → ⊥) → IsSome (reply_to old (reading_of_tokens line o))
+tokens_reply old line None h = refl
+tokens_reply old line (Some []) h = absurd (h refl)
+tokens_reply old line (Some (token ∷ tokens)) h = read_reply old (statement_of line (token ∷ tokens))
+
+-- a line that isn't blank has a reply
+pub some_reply : (old : State) (line : List ℕ) → (tokens_of line ≡ Some [] → ⊥) → IsSome (step old line).0
+unfolding step reading_of
+some_reply old line h = tokens_reply old line (tokens_of line) h
+
+-- a blank line has none
+pub blank_step : (old : State) (line : List ℕ) → tokens_of line ≡ Some [] → (None, old) ≡ step old line
+unfolding step reading_of
+blank_step old line h = ap (λ (o : Option (List Token)). (reply_to old (reading_of_tokens line o), old)) (sym h)
+
+-- the reply to what was read
+pub read_step : (old : State) (line : List ℕ) (o : Option (Option Statement)) → reading_of line ≡ o → reply_to old o ≡ (step old line).0
+unfolding step
+read_step old line o h = ap (reply_to old) (sym h)
+
+-- nothing but the reply is new
+pub step_state : (old : State) (line : List ℕ) (reply : Option (List ℕ)) → reply ≡ (step old line).0 → (reply, old) ≡ step old line
+unfolding step
+step_state old line reply h = ap (λ (r : Option (List ℕ)). (r, old)) h
+
+-- ---- the line of a run
+
+listed_line : (items : List Data × End) (text : List ℕ) (e : End) (line : List ℕ) → text ≡ listed false items.0 → e ≡ items.1 → line ≡ (opening e ++ text) ++ codes "]}\n"
+    → line ≡ line_of (reply_of_items items)
+listed_line items text e line h k l =
+    l ∙ ap₂ (λ (x : End) (y : List ℕ). (opening x ++ y) ++ codes "]}\n") k h ∙ sym (line-listed items.0 items.1)
+
+module _ (parts : PolicyParts) (role number : ℕ) (tables : List Table) (q : Query Expr) where
+  abbrev run_line : List ℕ
+  run_line = line_of (run_reply (map (λ table. table.schema) tables) (tables_as_seen parts role tables) q)
+
+  -- by what the table with the number is
+  pub line_at : (o : Option Table) (schema : Schema) (rows : List Row) → slice_get tables number ≡ o → option_map (λ t. t.schema) o ≡ Some schema → option_map (λ t. t.rows) o ≡ Some rows
+      → IsOver (map (λ table. table.schema) tables) q number → (text : List ℕ) (e : End) (line : List ℕ)
+      → text ≡ listed false (items_given (given_to parts role number (map (λ column. column.name) schema.columns) q) rows).0
+      → e ≡ (items_given (given_to parts role number (map (λ column. column.name) schema.columns) q) rows).1
+      → line ≡ (opening e ++ text) ++ codes "]}\n" → line ≡ run_line
+  line_at None schema rows at has_schema has_rows over text e line h k l = absurd cc
+  line_at (Some t) schema rows at has_schema has_rows over text e line h k l =
+      let same_schema : schema ≡ t.schema = cc in
+      let same_rows : rows ≡ t.rows = cc in
+      let same : items_given (given_to parts role number (map (λ column. column.name) schema.columns) q) rows ≡ items_to parts role number t q
+      = ap₂ (λ (s : Schema) (rs : List Row). items_given (given_to parts role number (map (λ column. column.name) s.columns) q) rs) same_schema same_rows in
+      listed_line (items_to parts role number t q) text e line (h ∙ ap (λ (items : List Data × End). listed false items.0) same) (k ∙ ap (λ (items : List Data × End). items.1) same) l
+      ∙ ap line_of (sym (reply_typed parts role number tables t q at over))
+
+-- the line of a query without a type
+pub untyped_line : (s : State) (q : Query Expr) → item_type q (top_names (map (λ table. table.schema) s.tables)) ≡ None
+    → line_of (error_data (codes "type")) ≡ line_of (run_reply (map (λ table. table.schema) s.tables) (tables_as_seen s.policies s.role s.tables) q)
+untyped_line s q h = ap line_of (sym (reply_untyped (map (λ table. table.schema) s.tables) (tables_as_seen s.policies s.role s.tables) q h))
+
+pub ruleset steps = (some_reply, blank_step, read_step, step_state)

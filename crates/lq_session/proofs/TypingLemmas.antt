@@ -1,0 +1,134 @@
+-- How the type check's types are read, and where it finds tables.
+use Rattle.std.proofs.Common.{◌≡◌, ◌+◌, ◌∷◌, ◌&&◌, if◌then◌else◌, List, [], map, ℕ, Bool, true, false, Option, Some, None, ap, ◌∙◌, sym, refl, bytes_eq, nat_eq, is_some, option_and_then, true≢false}
+use Rattle.std.specs.List.{position_from}
+use Rattle.std.specs.Cmp.Lexicographic.{pointwise}
+use Rattle.lq_value.specs.Tables.{Table}
+use Rattle.lq_value.specs.declared.table.ColumnType.{ColumnType}
+use Rattle.lq_value.specs.declared.table.ColumnType.TheVariants as of
+use Rattle.lq_value.specs.declared.table.Schema.{Schema}
+use Rattle.lq_value.specs.declared.ty.Ty.{Ty, out-Ty}
+use Rattle.lq_value.specs.declared.ty.Ty.TheVariants as ty
+use Rattle.lq_value.specs.declared.ty.Ty.TheVariants.{outs-Bool, outs-Int, outs-IntN, outs-Row, outs-Seq, outs-Str}
+use Rattle.lq_store.specs.Calls as store
+use Rattle.lq_model.specs.Typing.{Names, body_type, clauses_are_typed, if_scalar, is_bool, is_number, is_scalar, item_of, item_type, items_over, row_table, selected_type, table_number, type_of, type_of_column, with_local}
+use Rattle.lq_model.specs.declared.syntax.Expr.{Expr}
+use Rattle.lq_model.specs.declared.syntax.Last.{Last}
+use Rattle.lq_model.specs.declared.syntax.Last.TheVariants as last
+use Rattle.lq_model.specs.declared.syntax.Query.{Query}
+use Rattle.lq_model.proofs.Opens.{type_compare, type_integer, type_member, type_name}
+use Rattle.lq_session.specs.Given.{IsOver, is_scalar_type, is_typed_body, selects_scalar, top_names}
+use Rattle.lq_session.specs.KnownTypes.{is_known_bool, is_known_number, is_known_scalar, known_row, schemas_of, shown_type}
+use Rattle.lq_session.specs.declared.typing.Known.{Known}
+use Rattle.lq_session.specs.declared.typing.Known.TheVariants as known
+
+pub number_known : (k : Known) → is_number (out-Ty (shown_type k)) ≡ is_known_number k
+number_known (known.Scalar of.Int) = ap is_number outs-Int
+number_known (known.Scalar of.IntN) = ap is_number outs-IntN
+number_known (known.Scalar of.Bool) = ap is_number outs-Bool
+number_known (known.Scalar of.Str) = ap is_number outs-Str
+number_known (known.Row n) = ap is_number (outs-Row n)
+number_known (known.Rows n) = ap is_number (outs-Seq (ty.Row n))
+
+pub bool_known : (k : Known) → is_bool (out-Ty (shown_type k)) ≡ is_known_bool k
+bool_known (known.Scalar of.Int) = ap is_bool outs-Int
+bool_known (known.Scalar of.IntN) = ap is_bool outs-IntN
+bool_known (known.Scalar of.Bool) = ap is_bool outs-Bool
+bool_known (known.Scalar of.Str) = ap is_bool outs-Str
+bool_known (known.Row n) = ap is_bool (outs-Row n)
+bool_known (known.Rows n) = ap is_bool (outs-Seq (ty.Row n))
+
+pub scalar_known : (k : Known) → is_scalar (out-Ty (shown_type k)) ≡ is_known_scalar k
+scalar_known (known.Scalar of.Int) = ap is_scalar outs-Int
+scalar_known (known.Scalar of.IntN) = ap is_scalar outs-IntN
+scalar_known (known.Scalar of.Bool) = ap is_scalar outs-Bool
+scalar_known (known.Scalar of.Str) = ap is_scalar outs-Str
+scalar_known (known.Row n) = ap is_scalar (outs-Row n)
+scalar_known (known.Rows n) = ap is_scalar (outs-Seq (ty.Row n))
+
+pub row_known : (k : Known) → row_table (out-Ty (shown_type k)) ≡ known_row k
+row_known (known.Scalar of.Int) = ap row_table outs-Int
+row_known (known.Scalar of.IntN) = ap row_table outs-IntN
+row_known (known.Scalar of.Bool) = ap row_table outs-Bool
+row_known (known.Scalar of.Str) = ap row_table outs-Str
+row_known (known.Row n) = ap row_table (outs-Row n)
+row_known (known.Rows n) = ap row_table (outs-Seq (ty.Row n))
+
+pub ruleset types = (type_integer, type_name, type_member, type_compare, number_known, row_known)
+
+-- a table is found by its schema where it is found by its name
+pub number_is : (tables : List Table) (name : List ℕ) → store.table_number tables name ≡ table_number name (schemas_of tables)
+number_is tables name = from_place 0 tables where
+  from_place : (i : ℕ) (rest : List Table) → position_from (λ t. pointwise nat_eq t.schema.name name) i rest ≡ position_from (λ schema. bytes_eq schema.name name) i (map (λ t. t.schema) rest)
+  from_place i [] = refl
+  from_place i (t ∷ rest) = ap (λ (o : Option ℕ). if bytes_eq t.schema.name name then Some i else o) (from_place (i + 1) rest)
+
+-- ---- a query, by the type of its source and of its body
+
+scalar_has_no_items : (t : ColumnType) → item_of (out-Ty (type_of_column t)) ≡ None
+scalar_has_no_items of.Int = ap item_of outs-Int
+scalar_has_no_items of.IntN = ap item_of outs-IntN
+scalar_has_no_items of.Bool = ap item_of outs-Bool
+scalar_has_no_items of.Str = ap item_of outs-Str
+
+-- a source of no sequence type leaves the query untyped
+pub untyped_source : (tables : List Schema) (q : Query Expr) → type_of q.source (top_names tables) ≡ None → item_type q (top_names tables) ≡ None
+unfolding item_type
+untyped_source tables q h = ap (λ (o : Option Ty). items_over (top_names tables) q (option_and_then (λ t. item_of (out-Ty t)) o)) h
+
+pub untyped_row : (tables : List Schema) (q : Query Expr) (n : ℕ) → type_of q.source (top_names tables) ≡ Some (ty.Row n) → item_type q (top_names tables) ≡ None
+unfolding item_type
+untyped_row tables q n h =
+    ap (λ (o : Option Ty). items_over (top_names tables) q (option_and_then (λ t. item_of (out-Ty t)) o)) h
+    ∙ ap (λ u. items_over (top_names tables) q (item_of u)) (outs-Row n)
+
+pub untyped_scalar : (tables : List Schema) (q : Query Expr) (t : ColumnType) → type_of q.source (top_names tables) ≡ Some (type_of_column t) → item_type q (top_names tables) ≡ None
+unfolding item_type
+untyped_scalar tables q t h =
+    ap (λ (o : Option Ty). items_over (top_names tables) q (option_and_then (λ u. item_of (out-Ty u)) o)) h
+    ∙ ap (items_over (top_names tables) q) (scalar_has_no_items t)
+
+-- over the rows of a table the query's type is that of its body
+over_rows : (tables : List Schema) (q : Query Expr) (n : ℕ) → type_of q.source (top_names tables) ≡ Some (ty.Seq (ty.Row n))
+    → item_type q (top_names tables) ≡ body_type (with_local (top_names tables) q.name (ty.Row n)) q
+unfolding item_type
+over_rows tables q n h =
+    ap (λ (o : Option Ty). items_over (top_names tables) q (option_and_then (λ t. item_of (out-Ty t)) o)) h
+    ∙ ap (λ u. items_over (top_names tables) q (item_of u)) (outs-Seq (ty.Row n))
+
+some_scalar : (o : Option Ty) → is_some (if_scalar o) ≡ is_scalar_type o
+some_scalar None = refl
+some_scalar (Some t) = by (is_scalar (out-Ty t)) where
+  by : (b : Bool) → is_some (if b then Some t else None) ≡ b
+  by true = refl
+  by false = refl
+
+some_selected : (names : Names) (l : Last Expr) → is_some (selected_type names l) ≡ selects_scalar names l
+some_selected names (last.Select v) = some_scalar (type_of v names)
+
+none_of : {A : Type 0} (o : Option A) → is_some o ≡ false → o ≡ None
+none_of None h = refl
+none_of (Some x) h = absurd (true≢false h)
+
+some_body : (names : Names) (q : Query Expr) → is_some (body_type names q) ≡ is_typed_body names q
+some_body names q = by (clauses_are_typed names q.clauses) where
+  by : (b : Bool) → is_some (if b then selected_type names q.last else None) ≡ (b && selects_scalar names q.last)
+  by true = some_selected names q.last
+  by false = refl
+
+pub untyped_body : (tables : List Schema) (q : Query Expr) (n : ℕ) → type_of q.source (top_names tables) ≡ Some (ty.Seq (ty.Row n))
+    → is_typed_body (with_local (top_names tables) q.name (ty.Row n)) q ≡ false → item_type q (top_names tables) ≡ None
+untyped_body tables q n h body = over_rows tables q n h ∙ none_of _ (some_body (with_local (top_names tables) q.name (ty.Row n)) q ∙ body)
+
+second_true : (a b : Bool) → (a && b) ≡ true → b ≡ true
+second_true true b h = h
+second_true false b h = absurd (true≢false (sym h))
+
+pub typed_body : (tables : List Schema) (q : Query Expr) (n : ℕ) → type_of q.source (top_names tables) ≡ Some (ty.Seq (ty.Row n))
+    → is_typed_body (with_local (top_names tables) q.name (ty.Row n)) q ≡ true → IsOver tables q n
+typed_body tables q n h body = record {
+  source = h;
+  typed = ap is_some (over_rows tables q n h) ∙ some_body (with_local (top_names tables) q.name (ty.Row n)) q ∙ body;
+  selected = second_true (clauses_are_typed (with_local (top_names tables) q.name (ty.Row n)) q.clauses) _ body;
+}
+
+pub ruleset queries = (untyped_source, untyped_row, untyped_scalar, untyped_body, typed_body)

@@ -1,0 +1,48 @@
+-- What a row of a table gives to a query, under the policies of a role.
+use Rattle.std.specs.Prelude.{◌≡◌, ◌&&◌, if◌then◌else◌, List, [], ℕ, Bool, true, false, Option, Some, None, Result, Ok, is_some}
+use Rattle.lq_value.specs.declared.scalar.Scalar.{Scalar}
+use Rattle.lq_value.specs.declared.table.Row.{Row}
+use Rattle.lq_value.specs.declared.table.Schema.{Schema}
+use Rattle.lq_value.specs.declared.ty.Ty.{Ty, out-Ty}
+use Rattle.lq_value.specs.declared.ty.Ty.TheVariants as ty
+use Rattle.lq_value.specs.declared.value.Fault.{Fault}
+use Rattle.lq_model.specs.Typing.{Names, clauses_are_typed, is_scalar, item_type, type_of, with_local}
+use Rattle.lq_model.specs.Visible.{cell_named, visible_to}
+use Rattle.lq_model.specs.declared.policy.PolicyParts.{PolicyParts}
+use Rattle.lq_model.specs.declared.syntax.Expr.{Expr}
+use Rattle.lq_model.specs.declared.syntax.Last.{Last}
+use Rattle.lq_model.specs.declared.syntax.Last.TheVariants as last
+use Rattle.lq_model.specs.declared.syntax.Query.{Query}
+use Rattle.lq_session.specs.OneRow.{given_at}
+
+-- what a visible row gives: the query's clauses and what it selects, on the row
+abbrev pub given_by : List (List ℕ) → Query Expr → Row → Result (Option Scalar) Fault
+given_by columns q row = given_at q.name (cell_named columns row.cells) q.clauses q.last
+
+-- a hidden row gives nothing
+abbrev pub given_to : PolicyParts → ℕ → ℕ → List (List ℕ) → Query Expr → Row → Result (Option Scalar) Fault
+given_to parts role table columns q row = if visible_to parts role table row.cells then given_by columns q row else Ok None
+
+-- ---- the type check of a query over a table
+
+-- whether a type, if there is one, is that of scalars
+abbrev pub is_scalar_type : Option Ty → Bool
+is_scalar_type None = false
+is_scalar_type (Some t) = is_scalar (out-Ty t)
+
+-- whether what a query selects has the type of a scalar
+abbrev pub selects_scalar : Names → Last Expr → Bool
+selects_scalar names (last.Select v) = is_scalar_type (type_of v names)
+
+abbrev pub is_typed_body : Names → Query Expr → Bool
+is_typed_body names q = clauses_are_typed names q.clauses && selects_scalar names q.last
+
+-- the names of a statement: the tables, and no local name
+abbrev pub top_names : List Schema → Names
+top_names tables = record { tables = tables; locals = [] }
+
+-- A typed query whose source is the table with this number.
+pub record IsOver (tables : List Schema) (q : Query Expr) (number : ℕ) : Type 0 where
+  pub source : type_of q.source (top_names tables) ≡ Some (ty.Seq (ty.Row number))
+  pub typed : is_some (item_type q (top_names tables)) ≡ true
+  pub selected : selects_scalar (with_local (top_names tables) q.name (ty.Row number)) q.last ≡ true

@@ -1,0 +1,9 @@
+pub mod Given
+pub mod Items
+pub mod KnownTypes
+pub mod Lines
+pub mod OneRow
+pub mod Operands
+pub mod Roles
+pub mod Runs
+pub mod States

@@ -1,0 +1,63 @@
+-- What an expression is on one row, as the evaluator finds it: the row is the only local name.
+use Rattle.std.specs.Prelude.{◌∷◌, if◌then◌else◌, List, [], ℕ, Bool, true, false, Option, Some, None, Result, Ok, Err}
+use Rattle.std.specs.Str.{bytes_eq}
+use Rattle.lq_value.specs.declared.scalar.Scalar.{Scalar}
+use Rattle.lq_value.specs.declared.scalar.Scalar.TheVariants as scalar
+use Rattle.lq_value.specs.declared.value.Fault.{Fault}
+use Rattle.lq_value.specs.declared.value.Fault.TheVariants as fault
+use Rattle.lq_model.specs.Meaning.{compared, on_ok, truth_of}
+use Rattle.lq_model.specs.declared.syntax.Clause.{Clause}
+use Rattle.lq_model.specs.declared.syntax.Clause.TheVariants as clause
+use Rattle.lq_model.specs.declared.syntax.Expr.{Expr, fold-Expr}
+use Rattle.lq_model.specs.declared.syntax.Expr.TheOpen.{Expr-F}
+use Rattle.lq_model.specs.declared.syntax.Last.{Last}
+use Rattle.lq_model.specs.declared.syntax.Last.TheVariants as last
+
+-- the row itself, or a scalar
+pub data Shape : Type 0 where
+  TheRow : Shape
+  TheScalar : Scalar → Shape
+
+abbrev pub scalar_in : Shape → Result Scalar Fault
+scalar_in TheRow = Err fault.NullReference
+scalar_in (TheScalar s) = Ok s
+
+abbrev pub cell_in : Option Scalar → Result Shape Fault
+cell_in (Some s) = Ok (TheScalar s)
+cell_in None = Err fault.NullReference
+
+abbrev pub member_in : Option Scalar → Shape → Result Shape Fault
+member_in cell TheRow = cell_in cell
+member_in cell (TheScalar s) = Err fault.NullReference
+
+module _ (variable : List ℕ) (cell : List ℕ → Option Scalar) where
+  abbrev pub shape_step : Expr-F (Result Shape Fault) → Result Shape Fault
+  shape_step (Expr-F.Integer n) = Ok (TheScalar (scalar.Int n))
+  shape_step (Expr-F.Name x) = if bytes_eq variable x then Ok TheRow else Err fault.NullReference
+  shape_step (Expr-F.Member row c) = on_ok row (member_in (cell c))
+  shape_step (Expr-F.Compare op a b) =
+      on_ok (on_ok a scalar_in) (λ s. on_ok (on_ok b scalar_in) (λ t. Ok (TheScalar (scalar.Bool (compared op s t)))))
+
+  -- what an expression is, or its first fault
+  unfoldable pub shape_of : Expr → Result Shape Fault
+  shape_of = fold-Expr (Result Shape Fault) shape_step
+
+  -- the scalar that an expression is
+  unfoldable pub scalar_at : Expr → Result Scalar Fault
+  scalar_at e = on_ok (shape_of e) scalar_in
+
+  -- whether a condition is true
+  unfoldable pub truth_at : Expr → Result Bool Fault
+  truth_at e = on_ok (scalar_at e) truth_of
+
+  -- whether the row passes the clauses, from the first on; the first fault is the answer
+  abbrev pub passes : List (Clause Expr) → Result Bool Fault
+  passes [] = Ok true
+  passes (clause.Where c ∷ cs) = on_ok (truth_at c) (λ b. if b then passes cs else Ok false)
+
+  abbrev pub selected : Last Expr → Result Scalar Fault
+  selected (last.Select v) = scalar_at v
+
+  -- what the row gives, None where a clause drops it
+  abbrev pub given_at : List (Clause Expr) → Last Expr → Result (Option Scalar) Fault
+  given_at cs l = on_ok (passes cs) (λ b. if b then on_ok (selected l) (λ s. Ok (Some s)) else Ok None)

@@ -1,0 +1,229 @@
+//! What an expression is on one row: the scalar meaning of conditions, of what a query selects, and of rules.
+ghost use Rattle.std.specs.Prelude.{◌≡◌, map, int_lt, int_le};
+ghost use Rattle.std.specs.Option.{option_copied};
+ghost use Rattle.lq_model.specs.Meaning.{compared, ordered_by, same_content, truth_of};
+ghost use Rattle.lq_model.specs.Visible.{cell_named};
+ghost use Rattle.lq_session.specs.OneRow.{scalar_in};
+ghost use Rattle.lq_session.specs.Operands.{shown_operand, shown_scalar, shown_scalars};
+
+use lq_model::{Comparison, Expr};
+use lq_value::{Column, Fault, Scalar, Txt};
+
+/// What has the name of a column.
+pub(crate) trait Named {
+    ghost use Rattle.std.specs.Prelude.{List, ℕ, ◌≡◌};
+
+    ghost named: { Self → List ℕ };
+
+    /// The column's name.
+    fn name(&self) -> &[u8]
+        ensures { result.now ≡ named self.now };
+}
+
+impl Named for Txt {
+    ghost named = { λ name. name };
+
+    fn name(&self) -> &[u8] {
+        self.as_bytes()
+    }
+}
+
+impl Named for Column {
+    ghost named = { λ column. column.name };
+
+    fn name(&self) -> &[u8] {
+        self.name.as_bytes()
+    }
+}
+
+/// A scalar as an operand, borrowed from the cell that it stands in.
+#[derive(Clone, Copy, Drop)]
+pub(crate) enum ScalarRef<'a> {
+    Null,
+    Int(i32),
+    Bool(bool),
+    Text(&'a Txt),
+}
+
+/// What an expression is on a row: the row itself, or a scalar.
+#[derive(Clone, Copy, Drop)]
+pub(crate) enum Operand<'a> {
+    Row,
+    Scalar(ScalarRef<'a>),
+}
+
+/// The row that expressions are read on: its variable, its columns and its cells.
+#[derive(Drop)]
+pub(crate) struct OneRow<'a, C> {
+    pub(crate) variable: &'a [u8],
+    pub(crate) columns: &'a [C],
+    pub(crate) cells: &'a [Scalar],
+}
+
+/// The scalar of a cell.
+fn scalar_of(cell: &Scalar) -> ScalarRef<'_>
+    ensures { shown_scalar result ≡ cell.now }
+{
+    match cell {
+        Scalar::Null => ScalarRef::Null,
+        Scalar::Int(number) => ScalarRef::Int(*number),
+        Scalar::Bool(truth) => ScalarRef::Bool(*truth),
+        Scalar::Text(text) => ScalarRef::Text(text),
+    }
+}
+
+/// The cell under the column of this name.
+fn cell_named<'a, C: Named>(columns: &[C], cells: &'a [Scalar], name: &[u8]) -> Option<&'a Scalar>
+    ensures { option_copied result ≡ cell_named (map C.named columns.now) cells.now name.now }
+{
+    let mut columns_left = columns;
+    let mut cells_left = cells;
+    while let [column, other_columns @ ..] = columns_left {
+        let [cell, other_cells @ ..] = cells_left else {
+            return None;
+        };
+        if column.name() == name {
+            return Some(cell);
+        }
+        columns_left = other_columns;
+        cells_left = other_cells;
+    }
+    None
+}
+
+/// What two scalars compare as.
+fn compared(operator: Comparison, left: ScalarRef<'_>, right: ScalarRef<'_>) -> bool
+    ensures { result ≡ compared operator (shown_scalar left.entry) (shown_scalar right.entry) }
+{
+    match operator {
+        Comparison::Less => is_less(left, right),
+        Comparison::Greater => is_less(right, left),
+        Comparison::LessOrEqual => is_at_most(left, right),
+        Comparison::GreaterOrEqual => is_at_most(right, left),
+        Comparison::Equal => is_same(left, right),
+        Comparison::NotEqual => !is_same(left, right),
+    }
+}
+
+/// Whether both are ints and the first is less.
+fn is_less(left: ScalarRef<'_>, right: ScalarRef<'_>) -> bool
+    ensures { result ≡ ordered_by int_lt (shown_scalar left.entry) (shown_scalar right.entry) }
+{
+    match (left, right) {
+        (ScalarRef::Int(m), ScalarRef::Int(n)) => m < n,
+        _ => false,
+    }
+}
+
+/// Whether both are ints and the first is at most the second.
+fn is_at_most(left: ScalarRef<'_>, right: ScalarRef<'_>) -> bool
+    ensures { result ≡ ordered_by int_le (shown_scalar left.entry) (shown_scalar right.entry) }
+{
+    match (left, right) {
+        (ScalarRef::Int(m), ScalarRef::Int(n)) => m <= n,
+        _ => false,
+    }
+}
+
+/// Whether both are null or have the same content.
+fn is_same(left: ScalarRef<'_>, right: ScalarRef<'_>) -> bool
+    ensures { result ≡ same_content (shown_scalar left.entry) (shown_scalar right.entry) }
+{
+    match (left, right) {
+        (ScalarRef::Null, ScalarRef::Null) => true,
+        (ScalarRef::Int(m), ScalarRef::Int(n)) => m == n,
+        (ScalarRef::Bool(a), ScalarRef::Bool(b)) => a == b,
+        (ScalarRef::Text(s), ScalarRef::Text(t)) => s.as_bytes() == t.as_bytes(),
+        _ => false,
+    }
+}
+
+/// The scalar that an operand is; a row is none.
+fn scalar_in(operand: Operand<'_>) -> Result<ScalarRef<'_>, Fault>
+    ensures { shown_scalars result ≡ scalar_in (shown_operand operand.entry) }
+{
+    match operand {
+        Operand::Row => Err(Fault::NullReference),
+        Operand::Scalar(scalar) => Ok(scalar),
+    }
+}
+
+/// The truth value that a scalar is; no other scalar is a condition.
+fn truth_of(scalar: ScalarRef<'_>) -> Result<bool, Fault>
+    ensures { result ≡ truth_of (shown_scalar scalar.entry) }
+{
+    match scalar {
+        ScalarRef::Bool(truth) => Ok(truth),
+        _ => Err(Fault::NullReference),
+    }
+}
+
+impl<'a, C: Named> OneRow<'a, C> {
+    ghost use Rattle.std.specs.Prelude.{◌≡◌, map, if◌then◌else◌, Ok, Err};
+    ghost use Rattle.std.specs.Str.{bytes_eq};
+    ghost use Rattle.lq_value.specs.declared.value.Fault.TheVariants as fault;
+    ghost use Rattle.lq_model.specs.Visible.{cell_named};
+    ghost use Rattle.lq_session.specs.OneRow.{TheRow, member_in, scalar_at, shape_of, truth_at};
+    ghost use Rattle.lq_session.specs.Operands.{shown_operand, shown_operands, shown_scalars};
+
+    /// What a name is: the row's variable, or nothing that is known here.
+    fn named(&self, name: &[u8]) -> Result<Operand<'a>, Fault>
+        ensures { shown_operands result ≡ (if bytes_eq self.now.variable.now name.now then Ok TheRow else Err fault.NullReference) }
+    {
+        if self.variable == name {
+            Ok(Operand::Row)
+        } else {
+            Err(Fault::NullReference)
+        }
+    }
+
+    /// A column of what stands before the dot, which has one if it is the row.
+    fn member(&self, before: Operand<'a>, column: &[u8]) -> Result<Operand<'a>, Fault>
+        ensures { shown_operands result ≡ member_in (cell_named (map C.named self.now.columns.now) self.now.cells.now column.now) (shown_operand before.entry) }
+    {
+        match before {
+            Operand::Row => match cell_named(self.columns, self.cells, column) {
+                Some(cell) => Ok(Operand::Scalar(scalar_of(cell))),
+                None => Err(Fault::NullReference),
+            },
+            Operand::Scalar(_) => Err(Fault::NullReference),
+        }
+    }
+
+    /// What the expression is on the row, or its first fault.
+    #[tactic(auto, using(crate::proofs::OneRowLemmas::shapes))]
+    fn operand(&self, expression: &Expr) -> Result<Operand<'a>, Fault>
+        ensures { shown_operands result ≡ shape_of self.now.variable.now (cell_named (map C.named self.now.columns.now) self.now.cells.now) expression.now }
+    {
+        match expression {
+            Expr::Integer(number) => Ok(Operand::Scalar(ScalarRef::Int(*number))),
+            Expr::Name(name) => self.named(name.as_bytes()),
+            Expr::Member(row, column) => {
+                let before = self.operand(row.get())?;
+                self.member(before, column.as_bytes())
+            }
+            Expr::Compare(operator, left, right) => {
+                let left = scalar_in(self.operand(left.get())?)?;
+                let right = scalar_in(self.operand(right.get())?)?;
+                let truth = compared(*operator, left, right);
+                Ok(Operand::Scalar(ScalarRef::Bool(truth)))
+            }
+        }
+    }
+
+    /// The scalar that the expression is, or its first fault.
+    #[tactic(auto, unfolding(crate::specs::OneRow::scalar_at))]
+    pub(crate) fn scalar(&self, expression: &Expr) -> Result<ScalarRef<'a>, Fault>
+        ensures { shown_scalars result ≡ scalar_at self.now.variable.now (cell_named (map C.named self.now.columns.now) self.now.cells.now) expression.now }
+    {
+        scalar_in(self.operand(expression)?)
+    }
+
+    /// Whether the condition is true, or its first fault.
+    #[tactic(auto, unfolding(crate::specs::OneRow::truth_at))]
+    pub(crate) fn truth(&self, condition: &Expr) -> Result<bool, Fault>
+        ensures { result ≡ truth_at self.now.variable.now (cell_named (map C.named self.now.columns.now) self.now.cells.now) condition.now }
+    {
+        truth_of(self.scalar(condition)?)
+    }
+}

@@ -1,0 +1,14 @@
+//! Sessions: a step for each line of a script, and the row policies that stand in front of every table.
+#![tactic(auto)]
+
+mod evaluate;
+mod line;
+mod policies;
+mod reply;
+mod running;
+mod session;
+mod typing;
+
+pub use line::Line;
+pub use policies::{Action, Policies, PolicyError, RoleId};
+pub use session::Session;

@@ -1,0 +1,117 @@
+//! The session and its step.
+ghost use Rattle.lq_session.specs.Roles.{number_of};
+
+use crate::line::Line;
+use crate::policies::{Policies, RoleId};
+use crate::reply::{error_line, items_line};
+use crate::running::Run;
+use crate::typing::table_of;
+use lq_model::{Expr, Query, Statement};
+use lq_store::Store;
+use lq_syntax::{SyntaxError, is_blank, parse_statement};
+use std::alloc::{AllocError, Global};
+
+/// A session: the tables that its statements run over, the policies in front of them, and the
+/// role that it runs under.
+#[derive(Drop)]
+pub struct Session {
+    alloc: Global,
+    store: Store,
+    policies: Policies,
+    role: RoleId,
+}
+
+impl Session {
+    ghost use Rattle.std.specs.Prelude.{◌≡◌, ◌<◌, length, IfOk};
+    ghost use Rattle.lq_model.specs.Machine.{answer_to, reply_to, step};
+    ghost use Rattle.lq_model.specs.Runs.{Answers};
+    ghost use Rattle.lq_model.specs.Served.{error_data, line_of};
+    ghost use Rattle.lq_model.specs.declared.syntax.Statement.TheVariants as statement;
+    ghost use Rattle.lq_session.specs.Given.{IsOver};
+    ghost use Rattle.lq_session.specs.KnownTypes.{schemas_of};
+    ghost use Rattle.lq_session.specs.States.{state_of};
+
+    /// The first state of a session over these tables, with these policies, under this role.
+    /// Takes no memory.
+    pub fn new(alloc: Global, store: Store, policies: Policies, role: RoleId) -> Session
+        ensures { state_of result ≡ record { tables = store; policies = policies; role = number_of role } }
+    {
+        Session {
+            alloc,
+            store,
+            policies,
+            role,
+        }
+    }
+
+    /// Answers one line of a script: a step of the session machine, or the memory line in place
+    /// of its reply, which leaves the session as it was. A line without a token has no reply, and
+    /// one of more than 65,536 bytes is refused as `syntax`.
+    #[tactic(auto, using(crate::proofs::StepLemmas::steps))]
+    pub fn step(&mut self, line: &str) -> Option<Line>
+        ensures { Answers (state_of self.old) line.now result (state_of self.new) }
+    {
+        if is_blank(line) {
+            return None;
+        }
+        match self.answer(line) {
+            Ok(reply) => reply,
+            Err(AllocError) => Some(Line::memory()),
+        }
+    }
+
+    /// The reply to a line, where there is memory for it.
+    fn answer(&self, line: &str) -> Result<Option<Line>, AllocError>
+        ensures { IfOk result (λ reply. reply ≡ (step (state_of self.now) line.now).0) }
+    {
+        match parse_statement(self.alloc, line) {
+            Ok(read) => self.reply_to(&read),
+            Err(SyntaxError::Syntax) => Ok(Some(self.refusal("syntax")?)),
+            Err(SyntaxError::Memory) => Err(AllocError),
+        }
+    }
+
+    /// The reply to what was read from a line.
+    fn reply_to(&self, read: &Option<Statement>) -> Result<Option<Line>, AllocError>
+        ensures { IfOk result (λ reply. reply ≡ reply_to (state_of self.now) (Some read.now)) }
+    {
+        match read {
+            None => Ok(None),
+            Some(Statement::Run(query)) => Ok(Some(self.run(query)?)),
+        }
+    }
+
+    /// Serves a query, or refuses one that has no type.
+    fn run(&self, query: &Query<Expr>) -> Result<Line, AllocError>
+        ensures { IfOk result (λ line. line ≡ line_of (answer_to (state_of self.now) (statement.Run query.now))) }
+    {
+        match table_of(&self.store, query) {
+            Some(table) => Ok(Line::from_bytes(self.run_over(table, query)?)),
+            None => self.refusal("type"),
+        }
+    }
+
+    /// The line of a refusal.
+    fn refusal(&self, word: &str) -> Result<Line, AllocError>
+        ensures { IfOk result (λ line. line ≡ line_of (error_data word.now)) }
+    {
+        Ok(Line::from_bytes(error_line(self.alloc, word)?))
+    }
+
+    /// The line of a typed query over the table with this number.
+    fn run_over(&self, table: u16, query: &Query<Expr>) -> Result<Vec<u8>, AllocError>
+        requires within { table < length self.now.store }
+        requires over { IsOver (schemas_of self.now.store) query.now table }
+        ensures { IfOk result (λ line. line.items ≡ line_of (answer_to (state_of self.now) (statement.Run query.now))) }
+    {
+        let run = Run {
+            policies: &self.policies,
+            role: self.role,
+            table,
+            columns: self.store.schema(table).columns.as_slice(),
+            query,
+        };
+        let (items, end) = run.items(self.alloc, self.store.rows(table))?;
+        items_line(self.alloc, items.as_slice(), end)
+    }
+}

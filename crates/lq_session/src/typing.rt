@@ -1,0 +1,171 @@
+//! The types of expressions and queries over the tables of a store.
+ghost use Rattle.std.specs.Prelude.{◌≡◌, ◌<◌, None, length, option_map, IfNone, IfSome};
+ghost use Rattle.lq_model.specs.Typing.{column_named, item_type, table_number, type_of_column};
+ghost use Rattle.lq_session.specs.Given.{IsOver, top_names};
+ghost use Rattle.lq_session.specs.KnownTypes.{is_known_number, schemas_of};
+
+use lq_model::{Clause, Expr, Last, Query};
+use lq_store::{Column, ColumnType, Store};
+
+/// The type of an expression of this grammar.
+#[derive(Clone, Copy, Debug, Drop, Eq, PartialEq)]
+pub(crate) enum Known {
+    /// That of a column with this type, of an integer or of a comparison.
+    Scalar(ColumnType),
+    /// A row of the table with this number.
+    Row(u16),
+    /// The sequence of the rows of the table with this number.
+    Rows(u16),
+}
+
+/// Whether values of the type are numbers or null.
+fn is_number(known: Known) -> bool
+    ensures { result ≡ is_known_number known }
+{
+    matches!(known, Known::Scalar(ColumnType::Int | ColumnType::IntN))
+}
+
+/// The number of the table of this name.
+#[tactic(auto, using(crate::proofs::TypingLemmas::number_is))]
+fn table_number(store: &Store, name: &str) -> Option<u16>
+    ensures within { IfSome result (λ n. n < length store.now) }
+    ensures value { result ≡ table_number name.now (schemas_of store.now) }
+{
+    store.find(name)
+}
+
+/// The type of the column of this name.
+fn column_type(columns: &[Column], name: &[u8]) -> Option<ColumnType>
+    ensures { option_map type_of_column result ≡ option_map (λ column. type_of_column column.ty) (column_named name.now columns.now) }
+{
+    let mut columns_left = columns;
+    while let [column, others @ ..] = columns_left {
+        if column.name.as_bytes() == name {
+            return Some(column.ty);
+        }
+        columns_left = others;
+    }
+    None
+}
+
+/// The names of a place: the tables of a store, and a variable for a row of one of them.
+#[derive(Drop)]
+struct Names<'a> {
+    store: &'a Store,
+    local: Option<(&'a str, u16)>,
+}
+
+impl Names<'_> {
+    ghost use Rattle.std.specs.Prelude.{◌≡◌, length, option_map, IfSome};
+    ghost use Rattle.lq_model.specs.Typing.{clauses_are_typed, column_type, is_bool_type, local_type, name_type, type_of};
+    ghost use Rattle.lq_session.specs.Given.{is_typed_body, selects_scalar};
+    ghost use Rattle.lq_session.specs.KnownTypes.{IsWithin, names_of, shown_type};
+
+    /// The type of a column of a table.
+    fn column(&self, table: u16, name: &[u8]) -> Option<Known>
+        ensures within { IfSome result (IsWithin (length self.now.store.now)) }
+        ensures value { option_map shown_type result ≡ column_type (names_of self.now).tables table name.now }
+    {
+        if table as usize >= self.store.len() {
+            return None;
+        }
+        let columns = self.store.schema(table).columns.as_slice();
+        column_type(columns, name).map(Known::Scalar)
+    }
+
+    /// The type of a name: that of the variable, else that of a table.
+    fn name(&self, name: &str) -> Option<Known>
+        ensures within { IfSome result (IsWithin (length self.now.store.now)) }
+        ensures value { option_map shown_type result ≡ name_type (names_of self.now) name.now (local_type name.now (names_of self.now).locals) }
+    {
+        if let Some((variable, table)) = self.local {
+            if variable == name {
+                return Some(Known::Row(table));
+            }
+        }
+        table_number(self.store, name).map(Known::Rows)
+    }
+
+    /// The type of an expression.
+    #[tactic(auto, using(crate::proofs::TypingLemmas::types))]
+    fn type_of(&self, expression: &Expr) -> Option<Known>
+        ensures within { IfSome result (IsWithin (length self.now.store.now)) }
+        ensures value { option_map shown_type result ≡ type_of expression.now (names_of self.now) }
+    {
+        match expression {
+            Expr::Integer(_) => Some(Known::Scalar(ColumnType::Int)),
+            Expr::Name(name) => self.name(name.as_str()),
+            Expr::Member(row, column) => match self.type_of(row.get())? {
+                Known::Row(table) => self.column(table, column.as_bytes()),
+                _ => None,
+            },
+            Expr::Compare(_, left, right) => {
+                let left = self.type_of(left.get())?;
+                let right = self.type_of(right.get())?;
+                (is_number(left) && is_number(right)).then_some(Known::Scalar(ColumnType::Bool))
+            }
+        }
+    }
+
+    /// Whether the expression is a truth value.
+    #[tactic(auto, using(crate::proofs::TypingLemmas::bool_known))]
+    fn is_condition(&self, expression: &Expr) -> bool
+        ensures { result ≡ is_bool_type (type_of expression.now (names_of self.now)) }
+    {
+        match self.type_of(expression) {
+            Some(known) => known == Known::Scalar(ColumnType::Bool),
+            None => false,
+        }
+    }
+
+    /// Whether each clause is typed.
+    fn clauses_are_typed(&self, clauses: &[Clause<Expr>]) -> bool
+        ensures { result ≡ clauses_are_typed (names_of self.now) clauses.now }
+    {
+        for clause in clauses {
+            let Clause::Where(condition) = clause;
+            if !self.is_condition(condition) {
+                return false;
+            }
+        }
+        true
+    }
+
+    /// Whether what is selected is a scalar.
+    #[tactic(auto, using(crate::proofs::TypingLemmas::scalar_known))]
+    fn selects_scalar(&self, last: &Last<Expr>) -> bool
+        ensures { result ≡ selects_scalar (names_of self.now) last.now }
+    {
+        let Last::Select(value) = last;
+        matches!(self.type_of(value), Some(Known::Scalar(_)))
+    }
+
+    /// Whether the clauses and the end of a query are typed.
+    fn is_typed_body(&self, query: &Query<Expr>) -> bool
+        ensures { result ≡ is_typed_body (names_of self.now) query.now }
+    {
+        self.clauses_are_typed(query.clauses.as_slice()) && self.selects_scalar(&query.last)
+    }
+}
+
+/// The number of the table that a typed query ranges over; None where the query has no type.
+#[tactic(auto, using(crate::proofs::TypingLemmas::queries))]
+pub(crate) fn table_of<'a>(store: &'a Store, query: &'a Query<Expr>) -> Option<u16>
+    ensures untyped { IfNone result (item_type query.now (top_names (schemas_of store.now)) ≡ None) }
+    ensures over { IfSome result (λ n. IsOver (schemas_of store.now) query.now n) }
+    ensures within { IfSome result (λ n. n < length store.now) }
+{
+    let names = Names { store, local: None };
+    let Known::Rows(table) = names.type_of(&query.source)? else {
+        return None;
+    };
+    let body = Names {
+        store,
+        local: Some((query.name.as_str(), table)),
+    };
+    if body.is_typed_body(query) {
+        Some(table)
+    } else {
+        None
+    }
+}

@@ -1,0 +1,14 @@
+//! Tables of numbered rows, and the store that holds them.
+#![tactic(auto)]
+
+mod checks;
+mod error;
+mod store;
+mod table;
+#[cfg(test)]
+mod tests;
+
+pub use error::StoreError;
+pub use lq_value::{Column, ColumnType, Row, Schema};
+pub use store::Store;
+pub use table::Table;

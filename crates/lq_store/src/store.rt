@@ -1,0 +1,109 @@
+//! The tables that a session works on.
+ghost use Rattle.std.specs.Prelude.{◌≡◌};
+
+use crate::error::StoreError;
+use crate::table::Table;
+use lq_value::{Row, Schema};
+use std::alloc::Global;
+use std::marker::Model;
+
+/// The most tables that a store holds.
+const MOST_TABLES: usize = 64;
+
+/// Tables of different names, at most 64. A table's number is its place, from 0.
+#[derive(Debug, Drop)]
+pub struct Store {
+    tables: Vec<Table>,
+}
+
+impl Model for Store {
+    ghost use Rattle.std.specs.Prelude.{List};
+    ghost use Rattle.lq_value.specs.Tables.{Table};
+    ghost use Rattle.lq_store.specs.Rules.{IsStore};
+
+    ghost Value = { List Table };
+
+    ghost view = { λ s. s.tables.items };
+
+    ghost invariant = { λ s. IsStore s.tables.items };
+}
+
+impl Store {
+    ghost use Rattle.std.specs.Prelude.{◌≡◌, ◌==◌, ◌<◌, [], length, option_map, IfSome, slice_get};
+    ghost use Rattle.lq_store.specs.Rules.{IsStore, IsTable};
+    ghost use Rattle.lq_store.specs.Calls.{Adds, table_number};
+
+    /// A store of no tables. Takes no memory.
+    pub fn new(alloc: Global) -> Store
+        ensures { result ≡ [] }
+    {
+        Store {
+            tables: Vec::new(alloc),
+        }
+    }
+
+    /// How many tables there are.
+    pub fn len(&self) -> usize
+        ensures value { result ≡ length self.now }
+        ensures store { IsStore self.now }
+    {
+        self.tables.len()
+    }
+
+    /// Whether there is no table.
+    pub fn is_empty(&self) -> bool
+        ensures { result ≡ (length self.now == 0) }
+    {
+        self.tables.is_empty()
+    }
+
+    /// The number of the table of this name.
+    pub fn find(&self, name: &str) -> Option<u16>
+        ensures value { result ≡ table_number self.now name.now }
+        ensures bound { IfSome result (λ t. t < length self.now) }
+    {
+        for (number, table) in self.tables.iter().enumerate() {
+            if table.schema().name.as_str() == name {
+                return Some(number as u16);
+            }
+        }
+        None
+    }
+
+    /// The name and the columns of table `t`.
+    pub fn schema(&self, t: u16) -> &Schema
+        requires { t < length self.now }
+        ensures value { option_map (λ table. table.schema) (slice_get self.now t) ≡ Some result.now }
+        ensures table { IfSome (slice_get self.now t) IsTable }
+    {
+        self.tables[t as usize].schema()
+    }
+
+    /// The rows of table `t`, in the order of their numbers.
+    pub fn rows(&self, t: u16) -> &[Row]
+        requires { t < length self.now }
+        ensures value { option_map (λ table. table.rows) (slice_get self.now t) ≡ Some result.now }
+        ensures table { IfSome (slice_get self.now t) IsTable }
+    {
+        self.tables[t as usize].rows()
+    }
+
+    /// Puts `table` behind the others and answers its number. Refuses with `DuplicateTable`,
+    /// `TooMany` (there are 64) or `Memory`, checked in this order; the store is then as it
+    /// was, and the table is handed back.
+    pub fn add(&mut self, table: Table) -> Result<u16, (StoreError, Table)>
+        ensures { Adds self.old table result self.new }
+    {
+        if self.find(table.schema().name.as_str()).is_some() {
+            return Err((StoreError::DuplicateTable, table));
+        }
+        let number = self.len();
+        if number >= MOST_TABLES {
+            return Err((StoreError::TooMany, table));
+        }
+        match self.tables.push(table) {
+            Ok(()) => Ok(number as u16),
+            Err(back) => Err((StoreError::Memory, back.value)),
+        }
+    }
+}

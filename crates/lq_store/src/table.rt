@@ -1,0 +1,122 @@
+//! A table of numbered rows.
+ghost use Rattle.std.specs.Prelude.{◌≡◌, ◌==◌, ◌≤◌, ◌+◌, ◌^◌, [], length, nat_eq, true};
+ghost use Rattle.lq_store.specs.Rules.{keeps_rules};
+ghost use Rattle.lq_store.specs.Calls.{refusal_of};
+
+use crate::checks::{are_in_ranges, have_types};
+use crate::error::StoreError;
+use lq_value::{List, Row, Scalar, Schema};
+use std::alloc::Global;
+use std::marker::Model;
+
+/// A table: its schema and its rows, each of which has a number that no other row of the
+/// table has or had. Every row has one cell a column, of its type and in its range.
+#[derive(Debug, Drop)]
+pub struct Table {
+    schema: Schema,
+    rows: Vec<Row>,
+    // The number given last, or the one before the first: the next number may be 2^64.
+    last: u64,
+}
+
+impl Model for Table {
+    ghost use Rattle.std.specs.Prelude.{◌+◌};
+    ghost use Rattle.lq_value.specs.Tables.{Table};
+    ghost use Rattle.lq_store.specs.Rules.{IsTable};
+
+    ghost Value = { Table };
+
+    ghost view = { λ t. record { schema = t.schema; rows = t.rows.items; next = t.last + 1 } };
+
+    ghost invariant = { λ t. IsTable (record { schema = t.schema; rows = t.rows.items; next = t.last + 1 }) };
+}
+
+impl Table {
+    ghost use Rattle.std.specs.Prelude.{◌≡◌, ◌==◌, ◌≤◌, [], true};
+    ghost use Rattle.lq_store.specs.Rules.{keeps_rules, IsTable};
+    ghost use Rattle.lq_store.specs.Calls.{refusal_of, Pushes, shown_pushed};
+
+    /// A table with no rows, whose first row will have the number `next`. Takes no memory.
+    pub fn new(alloc: Global, schema: Schema, next: u64) -> Table
+        requires rules { keeps_rules schema ≡ true }
+        requires positive { 1 ≤ next }
+        ensures { result ≡ record { schema = schema; rows = []; next = next } }
+    {
+        Table {
+            schema,
+            rows: Vec::new(alloc),
+            last: next - 1,
+        }
+    }
+
+    /// The table's name and columns.
+    pub fn schema(&self) -> &Schema
+        ensures value { result.now ≡ self.now.schema }
+        ensures table { IsTable self.now }
+    {
+        &self.schema
+    }
+
+    /// The rows, in the order of their numbers.
+    pub fn rows(&self) -> &[Row]
+        ensures value { result.now ≡ self.now.rows }
+        ensures table { IsTable self.now }
+    {
+        self.rows.as_slice()
+    }
+
+    /// Puts a row of `cells` behind the last one and answers its number, the next after the
+    /// last one given. Refuses with `Arity`, `CellType`, `CellRange`, `Full` or `Memory`,
+    /// checked in this order; the table is then as it was, and the cells are handed back.
+    pub fn push(&mut self, cells: Vec<Scalar>) -> Result<u64, (StoreError, Vec<Scalar>)>
+        ensures { Pushes self.old cells.items (shown_pushed result) self.new }
+    {
+        if let Some(error) = self.refusal(cells.as_slice()) {
+            return Err((error, cells));
+        }
+        let number = self.last + 1;
+        match self.rows.push(row_of(number, cells)) {
+            Ok(()) => {
+                self.last = number;
+                Ok(number)
+            }
+            Err(back) => Err((StoreError::Memory, cells_of(back.value))),
+        }
+    }
+
+    /// Why a row of `cells` would be refused, memory aside.
+    fn refusal(&self, cells: &[Scalar]) -> Option<StoreError>
+        ensures { result ≡ refusal_of self.now cells.now }
+    {
+        let columns = self.schema.columns.as_slice();
+        if columns.len() != cells.len() {
+            Some(StoreError::Arity)
+        } else if !have_types(columns, cells) {
+            Some(StoreError::CellType)
+        } else if !are_in_ranges(columns, cells) {
+            Some(StoreError::CellRange)
+        } else if self.last == u64::MAX {
+            Some(StoreError::Full)
+        } else {
+            None
+        }
+    }
+}
+
+/// The row of this number and these cells.
+fn row_of(number: u64, cells: Vec<Scalar>) -> Row
+    ensures { result ≡ record { number = number; cells = cells.items } }
+{
+    Row {
+        number,
+        cells: List::from_vec(cells),
+    }
+}
+
+/// The cells of a row.
+fn cells_of(row: Row) -> Vec<Scalar>
+    ensures { result.items ≡ row.cells }
+{
+    let Row { number: _, cells } = row;
+    cells.into_vec()
+}

@@ -1,0 +1,121 @@
+//! Outcomes of pushes and additions, as callers see them.
+ghost use Rattle.std.specs.Prelude.{◌≡◌, ◌≤◌, true, IfOk};
+ghost use Rattle.lq_store.specs.Rules.{keeps_rules};
+
+use super::{Column, ColumnType, Schema, Store, StoreError, Table};
+use lq_value::{List, Scalar, Txt};
+use std::alloc::{AllocError, Global};
+use std::process::Abort;
+use std::test::Fail;
+
+// The schema of a table with one column, of numbers from 1 to 9.
+fn schema(alloc: Global, name: &str) -> Result<Schema, AllocError>
+    ensures { IfOk result (λ s. keeps_rules s ≡ true) }
+{
+    let mut columns = List::new(alloc);
+    columns.push(Column {
+        name: Txt::from_str(alloc, "c")?,
+        ty: ColumnType::Int,
+        range: Some((1, 9)),
+    })?;
+    Ok(Schema {
+        name: Txt::from_str(alloc, name)?,
+        columns,
+    })
+}
+
+// A table of that schema.
+fn table(alloc: Global, name: &str, next: u64) -> Result<Table, AllocError>
+    requires { 1 ≤ next }
+{
+    Ok(Table::new(alloc, schema(alloc, name)?, next))
+}
+
+fn one_cell(alloc: Global, cell: Scalar) -> Result<Vec<Scalar>, AllocError> {
+    let mut cells = Vec::new(alloc);
+    cells.push(cell)?;
+    Ok(cells)
+}
+
+// Asserts that a push was refused so, and gave this many cells back.
+fn assert_refused(
+    rt: &impl Abort,
+    outcome: Result<u64, (StoreError, Vec<Scalar>)>,
+    error: StoreError,
+    cells: usize,
+) {
+    match outcome {
+        Ok(_) => panic!(rt; "the row was taken"),
+        Err((refusal, back)) => {
+            assert!(rt; refusal == error);
+            assert!(rt; back.len() == cells);
+        }
+    }
+}
+
+#[test]
+fn cells_are_checked_in_order(rt: HostRuntime) -> Result<(), Fail> {
+    let alloc = rt.alloc();
+    let mut t = table(alloc, "t", 1)?;
+    assert_refused(&rt, t.push(Vec::new(alloc)), StoreError::Arity, 0);
+    let truth = one_cell(alloc, Scalar::Bool(true))?;
+    assert_refused(&rt, t.push(truth), StoreError::CellType, 1);
+    let ten = one_cell(alloc, Scalar::Int(10))?;
+    assert_refused(&rt, t.push(ten), StoreError::CellRange, 1);
+    assert!(rt; t.rows().is_empty());
+    assert!(rt; t.push(one_cell(alloc, Scalar::Int(9))?).ok() == Some(1));
+    assert!(rt; t.rows().len() == 1);
+    assert!(rt; t.schema().name.as_str() == "t");
+    Ok(())
+}
+
+#[test]
+fn the_last_number_is_given_once(rt: HostRuntime) -> Result<(), Fail> {
+    let alloc = rt.alloc();
+    let mut t = table(alloc, "t", u64::MAX)?;
+    assert!(rt; t.push(one_cell(alloc, Scalar::Int(1))?).ok() == Some(u64::MAX));
+    let cells = one_cell(alloc, Scalar::Int(1))?;
+    assert_refused(&rt, t.push(cells), StoreError::Full, 1);
+    Ok(())
+}
+
+#[test]
+fn a_second_table_of_a_name_is_handed_back(rt: HostRuntime) -> Result<(), Fail> {
+    let alloc = rt.alloc();
+    let mut store = Store::new(alloc);
+    assert!(rt; store.is_empty());
+    assert!(rt; store.add(table(alloc, "t", 1)?).ok() == Some(0));
+    assert!(rt; store.add(table(alloc, "u", 1)?).ok() == Some(1));
+    match store.add(table(alloc, "t", 7)?) {
+        Ok(_) => panic!(rt; "the table was taken"),
+        Err((error, back)) => {
+            assert!(rt; error == StoreError::DuplicateTable);
+            assert!(rt; back.schema().name.as_str() == "t");
+        }
+    }
+    assert!(rt; store.len() == 2);
+    assert!(rt; store.find("u") == Some(1));
+    assert!(rt; store.find("v") == None);
+    Ok(())
+}
+
+#[test]
+fn a_store_holds_64_tables(rt: HostRuntime) -> Result<(), Fail> {
+    let alloc = rt.alloc();
+    let mut store = Store::new(alloc);
+    for number in 0..64u32 {
+        let name = format!(in alloc; "t{number}")?;
+        assert!(rt; store.add(table(alloc, name.as_str(), 1)?).is_ok());
+    }
+    assert!(rt; store.len() == 64);
+    assert!(rt; store.schema(63).name.as_str() == "t63");
+    assert!(rt; store.rows(63).is_empty());
+    match store.add(table(alloc, "u", 1)?) {
+        Ok(_) => panic!(rt; "the table was taken"),
+        Err((error, back)) => {
+            assert!(rt; error == StoreError::TooMany);
+            assert!(rt; back.schema().name.as_str() == "u");
+        }
+    }
+    Ok(())
+}

@@ -1,0 +1,145 @@
+//! Cuts a text into tokens.
+ghost use Rattle.std.specs.Prelude.{◌≡◌, ◌≤◌, ◌∷◌, length, sum_by};
+ghost use Rattle.std.specs.Char.{len_utf8};
+ghost use Rattle.lq_model.specs.Tokens as token;
+ghost use Rattle.lq_model.specs.Tokens.{tokens_of, tokens_from};
+ghost use Rattle.lq_syntax.specs.Outcome.{Cuts};
+
+use crate::error::LexError;
+use crate::letters::Class;
+use crate::{digits, letters};
+use lq_model::{Kind, Token};
+use std::alloc::Global;
+
+/// The most bytes of a text that is read.
+pub const LIMIT: usize = 65536;
+
+/// What stands at the head of a text: a token of this kind, or a blank or a comment, which is none;
+/// and how many characters it has behind its first.
+type Piece = (Option<Kind>, usize);
+
+/// The character at the head of `text`, NUL at its end.
+fn head_of(text: &[char]) -> char
+    ensures { result ≡ token.head_of text.now }
+{
+    match text {
+        [first, ..] => *first,
+        [] => '\0',
+    }
+}
+
+/// The comment whose first slash stands before `behind`: it goes to the next LF or the end.
+fn comment(behind: &[char]) -> Option<Piece>
+    ensures { result ≡ token.comment behind.now }
+{
+    if head_of(behind) == '/' {
+        Some((None, letters::length_of(Class::Comment, behind)))
+    } else {
+        None
+    }
+}
+
+/// The longest word at the head of `text`, which is `first` before `behind`.
+#[tactic(auto, using(crate::proofs::Cutting::word_is))]
+fn word(text: &[char], first: char, behind: &[char]) -> Option<Piece>
+    requires { text.now ≡ first ∷ behind.now }
+    ensures { result ≡ token.word first behind.now }
+{
+    let more = letters::length_of(Class::Name, behind);
+    Some((Some(letters::kind_of_word(&text[..=more])), more))
+}
+
+/// The longest row of digits at the head of `text`, which is `first` before `behind`.
+#[tactic(auto, using(crate::proofs::Cutting::taken_from))]
+fn integer(text: &[char], first: char, behind: &[char]) -> Option<Piece>
+    requires { text.now ≡ first ∷ behind.now }
+    ensures { result ≡ token.integer first behind.now }
+{
+    let more = letters::length_of(Class::Digit, behind);
+    if digits::is_small(&text[..=more]) && !letters::continues_name(head_of(&behind[more..])) {
+        Some((Some(Kind::Integer), more))
+    } else {
+        None
+    }
+}
+
+/// The sign that begins with `first`, where `next` follows: of two characters where they make one.
+fn sign(first: char, next: char) -> Option<Piece>
+    ensures { result ≡ token.sign first next }
+{
+    let (kind, more) = match (first, next) {
+        ('.', _) => (Kind::Dot, 0),
+        (';', _) => (Kind::Semicolon, 0),
+        ('<', '=') => (Kind::LessOrEqual, 1),
+        ('<', _) => (Kind::Less, 0),
+        ('>', '=') => (Kind::GreaterOrEqual, 1),
+        ('>', _) => (Kind::Greater, 0),
+        ('=', '=') => (Kind::Equal, 1),
+        ('!', '=') => (Kind::NotEqual, 1),
+        _ => return None,
+    };
+    Some((Some(kind), more))
+}
+
+/// The longest piece at the head of `text`, which is `first` before `behind`; `None` where nothing
+/// begins so.
+#[tactic(auto, unfolding(lq_model::specs::Tokens::piece))]
+fn piece(text: &[char], first: char, behind: &[char]) -> Option<Piece>
+    requires { text.now ≡ first ∷ behind.now }
+    ensures { result ≡ token.piece first behind.now }
+{
+    if letters::is_blank_char(first) {
+        Some((None, 0))
+    } else if first == '/' {
+        comment(behind)
+    } else if letters::starts_name(first) {
+        word(text, first, behind)
+    } else if letters::is_digit(first) {
+        integer(text, first, behind)
+    } else {
+        sign(first, head_of(behind))
+    }
+}
+
+/// How many bytes the characters take.
+fn width_of(text: &[char]) -> usize
+    requires { length text.now ≤ 65536 }
+    ensures { result ≡ sum_by len_utf8 text.now }
+{
+    text.iter().map(|c| c.len_utf8()).sum()
+}
+
+/// The tokens of these characters, with their places in bytes.
+fn cut(alloc: Global, characters: &[char]) -> Result<Vec<Token>, LexError>
+    requires { length characters.now ≤ 65536 }
+    ensures { Cuts (λ v. v.items) (tokens_from 0 0 characters.now) result }
+{
+    let mut tokens = Vec::new(alloc);
+    let mut start = 0;
+    let mut text = characters;
+    while let [first, behind @ ..] = text {
+        let Some((kind, more)) = piece(text, *first, behind) else {
+            return Err(LexError::Lexical);
+        };
+        let (taken, rest) = text.split_at(more + 1);
+        let end = start + width_of(taken);
+        if let Some(kind) = kind {
+            tokens.push(Token { kind, start, end })?;
+        }
+        start = end;
+        text = rest;
+    }
+    Ok(tokens)
+}
+
+/// The tokens of a line or a rule. A text over its limit counts as a lexical fault.
+#[tactic(auto, unfolding(lq_model::specs::Tokens::tokens_of))]
+pub fn tokens(alloc: Global, line: &str) -> Result<Vec<Token>, LexError>
+    ensures { Cuts (λ v. v.items) (tokens_of line.now) result }
+{
+    if line.len() > LIMIT {
+        return Err(LexError::Lexical);
+    }
+    let characters: Vec<char> = line.chars().collect(alloc)?;
+    cut(alloc, &characters)
+}
