@@ -1,2 +1,5 @@
+mod CsvReading
 mod DeviceLemmas
+mod Loading
+mod NameFacts
 mod ServingLemmas

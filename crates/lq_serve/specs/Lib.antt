@@ -1,3 +1,5 @@
+pub mod CsvRecords
 pub mod Devices
-pub mod Serving
 pub mod Finishing
+pub mod Serving
+pub mod TableFile

@@ -7,11 +7,11 @@ mod finishing;
 mod output;
 mod script;
 mod serving;
-#[cfg(test)]
-mod tests;
+mod table_file;
 mod text;
 
 pub use device::Device;
 pub use fault::{ReadFailed, ServeError, WriteFailed};
 pub use finishing::finish;
 pub use serving::{Summary, serve};
+pub use table_file::{LoadError, table_from_csv};

@@ -1,0 +1,10 @@
+use Rattle.std.proofs.Common.{◌≡◌, length}
+use Rattle.lq_model.specs.Script.{without_marks}
+use Rattle.lq_serve.proofs.table_file.marks.without_marks.Given as goal
+
+-- only marks were passed over
+abbrev pub invariant-loop-tail : goal.invariant-loop-tail
+invariant-loop-tail l = without_marks l.rest ≡ without_marks l.fn.bytes
+
+abbrev pub decreases-loop-tail : goal.decreases-loop-tail
+decreases-loop-tail l = length l.rest

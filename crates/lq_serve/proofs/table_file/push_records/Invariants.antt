@@ -1,0 +1,18 @@
+use Rattle.std.proofs.Common.{◌≡◌, ◌≤◌, ◌+◌, true, length}
+use Rattle.std.specs.List.{list_all}
+use Rattle.lq_serve.specs.TableFile.{is_plain, with_records}
+use Rattle.lq_serve.specs.CsvRecords.{IsReading, records_left}
+use Rattle.lq_serve.proofs.table_file.push_records.Given as goal
+
+-- the table has the rows of the records so far
+abbrev pub invariant-loop-table : goal.invariant-loop-table
+invariant-loop-table l = record {
+  reading : IsReading l.reader;
+  plain : list_all is_plain l.table.schema.columns ≡ true;
+  place : l.place ≡ l.table.next + 1;
+  room : l.table.next + length (records_left l.reader) ≤ 1 + length (records_left l.fn.reader);
+  same : with_records (records_left l.reader) l.table ≡ with_records (records_left l.fn.reader) l.fn.table;
+}
+
+abbrev pub decreases-loop-table : goal.decreases-loop-table
+decreases-loop-table l = length (records_left l.reader)

@@ -1,0 +1,15 @@
+use Rattle.std.proofs.Common.{[], arith, refl}
+use Rattle.csv.specs.Records.{fields_of}
+use Rattle.lq_serve.proofs.Loading.{header-keeps_rules, header_of_columns}
+use Rattle.lq_serve.proofs.table_file.table_under.Goals as goal
+
+pub new-requires-clause-rules : goal.new-requires-clause-rules
+new-requires-clause-rules c =
+    let h = header_of_columns (fields_of c.args.header.now) [] c.in_ok-columns.columns c.in_ok-columns.ensures (record { distinct = refl; plain = refl }) in
+    let size = h.1 in
+    header-keeps_rules c.args.name c.in_ok-columns.columns h.0 (omega arith) (omega arith)
+
+pub returns-clause-plain : goal.returns-clause-plain
+returns-clause-plain c =
+    let h = header_of_columns (fields_of c.args.header.now) [] c.in_ok-columns.columns c.in_ok-columns.ensures (record { distinct = refl; plain = refl }) in
+    rw c.new.ensures h.0.plain
