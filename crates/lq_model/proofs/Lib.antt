@@ -2,6 +2,8 @@ pub mod Completeness
 pub mod Opens
 pub mod RunLemmas
 pub mod ScriptLemmas
+pub mod SessionLemmas
 pub mod Soundness
 pub mod Steps
 pub mod Trees
+pub mod TypingLemmas

@@ -1,10 +1,9 @@
 -- The equations of the folds over expressions, one for each form.
-use Rattle.std.proofs.Common.{◌≡◌, ◌∷◌, ◌&&◌, if◌then◌else◌, List, ℕ, ℤ, Bool, Option, Some, None, Result, Ok, Err, ap, ◌∙◌, refl, option_and_then, option_map}
+use Rattle.std.proofs.Common.{◌≡◌, ◌&&◌, if◌then◌else◌, List, ℕ, ℤ, Option, Some, None, Ok, ap, ◌∙◌, option_and_then}
 use Rattle.lq_value.specs.declared.scalar.Scalar.TheVariants as scalar
 use Rattle.lq_value.specs.declared.ty.Ty.{Ty, out-Ty}
 use Rattle.lq_value.specs.declared.ty.Ty.TheVariants as ty
-use Rattle.lq_value.specs.declared.value.Fault.{Fault}
-use Rattle.lq_value.specs.declared.value.Value.{Value, out-Value}
+use Rattle.lq_value.specs.declared.value.Value.{out-Value}
 use Rattle.lq_value.specs.declared.value.Value.TheVariants as value
 use Rattle.lq_model.specs.Meaning.{Meaning, Scope, World, binding_of, compared, meaning, meaning_step, member_value, name_value, on_ok, on_scalar}
 use Rattle.lq_model.specs.Typing.{Names, column_type, is_number, local_type, name_type, row_table, type_of, type_step}

@@ -7,7 +7,9 @@ pub mod Reading
 pub mod Runs
 pub mod Script
 pub mod Served
+pub mod SessionLaws
 pub mod Stream
 pub mod Tokens
 pub mod Typing
+pub mod TypingLaws
 pub mod Visible

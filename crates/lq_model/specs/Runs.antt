@@ -1,5 +1,5 @@
 -- «Output»: the replies to the lines of a script, stepped in order.
-use Rattle.std.specs.Prelude.{◌≡◌, ◌+◌, ◌∷◌, ◌++◌, List, [], ℕ, Option, Some, None, IsSome}
+use Rattle.std.specs.Prelude.{◌≡◌, ◌+◌, ◌∷◌, ◌++◌, List, [], ℕ, Some, None, IsSome}
 use Rattle.lq_model.specs.Machine.{State, Reply, step, memory_line}
 
 -- The session does a step of the machine, or it answers the memory line in place of a reply and stays as it was.

@@ -1,5 +1,5 @@
 -- «Served bytes»: the line of a reply, the compact text of its JSON value and a line feed.
-use Rattle.std.specs.Prelude.{◌∷◌, ◌++◌, List, [], map, ℕ, Bool, codes}
+use Rattle.std.specs.Prelude.{◌∷◌, ◌++◌, List, [], map, ℕ, codes}
 use Rattle.serde_json.specs.Data.{Data, Members, array, boolean, no_members, null, number, object, put, string}
 use Rattle.serde_json.specs.Find.{of_integer}
 use Rattle.serde_json.specs.View.{items_of}

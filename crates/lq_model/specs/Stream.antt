@@ -1,5 +1,5 @@
 -- «Stream»: what an enumeration gives up to its end or its first fault, and how one step follows another.
-use Rattle.std.specs.Prelude.{◌∷◌, ◌++◌, List, [], Bool, true, false, Result, Ok, Err, if◌then◌else◌}
+use Rattle.std.specs.Prelude.{◌∷◌, ◌++◌, List, [], Bool, Result, Ok, Err, if◌then◌else◌}
 use Rattle.lq_value.specs.declared.value.End.{End}
 use Rattle.lq_value.specs.declared.value.End.TheVariants as end
 use Rattle.lq_value.specs.declared.value.Fault.{Fault}

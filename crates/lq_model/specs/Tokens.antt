@@ -1,5 +1,5 @@
 -- The lexical grammar: which tokens a line has (ECMA-334, lexical structure). Names are of ASCII letters, digits and `_`.
-use Rattle.std.specs.Prelude.{◌≡◌, ◌+◌, ◌-◌, ◌*◌, ◌∷◌, ◌==◌, ◌&&◌, ◌||◌, not, if◌then◌else◌, List, [], ℕ, zero, suc, Bool, true, false, Option, Some, None, length, take, drop, codes, nat_lt, nat_le, chars, option_and_then, option_map}
+use Rattle.std.specs.Prelude.{◌+◌, ◌-◌, ◌*◌, ◌∷◌, ◌==◌, ◌&&◌, ◌||◌, not, if◌then◌else◌, List, [], ℕ, zero, suc, Bool, true, false, Option, Some, None, length, take, drop, codes, nat_lt, nat_le, chars, option_and_then, option_map}
 use Rattle.std.specs.Char.{len_utf8}
 use Rattle.std.specs.List.{fold, list_all, prefix_len}
 use Rattle.std.specs.Prelude.{sum_by}

@@ -1,5 +1,5 @@
 -- «Typing»: which type an expression has under names, rule by rule, and the same as a function (ECMA-334, expressions).
-use Rattle.std.specs.Prelude.{◌≡◌, ◌+◌, ◌∷◌, ◌&&◌, ◌||◌, if◌then◌else◌, List, [], ℕ, zero, suc, ℤ, Bool, true, false, Option, Some, None, slice_get, option_and_then, option_map}
+use Rattle.std.specs.Prelude.{◌≡◌, ◌∷◌, ◌&&◌, if◌then◌else◌, List, [], ℕ, ℤ, Bool, true, false, Option, Some, None, slice_get, option_and_then, option_map}
 use Rattle.std.specs.List.{position_from}
 use Rattle.std.specs.Str.{bytes_eq}
 use Rattle.lq_value.specs.declared.table.Column.{Column}
@@ -18,8 +18,6 @@ use Rattle.lq_model.specs.declared.syntax.Expr.TheVariants as expr
 use Rattle.lq_model.specs.declared.syntax.Last.{Last}
 use Rattle.lq_model.specs.declared.syntax.Last.TheVariants as last
 use Rattle.lq_model.specs.declared.syntax.Query.{Query}
-use Rattle.lq_model.specs.declared.syntax.Statement.{Statement}
-use Rattle.lq_model.specs.declared.syntax.Statement.TheVariants as statement
 
 -- what the names of a place stand for: the tables, by number, and the local names with their types
 pub record Names : Type 0 where

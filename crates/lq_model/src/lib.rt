@@ -1,12 +1,15 @@
 //! What every answer of the server means: tokens, grammar, types, meanings, policies, the session
 //! machine and its output. The definitions stand in `specs/`, the laws about them are the contracts
-//! of the functions of `laws`, and the syntax trees and policies are plain types.
+//! of the functions of `grammar_laws`, `typing_laws` and `session_laws`, and tokens, syntax trees
+//! and policies are plain types.
 #![tactic(auto)]
 
 pub mod grammar_laws;
 mod policy;
+pub mod session_laws;
 mod syntax;
 mod token;
+pub mod typing_laws;
 
 pub use policy::{Policy, PolicyParts, Role, TablePart};
 pub use syntax::{Clause, Comparison, Expr, Last, Query, Statement};

@@ -2,4 +2,5 @@ pub mod CsvRecords
 pub mod Devices
 pub mod Finishing
 pub mod Serving
+pub mod Starting
 pub mod TableFile

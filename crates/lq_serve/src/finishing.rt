@@ -77,7 +77,7 @@ const SCRIPT_FAULT: u8 = 4;
 const NO_MEMORY: u8 = 5;
 
 // Writes as much of the line as can be written: nobody is left to be told of a failure here.
-fn tell<E: Write>(errors: &mut E, line: &[u8])
+pub(crate) fn tell<E: Write>(errors: &mut E, line: &[u8])
     ensures { AppendsFront (E.contents errors.old) (E.contents errors.new) line.now }
 {
     let _ = write_all(errors, line);

@@ -7,6 +7,8 @@ mod policies;
 mod reply;
 mod running;
 mod session;
+#[cfg(test)]
+mod tests;
 mod typing;
 
 pub use line::Line;

@@ -75,7 +75,7 @@ pub word_is : (text cs : List ℕ) (c more : ℕ) (kind : Kind) → text ≡ c �
     → Some (Some kind, more) ≡ word c cs
 word_is text cs c more kind is more_is kind_is =
     let letters : take (more + 1) text ≡ c ∷ take more cs = taken_from text cs c more is in
-    rw (kind_is, letters, more_is) refl
+    ap (λ k. Some (Some k, more)) (kind_is ∙ ap kind_of_word letters) ∙ ap (λ n. Some (Some (kind_of_word (c ∷ take n cs)), n)) more_is
 
 -- the tokens of a line that isn't too long are those of its characters
 pub line_tokens : (line cs : List ℕ) → length line ≤ 65536 → cs ≡ chars line → tokens_from 0 0 cs ≡ tokens_of line

@@ -95,7 +95,7 @@ fn has_test(
 fn queries_are_read(rt: HostRuntime) -> Result<(), Fail> {
     for line in ACCEPTED {
         let read = parse_statement(rt.alloc(), line)?;
-        assert!(rt; matches!(read, Some(Statement::Run(query)) if is_plain(&query)));
+        assert!(rt; matches!(&read, Some(Statement::Run(query)) if is_plain(query)));
         assert!(rt; !is_blank(line));
     }
     for line in &ACCEPTED[3..] {

@@ -1,0 +1,265 @@
+-- The functions of `Typing` find the types that the rules give, so that there is one type at most.
+use Rattle.std.proofs.Common.{◌≡◌, ◌∷◌, ◌&&◌, if◌then◌else◌, List, [], ℕ, ℤ, Bool, true, false, Option, Some, None, ap, ◌∙◌, sym, refl, subst, option_and_then, option_map, true≢false}
+use Rattle.std.proofs.lemmas.Bool.{and_parts}
+use Rattle.std.proofs.lemmas.Option.{none-some, same_Some}
+use Rattle.lq_value.specs.declared.ty.Ty.{Ty, ind-Ty, map-Ty, out-Ty, roll-Ty}
+use Rattle.lq_value.specs.declared.ty.Ty.TheOpen.{Ty-F}
+use Rattle.lq_value.specs.declared.ty.Ty.TheVariants as ty
+use Rattle.lq_value.specs.declared.ty.Ty.TheVariants.{outs-Bool, outs-Group, outs-Int, outs-IntN, outs-Null, outs-Rec, outs-Row, outs-Seq, outs-Str, rolls-Bool, rolls-Group, rolls-Int, rolls-IntN, rolls-Null, rolls-Rec, rolls-Row, rolls-Seq, rolls-Str}
+use Rattle.lq_model.specs.Typing.{Names, HasType, of_integer, of_local, of_table, of_column, of_comparison, IsTypedClause, AreTypedClauses, HasSelectedType, HasItemType, clause_is_typed, clauses_are_typed, column_type, if_scalar, is_bool, is_bool_type, is_number, is_scalar, item_of, item_type, items_over, local_type, name_type, row_table, selected_type, table_number, type_of, when_fresh, with_local}
+use Rattle.lq_model.specs.TypingLaws.{HasOneType, HasOneItemType, FindsTypes, FindsItemTypes}
+use Rattle.lq_model.specs.declared.syntax.Clause.{Clause}
+use Rattle.lq_model.specs.declared.syntax.Clause.TheVariants as clause
+use Rattle.lq_model.specs.declared.syntax.Comparison.{Comparison}
+use Rattle.lq_model.specs.declared.syntax.Expr.{Expr, ind-Expr, map-Expr, roll-Expr}
+use Rattle.lq_model.specs.declared.syntax.Expr.TheOpen.{Expr-F}
+use Rattle.lq_model.specs.declared.syntax.Expr.TheVariants as expr
+use Rattle.lq_model.specs.declared.syntax.Expr.TheVariants.{rolls-Compare, rolls-Integer, rolls-Member, rolls-Name}
+use Rattle.lq_model.specs.declared.syntax.Last.{Last}
+use Rattle.lq_model.specs.declared.syntax.Last.TheVariants as last
+use Rattle.lq_model.specs.declared.syntax.Query.{Query}
+use Rattle.lq_model.proofs.Opens.{type_compare, type_integer, type_member, type_name}
+
+-- ---- a type, by its layer
+
+abbrev type_with : Ty-F Ty → Ty
+type_with Ty-F.Int = ty.Int
+type_with Ty-F.IntN = ty.IntN
+type_with Ty-F.Bool = ty.Bool
+type_with Ty-F.Str = ty.Str
+type_with Ty-F.Null = ty.Null
+type_with (Ty-F.Row n) = ty.Row n
+type_with (Ty-F.Rec members) = ty.Rec members
+type_with (Ty-F.Seq t) = ty.Seq t
+type_with (Ty-F.Group k t) = ty.Group k t
+
+abbrev IsOfLayer : Ty → Type 0
+IsOfLayer t = t ≡ type_with (out-Ty t)
+
+abbrev Layered : Type 0
+Layered = (t : Ty) × IsOfLayer t
+
+of_layer : (x : Ty-F Ty) (y : Ty-F Layered) → map-Ty Layered Ty (λ t. t.0) y ≡ x → IsOfLayer (roll-Ty x)
+of_layer Ty-F.Int y h = subst IsOfLayer (sym rolls-Int) (sym (ap type_with outs-Int))
+of_layer Ty-F.IntN y h = subst IsOfLayer (sym rolls-IntN) (sym (ap type_with outs-IntN))
+of_layer Ty-F.Bool y h = subst IsOfLayer (sym rolls-Bool) (sym (ap type_with outs-Bool))
+of_layer Ty-F.Str y h = subst IsOfLayer (sym rolls-Str) (sym (ap type_with outs-Str))
+of_layer Ty-F.Null y h = subst IsOfLayer (sym rolls-Null) (sym (ap type_with outs-Null))
+of_layer (Ty-F.Row n) y h = subst IsOfLayer (sym (rolls-Row n)) (sym (ap type_with (outs-Row n)))
+of_layer (Ty-F.Rec members) y h = subst IsOfLayer (sym (rolls-Rec members)) (sym (ap type_with (outs-Rec members)))
+of_layer (Ty-F.Seq t) y h = subst IsOfLayer (sym (rolls-Seq t)) (sym (ap type_with (outs-Seq t)))
+of_layer (Ty-F.Group k t) y h = subst IsOfLayer (sym (rolls-Group k t)) (sym (ap type_with (outs-Group k t)))
+
+is_of_layer : (t : Ty) → t ≡ type_with (out-Ty t)
+is_of_layer t = ind-Ty IsOfLayer of_layer t
+
+row_layer : (layer : Ty-F Ty) (n : ℕ) → row_table layer ≡ Some n → type_with layer ≡ ty.Row n
+row_layer (Ty-F.Row m) n h = ap ty.Row (same_Some m n h)
+row_layer layer n h = absurd (none-some n h)
+
+item_layer : (layer : Ty-F Ty) (item : Ty) → item_of layer ≡ Some item → type_with layer ≡ ty.Seq item
+item_layer (Ty-F.Seq t) item h = ap ty.Seq (same_Some t item h)
+item_layer layer item h = absurd (none-some item h)
+
+bool_layer : (layer : Ty-F Ty) → is_bool layer ≡ true → type_with layer ≡ ty.Bool
+bool_layer Ty-F.Bool h = refl
+bool_layer layer h = absurd (true≢false (sym h))
+
+is_row : (t : Ty) (n : ℕ) → row_table (out-Ty t) ≡ Some n → t ≡ ty.Row n
+is_row t n h = is_of_layer t ∙ row_layer (out-Ty t) n h
+
+is_sequence : (t item : Ty) → item_of (out-Ty t) ≡ Some item → t ≡ ty.Seq item
+is_sequence t item h = is_of_layer t ∙ item_layer (out-Ty t) item h
+
+is_truth : (t : Ty) → is_bool (out-Ty t) ≡ true → t ≡ ty.Bool
+is_truth t h = is_of_layer t ∙ bool_layer (out-Ty t) h
+
+-- ---- what the rules give is found
+
+abbrev compared_type : Option Ty → Option Ty → Option Ty
+compared_type left right = option_and_then (λ s. option_and_then (λ t. if is_number (out-Ty s) && is_number (out-Ty t) then Some ty.Bool else None) right) left
+
+numbers_compare : (s t : Ty) → is_number (out-Ty s) ≡ true → is_number (out-Ty t) ≡ true → compared_type (Some s) (Some t) ≡ Some ty.Bool
+numbers_compare s t s_number t_number = rw (s_number, t_number) refl
+
+abbrev member_type : Names → List ℕ → Option Ty → Option Ty
+member_type names c row = option_and_then (λ t. option_and_then (λ n. column_type names.tables n c) (row_table (out-Ty t))) row
+
+abbrev expression_type : Names → Expr → Option Ty
+expression_type names e = type_of e names
+
+pub type_complete : (names : Names) {e : Expr} {t : Ty} → HasType names e t → type_of e names ≡ Some t
+type_complete names (of_integer _ n is) = ap (expression_type names) is ∙ type_integer n names
+type_complete names (of_local _ x _ is found) = ap (expression_type names) is ∙ type_name x names ∙ ap (name_type names x) found
+type_complete names (of_table _ x n is hidden found) =
+    ap (expression_type names) is ∙ type_name x names ∙ ap (name_type names x) hidden ∙ ap (λ (o : Option ℕ). option_map (λ m. ty.Seq (ty.Row m)) o) found
+type_complete names (of_column _ row c n _ is row_typed found) =
+    ap (expression_type names) is ∙ type_member row c names
+    ∙ ap (member_type names c) (type_complete names row_typed)
+    ∙ ap (λ layer. option_and_then (λ m. column_type names.tables m c) (row_table layer)) (outs-Row n)
+    ∙ found
+type_complete names (of_comparison _ a b op s t is a_typed s_number b_typed t_number) =
+    ap (expression_type names) is ∙ type_compare op a b names
+    ∙ ap (λ (o : Option Ty). compared_type o (type_of b names)) (type_complete names a_typed)
+    ∙ ap (compared_type (Some s)) (type_complete names b_typed)
+    ∙ numbers_compare s t s_number t_number
+
+-- ---- what is found is what the rules give
+
+abbrev IsSound : Expr → Type 0
+IsSound e = (names : Names) (t : Ty) → type_of e names ≡ Some t → HasType names e t
+
+sound_integer : (n : ℤ) → IsSound (expr.Integer n)
+sound_integer n names t h =
+    subst (HasType names (expr.Integer n)) (same_Some ty.Int t (sym (type_integer n names) ∙ h)) (of_integer (expr.Integer n) n refl)
+
+sound_table : (x : List ℕ) (names : Names) (t : Ty) → local_type x names.locals ≡ None → (o : Option ℕ) → table_number x names.tables ≡ o
+    → option_map (λ n. ty.Seq (ty.Row n)) o ≡ Some t → HasType names (expr.Name x) t
+sound_table x names t hidden None is h = absurd (none-some t h)
+sound_table x names t hidden (Some n) is h =
+    subst (HasType names (expr.Name x)) (same_Some (ty.Seq (ty.Row n)) t h) (of_table (expr.Name x) x n refl hidden is)
+
+sound_local : (x : List ℕ) (names : Names) (t : Ty) (o : Option Ty) → local_type x names.locals ≡ o → name_type names x o ≡ Some t → HasType names (expr.Name x) t
+sound_local x names t None is h = sound_table x names t is (table_number x names.tables) refl h
+sound_local x names t (Some s) is h = of_local (expr.Name x) x t refl (is ∙ h)
+
+sound_name : (x : List ℕ) → IsSound (expr.Name x)
+sound_name x names t h = sound_local x names t (local_type x names.locals) refl (sym (type_name x names) ∙ h)
+
+sound_column : (row : Expr) (c : List ℕ) (names : Names) (s t : Ty) → HasType names row s → (o : Option ℕ) → row_table (out-Ty s) ≡ o
+    → option_and_then (λ n. column_type names.tables n c) o ≡ Some t → HasType names (expr.Member row c) t
+sound_column row c names s t typed None is h = absurd (none-some t h)
+sound_column row c names s t typed (Some n) is h =
+    of_column (expr.Member row c) row c n t refl (subst (HasType names row) (is_row s n is) typed) h
+
+sound_member_by : (row : Expr) (c : List ℕ) → IsSound row → (names : Names) (t : Ty) (o : Option Ty) → type_of row names ≡ o
+    → member_type names c o ≡ Some t → HasType names (expr.Member row c) t
+sound_member_by row c sound names t None is h = absurd (none-some t h)
+sound_member_by row c sound names t (Some s) is h = sound_column row c names s t (sound names s is) (row_table (out-Ty s)) refl h
+
+sound_member : (row : Expr) (c : List ℕ) → IsSound row → IsSound (expr.Member row c)
+sound_member row c sound names t h = sound_member_by row c sound names t (type_of row names) refl (sym (type_member row c names) ∙ h)
+
+sound_numbers : (op : Comparison) (a b : Expr) (names : Names) (r s t : Ty) → HasType names a r → HasType names b s → (n m : Bool)
+    → is_number (out-Ty r) ≡ n → is_number (out-Ty s) ≡ m → (if n && m then Some ty.Bool else None) ≡ Some t → HasType names (expr.Compare op a b) t
+sound_numbers op a b names r s t a_typed b_typed true true r_is s_is h =
+    subst (HasType names (expr.Compare op a b)) (same_Some ty.Bool t h) (of_comparison (expr.Compare op a b) a b op r s refl a_typed r_is b_typed s_is)
+sound_numbers op a b names r s t a_typed b_typed true false r_is s_is h = absurd (none-some t h)
+sound_numbers op a b names r s t a_typed b_typed false m r_is s_is h = absurd (none-some t h)
+
+sound_compare_by : (op : Comparison) (a b : Expr) → IsSound a → IsSound b → (names : Names) (t : Ty) (o p : Option Ty) → type_of a names ≡ o → type_of b names ≡ p
+    → compared_type o p ≡ Some t → HasType names (expr.Compare op a b) t
+sound_compare_by op a b a_sound b_sound names t None p a_is b_is h = absurd (none-some t h)
+sound_compare_by op a b a_sound b_sound names t (Some r) None a_is b_is h = absurd (none-some t h)
+sound_compare_by op a b a_sound b_sound names t (Some r) (Some s) a_is b_is h =
+    sound_numbers op a b names r s t (a_sound names r a_is) (b_sound names s b_is) (is_number (out-Ty r)) (is_number (out-Ty s)) refl refl h
+
+sound_compare : (op : Comparison) (a b : Expr) → IsSound a → IsSound b → IsSound (expr.Compare op a b)
+sound_compare op a b a_sound b_sound names t h =
+    sound_compare_by op a b a_sound b_sound names t (type_of a names) (type_of b names) refl refl (sym (type_compare op a b names) ∙ h)
+
+abbrev Both : Type 0
+Both = (e : Expr) × IsSound e
+
+sound_layer : (x : Expr-F Expr) (y : Expr-F Both) → map-Expr Both Expr (λ e. e.0) y ≡ x → IsSound (roll-Expr x)
+sound_layer x (Expr-F.Integer n) h = subst (λ d. IsSound (roll-Expr d)) h (subst IsSound (sym (rolls-Integer n)) (sound_integer n))
+sound_layer x (Expr-F.Name s) h = subst (λ d. IsSound (roll-Expr d)) h (subst IsSound (sym (rolls-Name s)) (sound_name s))
+sound_layer x (Expr-F.Member row c) h = subst (λ d. IsSound (roll-Expr d)) h (subst IsSound (sym (rolls-Member row.0 c)) (sound_member row.0 c row.1))
+sound_layer x (Expr-F.Compare op a b) h =
+    subst (λ d. IsSound (roll-Expr d)) h (subst IsSound (sym (rolls-Compare op a.0 b.0)) (sound_compare op a.0 b.0 a.1 b.1))
+
+pub type_sound : (e : Expr) (names : Names) (t : Ty) → type_of e names ≡ Some t → HasType names e t
+type_sound e = ind-Expr IsSound sound_layer e
+
+-- ---- queries
+
+clause_complete : (names : Names) (c : Clause Expr) → IsTypedClause names c → clause_is_typed names c ≡ true
+clause_complete names (clause.Where c) typed = ap is_bool_type (type_complete names typed) ∙ ap is_bool outs-Bool
+
+clauses_complete : (names : Names) (cs : List (Clause Expr)) → AreTypedClauses names cs → clauses_are_typed names cs ≡ true
+clauses_complete names [] typed = refl
+clauses_complete names (c ∷ cs) typed = rw (clause_complete names c typed.0, clauses_complete names cs typed.1) refl
+
+selected_complete : (names : Names) (l : Last Expr) (t : Ty) → HasSelectedType names l t → selected_type names l ≡ Some t
+selected_complete names (last.Select v) t typed = ap if_scalar (type_complete names typed.0) ∙ rw typed.1 refl
+
+pub item_type_complete : (names : Names) (q : Query Expr) (t : Ty) → HasItemType names q t → item_type q names ≡ Some t
+unfolding item_type
+item_type_complete names q t typed =
+    ap (λ (o : Option Ty). when_fresh o (items_over names q (option_and_then (λ s. item_of (out-Ty s)) (type_of q.source names)))) typed.fresh
+    ∙ ap (λ (o : Option Ty). items_over names q (option_and_then (λ s. item_of (out-Ty s)) o)) (type_complete names typed.source)
+    ∙ ap (λ layer. items_over names q (item_of layer)) (outs-Seq typed.item)
+    ∙ ap (λ (b : Bool). if b then selected_type (with_local names q.name typed.item) q.last else None) (clauses_complete (with_local names q.name typed.item) q.clauses typed.clauses)
+    ∙ selected_complete (with_local names q.name typed.item) q.last t typed.selected
+
+condition_sound : (names : Names) (c : Expr) (o : Option Ty) → type_of c names ≡ o → is_bool_type o ≡ true → HasType names c ty.Bool
+condition_sound names c None is h = absurd (true≢false (sym h))
+condition_sound names c (Some t) is h = subst (HasType names c) (is_truth t h) (type_sound c names t is)
+
+clause_sound : (names : Names) (c : Clause Expr) → clause_is_typed names c ≡ true → IsTypedClause names c
+clause_sound names (clause.Where c) h = condition_sound names c (type_of c names) refl h
+
+clauses_sound : (names : Names) (cs : List (Clause Expr)) → clauses_are_typed names cs ≡ true → AreTypedClauses names cs
+clauses_sound names [] h = tt
+clauses_sound names (c ∷ cs) h =
+    let parts = and_parts (clause_is_typed names c) (clauses_are_typed names cs) h in (clause_sound names c parts.0, clauses_sound names cs parts.1)
+
+scalar_sound : (names : Names) (v : Expr) (s t : Ty) → type_of v names ≡ Some s → (b : Bool) → is_scalar (out-Ty s) ≡ b → (if b then Some s else None) ≡ Some t
+    → HasSelectedType names (last.Select v) t
+scalar_sound names v s t is true scalar h =
+    let same : s ≡ t = same_Some s t h in
+    (type_sound v names t (is ∙ h), subst (λ (u : Ty). is_scalar (out-Ty u) ≡ true) same scalar)
+scalar_sound names v s t is false scalar h = absurd (none-some t h)
+
+value_sound : (names : Names) (v : Expr) (t : Ty) (o : Option Ty) → type_of v names ≡ o → if_scalar o ≡ Some t → HasSelectedType names (last.Select v) t
+value_sound names v t None is h = absurd (none-some t h)
+value_sound names v t (Some s) is h = scalar_sound names v s t is (is_scalar (out-Ty s)) refl h
+
+selected_sound : (names : Names) (l : Last Expr) (t : Ty) → selected_type names l ≡ Some t → HasSelectedType names l t
+selected_sound names (last.Select v) t h = value_sound names v t (type_of v names) refl h
+
+body_sound : (names : Names) (q : Query Expr) (item t : Ty) → local_type q.name names.locals ≡ None → HasType names q.source (ty.Seq item) → (b : Bool)
+    → clauses_are_typed (with_local names q.name item) q.clauses ≡ b → (if b then selected_type (with_local names q.name item) q.last else None) ≡ Some t
+    → HasItemType names q t
+body_sound names q item t fresh source true clauses h = record {
+  item = item;
+  source = source;
+  fresh = fresh;
+  clauses = clauses_sound (with_local names q.name item) q.clauses clauses;
+  selected = selected_sound (with_local names q.name item) q.last t h;
+}
+body_sound names q item t fresh source false clauses h = absurd (none-some t h)
+
+items_sound : (names : Names) (q : Query Expr) (s t : Ty) → local_type q.name names.locals ≡ None → HasType names q.source s → (o : Option Ty) → item_of (out-Ty s) ≡ o
+    → items_over names q o ≡ Some t → HasItemType names q t
+items_sound names q s t fresh source None is h = absurd (none-some t h)
+items_sound names q s t fresh source (Some item) is h =
+    body_sound names q item t fresh (subst (HasType names q.source) (is_sequence s item is) source) (clauses_are_typed (with_local names q.name item) q.clauses) refl h
+
+source_sound : (names : Names) (q : Query Expr) (t : Ty) → local_type q.name names.locals ≡ None → (o : Option Ty) → type_of q.source names ≡ o
+    → items_over names q (option_and_then (λ s. item_of (out-Ty s)) o) ≡ Some t → HasItemType names q t
+source_sound names q t fresh None is h = absurd (none-some t h)
+source_sound names q t fresh (Some s) is h = items_sound names q s t fresh (type_sound q.source names s is) (item_of (out-Ty s)) refl h
+
+fresh_sound : (names : Names) (q : Query Expr) (t : Ty) (o : Option Ty) → local_type q.name names.locals ≡ o
+    → when_fresh o (items_over names q (option_and_then (λ s. item_of (out-Ty s)) (type_of q.source names))) ≡ Some t → HasItemType names q t
+fresh_sound names q t None is h = source_sound names q t is (type_of q.source names) refl h
+fresh_sound names q t (Some s) is h = absurd (none-some t h)
+
+pub item_type_sound : (names : Names) (q : Query Expr) (t : Ty) → item_type q names ≡ Some t → HasItemType names q t
+unfolding item_type
+item_type_sound names q t h = fresh_sound names q t (local_type q.name names.locals) refl h
+
+-- ---- the laws
+
+pub one_expression_type : HasOneType
+one_expression_type names e s t left right = same_Some s t (sym (type_complete names left) ∙ type_complete names right)
+
+pub one_item_type : HasOneItemType
+one_item_type names q s t left right = same_Some s t (sym (item_type_complete names q s left) ∙ item_type_complete names q t right)
+
+pub type_found : FindsTypes
+type_found names e t = (type_sound e names t, type_complete names)
+
+pub item_type_found : FindsItemTypes
+item_type_found names q t = (item_type_sound names q t, item_type_complete names q t)

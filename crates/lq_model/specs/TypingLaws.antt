@@ -1,0 +1,22 @@
+-- Laws of typing: there is one type at most, and the functions find the type that the rules give.
+use Rattle.std.specs.Prelude.{◌≡◌, ◌↔◌, Some}
+use Rattle.lq_value.specs.declared.ty.Ty.{Ty}
+use Rattle.lq_model.specs.Typing.{Names, HasType, HasItemType, type_of, item_type}
+use Rattle.lq_model.specs.declared.syntax.Expr.{Expr}
+use Rattle.lq_model.specs.declared.syntax.Query.{Query}
+
+-- under given names an expression has at most one type
+abbrev pub HasOneType : Type 0
+HasOneType = (names : Names) (e : Expr) (s t : Ty) → HasType names e s → HasType names e t → s ≡ t
+
+-- under given names the items of a query have at most one type
+abbrev pub HasOneItemType : Type 0
+HasOneItemType = (names : Names) (q : Query Expr) (s t : Ty) → HasItemType names q s → HasItemType names q t → s ≡ t
+
+-- the function finds a type for an expression exactly where the rules give it
+abbrev pub FindsTypes : Type 0
+FindsTypes = (names : Names) (e : Expr) (t : Ty) → (type_of e names ≡ Some t) ↔ HasType names e t
+
+-- the function finds a type for a query's items exactly where the rules give it
+abbrev pub FindsItemTypes : Type 0
+FindsItemTypes = (names : Names) (q : Query Expr) (t : Ty) → (item_type q names ≡ Some t) ↔ HasItemType names q t

@@ -1,0 +1,1 @@
+head -c 65509 /dev/zero | tr '\0' ' '; printf '%s\n' 'run from x in t select x.c;'
