@@ -6,10 +6,9 @@ mod disk;
 
 use disk::Disk;
 use lq_serve::{finish, load, refuse};
-use std::env;
-use std::io;
 use std::io::Write;
 use std::process::ExitCode;
+use std::{env, io};
 
 /// The status for a fault of the command line.
 const USAGE: u8 = 2;

@@ -22,7 +22,11 @@ fn one_query_is_served(rt: HostRuntime) -> Result<(), Fail> {
     let alloc = rt.alloc();
     let two = open(alloc, "c:int\n1\n2\n", ALL)?;
     assert!(rt; two.as_slice() == b"{\"items\":[1,2]}\n".as_slice());
-    let none = open(alloc, "c:int\n", "run from x in t select x.c;\nrun from x in t select x.d;")?;
+    let none = open(
+        alloc,
+        "c:int\n",
+        "run from x in t select x.c;\nrun from x in t select x.d;",
+    )?;
     assert!(rt; none.as_slice() == b"{\"items\":[]}\n{\"error\":\"type\"}\n".as_slice());
     Ok(())
 }
@@ -47,8 +51,12 @@ fn without_policies_nothing_is_served(rt: HostRuntime) -> Result<(), Fail> {
 
 #[test]
 fn refused_lines_leave_the_others(rt: HostRuntime) -> Result<(), Fail> {
-    let script = "run from;\nrun from x in t select x.c;\n// nothing\nrun from x in u select x.c;\nrun from x in t select y.c;\nrun from x in t select x.c;";
+    let script =
+        "run from;\nrun from x in t select x.c;\n// nothing\nrun from x in u select x.c;\nrun from x in t select y.c;\nrun from x in t select x.c;";
     let replies = open(rt.alloc(), "c:int\n1\n", script)?;
-    assert!(rt; replies.as_slice() == b"{\"error\":\"syntax\"}\n{\"items\":[1]}\n{\"error\":\"type\"}\n{\"error\":\"type\"}\n{\"items\":[1]}\n".as_slice());
+    assert!(rt;
+        replies.as_slice()
+            == b"{\"error\":\"syntax\"}\n{\"items\":[1]}\n{\"error\":\"type\"}\n{\"error\":\"type\"}\n{\"items\":[1]}\n".as_slice()
+    );
     Ok(())
 }

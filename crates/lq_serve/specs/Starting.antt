@@ -71,7 +71,7 @@ fault_line file found = codes "lq: " ++ (file ++ (codes ": " ++ fault_text found
 
 -- ---- files
 
--- what the reading of a file gives: its bytes, or None where it can't be read
+-- what the reading of a file gives: its bytes, or None where it can't be read; a file whose table has no name is not read
 pub record Reading : Type 0 where
   pub file : List ℕ
   pub gave : Option (List ℕ)
@@ -92,7 +92,7 @@ abbrev pub table_or_fault : Result Table LoadError → Result Table FileFault
 table_or_fault (Ok table) = Ok table
 table_or_fault (Err error) = Err (fault_of_load error)
 
--- the table that a file means: its bytes come last
+-- the table of this name that means what was read of its file
 abbrev pub table_read : List ℕ → Option (List ℕ) → Result Table FileFault
 table_read name None = Err fault.Read
 table_read name (Some bytes) = table_or_fault (table_of name bytes)
