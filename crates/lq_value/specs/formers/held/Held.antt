@@ -61,7 +61,7 @@ module _ (From To : RattleType) (turn : From.Denot → To.Denot) where
       (contract.the_row From).coded (contract.the_row To).coded (invariant From.Denot) (invariant To.Denot)
       (λ u p q. refl) (λ u p q. refl) (λ u e. tt) (λ u e. tt) (over (inside.the_row From)) (over (inside.the_row To))
       (struct_places (inside.the_type From) (inside.the_type To) ((λ old. with_value old (turn old.value)), tt) _ (λ d. refl) refl
-          (laid _ _ _ (box_places alike), tt))
+      (laid _ _ _ (box_places alike), tt))
 
   pub the_codes_placed : Recodes From To turn → Recodes (contract.the_row From) (contract.the_row To) ((the_former this).map From.Denot To.Denot turn)
   the_codes_placed recoded value = recoded value

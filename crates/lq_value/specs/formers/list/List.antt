@@ -52,7 +52,7 @@ module _ (From To : RattleType) (turn : From.Denot → To.Denot) where
       (contract.the_row From).coded (contract.the_row To).coded (invariant From.Denot) (invariant To.Denot)
       (λ u p q. refl) (λ u p q. refl) (λ u e. tt) (λ u e. tt) (over (inside.the_row From)) (over (inside.the_row To))
       (struct_places (inside.the_type From) (inside.the_type To) (vec.mapped turn, tt) _ (λ d. refl) refl
-          (laid _ _ _ (vec.the_places heap.the_row ghosts From To turn alike), tt))
+      (laid _ _ _ (vec.the_places heap.the_row ghosts From To turn alike), tt))
 
   pub the_codes_placed : Recodes From To turn → Recodes (contract.the_row From) (contract.the_row To) ((the_former this).map From.Denot To.Denot turn)
   the_codes_placed recoded xs = sym (code_map From.coded.code To.coded.code turn (λ x. sym (recoded x)) xs)
