@@ -89,7 +89,7 @@ impl<R: Read> Device<R> {
 }
 
 impl<W: Write> Device<W> {
-    ghost use Rattle.lq_serve.specs.Devices.{inner_of, is_failed, AppendsFront};
+    ghost use Rattle.lq_serve.specs.Devices.{inner_of, read_count, is_failed, is_ended, AppendsFront};
 
     /// Writes all the bytes, by as many writes as it takes. It ends at the first write that fails: a
     /// front of the bytes is then written.
@@ -98,6 +98,8 @@ impl<W: Write> Device<W> {
         ensures err { OnErr result (AppendsFront (W.contents (inner_of self.old)) (W.contents (inner_of self.new)) bytes.now) }
         ensures marked { is_failed self.old ≡ false → (IsErr result ↔ (is_failed self.new ≡ true)) }
         ensures stays { is_failed self.old ≡ true → is_failed self.new ≡ true }
+        ensures reads { read_count self.new ≡ read_count self.old }
+        ensures ended { is_ended self.new ≡ is_ended self.old }
     {
         let result = write_all(&mut self.inner, bytes);
         if result.is_err() {
@@ -111,6 +113,8 @@ impl<W: Write> Device<W> {
         ensures bytes { Keeps (W.contents (inner_of self.old)) (W.contents (inner_of self.new)) }
         ensures marked { is_failed self.old ≡ false → (IsErr result ↔ (is_failed self.new ≡ true)) }
         ensures stays { is_failed self.old ≡ true → is_failed self.new ≡ true }
+        ensures reads { read_count self.new ≡ read_count self.old }
+        ensures ended { is_ended self.new ≡ is_ended self.old }
     {
         match self.inner.flush() {
             Ok(()) => Ok(()),
