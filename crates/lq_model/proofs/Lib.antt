@@ -1,6 +1,7 @@
 pub mod Completeness
 pub mod Opens
-pub mod RunLemmas
+pub mod OutputLemmas
+pub mod PolicyLemmas
 pub mod ScriptLemmas
 pub mod SessionLemmas
 pub mod Soundness

@@ -2,9 +2,10 @@ pub mod Grammar
 pub mod GrammarLaws
 pub mod Machine
 pub mod Meaning
+pub mod Output
 pub mod Parsing
+pub mod PolicyLaws
 pub mod Reading
-pub mod Runs
 pub mod Script
 pub mod Served
 pub mod SessionLaws

@@ -29,8 +29,8 @@ Reply = Option (List ℕ)
 abbrev pub memory_line : List ℕ
 memory_line = codes "{\"error\":\"memory\"}" ++ 10 ∷ []
 
-abbrev pub schemas_of : State → List Schema
-schemas_of s = map (λ table. table.schema) s.tables
+abbrev pub schemas_of : List Table → List Schema
+schemas_of tables = map (λ table. table.schema) tables
 
 -- the tables as the role sees them: the only way from a state to its rows
 abbrev pub seen_by_role : State → List (List TableRow)
@@ -54,7 +54,7 @@ unfoldable pub run_reply : List Schema → List (List TableRow) → Query Expr �
 run_reply schemas rows q = served (world_of schemas rows) q (item_type q (record { tables = schemas; locals = [] }))
 
 abbrev pub answer_to : State → Statement → Data
-answer_to s (statement.Run q) = run_reply (schemas_of s) (seen_by_role s) q
+answer_to s (statement.Run q) = run_reply (schemas_of s.tables) (seen_by_role s) q
 
 abbrev pub reply_to : State → Option (Option Statement) → Reply
 reply_to s None = Some (line_of (error_data (codes "syntax")))

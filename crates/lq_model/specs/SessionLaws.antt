@@ -1,70 +1,61 @@
--- Laws of the session machine, of its output and of the policies.
-use Rattle.std.specs.Prelude.{◌≡◌, ◌≢◌, ◌∷◌, ◌++◌, List, [], ℕ, true, false, Some, codes, slice_get}
-use Rattle.std.specs.List.{Contains}
-use Rattle.lq_value.specs.declared.scalar.Scalar.{Scalar}
-use Rattle.lq_model.specs.Machine.{State, Reply, memory_line, schemas_of, seen_by_role, step}
-use Rattle.lq_model.specs.Runs.{Answers, Runs, run}
+-- Laws of the session machine and of its output.
+use Rattle.std.specs.Prelude.{◌≡◌, ◌≢◌, ◌↔◌, ◌∷◌, List, [], ℕ, map, Some, None, codes}
+use Rattle.lq_model.specs.Machine.{State, Reply, memory_line, step}
+use Rattle.lq_model.specs.Output.{Answers, Runs, stepped}
 use Rattle.lq_model.specs.Served.{error_data, line_of}
-use Rattle.lq_model.specs.Visible.{role_name, visible_to}
-use Rattle.lq_model.specs.declared.policy.Policy.{Policy}
-use Rattle.lq_model.specs.declared.policy.PolicyParts.{PolicyParts}
-use Rattle.lq_model.specs.declared.policy.TablePart.{TablePart}
+use Rattle.lq_model.specs.Visible.{tables_as_seen}
 
 -- ---- what hidden rows may change
 
--- Two states that look the same to their role: they may differ in rows that it doesn't see and in the numbers of rows to
--- come, and in nothing else.
-pub record SeesSame (a b : State) : Type 0 where
+-- Two states that look the same to their role: they may differ in rows that are hidden from it and in the numbers of rows
+-- to come, and in nothing else.
+pub record LooksSame (a b : State) : Type 0 where
   pub role : a.role ≡ b.role
   pub policies : a.policies ≡ b.policies
-  pub schemas : schemas_of a ≡ schemas_of b
-  pub seen : seen_by_role a ≡ seen_by_role b
+  pub schemas : map (λ table. table.schema) a.tables ≡ map (λ table. table.schema) b.tables
+  pub seen : tables_as_seen a.policies a.role a.tables ≡ tables_as_seen b.policies b.role b.tables
 
--- states that look the same give every line the same reply
+-- states that look the same give every line the same reply, and look the same behind it
 abbrev pub AnswersAlike : Type 0
-AnswersAlike = (a b : State) → SeesSame a b → (line : List ℕ) → (step a line).0 ≡ (step b line).0
-
--- and so do sessions in these states, where neither of them was refused memory
-abbrev pub RepliesAlike : Type 0
-RepliesAlike =
-    (a b : State) → SeesSame a b → (line : List ℕ) (r s : Reply) (after_a after_b : State) → Answers a line r after_a → Answers b line s after_b
-    → r ≢ Some memory_line → s ≢ Some memory_line → r ≡ s
+AnswersAlike = (a b : State) → LooksSame a b → (line : List ℕ) → ((step a line).0 ≡ (step b line).0) × LooksSame (step a line).1 (step b line).1
 
 -- ---- the output of a script
 
 -- no reply is the memory line
-abbrev pub HasMemory : List Reply → Type 0
-HasMemory [] = Unit {0}
-HasMemory (reply ∷ replies) = (reply ≢ Some memory_line) × HasMemory replies
+abbrev pub HasNoMemoryLine : List Reply → Type 0
+HasNoMemoryLine [] = Unit {0}
+HasNoMemoryLine (reply ∷ replies) = (reply ≢ Some memory_line) × HasNoMemoryLine replies
+
+-- and so do whole scripts where no reply is the memory line
+abbrev pub ScriptsAlike : Type 0
+ScriptsAlike =
+    (a b after_a after_b : State) (lines : List (List ℕ)) (from_a from_b : List Reply) → LooksSame a b → Runs a lines from_a after_a → Runs b lines from_b after_b
+    → HasNoMemoryLine from_a → HasNoMemoryLine from_b → (from_a ≡ from_b) × LooksSame after_a after_b
 
 -- where no reply is the memory line, the replies to the lines and the state behind them are the machine's
 abbrev pub IsOutput : Type 0
-IsOutput = (old new : State) (lines : List (List ℕ)) (replies : List Reply) → Runs old lines replies new → HasMemory replies → (replies, new) ≡ run old lines
+IsOutput = (old new : State) (lines : List (List ℕ)) (replies : List Reply) → Runs old lines replies new → HasNoMemoryLine replies → (replies, new) ≡ stepped old lines
+
+-- ---- want of memory
+
+-- The lines and replies without those lines that were answered by the memory line.
+pub data WithoutMemoryLines : List (List ℕ) → List Reply → List (List ℕ) → List Reply → Type 0 where
+  end : WithoutMemoryLines [] [] [] []
+  answered : {line : List ℕ} {reply : Reply} {lines served : List (List ℕ)} {replies rest : List Reply} → reply ≢ Some memory_line
+      → WithoutMemoryLines lines replies served rest → WithoutMemoryLines (line ∷ lines) (reply ∷ replies) (line ∷ served) (reply ∷ rest)
+  refused : {line : List ℕ} {lines served : List (List ℕ)} {replies rest : List Reply}
+      → WithoutMemoryLines lines replies served rest → WithoutMemoryLines (line ∷ lines) (Some memory_line ∷ replies) served rest
+
+-- where some replies are the memory line, the others and the state behind the script are the machine's over the other lines
+abbrev pub LeavesTheRest : Type 0
+LeavesTheRest =
+    (old new : State) (lines served : List (List ℕ)) (replies rest : List Reply) → Runs old lines replies new → WithoutMemoryLines lines replies served rest
+    → (rest, new) ≡ stepped old served
+
+-- a line has no reply exactly where the machine has none for it
+abbrev pub IsSilentAlike : Type 0
+IsSilentAlike = (old new : State) (line : List ℕ) (reply : Reply) → Answers old line reply new → (reply ≡ None) ↔ ((step old line).0 ≡ None)
 
 -- the memory line is the line of a refusal
 abbrev pub MemoryLineIsServed : Type 0
 MemoryLineIsServed = memory_line ≡ line_of (error_data (codes "memory"))
-
--- ---- policies
-
--- no permissive policy of the table lists this role or `public`
-abbrev pub LacksPermission : List ℕ → ℕ → List Policy → Type 0
-LacksPermission role table policies =
-    (policy : Policy) → Contains policies policy → policy.table ≡ table → policy.restrictive ≡ false
-    → (Contains policy.to role → ⊥) × (Contains policy.to (codes "public") → ⊥)
-
--- where row security is on, a role sees no row of a table without a permissive policy that lists it or `public`
-abbrev pub IsDeniedByDefault : Type 0
-IsDeniedByDefault =
-    (parts : PolicyParts) (role table : ℕ) (part : TablePart) → slice_get parts.tables table ≡ Some part → part.secured ≡ true
-    → LacksPermission (role_name parts role) table parts.policies → (cells : List Scalar) → visible_to parts role table cells ≡ false
-
--- these policies, and one more behind them
-abbrev pub with_policy : PolicyParts → Policy → PolicyParts
-with_policy parts policy = record parts { policies = parts.policies ++ policy ∷ [] }
-
--- a row that is visible under one more restrictive policy is visible without it
-abbrev pub NarrowsByRestriction : Type 0
-NarrowsByRestriction =
-    (parts : PolicyParts) (policy : Policy) (role table : ℕ) (cells : List Scalar) → policy.restrictive ≡ true
-    → visible_to (with_policy parts policy) role table cells ≡ true → visible_to parts role table cells ≡ true

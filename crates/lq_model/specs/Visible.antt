@@ -1,14 +1,15 @@
 -- «Visible» and «Tables as seen»: which rows a role may see (PostgreSQL, CREATE POLICY).
-use Rattle.std.specs.Prelude.{◌+◌, ◌∷◌, ◌==◌, ◌&&◌, ◌||◌, not, if◌then◌else◌, List, [], map, filter, ℕ, Bool, true, false, Option, Some, None, Result, Ok, Err, codes, slice_get}
-use Rattle.std.specs.List.{list_any, list_all}
+use Rattle.std.specs.Prelude.{◌≡◌, ◌+◌, ◌∷◌, ◌==◌, ◌&&◌, ◌||◌, ◌⊎◌, not, if◌then◌else◌, ◌≤◌, List, [], map, filter, ℕ, Bool, true, false, Option, Some, None, Result, Ok, Err, codes, slice_get}
+use Rattle.std.specs.List.{Contains, list_any, list_all}
 use Rattle.std.specs.Str.{bytes_eq}
 use Rattle.lq_value.specs.Tables.{Table}
 use Rattle.lq_value.specs.declared.scalar.Scalar.{Scalar}
+use Rattle.lq_value.specs.declared.scalar.Scalar.TheVariants as scalar
 use Rattle.lq_value.specs.declared.table.Row.{Row}
 use Rattle.lq_value.specs.declared.ty.Ty.TheVariants as ty
 use Rattle.lq_value.specs.declared.value.Value.TheVariants as value
 use Rattle.lq_value.specs.declared.value.Fault.{Fault}
-use Rattle.lq_model.specs.Meaning.{Scope, World, condition_at}
+use Rattle.lq_model.specs.Meaning.{Scope, World, condition_at, meaning}
 use Rattle.lq_model.specs.declared.policy.Policy.{Policy}
 use Rattle.lq_model.specs.declared.policy.PolicyParts.{PolicyParts}
 use Rattle.lq_model.specs.declared.policy.Role.{Role}
@@ -45,39 +46,80 @@ rule_holds columns table rule cells = is_true (condition_at (rule_world columns)
 abbrev pub is_listed : List ℕ → List (List ℕ) → Bool
 is_listed role to = list_any (λ name. bytes_eq name role || bytes_eq name (codes "public")) to
 
--- a number that no role has stands for the role of no name, which nothing lists
-abbrev pub name_or_none : Option Role → List ℕ
-name_or_none None = []
-name_or_none (Some role) = role.name
-
-abbrev pub role_name : PolicyParts → ℕ → List ℕ
-role_name parts role = name_or_none (slice_get parts.roles role)
-
 -- a policy applies to a role's reading of a table
 abbrev pub applies : List ℕ → ℕ → Policy → Bool
 applies role table policy = (policy.table == table) && is_listed role policy.to
 
--- some permissive policy that applies is true on the row
-abbrev pub is_permitted : List (List ℕ) → List ℕ → ℕ → List Scalar → List Policy → Bool
-is_permitted columns role table cells policies =
-    list_any (λ policy. not policy.restrictive && applies role table policy && rule_holds columns table policy.using cells) policies
+-- a row of a table, as policies see it, and the role that asks for it
+pub record Asked : Type 0 where
+  pub role : List ℕ
+  pub table : ℕ
+  pub columns : List (List ℕ)
+  pub cells : List Scalar
 
--- no restrictive policy that applies is false on the row
-abbrev pub is_unrestricted : List (List ℕ) → List ℕ → ℕ → List Scalar → List Policy → Bool
-is_unrestricted columns role table cells policies =
-    list_all (λ policy. not (policy.restrictive && applies role table policy) || rule_holds columns table policy.using cells) policies
+-- a permissive policy that applies and is true on the row
+abbrev pub permits : Asked → Policy → Bool
+permits asked policy = not policy.restrictive && applies asked.role asked.table policy && rule_holds asked.columns asked.table policy.using asked.cells
 
--- a row of a table with row security is visible where a permissive policy admits it and no restrictive one forbids it;
--- without a permissive policy nothing is visible
+-- not a restrictive policy that applies and isn't true on the row
+abbrev pub allows : Asked → Policy → Bool
+allows asked policy = not (policy.restrictive && applies asked.role asked.table policy) || rule_holds asked.columns asked.table policy.using asked.cells
+
+-- some policy permits the row, and each one allows it
+abbrev pub admit : List Policy → Asked → Bool
+admit policies asked = list_any (permits asked) policies && list_all (allows asked) policies
+
+-- a role that the policies don't have sees nothing of a table with row security
+abbrev pub admitted_to : PolicyParts → ℕ → List (List ℕ) → List Scalar → Option Role → Bool
+admitted_to parts table columns cells None = false
+admitted_to parts table columns cells (Some role) = admit parts.policies (record { role = role.name; table = table; columns = columns; cells = cells })
+
+-- a row of a table with row security is visible where a permissive policy permits it and each restrictive one allows it;
+-- without a permissive policy nothing is visible, and nothing is of a table that the policies don't know
 abbrev pub is_admitted : PolicyParts → ℕ → ℕ → List Scalar → Option TablePart → Bool
 is_admitted parts role table cells None = false
-is_admitted parts role table cells (Some part) =
-    if part.secured then is_permitted part.columns (role_name parts role) table cells parts.policies && is_unrestricted part.columns (role_name parts role) table cells parts.policies
-    else true
+is_admitted parts role table cells (Some part) = not part.secured || admitted_to parts table part.columns cells (slice_get parts.roles role)
 
 -- «Visible»: whether a role may see the row of a table that has these cells
 unfoldable pub visible_to : PolicyParts → ℕ → ℕ → List Scalar → Bool
 visible_to parts role table cells = is_admitted parts role table cells (slice_get parts.tables table)
+
+-- ---- the same as a relation, in the words of CREATE POLICY
+
+-- The first column of this name has this cell under it.
+pub record HasCell (columns : List (List ℕ)) (cells : List Scalar) (name : List ℕ) (cell : Scalar) : Type 0 where
+  pub place : ℕ
+  pub column : slice_get columns place ≡ Some name
+  pub under : slice_get cells place ≡ Some cell
+  pub first : (earlier : ℕ) → slice_get columns earlier ≡ Some name → place ≤ earlier
+
+-- A rule is true on a row: `row` is its only name, and stands for the row.
+abbrev pub IsTrueOn : Asked → Expr → Type 0
+IsTrueOn asked rule =
+    let world : World (List Scalar) = record { schemas = []; rows = []; cell = cell_named asked.columns } in
+    let scope : Scope (List Scalar) = record { name = codes "row"; ty = ty.Row asked.table; value = value.Row asked.cells } ∷ [] in
+    meaning world rule scope ≡ Ok (value.Scalar (scalar.Bool true))
+
+-- A policy applies to a role's reading of a table: it is a policy of the table, and lists the role or `public`.
+pub record Applies (role : List ℕ) (table : ℕ) (policy : Policy) : Type 0 where
+  pub on_table : policy.table ≡ table
+  pub to_role : Contains policy.to role ⊎ Contains policy.to (codes "public")
+
+-- Some permissive policy that applies is true on the row, and every restrictive one that applies is.
+pub record IsAdmitted (policies : List Policy) (asked : Asked) : Type 0 where
+  pub permitting : Policy
+  pub among : Contains policies permitting
+  pub permissive : permitting.restrictive ≡ false
+  pub applying : Applies asked.role asked.table permitting
+  pub permitted : IsTrueOn asked permitting.using
+  pub unrestricted : (policy : Policy) → Contains policies policy → policy.restrictive ≡ true → Applies asked.role asked.table policy → IsTrueOn asked policy.using
+
+-- A row is visible where its table's row security is off; or where the policies have the role and admit the row to it.
+pub data IsVisible (parts : PolicyParts) (role table : ℕ) (cells : List Scalar) : Type 0 where
+  unsecured : (part : TablePart) → slice_get parts.tables table ≡ Some part → part.secured ≡ false → IsVisible parts role table cells
+  admitted : (part : TablePart) (asking : Role) → slice_get parts.tables table ≡ Some part → slice_get parts.roles role ≡ Some asking
+      → IsAdmitted parts.policies (record { role = asking.name; table = table; columns = part.columns; cells = cells })
+      → IsVisible parts role table cells
 
 -- ---- tables
 

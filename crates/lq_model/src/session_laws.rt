@@ -1,12 +1,13 @@
-//! Laws of the session machine, of its output and of the policies. Each function's contract is the
-//! law that it is named for; the functions themselves do nothing.
-ghost use Rattle.lq_model.specs.SessionLaws.{AnswersAlike, RepliesAlike, IsOutput, MemoryLineIsServed, IsDeniedByDefault, NarrowsByRestriction};
+//! Laws of the session machine and of its output. Each function's contract is the law that it is
+//! named for; the functions themselves do nothing.
+ghost use Rattle.lq_model.specs.SessionLaws.{AnswersAlike, ScriptsAlike, IsOutput, LeavesTheRest, IsSilentAlike, MemoryLineIsServed};
 
-/// Hidden rows change no answer: two states in which one role sees the same tables, under the same
-/// policies and schemas, give every line the same reply, the memory line aside.
+/// Hidden rows change no answer: two states whose roles see the same tables, under the same
+/// policies and schemas, give every line the same reply and every script the same replies, the
+/// memory line aside.
 pub fn hidden_rows()
-    ensures machine { AnswersAlike }
-    ensures replies { RepliesAlike }
+    ensures line { AnswersAlike }
+    ensures script { ScriptsAlike }
 {}
 
 /// Where no reply is the memory line, the replies to a script and the state behind it are those of
@@ -15,17 +16,14 @@ pub fn output_law()
     ensures { IsOutput }
 {}
 
+/// The memory line changes nothing: the other replies, and the state behind the script, are those of
+/// the session machine over the other lines. It stands only where the machine has a reply.
+pub fn memory_law()
+    ensures others { LeavesTheRest }
+    ensures silent { IsSilentAlike }
+{}
+
 /// The memory line is served as any other refusal is.
 pub fn memory_line_is_served()
     ensures { MemoryLineIsServed }
-{}
-
-/// A table whose row security is on shows no row to a role for which it has no permissive policy.
-pub fn default_deny()
-    ensures { IsDeniedByDefault }
-{}
-
-/// One more restrictive policy never shows a row that was hidden.
-pub fn restrictive_narrows()
-    ensures { NarrowsByRestriction }
 {}

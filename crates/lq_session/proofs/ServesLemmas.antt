@@ -15,7 +15,7 @@ use Rattle.lq_value.specs.declared.value.Fault.{Fault}
 use Rattle.lq_value.specs.declared.value.Value.{Value}
 use Rattle.lq_value.specs.declared.value.Value.TheVariants as value
 use Rattle.lq_value.specs.declared.value.Value.TheVariants.{outs-Seq as outs-value-Seq}
-use Rattle.lq_model.specs.Machine.{columns_in, run_reply, served, world_of}
+use Rattle.lq_model.specs.Machine.{columns_in, run_reply, schemas_of, served, world_of}
 use Rattle.lq_model.specs.Meaning.{Scope, World, bound, bound_stream, clauses_meaning, item_type_at, items_of, last_meaning, meaning, or_null, query_meaning, stream_of, table_value}
 use Rattle.lq_model.specs.Served.{error_data, stream_data, stream_members}
 use Rattle.lq_model.specs.Stream.{Stream, each, then_stream}
@@ -26,7 +26,6 @@ use Rattle.lq_model.specs.declared.syntax.Expr.{Expr}
 use Rattle.lq_model.specs.declared.syntax.Query.{Query}
 use Rattle.lq_session.specs.Given.{IsOver, given_to, top_names}
 use Rattle.lq_session.specs.Items.{before_items, items_given}
-use Rattle.lq_session.specs.KnownTypes.{schemas_of}
 use Rattle.lq_session.specs.OneRow.{given_at}
 use Rattle.lq_session.proofs.OneRowLemmas.{row_scope}
 use Rattle.lq_session.proofs.QueryLemmas.{as_data, body_rows, given_stream}

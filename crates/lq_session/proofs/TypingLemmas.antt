@@ -10,6 +10,7 @@ use Rattle.lq_value.specs.declared.ty.Ty.{Ty, out-Ty}
 use Rattle.lq_value.specs.declared.ty.Ty.TheVariants as ty
 use Rattle.lq_value.specs.declared.ty.Ty.TheVariants.{outs-Bool, outs-Int, outs-IntN, outs-Row, outs-Seq, outs-Str}
 use Rattle.lq_store.specs.Calls as store
+use Rattle.lq_model.specs.Machine.{schemas_of}
 use Rattle.lq_model.specs.Typing.{Names, body_type, clauses_are_typed, if_scalar, is_bool, is_number, is_scalar, item_of, item_type, items_over, row_table, selected_type, table_number, type_of, type_of_column, with_local}
 use Rattle.lq_model.specs.declared.syntax.Expr.{Expr}
 use Rattle.lq_model.specs.declared.syntax.Last.{Last}
@@ -17,7 +18,7 @@ use Rattle.lq_model.specs.declared.syntax.Last.TheVariants as last
 use Rattle.lq_model.specs.declared.syntax.Query.{Query}
 use Rattle.lq_model.proofs.Opens.{type_compare, type_integer, type_member, type_name}
 use Rattle.lq_session.specs.Given.{IsOver, is_scalar_type, is_typed_body, selects_scalar, top_names}
-use Rattle.lq_session.specs.KnownTypes.{is_known_bool, is_known_number, is_known_scalar, known_row, schemas_of, shown_type}
+use Rattle.lq_session.specs.KnownTypes.{is_known_bool, is_known_number, is_known_scalar, known_row, shown_type}
 use Rattle.lq_session.specs.declared.typing.Known.{Known}
 use Rattle.lq_session.specs.declared.typing.Known.TheVariants as known
 

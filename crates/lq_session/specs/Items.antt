@@ -1,5 +1,5 @@
 -- The items of a reply as rows give them, one row at a time, and their text.
-use Rattle.std.specs.Prelude.{◌∷◌, ◌++◌, List, [], ℕ, Bool, true, Option, Some, None, Result, Ok, Err, codes}
+use Rattle.std.specs.Prelude.{◌≡◌, ◌∷◌, ◌++◌, List, [], ℕ, Bool, true, false, Option, Some, None, Result, Ok, Err, codes}
 use Rattle.serde_json.specs.Data.{Data}
 use Rattle.serde_json.specs.Written.{comma_if, compact_text}
 use Rattle.lq_value.specs.declared.scalar.Scalar.{Scalar}
@@ -25,6 +25,10 @@ items_given given (row ∷ rows) = before_items (given row) (items_given given r
 abbrev pub listed : Bool → List Data → List ℕ
 listed later [] = []
 listed later (item ∷ items) = comma_if later ++ (compact_text item ++ listed true items)
+
+-- The text of items, and how they end.
+abbrev pub IsTextOf : List Data × End → List ℕ → End → Type 0
+IsTextOf items text end = (text ≡ listed false items.0) × (end ≡ items.1)
 
 -- what stands before the items of a reply that ends so
 abbrev pub fault_opening : Fault → List ℕ

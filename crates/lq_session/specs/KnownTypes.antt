@@ -7,6 +7,7 @@ use Rattle.lq_value.specs.declared.table.Schema.{Schema}
 use Rattle.lq_value.specs.declared.ty.Ty.{Ty}
 use Rattle.lq_value.specs.declared.ty.Ty.TheVariants as ty
 use Rattle.std.specs.Borrow.{Bor}
+use Rattle.lq_model.specs.Machine.{schemas_of}
 use Rattle.lq_model.specs.Typing.{Names, type_of_column}
 use Rattle.lq_session.specs.declared.typing.Known.{Known}
 use Rattle.lq_session.specs.declared.typing.Known.TheVariants as known
@@ -20,9 +21,6 @@ shown_type (known.Rows n) = ty.Seq (ty.Row n)
 abbrev pub locals_of : Option (Bor (List ℕ) × ℕ) → List (List ℕ × Ty)
 locals_of None = []
 locals_of (Some local) = (local.0.now, ty.Row local.1) ∷ []
-
-abbrev pub schemas_of : List Table → List Schema
-schemas_of tables = map (λ table. table.schema) tables
 
 abbrev pub names_of : CodeNames → Names
 names_of names = record { tables = schemas_of names.store.now; locals = locals_of names.local }

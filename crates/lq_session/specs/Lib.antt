@@ -5,5 +5,5 @@ pub mod Lines
 pub mod OneRow
 pub mod Operands
 pub mod Roles
-pub mod Runs
+pub mod RunGives
 pub mod States

@@ -6,6 +6,7 @@ use Rattle.lq_value.specs.declared.scalar.Scalar.TheVariants as scalar
 use Rattle.lq_value.specs.declared.value.Fault.{Fault}
 use Rattle.lq_value.specs.declared.value.Fault.TheVariants as fault
 use Rattle.lq_model.specs.Meaning.{compared, on_ok, truth_of}
+use Rattle.lq_model.specs.Visible.{cell_named}
 use Rattle.lq_model.specs.declared.syntax.Clause.{Clause}
 use Rattle.lq_model.specs.declared.syntax.Clause.TheVariants as clause
 use Rattle.lq_model.specs.declared.syntax.Expr.{Expr, fold-Expr}
@@ -29,6 +30,10 @@ cell_in None = Err fault.NullReference
 abbrev pub member_in : Option Scalar → Shape → Result Shape Fault
 member_in cell TheRow = cell_in cell
 member_in cell (TheScalar s) = Err fault.NullReference
+
+-- the member of this name of what stands before the dot, over a row with these columns and cells
+abbrev pub member_of : List (List ℕ) → List Scalar → List ℕ → Shape → Result Shape Fault
+member_of columns cells name = member_in (cell_named columns cells name)
 
 module _ (variable : List ℕ) (cell : List ℕ → Option Scalar) where
   abbrev pub shape_step : Expr-F (Result Shape Fault) → Result Shape Fault

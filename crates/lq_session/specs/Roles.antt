@@ -1,8 +1,10 @@
--- Roles by number.
+-- Roles by number, and rows as policies are asked for them.
 use Rattle.std.specs.Prelude.{List, ℕ, Option}
 use Rattle.std.specs.List.{position_from}
 use Rattle.std.specs.Str.{bytes_eq}
 use Rattle.lq_model.specs.declared.policy.PolicyParts.{PolicyParts}
+use Rattle.lq_model.specs.Visible.{Asked as AskedOf}
+use Rattle.lq_session.specs.declared.policies.Asked.{Asked}
 use Rattle.lq_session.specs.declared.policies.RoleId.{RoleId}
 
 -- the number that a role stands for
@@ -12,3 +14,7 @@ number_of role = role.number
 -- the number of the first role of a name
 abbrev pub role_number : PolicyParts → List ℕ → Option ℕ
 role_number parts name = position_from (λ role. bytes_eq role.name name) 0 parts.roles
+
+-- a row that the code asks for
+abbrev pub asked_of : Asked → AskedOf
+asked_of asked = record { role = asked.role.now; table = asked.table; columns = asked.columns.now; cells = asked.cells.now }

@@ -163,7 +163,7 @@ impl<'a, C: Named> OneRow<'a, C> {
     ghost use Rattle.std.specs.Str.{bytes_eq};
     ghost use Rattle.lq_value.specs.declared.value.Fault.TheVariants as fault;
     ghost use Rattle.lq_model.specs.Visible.{cell_named};
-    ghost use Rattle.lq_session.specs.OneRow.{TheRow, member_in, scalar_at, shape_of, truth_at};
+    ghost use Rattle.lq_session.specs.OneRow.{TheRow, member_of, scalar_at, shape_of, truth_at};
     ghost use Rattle.lq_session.specs.Operands.{shown_operand, shown_operands, shown_scalars};
 
     /// What a name is: the row's variable, or nothing that is known here.
@@ -179,7 +179,7 @@ impl<'a, C: Named> OneRow<'a, C> {
 
     /// A column of what stands before the dot, which has one if it is the row.
     fn member(&self, before: Operand<'a>, column: &[u8]) -> Result<Operand<'a>, Fault>
-        ensures { shown_operands result ≡ member_in (cell_named (map C.named self.now.columns.now) self.now.cells.now column.now) (shown_operand before.entry) }
+        ensures { shown_operands result ≡ member_of (map C.named self.now.columns.now) self.now.cells.now column.now (shown_operand before.entry) }
     {
         match before {
             Operand::Row => match cell_named(self.columns, self.cells, column) {

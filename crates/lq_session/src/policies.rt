@@ -74,7 +74,7 @@ fn rule_holds(columns: &[Txt], rule: &Expr, cells: &[Scalar]) -> bool
     row.truth(rule).unwrap_or(false)
 }
 
-/// A row of a table, as policies see it.
+/// A row of a table, as policies see it, and the role that asks for it.
 #[derive(Clone, Copy, Drop)]
 struct Asked<'a> {
     role: &'a [u8],
@@ -84,46 +84,46 @@ struct Asked<'a> {
 }
 
 impl Asked<'_> {
-    ghost use Rattle.std.specs.Prelude.{◌≡◌, ◌&&◌, ◌||◌, not};
-    ghost use Rattle.lq_model.specs.Visible.{applies, is_permitted, is_unrestricted, rule_holds};
+    ghost use Rattle.std.specs.Prelude.{◌≡◌};
+    ghost use Rattle.std.specs.List.{list_all, list_any};
+    ghost use Rattle.lq_model.specs.Visible.{allows, permits};
+    ghost use Rattle.lq_session.specs.Roles.{asked_of};
 
-    /// Whether a permissive policy that applies is true on the row.
+    /// Whether the policy is permissive, applies, and is true on the row.
     fn is_permitted_by(self, policy: &Policy) -> bool
-        ensures { result ≡ (not policy.now.restrictive && applies self.entry.role.now self.entry.table policy.now && rule_holds self.entry.columns.now self.entry.table policy.now.using self.entry.cells.now) }
+        ensures { result ≡ permits (asked_of self.entry) policy.now }
     {
         !policy.restrictive
             && applies(policy, self.role, self.table)
             && rule_holds(self.columns, &policy.using, self.cells)
     }
 
-    /// Whether the policy doesn't restrict the row: it is permissive, doesn't apply, or is true.
-    fn is_unrestricted_by(self, policy: &Policy) -> bool
-        ensures { result ≡ (not (policy.now.restrictive && applies self.entry.role.now self.entry.table policy.now) || rule_holds self.entry.columns.now self.entry.table policy.now.using self.entry.cells.now) }
+    /// Whether the policy is permissive, doesn't apply, or is true on the row.
+    fn is_allowed_by(self, policy: &Policy) -> bool
+        ensures { result ≡ allows (asked_of self.entry) policy.now }
     {
         !(policy.restrictive && applies(policy, self.role, self.table))
             || rule_holds(self.columns, &policy.using, self.cells)
     }
 
-    /// Whether some permissive policy that applies is true on the row.
+    /// Whether some policy permits the row.
     fn is_permitted(self, policies: &[Policy]) -> bool
-        ensures { result ≡ is_permitted self.entry.columns.now self.entry.role.now self.entry.table self.entry.cells.now policies.now }
+        ensures { result ≡ list_any (permits (asked_of self.entry)) policies.now }
     {
         policies.iter().any(|policy| self.is_permitted_by(policy))
     }
 
-    /// Whether no restrictive policy that applies is false on the row.
-    fn is_unrestricted(self, policies: &[Policy]) -> bool
-        ensures { result ≡ is_unrestricted self.entry.columns.now self.entry.role.now self.entry.table self.entry.cells.now policies.now }
+    /// Whether each policy allows the row.
+    fn is_allowed(self, policies: &[Policy]) -> bool
+        ensures { result ≡ list_all (allows (asked_of self.entry)) policies.now }
     {
-        policies
-            .iter()
-            .all(|policy| self.is_unrestricted_by(policy))
+        policies.iter().all(|policy| self.is_allowed_by(policy))
     }
 }
 
 impl Policies {
-    ghost use Rattle.std.specs.Prelude.{◌≡◌, ◌&&◌, option_map, IfOk, IfErr};
-    ghost use Rattle.lq_model.specs.Visible.{is_permitted, is_unrestricted, role_name, visible_to};
+    ghost use Rattle.std.specs.Prelude.{◌≡◌, option_map, slice_get, IfOk, IfErr};
+    ghost use Rattle.lq_model.specs.Visible.{admitted_to, visible_to};
     ghost use Rattle.lq_session.specs.Roles.{number_of, role_number};
 
     /// Policies of these parts, which they keep. Where there is no memory the parts are handed
@@ -147,18 +147,10 @@ impl Policies {
         None
     }
 
-    /// The name of a role, empty where these policies have no such role.
-    fn role_name(&self, role: RoleId) -> &[u8]
-        ensures { result.now ≡ role_name self.now (number_of role) }
-    {
-        match self.parts.roles.as_slice().get(role.number) {
-            Some(role) => role.name.as_bytes(),
-            None => b"",
-        }
-    }
-
-    /// Whether the role may see the row of the table that has these cells. A table that the
-    /// policies don't know has no visible rows.
+    /// Whether the role may see the row of the table that has these cells.
+    ///
+    /// Where the table's row security is on, a role that these policies don't have sees nothing of
+    /// it. Of a table that they don't know nobody sees anything.
     #[tactic(auto, unfolding(lq_model::specs::Visible::visible_to))]
     pub fn visible(&self, role: RoleId, action: Action, table: u16, cells: &[Scalar]) -> bool
         ensures { result ≡ visible_to self.now (number_of role) table cells.now }
@@ -170,17 +162,20 @@ impl Policies {
         }
     }
 
-    /// Whether the policies of a table with row security admit the row.
+    /// Whether the policies of a table with row security admit the row to the role.
     fn is_admitted(&self, role: RoleId, table: u16, part: &TablePart, cells: &[Scalar]) -> bool
-        ensures { result ≡ (is_permitted part.now.columns (role_name self.now (number_of role)) table cells.now self.now.policies && is_unrestricted part.now.columns (role_name self.now (number_of role)) table cells.now self.now.policies) }
+        ensures { result ≡ admitted_to self.now table part.now.columns cells.now (slice_get self.now.roles (number_of role)) }
     {
+        let Some(role) = self.parts.roles.as_slice().get(role.number) else {
+            return false;
+        };
         let asked = Asked {
-            role: self.role_name(role),
+            role: role.name.as_bytes(),
             table,
             columns: part.columns.as_slice(),
             cells,
         };
         let policies = self.parts.policies.as_slice();
-        asked.is_permitted(policies) && asked.is_unrestricted(policies)
+        asked.is_permitted(policies) && asked.is_allowed(policies)
     }
 }

@@ -48,8 +48,8 @@ fn selected<'a, C: Named>(row: &OneRow<'a, C>, last: &Last<Expr>) -> Result<Scal
 impl Run<'_> {
     ghost use Rattle.std.specs.Prelude.{◌≡◌, false, map, IfOk};
     ghost use Rattle.lq_session.specs.Given.{given_by};
-    ghost use Rattle.lq_session.specs.Items.{items_given, listed};
-    ghost use Rattle.lq_session.specs.Runs.{given_in, shown_given};
+    ghost use Rattle.lq_session.specs.Items.{IsTextOf, items_given};
+    ghost use Rattle.lq_session.specs.RunGives.{given_in, shown_given};
 
     /// What a visible row gives: None where a clause drops it.
     fn given_by<'r>(&'r self, row: &'r Row) -> Result<Option<ScalarRef<'r>>, Fault>
@@ -91,7 +91,7 @@ impl Run<'_> {
         alloc: Global,
         rows: &'r [Row],
     ) -> Result<(Vec<u8>, End), AllocError>
-        ensures { IfOk result (λ made. (made.0.items ≡ listed false (items_given (given_in self.now) rows.now).0) × (made.1 ≡ (items_given (given_in self.now) rows.now).1)) }
+        ensures { IfOk result (λ made. IsTextOf (items_given (given_in self.now) rows.now) made.0.items made.1) }
     {
         let mut text = Vec::new(alloc);
         let mut later = false;

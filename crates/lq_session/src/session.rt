@@ -23,12 +23,11 @@ pub struct Session {
 
 impl Session {
     ghost use Rattle.std.specs.Prelude.{◌≡◌, ◌<◌, length, IfOk};
-    ghost use Rattle.lq_model.specs.Machine.{answer_to, reply_to, step};
-    ghost use Rattle.lq_model.specs.Runs.{Answers};
+    ghost use Rattle.lq_model.specs.Machine.{answer_to, reply_to, schemas_of, step};
+    ghost use Rattle.lq_model.specs.Output.{Answers};
     ghost use Rattle.lq_model.specs.Served.{error_data, line_of};
     ghost use Rattle.lq_model.specs.declared.syntax.Statement.TheVariants as statement;
     ghost use Rattle.lq_session.specs.Given.{IsOver};
-    ghost use Rattle.lq_session.specs.KnownTypes.{schemas_of};
     ghost use Rattle.lq_session.specs.States.{state_of};
 
     /// The first state of a session over these tables, with these policies, under this role.

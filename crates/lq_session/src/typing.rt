@@ -1,8 +1,9 @@
 //! The types of expressions and queries over the tables of a store.
 ghost use Rattle.std.specs.Prelude.{◌≡◌, ◌<◌, None, length, option_map, IfNone, IfSome};
+ghost use Rattle.lq_model.specs.Machine.{schemas_of};
 ghost use Rattle.lq_model.specs.Typing.{column_named, item_type, table_number, type_of_column};
 ghost use Rattle.lq_session.specs.Given.{IsOver, top_names};
-ghost use Rattle.lq_session.specs.KnownTypes.{is_known_number, schemas_of};
+ghost use Rattle.lq_session.specs.KnownTypes.{is_known_number};
 
 use lq_model::{Clause, Expr, Last, Query};
 use lq_store::{Column, ColumnType, Store};
@@ -57,7 +58,8 @@ struct Names<'a> {
 
 impl Names<'_> {
     ghost use Rattle.std.specs.Prelude.{◌≡◌, length, option_map, IfSome};
-    ghost use Rattle.lq_model.specs.Typing.{clauses_are_typed, column_type, is_bool_type, local_type, name_type, type_of};
+    ghost use Rattle.lq_model.specs.Machine.{schemas_of};
+ghost use Rattle.lq_model.specs.Typing.{clauses_are_typed, column_type, is_bool_type, local_type, name_type, type_of};
     ghost use Rattle.lq_session.specs.Given.{is_typed_body, selects_scalar};
     ghost use Rattle.lq_session.specs.KnownTypes.{IsWithin, names_of, shown_type};
 

@@ -1,6 +1,6 @@
 use Rattle.std.proofs.Common.{◌≡◌, ◌++◌, drop, false}
 use Rattle.lq_session.specs.Items.{items_given, listed}
-use Rattle.lq_session.specs.Runs.{given_in}
+use Rattle.lq_session.specs.RunGives.{given_in}
 use Rattle.lq_session.proofs.running.Run.items.Given as goal
 
 -- the text so far and that of the rows to come is the text of all rows, which end as the rows to come do

@@ -1,7 +1,7 @@
 -- Lemmas on runs over lines, on replies joined, and on output that is cut short.
 use Rattle.std.proofs.Common.{◌≡◌, ◌+◌, ℕ, List, [], ◌∷◌, ◌++◌, refl, sym, ◌∙◌, ap, subst, append_assoc, append-nil, arith}
 use Rattle.lq_model.specs.Machine.{State, Reply}
-use Rattle.lq_model.specs.Runs.{Answers, Runs, bytes_of, joined, one_if_some, count_of_replies, IsCutOff}
+use Rattle.lq_model.specs.Output.{Answers, Runs, bytes_of, joined, one_if_some, count_of_replies, IsCutOff}
 
 -- a step after a run is a run over one more line
 pub Runs-more : (old mid new : State) (lines : List (List ℕ)) (replies : List Reply) (line : List ℕ) (reply : Reply)

@@ -15,11 +15,11 @@ Runs old [] (reply ∷ replies) new = ⊥
 Runs old (line ∷ lines) [] new = ⊥
 
 -- the machine alone, over the lines in order
-abbrev pub run : State → List (List ℕ) → List Reply × State
-run old [] = ([], old)
-run old (line ∷ lines) =
+abbrev pub stepped : State → List (List ℕ) → List Reply × State
+stepped old [] = ([], old)
+stepped old (line ∷ lines) =
     let now : Reply × State = step old line in
-    let rest : List Reply × State = run now.1 lines in
+    let rest : List Reply × State = stepped now.1 lines in
     (now.0 ∷ rest.0, rest.1)
 
 -- a reply's bytes, of which a line without a statement has none
