@@ -1,8 +1,16 @@
-//! Examples that cross crates, as tests: bytes of tables, policies and scripts on one side, bytes of replies on the
-//! other.
+//! Tests of public calls, crate by crate, and of scripts that cross crates. They stand here and not in the crates that
+//! they test: a crate without tests is proved once.
 #![tactic(auto)]
 
 #[cfg(test)]
+mod lines;
+#[cfg(test)]
 mod rows;
 #[cfg(test)]
-mod tests;
+mod scripts;
+#[cfg(test)]
+mod sessions;
+#[cfg(test)]
+mod tables;
+#[cfg(test)]
+mod values;

@@ -142,7 +142,7 @@ admitted_where_told policies asked h =
       permissive = parts.0;
       applying = parts.1;
       permitted = parts.2;
-      unrestricted = λ policy has. allows_parts asked policy (All-contains (λ p. allows asked p ≡ true) policies policy (AllPass-from_list_all (allows asked) policies both.1) has)
+      unrestricted = λ policy has. allows_parts asked policy (All-contains (λ p. allows asked p ≡ true) policies policy (AllPass-from_list_all (allows asked) policies both.1) has);
     }
 
 all_pass : {A : Type 0} (p : A → Bool) (xs : List A) → ((x : A) → Contains xs x → p x ≡ true) → list_all p xs ≡ true
@@ -150,8 +150,10 @@ all_pass p xs each = list_all-from_AllPass p xs (λ k d within. each (slice_inde
 
 told_where_admitted : (policies : List Policy) (asked : Asked) → IsAdmitted policies asked → admit policies asked ≡ true
 told_where_admitted policies asked is =
-    rw (found_at (permits asked) policies is.permitting is.among (permits_by_parts asked is.permitting is.permissive is.applying is.permitted),
-        all_pass (allows asked) policies (λ policy has. allows_by_parts asked policy (is.unrestricted policy has)))
+    rw (
+      found_at (permits asked) policies is.permitting is.among (permits_by_parts asked is.permitting is.permissive is.applying is.permitted),
+      all_pass (allows asked) policies (λ policy has. allows_by_parts asked policy (is.unrestricted policy has)),
+    )
     refl
 
 abbrev asked_by : List ℕ → ℕ → List (List ℕ) → List Scalar → Asked
@@ -203,7 +205,7 @@ cell_where_found (column ∷ columns) (c ∷ cells) name cell h = by (bytes_eq c
     first = elim [
       | zero ↦ λ is. absurd (other (same_Some _ _ is))
       | suc earlier ↦ λ is. let le = has.first earlier is in omega (arith, le)
-    ]
+    ];
   }
 
   by : (same : Bool) → bytes_eq column name ≡ same → (cell_named columns cells name ≡ Some cell → HasCell columns cells name cell)
@@ -220,7 +222,7 @@ found_where_cell (column ∷ columns) (c ∷ cells) name cell has = by has.place
     place = place;
     column = ap (slice_get (column ∷ columns)) (sym is) ∙ has.column;
     under = ap (slice_get (c ∷ cells)) (sym is) ∙ has.under;
-    first = λ earlier here. let le = has.first (suc earlier) here in omega (arith, le, is)
+    first = λ earlier here. let le = has.first (suc earlier) here in omega (arith, le, is);
   }
 
   by : (place : ℕ) → has.place ≡ place → (HasCell columns cells name cell → cell_named columns cells name ≡ Some cell) → cell_named (column ∷ columns) (c ∷ cells) name ≡ Some cell
@@ -255,14 +257,15 @@ seen_at parts role first (suc number) (t ∷ tables) table is =
 
 pub sees_visible_rows : SeesVisibleRows
 unfolding tables_as_seen
-sees_visible_rows parts role number tables table is =
-    (seen_rows parts role number table.rows,
-     seen_at parts role 0 number tables table is ∙ ap (λ (n : ℕ). Some (seen_rows parts role n table.rows)) (omega arith),
-     record {
-      rows = filter (λ row. visible_to parts role number row.cells) table.rows;
-      numbered = refl;
-      visible = filtered (λ row. IsVisible parts role number row.cells) (λ row. visible_to parts role number row.cells) (λ row. tells_visible parts role number row.cells) table.rows
-    })
+sees_visible_rows parts role number tables table is = (
+  seen_rows parts role number table.rows,
+  seen_at parts role 0 number tables table is ∙ ap (λ (n : ℕ). Some (seen_rows parts role n table.rows)) (omega arith),
+  record {
+    rows = filter (λ row. visible_to parts role number row.cells) table.rows;
+    numbered = refl;
+    visible = filtered (λ row. IsVisible parts role number row.cells) (λ row. visible_to parts role number row.cells) (λ row. tells_visible parts role number row.cells) table.rows;
+  },
+)
 
 as_many : (parts : PolicyParts) (role first : ℕ) (tables : List Table) → length (seen_from parts role first tables) ≡ length tables
 as_many parts role first [] = refl
@@ -300,7 +303,7 @@ narrows_by_restriction parts policy role table cells restrictive told = told_whe
       let both = and_parts (list_any (permits asked) (parts.policies ++ policy ∷ [])) (list_all (allows asked) (parts.policies ++ policy ∷ [])) h in
       let last : list_any (permits asked) (policy ∷ []) ≡ false = rw restrictive refl in
       let permitted : list_any (permits asked) parts.policies ≡ true =
-          sym (or-false (list_any (permits asked) parts.policies)) ∙ sym (ap (λ (b : Bool). list_any (permits asked) parts.policies || b) last) ∙ sym (list_any-append (permits asked) parts.policies (policy ∷ [])) ∙ both.0 in
+      sym (or-false (list_any (permits asked) parts.policies)) ∙ sym (ap (λ (b : Bool). list_any (permits asked) parts.policies || b) last) ∙ sym (list_any-append (permits asked) parts.policies (policy ∷ [])) ∙ both.0 in
       let allowed = and_parts (list_all (allows asked) parts.policies) (list_all (allows asked) (policy ∷ [])) (sym (list_all-append (allows asked) parts.policies (policy ∷ [])) ∙ both.1) in
       rw (permitted, allowed.0) refl
 

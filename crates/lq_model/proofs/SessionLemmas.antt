@@ -58,10 +58,11 @@ pub scripts_alike : ScriptsAlike
 scripts_alike a b after_a after_b lines from_a from_b same runs_a runs_b has_a has_b =
     let of_a = is_output a after_a lines from_a runs_a has_a in
     let of_b = is_output b after_b lines from_b runs_b has_b in
-    let alike = stepped_alike a b same lines in
-    (ap (λ (p : List Reply × State). p.0) of_a ∙ alike.0 ∙ sym (ap (λ (p : List Reply × State). p.0) of_b),
-     subst (λ (s : State). LooksSame after_a s) (sym (ap (λ (p : List Reply × State). p.1) of_b))
-     (subst (λ (s : State). LooksSame s (stepped b lines).1) (sym (ap (λ (p : List Reply × State). p.1) of_a)) alike.1))
+    let alike = stepped_alike a b same lines in (
+      ap (λ (p : List Reply × State). p.0) of_a ∙ alike.0 ∙ sym (ap (λ (p : List Reply × State). p.0) of_b),
+      subst (λ (s : State). LooksSame after_a s) (sym (ap (λ (p : List Reply × State). p.1) of_b))
+          (subst (λ (s : State). LooksSame s (stepped b lines).1) (sym (ap (λ (p : List Reply × State). p.1) of_a)) alike.1),
+    )
 
 -- ---- want of memory
 
@@ -86,8 +87,8 @@ silent_alike old new line reply (as_machine steps) =
     (λ none. sym same ∙ none, λ none. same ∙ none)
 silent_alike old new line reply (no_memory some is stays) =
     (λ none. absurd (let other : Some memory_line ≡ None = sym is ∙ none in cc), λ none. absurd (no_some (subst (λ (r : Reply). IsSome r) none some))) where
-  no_some : IsSome {T = List ℕ} None → ⊥
-  no_some h = cc
+      no_some : IsSome {T = List ℕ} None → ⊥
+      no_some h = cc
 
 pub memory_line_served : MemoryLineIsServed
 unfolding serde_json_on_literals

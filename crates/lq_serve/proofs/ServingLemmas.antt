@@ -3,8 +3,8 @@ use Rattle.std.proofs.Common.{◌≡◌, ◌+◌, ℕ, List, [], ◌∷◌, ◌+
 use Rattle.std.specs.Io.KnownBytes.{Appends, Keeps}
 use Rattle.std.proofs.KnownBytes.{Appends-nil, Appends-trans, Appends-kept}
 use Rattle.lq_model.specs.Machine.{State}
-use Rattle.lq_model.specs.Runs.{joined}
-use Rattle.lq_model.proofs.RunLemmas.{Runs-more, joined-more, count_of_replies-more, IsCutOff-more, IsCutOff-whole}
+use Rattle.lq_model.specs.Output.{joined}
+use Rattle.lq_model.proofs.OutputLemmas.{Runs-more, joined-more, count_of_replies-more, IsCutOff-more, IsCutOff-whole}
 use Rattle.lq_serve.specs.Serving.{Served, Stopped, Told, ToldInPart}
 use Rattle.lq_serve.specs.declared.serving.Summary.{Summary}
 

@@ -4,7 +4,7 @@ use Rattle.std.specs.Str.{IsUtf8}
 use Rattle.std.specs.Io.KnownBytes.{Appends}
 use Rattle.lq_model.specs.Script.{IsInSize}
 use Rattle.lq_model.specs.Machine.{State, Reply}
-use Rattle.lq_model.specs.Runs.{Answers, Runs, bytes_of, joined, one_if_some, count_of_replies, IsCutOff}
+use Rattle.lq_model.specs.Output.{Answers, Runs, bytes_of, joined, one_if_some, count_of_replies, IsCutOff}
 use Rattle.lq_serve.specs.Devices.{AppendsFront}
 use Rattle.lq_serve.specs.declared.serving.Summary.{Summary}
 

@@ -7,8 +7,6 @@ mod policies;
 mod reply;
 mod running;
 mod session;
-#[cfg(test)]
-mod tests;
 mod typing;
 
 pub use line::Line;

@@ -59,7 +59,7 @@ struct Names<'a> {
 impl Names<'_> {
     ghost use Rattle.std.specs.Prelude.{◌≡◌, length, option_map, IfSome};
     ghost use Rattle.lq_model.specs.Machine.{schemas_of};
-ghost use Rattle.lq_model.specs.Typing.{clauses_are_typed, column_type, is_bool_type, local_type, name_type, type_of};
+    ghost use Rattle.lq_model.specs.Typing.{clauses_are_typed, column_type, is_bool_type, local_type, name_type, type_of};
     ghost use Rattle.lq_session.specs.Given.{is_typed_body, selects_scalar};
     ghost use Rattle.lq_session.specs.KnownTypes.{IsWithin, names_of, shown_type};
 

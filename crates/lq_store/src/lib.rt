@@ -5,8 +5,6 @@ mod checks;
 mod error;
 mod store;
 mod table;
-#[cfg(test)]
-mod tests;
 
 pub use error::StoreError;
 pub use lq_value::{Column, ColumnType, Row, Schema};

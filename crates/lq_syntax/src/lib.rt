@@ -10,8 +10,6 @@ mod letters;
 mod lexer;
 mod parse;
 mod reader;
-#[cfg(test)]
-mod tests;
 
 pub use blank::is_blank;
 pub use error::SyntaxError;

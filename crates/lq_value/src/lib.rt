@@ -6,8 +6,6 @@ mod held;
 mod list;
 mod scalar;
 mod table;
-#[cfg(test)]
-mod tests;
 mod txt;
 mod ty;
 mod value;

@@ -1,7 +1,7 @@
 //! Copies of values, and the wrappers that values are made of.
 ghost use Rattle.std.specs.Prelude.{◌≡◌};
 
-use crate::{End, Fault, Held, List, RowRef, Scalar, Txt, Value, copy, copy_scalar};
+use lq_value::{End, Fault, Held, List, RowRef, Scalar, Txt, Value, copy, copy_scalar};
 use std::alloc::{AllocError, Global};
 use std::test::Fail;
 

@@ -1,6 +1,6 @@
 //! Lines and rules that the grammar has, and some that it has not.
-use crate::{SyntaxError, is_blank, is_name, parse_rule, parse_statement};
 use lq_model::{Clause, Comparison, Expr, Last, Query, Statement};
+use lq_syntax::{SyntaxError, is_blank, is_name, parse_rule, parse_statement};
 use lq_value::Txt;
 use std::alloc::Global;
 use std::test::Fail;

@@ -2,8 +2,8 @@
 ghost use Rattle.std.specs.Prelude.{◌≡◌, true, IfOk};
 ghost use Rattle.lq_store.specs.Rules.{keeps_rules};
 
-use crate::{Action, Line, Policies, Session};
 use lq_model::{Policy, PolicyParts, Role, TablePart};
+use lq_session::{Action, Line, Policies, Session};
 use lq_store::{Column, ColumnType, Schema, Store, Table};
 use lq_syntax::parse_rule;
 use lq_value::{List, Scalar, Txt};

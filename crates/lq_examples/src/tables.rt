@@ -2,7 +2,7 @@
 ghost use Rattle.std.specs.Prelude.{◌≡◌, ◌≤◌, true, IfOk};
 ghost use Rattle.lq_store.specs.Rules.{keeps_rules};
 
-use super::{Column, ColumnType, Schema, Store, StoreError, Table};
+use lq_store::{Column, ColumnType, Schema, Store, StoreError, Table};
 use lq_value::{List, Scalar, Txt};
 use std::alloc::{AllocError, Global};
 use std::process::Abort;
