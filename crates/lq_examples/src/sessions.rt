@@ -161,6 +161,38 @@ fn without_row_security_every_row_is_shown(rt: HostRuntime) -> Result<(), Fail> 
     Ok(())
 }
 
+// Policies that have no roles and show the rows of the first table to all; the second has no row security.
+fn policies_for_all(rt: &impl Abort, alloc: Global) -> Result<Policies, Fail> {
+    let mut tables = List::new(alloc);
+    for secured in [true, false] {
+        let columns = one(alloc, Txt::from_str(alloc, "c")?)?;
+        tables.push(TablePart { columns, secured })?;
+    }
+    let built = Policies::build(PolicyParts {
+        roles: List::new(alloc),
+        tables,
+        policies: one(alloc, policy(alloc, false, "public", "row.c >= 0")?)?,
+    });
+    match built {
+        Ok(policies) => Ok(policies),
+        Err(_) => panic!(rt; "the policies were refused"),
+    }
+}
+
+#[test]
+fn a_role_of_other_policies_sees_nothing(rt: HostRuntime) -> Result<(), Fail> {
+    let alloc = rt.alloc();
+    let others = policies_of(&rt, alloc, true, List::new(alloc))?;
+    let policies = policies_for_all(&rt, alloc)?;
+    let Some(stranger) = others.role("a") else {
+        panic!(rt; "the role is missing");
+    };
+    let cells = [Scalar::Int(1)];
+    assert!(rt; !policies.visible(stranger, Action::Select, 0, &cells));
+    assert!(rt; policies.visible(stranger, Action::Select, 1, &cells));
+    Ok(())
+}
+
 #[test]
 fn policies_decide_by_role_table_and_cells(rt: HostRuntime) -> Result<(), Fail> {
     let alloc = rt.alloc();

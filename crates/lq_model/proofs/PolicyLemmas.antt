@@ -1,6 +1,6 @@
 -- Proofs of the laws of policies: the function that decides on a row tells exactly the visible rows.
-use Rattle.std.proofs.Common.{◌≡◌, ◌≢◌, ◌==◌, ◌&&◌, ◌||◌, ◌⊎◌, ◌↔◌, ◌≤◌, ◌<◌, ◌+◌, if◌then◌else◌, not, ◌∷◌, ◌++◌, List, [], ℕ, suc, zero, Bool, true, false, Option, Some, None, Result, Ok, Err, map, filter, length, codes, slice_get, bytes_eq, ap, ◌∙◌, sym, refl, subst, inl, inr, arith}
-use Rattle.std.specs.List.{Any, Contains, list_any, list_all, slice_index_or}
+use Rattle.std.proofs.Common.{◌≡◌, ◌≢◌, ◌==◌, ◌&&◌, ◌||◌, ◌⊎◌, ◌↔◌, ◌+◌, if◌then◌else◌, not, ◌∷◌, ◌++◌, List, [], ℕ, suc, zero, Bool, true, false, Option, Some, None, Result, Ok, Err, filter, length, codes, slice_get, bytes_eq, ap, ◌∙◌, sym, refl, subst, inl, inr, arith}
+use Rattle.std.specs.List.{Contains, list_any, list_all, slice_index_or}
 use Rattle.std.proofs.Math.Bool.{or-false}
 use Rattle.std.proofs.lemmas.Bool.{cases_Bool, and_parts, eqb-true}
 use Rattle.std.proofs.lemmas.Bool.Decides.{Decides-eqb}
@@ -12,17 +12,15 @@ use Rattle.std.proofs.lemmas.Slice.Eq.{bytes_eq-Decides}
 use Rattle.lq_value.specs.Tables.{Table}
 use Rattle.lq_value.specs.declared.scalar.Scalar.{Scalar}
 use Rattle.lq_value.specs.declared.scalar.Scalar.TheVariants as scalar
-use Rattle.lq_value.specs.declared.table.Row.{Row}
-use Rattle.lq_value.specs.declared.ty.Ty.TheVariants as ty
 use Rattle.lq_value.specs.declared.value.Fault.{Fault}
 use Rattle.lq_value.specs.declared.value.Value.{Value, out-Value, roll-Value}
 use Rattle.lq_value.specs.declared.value.Value.TheOpen.{Value-F}
 use Rattle.lq_value.specs.declared.value.Value.TheVariants.{outs-Scalar, rolls-Scalar}
 use Rattle.lq_value.specs.declared.value.Value.TheVariants as value
 use Rattle.lq_value.specs.declared.value.Value.TheViews.{roll-out-Value}
-use Rattle.lq_model.specs.Meaning.{Scope, World, condition_at, meaning, on_ok, scalar_of, truth_of}
-use Rattle.lq_model.specs.PolicyLaws.{FindsCells, IsDeniedByDefault, IsDeniedToStrangers, NarrowsByRestriction, with_policy, Filters, end, keeps, drops, SeesEachTable, SeesVisible, SeesVisibleRows, TellsVisible}
-use Rattle.lq_model.specs.Visible.{Applies, Asked, HasCell, IsAdmitted, IsTrueOn, IsVisible, unsecured, admitted, TableRow, admit, admitted_to, allows, applies, cell_named, is_admitted, is_listed, is_true, permits, rule_holds, seen_from, seen_rows, tables_as_seen, visible_to}
+use Rattle.lq_model.specs.Meaning.{on_ok, scalar_of, truth_of}
+use Rattle.lq_model.specs.PolicyLaws.{FindsCells, IsDeniedByDefault, IsDeniedToStrangers, NarrowsByRestriction, with_policy, Filters, end, keeps, drops, SeesEachTable, SeesVisibleRows, TellsVisible}
+use Rattle.lq_model.specs.Visible.{Applies, Asked, HasCell, IsAdmitted, IsTrueOn, IsVisible, unsecured, admitted, admit, admitted_to, allows, applies, cell_named, is_admitted, is_listed, is_true, permits, rule_holds, seen_from, seen_rows, tables_as_seen, visible_to}
 use Rattle.lq_model.specs.declared.policy.Policy.{Policy}
 use Rattle.lq_model.specs.declared.policy.PolicyParts.{PolicyParts}
 use Rattle.lq_model.specs.declared.policy.Role.{Role}

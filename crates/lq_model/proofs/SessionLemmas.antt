@@ -1,12 +1,12 @@
 -- Proofs of the laws of the session machine and of its output.
-use Rattle.std.proofs.Common.{◌≡◌, ◌≢◌, ◌↔◌, ◌∷◌, List, [], ℕ, Option, Some, None, IsSome, ap, ◌∙◌, sym, refl, subst}
+use Rattle.std.proofs.Common.{◌≡◌, ◌≢◌, ◌∷◌, List, [], ℕ, Option, Some, None, IsSome, ap, ◌∙◌, sym, refl, subst}
 use Rattle.serde_json.proofs.OnLiterals.{serde_json_on_literals}
 use Rattle.lq_value.specs.declared.table.Schema.{Schema}
 use Rattle.lq_model.specs.Machine.{State, Reply, memory_line, reply_to, run_reply, schemas_of, seen_by_role, step}
-use Rattle.lq_model.specs.Output.{Answers, as_machine, no_memory, Runs, stepped}
+use Rattle.lq_model.specs.Output.{Answers, as_machine, no_memory, stepped}
 use Rattle.lq_model.specs.Reading.{reading_of}
 use Rattle.lq_model.specs.Served.{line_of}
-use Rattle.lq_model.specs.SessionLaws.{AnswersAlike, IsOutput, IsSilentAlike, LeavesTheRest, LooksSame, MemoryLineIsServed, ScriptsAlike, HasNoMemoryLine, WithoutMemoryLines, end, answered, refused}
+use Rattle.lq_model.specs.SessionLaws.{AnswersAlike, IsOutput, IsSilentAlike, LeavesTheRest, LooksSame, MemoryLineIsServed, ScriptsAlike, end, answered, refused}
 use Rattle.lq_model.specs.Visible.{TableRow}
 use Rattle.lq_model.specs.declared.syntax.Statement.{Statement}
 use Rattle.lq_model.specs.declared.syntax.Statement.TheVariants as statement

@@ -1,5 +1,5 @@
 -- Laws of the policies: which rows are visible, in the words of CREATE POLICY.
-use Rattle.std.specs.Prelude.{◌≡◌, ◌↔◌, ◌∷◌, ◌++◌, List, [], ℕ, map, length, true, false, Some, codes, slice_get}
+use Rattle.std.specs.Prelude.{◌≡◌, ◌↔◌, ◌∷◌, ◌++◌, List, [], ℕ, map, length, true, false, Some, slice_get}
 use Rattle.std.specs.List.{Contains}
 use Rattle.lq_value.specs.Tables.{Table}
 use Rattle.lq_value.specs.declared.scalar.Scalar.{Scalar}

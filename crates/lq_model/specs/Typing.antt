@@ -1,7 +1,7 @@
 -- «Typing»: which type an expression has under names, rule by rule, and the same as a function (ECMA-334, expressions).
 use Rattle.std.specs.Prelude.{◌≡◌, ◌∷◌, ◌&&◌, if◌then◌else◌, List, [], ℕ, ℤ, Bool, true, false, Option, Some, None, slice_get, option_and_then, option_map}
-use Rattle.std.specs.List.{position_from}
 use Rattle.std.specs.Str.{bytes_eq}
+use Rattle.lq_value.specs.Tables.{first_named}
 use Rattle.lq_value.specs.declared.table.Column.{Column}
 use Rattle.lq_value.specs.declared.table.ColumnType.{ColumnType}
 use Rattle.lq_value.specs.declared.table.ColumnType.TheVariants as of
@@ -31,7 +31,7 @@ local_type name (local ∷ locals) = if bytes_eq local.0 name then Some local.1 
 
 -- the number of the table of this name
 abbrev pub table_number : List ℕ → List Schema → Option ℕ
-table_number name tables = position_from (λ schema. bytes_eq schema.name name) 0 tables
+table_number name tables = first_named (λ schema. schema.name) name tables
 
 abbrev pub type_of_column : ColumnType → Ty
 type_of_column of.Int = ty.Int

@@ -2,14 +2,14 @@
 use Rattle.std.proofs.Common.{◌≡◌, ◌+◌, ◌∷◌, ◌&&◌, if◌then◌else◌, List, [], map, ℕ, Bool, true, false, Option, Some, None, ap, ◌∙◌, sym, refl, bytes_eq, nat_eq, is_some, option_and_then, true≢false}
 use Rattle.std.specs.List.{position_from}
 use Rattle.std.specs.Cmp.Lexicographic.{pointwise}
-use Rattle.lq_value.specs.Tables.{Table}
+use Rattle.lq_value.specs.Tables.{Table, first_named}
 use Rattle.lq_value.specs.declared.table.ColumnType.{ColumnType}
 use Rattle.lq_value.specs.declared.table.ColumnType.TheVariants as of
 use Rattle.lq_value.specs.declared.table.Schema.{Schema}
 use Rattle.lq_value.specs.declared.ty.Ty.{Ty, out-Ty}
 use Rattle.lq_value.specs.declared.ty.Ty.TheVariants as ty
 use Rattle.lq_value.specs.declared.ty.Ty.TheVariants.{outs-Bool, outs-Int, outs-IntN, outs-Row, outs-Seq, outs-Str}
-use Rattle.lq_store.specs.Calls as store
+use Rattle.lq_store.specs.Rules as store
 use Rattle.lq_model.specs.Machine.{schemas_of}
 use Rattle.lq_model.specs.Typing.{Names, body_type, clauses_are_typed, if_scalar, is_bool, is_number, is_scalar, item_of, item_type, items_over, row_table, selected_type, table_number, type_of, type_of_column, with_local}
 use Rattle.lq_model.specs.declared.syntax.Expr.{Expr}
@@ -57,7 +57,7 @@ row_known (known.Rows n) = ap row_table (outs-Seq (ty.Row n))
 pub ruleset types = (type_integer, type_name, type_member, type_compare, number_known, row_known)
 
 -- a table is found by its schema where it is found by its name
-pub number_is : (tables : List Table) (name : List ℕ) → store.table_number tables name ≡ table_number name (schemas_of tables)
+pub number_is : (tables : List Table) (name : List ℕ) → first_named store.name_of name tables ≡ table_number name (schemas_of tables)
 number_is tables name = from_place 0 tables where
   from_place : (i : ℕ) (rest : List Table) → position_from (λ t. pointwise nat_eq t.schema.name name) i rest ≡ position_from (λ schema. bytes_eq schema.name name) i (map (λ t. t.schema) rest)
   from_place i [] = refl

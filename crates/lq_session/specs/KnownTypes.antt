@@ -1,9 +1,7 @@
 -- The types that the type check finds, and the names that it finds them under.
-use Rattle.std.specs.Prelude.{◌∷◌, ◌<◌, List, [], map, ℕ, Bool, true, false, Option, Some, None}
-use Rattle.lq_value.specs.Tables.{Table}
+use Rattle.std.specs.Prelude.{◌∷◌, ◌<◌, List, [], ℕ, Bool, true, false, Option, Some, None}
 use Rattle.lq_value.specs.declared.table.ColumnType.{ColumnType}
 use Rattle.lq_value.specs.declared.table.ColumnType.TheVariants as of
-use Rattle.lq_value.specs.declared.table.Schema.{Schema}
 use Rattle.lq_value.specs.declared.ty.Ty.{Ty}
 use Rattle.lq_value.specs.declared.ty.Ty.TheVariants as ty
 use Rattle.std.specs.Borrow.{Bor}
@@ -11,7 +9,7 @@ use Rattle.lq_model.specs.Machine.{schemas_of}
 use Rattle.lq_model.specs.Typing.{Names, type_of_column}
 use Rattle.lq_session.specs.declared.typing.Known.{Known}
 use Rattle.lq_session.specs.declared.typing.Known.TheVariants as known
-use Rattle.lq_session.specs.declared.typing.Names.{Names as CodeNames}
+use Rattle.lq_session.specs.declared.typing.KnownNames.{KnownNames}
 
 abbrev pub shown_type : Known → Ty
 shown_type (known.Scalar t) = type_of_column t
@@ -22,7 +20,7 @@ abbrev pub locals_of : Option (Bor (List ℕ) × ℕ) → List (List ℕ × Ty)
 locals_of None = []
 locals_of (Some local) = (local.0.now, ty.Row local.1) ∷ []
 
-abbrev pub names_of : CodeNames → Names
+abbrev pub names_of : KnownNames → Names
 names_of names = record { tables = schemas_of names.store.now; locals = locals_of names.local }
 
 -- ---- how a known type is read

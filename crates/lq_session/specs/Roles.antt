@@ -1,7 +1,6 @@
 -- Roles by number, and rows as policies are asked for them.
 use Rattle.std.specs.Prelude.{List, ℕ, Option}
-use Rattle.std.specs.List.{position_from}
-use Rattle.std.specs.Str.{bytes_eq}
+use Rattle.lq_value.specs.Tables.{first_named}
 use Rattle.lq_model.specs.declared.policy.PolicyParts.{PolicyParts}
 use Rattle.lq_model.specs.Visible.{Asked as AskedOf}
 use Rattle.lq_session.specs.declared.policies.Asked.{Asked}
@@ -13,7 +12,7 @@ number_of role = role.number
 
 -- the number of the first role of a name
 abbrev pub role_number : PolicyParts → List ℕ → Option ℕ
-role_number parts name = position_from (λ role. bytes_eq role.name name) 0 parts.roles
+role_number parts name = first_named (λ role. role.name) name parts.roles
 
 -- a row that the code asks for
 abbrev pub asked_of : Asked → AskedOf

@@ -51,12 +51,12 @@ fn column_type(columns: &[Column], name: &[u8]) -> Option<ColumnType>
 
 /// The names of a place: the tables of a store, and a variable for a row of one of them.
 #[derive(Drop)]
-struct Names<'a> {
+struct KnownNames<'a> {
     store: &'a Store,
     local: Option<(&'a str, u16)>,
 }
 
-impl Names<'_> {
+impl KnownNames<'_> {
     ghost use Rattle.std.specs.Prelude.{◌≡◌, length, option_map, IfSome};
     ghost use Rattle.lq_model.specs.Machine.{schemas_of};
     ghost use Rattle.lq_model.specs.Typing.{clauses_are_typed, column_type, is_bool_type, local_type, name_type, type_of};
@@ -157,11 +157,11 @@ pub(crate) fn table_of<'a>(store: &'a Store, query: &'a Query<Expr>) -> Option<u
     ensures over { IfSome result (λ n. IsOver (schemas_of store.now) query.now n) }
     ensures within { IfSome result (λ n. n < length store.now) }
 {
-    let names = Names { store, local: None };
+    let names = KnownNames { store, local: None };
     let Known::Rows(table) = names.type_of(&query.source)? else {
         return None;
     };
-    let body = Names {
+    let body = KnownNames {
         store,
         local: Some((query.name.as_str(), table)),
     };

@@ -5,12 +5,12 @@ use Rattle.std.specs.List.{list_all, list_any, position_from}
 use Rattle.std.specs.Cmp.Lexicographic.{pointwise}
 use Rattle.std.proofs.lemmas.List.Folds.{list_all-append, list_any-append}
 use Rattle.std.proofs.lemmas.List.{length-append, map-append}
-use Rattle.lq_value.specs.Tables.{Table}
+use Rattle.lq_value.specs.Tables.{Table, first_named}
 use Rattle.lq_value.specs.declared.table.Row.{Row}
 use Rattle.lq_value.specs.declared.scalar.Scalar.{Scalar}
 use Rattle.lq_store.specs.declared.error.StoreError.TheVariants.{Arity, CellType, CellRange, Full}
 use Rattle.lq_store.specs.Rules.{AreNumbered, IsStore, IsTable, are_distinct, are_in_ranges, fits_schema, have_types, name_of}
-use Rattle.lq_store.specs.Calls.{refusal_of, table_number, with_row}
+use Rattle.lq_store.specs.Calls.{refusal_of, with_row}
 
 -- a conjunction that is true has true parts
 both : (a b : Bool) → (a && b) ≡ true → (a ≡ true) × (b ≡ true)
@@ -50,7 +50,7 @@ none_alike i (t ∷ rest) name e = by (pointwise nat_eq (name_of t) name) refl (
     by false f more = rw f (more (rw f at e))
 
 -- the names of a store's tables stay distinct
-pub names-push : (tables : List Table) (table : Table) → are_distinct (map name_of tables) ≡ true → is_some (table_number tables (name_of table)) ≡ false
+pub names-push : (tables : List Table) (table : Table) → are_distinct (map name_of tables) ≡ true → is_some (first_named name_of (name_of table) tables) ≡ false
     → are_distinct (map name_of (tables ++ table ∷ [])) ≡ true
 names-push tables table d n =
     rw (map-append name_of tables (table ∷ [])) (are_distinct-push (map name_of tables) (name_of table) d (none_alike 0 tables (name_of table) n))
@@ -85,7 +85,7 @@ table-push t cells h none =
 
 -- a store keeps its rules as a table joins it, or stays as it was
 pub store-push : (tables new : List Table) (table : Table) (pushed : Bool) → new ≡ (if pushed then tables ++ table ∷ [] else tables)
-    → IsStore tables → length tables < 64 → is_some (table_number tables (name_of table)) ≡ false → IsStore new
+    → IsStore tables → length tables < 64 → is_some (first_named name_of (name_of table) tables) ≡ false → IsStore new
 store-push tables new table false e h few n = rw e h
 store-push tables new table true e h few n =
     rw e (record { few = omega (arith, length-append tables (table ∷ [])); distinct = names-push tables table h.distinct n })

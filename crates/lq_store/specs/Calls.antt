@@ -1,9 +1,7 @@
 -- What the calls of tables and stores do.
-use Rattle.std.specs.Prelude.{not, ◌==◌, nat_eq, nat_le, if◌then◌else◌, ◌≡◌, ℕ, ◌+◌, ◌^◌, List, [], ◌∷◌, ◌++◌, length, Option, Some, None, is_some, Result, Ok, Err, Vec}
-use Rattle.std.specs.List.{position_from}
-use Rattle.std.specs.Cmp.Lexicographic.{pointwise}
+use Rattle.std.specs.Prelude.{not, ◌==◌, nat_le, if◌then◌else◌, ◌≡◌, ℕ, ◌+◌, ◌^◌, List, [], ◌∷◌, ◌++◌, length, Option, Some, None, is_some, Result, Ok, Err, Vec}
 use Rattle.std.specs.declared.alloc.Global.{Global}
-use Rattle.lq_value.specs.Tables.{Table}
+use Rattle.lq_value.specs.Tables.{Table, first_named}
 use Rattle.lq_value.specs.declared.scalar.Scalar.{Scalar}
 use Rattle.lq_store.specs.Rules.{have_types, are_in_ranges, name_of}
 use Rattle.lq_store.specs.declared.error.StoreError.{StoreError}
@@ -37,14 +35,10 @@ abbrev pub shown_pushed : Result ℕ (StoreError × Vec Scalar Global) → Resul
 shown_pushed (Ok number) = Ok number
 shown_pushed (Err refused) = Err (refused.0, refused.1.items)
 
--- the number of the first table of a name
-abbrev pub table_number : List Table → List ℕ → Option ℕ
-table_number tables name = position_from (λ t. pointwise nat_eq (name_of t) name) 0 tables
-
 -- the refusal of one more table, memory aside
 abbrev pub addition_refusal_of : List Table → Table → Option StoreError
 addition_refusal_of tables table =
-    if is_some (table_number tables (name_of table)) then Some DuplicateTable
+    if is_some (first_named name_of (name_of table) tables) then Some DuplicateTable
     else (if nat_le 64 (length tables) then Some TooMany
     else None)
 

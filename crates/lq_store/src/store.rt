@@ -30,8 +30,9 @@ impl Model for Store {
 
 impl Store {
     ghost use Rattle.std.specs.Prelude.{◌≡◌, ◌==◌, ◌<◌, [], length, option_map, IfSome, slice_get};
-    ghost use Rattle.lq_store.specs.Rules.{IsStore, IsTable};
-    ghost use Rattle.lq_store.specs.Calls.{Adds, table_number};
+    ghost use Rattle.lq_value.specs.Tables.{first_named};
+    ghost use Rattle.lq_store.specs.Rules.{IsStore, IsTable, name_of};
+    ghost use Rattle.lq_store.specs.Calls.{Adds};
 
     /// A store of no tables. Takes no memory.
     pub fn new(alloc: Global) -> Store
@@ -59,7 +60,7 @@ impl Store {
 
     /// The number of the table of this name.
     pub fn find(&self, name: &str) -> Option<u16>
-        ensures value { result ≡ table_number self.now name.now }
+        ensures value { result ≡ first_named name_of name.now self.now }
         ensures bound { IfSome result (λ t. t < length self.now) }
     {
         for (number, table) in self.tables.iter().enumerate() {

@@ -8,6 +8,7 @@ use Rattle.std.specs.Str.{chars}
 use Rattle.std.specs.Char.{len_utf8}
 use Rattle.std.proofs.lemmas.Bool.{eqb-true, le-ltb, lt-ltb}
 use Rattle.std.proofs.lemmas.Option.{some_pair_parts}
+use Rattle.lq_model.specs.Script.{line_limit}
 use Rattle.lq_model.specs.Tokens.{Piece, piece, tokens_from, tokens_of, with_piece, is_blank, is_digit, starts_name, word, integer, sign, one_or_two, head_of}
 use Rattle.lq_model.specs.declared.token.Kind.{Kind}
 use Rattle.lq_model.specs.declared.token.Token.{Token}
@@ -113,17 +114,17 @@ nothing_is (Some []) e = refl
 nothing_is (Some (t ∷ ts)) e = absurd (cc)
 
 -- the line has no token where the scan finds none
-pub blank_is : (line : List ℕ) → length line ≤ 65536 → (has_no_token scan.Between (chars line) ≡ true) ↔ (tokens_of line ≡ Some [])
+pub blank_is : (line : List ℕ) → length line ≤ line_limit → (has_no_token scan.Between (chars line) ≡ true) ↔ (tokens_of line ≡ Some [])
 unfolding tokens_of
 blank_is line within =
     let told = scan_tells scan.Between (chars line) 0 in
-    let short : nat_lt 65536 (length line) ≡ false = le-ltb 65536 (length line) within in
+    let short : nat_lt line_limit (length line) ≡ false = le-ltb line_limit (length line) within in
     rw short ((λ none. nothing_is (tokens_from 0 0 (chars line)) (told ∙ none)), (λ is. sym told ∙ ap is_nothing is))
 
-pub long_is_not_blank : (line : List ℕ) → 65536 < length line → (false ≡ true) ↔ (tokens_of line ≡ Some [])
+pub long_is_not_blank : (line : List ℕ) → line_limit < length line → (false ≡ true) ↔ (tokens_of line ≡ Some [])
 unfolding tokens_of
 long_is_not_blank line long =
-    let over : nat_lt 65536 (length line) ≡ true = lt-ltb 65536 (length line) long in
+    let over : nat_lt line_limit (length line) ≡ true = lt-ltb line_limit (length line) long in
     rw over ((λ e. absurd (cc)), (λ e. absurd (cc)))
 
 -- ---- one turn of the loop over the characters

@@ -9,6 +9,7 @@ use Rattle.std.proofs.lemmas.List.Sums.{sum_by-cons, sum_by-append, sum_by-le, p
 use Rattle.std.proofs.lemmas.Option.{some_pair_parts}
 use Rattle.std.proofs.lemmas.List.{take-append-drop}
 use Rattle.std.proofs.lemmas.Str.{len_utf8_bounds}
+use Rattle.lq_model.specs.Script.{line_limit}
 use Rattle.lq_model.specs.Tokens.{Piece, piece, tokens_from, with_piece, tokens_of, is_blank, is_digit, starts_name, continues_name, kind_of_word, word, sign, one_or_two, head_of}
 use Rattle.lq_model.specs.declared.token.Kind.{Kind}
 use Rattle.lq_model.specs.declared.token.Token.{Token}
@@ -78,10 +79,10 @@ word_is text cs c more kind is more_is kind_is =
     ap (λ k. Some (Some k, more)) (kind_is ∙ ap kind_of_word letters) ∙ ap (λ n. Some (Some (kind_of_word (c ∷ take n cs)), n)) more_is
 
 -- the tokens of a line that isn't too long are those of its characters
-pub line_tokens : (line cs : List ℕ) → length line ≤ 65536 → cs ≡ chars line → tokens_from 0 0 cs ≡ tokens_of line
+pub line_tokens : (line cs : List ℕ) → length line ≤ line_limit → cs ≡ chars line → tokens_from 0 0 cs ≡ tokens_of line
 unfolding tokens_of
 line_tokens line cs within is =
-    let short : nat_lt 65536 (length line) ≡ false = le-ltb 65536 (length line) within in
+    let short : nat_lt line_limit (length line) ≡ false = le-ltb line_limit (length line) within in
     rw (short, is) refl
 
 -- ---- the turns

@@ -4,7 +4,7 @@ use Rattle.std.specs.Prelude.{Option, Some, None, Result, Ok, Err, IfOk, IfSome,
 use Rattle.lq_model.specs.Grammar as part
 use Rattle.lq_model.specs.Grammar.{Spells}
 use Rattle.lq_model.specs.Parsing.{statement_of, rule_of}
-use Rattle.lq_model.specs.Reading.{reading_of, reading_of_tokens}
+use Rattle.lq_model.specs.Reading.{IsSpelled, reading_of, reading_of_tokens}
 use Rattle.lq_model.specs.Tokens.{tokens_of}
 use Rattle.lq_model.specs.declared.syntax.Expr.{Expr}
 use Rattle.lq_model.specs.declared.syntax.Statement.{Statement}
@@ -32,10 +32,6 @@ given_syntax outcome (Err syntax.Memory) gives is = absurd (cc)
 
 -- ---- lines
 
--- the tokens of the line, and that they spell the statement
-abbrev pub IsLine : List ℕ → Statement → Type 0
-IsLine line tree = (tokens : List Token) × (tokens_of line ≡ Some tokens) × Spells line (part.Line tree) tokens
-
 found_in : (o : Option Statement) (tree : Statement) → option_map Some o ≡ Some (Some tree) → o ≡ Some tree
 found_in None tree e = absurd (cc)
 found_in (Some other) tree e = cc
@@ -45,11 +41,11 @@ tokens_spell line [] tree e = absurd (cc)
 tokens_spell line (t ∷ ts) tree e = statement_sound line (t ∷ ts) tree (found_in (statement_of line (t ∷ ts)) tree e)
 
 -- a statement that is read from a line is one that its tokens spell
-pub line_tree : (line : List ℕ) (found : Option Statement) → reading_of line ≡ Some found → IfSome found (IsLine line)
+pub line_tree : (line : List ℕ) (found : Option Statement) → reading_of line ≡ Some found → IfSome found (λ tree. IsSpelled line (part.Line tree))
 unfolding reading_of
 line_tree line None read = tt
 line_tree line (Some tree) read =
-    let Case : Option (List Token) → Type 0 = λ o. tokens_of line ≡ o → reading_of_tokens line o ≡ Some (Some tree) → IsLine line tree in
+    let Case : Option (List Token) → Type 0 = λ o. tokens_of line ≡ o → reading_of_tokens line o ≡ Some (Some tree) → IsSpelled line (part.Line tree) in
     let by : (o : Option (List Token)) → Case o = elim [
       | None ↦ λ is e. absurd (cc)
       | Some tokens ↦ λ is e. (tokens, is, tokens_spell line tokens tree e)
@@ -79,20 +75,16 @@ unread line [] tree e is = cc
 unread line (t ∷ ts) tree e is = let none : option_map Some (Some tree) ≡ None = rw is at e in cc
 
 -- where nothing is read from a line, its tokens spell no statement
-pub line_no_tree : (line : List ℕ) → reading_of line ≡ None → (tokens : List Token) → tokens_of line ≡ Some tokens → (tree : Statement) → Spells line (part.Line tree) tokens → ⊥
+pub line_no_tree : (line : List ℕ) → reading_of line ≡ None → (tree : Statement) → IsSpelled line (part.Line tree) → ⊥
 unfolding reading_of
-line_no_tree line none tokens is tree spells = unread line tokens tree (rw is at none) (statement_complete line tokens tree spells)
+line_no_tree line none tree spelled = unread line spelled.0 tree (rw spelled.1 at none) (statement_complete line spelled.0 tree spelled.2)
 
 -- ---- rules
 
--- the tokens of the text, and that they spell the condition
-abbrev pub IsRule : List ℕ → Expr → Type 0
-IsRule text tree = (tokens : List Token) × (tokens_of text ≡ Some tokens) × Spells text (part.Condition tree) tokens
-
 -- a rule that is read from a text is one that its tokens spell
-pub rule_tree : (text : List ℕ) (tree : Expr) → option_and_then (rule_of text) (tokens_of text) ≡ Some tree → IsRule text tree
+pub rule_tree : (text : List ℕ) (tree : Expr) → option_and_then (rule_of text) (tokens_of text) ≡ Some tree → IsSpelled text (part.Condition tree)
 rule_tree text tree read =
-    let Case : Option (List Token) → Type 0 = λ o. tokens_of text ≡ o → option_and_then (rule_of text) o ≡ Some tree → IsRule text tree in
+    let Case : Option (List Token) → Type 0 = λ o. tokens_of text ≡ o → option_and_then (rule_of text) o ≡ Some tree → IsSpelled text (part.Condition tree) in
     let by : (o : Option (List Token)) → Case o = elim [
       | None ↦ λ is e. absurd (cc)
       | Some tokens ↦ λ is e. (tokens, is, rule_sound text tokens tree e)
@@ -100,8 +92,8 @@ rule_tree text tree read =
     by (tokens_of text) refl read
 
 -- where nothing is read from a text, its tokens spell no condition
-pub rule_no_tree : (text : List ℕ) → option_and_then (rule_of text) (tokens_of text) ≡ None → (tokens : List Token) → tokens_of text ≡ Some tokens → (tree : Expr) → Spells text (part.Condition tree) tokens → ⊥
-rule_no_tree text none tokens is tree spells =
-    let refused : rule_of text tokens ≡ None = rw is at none in
-    let read : rule_of text tokens ≡ Some tree = rule_complete text tokens tree spells in
+pub rule_no_tree : (text : List ℕ) → option_and_then (rule_of text) (tokens_of text) ≡ None → (tree : Expr) → IsSpelled text (part.Condition tree) → ⊥
+rule_no_tree text none tree spelled =
+    let refused : rule_of text spelled.0 ≡ None = rw spelled.1 at none in
+    let read : rule_of text spelled.0 ≡ Some tree = rule_complete text spelled.0 tree spelled.2 in
     cc

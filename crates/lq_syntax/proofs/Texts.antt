@@ -8,6 +8,7 @@ use Rattle.std.proofs.lemmas.List.Sums.{sum_by-cons}
 use Rattle.std.proofs.lemmas.Str.{length-encode, encodes-append, encodes-chars, scalars-chars}
 use Rattle.std.proofs.Math.Seq.{take-append_seam, drop-append_seam}
 use lib.Utf8.{encodes, encode, scalars, scalar}
+use Rattle.lq_model.specs.Script.{line_limit}
 use Rattle.lq_model.specs.Tokens.{Piece, piece, tokens_from, tokens_of, with_piece, text_of}
 use Rattle.lq_model.specs.declared.token.Kind.{Kind}
 use Rattle.lq_model.specs.declared.token.Token.{Token}
@@ -90,7 +91,7 @@ texts line ts utf8 found =
       | true ↦ λ none. absurd (cc)
       | false ↦ λ some. texts_from line [] (chars line) 0 0 ts (sym (encodes-chars line utf8)) refl (scalars-chars line utf8) some
     ] in
-    by (nat_lt 65536 (length line)) found
+    by (nat_lt line_limit (length line)) found
 
 -- the token that is taken has a text, and those behind it have
 pub token_text : (line : List ℕ) (kind : Kind) (tokens behind : List Token) (token : Token) → AreTexts line tokens → expect kind tokens ≡ Some (token, behind) → IsUtf8 (text_of line token)

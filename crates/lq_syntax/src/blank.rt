@@ -5,7 +5,7 @@ ghost use Rattle.lq_model.specs.Tokens.{tokens_of};
 ghost use Rattle.lq_syntax.specs.Blank as spec;
 
 use crate::letters;
-use crate::lexer::LIMIT;
+use crate::lexer::LINE_LIMIT;
 
 /// Where a scan stands that has met no token.
 #[derive(Clone, Copy, Debug)]
@@ -62,7 +62,7 @@ fn has_no_token(text: &str) -> bool
 pub fn is_blank(line: &str) -> bool
     ensures { IsTrue result ↔ (tokens_of line.now ≡ Some []) }
 {
-    if line.len() > LIMIT {
+    if line.len() > LINE_LIMIT {
         return false;
     }
     has_no_token(line)

@@ -1,6 +1,7 @@
 //! Cuts a text into tokens.
 ghost use Rattle.std.specs.Prelude.{◌≡◌, ◌≤◌, ◌∷◌, length, sum_by};
 ghost use Rattle.std.specs.Char.{len_utf8};
+ghost use Rattle.lq_model.specs.Script.{line_limit};
 ghost use Rattle.lq_model.specs.Tokens as token;
 ghost use Rattle.lq_model.specs.Tokens.{tokens_of, tokens_from};
 ghost use Rattle.lq_syntax.specs.Outcome.{Cuts};
@@ -11,8 +12,8 @@ use crate::{digits, letters};
 use lq_model::{Kind, Token};
 use std::alloc::Global;
 
-/// The most bytes of a text that is read.
-pub const LIMIT: usize = 65536;
+/// The most bytes of a line, its line feed not counted, and of a rule.
+pub const LINE_LIMIT: usize = 65_536;
 
 /// What stands at the head of a text: a token of this kind, or a blank or a comment, which is none;
 /// and how many characters it has behind its first.
@@ -103,7 +104,7 @@ fn piece(text: &[char], first: char, behind: &[char]) -> Option<Piece>
 
 /// How many bytes the characters take.
 fn width_of(text: &[char]) -> usize
-    requires { length text.now ≤ 65536 }
+    requires { length text.now ≤ line_limit }
     ensures { result ≡ sum_by len_utf8 text.now }
 {
     text.iter().map(|c| c.len_utf8()).sum()
@@ -111,7 +112,7 @@ fn width_of(text: &[char]) -> usize
 
 /// The tokens of these characters, with their places in bytes.
 fn cut(alloc: Global, characters: &[char]) -> Result<Vec<Token>, LexError>
-    requires { length characters.now ≤ 65536 }
+    requires { length characters.now ≤ line_limit }
     ensures { Cuts (λ v. v.items) (tokens_from 0 0 characters.now) result }
 {
     let mut tokens = Vec::new(alloc);
@@ -137,7 +138,7 @@ fn cut(alloc: Global, characters: &[char]) -> Result<Vec<Token>, LexError>
 pub fn tokens(alloc: Global, line: &str) -> Result<Vec<Token>, LexError>
     ensures { Cuts (λ v. v.items) (tokens_of line.now) result }
 {
-    if line.len() > LIMIT {
+    if line.len() > LINE_LIMIT {
         return Err(LexError::Lexical);
     }
     let characters: Vec<char> = line.chars().collect(alloc)?;

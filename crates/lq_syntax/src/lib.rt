@@ -14,4 +14,5 @@ mod reader;
 pub use blank::is_blank;
 pub use error::SyntaxError;
 pub use letters::is_name;
+pub use lexer::LINE_LIMIT;
 pub use parse::{parse_rule, parse_statement};

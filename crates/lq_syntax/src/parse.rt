@@ -1,9 +1,8 @@
 //! Reads a line of a script, and a rule of a policy.
 ghost use Rattle.std.specs.Prelude.{◌≡◌, ◌↔◌, [], List, IfOk, IfSome, IsNone, option_and_then};
 ghost use Rattle.lq_model.specs.Grammar as part;
-ghost use Rattle.lq_model.specs.Grammar.{Spells};
 ghost use Rattle.lq_model.specs.Parsing.{statement_of, rule_of};
-ghost use Rattle.lq_model.specs.Reading.{reading_of, reading_of_tokens};
+ghost use Rattle.lq_model.specs.Reading.{IsSpelled, reading_of, reading_of_tokens};
 ghost use Rattle.lq_model.specs.Tokens.{tokens_of};
 ghost use Rattle.lq_syntax.specs.Outcome.{AreTexts, Gives};
 
@@ -86,10 +85,10 @@ pub fn parse_statement(alloc: Global, line: &str) -> Result<Option<Statement>, S
     ensures read { IfOk result (λ found. reading_of line.now ≡ Some found) }
     ensures syntax { result ≡ Err SyntaxError.Syntax → reading_of line.now ≡ None }
     // The tokens of the line spell the tree that is given.
-    ensures tree { IfOk result (λ found. IfSome found (λ tree. (tokens : List Token) × (tokens_of line.now ≡ Some tokens) × Spells line.now (part.Line tree) tokens)) }
+    ensures tree { IfOk result (λ found. IfSome found (λ tree. IsSpelled line.now (part.Line tree))) }
     ensures none { IfOk result (λ found. IsNone found ↔ (tokens_of line.now ≡ Some [])) }
     // Where the line is refused, its tokens spell none.
-    ensures no_tree { result ≡ Err SyntaxError.Syntax → (tokens : List Token) → tokens_of line.now ≡ Some tokens → (tree : Statement) → Spells line.now (part.Line tree) tokens → ⊥ }
+    ensures no_tree { result ≡ Err SyntaxError.Syntax → (tree : Statement) → ¬ (IsSpelled line.now (part.Line tree)) }
 {
     read_line(alloc, line)
 }
@@ -103,9 +102,9 @@ pub fn parse_rule(alloc: Global, text: &str) -> Result<Expr, SyntaxError>
     ensures read { IfOk result (λ tree. option_and_then (rule_of text.now) (tokens_of text.now) ≡ Some tree) }
     ensures syntax { result ≡ Err SyntaxError.Syntax → option_and_then (rule_of text.now) (tokens_of text.now) ≡ None }
     // The tokens of the text spell the tree that is given.
-    ensures tree { IfOk result (λ tree. (tokens : List Token) × (tokens_of text.now ≡ Some tokens) × Spells text.now (part.Condition tree) tokens) }
+    ensures tree { IfOk result (λ tree. IsSpelled text.now (part.Condition tree)) }
     // Where the text is refused, its tokens spell none.
-    ensures no_tree { result ≡ Err SyntaxError.Syntax → (tokens : List Token) → tokens_of text.now ≡ Some tokens → (tree : Expr) → Spells text.now (part.Condition tree) tokens → ⊥ }
+    ensures no_tree { result ≡ Err SyntaxError.Syntax → (tree : Expr) → ¬ (IsSpelled text.now (part.Condition tree)) }
 {
     read_rule(alloc, text)
 }

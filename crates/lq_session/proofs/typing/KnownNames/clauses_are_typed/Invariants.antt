@@ -1,7 +1,7 @@
 use Rattle.std.proofs.Common.{◌≡◌, drop}
 use Rattle.lq_model.specs.Typing.{clauses_are_typed}
 use Rattle.lq_session.specs.KnownTypes.{names_of}
-use Rattle.lq_session.proofs.typing.Names.clauses_are_typed.Given as goal
+use Rattle.lq_session.proofs.typing.KnownNames.clauses_are_typed.Given as goal
 
 -- the clauses so far are typed
 abbrev pub invariant-loop-clause : goal.invariant-loop-clause
