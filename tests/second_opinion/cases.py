@@ -1,0 +1,188 @@
+"""The cases: the fixed ones, mostly at the limits, and then those made by chance, each from its number alone."""
+
+import random
+from dataclasses import dataclass, field
+
+import files
+import statements
+from tables import MARK, Table
+
+CASES = 4000
+NO_UTF8 = [
+    b"\x80", b"\xff", b"\xc3", b"\xc0\x80", b"\xe2\x82", b"\xed\xa0\x80", b"\xf4\x90\x80\x80", b"\xf0\x9f\x98", b"\xef\xbb",
+    b"\xf8\x88\x80\x80\x80",
+]
+RUN = b"run from x in t select x.c;\n"
+
+
+@dataclass
+class Case:
+    """What the program is run on. The words name files of the folder that it runs in; the folder `sub` is always there."""
+
+    words: list
+    files: dict = field(default_factory=dict)
+    script: bytes = RUN
+    can_read: bool = True
+    can_write: bool = True
+
+
+def of_script(script, **more):
+    """A case of a script over one small table."""
+    return Case([b"t.csv"], {"t.csv": b"c:int\n1\n2\n"}, script, **more)
+
+
+def of_file(data):
+    """A case of one table file."""
+    return Case([b"t.csv"], {"t.csv": data}, RUN + b"run from x in t where x.c > 1 select x.c;\n")
+
+
+def of_words(*words):
+    """A case of words over the same few files."""
+    data = {"t.csv": b"c:int\n1\n", "u.csv": b"c:int\n2\n", "sub/t.csv": b"c:int\n3\n"}
+    data |= {"bad.csv": b"c\n", "sub/bad/t.csv": b"c\n", "from.csv": b"c:int\n"}
+    return Case(list(words), data, RUN + b"run from x in u select x.c;\n")
+
+
+def of_many_tables(count, *more):
+    """A case of so many tables, and more words behind them."""
+    data = {f"t{number}.csv": f"c:int\n{number}\n".encode() for number in range(count)}
+    script = b"".join(b"run from x in t%d select x.c;\n" % number for number in range(count + 1))
+    return Case([*(name.encode() for name in data), *more], data | {"bad.csv": b"c\n", "sub/t0.csv": b"c:int\n"}, script)
+
+
+def columns(count, kind=b":int"):
+    return b",".join(b"c%d" % number + kind for number in range(count)) + b"\n"
+
+
+def padded(data, size):
+    """The script with blanks in front of its first line's statement, so that it has this size; each other line is full."""
+    blanks = b"".join(b" " * 65_536 + b"\n" for _ in range((size - len(data)) // 65_537))
+    return blanks + b" " * (size - len(data) - len(blanks)) + data
+
+
+def word_cases():
+    """Words of the command line: files that are there or not, names, doubled names, and the number of tables."""
+    words = [
+        [], [b"t.csv"], [b"\xff.csv"], [b"t.csv", b"\xff"], [b"bad.csv", b"\xff"], [b""], [b"t.csv", b""], [b"t.csv", b"t.csv"],
+        [b"t.csv", b"sub/t"], [b"t.csv", b"bad.csv", b"none.csv"], [b"none.csv", b"bad.csv"], [b"t.csv", b"sub/bad/t.csv"],
+        [b"from.csv"], [b"from.csv", b"bad.csv"], [b"--", b"t.csv"], [b"--version"], [b"t.csv/"],
+        [b"t.csv/t"], [b"sub"], [b"sub/"], [b"\n"], ["é".encode()], [b"x" * 300], [b"u.csv", b"t.csv"], [b"u.csv", b"./sub/t.csv"],
+        [b"./././t.csv", b"sub/../u.csv"],
+    ]
+    many = [
+        of_many_tables(64), of_many_tables(65), of_many_tables(66), of_many_tables(63, b"sub/t0.csv"),
+        of_many_tables(64, b"sub/t0.csv"), of_many_tables(64, b"none.csv"), of_many_tables(64, b"bad.csv"),
+        of_many_tables(64, b"from.csv"), of_many_tables(65, b"bad.csv"),
+    ]
+    return [of_words(*some) for some in words] + many
+
+
+def table_cases():
+    """The order of two faults, numbers of columns, and sizes of a file. A cell of many zeros makes a large file read fast."""
+    large = b"c:int\n" + b"0" * 16_777_209 + b"7"
+    return [of_file(data) for data in [
+        b"a:int,a:int,b\n", b"b,a:int,a:int\n", b"a:int,b,a:int\n", b"a:int,a:int\nx\n", b"a:int\nx\n1,2\n", b"a:int\n1,2\nx\n",
+        b"a:int\nx,y\n", b"a:int,b:int\nx,y\n", b"a:int,b:int\n1,y\nx,1\n", b"a:int,b:int\n1,2\n\n\r\n1,y\n",
+        columns(100), columns(101), columns(101, b""), columns(100) + b"1\n", columns(99) + b",".join([b"1"] * 99),
+        b"a:int," * 100 + b"a:int\n", b"c:int\n" + columns(101), b"c:int\n1\n" + b"," * 101 + b"\n",
+        b"," * 99, b"," * 100, b'"' + b"," * 200 + b'"',
+        large, large + b"\n", MARK + large, MARK + large.replace(b"000", b"", 1), columns(101) + b"x" * 16_777_216,
+        b"c\n" + b"\xff" * 16_777_215, b"\n" * 16_777_217, b"c:int\n" + b"-12\n" * 30_000,
+    ]]
+
+
+def size_cases():
+    """Sizes of a script and of its lines, in bytes."""
+    line = RUN.rstrip(b"\n")
+    return [of_script(script) for script in [
+        padded(RUN, 1_048_576), padded(RUN, 1_048_577), padded(line, 1_048_576), padded(line, 1_048_577),
+        MARK + padded(RUN, 1_048_573), MARK + padded(RUN, 1_048_574), b"\n" * 1_048_576, b"\xff\n" * 524_289,
+        padded(RUN, 65_537), b" " + padded(RUN, 65_537), padded(line, 65_536), b" " + padded(line, 65_536),
+        padded(line + b"\r\n", 65_537), b" " + padded(line + b"\r\n", 65_537),
+        MARK + padded(RUN, 65_534), MARK + padded(RUN, 65_535),
+        RUN + b" " * 65_536, RUN + b" " * 65_537, b"x" * 65_537 + b"\n", RUN + b"\xff" * 65_536, RUN + b"\xff" * 65_537,
+        RUN + b"//" + "é".encode() * 32_767 + b"\n", RUN + b"//" + "é".encode() * 32_767 + b" \n",
+        b"run from x in t where x.c == " + b"0" * 65_000 + b"2 select x.c;\n",
+        b"run from " + b"x" * 65_000 + b" in t select x.c;\n",
+        b"run from " + b"x" * 32_000 + b" in t select " + b"x" * 32_000 + b".c;\n",
+        b"run " * 16_000 + b"\n", RUN * 4_000, b";\n" * 4_000,
+    ]]
+
+
+def text_cases():
+    """Words that may be reserved, queries that C# has and the language perhaps not, byte order marks, and line ends."""
+    names = [*statements.KEYWORDS, *map(str.title, statements.KEYWORDS), *map(str.upper, statements.KEYWORDS)]
+    return [of_script(script) for script in [
+        "\n".join(f"run from {name} in t select {name}.c;" for name in names).encode(),
+        "\n".join(f"run {query};" for query in statements.OTHER_QUERIES).encode(),
+        "\n".join(f"{query};" for query in statements.OTHER_QUERIES).encode(),
+        b"", b"\n", MARK, MARK * 3 + RUN, MARK + b"\n" + MARK + RUN, b" " + MARK + RUN, MARK[:2] + RUN, RUN.rstrip(b"\n"),
+        RUN.rstrip(b"\n") + b"\r", RUN.replace(b"\n", b"\r\n") * 3, RUN.replace(b" ", b"\n"), b"\xfe\xff" + RUN,
+        RUN + b"\x00\n" + RUN, b"// \xff\n" + RUN,
+    ]]
+
+
+def device_cases():
+    """Standard input that can't be read, and standard output that takes nothing."""
+    return [
+        of_script(RUN, can_read=False), of_script(RUN, can_read=False, can_write=False), of_script(RUN, can_write=False),
+        of_script(b"", can_write=False), of_script(b"//\n", can_write=False), of_script(b";", can_write=False),
+        of_script(b"\xff", can_write=False), of_script(RUN * 40_000, can_write=False),
+    ]
+
+
+def fixed_cases():
+    """Cases that chance would hardly give."""
+    return word_cases() + table_cases() + size_cases() + text_cases() + device_cases()
+
+
+def chosen_tables(dice):
+    """Some tables of different names."""
+    names = dice.sample(files.TABLE_NAMES, dice.choice([1, 1, 2, 2, 3, 5]))
+    return {name: files.table(dice) for name in names}
+
+
+def script_of(dice, tables):
+    """Some lines, mostly all ended by LF; now and then byte order marks at the head, or CR LF everywhere."""
+    lines = [statements.line(dice, tables) for _ in range(dice.randrange(4, 16))]
+    end = dice.choice(["\n", "\n", "\n", "\r\n", "\n\n"])
+    script = dice.choice([b""] * 8 + [MARK, MARK * 2]) + (end.join(lines) + dice.choice([end, end, end, ""])).encode()
+    if dice.random() < 0.02:
+        place = dice.randrange(len(script) + 1)
+        return script[:place] + dice.choice(NO_UTF8) + script[place:]
+    return script
+
+
+def served_case(dice):
+    """Right table files in all spellings, and a script over them."""
+    tables = chosen_tables(dice)
+    words = {name: files.word(dice, name) for name in tables}
+    data = {words[name]: files.spelled_file(dice, files.records(dice, table)) for name, table in tables.items()}
+    return Case([word.encode() for word in words.values()], data, script_of(dice, tables))
+
+
+def refused_case(dice):
+    """A case like those, in which one word or one file more, at any place, most probably ends the program."""
+    case = served_case(dice)
+    kind = dice.random()
+    if kind < 0.1:
+        word = dice.choice(files.NO_NAMES)
+    elif kind < 0.15:
+        word = dice.choice(files.NO_FILES)
+    elif kind < 0.2:
+        word = "sub/" + dice.choice(case.words).decode().rsplit("/", 1)[-1]
+        case.files.setdefault(word, b"c:int\n1\n")
+    else:
+        word = "more.csv"
+        case.files[word] = files.faulty_file(dice)
+        case.script += b"\nrun from x in more select x.c;\nrun from x in more where x.c > 1 select x.c;\n"
+    case.words.insert(dice.randrange(len(case.words) + 1), word.encode())
+    return case
+
+
+def case_of(number, fixed):
+    """The case of a number: first the fixed ones, then those by chance, whose number is the seed."""
+    if number < len(fixed):
+        return fixed[number]
+    dice = random.Random(number)
+    return refused_case(dice) if dice.random() < 0.2 else served_case(dice)
