@@ -1,0 +1,1 @@
+ln -s /dev/zero t.csv

@@ -1,0 +1,1 @@
+printf 'c:int\none\n' >u.csv
