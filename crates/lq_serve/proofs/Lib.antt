@@ -1,7 +1,7 @@
 mod CsvReading
 mod DeviceLemmas
-mod Loading
+mod LoadingLemmas
 mod NameFacts
 mod NamingLemmas
-mod ServingLemmas
-mod StartingLemmas
+mod ScriptRunLemmas
+mod TableFileLemmas

@@ -1,6 +1,6 @@
 pub mod CsvRecords
 pub mod Devices
-pub mod Finishing
-pub mod Serving
-pub mod Starting
+pub mod Ending
+pub mod Loading
+pub mod ScriptRun
 pub mod TableFile

@@ -292,30 +292,52 @@ fn a_fault_ends_with_its_status_and_its_line(rt: HostRuntime) -> Result<(), Fail
         (b"one\n\xFF\n", 0, 0, 4, b"lq: script: utf8\n"),
     ];
     for (text, bad_read, bad_call, status, line) in cases {
-        let mut reader = whole(text);
-        reader.bad = bad_read;
+        let mut pieces = whole(text);
+        pieces.bad = bad_read;
         let mut sink = taking(rt.alloc(), bad_call, Fault::Errs(ErrorKind::Other));
-        let mut errors = taking(rt.alloc(), 0, Fault::Never);
+        let mut told = taking(rt.alloc(), 0, Fault::Never);
+        let mut reader = Device::new(pieces);
+        let mut writer = Device::new(&mut sink);
+        let mut errors = Device::new(&mut told);
         let mut session = session(rt.alloc())?;
-        let ended = finish(rt.alloc(), reader, &mut sink, &mut errors, &mut session);
+        let ended = finish(
+            rt.alloc(),
+            &mut reader,
+            &mut writer,
+            &mut errors,
+            &mut session,
+        );
         assert_eq!(rt; ended, status, "{text:?}");
-        assert_eq!(rt; errors.taken.as_slice(), line, "{text:?}");
+        assert!(rt; !errors.failed(), "{text:?}");
+        assert_eq!(rt; told.taken.as_slice(), line, "{text:?}");
+        if status == 0 {
+            assert_eq!(rt; sink.taken.as_slice(), OUTPUT);
+        }
     }
     Ok(())
 }
 
 #[test]
 fn a_fault_that_nobody_can_be_told_of_keeps_its_status(rt: HostRuntime) -> Result<(), Fail> {
-    let reader = Repeated {
+    let mut reader = Device::new(Repeated {
         byte: b'a',
         left: 65_537,
         piece: 100,
-    };
+    });
     let mut sink = taking(rt.alloc(), 0, Fault::Never);
-    let mut errors = taking(rt.alloc(), 3, Fault::Stalls);
+    let mut told = taking(rt.alloc(), 3, Fault::Stalls);
+    let mut writer = Device::new(&mut sink);
+    let mut errors = Device::new(&mut told);
     let mut session = session(rt.alloc())?;
-    let ended = finish(rt.alloc(), reader, &mut sink, &mut errors, &mut session);
+    let ended = finish(
+        rt.alloc(),
+        &mut reader,
+        &mut writer,
+        &mut errors,
+        &mut session,
+    );
     assert_eq!(rt; ended, 4);
-    assert_eq!(rt; errors.taken.as_slice(), b"lq: script".as_slice());
+    assert!(rt; errors.failed());
+    assert_eq!(rt; told.taken.as_slice(), b"lq: script".as_slice());
     Ok(())
 }

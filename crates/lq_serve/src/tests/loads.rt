@@ -1,7 +1,7 @@
 //! Loading tables, and the lines of what is refused.
 use super::folder::{Folder, names_of};
 use super::{Fault, taking};
-use crate::{StartError, load, refuse};
+use crate::{Device, StartError, load, refuse};
 use lq_session::Session;
 use lq_value::Txt;
 use std::alloc::Global;
@@ -147,9 +147,11 @@ fn a_refusal_ends_with_its_status_and_its_line(rt: HostRuntime) -> Result<(), Fa
         (&StartError::Memory, 0, 5, "lq: memory\n"),
         (&refused, 2, 3, "lq: a"),
     ] {
-        let mut errors = taking(alloc, bad, Fault::Stalls);
+        let mut told = taking(alloc, bad, Fault::Stalls);
+        let mut errors = Device::new(&mut told);
         assert_eq!(rt; refuse(error, &mut errors), status);
-        assert_eq!(rt; errors.taken.as_slice(), line.as_bytes());
+        assert_eq!(rt; errors.failed(), bad > 0);
+        assert_eq!(rt; told.taken.as_slice(), line.as_bytes());
     }
     Ok(())
 }

@@ -2,7 +2,7 @@ use Rattle.std.proofs.Common.{◌≡◌, arith}
 use Rattle.csv.specs.Reading.{default_config, records, strip_bom}
 use Rattle.lq_serve.specs.CsvRecords.{records_left}
 use Rattle.lq_model.specs.Script.{without_marks}
-use Rattle.lq_serve.proofs.Loading.{records-few, table_of-large, table_of-small}
+use Rattle.lq_serve.proofs.TableFileLemmas.{records-few, table_of-large, table_of-small}
 use Rattle.lq_serve.proofs.table_file.table_from_csv.Goals as goal
 
 pub returns-then-bytes-gt-MOST_BYTES : goal.returns-then-bytes-gt-MOST_BYTES

@@ -1,5 +1,5 @@
 use Rattle.std.proofs.Common.{◌∙◌}
-use Rattle.lq_serve.proofs.Loading.{marked, unmarked}
+use Rattle.lq_serve.proofs.TableFileLemmas.{marked, unmarked}
 use Rattle.lq_serve.proofs.table_file.marks.without_marks.Goals as goal
 
 pub loop-tail-preserved : goal.loop-tail-preserved
