@@ -1,5 +1,5 @@
 -- Tables that come one file after another.
-use Rattle.std.proofs.Common.{◌≡◌, ◌≢◌, ℕ, List, [], ◌∷◌, ◌++◌, Option, Some, None, Result, Ok, Err, IfSome, length, take, map, refl, sym, ◌∙◌, ap, subst, append_assoc, arith, get_or}
+use Rattle.std.proofs.Common.{◌≡◌, ◌≢◌, ℕ, List, [], ◌∷◌, ◌++◌, Option, Some, None, Result, Ok, Err, IfSome, length, take, map, refl, sym, ◌∙◌, ap, subst, append_assoc, append-nil, arith, get_or}
 use Rattle.std.proofs.Common.{◌<◌, suc, zero, drop, true, false, slice_get}
 use Rattle.std.specs.Prelude.{option_map}
 use Rattle.lq_value.specs.Tables.{Table}
@@ -12,29 +12,83 @@ use Rattle.lq_model.specs.Machine.{State}
 use Rattle.lq_model.specs.declared.policy.TablePart.{TablePart}
 use Rattle.lq_serve.specs.declared.file_fault.FileFault.{FileFault}
 use Rattle.lq_serve.specs.declared.file_fault.FileFault.TheVariants as fault
+use Rattle.lq_serve.specs.declared.files.Reading.{Reading}
 use Rattle.lq_serve.specs.declared.loading.StartError.{StartError}
 use Rattle.lq_serve.specs.declared.loading.StartError.TheVariants as start
-use Rattle.lq_serve.specs.Loading.{Agrees, AllAgree, first_bytes, Reading, Refused, RefusedBy, Started, TellsOf, fault_line, fault_of_store, first_state, next_or_line, open_part, table_in, table_name, table_read, with_files, with_table}
+use Rattle.lq_serve.specs.Files.{Adds, AddsFront, first_bytes}
+use Rattle.lq_serve.specs.Loading.{Abandoned, Agrees, AllAgree, Answered, Refused, RefusedBy, Started, TellsOf, Visit, fault_line, fault_of_store, first_state, next_or_line, open_part, read_limit, readings_of, readings_of_one, table_in, table_name, table_read, with_files, with_table}
 
--- the files of these names were read and fine, and these are their tables
-pub record Far (holds : List ℕ → Option (List ℕ)) (files : List (List ℕ)) (tables : List Table) : Type 0 where
-  pub readings : List Reading
-  pub named : map (λ (reading : Reading). reading.file) readings ≡ files
-  pub agree : AllAgree holds readings
-  pub loaded : with_files readings [] ≡ Ok tables
+-- ---- reads that were answered
 
-pub Far-none : (holds : List ℕ → Option (List ℕ)) → Far holds [] []
-Far-none holds = record { readings = []; named = refl; agree = tt; loaded = refl }
+pub Adds-nil : (known : Option (List Reading)) → Adds known known []
+Adds-nil None = tt
+Adds-nil (Some known) = sym (append-nil known)
 
-all_agree-more : (holds : List ℕ → Option (List ℕ)) (readings : List Reading) (reading : Reading) → AllAgree holds readings → Agrees holds reading
-    → AllAgree holds (readings ++ reading ∷ [])
-all_agree-more holds [] reading all one = (one, tt)
-all_agree-more holds (first ∷ rest) reading all one = (all.0, all_agree-more holds rest reading all.1 one)
+Adds-behind : (before between after : Option (List Reading)) (first more : List Reading) → Adds before between first → Adds between after more
+    → Adds before after (first ++ more)
+Adds-behind None between after first more a b = tt
+Adds-behind (Some known) None after first more a b = absurd a
+Adds-behind (Some known) (Some now) None first more a b = absurd b
+Adds-behind (Some known) (Some now) (Some last) first more a b = b ∙ ap (λ (l : List Reading). l ++ more) a ∙ append_assoc known first more
 
-named-more : (readings : List Reading) (reading : Reading)
-    → map (λ (r : Reading). r.file) (readings ++ reading ∷ []) ≡ map (λ (r : Reading). r.file) readings ++ reading.file ∷ []
-named-more [] reading = refl
-named-more (first ∷ rest) reading = ap (λ (l : List (List ℕ)). first.file ∷ l) (named-more rest reading)
+pub AddsFront-all : (before after : Option (List Reading)) (more : List Reading) → Adds before after more → AddsFront before after more
+AddsFront-all before after more added = record { front = more; left = []; split = sym (append-nil more); added = added }
+
+pub AddsFront-none : (before after : Option (List Reading)) (more : List Reading) → Adds before after [] → AddsFront before after more
+AddsFront-none before after more added = record { front = []; left = more; split = refl; added = added }
+
+AddsFront-behind : (before between after : Option (List Reading)) (first more : List Reading) → Adds before between first → AddsFront between after more
+    → AddsFront before after (first ++ more)
+AddsFront-behind before between after first more a b = record {
+  front = first ++ b.front;
+  left = b.left;
+  split = ap (λ (l : List Reading). first ++ l) b.split ∙ sym (append_assoc first b.front b.left);
+  added = Adds-behind before between after first b.front a b.added;
+}
+
+pub Answered-all : {A : Type 0} (result : Result A FileFault) (before after : Option (List Reading)) (more : List Reading) → Adds before after more
+    → Answered result before after more
+Answered-all result before after more added = record { all = λ ne. added; some = AddsFront-all before after more added }
+
+-- whatever comes of the bytes that were read
+pub Answered-then : {A B : Type 0} (x : A) (result : Result B FileFault) (before after : Option (List Reading)) (more : List Reading)
+    → Answered {A = A} (Ok x) before after more → Answered result before after more
+Answered-then x result before after more answered = Answered-all result before after more (answered.all (λ e. cc e))
+
+-- the same fault
+pub Answered-fault : {A B : Type 0} (found : FileFault) (before after : Option (List Reading)) (more : List Reading)
+    → Answered {A = A} (Err found) before after more → Answered {A = B} (Err found) before after more
+Answered-fault {A} {B} found before after more answered =
+    record { all = λ ne. answered.all (λ e. let same : found ≡ fault.Memory = cc e in ne (ap (λ f. Err f) same)); some = answered.some }
+
+-- ---- files that were fine
+
+-- the files of these names were visited and fine, and these are their tables
+pub record Far (holds : List ℕ → Option (Option (List ℕ))) (before now : Option (List Reading)) (files : List (List ℕ)) (tables : List Table) : Type 0 where
+  pub visits : List Visit
+  pub named : map (λ (visit : Visit). visit.file) visits ≡ files
+  pub agree : AllAgree holds visits
+  pub read : Adds before now (readings_of visits)
+  pub loaded : with_files visits [] ≡ Ok tables
+
+pub Far-none : (holds : List ℕ → Option (Option (List ℕ))) (known : Option (List Reading)) → Far holds known known [] []
+Far-none holds known = record { visits = []; named = refl; agree = tt; read = Adds-nil known; loaded = refl }
+
+all_agree-more : (holds : List ℕ → Option (Option (List ℕ))) (visits : List Visit) (visit : Visit) → AllAgree holds visits → Agrees holds visit
+    → AllAgree holds (visits ++ visit ∷ [])
+all_agree-more holds [] visit all one = (one, tt)
+all_agree-more holds (first ∷ rest) visit all one = (all.0, all_agree-more holds rest visit all.1 one)
+
+named-more : (visits : List Visit) (visit : Visit)
+    → map (λ (v : Visit). v.file) (visits ++ visit ∷ []) ≡ map (λ (v : Visit). v.file) visits ++ visit.file ∷ []
+named-more [] visit = refl
+named-more (first ∷ rest) visit = ap (λ (l : List (List ℕ)). first.file ∷ l) (named-more rest visit)
+
+readings_of-more : (visits : List Visit) (visit : Visit) → readings_of (visits ++ visit ∷ []) ≡ readings_of visits ++ readings_of_one visit
+readings_of-more [] visit = append-nil (readings_of_one visit)
+readings_of-more (first ∷ rest) visit =
+    ap (λ (l : List Reading). readings_of_one first ++ l) (readings_of-more rest visit)
+    ∙ sym (append_assoc (readings_of_one first) (readings_of rest) (readings_of_one visit))
 
 -- one more file is read behind those that were fine
 after_next : (file : List ℕ) (rest more : List Table → Result (List Table) (List ℕ)) (last : Result (List Table) (List ℕ)) (tables : List Table)
@@ -43,12 +97,12 @@ after_next : (file : List ℕ) (rest more : List Table → Result (List Table) (
 after_next file rest more last tables (Ok now) step h = step now h
 after_next file rest more last tables (Err found) step h = cc
 
-with_files-more : (readings : List Reading) (reading : Reading) (before tables : List Table) → with_files readings before ≡ Ok tables
-    → with_files (readings ++ reading ∷ []) before ≡ next_or_line (λ l. Ok l) reading.file (with_table tables (table_in reading))
-with_files-more [] reading before tables e = let same : before ≡ tables = cc in rw same refl
-with_files-more (first ∷ rest) reading before tables e =
-    after_next first.file (with_files rest) (with_files (rest ++ reading ∷ [])) _ tables (with_table before (table_in first))
-    (λ now h. with_files-more rest reading now tables h) e
+with_files-more : (visits : List Visit) (visit : Visit) (before tables : List Table) → with_files visits before ≡ Ok tables
+    → with_files (visits ++ visit ∷ []) before ≡ next_or_line (λ l. Ok l) visit.file (with_table tables (table_in visit))
+with_files-more [] visit before tables e = let same : before ≡ tables = cc in rw same refl
+with_files-more (first ∷ rest) visit before tables e =
+    after_next first.file (with_files rest) (with_files (rest ++ visit ∷ [])) _ tables (with_table before (table_in first))
+    (λ now h. with_files-more rest visit now tables h) e
 
 -- ---- one file
 
@@ -87,80 +141,124 @@ with_table-refused tables table read store.TooMany is e ne = rw (is, e) refl
 pub with_table-failed : (tables : List Table) (read : Result Table FileFault) (found : FileFault) → read ≡ Err found → with_table tables read ≡ Err found
 with_table-failed tables read found is = rw is refl
 
+pub readings_of_one-named : (file : List ℕ) (gave : Option (List ℕ)) → is_name (table_name file) ≡ true
+    → record { file = file; limit = read_limit; gave = gave } ∷ [] ≡ readings_of_one (record { file = file; gave = gave })
+readings_of_one-named file gave named = rw named refl
+
+pub readings_of_one-unnamed : (file : List ℕ) (gave : Option (List ℕ)) → is_name (table_name file) ≡ false
+    → [] ≡ readings_of_one (record { file = file; gave = gave })
+readings_of_one-unnamed file gave unnamed = rw unnamed refl
+
 -- ---- files in order
 
-pub Agrees-same : (known now : List ℕ → Option (List ℕ)) (file : List ℕ) (gave : Option (List ℕ)) → now file ≡ known file
+pub Agrees-same : (known now : List ℕ → Option (Option (List ℕ))) (file : List ℕ) (gave : Option (List ℕ)) → now file ≡ known file
     → Agrees now (record { file = file; gave = gave }) → Agrees known (record { file = file; gave = gave })
 Agrees-same known now file gave e h = rw e at h
 
 -- what the reading of a file would give where it is known
-pub known_bytes : Option (List ℕ) → Option (List ℕ)
-known_bytes o = option_map first_bytes o
+pub known_bytes : Option (Option (List ℕ)) → Option (List ℕ)
+known_bytes None = None
+known_bytes (Some there) = first_bytes read_limit there
 
-known_is : (o : Option (List ℕ)) → IfSome o (λ all. known_bytes o ≡ Some (first_bytes all))
+known_is : (o : Option (Option (List ℕ))) → IfSome o (λ there. known_bytes o ≡ first_bytes read_limit there)
 unfolding known_bytes
 known_is None = tt
-known_is (Some all) = refl
+known_is (Some there) = refl
 
-pub Agrees-known : (holds : List ℕ → Option (List ℕ)) (file : List ℕ) → Agrees holds (record { file = file; gave = known_bytes (holds file) })
+pub Agrees-known : (holds : List ℕ → Option (Option (List ℕ))) (file : List ℕ) → Agrees holds (record { file = file; gave = known_bytes (holds file) })
 Agrees-known holds file = known_is (holds file)
 
-given_is : (o : Option (List ℕ)) (bytes : List ℕ) → IfSome o (λ all. bytes ≡ first_bytes all) → IfSome o (λ all. Some bytes ≡ Some (first_bytes all))
-given_is None bytes h = tt
-given_is (Some all) bytes h = ap (λ (l : List ℕ). Some l) h
+unreadable_is : (o : Option (Option (List ℕ))) → IfSome o (λ there. there ≡ None) → IfSome o (λ there. None ≡ first_bytes read_limit there)
+unreadable_is None h = tt
+unreadable_is (Some there) h = rw h refl
 
-pub Agrees-given : (holds : List ℕ → Option (List ℕ)) (file bytes : List ℕ) → IfSome (holds file) (λ all. bytes ≡ first_bytes all)
-    → Agrees holds (record { file = file; gave = Some bytes })
-Agrees-given holds file bytes h = given_is (holds file) bytes h
+pub Agrees-unreadable : (holds : List ℕ → Option (Option (List ℕ))) (file : List ℕ) → IfSome (holds file) (λ there. there ≡ None)
+    → Agrees holds (record { file = file; gave = None })
+Agrees-unreadable holds file h = unreadable_is (holds file) h
 
-pub Agrees-unknown : (holds : List ℕ → Option (List ℕ)) (file : List ℕ) (gave : Option (List ℕ)) → holds file ≡ None
-    → Agrees holds (record { file = file; gave = gave })
-Agrees-unknown holds file gave e = rw e tt
-
-pub Far-more : (holds : List ℕ → Option (List ℕ)) (files : List (List ℕ)) (tables next : List Table) (file : List ℕ) (gave : Option (List ℕ))
-    → Far holds files tables → Agrees holds (record { file = file; gave = gave }) → with_table tables (table_in (record { file = file; gave = gave })) ≡ Ok next
-    → Far holds (files ++ file ∷ []) next
-Far-more holds files tables next file gave far agrees is =
-    let reading : Reading = record { file = file; gave = gave } in
+pub Far-more : (holds : List ℕ → Option (Option (List ℕ))) (before now after : Option (List Reading)) (files : List (List ℕ)) (tables next : List Table)
+    (file : List ℕ) (gave : Option (List ℕ)) → Far holds before now files tables → Agrees holds (record { file = file; gave = gave })
+    → Adds now after (readings_of_one (record { file = file; gave = gave })) → with_table tables (table_in (record { file = file; gave = gave })) ≡ Ok next
+    → Far holds before after (files ++ file ∷ []) next
+Far-more holds before now after files tables next file gave far agrees adds is =
+    let visit : Visit = record { file = file; gave = gave } in
     record {
-      readings = far.readings ++ reading ∷ [];
-      named = named-more far.readings reading ∙ ap (λ (l : List (List ℕ)). l ++ file ∷ []) far.named;
-      agree = all_agree-more holds far.readings reading far.agree agrees;
-      loaded = with_files-more far.readings reading [] tables far.loaded ∙ ap (λ (r : Result (List Table) FileFault). next_or_line (λ l. Ok l) file r) is;
+      visits = far.visits ++ visit ∷ [];
+      named = named-more far.visits visit ∙ ap (λ (l : List (List ℕ)). l ++ file ∷ []) far.named;
+      agree = all_agree-more holds far.visits visit far.agree agrees;
+      read = subst (Adds before after) (sym (readings_of-more far.visits visit)) (Adds-behind before now after _ _ far.read adds);
+      loaded = with_files-more far.visits visit [] tables far.loaded ∙ ap (λ (r : Result (List Table) FileFault). next_or_line (λ l. Ok l) file r) is;
     }
 
-Far-refused : (holds : List ℕ → Option (List ℕ)) (files rest all : List (List ℕ)) (tables : List Table) (file : List ℕ) (gave : Option (List ℕ)) (found : FileFault)
-    → Far holds files tables → Agrees holds (record { file = file; gave = gave }) → with_table tables (table_in (record { file = file; gave = gave })) ≡ Err found
-    → all ≡ files ++ file ∷ rest → Refused holds all (fault_line file found)
-Far-refused holds files rest all tables file gave found far agrees is split =
-    let reading : Reading = record { file = file; gave = gave } in
+-- the files that were visited, among all of them
+named-among : (files rest all : List (List ℕ)) (visits : List Visit) (visit : Visit) → map (λ (v : Visit). v.file) visits ≡ files
+    → all ≡ files ++ visit.file ∷ rest → all ≡ map (λ (v : Visit). v.file) (visits ++ visit ∷ []) ++ rest
+named-among files rest all visits visit named split =
+    split ∙ sym (append_assoc files (visit.file ∷ []) rest) ∙ ap (λ (l : List (List ℕ)). (l ++ visit.file ∷ []) ++ rest) (sym named)
+    ∙ ap (λ (l : List (List ℕ)). l ++ rest) (sym (named-more visits visit))
+
+Far-refused : (holds : List ℕ → Option (Option (List ℕ))) (before now after : Option (List Reading)) (files rest all : List (List ℕ)) (tables : List Table)
+    (file : List ℕ) (gave : Option (List ℕ)) (found : FileFault) → Far holds before now files tables → Agrees holds (record { file = file; gave = gave })
+    → Adds now after (readings_of_one (record { file = file; gave = gave })) → with_table tables (table_in (record { file = file; gave = gave })) ≡ Err found
+    → all ≡ files ++ file ∷ rest → Refused holds before after all (fault_line file found)
+Far-refused holds before now after files rest all tables file gave found far agrees adds is split =
+    let visit : Visit = record { file = file; gave = gave } in
     record {
-      readings = far.readings ++ reading ∷ [];
-      unread = rest;
-      named =
-          split ∙ sym (append_assoc files (file ∷ []) rest)
-          ∙ ap (λ (l : List (List ℕ)). (l ++ file ∷ []) ++ rest) (sym far.named)
-          ∙ ap (λ (l : List (List ℕ)). l ++ rest) (sym (named-more far.readings reading));
-      agree = all_agree-more holds far.readings reading far.agree agrees;
-      told = with_files-more far.readings reading [] tables far.loaded ∙ ap (λ (r : Result (List Table) FileFault). next_or_line (λ l. Ok l) file r) is;
+      visits = far.visits ++ visit ∷ [];
+      unseen = rest;
+      named = named-among files rest all far.visits visit far.named split;
+      agree = all_agree-more holds far.visits visit far.agree agrees;
+      read = subst (Adds before after) (sym (readings_of-more far.visits visit)) (Adds-behind before now after _ _ far.read adds);
+      told = with_files-more far.visits visit [] tables far.loaded ∙ ap (λ (r : Result (List Table) FileFault). next_or_line (λ l. Ok l) file r) is;
     }
 
-pub RefusedBy-fault : (holds : List ℕ → Option (List ℕ)) (files rest all : List (List ℕ)) (tables : List Table) (file : List ℕ) (gave : Option (List ℕ)) (found : FileFault) (error : StartError)
-    → Far holds files tables → Agrees holds (record { file = file; gave = gave }) → (found ≢ fault.Memory → with_table tables (table_in (record { file = file; gave = gave })) ≡ Err found)
-    → all ≡ files ++ file ∷ rest → TellsOf file found error → RefusedBy holds all error
-RefusedBy-fault holds files rest all tables file gave found start.Memory far agrees is split tells = tt
-RefusedBy-fault holds files rest all tables file gave found (start.Refused line) far agrees is split tells =
-    subst (λ (l : List ℕ). Refused holds all l) (sym tells.1) (Far-refused holds files rest all tables file gave found far agrees (is tells.0) split)
+Far-abandoned : (holds : List ℕ → Option (Option (List ℕ))) (before now after : Option (List Reading)) (files rest all : List (List ℕ)) (tables : List Table)
+    (file : List ℕ) (gave : Option (List ℕ)) → Far holds before now files tables → Agrees holds (record { file = file; gave = gave })
+    → AddsFront now after (readings_of_one (record { file = file; gave = gave })) → all ≡ files ++ file ∷ rest → Abandoned holds before after all
+Far-abandoned holds before now after files rest all tables file gave far agrees adds split =
+    let visit : Visit = record { file = file; gave = gave } in
+    record {
+      visits = far.visits ++ visit ∷ [];
+      unseen = rest;
+      named = named-among files rest all far.visits visit far.named split;
+      agree = all_agree-more holds far.visits visit far.agree agrees;
+      read = subst (AddsFront before after) (sym (readings_of-more far.visits visit)) (AddsFront-behind before now after _ _ far.read adds);
+    }
 
-pub Started-far : (holds : List ℕ → Option (List ℕ)) (files : List (List ℕ)) (tables : List Table) (state : State) → Far holds files tables → state ≡ first_state tables
-    → Started holds files state
-Started-far holds files tables state far first = record {
-  readings = far.readings;
+pub RefusedBy-fault : (holds : List ℕ → Option (Option (List ℕ))) (before now after : Option (List Reading)) (files rest all : List (List ℕ))
+    (tables : List Table) (file : List ℕ) (gave : Option (List ℕ)) (found : FileFault) (error : StartError)
+    → Far holds before now files tables → Agrees holds (record { file = file; gave = gave })
+    → Answered {A = Unit {0}} (Err found) now after (readings_of_one (record { file = file; gave = gave }))
+    → (found ≢ fault.Memory → with_table tables (table_in (record { file = file; gave = gave })) ≡ Err found)
+    → all ≡ files ++ file ∷ rest → TellsOf file found error → RefusedBy holds before after all error
+RefusedBy-fault holds before now after files rest all tables file gave found start.Memory far agrees answered is split tells =
+    Far-abandoned holds before now after files rest all tables file gave far agrees answered.some split
+RefusedBy-fault holds before now after files rest all tables file gave found (start.Refused line) far agrees answered is split tells =
+    let adds = answered.all (λ e. let same : found ≡ fault.Memory = cc e in tells.0 same) in
+    subst (λ (l : List ℕ). Refused holds before after all l) (sym tells.1)
+    (Far-refused holds before now after files rest all tables file gave found far agrees adds (is tells.0) split)
+
+pub Started-far : (holds : List ℕ → Option (Option (List ℕ))) (before after : Option (List Reading)) (files : List (List ℕ)) (tables : List Table) (state : State)
+    → Far holds before after files tables → state ≡ first_state tables → Started holds before after files state
+Started-far holds before after files tables state far first = record {
+  visits = far.visits;
   named = far.named;
   agree = far.agree;
+  read = far.read;
   tables = tables;
   loaded = far.loaded;
   first = first;
+}
+
+-- all files were fine, and the session found no memory
+pub Abandoned-far : (holds : List ℕ → Option (Option (List ℕ))) (before after : Option (List Reading)) (files : List (List ℕ)) (tables : List Table)
+    → Far holds before after files tables → Abandoned holds before after files
+Abandoned-far holds before after files tables far = record {
+  visits = far.visits;
+  unseen = [];
+  named = sym far.named ∙ sym (append-nil _);
+  agree = far.agree;
+  read = AddsFront-all before after _ far.read;
 }
 
 -- ---- the items of a list up to one of them

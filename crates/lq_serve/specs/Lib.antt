@@ -1,6 +1,8 @@
 pub mod CsvRecords
 pub mod Devices
 pub mod Ending
+pub mod Files
 pub mod Loading
+pub mod MemoryFiles
 pub mod ScriptRun
 pub mod TableFile

@@ -1,5 +1,5 @@
 -- The session that the program starts with: over the tables of some files, or the line of the first fault among them.
-use Rattle.std.specs.Prelude.{◌≡◌, ◌≢◌, ◌-◌, ◌==◌, ◌∷◌, ◌++◌, if◌then◌else◌, List, [], ℕ, Bool, false, length, map, nat_eq, take, codes, Option, Some, None, IfSome, Result, Ok, Err, Vec, ⊤}
+use Rattle.std.specs.Prelude.{◌≡◌, ◌≢◌, ◌+◌, ◌-◌, ◌==◌, ◌∷◌, ◌++◌, if◌then◌else◌, List, [], ℕ, Bool, false, length, map, nat_eq, take, codes, Option, Some, None, IfSome, Result, Ok, Err, Vec, ⊤}
 use Rattle.std.specs.declared.alloc.Global.{Global}
 use Rattle.std.specs.Fmt.{decimal}
 use Rattle.std.specs.List.{ends_with, list_any}
@@ -11,9 +11,11 @@ use Rattle.lq_model.specs.Machine.{State}
 use Rattle.lq_model.specs.Tokens.{is_name}
 use Rattle.lq_model.specs.declared.policy.PolicyParts.{PolicyParts}
 use Rattle.lq_model.specs.declared.policy.TablePart.{TablePart}
-use Rattle.lq_serve.specs.TableFile.{table_of}
+use Rattle.lq_serve.specs.Files.{Adds, AddsFront, first_bytes}
+use Rattle.lq_serve.specs.TableFile.{table_limit, table_of}
 use Rattle.lq_serve.specs.declared.file_fault.FileFault.{FileFault}
 use Rattle.lq_serve.specs.declared.file_fault.FileFault.TheVariants as fault
+use Rattle.lq_serve.specs.declared.files.Reading.{Reading}
 use Rattle.lq_serve.specs.declared.loading.StartError.{StartError}
 use Rattle.lq_serve.specs.declared.loading.StartError.TheVariants as start
 use Rattle.lq_serve.specs.declared.table_file.LoadError.{LoadError}
@@ -71,22 +73,32 @@ fault_line file found = codes "lq: " ++ (file ++ (codes ": " ++ fault_text found
 
 -- ---- files
 
--- what the reading of a file gives: its bytes, or None where it can't be read; a file whose table has no name is not read
-pub record Reading : Type 0 where
+-- a file of those named, and what it gave where it was read: its first bytes, or None where it can't be read
+pub record Visit : Type 0 where
   pub file : List ℕ
   pub gave : Option (List ℕ)
 
--- the first bytes of a file, one more than a table's file may have
-abbrev pub first_bytes : List ℕ → List ℕ
-first_bytes bytes = take 16777217 bytes
+-- the most bytes that are read of a file: one more than a table's file may have
+abbrev pub read_limit : ℕ
+read_limit = table_limit + 1
 
--- where a file is known, reading it gives its first bytes
-abbrev pub Agrees : (List ℕ → Option (List ℕ)) → Reading → Type 0
-Agrees holds reading = IfSome (holds reading.file) (λ all. reading.gave ≡ Some (first_bytes all))
+-- a file that is known gives its first bytes, or can't be read
+abbrev pub Agrees : (List ℕ → Option (Option (List ℕ))) → Visit → Type 0
+Agrees holds visit = IfSome (holds visit.file) (λ there. visit.gave ≡ first_bytes read_limit there)
 
-abbrev pub AllAgree : (List ℕ → Option (List ℕ)) → List Reading → Type 0
+abbrev pub AllAgree : (List ℕ → Option (Option (List ℕ))) → List Visit → Type 0
 AllAgree holds [] = ⊤
-AllAgree holds (reading ∷ rest) = Agrees holds reading × AllAgree holds rest
+AllAgree holds (visit ∷ rest) = Agrees holds visit × AllAgree holds rest
+
+-- the read of a file: none where its table has no name
+abbrev pub readings_of_one : Visit → List Reading
+readings_of_one visit =
+    if is_name (table_name visit.file) then record { file = visit.file; limit = read_limit; gave = visit.gave } ∷ [] else []
+
+-- the reads of some files, in order
+abbrev pub readings_of : List Visit → List Reading
+readings_of [] = []
+readings_of (visit ∷ rest) = readings_of_one visit ++ readings_of rest
 
 abbrev pub table_or_fault : Result Table LoadError → Result Table FileFault
 table_or_fault (Ok table) = Ok table
@@ -97,8 +109,9 @@ abbrev pub table_read : List ℕ → Option (List ℕ) → Result Table FileFaul
 table_read name None = Err fault.Read
 table_read name (Some bytes) = table_or_fault (table_of name bytes)
 
-unfoldable pub table_in : Reading → Result Table FileFault
-table_in reading = if is_name (table_name reading.file) then table_read (table_name reading.file) reading.gave else Err fault.Name
+-- the table of a file that was visited
+unfoldable pub table_in : Visit → Result Table FileFault
+table_in visit = if is_name (table_name visit.file) then table_read (table_name visit.file) visit.gave else Err fault.Name
 
 -- the tables with one more behind them
 abbrev pub unless_refused : List Table → Table → Option StoreError → Result (List Table) FileFault
@@ -115,9 +128,9 @@ next_or_line rest file (Ok tables) = rest tables
 next_or_line rest file (Err found) = Err (fault_line file found)
 
 -- tables with those of some files behind them, or the line of the first fault
-abbrev pub with_files : List Reading → List Table → Result (List Table) (List ℕ)
+abbrev pub with_files : List Visit → List Table → Result (List Table) (List ℕ)
 with_files [] tables = Ok tables
-with_files (reading ∷ rest) tables = next_or_line (with_files rest) reading.file (with_table tables (table_in reading))
+with_files (visit ∷ rest) tables = next_or_line (with_files rest) visit.file (with_table tables (table_in visit))
 
 -- ---- sessions
 
@@ -133,32 +146,47 @@ open_policies tables = record { roles = record { name = codes "reader" } ∷ [];
 abbrev pub first_state : List Table → State
 first_state tables = record { tables = tables; policies = open_policies tables; role = 0 }
 
--- every file was read and fine, and the session is in its first state over their tables
-pub record Started (holds : List ℕ → Option (List ℕ)) (files : List (List ℕ)) (state : State) : Type 0 where
-  pub readings : List Reading
-  pub named : map (λ reading. reading.file) readings ≡ files
-  pub agree : AllAgree holds readings
+-- Every file was visited and fine, these were the reads, and the session is in its first state over the tables.
+pub record Started (holds : List ℕ → Option (Option (List ℕ))) (before after : Option (List Reading)) (files : List (List ℕ)) (state : State) : Type 0 where
+  pub visits : List Visit
+  pub named : map (λ visit. visit.file) visits ≡ files
+  pub agree : AllAgree holds visits
+  pub read : Adds before after (readings_of visits)
   pub tables : List Table
-  pub loaded : with_files readings [] ≡ Ok tables
+  pub loaded : with_files visits [] ≡ Ok tables
   pub first : state ≡ first_state tables
 
--- some first files were read, and the line tells of the first fault among them
-pub record Refused (holds : List ℕ → Option (List ℕ)) (files : List (List ℕ)) (line : List ℕ) : Type 0 where
-  pub readings : List Reading
-  pub unread : List (List ℕ)
-  pub named : files ≡ map (λ reading. reading.file) readings ++ unread
-  pub agree : AllAgree holds readings
-  pub told : with_files readings [] ≡ Err line
+-- Some first files were visited, these were the reads, and the line tells of the first fault among them.
+pub record Refused (holds : List ℕ → Option (Option (List ℕ))) (before after : Option (List Reading)) (files : List (List ℕ)) (line : List ℕ) : Type 0 where
+  pub visits : List Visit
+  pub unseen : List (List ℕ)
+  pub named : files ≡ map (λ visit. visit.file) visits ++ unseen
+  pub agree : AllAgree holds visits
+  pub read : Adds before after (readings_of visits)
+  pub told : with_files visits [] ≡ Err line
 
--- why there is no session: nothing is said of the want of memory
-abbrev pub RefusedBy : (List ℕ → Option (List ℕ)) → List (List ℕ) → StartError → Type 0
-RefusedBy holds files start.Memory = ⊤
-RefusedBy holds files (start.Refused line) = Refused holds files line
+-- Some first files were visited, and no other was read: there was no memory to go on.
+pub record Abandoned (holds : List ℕ → Option (Option (List ℕ))) (before after : Option (List Reading)) (files : List (List ℕ)) : Type 0 where
+  pub visits : List Visit
+  pub unseen : List (List ℕ)
+  pub named : files ≡ map (λ visit. visit.file) visits ++ unseen
+  pub agree : AllAgree holds visits
+  pub read : AddsFront before after (readings_of visits)
+
+-- why there is no session
+abbrev pub RefusedBy : (List ℕ → Option (Option (List ℕ))) → Option (List Reading) → Option (List Reading) → List (List ℕ) → StartError → Type 0
+RefusedBy holds before after files start.Memory = Abandoned holds before after files
+RefusedBy holds before after files (start.Refused line) = Refused holds before after files line
 
 -- an error that tells of a file's fault, or of the want of memory
 abbrev pub TellsOf : List ℕ → FileFault → StartError → Type 0
 TellsOf file found start.Memory = ⊤
 TellsOf file found (start.Refused line) = (found ≢ fault.Memory) × (line ≡ fault_line file found)
+
+-- these reads were answered, or there was no memory, and the first of them were
+pub record Answered {A : Type 0} (result : Result A FileFault) (before after : Option (List Reading)) (more : List Reading) : Type 0 where
+  pub all : result ≢ Err fault.Memory → Adds before after more
+  pub some : AddsFront before after more
 
 -- a reading gave its bytes, or nothing to read, or there was no memory
 abbrev pub GivesBytes : Option (List ℕ) → Result (Vec ℕ Global) FileFault → Type 0

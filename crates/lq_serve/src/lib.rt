@@ -8,6 +8,7 @@ mod file_fault;
 mod files;
 mod first_session;
 mod loading;
+mod memory_files;
 mod naming;
 mod output;
 mod script_bytes;
@@ -20,8 +21,9 @@ mod tests;
 
 pub use device::Device;
 pub use ending::{finish, refuse};
-pub use files::{FileError, Files};
+pub use files::{FileError, Files, Reading};
 pub use loading::{StartError, load};
+pub use memory_files::MemoryFiles;
 pub use script_run::{Summary, serve};
 pub use serve_error::{ReadFailed, ServeError, WriteFailed};
 pub use table_file::{LoadError, table_from_csv};

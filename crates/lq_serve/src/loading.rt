@@ -1,13 +1,13 @@
 //! Loading: the session over the tables of some files, or the line that tells why there is none.
-ghost use Rattle.std.specs.Prelude.{◌≡◌, List, ℕ, Option, map, string_bytes, IfOk, IfErr};
+ghost use Rattle.std.specs.Prelude.{◌≡◌, ◌∷◌, [], List, ℕ, Option, map, string_bytes, IfOk, IfErr};
 ghost use Rattle.lq_session.specs.States.{state_of};
-ghost use Rattle.lq_serve.specs.Loading.{Agrees, GivesBytes, GivesTable, LeavesTables, RefusedBy, Started, TellsOf, table_in, table_read, with_table};
+ghost use Rattle.lq_serve.specs.Loading.{Agrees, Answered, GivesBytes, GivesTable, LeavesTables, RefusedBy, Started, TellsOf, read_limit, readings_of_one, table_in, table_read, with_table};
 
 use crate::file_fault::{FileFault, fault_line};
 use crate::files::{FileError, Files};
 use crate::first_session::open_session;
 use crate::naming::table_name;
-use crate::table_file::table_from_csv;
+use crate::table_file::{MOST_BYTES, table_from_csv};
 use lq_session::Session;
 use lq_store::{Store, Table};
 use lq_syntax::is_name;
@@ -38,7 +38,7 @@ impl From<AllocError> for StartError {
 }
 
 // The most bytes that are read of a file: one more than a table's file may have.
-const READ_LIMIT: u64 = 16_777_217;
+const READ_LIMIT: u64 = MOST_BYTES as u64 + 1;
 
 /// The first session over the tables that the files of these names hold, in this order: under one
 /// role, `reader`, that sees every row. No names give a session without tables.
@@ -46,11 +46,12 @@ const READ_LIMIT: u64 = 16_777_217;
 /// A table's name is its file's without folders and without the ending `.csv`. The first fault is
 /// refused, file by file: `name` where that is no name, `read` where the file can't be read, what
 /// `table_from_csv` refuses, `duplicate-table` for a second table of one name, and `too-many` for
-/// more than 64 tables. The line is `lq: FILE: FAULT`, with the file's name as it was given. At most
-/// 16,777,217 bytes are read of a file. `Memory` may stand for any other answer.
+/// more than 64 tables. The line is `lq: FILE: FAULT`, with the file's name as it was given. Each file
+/// is read once, up to the first fault, and no other file is; at most 16,777,217 bytes are asked for.
+/// `Memory` may stand for any other answer.
 pub fn load<F: Files>(alloc: Global, names: &[String], files: &mut F) -> Result<Session, StartError>
-    ensures ok { IfOk result (λ session. Started (F.holds files.old) (map string_bytes names.now) (state_of session)) }
-    ensures err { IfErr result (λ error. RefusedBy (F.holds files.old) (map string_bytes names.now) error) }
+    ensures ok { IfOk result (λ session. Started (F.holds files.old) (F.answered files.old) (F.answered files.new) (map string_bytes names.now) (state_of session)) }
+    ensures err { IfErr result (λ error. RefusedBy (F.holds files.old) (F.answered files.old) (F.answered files.new) (map string_bytes names.now) error) }
 {
     let mut store = Store::new(alloc);
     for name in names {
@@ -82,6 +83,7 @@ fn add_file<F: Files>(
     store: &mut Store,
 ) -> Result<(), FileFault>
     ensures added { (gave : Option (List ℕ)) × Agrees (F.holds files.old) (record { file = file.now; gave = gave })
+        × Answered result (F.answered files.old) (F.answered files.new) (readings_of_one (record { file = file.now; gave = gave }))
         × LeavesTables (with_table store.old (table_in (record { file = file.now; gave = gave }))) result store.new }
     ensures keeps { (n : List ℕ) → F.holds files.new n ≡ F.holds files.old n }
 {
@@ -95,6 +97,7 @@ fn add_file<F: Files>(
 // The table of the file of this name.
 fn read_table<F: Files>(alloc: Global, file: &str, files: &mut F) -> Result<Table, FileFault>
     ensures table { (gave : Option (List ℕ)) × Agrees (F.holds files.old) (record { file = file.now; gave = gave })
+        × Answered result (F.answered files.old) (F.answered files.new) (readings_of_one (record { file = file.now; gave = gave }))
         × GivesTable (table_in (record { file = file.now; gave = gave })) result }
     ensures keeps { (n : List ℕ) → F.holds files.new n ≡ F.holds files.old n }
 {
@@ -108,7 +111,9 @@ fn read_table<F: Files>(alloc: Global, file: &str, files: &mut F) -> Result<Tabl
 
 // The bytes of the file of this name, or of a longer file the first of them.
 fn read_file<F: Files>(file: &str, files: &mut F) -> Result<Vec<u8>, FileFault>
-    ensures given { (gave : Option (List ℕ)) × Agrees (F.holds files.old) (record { file = file.now; gave = gave }) × GivesBytes gave result }
+    ensures given { (gave : Option (List ℕ)) × Agrees (F.holds files.old) (record { file = file.now; gave = gave })
+        × Answered result (F.answered files.old) (F.answered files.new) (record { file = file.now; limit = read_limit; gave = gave } ∷ [])
+        × GivesBytes gave result }
     ensures keeps { (n : List ℕ) → F.holds files.new n ≡ F.holds files.old n }
 {
     match files.read(file, READ_LIMIT) {

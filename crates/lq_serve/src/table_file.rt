@@ -24,7 +24,7 @@ use std::alloc::{AllocError, AllocFailed, Global};
 use thiserror::Error;
 
 /// The most bytes that a table's file has.
-const MOST_BYTES: usize = 16_777_216;
+pub(crate) const MOST_BYTES: usize = 16_777_216;
 
 /// The most columns that a table has.
 const MOST_COLUMNS: usize = 100;

@@ -1,14 +1,12 @@
 //! Serving over devices that fail, and loading.
-use crate::{Device, ServeError, finish, load, serve};
-use folder::{Folder, names_of};
+use crate::{Device, MemoryFiles, ServeError, finish, load, serve};
 use lq_session::Session;
-use std::alloc::Global;
+use std::alloc::{AllocError, Global};
 use std::io;
 use std::io::{ErrorKind, Read, Write};
 use std::process::Abort;
 use std::test::Fail;
 
-mod folder;
 mod loads;
 
 // A script, and what a session over a table t, with the numbers 1 and 2 in its column c, answers to it.
@@ -24,12 +22,16 @@ const REPLIES: u64 = 4;
 
 fn session(alloc: Global) -> Result<Session, Fail> {
     let names = names_of(alloc, &["t.csv"])?;
-    let mut files = Folder {
-        alloc,
-        files: &[],
-        others: Some(b"c:int\n1\n2\n"),
-    };
+    let mut files = MemoryFiles::new(alloc, &[("t.csv", b"c:int\n1\n2\n")]);
     Ok(load(alloc, names.as_slice(), &mut files)?)
+}
+
+fn names_of(alloc: Global, words: &[&str]) -> Result<Vec<String>, AllocError> {
+    let mut names = Vec::new(alloc);
+    for word in words {
+        names.push(String::from_str(alloc, word)?)?;
+    }
+    Ok(names)
 }
 
 const KINDS: [ErrorKind; 3] = [
