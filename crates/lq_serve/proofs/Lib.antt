@@ -1,6 +1,7 @@
 mod CsvReading
 mod DeviceLemmas
 mod LoadingLemmas
+mod MarkLemmas
 mod NameFacts
 mod NamingLemmas
 mod ScriptRunLemmas

@@ -2,10 +2,10 @@
 use Rattle.std.proofs.Common.{ap, add-one, get_or, suc, drop-cons, ◌≡◌, ◌≤◌, ◌<◌, ◌+◌, ◌*◌, ◌-◌, ◌++◌, ℕ, Bool, true, false, ◌&&◌, ◌||◌, ◌==◌, List, [], ◌∷◌, length, Option, Some, None, refl, sym, arith, if◌then◌else◌, nat_eq, drop, take}
 use Rattle.std.specs.Prelude.{nat_le, nat_lt}
 use Rattle.std.specs.List.{list_all}
-use Rattle.std.specs.Cmp.Lexicographic.{pointwise}
 use Rattle.std.proofs.lemmas.Bool.Decides.{nat_tests}
+use Rattle.std.specs.Cmp.Lexicographic.{pointwise}
 use Rattle.csv.specs.Machine.{Read, next_record}
-use Rattle.csv.specs.Reading.{default_config, is_bom, records, records_from, records_next, strip_bom}
+use Rattle.csv.specs.Reading.{default_config, records, records_from, records_next, strip_bom}
 use Rattle.csv.specs.declared.parser.State.{State}
 use Rattle.csv.specs.declared.parser.State.TheVariants as st
 use Rattle.lq_model.specs.Tokens.{is_digit, is_name}
@@ -29,59 +29,9 @@ use Rattle.lq_store.specs.declared.error.StoreError.TheVariants as store
 use Rattle.lq_store.proofs.Kept.{are_distinct-push}
 use Rattle.lq_serve.specs.declared.table_file.LoadError.{LoadError}
 use Rattle.lq_serve.specs.declared.table_file.LoadError.TheVariants.{Memory, Csv, Header, DuplicateName, Cell, TooLarge}
-use Rattle.lq_serve.specs.TableFile.{UnlessMemory, after_cell, after_column, and_then, bounded, cells_from, column_at, column_of, columns_from, decimal, has_name, int_column, int_of, is_int_type, is_plain, table_of, table_of_records, with_record}
+use Rattle.lq_serve.specs.TableFile.{UnlessMemory, after_cell, after_column, and_then, bounded, cells_from, column_at, column_of, columns_from, decimal, has_name, int_column, int_of, is_int_type, is_plain, table_limit, table_of, table_of_records, with_record}
 use Rattle.lq_model.specs.Script.{without_marks}
-
--- the bytes of a byte order mark
-abbrev mark : List ℕ
-mark = 239 ∷ 187 ∷ 191 ∷ []
-
-all_three : (p q r : Bool) → (p && (q && (r && true))) ≡ true → (p && q && r) ≡ true
-all_three true true true e = refl
-all_three false q r e = cc
-all_three true false r e = cc
-all_three true true false e = cc
-
-not_three : (p q r : Bool) → (p && (q && (r && true))) ≡ false → (p && q && r) ≡ false
-not_three true true true e = cc
-not_three false q r e = refl
-not_three true false r e = refl
-not_three true true false e = refl
-
-not_one : (p : Bool) → (p && false) ≡ true → ⊥
-not_one true e = cc
-not_one false e = cc
-
-not_two : (p q : Bool) → (p && (q && false)) ≡ true → ⊥
-not_two true q e = not_one q e
-not_two false q e = cc
-
--- a mark at the start is passed over
-pub marked : (bytes : List ℕ) → pointwise nat_eq (take 3 bytes) mark ≡ true → (3 ≤ length bytes) × (without_marks (drop 3 bytes) ≡ without_marks bytes)
-marked [] e = cc
-marked (a ∷ []) e = absurd (not_one (nat_eq a 239) e)
-marked (a ∷ b ∷ []) e = absurd (not_two (nat_eq a 239) (nat_eq b 187) e)
-marked (a ∷ b ∷ c ∷ rest) e = (omega arith, rw (all_three (nat_eq a 239) (nat_eq b 187) (nat_eq c 191) e) refl)
-
--- and nothing else is
-pub unmarked : (bytes : List ℕ) → pointwise nat_eq (take 3 bytes) mark ≡ false → bytes ≡ without_marks bytes
-unmarked [] e = refl
-unmarked (a ∷ []) e = refl
-unmarked (a ∷ b ∷ []) e = refl
-unmarked (a ∷ b ∷ c ∷ rest) e = rw (not_three (nat_eq a 239) (nat_eq b 187) (nat_eq c 191) e) refl
-
--- where all marks are gone there is none to strip
-pub strip_bom-without_marks : (bytes : List ℕ) → strip_bom (without_marks bytes) ≡ without_marks bytes
-unfolding strip_bom
-strip_bom-without_marks [] = refl
-strip_bom-without_marks (a ∷ []) = refl
-strip_bom-without_marks (a ∷ b ∷ []) = refl
-strip_bom-without_marks (a ∷ b ∷ c ∷ rest) = by (is_bom a b c) refl (strip_bom-without_marks rest)
-  where
-    by : (m : Bool) → is_bom a b c ≡ m → strip_bom (without_marks rest) ≡ without_marks rest
-        → strip_bom (if m then without_marks rest else a ∷ b ∷ c ∷ rest) ≡ (if m then without_marks rest else a ∷ b ∷ c ∷ rest)
-    by true e more = more
-    by false e more = rw e refl
+use Rattle.lq_serve.proofs.MarkLemmas.{strip_bom-without_marks, without_marks-short}
 
 -- a value above the limit stays above it
 above_limit : (limit value : ℕ) → limit < value → nat_le value limit ≡ false
@@ -336,24 +286,14 @@ not_above : (limit n : ℕ) → n ≤ limit → nat_lt limit n ≡ false
 not_above limit n h = grind (arith, nat_tests)
 
 -- a file of more than 16 MiB
-pub table_of-large : (name bytes : List ℕ) → 16777216 < length bytes → table_of name bytes ≡ Err TooLarge
+pub table_of-large : (name bytes : List ℕ) → table_limit < length bytes → table_of name bytes ≡ Err TooLarge
 unfolding table_of
-table_of-large name bytes h = rw (above 16777216 (length bytes) h) refl
+table_of-large name bytes h = rw (above table_limit (length bytes) h) refl
 
 -- any other file
-pub table_of-small : (name bytes : List ℕ) → length bytes ≤ 16777216 → table_of name bytes ≡ table_of_records name (records default_config (strip_bom (without_marks bytes)))
+pub table_of-small : (name bytes : List ℕ) → length bytes ≤ table_limit → table_of name bytes ≡ table_of_records name (records default_config (strip_bom (without_marks bytes)))
 unfolding table_of
-table_of-small name bytes h = rw (not_above 16777216 (length bytes) h, strip_bom-without_marks bytes) refl
-
-without_marks-short : (bytes : List ℕ) → length (without_marks bytes) ≤ length bytes
-without_marks-short [] = omega arith
-without_marks-short (a ∷ []) = omega arith
-without_marks-short (a ∷ b ∷ []) = omega arith
-without_marks-short (a ∷ b ∷ c ∷ rest) = by (is_bom a b c) (without_marks-short rest)
-  where
-    by : (m : Bool) → length (without_marks rest) ≤ length rest → length (if m then without_marks rest else a ∷ b ∷ c ∷ rest) ≤ suc (suc (suc (length rest)))
-    by true h = omega arith
-    by false h = omega arith
+table_of-small name bytes h = rw (not_above table_limit (length bytes) h, strip_bom-without_marks bytes) refl
 
 records_from-few : (turns : ℕ) (state : State) (bytes : List ℕ) → length (records_from default_config turns state bytes) ≤ turns
 unfolding records_from

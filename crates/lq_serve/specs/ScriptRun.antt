@@ -2,7 +2,7 @@
 use Rattle.std.specs.Prelude.{◌≡◌, ◌++◌, ℕ, List, Option, IfSome, length}
 use Rattle.std.specs.Str.{IsUtf8}
 use Rattle.std.specs.Io.KnownBytes.{Appends}
-use Rattle.lq_model.specs.Script.{IsInSize}
+use Rattle.lq_model.specs.Script.{IsInSize, stepped_lines}
 use Rattle.lq_model.specs.Machine.{State, Reply}
 use Rattle.lq_model.specs.Runs.{Answers, Runs, bytes_of, joined, one_if_some, count_of_replies, IsCutOff}
 use Rattle.lq_serve.specs.Devices.{AppendsFront}
@@ -32,6 +32,26 @@ pub record Stopped (all : List (List ℕ)) (old new : State) (before after : Opt
   pub bytes : List ℕ
   pub cut : IsCutOff replies bytes
   pub written : Appends before after bytes
+
+-- The script that the reader had was served to its end.
+pub record ServedWhole (known : Option (List ℕ)) (old new : State) (before after : Option (List ℕ)) (summary : Summary) : Type 0 where
+  pub script : List ℕ
+  pub is_script : IsScript known script
+  pub served : Served (stepped_lines script) old new before after summary
+
+-- The script that the reader had was served until the writer failed.
+pub record ServedInPart (known : Option (List ℕ)) (old new : State) (before after : Option (List ℕ)) : Type 0 where
+  pub script : List ℕ
+  pub is_script : IsScript known script
+  pub stopped : Stopped (stepped_lines script) old new before after
+
+-- The bytes that the reader had, where they are known, or a line of them, are too many for a script.
+abbrev pub IsTooLong : Option (List ℕ) → Type 0
+IsTooLong known = IfSome known (λ all. ¬ (IsInSize all))
+
+-- The bytes that the reader had, where they are known, are in size and not UTF-8.
+abbrev pub IsNoText : Option (List ℕ) → Type 0
+IsNoText known = IfSome known (λ all. IsInSize all × ¬ (IsUtf8 all))
 
 -- One line was stepped, and its reply was written whole.
 pub record Told (line : List ℕ) (old new : State) (before after : Option (List ℕ)) (count : ℕ) : Type 0 where

@@ -1,8 +1,8 @@
 //! Ending: the status for the caller of the program, and the line that tells of a fault.
-ghost use Rattle.std.specs.Prelude.{◌≡◌, List, ℕ, false};
+ghost use Rattle.std.specs.Prelude.{◌≡◌, false};
 ghost use Rattle.lq_session.specs.States.{state_of};
 ghost use Rattle.lq_serve.specs.Devices.{inner_of, is_failed, is_ended, Writes};
-ghost use Rattle.lq_serve.specs.Ending.{as_line, status_of, told_of, Ends};
+ghost use Rattle.lq_serve.specs.Ending.{as_line, status_of, told_of, Finished};
 
 use crate::device::Device;
 use crate::loading::StartError;
@@ -37,10 +37,9 @@ pub fn finish<R: Read, W: Write, E: Write>(
     requires open { is_ended reader.old ≡ false }
     requires writer { is_failed writer.old ≡ false }
     requires errors { is_failed errors.old ≡ false }
-    ensures { (told : List ℕ)
-        × Ends (R.remaining (inner_of reader.old)) (state_of session.old) (state_of session.new)
-        (W.contents (inner_of writer.old)) (W.contents (inner_of writer.new)) (is_failed reader.new) (is_failed writer.new) result told
-        × Writes (is_failed errors.new) (E.contents (inner_of errors.old)) (E.contents (inner_of errors.new)) told }
+    ensures { Finished (R.remaining (inner_of reader.old)) (state_of session.old) (state_of session.new)
+        (W.contents (inner_of writer.old)) (W.contents (inner_of writer.new)) (is_failed reader.new) (is_failed writer.new)
+        (E.contents (inner_of errors.old)) (E.contents (inner_of errors.new)) (is_failed errors.new) result }
 {
     match serve(alloc, reader, writer, session) {
         Ok(_) => 0,

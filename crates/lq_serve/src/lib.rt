@@ -8,6 +8,7 @@ mod file_fault;
 mod files;
 mod first_session;
 mod loading;
+mod marks;
 mod memory_files;
 mod naming;
 mod output;

@@ -1,18 +1,6 @@
 //! Cutting a script's text into its lines.
-ghost use Rattle.std.specs.Prelude.{◌≡◌, ◌∷◌, ◌<◌, ◌≤◌, length};
-ghost use Rattle.lq_model.specs.Script.{without_marks, lines_of};
-
-// The text behind the byte order marks at its head.
-pub(crate) fn without_marks(text: &str) -> &str
-    ensures marks { result.now ≡ without_marks text.now }
-    ensures no_longer { length result.now ≤ length text.now }
-{
-    let mut rest = text;
-    while let Some(behind) = rest.strip_prefix('\u{FEFF}') {
-        rest = behind;
-    }
-    rest
-}
+ghost use Rattle.std.specs.Prelude.{◌≡◌, ◌∷◌, ◌<◌, length};
+ghost use Rattle.lq_model.specs.Script.{lines_of};
 
 // The first line without its line feed, and the text behind it.
 pub(crate) fn first_line(text: &str) -> (&str, &str)

@@ -1,14 +1,14 @@
 //! Serving a script: reading it whole, stepping its lines in order, and writing their replies.
 ghost use Rattle.std.specs.Prelude.{◌≡◌, ◌≢◌, ◌+◌, ◌≤◌, ◌↔◌, List, ℕ, false, true, length, IfOk, IfErr, OnOk, OnErr, IfSome};
-ghost use Rattle.std.specs.Str.{IsUtf8};
-ghost use Rattle.lq_model.specs.Script.{lines_of, script_limit, IsInSize, stepped_lines};
+ghost use Rattle.lq_model.specs.Script.{lines_of, script_limit};
 ghost use Rattle.lq_session.specs.States.{state_of};
 ghost use Rattle.lq_serve.specs.Devices.{inner_of, read_count, is_failed, is_ended, TakesAtMost};
-ghost use Rattle.lq_serve.specs.ScriptRun.{IsScript, Served, Stopped, Told, ToldInPart};
+ghost use Rattle.lq_serve.specs.ScriptRun.{IsNoText, IsTooLong, Served, ServedInPart, ServedWhole, Stopped, Told, ToldInPart};
 
 use crate::device::Device;
+use crate::marks::without_marks;
 use crate::script_bytes::{LINE_LIMIT, SCRIPT_LIMIT, fits, read_script};
-use crate::script_lines::{first_line, without_marks};
+use crate::script_lines::first_line;
 use crate::serve_error::{ServeError, WriteFailed};
 use lq_session::Session;
 use std::alloc::Global;
@@ -42,19 +42,17 @@ pub fn serve<R: Read, W: Write>(
     requires writer { is_failed writer.old ≡ false }
 
     // What is written is the output of the machine over the script's lines.
-    ensures ok { IfOk result (λ summary. (script : List ℕ) × IsScript (R.remaining (inner_of reader.old)) script
-        × Served (stepped_lines script) (state_of session.old) (state_of session.new)
+    ensures ok { IfOk result (λ summary. ServedWhole (R.remaining (inner_of reader.old)) (state_of session.old) (state_of session.new)
         (W.contents (inner_of writer.old)) (W.contents (inner_of writer.new)) summary) }
 
     // After a failed write the first lines were stepped, and what was written is a front of their output.
-    ensures write { result ≡ Err ServeError.Write → (script : List ℕ) × IsScript (R.remaining (inner_of reader.old)) script
-        × Stopped (stepped_lines script) (state_of session.old) (state_of session.new)
+    ensures write { result ≡ Err ServeError.Write → ServedInPart (R.remaining (inner_of reader.old)) (state_of session.old) (state_of session.new)
         (W.contents (inner_of writer.old)) (W.contents (inner_of writer.new)) }
 
     // After each other error nothing was stepped and nothing written.
     ensures untouched { IfErr result (λ e. e ≢ ServeError.Write → (session.new ≡ session.old) × (writer.new ≡ writer.old)) }
-    ensures too_long { result ≡ Err ServeError.TooLong → IfSome (R.remaining (inner_of reader.old)) (λ all. ¬ (IsInSize all)) }
-    ensures utf8 { result ≡ Err ServeError.Utf8 → IfSome (R.remaining (inner_of reader.old)) (λ all. IsInSize all × ¬ (IsUtf8 all)) }
+    ensures too_long { result ≡ Err ServeError.TooLong → IsTooLong (R.remaining (inner_of reader.old)) }
+    ensures utf8 { result ≡ Err ServeError.Utf8 → IsNoText (R.remaining (inner_of reader.old)) }
 
     // The devices tell which of them failed.
     ensures read_marked { (result ≡ Err ServeError.Read) ↔ (is_failed reader.new ≡ true) }
@@ -68,8 +66,8 @@ pub fn serve<R: Read, W: Write>(
     if !fits(&bytes, LINE_LIMIT) {
         return Err(ServeError::TooLong);
     }
-    match str::from_utf8(&bytes) {
-        Ok(script) => Ok(serve_text(without_marks(script), writer, session)?),
+    match str::from_utf8(without_marks(&bytes)) {
+        Ok(text) => Ok(serve_text(text, writer, session)?),
         Err(_) => Err(ServeError::Utf8),
     }
 }
