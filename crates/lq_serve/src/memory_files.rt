@@ -15,10 +15,12 @@ pub struct MemoryFiles<'a> {
 }
 
 impl<'a> MemoryFiles<'a> {
+    ghost use Rattle.lq_serve.specs.MemoryFiles.{files_in, readings_in};
+
     /// These files, of which none was read. Of two files of one name the first is there.
     pub fn new(alloc: Global, files: &'a [(&'a str, &'a [u8])]) -> MemoryFiles<'a>
-        ensures files { result.files.now ≡ files.now }
-        ensures unread { result.readings ≡ [] }
+        ensures files { files_in result ≡ files.now }
+        ensures unread { readings_in result ≡ [] }
     {
         MemoryFiles {
             alloc,
@@ -29,7 +31,7 @@ impl<'a> MemoryFiles<'a> {
 
     /// The reads that were answered, in order.
     pub fn readings(&self) -> &[Reading]
-        ensures { result.now ≡ self.now.readings }
+        ensures { result.now ≡ readings_in self.now }
     {
         self.readings.as_slice()
     }
@@ -41,9 +43,9 @@ impl<'a> MemoryFiles<'a> {
         limit: u64,
         gave: Option<List<u8>>,
     ) -> Result<(), AllocError>
-        ensures added { OnOk result (self.new.readings ≡ self.old.readings ++ record { file = name.now; limit = limit; gave = gave } ∷ []) }
-        ensures unread { OnErr result (self.new.readings ≡ self.old.readings) }
-        ensures files { self.new.files ≡ self.old.files }
+        ensures added { OnOk result (readings_in self.new ≡ readings_in self.old ++ record { file = name.now; limit = limit; gave = gave } ∷ []) }
+        ensures unread { OnErr result (readings_in self.new ≡ readings_in self.old) }
+        ensures files { files_in self.new ≡ files_in self.old }
     {
         let file = Txt::from_str(self.alloc, name)?;
         self.readings.push(Reading { file, limit, gave })
@@ -52,11 +54,11 @@ impl<'a> MemoryFiles<'a> {
 
 impl Files for MemoryFiles<'_> {
     ghost use Rattle.std.specs.Prelude.{Some};
-    ghost use Rattle.lq_serve.specs.MemoryFiles.{bytes_under};
+    ghost use Rattle.lq_serve.specs.MemoryFiles.{bytes_under, files_in, readings_in};
 
-    ghost holds = { λ place name. Some (bytes_under place.files.now name) };
+    ghost holds = { λ place name. Some (bytes_under (files_in place) name) };
 
-    ghost answered = { λ place. Some place.readings };
+    ghost answered = { λ place. Some (readings_in place) };
 
     fn read(&mut self, name: &str, limit: u64) -> Result<Vec<u8>, FileError> {
         match bytes_under(self.files, name) {

@@ -101,6 +101,8 @@ impl Read for Repeated {
 #[derive(Drop)]
 struct Taker {
     taken: Vec<u8>,
+    // Whether the last call was a flush that ended well.
+    flushed: bool,
     calls: u64,
     bad: u64,
     fault: Fault,
@@ -114,6 +116,7 @@ impl Write for Taker {
             Fault::Stalls if self.calls == self.bad => return Ok(0),
             _ => {}
         }
+        self.flushed = false;
         let most = bytes.len().min(5);
         self.taken.extend_from_slice(&bytes[..most])?;
         Ok(most)
@@ -123,7 +126,10 @@ impl Write for Taker {
         self.calls = self.calls.saturating_add(1);
         match self.fault {
             Fault::Errs(kind) if self.calls == self.bad => Err(io::Error::from(kind)),
-            _ => Ok(()),
+            _ => {
+                self.flushed = true;
+                Ok(())
+            }
         }
     }
 }
@@ -131,6 +137,7 @@ impl Write for Taker {
 fn taking(alloc: Global, bad: u64, fault: Fault) -> Taker {
     Taker {
         taken: Vec::new(alloc),
+        flushed: false,
         calls: 0,
         bad,
         fault,
@@ -180,6 +187,7 @@ fn fail_each_call(rt: &impl Abort, alloc: Global, fault: Fault) -> Result<u64, F
                 assert_eq!(rt; summary.lines, LINES);
                 assert_eq!(rt; summary.replies, REPLIES);
                 assert_eq!(rt; sink.taken.as_slice(), OUTPUT);
+                assert!(rt; sink.flushed);
                 return Ok(bad);
             }
             Err(fault) => assert!(rt; matches!(fault, ServeError::Write), "at call {bad}"),
