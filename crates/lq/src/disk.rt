@@ -27,8 +27,10 @@ impl<'a> Disk<'a> {
 impl Files for Disk<'_> {
     ghost use Rattle.std.specs.Prelude.{None};
 
-    // What a file holds is not known here.
+    // What a file holds is not known here, nor is it kept what was read.
     ghost holds = { λ _ _. None };
+
+    ghost answered = { λ _. None };
 
     fn read(&mut self, name: &str, limit: u64) -> Result<Vec<u8>, FileError> {
         match self.first_bytes(name, limit) {

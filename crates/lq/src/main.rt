@@ -5,7 +5,7 @@
 mod disk;
 
 use disk::Disk;
-use lq_serve::{finish, load, refuse};
+use lq_serve::{Device, finish, load, refuse};
 use std::io::Write;
 use std::process::ExitCode;
 use std::{env, io};
@@ -44,9 +44,13 @@ fn tell_words(rt: &HostRuntime, error: &io::Error) -> u8 {
 /// Loads the tables and serves the script.
 fn serve_tables(rt: &HostRuntime, files: &[String]) -> u8 {
     let alloc = rt.alloc();
-    let mut errors = rt.stderr();
+    let mut errors = Device::new(rt.stderr());
     match load(alloc, files, &mut Disk::new(rt)) {
-        Ok(mut session) => finish(alloc, rt.stdin(), rt.stdout(), &mut errors, &mut session),
+        Ok(mut session) => {
+            let mut reader = Device::new(rt.stdin());
+            let mut writer = Device::new(rt.stdout());
+            finish(alloc, &mut reader, &mut writer, &mut errors, &mut session)
+        }
         Err(error) => refuse(&error, &mut errors),
     }
 }

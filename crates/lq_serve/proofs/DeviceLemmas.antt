@@ -1,8 +1,8 @@
 -- Lemmas on bytes that are written or read in several turns.
-use Rattle.std.proofs.Common.{◌≡◌, ◌<◌, ℕ, List, [], ◌∷◌, ◌++◌, Option, None, Some, Result, Ok, Err, IfSome, OnOk, OnErr, length, take, drop, refl, sym, ◌∙◌, ap, subst, append_assoc, append-nil, take-append-drop, length-append, arith}
+use Rattle.std.proofs.Common.{◌≡◌, ◌<◌, ◌≤◌, ◌+◌, ◌↔◌, ℕ, Bool, true, false, List, [], ◌∷◌, ◌++◌, Option, None, Some, Result, Ok, Err, IfSome, IsErr, OnOk, OnErr, length, take, drop, refl, sym, ◌∙◌, ap, subst, append_assoc, append-nil, take-append-drop, length-append, arith}
 use Rattle.std.specs.Io.KnownBytes.{Appends, Consumes, Keeps}
-use Rattle.std.proofs.KnownBytes.{Appends-nil, Appends-trans, Appends-kept}
-use Rattle.lq_serve.specs.Devices.{AppendsFront}
+use Rattle.std.proofs.KnownBytes.{Appends-nil, Appends-trans, Appends-kept, Consumes-trans}
+use Rattle.lq_serve.specs.Devices.{AppendsFront, TakesAtMost, Writes}
 
 -- an exit by `?` whose error no clause looks at
 pub on_err : {T E P : Type 0} (r : Result T E) → P → OnErr r P
@@ -45,16 +45,59 @@ Consumes-length None now bytes n given below = tt
 Consumes-length (Some xs) None bytes n given below = absurd given
 Consumes-length (Some xs) (Some ys) bytes n given below = omega (arith, ap length given, length-append bytes ys, below)
 
--- nothing was written of nothing
-pub AppendsFront-nil : (known : Option (List ℕ)) → AppendsFront known known []
-AppendsFront-nil known = record { front = []; left = []; split = refl; written = Appends-nil known }
-
 -- bytes that were written whole are a front of themselves
 pub AppendsFront-whole : (before after : Option (List ℕ)) (bytes : List ℕ) → Appends before after bytes → AppendsFront before after bytes
 AppendsFront-whole before after bytes written = record { front = bytes; left = []; split = sym (append-nil bytes); written = written }
 
--- a write of which either outcome appends a front
-pub AppendsFront-either : {T F : Type 0} (r : Result T F) (before after : Option (List ℕ)) (bytes : List ℕ)
-    → OnOk r (Appends before after bytes) → OnErr r (AppendsFront before after bytes) → AppendsFront before after bytes
-AppendsFront-either (Ok x) before after bytes ok err = AppendsFront-whole before after bytes ok
-AppendsFront-either (Err e) before after bytes ok err = err
+-- a front of some bytes is a front of them and more
+AppendsFront-more : (before after : Option (List ℕ)) (bytes more : List ℕ) → AppendsFront before after bytes → AppendsFront before after (bytes ++ more)
+AppendsFront-more before after bytes more wrote = record {
+  front = wrote.front;
+  left = wrote.left ++ more;
+  split = ap (λ l. l ++ more) wrote.split ∙ append_assoc wrote.front wrote.left more;
+  written = wrote.written;
+}
+
+-- nothing was written of nothing
+pub Writes-nil : (failed : Bool) (known : Option (List ℕ)) → Writes failed known known []
+Writes-nil false known = Appends-nil known
+Writes-nil true known = record { front = []; left = []; split = refl; written = Appends-nil known }
+
+-- a write of all the bytes, by a device that marks exactly its failures
+pub Writes-by : {T F : Type 0} (r : Result T F) (failed : Bool) (before after : Option (List ℕ)) (bytes : List ℕ)
+    → OnOk r (Appends before after bytes) → OnErr r (AppendsFront before after bytes) → (IsErr r ↔ (failed ≡ true)) → Writes failed before after bytes
+Writes-by (Ok x) false before after bytes ok err marked = ok
+Writes-by (Ok x) true before after bytes ok err marked = AppendsFront-whole before after bytes ok
+Writes-by (Err e) false before after bytes ok err marked = let never : false ≡ true = marked.0 refl in cc
+Writes-by (Err e) true before after bytes ok err marked = err
+
+-- some bytes, and more where the device has not failed over them
+pub Writes-more : (before between after : Option (List ℕ)) (bytes more : List ℕ) (failed : Bool)
+    → Appends before between bytes → Writes failed between after more → Writes failed before after (bytes ++ more)
+Writes-more before between after bytes more false first rest = Appends-trans before between after bytes more first rest
+Writes-more before between after bytes more true first rest = record {
+  front = bytes ++ rest.front;
+  left = rest.left;
+  split = ap (λ l. bytes ++ l) rest.split ∙ sym (append_assoc bytes rest.front rest.left);
+  written = Appends-trans before between after bytes rest.front first rest.written;
+}
+
+-- a device that has failed over some bytes takes no more
+pub Writes-stopped : (before after : Option (List ℕ)) (bytes more : List ℕ) (failed : Bool) → failed ≡ true
+    → Writes failed before after bytes → Writes failed before after (bytes ++ more)
+Writes-stopped before after bytes more false e wrote = cc
+Writes-stopped before after bytes more true e wrote = AppendsFront-more before after bytes more wrote
+
+-- a device is unmarked where a mark would be absurd
+pub unmarked : (failed : Bool) → (failed ≡ true → ⊥) → failed ≡ false
+unmarked false never = refl
+unmarked true never = absurd (never refl)
+
+-- what was taken in two turns
+pub TakesAtMost-more : (before between after : Option (List ℕ)) (first more : List ℕ) (limit : ℕ)
+    → Consumes before between first → Consumes between after more → length first + length more ≤ limit → TakesAtMost limit before after
+TakesAtMost-more before between after first more limit took takes few = record {
+  taken = first ++ more;
+  few = omega (arith, length-append first more, few);
+  consumed = Consumes-trans before between after first more took takes;
+}

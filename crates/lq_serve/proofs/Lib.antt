@@ -1,7 +1,8 @@
 mod CsvReading
 mod DeviceLemmas
-mod Loading
+mod LoadingLemmas
+mod MarkLemmas
 mod NameFacts
 mod NamingLemmas
-mod ServingLemmas
-mod StartingLemmas
+mod ScriptRunLemmas
+mod TableFileLemmas

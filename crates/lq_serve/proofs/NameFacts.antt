@@ -7,7 +7,7 @@ use Rattle.std.proofs.lemmas.List.Sums.{AllPass-from_list_all}
 use Rattle.std.proofs.lemmas.Str.{IsUtf8-from_ascii}
 use Rattle.std.proofs.lemmas.Str.Ascii.{IsAscii-from_all}
 use Rattle.lq_model.specs.Tokens.{continues_name, is_name, is_name_kind, kind_of_word, starts_name}
-use Rattle.lq_serve.proofs.Loading.{both}
+use Rattle.lq_serve.proofs.TableFileLemmas.{both}
 
 -- the characters of names are ASCII
 continues_name-ascii : (c : ℕ) → continues_name c ≡ true → c < 128

@@ -3,7 +3,7 @@ use Rattle.std.proofs.Common.{arith, ◌≡◌, ◌≢◌, ◌<◌, ◌-◌, ◌
 use Rattle.std.specs.List.{ends_with}
 use Rattle.std.proofs.lemmas.Bool.Decides.{Decides-eqb, nat_tests}
 use Rattle.std.proofs.lemmas.Slice.Eq.{ends_is}
-use Rattle.lq_serve.specs.Starting.{has_slash, without_ending, without_folders}
+use Rattle.lq_serve.specs.Loading.{has_slash, without_ending, without_folders}
 
 either : (a b : Bool) → b ≡ true → (a || b) ≡ true
 either true b e = refl

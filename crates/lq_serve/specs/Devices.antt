@@ -1,6 +1,6 @@
 -- What a device shows of itself, and what a write that fails midway leaves.
-use Rattle.std.specs.Prelude.{◌≡◌, ◌+◌, ◌-◌, ◌^◌, ◌++◌, ℕ, Bool, List, Option, min}
-use Rattle.std.specs.Io.KnownBytes.{Appends}
+use Rattle.std.specs.Prelude.{◌≡◌, ◌≤◌, ◌+◌, ◌-◌, ◌^◌, ◌++◌, ℕ, Bool, true, false, List, Option, length, min}
+use Rattle.std.specs.Io.KnownBytes.{Appends, Consumes}
 use Rattle.lq_serve.specs.declared.device.Device.{Device}
 
 -- the reader or writer inside
@@ -29,3 +29,14 @@ pub record AppendsFront (before after : Option (List ℕ)) (bytes : List ℕ) : 
   pub left : List ℕ
   pub split : bytes ≡ front ++ left
   pub written : Appends before after front
+
+-- What a device wrote of some bytes: all of them where it hasn't failed, and else a front.
+abbrev pub Writes : Bool → Option (List ℕ) → Option (List ℕ) → List ℕ → Type 0
+Writes false before after bytes = Appends before after bytes
+Writes true before after bytes = AppendsFront before after bytes
+
+-- Of the known bytes a front was taken, and at most so many.
+pub record TakesAtMost (limit : ℕ) (before after : Option (List ℕ)) : Type 0 where
+  pub taken : List ℕ
+  pub few : length taken ≤ limit
+  pub consumed : Consumes before after taken

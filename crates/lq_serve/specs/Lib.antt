@@ -1,6 +1,8 @@
 pub mod CsvRecords
 pub mod Devices
-pub mod Finishing
-pub mod Serving
-pub mod Starting
+pub mod Ending
+pub mod Files
+pub mod Loading
+pub mod MemoryFiles
+pub mod ScriptRun
 pub mod TableFile

@@ -15,6 +15,13 @@ use Rattle.lq_model.specs.Tokens.{is_digit, is_name}
 use Rattle.lq_serve.specs.declared.table_file.LoadError.{LoadError}
 use Rattle.lq_serve.specs.declared.table_file.LoadError.TheVariants.{Memory, Csv, Header, DuplicateName, Cell, TooLarge}
 
+-- the most bytes of a table's file, and the most columns of a table
+abbrev pub table_limit : ℕ
+table_limit = 16777216
+
+abbrev pub column_limit : ℕ
+column_limit = 100
+
 -- the number that digits spell behind those of a value
 abbrev pub decimal : ℕ → List ℕ → Option ℕ
 decimal value [] = Some value
@@ -105,7 +112,7 @@ new_table name columns = record { schema = record { name = name; columns = colum
 -- the table without rows that a header's cells tell of
 abbrev pub table_under : List ℕ → List (List ℕ) → Result Table LoadError
 table_under name header =
-    if nat_lt 100 (length header) then Err TooLarge
+    if nat_lt column_limit (length header) then Err TooLarge
     else and_then (λ columns. Ok (new_table name columns)) (columns_from header [])
 
 -- the table that records mean: the first is the header
@@ -116,7 +123,7 @@ table_of_records name (header ∷ rest) = and_then (with_records rest) (table_un
 -- the table that a file's bytes mean
 unfoldable pub table_of : List ℕ → List ℕ → Result Table LoadError
 table_of name bytes =
-    if nat_lt 16777216 (length bytes) then Err TooLarge
+    if nat_lt table_limit (length bytes) then Err TooLarge
     else table_of_records name (records default_config (without_marks bytes))
 
 -- a fact for an error that isn't memory

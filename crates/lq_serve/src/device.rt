@@ -3,8 +3,8 @@ ghost use Rattle.std.specs.Prelude.{◌≡◌, ◌<◌, ◌↔◌, false, true, 
 ghost use Rattle.std.specs.Io.{ReadsAtMost};
 ghost use Rattle.std.specs.Io.KnownBytes.{ReadConsumes, Appends, Keeps};
 
-use crate::fault::{ReadFailed, WriteFailed};
 use crate::output::write_all;
+use crate::serve_error::{ReadFailed, WriteFailed};
 use std::io::{Read, Write};
 
 /// A std reader or writer with a mark that tells whether it has failed.

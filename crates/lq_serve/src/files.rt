@@ -1,6 +1,6 @@
 //! Files by their names, as whoever loads them sees them.
-ghost use Rattle.std.specs.Prelude.{◌≡◌, List, ℕ, Option, None, Err, take, IfOk, IfSome};
-
+use lq_value::{List, Txt};
+use std::alloc::AllocError;
 use thiserror::Error;
 
 /// Why a file was not read.
@@ -14,16 +14,45 @@ pub enum FileError {
     Read,
 }
 
+impl From<AllocError> for FileError {
+    ghost use Rattle.std.specs.Prelude.{◌≡◌};
+    ghost use Rattle.lq_serve.specs.declared.files.FileError.TheVariants.{Memory};
+
+    ghost from_gives = { λ _ error. error ≡ Memory };
+
+    fn from(_: AllocError) -> FileError {
+        FileError::Memory
+    }
+}
+
+/// A read that was answered.
+#[derive(Drop)]
+pub struct Reading {
+    /// The name of the file.
+    pub file: Txt,
+    /// The most bytes that were asked for.
+    pub limit: u64,
+    /// The file's first bytes, or None where it can't be read.
+    pub gave: Option<List<u8>>,
+}
+
 /// A place where files are found by their names.
 pub trait Files {
-    /// The bytes of the file of a name, where they are known: such a file can be read. A place of
-    /// which nothing is known answers None throughout.
-    ghost holds: { Self → List ℕ → Option (List ℕ) };
+    ghost use Rattle.std.specs.Prelude.{◌≡◌, List, ℕ, Option, IfSome};
+    ghost use Rattle.lq_serve.specs.Files.{Adds, IsAnswer, readings_by};
+    ghost use Rattle.lq_serve.specs.declared.files.Reading.{Reading};
+
+    /// What is known of the file of a name: nothing, that it can't be read (`Some None`), or its
+    /// bytes, and that it can be read. A place of which nothing is known answers None throughout.
+    ghost holds: { Self → List ℕ → Option (Option (List ℕ)) };
+
+    /// The reads that were answered so far, with bytes or with `Read`, where they are known.
+    ghost answered: { Self → Option (List Reading) };
 
     /// The first bytes of the file of this name, at most `limit` of them. Refuses with `Memory`
     /// where they find no room, and with `Read` where the file can't be read.
     fn read(&mut self, name: &str, limit: u64) -> Result<Vec<u8>, FileError>
-        ensures known { result ≡ Err FileError.Read → holds self.old name.now ≡ None }
-        ensures given { IfOk result (λ bytes. IfSome (holds self.old name.now) (λ all. bytes.items ≡ take limit all)) }
+        ensures known { IfSome (holds self.old name.now) (λ there. IsAnswer there limit result) }
+        ensures answer { Adds (answered self.old) (answered self.new) (readings_by name.now limit result) }
         ensures keeps { (n : List ℕ) → holds self.new n ≡ holds self.old n };
 }

@@ -3,25 +3,28 @@
 #![tactic(auto)]
 
 mod device;
-mod fault;
+mod ending;
+mod file_fault;
 mod files;
-mod finishing;
+mod first_session;
+mod loading;
+mod marks;
+mod memory_files;
 mod naming;
-mod opening;
 mod output;
-mod refusal;
-mod script;
-mod serving;
-mod starting;
+mod script_bytes;
+mod script_lines;
+mod script_run;
+mod serve_error;
 mod table_file;
 #[cfg(test)]
 mod tests;
-mod text;
 
 pub use device::Device;
-pub use fault::{ReadFailed, ServeError, WriteFailed};
-pub use files::{FileError, Files};
-pub use finishing::finish;
-pub use serving::{Summary, serve};
-pub use starting::{StartError, load, refuse};
+pub use ending::{finish, refuse};
+pub use files::{FileError, Files, Reading};
+pub use loading::{StartError, load};
+pub use memory_files::MemoryFiles;
+pub use script_run::{Summary, serve};
+pub use serve_error::{ReadFailed, ServeError, WriteFailed};
 pub use table_file::{LoadError, table_from_csv};

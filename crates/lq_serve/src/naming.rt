@@ -1,6 +1,6 @@
 //! The names of tables, by those of their files.
 ghost use Rattle.std.specs.Prelude.{◌≡◌};
-ghost use Rattle.lq_serve.specs.Starting.{table_name, without_ending, without_folders};
+ghost use Rattle.lq_serve.specs.Loading.{table_name, without_ending, without_folders};
 
 // The name of the table that the file of this name holds: without folders, and without the ending
 // `.csv`.

@@ -4,7 +4,7 @@ ghost use Rattle.std.specs.Io.{WritesAtMost};
 ghost use Rattle.std.specs.Io.KnownBytes.{Appends, WriteAppends};
 ghost use Rattle.lq_serve.specs.Devices.{AppendsFront};
 
-use crate::fault::WriteFailed;
+use crate::serve_error::WriteFailed;
 use std::io::Write;
 
 // Writes all the bytes, by as many writes as it takes, and ends at the first that fails: a front of

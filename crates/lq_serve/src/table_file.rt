@@ -7,24 +7,23 @@ ghost use Rattle.lq_serve.specs.TableFile.{Gives, UnlessMemory, is_plain, table_
 
 mod cells;
 mod header;
-mod marks;
 mod number;
 mod reading;
 #[cfg(test)]
 mod tests;
 
+use crate::marks::without_marks;
 use cells::cells_of;
 use csv::{ByteRecord, Reader};
 use header::columns_of;
 use lq_store::{Schema, StoreError, Table};
 use lq_value::Txt;
-use marks::without_marks;
 use reading::{read_record, reader_of};
 use std::alloc::{AllocError, AllocFailed, Global};
 use thiserror::Error;
 
 /// The most bytes that a table's file has.
-const MOST_BYTES: usize = 16_777_216;
+pub(crate) const MOST_BYTES: usize = 16_777_216;
 
 /// The most columns that a table has.
 const MOST_COLUMNS: usize = 100;

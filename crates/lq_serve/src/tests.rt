@@ -1,14 +1,12 @@
 //! Serving over devices that fail, and loading.
-use crate::{Device, ServeError, finish, load, serve};
-use folder::{Folder, names_of};
+use crate::{Device, MemoryFiles, ServeError, finish, load, serve};
 use lq_session::Session;
-use std::alloc::Global;
+use std::alloc::{AllocError, Global};
 use std::io;
 use std::io::{ErrorKind, Read, Write};
 use std::process::Abort;
 use std::test::Fail;
 
-mod folder;
 mod loads;
 
 // A script, and what a session over a table t, with the numbers 1 and 2 in its column c, answers to it.
@@ -24,12 +22,16 @@ const REPLIES: u64 = 4;
 
 fn session(alloc: Global) -> Result<Session, Fail> {
     let names = names_of(alloc, &["t.csv"])?;
-    let mut files = Folder {
-        alloc,
-        files: &[],
-        others: Some(b"c:int\n1\n2\n"),
-    };
+    let mut files = MemoryFiles::new(alloc, &[("t.csv", b"c:int\n1\n2\n")]);
     Ok(load(alloc, names.as_slice(), &mut files)?)
+}
+
+fn names_of(alloc: Global, words: &[&str]) -> Result<Vec<String>, AllocError> {
+    let mut names = Vec::new(alloc);
+    for word in words {
+        names.push(String::from_str(alloc, word)?)?;
+    }
+    Ok(names)
 }
 
 const KINDS: [ErrorKind; 3] = [
@@ -99,6 +101,8 @@ impl Read for Repeated {
 #[derive(Drop)]
 struct Taker {
     taken: Vec<u8>,
+    // Whether the last call was a flush that ended well.
+    flushed: bool,
     calls: u64,
     bad: u64,
     fault: Fault,
@@ -112,6 +116,7 @@ impl Write for Taker {
             Fault::Stalls if self.calls == self.bad => return Ok(0),
             _ => {}
         }
+        self.flushed = false;
         let most = bytes.len().min(5);
         self.taken.extend_from_slice(&bytes[..most])?;
         Ok(most)
@@ -121,7 +126,10 @@ impl Write for Taker {
         self.calls = self.calls.saturating_add(1);
         match self.fault {
             Fault::Errs(kind) if self.calls == self.bad => Err(io::Error::from(kind)),
-            _ => Ok(()),
+            _ => {
+                self.flushed = true;
+                Ok(())
+            }
         }
     }
 }
@@ -129,6 +137,7 @@ impl Write for Taker {
 fn taking(alloc: Global, bad: u64, fault: Fault) -> Taker {
     Taker {
         taken: Vec::new(alloc),
+        flushed: false,
         calls: 0,
         bad,
         fault,
@@ -178,6 +187,7 @@ fn fail_each_call(rt: &impl Abort, alloc: Global, fault: Fault) -> Result<u64, F
                 assert_eq!(rt; summary.lines, LINES);
                 assert_eq!(rt; summary.replies, REPLIES);
                 assert_eq!(rt; sink.taken.as_slice(), OUTPUT);
+                assert!(rt; sink.flushed);
                 return Ok(bad);
             }
             Err(fault) => assert!(rt; matches!(fault, ServeError::Write), "at call {bad}"),
@@ -292,30 +302,52 @@ fn a_fault_ends_with_its_status_and_its_line(rt: HostRuntime) -> Result<(), Fail
         (b"one\n\xFF\n", 0, 0, 4, b"lq: script: utf8\n"),
     ];
     for (text, bad_read, bad_call, status, line) in cases {
-        let mut reader = whole(text);
-        reader.bad = bad_read;
+        let mut pieces = whole(text);
+        pieces.bad = bad_read;
         let mut sink = taking(rt.alloc(), bad_call, Fault::Errs(ErrorKind::Other));
-        let mut errors = taking(rt.alloc(), 0, Fault::Never);
+        let mut told = taking(rt.alloc(), 0, Fault::Never);
+        let mut reader = Device::new(pieces);
+        let mut writer = Device::new(&mut sink);
+        let mut errors = Device::new(&mut told);
         let mut session = session(rt.alloc())?;
-        let ended = finish(rt.alloc(), reader, &mut sink, &mut errors, &mut session);
+        let ended = finish(
+            rt.alloc(),
+            &mut reader,
+            &mut writer,
+            &mut errors,
+            &mut session,
+        );
         assert_eq!(rt; ended, status, "{text:?}");
-        assert_eq!(rt; errors.taken.as_slice(), line, "{text:?}");
+        assert!(rt; !errors.failed(), "{text:?}");
+        assert_eq!(rt; told.taken.as_slice(), line, "{text:?}");
+        if status == 0 {
+            assert_eq!(rt; sink.taken.as_slice(), OUTPUT);
+        }
     }
     Ok(())
 }
 
 #[test]
 fn a_fault_that_nobody_can_be_told_of_keeps_its_status(rt: HostRuntime) -> Result<(), Fail> {
-    let reader = Repeated {
+    let mut reader = Device::new(Repeated {
         byte: b'a',
         left: 65_537,
         piece: 100,
-    };
+    });
     let mut sink = taking(rt.alloc(), 0, Fault::Never);
-    let mut errors = taking(rt.alloc(), 3, Fault::Stalls);
+    let mut told = taking(rt.alloc(), 3, Fault::Stalls);
+    let mut writer = Device::new(&mut sink);
+    let mut errors = Device::new(&mut told);
     let mut session = session(rt.alloc())?;
-    let ended = finish(rt.alloc(), reader, &mut sink, &mut errors, &mut session);
+    let ended = finish(
+        rt.alloc(),
+        &mut reader,
+        &mut writer,
+        &mut errors,
+        &mut session,
+    );
     assert_eq!(rt; ended, 4);
-    assert_eq!(rt; errors.taken.as_slice(), b"lq: script".as_slice());
+    assert!(rt; errors.failed());
+    assert_eq!(rt; told.taken.as_slice(), b"lq: script".as_slice());
     Ok(())
 }

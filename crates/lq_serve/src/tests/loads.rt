@@ -1,7 +1,6 @@
 //! Loading tables, and the lines of what is refused.
-use super::folder::{Folder, names_of};
-use super::{Fault, taking};
-use crate::{StartError, load, refuse};
+use super::{Fault, names_of, taking};
+use crate::{Device, FileError, Files, MemoryFiles, StartError, load, refuse};
 use lq_session::Session;
 use lq_value::Txt;
 use std::alloc::Global;
@@ -19,12 +18,8 @@ const FILES: [(&str, &[u8]); 8] = [
     ("csv/.csv", b"a:int\n"),
 ];
 
-fn folder(alloc: Global) -> Folder<'static> {
-    Folder {
-        alloc,
-        files: &FILES,
-        others: None,
-    }
+fn folder(alloc: Global) -> MemoryFiles<'static> {
+    MemoryFiles::new(alloc, &FILES)
 }
 
 fn assert_reply(rt: &impl Abort, session: &mut Session, line: &str, reply: &str) {
@@ -36,12 +31,13 @@ fn assert_reply(rt: &impl Abort, session: &mut Session, line: &str, reply: &str)
 
 fn assert_refused(
     rt: &impl Abort,
-    files: &mut Folder<'_>,
+    alloc: Global,
+    files: &mut MemoryFiles<'_>,
     words: &[&str],
     line: &str,
 ) -> Result<(), Fail> {
-    let names = names_of(files.alloc, words)?;
-    match load(files.alloc, names.as_slice(), files) {
+    let names = names_of(alloc, words)?;
+    match load(alloc, names.as_slice(), files) {
         Err(StartError::Refused(told)) => {
             assert!(rt; told.as_str() == line, "{line} and not {told:?}");
         }
@@ -80,6 +76,38 @@ fn no_names_give_no_tables(rt: HostRuntime) -> Result<(), Fail> {
 }
 
 #[test]
+fn named_files_are_read_once_up_to_the_first_fault(rt: HostRuntime) -> Result<(), Fail> {
+    let alloc = rt.alloc();
+    let mut files = folder(alloc);
+    let words = ["t.csv", "v", "old/w.csv", "data/old/u.csv"];
+    assert_refused(&rt, alloc, &mut files, &words, "lq: old/w.csv: read")?;
+    assert_refused(&rt, alloc, &mut files, &["1.csv"], "lq: 1.csv: name")?;
+    assert_eq!(rt; files.readings().len(), 3);
+    for (reading, word) in files.readings().iter().zip(words) {
+        assert!(rt; reading.file.as_str() == word);
+        assert_eq!(rt; reading.limit, 16_777_217);
+        assert_eq!(rt; reading.gave.is_none(), word == "old/w.csv");
+    }
+    Ok(())
+}
+
+#[test]
+fn the_first_bytes_of_a_file_are_read(rt: HostRuntime) -> Result<(), Fail> {
+    let mut files = folder(rt.alloc());
+    for (limit, bytes) in [
+        (0, ""),
+        (4, "c:in"),
+        (10, "c:int\n1\n2\n"),
+        (u64::MAX, "c:int\n1\n2\n"),
+    ] {
+        assert_eq!(rt; files.read("t.csv", limit)?.as_slice(), bytes.as_bytes());
+    }
+    assert!(rt; files.read("t", 1).err() == Some(FileError::Read));
+    assert_eq!(rt; files.readings().len(), 5);
+    Ok(())
+}
+
+#[test]
 fn the_first_fault_is_told(rt: HostRuntime) -> Result<(), Fail> {
     let mut files = folder(rt.alloc());
     let cases: [(&[&str], &str); 12] = [
@@ -97,7 +125,7 @@ fn the_first_fault_is_told(rt: HostRuntime) -> Result<(), Fail> {
         (&["1.csv", "u.csv"], "lq: 1.csv: name"),
     ];
     for (words, line) in cases {
-        assert_refused(&rt, &mut files, words, line)?;
+        assert_refused(&rt, rt.alloc(), &mut files, words, line)?;
     }
     Ok(())
 }
@@ -109,32 +137,35 @@ fn columns_are_counted(rt: HostRuntime) -> Result<(), Fail> {
     for column in 0..101u32 {
         header.push_str(format!(in alloc; "c{column}:int,")?.as_str())?;
     }
-    let mut files = Folder {
+    let wide = [("wide.csv", header.as_bytes())];
+    let mut files = MemoryFiles::new(alloc, &wide);
+    assert_refused(
+        &rt,
         alloc,
-        files: &FILES,
-        others: Some(header.as_bytes()),
-    };
-    assert_refused(&rt, &mut files, &["wide.csv"], "lq: wide.csv: too-large")
+        &mut files,
+        &["wide.csv"],
+        "lq: wide.csv: too-large",
+    )
 }
 
 #[test]
 fn tables_are_at_most_64(rt: HostRuntime) -> Result<(), Fail> {
     let alloc = rt.alloc();
-    let mut files = Folder {
-        alloc,
-        files: &FILES,
-        others: Some(b"c:int"),
-    };
     let mut names = Vec::new(alloc);
     for table in 0..65u32 {
         names.push(format!(in alloc; "t{table}")?)?;
     }
+    let mut headers: Vec<(&str, &[u8])> = Vec::new(alloc);
+    for name in &names {
+        headers.push((name.as_str(), b"c:int"))?;
+    }
+    let mut files = MemoryFiles::new(alloc, headers.as_slice());
     match load(alloc, names.as_slice(), &mut files) {
         Err(StartError::Refused(told)) => assert!(rt; told.as_str() == "lq: t64: too-many"),
         _ => panic!(rt; "65 tables were loaded"),
     }
-    names.truncate(64);
-    assert!(rt; load(alloc, names.as_slice(), &mut files).is_ok());
+    let (_, fewer) = names.as_slice().split_last().ok_or("no names")?;
+    assert!(rt; load(alloc, fewer, &mut files).is_ok());
     Ok(())
 }
 
@@ -147,9 +178,11 @@ fn a_refusal_ends_with_its_status_and_its_line(rt: HostRuntime) -> Result<(), Fa
         (&StartError::Memory, 0, 5, "lq: memory\n"),
         (&refused, 2, 3, "lq: a"),
     ] {
-        let mut errors = taking(alloc, bad, Fault::Stalls);
+        let mut told = taking(alloc, bad, Fault::Stalls);
+        let mut errors = Device::new(&mut told);
         assert_eq!(rt; refuse(error, &mut errors), status);
-        assert_eq!(rt; errors.taken.as_slice(), line.as_bytes());
+        assert_eq!(rt; errors.failed(), bad > 0);
+        assert_eq!(rt; told.taken.as_slice(), line.as_bytes());
     }
     Ok(())
 }

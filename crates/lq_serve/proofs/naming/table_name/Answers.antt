@@ -1,5 +1,5 @@
 use Rattle.std.proofs.Common.{ap, ◌∙◌}
-use Rattle.lq_serve.specs.Starting.{table_name, without_ending}
+use Rattle.lq_serve.specs.Loading.{table_name, without_ending}
 use Rattle.lq_serve.proofs.naming.table_name.Goals as goal
 
 pub returns : goal.returns

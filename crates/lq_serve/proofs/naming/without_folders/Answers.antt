@@ -1,6 +1,6 @@
 use Rattle.std.proofs.Common.{Some, None, ap, sym, ◌∙◌, arith, rules}
 use Rattle.std.proofs.lemmas.Str.Pattern.{split_parts}
-use Rattle.lq_serve.specs.Starting.{without_folders}
+use Rattle.lq_serve.specs.Loading.{without_folders}
 use Rattle.lq_serve.proofs.NamingLemmas.{without_folders-none, without_folders-split}
 use Rattle.lq_serve.proofs.naming.without_folders.Goals as goal
 

@@ -1,7 +1,7 @@
 use Rattle.std.proofs.Common.{◌≡◌, length}
 use denote.Text.{Utf8}
 use denote.Shadow.{shadow}
-use Rattle.lq_serve.specs.Starting.{without_folders}
+use Rattle.lq_serve.specs.Loading.{without_folders}
 use Rattle.lq_serve.proofs.naming.without_folders.Given as goal
 
 abbrev pub invariant-loop-folder : goal.invariant-loop-folder

@@ -1,7 +1,7 @@
 use Rattle.std.proofs.Common.{◌≡◌, ◌<◌, ◌^◌, ◌∙◌, rules, arith, sym, length, None}
 use Rattle.csv.specs.Records.{fields_of}
 use Rattle.lq_store.specs.Calls.{refusal_of}
-use Rattle.lq_serve.proofs.Loading.{only_memory, taken}
+use Rattle.lq_serve.proofs.TableFileLemmas.{only_memory, taken}
 use Rattle.lq_serve.proofs.table_file.push_record.Goals as goal
 
 pub memory_of-requires : goal.memory_of-requires

@@ -1,6 +1,6 @@
 use Rattle.std.proofs.Common.{[], arith, refl}
 use Rattle.csv.specs.Records.{fields_of}
-use Rattle.lq_serve.proofs.Loading.{header-keeps_rules, header_of_columns}
+use Rattle.lq_serve.proofs.TableFileLemmas.{header-keeps_rules, header_of_columns}
 use Rattle.lq_serve.proofs.table_file.table_under.Goals as goal
 
 pub new-requires-clause-rules : goal.new-requires-clause-rules

@@ -2,7 +2,7 @@ use Rattle.std.proofs.Common.{◌≡◌, ◌∙◌, sym, rules, Some, None, w32}
 use mir.Val.{of_z, to_z}
 use Rattle.csv.specs.Records.{field_at, fields_of}
 use Rattle.lq_serve.specs.TableFile.{int_of}
-use Rattle.lq_serve.proofs.Loading.{cells-end, cells-next, cells-refused}
+use Rattle.lq_serve.proofs.TableFileLemmas.{cells-end, cells-next, cells-refused}
 use Rattle.lq_serve.proofs.table_file.cells.cells_of.Goals as goal
 
 pub loop-cell-preserved : goal.loop-cell-preserved

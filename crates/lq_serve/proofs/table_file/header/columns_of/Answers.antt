@@ -1,7 +1,7 @@
 use Rattle.std.proofs.Common.{◌≡◌, ◌∙◌, ◌+◌, sym, refl, rules, drop, true, false, Some, None, Err}
 use Rattle.csv.specs.Records.{field_at, fields_of}
 use Rattle.lq_serve.specs.TableFile.{column_of, columns_from, has_name}
-use Rattle.lq_serve.proofs.Loading.{column_found, columns-end, columns-step, no_column, unless-map}
+use Rattle.lq_serve.proofs.TableFileLemmas.{column_found, columns-end, columns-step, no_column, unless-map}
 use Rattle.lq_serve.proofs.table_file.header.columns_of.Goals as goal
 
 pub returns-in_err-column : goal.returns-in_err-column

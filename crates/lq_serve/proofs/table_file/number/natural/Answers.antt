@@ -1,5 +1,5 @@
 use Rattle.std.proofs.Common.{◌∙◌, sym}
-use Rattle.lq_serve.proofs.Loading.{decimal_stops}
+use Rattle.lq_serve.proofs.TableFileLemmas.{decimal_stops}
 use Rattle.lq_serve.proofs.table_file.number.natural.Goals as goal
 
 pub returns-then-value-limit-clause-value : goal.returns-then-value-limit-clause-value

@@ -1,0 +1,80 @@
+-- Lemmas on lines that are stepped in turn while their replies are written.
+use Rattle.std.proofs.Common.{◌≡◌, ◌+◌, ℕ, List, [], ◌∷◌, ◌++◌, Option, refl, sym, ◌∙◌, subst, append_assoc, append-nil, length-append, arith}
+use Rattle.std.specs.Io.KnownBytes.{Appends, Keeps}
+use Rattle.std.proofs.KnownBytes.{Appends-nil, Appends-trans, Appends-kept}
+use Rattle.lq_model.specs.Machine.{State}
+use Rattle.lq_model.specs.Output.{joined}
+use Rattle.lq_model.proofs.OutputLemmas.{Runs-more, joined-more, count_of_replies-more, IsCutOff-more, IsCutOff-whole}
+use Rattle.lq_serve.specs.ScriptRun.{Served, Stopped, Told, ToldInPart}
+use Rattle.lq_serve.specs.declared.script_run.Summary.{Summary}
+
+-- the lines before rest were stepped, and their replies written
+pub record UnderWay (lines rest : List (List ℕ)) (old now : State) (before after : Option (List ℕ)) (summary : Summary) : Type 0 where
+  pub front : List (List ℕ)
+  pub split : lines ≡ front ++ rest
+  pub so_far : Served front old now before after summary
+
+pub UnderWay-start : (lines : List (List ℕ)) (old : State) (before : Option (List ℕ)) → UnderWay lines lines old old before before (record { lines = 0; replies = 0 })
+UnderWay-start lines old before = record {
+  front = [];
+  split = refl;
+  so_far = record { replies = []; run = refl; written = Appends-nil before; lines = refl; count = refl };
+}
+
+pub UnderWay-more : (lines rest : List (List ℕ)) (line : List ℕ) (old now new : State) (before between after : Option (List ℕ)) (summary : Summary) (count : ℕ)
+    → UnderWay lines (line ∷ rest) old now before between summary → Told line now new between after count
+    → UnderWay lines rest old new before after (record { lines = summary.lines + 1; replies = summary.replies + count })
+UnderWay-more lines rest line old now new before between after summary count way told = record {
+  front = way.front ++ line ∷ [];
+  split = way.split ∙ sym (append_assoc way.front (line ∷ []) rest);
+  so_far = record {
+    replies = way.so_far.replies ++ told.reply ∷ [];
+    run = Runs-more old now new way.front way.so_far.replies line told.reply way.so_far.run told.answer;
+    written = subst (Appends before after) (sym (joined-more way.so_far.replies told.reply))
+        (Appends-trans before between after _ _ way.so_far.written told.written);
+    lines = omega (arith, way.so_far.lines, length-append way.front (line ∷ []));
+    count = omega (arith, way.so_far.count, told.counted, count_of_replies-more way.so_far.replies told.reply);
+  };
+}
+
+-- the writer failed over the line's reply
+pub UnderWay-stopped : (lines rest : List (List ℕ)) (line : List ℕ) (old now new : State) (before between after : Option (List ℕ)) (summary : Summary)
+    → UnderWay lines (line ∷ rest) old now before between summary → ToldInPart line now new between after
+    → Stopped lines old new before after
+UnderWay-stopped lines rest line old now new before between after summary way told = record {
+  front = way.front ++ line ∷ [];
+  rest = rest;
+  split = way.split ∙ sym (append_assoc way.front (line ∷ []) rest);
+  replies = way.so_far.replies ++ told.reply ∷ [];
+  run = Runs-more old now new way.front way.so_far.replies line told.reply way.so_far.run told.answer;
+  bytes = joined way.so_far.replies ++ told.written.front;
+  cut = IsCutOff-more way.so_far.replies told.reply told.written.front told.written.left told.written.split;
+  written = Appends-trans before between after _ _ way.so_far.written told.written.written;
+}
+
+-- the writer failed as it was flushed
+pub UnderWay-unflushed : (lines : List (List ℕ)) (old now : State) (before between after : Option (List ℕ)) (summary : Summary)
+    → UnderWay lines [] old now before between summary → Keeps between after → Stopped lines old now before after
+UnderWay-unflushed lines old now before between after summary way kept = record {
+  front = way.front;
+  rest = [];
+  split = way.split;
+  replies = way.so_far.replies;
+  run = way.so_far.run;
+  bytes = joined way.so_far.replies;
+  cut = IsCutOff-whole way.so_far.replies;
+  written = Appends-kept before between after _ way.so_far.written kept;
+}
+
+-- every line was stepped, and the writer flushed
+pub UnderWay-done : (lines : List (List ℕ)) (old now : State) (before between after : Option (List ℕ)) (summary : Summary)
+    → UnderWay lines [] old now before between summary → Keeps between after → Served lines old now before after summary
+UnderWay-done lines old now before between after summary way kept =
+    let all : lines ≡ way.front = way.split ∙ append-nil way.front in
+    subst (λ l. Served l old now before after summary) (sym all) (record {
+      replies = way.so_far.replies;
+      run = way.so_far.run;
+      written = Appends-kept before between after _ way.so_far.written kept;
+      lines = way.so_far.lines;
+      count = way.so_far.count;
+    })

@@ -1,4 +1,0 @@
-use Rattle.lq_serve.proofs.refusal.fault_text.Goals as goal
-
-pub returns-in-Cell : goal.returns-in-Cell
-returns-in-Cell c = rw c.in-Cell.is c.format.ensures.ok

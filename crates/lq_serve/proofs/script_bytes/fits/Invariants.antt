@@ -1,0 +1,7 @@
+use Rattle.std.proofs.Common.{◌≡◌, drop}
+use Rattle.lq_model.specs.Script.{fits}
+use Rattle.lq_model.proofs.ScriptLemmas.{fits_from}
+use Rattle.lq_serve.proofs.script_bytes.fits.Given as goal
+
+abbrev pub invariant-loop-byte : goal.invariant-loop-byte
+invariant-loop-byte l = fits_from l.room l.limit (drop l.byte-index l.bytes) ≡ fits l.limit l.bytes

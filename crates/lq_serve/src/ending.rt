@@ -1,0 +1,107 @@
+//! Ending: the status for the caller of the program, and the line that tells of a fault.
+ghost use Rattle.std.specs.Prelude.{◌≡◌, false};
+ghost use Rattle.lq_session.specs.States.{state_of};
+ghost use Rattle.lq_serve.specs.Devices.{inner_of, is_failed, is_ended, Writes};
+ghost use Rattle.lq_serve.specs.Ending.{as_line, status_of, told_of, Finished};
+
+use crate::device::Device;
+use crate::loading::StartError;
+use crate::script_run::serve;
+use crate::serve_error::ServeError;
+use lq_session::Session;
+use std::alloc::Global;
+use std::io::{Read, Write};
+
+// The status for a file that was refused.
+const FILE_FAULT: u8 = 3;
+
+// The status for a fault of the script or of a device.
+const SCRIPT_FAULT: u8 = 4;
+
+// The status for want of memory.
+const NO_MEMORY: u8 = 5;
+
+/// Serves a script from a reader to a writer, tells of a fault by one line to `errors`, and returns
+/// the program's status: 0, 4 for a fault of the script or of a device, and 5 for want of memory.
+///
+/// Behind the replies nothing is written. The line is written whole, unless `errors` fails: it is
+/// then marked, and holds a front of the line.
+pub fn finish<R: Read, W: Write, E: Write>(
+    alloc: Global,
+    reader: &mut Device<R>,
+    writer: &mut Device<W>,
+    errors: &mut Device<E>,
+    session: &mut Session,
+) -> u8
+    requires reader { is_failed reader.old ≡ false }
+    requires open { is_ended reader.old ≡ false }
+    requires writer { is_failed writer.old ≡ false }
+    requires errors { is_failed errors.old ≡ false }
+    ensures { Finished (R.remaining (inner_of reader.old)) (state_of session.old) (state_of session.new)
+        (W.contents (inner_of writer.old)) (W.contents (inner_of writer.new)) (is_failed reader.new) (is_failed writer.new)
+        (E.contents (inner_of errors.old)) (E.contents (inner_of errors.new)) (is_failed errors.new) result }
+{
+    match serve(alloc, reader, writer, session) {
+        Ok(_) => 0,
+        Err(ServeError::Read) => {
+            tell(errors, b"lq: script: read\n");
+            SCRIPT_FAULT
+        }
+        Err(ServeError::Write) => {
+            tell(errors, b"lq: script: write\n");
+            SCRIPT_FAULT
+        }
+        Err(ServeError::TooLong) => {
+            tell(errors, b"lq: script: too-long\n");
+            SCRIPT_FAULT
+        }
+        Err(ServeError::Utf8) => {
+            tell(errors, b"lq: script: utf8\n");
+            SCRIPT_FAULT
+        }
+        Err(ServeError::Memory) => {
+            tell(errors, b"lq: memory\n");
+            NO_MEMORY
+        }
+    }
+}
+
+/// Tells of the error by one line to `errors`, and answers the program's status: 5 for want of
+/// memory, and 3 for a file that was refused.
+///
+/// The line is written whole, unless `errors` fails: it is then marked, and holds a front of the line.
+pub fn refuse<E: Write>(error: &StartError, errors: &mut Device<E>) -> u8
+    requires { is_failed errors.old ≡ false }
+    ensures line { Writes (is_failed errors.new) (E.contents (inner_of errors.old)) (E.contents (inner_of errors.new)) (told_of error.now) }
+    ensures status { result ≡ status_of error.now }
+{
+    match error {
+        StartError::Memory => {
+            tell(errors, b"lq: memory\n");
+            NO_MEMORY
+        }
+        StartError::Refused(line) => {
+            tell_line(errors, line.as_bytes());
+            FILE_FAULT
+        }
+    }
+}
+
+// Writes the line and its line feed, as far as they can be written.
+fn tell_line<E: Write>(errors: &mut Device<E>, line: &[u8])
+    requires { is_failed errors.old ≡ false }
+    ensures { Writes (is_failed errors.new) (E.contents (inner_of errors.old)) (E.contents (inner_of errors.new)) (as_line line.now) }
+{
+    tell(errors, line);
+    if !errors.failed() {
+        tell(errors, b"\n");
+    }
+}
+
+// Writes as much of the line as can be written: nobody is left to be told of a failure here.
+fn tell<E: Write>(errors: &mut Device<E>, line: &[u8])
+    requires { is_failed errors.old ≡ false }
+    ensures { Writes (is_failed errors.new) (E.contents (inner_of errors.old)) (E.contents (inner_of errors.new)) line.now }
+{
+    let _ = errors.write_all(line);
+}
