@@ -1,0 +1,157 @@
+"""Tries the wrong bodies of a crate in rounds: each round is one check of a copy with one edit in each function."""
+
+import os
+import shutil
+import subprocess
+import tempfile
+
+from answers import Answer
+
+PARTS = ("src", "specs", "proofs")
+
+
+def linked(source, target):
+    """Links a file of kept work, which a check replaces and never writes into; where no link can be made it is copied."""
+    try:
+        os.link(source, target)
+    except OSError:
+        shutil.copy2(source, target)
+
+
+def copied(source, target, copy=shutil.copy2):
+    if os.path.isdir(source):
+        shutil.copytree(source, target, copy_function=copy)
+
+
+class Copy:
+    """A copy of a crate, with the libraries below it and all that earlier checks kept."""
+
+    def __init__(self, crate, below, room):
+        self.crate, self.room, self.folder = crate, room, f"{room}/crates/{crate.name}"
+        self.seconds = 0.0
+        # A list of the crates alone that the check needs.
+        with open(f"{crate.root}/crates.txt", encoding="utf-8") as lines:
+            wanted = [it for it in lines if it.split(":")[0].split(" ")[0] in (crate.name, *below)]
+        with open(f"{room}/crates.txt", "w", encoding="utf-8") as lines:
+            lines.writelines(wanted)
+        for name in below:
+            self.fill(f"{crate.root}/crates/{name}", f"{room}/crates/{name}", "rlib")
+
+    def fill(self, source, target, *kept):
+        for part in PARTS:
+            copied(f"{source}/{part}", f"{target}/{part}")
+        for part in kept:
+            copied(f"{source}/out/{part}", f"{target}/out/{part}", linked)
+
+    def check(self, edits, *flags):
+        """What the check says of a fresh copy with these edits."""
+        shutil.rmtree(self.folder, ignore_errors=True)
+        self.fill(self.crate.folder, self.folder, "incremental")
+        for edit in edits:
+            for path, changed in edit.changes.items():
+                self.write(path, changed)
+        words = ["rt", "check", "--jobs", "1", *flags]
+        with tempfile.TemporaryFile("w+", errors="replace", dir=self.room) as said:
+            ran = subprocess.Popen(words, cwd=self.folder, stdin=subprocess.DEVNULL, stdout=said, stderr=subprocess.STDOUT)
+            _, status, used = os.wait4(ran.pid, 0)
+            ran.returncode = os.waitstatus_to_exitcode(status)
+            said.seek(0)
+            self.seconds += used.ru_utime + used.ru_stime
+            return Answer(said.read())
+
+    def write(self, path, changed):
+        with open(f"{self.folder}/{path}", encoding="utf-8") as text:
+            lines = text.read().split("\n")
+        for at, line in changed.items():
+            lines[at - 1] = line
+        with open(f"{self.folder}/{path}", "w", encoding="utf-8") as text:
+            text.write("\n".join(lines))
+
+
+class Rounds:
+    """The rounds of one crate. `results` has of each edit that was tried whether it was refused, and why or why not."""
+
+    def __init__(self, copy, edits, logs=None):
+        self.copy, self.logs, self.results, self.count = copy, logs, {}, 0
+        for edit in edits:
+            if edit.problem:
+                self.results[edit.label] = (False, f"cannot be applied: {edit.problem}")
+        self.pending = [it for it in edits if not it.problem]
+
+    def run(self):
+        while self.pending:
+            self.try_together(self.next_round())
+
+    def next_round(self):
+        chosen = []
+        for edit in sorted(self.pending, key=lambda it: it.is_alone):
+            if not chosen or edit.can_join(chosen):
+                chosen.append(edit)
+        return chosen
+
+    def try_together(self, edits):
+        answer = self.copy.check(edits)
+        if not answer.has_verdict or answer.refused_early:
+            return self.blame(edits, answer)
+        self.count += 1
+        self.log(answer)
+        decided = [it for it in edits if self.judge(it, answer)]
+        if not decided:
+            self.settle_one(edits)
+
+    def settle_one(self, edits):
+        """Where every edit waits for what its function calls, one is tried by itself, and its answer stands."""
+        if len(edits) > 1:
+            return self.try_together(edits[:1])
+        self.decide(edits[0], False, f"only what it calls is not proved: {edits[0].own.name} has no failure of its own")
+
+    def judge(self, edit, answer):
+        """Decides on an edit that the check tells of."""
+        if edit.own is None:
+            return self.judge_specs(edit, answer)
+        failure = answer.own_failure(edit.own)
+        if failure:
+            return self.decide(edit, True, f"{edit.own.name}: {failure}")
+        if answer.is_proved(edit.own):
+            return self.decide(edit, False, f"{edit.own.name} is still proved")
+        if answer.waits(edit.own):
+            return False
+        return self.decide(edit, False, f"{edit.own.name}: {answer.other_reason(edit.own)}")
+
+    def judge_specs(self, edit, answer):
+        """An edit of a definition is refused where some proof fails by more than a missing name."""
+        if answer.last.startswith("logic=proved") or not answer.failures:
+            return self.decide(edit, False, "everything is still proved")
+        failed, error = ", ".join([*answer.failures][:3]), answer.open_error()
+        if not error:
+            return self.decide(edit, False, f"{failed}: only names that the edit took away are missing")
+        return self.decide(edit, True, f"{failed}: {error}")
+
+    def decide(self, edit, is_refused, why):
+        self.results[edit.label] = (is_refused, why)
+        self.pending.remove(edit)
+        return True
+
+    def blame(self, edits, answer):
+        """Takes out the edits that the checker cannot read: those whose lines it names, or else each that it cannot read alone."""
+        errors = [it for it in answer.errors if it[0].startswith(("src/", "specs/"))]
+        for path, line, text in errors:
+            for edit in [it for it in edits if line in it.lines_around(path) and it in self.pending]:
+                self.decide(edit, False, f"the checker cannot read it: {path}:{line}: {text[:120]}")
+        if all(it in self.pending for it in edits):
+            self.blame_alone(edits)
+
+    def blame_alone(self, edits):
+        before = len(self.pending)
+        for edit in edits:
+            answer = self.copy.check([edit], "--only", "")
+            if answer.refused_early or not answer.last.startswith("only="):
+                first = answer.text.strip().split("\n")[0]
+                self.decide(edit, False, f"the checker cannot read it: {first[:160]}")
+        if len(self.pending) == before:
+            self.decide(edits[0], False, f"the check gave no verdict: {answer.last[:160]}")
+
+    def log(self, answer):
+        if self.logs:
+            with open(f"{self.logs}/{self.copy.crate.name}.{self.count}", "w", encoding="utf-8") as to:
+                to.write(answer.text)
