@@ -2,6 +2,7 @@
 
 import os
 import shutil
+import signal
 import subprocess
 import tempfile
 
@@ -55,6 +56,8 @@ class Copy:
             ran = subprocess.Popen(words, cwd=self.folder, stdin=subprocess.DEVNULL, stdout=said, stderr=subprocess.STDOUT)
             _, status, used = os.wait4(ran.pid, 0)
             ran.returncode = os.waitstatus_to_exitcode(status)
+            if ran.returncode in (-signal.SIGINT, -signal.SIGTERM):
+                raise KeyboardInterrupt
             said.seek(0)
             self.seconds += used.ru_utime + used.ru_stime
             return Answer(said.read())
@@ -95,9 +98,17 @@ class Rounds:
             return self.blame(edits, answer)
         self.count += 1
         self.log(answer)
+        if len(edits) > 1 and self.reaches_others(edits, answer):
+            return self.try_together(edits[:1])
         decided = [it for it in edits if self.judge(it, answer)]
         if not decided:
             self.settle_one(edits)
+
+    def reaches_others(self, edits, answer):
+        """Whether a function that none of the edits changes has a failure of its own: then the edits are not apart."""
+        changed = {it for edit in edits for it in edit.touched}
+        others = [it for it in self.copy.crate.all_functions() if not {it.name, it.cycle} & changed]
+        return any(answer.own_failure(it) for it in others)
 
     def settle_one(self, edits):
         """Where every edit waits for what its function calls, one is tried by itself, and its answer stands."""
@@ -107,7 +118,7 @@ class Rounds:
 
     def judge(self, edit, answer):
         """Decides on an edit that the check tells of."""
-        if edit.own is None:
+        if edit.is_of_specs():
             return self.judge_specs(edit, answer)
         failure = answer.own_failure(edit.own)
         if failure:
@@ -119,13 +130,14 @@ class Rounds:
         return self.decide(edit, False, f"{edit.own.name}: {answer.other_reason(edit.own)}")
 
     def judge_specs(self, edit, answer):
-        """An edit of a definition is refused where some proof fails by more than a missing name."""
-        if answer.last.startswith("logic=proved") or not answer.failures:
-            return self.decide(edit, False, "everything is still proved")
-        failed, error = ", ".join([*answer.failures][:3]), answer.open_error()
+        """An edit of a definition is refused where some function's proof fails by more than a missing name."""
+        failed, error = [*answer.failures], answer.open_error()
+        if not failed or edit.own and edit.own.name not in failed:
+            return self.decide(edit, False, f"{edit.own.name if edit.own else 'every function'} is still proved")
+        named = edit.own.name if edit.own else ", ".join(failed[:3])
         if not error:
-            return self.decide(edit, False, f"{failed}: only names that the edit took away are missing")
-        return self.decide(edit, True, f"{failed}: {error}")
+            return self.decide(edit, False, f"{named}: only names that the edit took away are missing")
+        return self.decide(edit, True, f"{named}: {error}")
 
     def decide(self, edit, is_refused, why):
         self.results[edit.label] = (is_refused, why)
@@ -144,12 +156,15 @@ class Rounds:
     def blame_alone(self, edits):
         before = len(self.pending)
         for edit in edits:
-            answer = self.copy.check([edit], "--only", "")
-            if answer.refused_early or not answer.last.startswith("only="):
-                first = answer.text.strip().split("\n")[0]
+            alone = self.copy.check([edit], "--only", "")
+            if alone.refused_early or not alone.last.startswith("only="):
+                first = alone.text.strip().split("\n")[0]
                 self.decide(edit, False, f"the checker cannot read it: {first[:160]}")
-        if len(self.pending) == before:
-            self.decide(edits[0], False, f"the check gave no verdict: {answer.last[:160]}")
+        if len(self.pending) < before:
+            return
+        if len(edits) > 1:
+            return self.try_together(edits[:1])
+        self.decide(edits[0], False, f"the check gave no verdict: {answer.last[:160]}")
 
     def log(self, answer):
         if self.logs:
