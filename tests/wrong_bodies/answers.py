@@ -9,6 +9,9 @@ ERROR = re.compile(r"(?:\./)?(\S+?):(\d+):(\d+): error(?:\[[^]]*\])?: (.*)")
 # A proof that names what an edit took away, or that rests on such a one, tells nothing of the contract.
 ONLY_A_NAME = re.compile(r"is not in scope|has no field|has no `|is no name|which was (not admitted|rejected)|was not admitted")
 
+# An error there is of the text and not of a proof.
+SOURCES = ("src/", "specs/")
+
 
 class Failure:
     """Why a function has no proof, less what it calls."""
@@ -30,7 +33,7 @@ class Answer:
             self.read(line, goals)
         self.last = text.rstrip("\n").split("\n")[-1]
         self.has_verdict = bool(re.search(r"^logic=(not-)?proved\b", text, re.M))
-        self.refused_early = next((it for it in self.errors if it[0].startswith(("src/", "specs/"))), None)
+        self.refused_early = next((it for it in self.errors if it[0].startswith(SOURCES)), None)
 
     def read(self, line, goals):
         """Reads a line; `goals` has the open goals that stand above the line of their function."""

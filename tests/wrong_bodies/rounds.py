@@ -6,7 +6,7 @@ import signal
 import subprocess
 import tempfile
 
-from answers import Answer
+from answers import SOURCES, Answer, told
 
 PARTS = ("src", "specs", "proofs")
 
@@ -22,6 +22,13 @@ def linked(source, target):
 def copied(source, target, copy=shutil.copy2):
     if os.path.isdir(source):
         shutil.copytree(source, target, copy_function=copy)
+
+
+def no_verdict(answer):
+    """Why a check did not come to judge an edit."""
+    if answer.refused_early:
+        return f"the checker cannot read it: {told(answer.refused_early)}"
+    return f"the check gave no verdict: {answer.last[:160]}"
 
 
 class Copy:
@@ -145,26 +152,23 @@ class Rounds:
         return True
 
     def blame(self, edits, answer):
-        """Takes out the edits that the checker cannot read: those whose lines it names, or else each that it cannot read alone."""
-        errors = [it for it in answer.errors if it[0].startswith(("src/", "specs/"))]
-        for path, line, text in errors:
-            for edit in [it for it in edits if line in it.lines_around(path) and it in self.pending]:
-                self.decide(edit, False, f"the checker cannot read it: {path}:{line}: {text[:120]}")
-        if all(it in self.pending for it in edits):
-            self.blame_alone(edits)
+        """Takes out the edits that the checker cannot read: it reads each alone, first those whose lines it names."""
+        if len(edits) == 1:
+            return self.decide(edits[0], False, no_verdict(answer))
+        errors = [it for it in answer.errors if it[0].startswith(SOURCES)]
+        named = [it for it in edits if any(line in it.lines_around(path) for path, line, _ in errors)]
+        rest = [it for it in edits if it not in named]
+        if not self.read_alone(named) and not self.read_alone(rest):
+            self.try_together(edits[:1])
 
-    def blame_alone(self, edits):
+    def read_alone(self, edits):
+        """Whether the checker cannot read one of these, which are then decided on."""
         before = len(self.pending)
         for edit in edits:
-            alone = self.copy.check([edit], "--only", "")
-            if alone.refused_early or not alone.last.startswith("only="):
-                first = alone.text.strip().split("\n")[0]
-                self.decide(edit, False, f"the checker cannot read it: {first[:160]}")
-        if len(self.pending) < before:
-            return
-        if len(edits) > 1:
-            return self.try_together(edits[:1])
-        self.decide(edits[0], False, f"the check gave no verdict: {answer.last[:160]}")
+            answer = self.copy.check([edit], "--only", "")
+            if answer.refused_early or not answer.last.startswith("only="):
+                self.decide(edit, False, no_verdict(answer))
+        return len(self.pending) < before
 
     def log(self, answer):
         if self.logs:
