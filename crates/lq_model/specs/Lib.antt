@@ -10,7 +10,9 @@ pub mod Script
 pub mod Served
 pub mod SessionLaws
 pub mod Stream
+pub mod TextLiterals
 pub mod Tokens
 pub mod Typing
 pub mod TypingLaws
 pub mod Visible
+pub mod Words
