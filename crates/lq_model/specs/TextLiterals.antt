@@ -75,10 +75,14 @@ abbrev pub spelled_before : Option ℕ → List ℕ → List ℕ
 spelled_before None others = others
 spelled_before (Some c) others = c ∷ others
 
+-- the step at a character that does not close the literal
+abbrev pub step_inside : Place → ℕ → Option Step
+step_inside place c = if closes place c then None else step place c
+
 -- the characters that a literal spells from here on
 abbrev pub spelled_from : Place → List ℕ → List ℕ
 spelled_from place [] = []
-spelled_from place (c ∷ cs) = if closes place c then [] else option_map_or (λ s. spelled_before s.1 (spelled_from s.0 cs)) (step place c) []
+spelled_from place (c ∷ cs) = option_map_or (λ s. spelled_before s.1 (spelled_from s.0 cs)) (step_inside place c) []
 
 -- the text, in UTF-8, that a text literal spells, of which these are the bytes with both quotes
 unfoldable pub text_value : List ℕ → List ℕ
