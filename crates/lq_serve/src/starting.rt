@@ -11,9 +11,9 @@ use crate::opening::open_session;
 use crate::output::write_all;
 use crate::refusal::{FileFault, fault_line};
 use crate::table_file::table_from_csv;
+use lq_lex::is_name;
 use lq_session::Session;
 use lq_store::{Store, Table};
-use lq_syntax::is_name;
 use lq_value::Txt;
 use std::alloc::{AllocError, Global};
 use std::io::Write;
@@ -109,7 +109,7 @@ fn read_table<F: Files>(alloc: Global, file: &str, files: &mut F) -> Result<Tabl
     ensures keeps { (n : List ℕ) → F.holds files.new n ≡ F.holds files.old n }
 {
     let name = table_name(file);
-    if !is_name(name.as_bytes()) {
+    if !is_name(name) {
         return Err(FileFault::Name);
     }
     let bytes = read_file(file, files)?;
