@@ -1,19 +1,15 @@
 -- What the scan for a token tells of the tokens.
 use Rattle.std.proofs.Common.{◌≡◌, ℕ, suc, ◌+◌, ◌≤◌, Bool, true, false, List, [], ◌∷◌, refl, ap, sym, ◌∙◌, arith, not, take, drop, length, get_or}
-use Rattle.std.specs.Prelude.{Option, Some, None, option_and_then, option_map, ◌==◌, is_some, sum_by, if◌then◌else◌, nat_lt, ◌<◌, ◌↔◌}
+use Rattle.std.specs.Prelude.{Option, Some, None, option_and_then, option_map, ◌==◌, sum_by, nat_lt, ◌<◌, ◌↔◌}
 use Rattle.std.specs.List.{prefix_len}
 use Rattle.std.specs.Option.{option_map_or}
 use Rattle.std.proofs.lemmas.List.{at_drop_more, at_drop_all}
 use Rattle.std.specs.Str.{chars}
 use Rattle.std.specs.Char.{len_utf8}
 use Rattle.std.proofs.lemmas.Bool.{eqb-true, le-ltb, lt-ltb}
-use Rattle.std.proofs.lemmas.Option.{some_pair_parts}
+use Rattle.lq_model.proofs.Pieces.{IsTokenPiece, by_cases, other_is_token, other_piece, piece_is_other}
 use Rattle.lq_model.specs.Script.{line_limit}
-use Rattle.lq_model.specs.Tokens.{Piece, piece, tokens_from, tokens_in, tokens_of, is_too_long, with_piece, is_blank, is_digit, word, integer, text, short_sign, sign, head_of}
-use Rattle.lq_model.specs.TextLiterals.{length_from, plain}
-use Rattle.lq_model.specs.Words.{starts_name}
-use Rattle.lq_model.specs.declared.token.Kind.{Kind}
-use Rattle.lq_model.specs.declared.token.Kind.TheVariants as k
+use Rattle.lq_model.specs.Tokens.{Piece, piece, tokens_from, tokens_in, tokens_of, is_too_long, with_piece, is_blank}
 use Rattle.lq_model.specs.declared.token.Token.{Token}
 use Rattle.lq_lex.specs.Blank.{step, is_closed, has_no_token}
 use Rattle.lq_lex.specs.declared.blank.Scan.{Scan}
@@ -31,10 +27,6 @@ left scan.Between place cs = tokens_from 0 place cs
 left scan.Slash place cs = tokens_from 0 place (47 ∷ cs)
 left scan.Comment place cs = tokens_from (prefix_len (λ c. not (c == 10)) cs) place cs
 
--- a piece, if it is one, is a token
-abbrev IsTokenPiece : Option Piece → Type 0
-IsTokenPiece found = (p : Piece) → found ≡ Some p → is_some p.0 ≡ true
-
 token_met : (found : Option Piece) (end : Piece → ℕ) (behind : Piece → Option (List Token)) (place : ℕ) → IsTokenPiece found
     → is_nothing (option_and_then (λ p. with_piece p.0 place (end p) (behind p)) found) ≡ false
 token_met None end behind place is = refl
@@ -45,80 +37,14 @@ token_met (Some (Some kind, more)) end behind place is =
     let by : (o : Option (List Token)) → Case o = elim [ None ↦ refl | Some ts ↦ refl ] in
     by (behind (Some kind, more))
 
-some_token : (kind : Kind) (more : ℕ) → IsTokenPiece (Some (Some kind, more))
-some_token kind more p e = let is : p.0 ≡ Some kind = sym (some_pair_parts (Some kind) p.0 more p.1 e).0 in rw is refl
-
-no_token : IsTokenPiece None
-no_token p e = absurd (cc)
-
-either : (b : Bool) (x y : Option Piece) → IsTokenPiece x → IsTokenPiece y → IsTokenPiece (if b then x else y)
-either true x y left right = left
-either false x y left right = right
-
-word_is_token : (c : ℕ) (cs : List ℕ) → IsTokenPiece (word c cs)
-word_is_token c cs = some_token _ _
-
-integer_is_token : (c : ℕ) (cs : List ℕ) → IsTokenPiece (integer c cs)
-integer_is_token c cs = either _ _ _ (some_token _ _) no_token
-
-text_is_token : (cs : List ℕ) → IsTokenPiece (text cs)
-text_is_token cs = by (length_from plain cs)
-  where
-    by : (o : Option ℕ) → IsTokenPiece (option_map (λ more. (Some k.Text, more)) o)
-    by None = no_token
-    by (Some more) = some_token k.Text more
-
-short_sign_is_token : (c : ℕ) → IsTokenPiece (short_sign c)
-short_sign_is_token c =
-    either (c == 40) _ _ (some_token _ _)
-    (either (c == 41) _ _ (some_token _ _)
-    (either (c == 123) _ _ (some_token _ _)
-    (either (c == 125) _ _ (some_token _ _)
-    (either (c == 46) _ _ (some_token _ _)
-    (either (c == 44) _ _ (some_token _ _)
-    (either (c == 59) _ _ (some_token _ _)
-    (either (c == 58) _ _ (some_token _ _)
-    (either (c == 45) _ _ (some_token _ _)
-    (either (c == 43) _ _ (some_token _ _)
-    (either (c == 42) _ _ (some_token _ _)
-    (either (c == 47) _ _ (some_token _ _)
-    (either (c == 37) _ _ (some_token _ _) no_token))))))))))))
-
-sign_is_token : (c d : ℕ) → IsTokenPiece (sign c d)
-sign_is_token c d =
-    either (c == 61) _ _ (either (d == 62) _ _ (some_token _ _) (either (d == 61) _ _ (some_token _ _) (some_token _ _)))
-    (either (c == 63) _ _ (either (d == 63) _ _ (some_token _ _) (some_token _ _))
-    (either (c == 33) _ _ (either (d == 61) _ _ (some_token _ _) (some_token _ _))
-    (either (c == 60) _ _ (either (d == 61) _ _ (some_token _ _) (some_token _ _))
-    (either (c == 62) _ _ (either (d == 61) _ _ (some_token _ _) (some_token _ _))
-    (either (c == 38) _ _ (either (d == 38) _ _ (some_token _ _) no_token)
-    (either (c == 124) _ _ (either (d == 124) _ _ (some_token _ _) no_token) (short_sign_is_token c)))))))
-
--- a piece that is neither blank nor a comment
-abbrev other_piece : ℕ → List ℕ → Option Piece
-other_piece c cs = if starts_name c then word c cs else if is_digit c then integer c cs else if c == 34 then text cs else sign c (head_of cs)
-
-other_is_token : (c : ℕ) (cs : List ℕ) → IsTokenPiece (other_piece c cs)
-other_is_token c cs =
-    either (starts_name c) _ _ (word_is_token c cs)
-    (either (is_digit c) _ _ (integer_is_token c cs) (either (c == 34) _ _ (text_is_token cs) (sign_is_token c (head_of cs))))
-
 other_met : (c : ℕ) (cs : List ℕ) (place : ℕ)
     → is_nothing (option_and_then (λ p. with_piece p.0 place (place + sum_by len_utf8 (c ∷ take p.1 cs)) (tokens_from p.1 (place + len_utf8 c) cs)) (other_piece c cs)) ≡ false
 other_met c cs place =
     token_met (other_piece c cs) (λ p. place + sum_by len_utf8 (c ∷ take p.1 cs)) (λ p. tokens_from p.1 (place + len_utf8 c) cs) place (other_is_token c cs)
 
-piece_is_other : (c : ℕ) (cs : List ℕ) → is_blank c ≡ false → (c == 47) ≡ false → piece c cs ≡ other_piece c cs
-unfolding piece
-piece_is_other c cs blank slash = rw (blank, slash) refl
-
 piece_met : (c : ℕ) (cs : List ℕ) (place : ℕ) → is_blank c ≡ false → (c == 47) ≡ false → is_nothing (tokens_from 0 place (c ∷ cs)) ≡ false
 unfolding tokens_from
 piece_met c cs place blank slash = rw (piece_is_other c cs blank slash) (other_met c cs place)
-
-by_cases : {P : Type 0} (b : Bool) → (b ≡ true → P) → (b ≡ false → P) → P
-by_cases true f g = f refl
-by_cases false f g = g refl
 
 scan_tells : (at : Scan) (cs : List ℕ) (place : ℕ) → is_nothing (left at place cs) ≡ has_no_token at cs
 unfolding tokens_from piece

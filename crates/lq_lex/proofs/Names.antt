@@ -8,18 +8,11 @@ use Rattle.std.proofs.lemmas.List.{at_drop_more, at_drop_all}
 use Rattle.std.proofs.lemmas.Slice.Eq.{bytes_eq-Decides}
 use Rattle.std.proofs.lemmas.Str.{encodes-chars, is_utf8-from_IsUtf8}
 use lib.Utf8.{encode}
+use Rattle.lq_model.proofs.Pieces.{both_left, both_right}
 use Rattle.lq_model.specs.Tokens.{is_name, is_name_kind, spells_name}
 use Rattle.lq_model.specs.Words.{kind_among, kind_of_word, reserved_words, starts_name, continues_name}
 use Rattle.lq_model.specs.declared.token.Kind.{Kind}
 use Rattle.lq_lex.specs.Letters.{is_among, is_word_from}
-
-both_left : (a b : Bool) → (a && b) ≡ true → a ≡ true
-both_left true b e = refl
-both_left false b e = e
-
-both_right : (a b : Bool) → (a && b) ≡ true → b ≡ true
-both_right true b e = e
-both_right false b e = absurd (cc)
 
 -- ---- reserved words
 

@@ -1,28 +1,11 @@
 -- One turn of the loops over the characters of a text literal.
-use Rattle.std.proofs.Common.{◌≡◌, ℕ, suc, ◌+◌, ◌≤◌, ◌<◌, Bool, true, false, List, [], ◌∷◌, ◌++◌, length, get_or, drop, refl, ap, sym, ◌∙◌, append_assoc, append-nil, arith, cond}
-use Rattle.std.specs.Prelude.{Option, Some, None, option_and_then, option_map}
+use Rattle.std.proofs.Common.{◌≡◌, ℕ, suc, ◌+◌, ◌≤◌, ◌<◌, true, false, List, [], ◌∷◌, ◌++◌, length, get_or, drop, refl, ap, sym, ◌∙◌, append_assoc, append-nil, arith}
+use Rattle.std.specs.Prelude.{Option, Some, None, option_map}
 use Rattle.std.specs.Option.{option_map_or}
 use Rattle.std.specs.Str.{encode_utf8_all}
 use Rattle.std.specs.Char.{encode_utf8}
 use Rattle.std.proofs.lemmas.List.{at_drop_more, at_drop_all}
 use Rattle.lq_model.specs.TextLiterals.{Place, Step, closes, step, step_inside, length_from, spelled_before, spelled_from}
-
--- ---- how far a literal goes
-
-suc_within : (o : Option ℕ) (limit n : ℕ) → ((m : ℕ) → o ≡ Some m → m ≤ limit) → option_map suc o ≡ Some n → n ≤ suc limit
-suc_within None limit n within e = absurd (cc)
-suc_within (Some m) limit n within e = let is : suc m ≡ n = cc in omega (arith, within m refl)
-
--- a literal ends within its text
-pub length_within : (place : Place) (cs : List ℕ) (n : ℕ) → length_from place cs ≡ Some n → n ≤ length cs
-length_within place [] n e = absurd (cc)
-length_within place (c ∷ cs) n e = by (λ s m f. length_within s.0 cs m f) (closes place c) (step place c) e
-  where
-    by : ((s : Step) (m : ℕ) → length_from s.0 cs ≡ Some m → m ≤ length cs) → (b : Bool) (o : Option Step)
-        → cond b (Some 1) (option_and_then (λ s. option_map suc (length_from s.0 cs)) o) ≡ Some n → n ≤ suc (length cs)
-    by within true o f = let is : 1 ≡ n = cc in omega arith
-    by within false None f = absurd (cc)
-    by within false (Some s) f = suc_within (length_from s.0 cs) (length cs) n (within s) f
 
 -- ---- one turn of the loop that counts
 

@@ -1,5 +1,6 @@
 pub mod Grammar
 pub mod GrammarLaws
+pub mod LexingLaws
 pub mod Machine
 pub mod Meaning
 pub mod Output
