@@ -13,4 +13,6 @@ mod sessions;
 #[cfg(test)]
 mod tables;
 #[cfg(test)]
+mod tokens;
+#[cfg(test)]
 mod values;
