@@ -1,5 +1,6 @@
 pub mod Completeness
 pub mod LexingLemmas
+pub mod LiteralLemmas
 pub mod Opens
 pub mod OutputLemmas
 pub mod Pieces
