@@ -19,4 +19,6 @@ mod table_files;
 #[cfg(test)]
 mod tables;
 #[cfg(test)]
+mod tokens;
+#[cfg(test)]
 mod values;

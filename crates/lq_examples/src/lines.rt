@@ -1,6 +1,7 @@
 //! Lines and rules that the grammar has, and some that it has not.
+use lq_lex::is_blank;
 use lq_model::{Clause, Comparison, Expr, Last, Query, Statement};
-use lq_syntax::{SyntaxError, is_blank, is_name, parse_rule, parse_statement};
+use lq_syntax::{SyntaxError, parse_rule, parse_statement};
 use lq_value::Txt;
 use std::alloc::Global;
 use std::test::Fail;
@@ -16,7 +17,7 @@ const ACCEPTED: [&str; 6] = [
 ];
 
 /// Lines that are no statement.
-const REFUSED: [&str; 22] = [
+const REFUSED: [&str; 21] = [
     "run from x in t select x.c",
     "run from x in t select x.c;;",
     "run from x in t select x.c; run from x in t select x.c;",
@@ -27,7 +28,6 @@ const REFUSED: [&str; 22] = [
     "runfrom x in t select x.c;",
     "run from x in t # select x.c;",
     "run from x in t / select x.c;",
-    "run from x in t select x.\u{e9};",
     "run from x in t where x.c > 2147483648 select x.c;",
     "run from x in t where x.c > 99999999999999999999999 select x.c;",
     "run from x in t where x.c > 12ab select x.c;",
@@ -175,11 +175,4 @@ fn rules_are_read(rt: HostRuntime) -> Result<(), Fail> {
         assert!(rt; matches!(parse_rule(rt.alloc(), text), Err(SyntaxError::Syntax)));
     }
     Ok(())
-}
-
-#[test]
-fn names_are_told_from_words(rt: HostRuntime) {
-    assert!(rt; is_name(b"_") && is_name(b"x1") && is_name(b"From") && is_name(b"hosts"));
-    assert!(rt; !is_name(b"") && !is_name(b"1x") && !is_name(b"from") && !is_name(b"Host"));
-    assert!(rt; !is_name(b"a b") && !is_name(b"caf\xc3\xa9"));
 }

@@ -1,6 +1,9 @@
 pub mod Completeness
+pub mod LexingLemmas
+pub mod LiteralLemmas
 pub mod Opens
 pub mod OutputLemmas
+pub mod Pieces
 pub mod PolicyLemmas
 pub mod ScriptLemmas
 pub mod SessionLemmas

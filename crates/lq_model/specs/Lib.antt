@@ -1,5 +1,6 @@
 pub mod Grammar
 pub mod GrammarLaws
+pub mod LexingLaws
 pub mod Machine
 pub mod Meaning
 pub mod Output
@@ -10,7 +11,9 @@ pub mod Script
 pub mod Served
 pub mod SessionLaws
 pub mod Stream
+pub mod TextLiterals
 pub mod Tokens
 pub mod Typing
 pub mod TypingLaws
 pub mod Visible
+pub mod Words

@@ -1,10 +1,11 @@
 //! What every answer of the server means: tokens, grammar, types, meanings, policies, the session
 //! machine and its output. The definitions stand in `specs/`, the laws about them are the contracts
-//! of the functions of `grammar_laws`, `typing_laws`, `policy_laws` and `session_laws`, and tokens,
+//! of the functions of `lexing_laws`, `grammar_laws`, `typing_laws`, `policy_laws` and `session_laws`, and tokens,
 //! syntax trees and policies are plain types.
 #![tactic(auto)]
 
 pub mod grammar_laws;
+pub mod lexing_laws;
 mod policy;
 pub mod policy_laws;
 pub mod session_laws;

@@ -7,6 +7,8 @@ pub enum Kind {
     Name,
     /// Decimal digits.
     Integer,
+    /// A text between double quotes.
+    Text,
     /// `from`
     From,
     /// `where`
@@ -59,10 +61,42 @@ pub enum Kind {
     Null,
     /// `Host`
     Host,
+    /// `(`
+    LeftParenthesis,
+    /// `)`
+    RightParenthesis,
+    /// `{`
+    LeftBrace,
+    /// `}`
+    RightBrace,
     /// `.`
     Dot,
+    /// `,`
+    Comma,
     /// `;`
     Semicolon,
+    /// `:`
+    Colon,
+    /// `=`
+    Assign,
+    /// `=>`
+    Arrow,
+    /// `?`
+    Question,
+    /// `??`
+    Coalesce,
+    /// `!`
+    Not,
+    /// `-`
+    Minus,
+    /// `+`
+    Plus,
+    /// `*`
+    Star,
+    /// `/`
+    Slash,
+    /// `%`
+    Percent,
     /// `<`
     Less,
     /// `>`
@@ -75,6 +109,10 @@ pub enum Kind {
     Equal,
     /// `!=`
     NotEqual,
+    /// `&&`
+    And,
+    /// `||`
+    Or,
 }
 
 /// A token: what it is, and where it stands in its line.

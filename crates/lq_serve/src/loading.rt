@@ -8,9 +8,9 @@ use crate::files::{FileError, Files};
 use crate::first_session::open_session;
 use crate::naming::table_name;
 use crate::table_file::{MOST_BYTES, table_from_csv};
+use lq_lex::is_name;
 use lq_session::Session;
 use lq_store::{Store, Table};
-use lq_syntax::is_name;
 use lq_value::Txt;
 use std::alloc::{AllocError, Global};
 use thiserror::Error;
@@ -102,7 +102,7 @@ fn read_table<F: Files>(alloc: Global, file: &str, files: &mut F) -> Result<Tabl
     ensures keeps { (n : List ℕ) → F.holds files.new n ≡ F.holds files.old n }
 {
     let name = table_name(file);
-    if !is_name(name.as_bytes()) {
+    if !is_name(name) {
         return Err(FileFault::Name);
     }
     let bytes = read_file(file, files)?;

@@ -6,9 +6,10 @@ use crate::policies::{Policies, RoleId};
 use crate::reply::{error_line, items_line};
 use crate::running::Run;
 use crate::typing::table_of;
+use lq_lex::is_blank;
 use lq_model::{Expr, Query, Statement};
 use lq_store::Store;
-use lq_syntax::{SyntaxError, is_blank, parse_statement};
+use lq_syntax::{SyntaxError, parse_statement};
 use std::alloc::{AllocError, Global};
 
 /// A session: the tables that its statements run over, the policies in front of them, and the

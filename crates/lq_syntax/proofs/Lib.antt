@@ -1,7 +1,3 @@
-pub mod Blanks
-pub mod Cutting
-pub mod Values
 pub mod Fronts
 pub mod Readings
 pub mod Texts
-pub mod Words

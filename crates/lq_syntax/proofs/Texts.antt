@@ -9,7 +9,7 @@ use Rattle.std.proofs.lemmas.Str.{length-encode, encodes-append, encodes-chars, 
 use Rattle.std.proofs.Math.Seq.{take-append_seam, drop-append_seam}
 use lib.Utf8.{encodes, encode, scalars, scalar}
 use Rattle.lq_model.specs.Script.{line_limit}
-use Rattle.lq_model.specs.Tokens.{Piece, piece, tokens_from, tokens_of, with_piece, text_of}
+use Rattle.lq_model.specs.Tokens.{Piece, piece, tokens_from, tokens_in, tokens_of, is_too_long, with_piece, text_of}
 use Rattle.lq_model.specs.declared.token.Kind.{Kind}
 use Rattle.lq_model.specs.declared.token.Token.{Token}
 use Rattle.lq_model.specs.Parsing.{expect, operator}
@@ -84,7 +84,7 @@ texts_from line front (c ∷ cs) zero place ts line_is place_is all found =
     by (piece c cs) found
 
 pub texts : (line : List ℕ) (ts : List Token) → IsUtf8 line → tokens_of line ≡ Some ts → AreTexts line ts
-unfolding tokens_of
+unfolding tokens_of tokens_in is_too_long
 texts line ts utf8 found =
     let Case : Bool → Type 0 = λ b. cond b None (tokens_from 0 0 (chars line)) ≡ Some ts → AreTexts line ts in
     let by : (b : Bool) → Case b = elim [

@@ -1,3 +1,1 @@
-pub mod Blank
-pub mod Letters
 pub mod Outcome

@@ -1,10 +1,10 @@
--- What the results of the lexer and the parser say of their definitions.
+-- What the results of the parser say of their definitions.
 use Rattle.std.specs.Prelude.{◌≡◌, List, [], ◌∷◌, ℕ, Option, Some, None, Result, Ok, Err}
 use Rattle.std.specs.Str.{IsUtf8}
 use Rattle.lq_model.specs.Tokens.{text_of}
 use Rattle.lq_model.specs.declared.token.Token.{Token}
-use Rattle.lq_syntax.specs.declared.error.LexError.{LexError}
-use Rattle.lq_syntax.specs.declared.error.LexError.TheVariants as lex
+use Rattle.lq_lex.specs.declared.error.LexError.{LexError}
+use Rattle.lq_lex.specs.declared.error.LexError.TheVariants as lex
 use Rattle.lq_syntax.specs.declared.error.SyntaxError.{SyntaxError}
 use Rattle.lq_syntax.specs.declared.error.SyntaxError.TheVariants as syntax
 
@@ -12,12 +12,7 @@ use Rattle.lq_syntax.specs.declared.error.SyntaxError.TheVariants as syntax
 abbrev pub syntax_error : LexError → SyntaxError
 syntax_error lex.Memory = syntax.Memory
 syntax_error lex.Lexical = syntax.Syntax
-
--- the tokens are those of the text
-abbrev pub Cuts : {V : Type 0} → (V → List Token) → Option (List Token) → Result V LexError → Type 0
-Cuts items outcome (Ok v) = outcome ≡ Some (items v)
-Cuts items outcome (Err lex.Lexical) = outcome ≡ None
-Cuts items outcome (Err lex.Memory) = Unit {0}
+syntax_error lex.TooLong = syntax.Syntax
 
 -- each token's part of the line is a text
 abbrev pub AreTexts : List ℕ → List Token → Type 0

@@ -1,7 +1,8 @@
 //! What reading a text may end in.
 ghost use Rattle.std.specs.Prelude.{◌≡◌};
 
-use std::alloc::{AllocError, AllocFailed};
+use lq_lex::LexError;
+use std::alloc::AllocError;
 
 /// Why a text has no tree.
 #[derive(Debug, Drop, thiserror::Error)]
@@ -12,15 +13,6 @@ pub enum SyntaxError {
     /// The text is not of the grammar.
     #[error("syntax")]
     Syntax,
-}
-
-/// Why a text has no tokens.
-#[derive(Debug, Drop)]
-pub enum LexError {
-    /// Memory was refused.
-    Memory,
-    /// The text is too long, or something in it begins no token.
-    Lexical,
 }
 
 impl From<AllocError> for SyntaxError {
@@ -41,27 +33,7 @@ impl From<LexError> for SyntaxError {
     fn from(error: LexError) -> SyntaxError {
         match error {
             LexError::Memory => SyntaxError::Memory,
-            LexError::Lexical => SyntaxError::Syntax,
+            LexError::Lexical | LexError::TooLong => SyntaxError::Syntax,
         }
-    }
-}
-
-impl From<AllocError> for LexError {
-    ghost use Rattle.lq_syntax.specs.declared.error.LexError.TheVariants.{Memory};
-
-    ghost from_gives = { λ _ e. e ≡ Memory };
-
-    fn from(_: AllocError) -> LexError {
-        LexError::Memory
-    }
-}
-
-impl<T: Drop> From<AllocFailed<T>> for LexError {
-    ghost use Rattle.lq_syntax.specs.declared.error.LexError.TheVariants.{Memory};
-
-    ghost from_gives = { λ _ e. e ≡ Memory };
-
-    fn from(_: AllocFailed<T>) -> LexError {
-        LexError::Memory
     }
 }

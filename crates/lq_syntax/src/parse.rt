@@ -8,7 +8,6 @@ ghost use Rattle.lq_syntax.specs.Outcome.{AreTexts, Gives};
 
 use crate::cursor::Tokens;
 use crate::error::SyntaxError;
-use crate::lexer;
 use crate::reader::Reader;
 use lq_model::{Expr, Statement, Token};
 use std::alloc::Global;
@@ -60,20 +59,20 @@ fn read_tokens(
 }
 
 /// What is read from a line.
-#[tactic(auto, using(crate::proofs::Texts::texts), unfolding(lq_model::specs::Reading::reading_of))]
+#[tactic(auto, using(crate::proofs::Texts::texts), unfolding(lq_model::specs::Reading::reading_of, lq_model::specs::Tokens::tokens_of))]
 fn read_line(alloc: Global, line: &str) -> Result<Option<Statement>, SyntaxError>
     ensures { Gives (reading_of line.now) result }
 {
-    let tokens = lexer::tokens(alloc, line)?;
+    let tokens = lq_lex::tokens(alloc, line)?;
     read_tokens(alloc, line, &tokens)
 }
 
 /// What is read from the text of a rule.
-#[tactic(auto, using(crate::proofs::Texts::texts))]
+#[tactic(auto, using(crate::proofs::Texts::texts), unfolding(lq_model::specs::Tokens::tokens_of))]
 fn read_rule(alloc: Global, text: &str) -> Result<Expr, SyntaxError>
     ensures { Gives (option_and_then (rule_of text.now) (tokens_of text.now)) result }
 {
-    let tokens = lexer::tokens(alloc, text)?;
+    let tokens = lq_lex::tokens(alloc, text)?;
     condition(alloc, text, &tokens)
 }
 

@@ -6,7 +6,6 @@ ghost use Rattle.lq_model.specs.Tokens.{text_of};
 ghost use Rattle.lq_syntax.specs.Outcome.{AreTexts, Reads};
 
 use crate::cursor::Tokens;
-use crate::digits;
 use crate::error::SyntaxError;
 use lq_model::{Clause, Expr, Kind, Last, Query, Statement, Token};
 use lq_value::{Held, List, Txt};
@@ -63,7 +62,7 @@ impl<'a> Reader<'a> {
         ensures { Reads self.now.line.now (parsing.number self.now.line.now tokens.old) result tokens.new }
     {
         let token = tokens.expect(Kind::Integer)?;
-        match digits::int_value(text(self.line, token).as_bytes()) {
+        match lq_lex::int_value(text(self.line, token).as_bytes()) {
             Some(value) => Ok(Expr::Integer(value)),
             None => Err(SyntaxError::Syntax),
         }

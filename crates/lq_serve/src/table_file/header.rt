@@ -10,8 +10,8 @@ ghost use Rattle.lq_serve.specs.declared.table_file.LoadError.TheVariants.{Heade
 
 use super::LoadError;
 use csv::ByteRecord;
+use lq_lex::is_name;
 use lq_store::{Column, ColumnType};
-use lq_syntax::is_name;
 use lq_value::{List, Txt};
 use std::alloc::{AllocError, Global};
 
@@ -45,10 +45,21 @@ fn column_of(alloc: Global, cell: &[u8]) -> Result<Column, LoadError>
     let Some(colon) = colon_of(cell) else {
         return Err(LoadError::Header);
     };
-    if is_name(&cell[..colon]) && is_int(&cell[colon + 1..]) {
+    if is_named(&cell[..colon]) && is_int(&cell[colon + 1..]) {
         Ok(int_column(alloc, &cell[..colon])?)
     } else {
         Err(LoadError::Header)
+    }
+}
+
+// Whether these bytes are a name. Bytes that are no text are none.
+#[tactic(auto, using(crate::proofs::NameFacts::other_bytes))]
+fn is_named(bytes: &[u8]) -> bool
+    ensures { result ≡ is_name bytes.now }
+{
+    match std::str::from_utf8(bytes) {
+        Ok(text) => is_name(text),
+        Err(_) => false,
     }
 }
 

@@ -1,0 +1,10 @@
+use Rattle.std.proofs.Common.{◌≤◌, arith}
+use Rattle.std.proofs.lemmas.Bool.Decides.{nat_tests}
+use Rattle.lq_model.specs.Tokens.{decimal_value}
+use Rattle.lq_lex.proofs.Values.{past_limit}
+use Rattle.lq_lex.proofs.literals.is_small.Goals as goal
+
+pub returns-then-value-gt-LARGEST : goal.returns-then-value-gt-LARGEST
+returns-then-value-gt-LARGEST c =
+    let above : 2147483649 ≤ decimal_value c.args.digits.now = past_limit c.args.digits.now c.loop-digit.digit-index c.loop-digit.value 2147483649 c.digit-item.result (omega arith) c.loop-digit.invariant.0 (omega arith) in
+    grind (arith, nat_tests)

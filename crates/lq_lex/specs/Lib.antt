@@ -1,0 +1,4 @@
+pub mod Blank
+pub mod Letters
+pub mod Literals
+pub mod Outcome

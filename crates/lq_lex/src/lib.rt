@@ -1,0 +1,17 @@
+//! Cuts the lines of a script and the rules of policies into tokens, and reads the values of their
+//! literals. What a line's tokens are and what they stand for is defined by `lq_model`.
+#![tactic(auto)]
+
+mod blank;
+mod error;
+mod letters;
+mod lexer;
+mod literals;
+mod signs;
+mod words;
+
+pub use blank::is_blank;
+pub use error::LexError;
+pub use lexer::{LINE_LIMIT, tokens};
+pub use literals::{int_value, text_value};
+pub use words::is_name;

@@ -1,9 +1,0 @@
-use Rattle.std.proofs.Common.{◌≡◌, length}
-use Rattle.lq_syntax.specs.Letters.{words, is_among}
-use Rattle.lq_syntax.proofs.letters.is_reserved.Given as goal
-
-abbrev pub invariant-loop-table : goal.invariant-loop-table
-invariant-loop-table l = is_among (words l.table) l.name ≡ is_among (words l.initial.table) l.name
-
-abbrev pub decreases-loop-table : goal.decreases-loop-table
-decreases-loop-table l = length l.table
