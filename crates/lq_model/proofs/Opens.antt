@@ -1,60 +1,112 @@
 -- The equations of the folds over expressions, one for each form.
-use Rattle.std.proofs.Common.{◌≡◌, ◌&&◌, if◌then◌else◌, List, ℕ, ℤ, Option, Some, None, Ok, ap, ◌∙◌, option_and_then}
+use Rattle.std.proofs.Common.{◌≡◌, ◌&&◌, if◌then◌else◌, List, ℕ, ℤ, Bool, Option, Some, None, Ok, ap, ◌∙◌, option_and_then}
 use Rattle.lq_value.specs.declared.scalar.Scalar.TheVariants as scalar
 use Rattle.lq_value.specs.declared.ty.Ty.{Ty, out-Ty}
 use Rattle.lq_value.specs.declared.ty.Ty.TheVariants as ty
 use Rattle.lq_value.specs.declared.value.Value.{out-Value}
 use Rattle.lq_value.specs.declared.value.Value.TheVariants as value
 use Rattle.lq_model.specs.Meaning.{Meaning, Scope, World, binding_of, compared, meaning, meaning_step, member_value, name_value, on_ok, on_scalar}
-use Rattle.lq_model.specs.Typing.{Names, column_type, is_number, local_type, name_type, row_table, type_of, type_step}
-use Rattle.lq_model.specs.declared.syntax.Comparison.{Comparison}
-use Rattle.lq_model.specs.declared.syntax.Expr.{Expr, fold_out-Expr, map-Expr, out-Expr}
+use Rattle.lq_model.specs.Typing.{Names, column_type, is_comparison, is_number, local_type, name_type, row_table, type_of, type_step}
+use Rattle.lq_model.specs.declared.syntax.Binary.{Binary}
+use Rattle.lq_model.specs.declared.syntax.Expr.{Expr, fold_out-Expr, map-Expr, out-Expr, roll-Expr}
 use Rattle.lq_model.specs.declared.syntax.Expr.TheOpen.{Expr-F}
-use Rattle.lq_model.specs.declared.syntax.Expr.TheVariants.{outs-Compare, outs-Integer, outs-Member, outs-Name}
+use Rattle.lq_model.specs.declared.syntax.Expr.TheVariants.{outs-Node, outs-Query}
+use Rattle.lq_model.specs.declared.syntax.Expr.TheViews.{out-roll-Expr}
 use Rattle.lq_model.specs.declared.syntax.Expr.TheVariants as expr
+use Rattle.lq_model.specs.declared.syntax.Node.TheVariants as node
+use Rattle.lq_model.specs.declared.syntax.Argument.{Argument}
+use Rattle.lq_model.specs.declared.syntax.Field.{Field}
+use Rattle.lq_model.specs.declared.syntax.Query.{Query}
+use Rattle.lq_model.specs.declared.syntax.Unary.{Unary}
 
 module _ {R : Type 0} (world : World R) where
   -- one layer of an expression, with the meaning of each operand in its place
-  abbrev layer_meaning : Expr-F Expr → Meaning R
+  abbrev pub layer_meaning : Expr-F Expr → Meaning R
   layer_meaning layer = meaning_step world (map-Expr Expr (Meaning R) (meaning world) layer)
 
   pub meaning_out : (e : Expr) (scope : Scope R) → meaning world e scope ≡ layer_meaning (out-Expr e) scope
   unfolding meaning
   meaning_out e scope = ap (λ (m : Meaning R). m scope) (fold_out-Expr (Meaning R) (meaning_step world) e)
 
-  pub meaning_integer : (n : ℤ) (scope : Scope R) → meaning world (expr.Integer n) scope ≡ Ok (value.Scalar (scalar.Int n))
-  meaning_integer n scope = meaning_out (expr.Integer n) scope ∙ ap (λ (x : Expr-F Expr). layer_meaning x scope) (outs-Integer n)
+  -- the meaning of a layer's expression
+  pub rolled_meaning : (layer : Expr-F Expr) (scope : Scope R) → meaning world (roll-Expr layer) scope ≡ layer_meaning layer scope
+  rolled_meaning layer scope = meaning_out (roll-Expr layer) scope ∙ ap (λ (x : Expr-F Expr). layer_meaning x scope) (out-roll-Expr layer)
 
-  pub meaning_name : (x : List ℕ) (scope : Scope R) → meaning world (expr.Name x) scope ≡ name_value world x (binding_of x scope)
-  meaning_name x scope = meaning_out (expr.Name x) scope ∙ ap (λ (e : Expr-F Expr). layer_meaning e scope) (outs-Name x)
+  pub meaning_integer : (n : ℤ) (scope : Scope R) → meaning world (expr.Node (node.Integer n)) scope ≡ Ok (value.Scalar (scalar.Int n))
+  meaning_integer n scope = meaning_out (expr.Node (node.Integer n)) scope ∙ ap (λ (x : Expr-F Expr). layer_meaning x scope) (outs-Node (node.Integer n))
+
+  pub meaning_name : (x : List ℕ) (scope : Scope R) → meaning world (expr.Node (node.Name x)) scope ≡ name_value world x (binding_of x scope)
+  meaning_name x scope = meaning_out (expr.Node (node.Name x)) scope ∙ ap (λ (e : Expr-F Expr). layer_meaning e scope) (outs-Node (node.Name x))
 
   pub meaning_member : (row : Expr) (c : List ℕ) (scope : Scope R)
-      → meaning world (expr.Member row c) scope ≡ on_ok (meaning world row scope) (λ v. member_value world c (out-Value R v))
-  meaning_member row c scope = meaning_out (expr.Member row c) scope ∙ ap (λ (e : Expr-F Expr). layer_meaning e scope) (outs-Member row c)
+      → meaning world (expr.Node (node.Member row c)) scope ≡ on_ok (meaning world row scope) (λ v. member_value world c (out-Value R v))
+  meaning_member row c scope = meaning_out (expr.Node (node.Member row c)) scope ∙ ap (λ (e : Expr-F Expr). layer_meaning e scope) (outs-Node (node.Member row c))
 
-  pub meaning_compare : (op : Comparison) (a b : Expr) (scope : Scope R)
-      → meaning world (expr.Compare op a b) scope
+  pub meaning_compare : (op : Binary) (a b : Expr) (scope : Scope R)
+      → meaning world (expr.Node (node.Binary op a b)) scope
       ≡ on_scalar (meaning world a scope) (λ s. on_scalar (meaning world b scope) (λ t. Ok (value.Scalar (scalar.Bool (compared op s t)))))
-  meaning_compare op a b scope = meaning_out (expr.Compare op a b) scope ∙ ap (λ (e : Expr-F Expr). layer_meaning e scope) (outs-Compare op a b)
+  meaning_compare op a b scope = meaning_out (expr.Node (node.Binary op a b)) scope ∙ ap (λ (e : Expr-F Expr). layer_meaning e scope) (outs-Node (node.Binary op a b))
 
-abbrev layer_type : Expr-F Expr → Names → Option Ty
+abbrev pub layer_type : Expr-F Expr → Names → Option Ty
 layer_type layer = type_step (map-Expr Expr (Names → Option Ty) type_of layer)
 
 pub type_out : (e : Expr) (names : Names) → type_of e names ≡ layer_type (out-Expr e) names
 unfolding type_of
 type_out e names = ap (λ (t : Names → Option Ty). t names) (fold_out-Expr (Names → Option Ty) type_step e)
 
-pub type_integer : (n : ℤ) (names : Names) → type_of (expr.Integer n) names ≡ Some ty.Int
-type_integer n names = type_out (expr.Integer n) names ∙ ap (λ (x : Expr-F Expr). layer_type x names) (outs-Integer n)
+pub type_integer : (n : ℤ) (names : Names) → type_of (expr.Node (node.Integer n)) names ≡ Some ty.Int
+type_integer n names = type_out (expr.Node (node.Integer n)) names ∙ ap (λ (x : Expr-F Expr). layer_type x names) (outs-Node (node.Integer n))
 
-pub type_name : (x : List ℕ) (names : Names) → type_of (expr.Name x) names ≡ name_type names x (local_type x names.locals)
-type_name x names = type_out (expr.Name x) names ∙ ap (λ (e : Expr-F Expr). layer_type e names) (outs-Name x)
+pub type_name : (x : List ℕ) (names : Names) → type_of (expr.Node (node.Name x)) names ≡ name_type names x (local_type x names.locals)
+type_name x names = type_out (expr.Node (node.Name x)) names ∙ ap (λ (e : Expr-F Expr). layer_type e names) (outs-Node (node.Name x))
 
 pub type_member : (row : Expr) (c : List ℕ) (names : Names)
-    → type_of (expr.Member row c) names ≡ option_and_then (λ t. option_and_then (λ n. column_type names.tables n c) (row_table (out-Ty t))) (type_of row names)
-type_member row c names = type_out (expr.Member row c) names ∙ ap (λ (e : Expr-F Expr). layer_type e names) (outs-Member row c)
+    → type_of (expr.Node (node.Member row c)) names ≡ option_and_then (λ t. option_and_then (λ n. column_type names.tables n c) (row_table (out-Ty t))) (type_of row names)
+type_member row c names = type_out (expr.Node (node.Member row c)) names ∙ ap (λ (e : Expr-F Expr). layer_type e names) (outs-Node (node.Member row c))
 
-pub type_compare : (op : Comparison) (a b : Expr) (names : Names)
-    → type_of (expr.Compare op a b) names
-    ≡ option_and_then (λ s. option_and_then (λ t. if is_number (out-Ty s) && is_number (out-Ty t) then Some ty.Bool else None) (type_of b names)) (type_of a names)
-type_compare op a b names = type_out (expr.Compare op a b) names ∙ ap (λ (e : Expr-F Expr). layer_type e names) (outs-Compare op a b)
+pub type_compare : (op : Binary) (a b : Expr) (names : Names)
+    → type_of (expr.Node (node.Binary op a b)) names
+    ≡ (if is_comparison op then option_and_then (λ s. option_and_then (λ t. if is_number (out-Ty s) && is_number (out-Ty t) then Some ty.Bool else None) (type_of b names)) (type_of a names) else None)
+type_compare op a b names = type_out (expr.Node (node.Binary op a b)) names ∙ ap (λ (e : Expr-F Expr). layer_type e names) (outs-Node (node.Binary op a b))
+
+-- the type of a layer's expression
+pub rolled_type : (layer : Expr-F Expr) (names : Names) → type_of (roll-Expr layer) names ≡ layer_type layer names
+rolled_type layer names = type_out (roll-Expr layer) names ∙ ap (λ (x : Expr-F Expr). layer_type x names) (out-roll-Expr layer)
+
+-- forms that have no type yet
+
+pub type_text : (t : List ℕ) (names : Names) → type_of (expr.Node (node.Text t)) names ≡ None
+type_text t names = type_out (expr.Node (node.Text t)) names ∙ ap (λ (e : Expr-F Expr). layer_type e names) (outs-Node (node.Text t))
+
+pub type_truth : (b : Bool) (names : Names) → type_of (expr.Node (node.Bool b)) names ≡ None
+type_truth b names = type_out (expr.Node (node.Bool b)) names ∙ ap (λ (e : Expr-F Expr). layer_type e names) (outs-Node (node.Bool b))
+
+pub type_null : (names : Names) → type_of (expr.Node node.Null) names ≡ None
+type_null names = type_out (expr.Node node.Null) names ∙ ap (λ (e : Expr-F Expr). layer_type e names) (outs-Node node.Null)
+
+pub type_unary : (op : Unary) (a : Expr) (names : Names) → type_of (expr.Node (node.Unary op a)) names ≡ None
+type_unary op a names = type_out (expr.Node (node.Unary op a)) names ∙ ap (λ (e : Expr-F Expr). layer_type e names) (outs-Node (node.Unary op a))
+
+pub type_both : (a b : Expr) (names : Names) → type_of (expr.Node (node.And a b)) names ≡ None
+type_both a b names = type_out (expr.Node (node.And a b)) names ∙ ap (λ (e : Expr-F Expr). layer_type e names) (outs-Node (node.And a b))
+
+pub type_either : (a b : Expr) (names : Names) → type_of (expr.Node (node.Or a b)) names ≡ None
+type_either a b names = type_out (expr.Node (node.Or a b)) names ∙ ap (λ (e : Expr-F Expr). layer_type e names) (outs-Node (node.Or a b))
+
+pub type_coalesce : (a b : Expr) (names : Names) → type_of (expr.Node (node.Coalesce a b)) names ≡ None
+type_coalesce a b names = type_out (expr.Node (node.Coalesce a b)) names ∙ ap (λ (e : Expr-F Expr). layer_type e names) (outs-Node (node.Coalesce a b))
+
+pub type_choice : (a b c : Expr) (names : Names) → type_of (expr.Node (node.Conditional a b c)) names ≡ None
+type_choice a b c names = type_out (expr.Node (node.Conditional a b c)) names ∙ ap (λ (e : Expr-F Expr). layer_type e names) (outs-Node (node.Conditional a b c))
+
+pub type_host : (p : List ℕ) (xs : List Expr) (names : Names) → type_of (expr.Node (node.Host p xs)) names ≡ None
+type_host p xs names = type_out (expr.Node (node.Host p xs)) names ∙ ap (λ (e : Expr-F Expr). layer_type e names) (outs-Node (node.Host p xs))
+
+pub type_record : (fs : List (Field Expr)) (names : Names) → type_of (expr.Node (node.New fs)) names ≡ None
+type_record fs names = type_out (expr.Node (node.New fs)) names ∙ ap (λ (e : Expr-F Expr). layer_type e names) (outs-Node (node.New fs))
+
+pub type_method : (a : Expr) (m : List ℕ) (xs : List (Argument Expr)) (names : Names) → type_of (expr.Node (node.Method a m xs)) names ≡ None
+type_method a m xs names = type_out (expr.Node (node.Method a m xs)) names ∙ ap (λ (e : Expr-F Expr). layer_type e names) (outs-Node (node.Method a m xs))
+
+pub type_query : (q : Query Expr) (names : Names) → type_of (expr.Query q) names ≡ None
+type_query q names = type_out (expr.Query q) names ∙ ap (λ (e : Expr-F Expr). layer_type e names) (outs-Query q)

@@ -1,29 +1,41 @@
 -- Proofs of the laws of the session machine and of its output.
 use Rattle.std.proofs.Common.{◌≡◌, ◌≢◌, ◌∷◌, List, [], ℕ, Option, Some, None, IsSome, ap, ◌∙◌, sym, refl, subst}
+use Rattle.serde_json.specs.Data.{Data}
 use Rattle.serde_json.proofs.OnLiterals.{serde_json_on_literals}
 use Rattle.lq_value.specs.declared.table.Schema.{Schema}
-use Rattle.lq_model.specs.Machine.{State, Reply, memory_line, reply_to, run_reply, schemas_of, seen_by_role, step}
+use Rattle.lq_model.specs.Machine.{State, Reply, memory_line, perform, run_reply, schemas_of, seen_by_role, served_top, step, step_by}
 use Rattle.lq_model.specs.Output.{Answers, as_machine, no_memory, stepped}
-use Rattle.lq_model.specs.Reading.{reading_of}
+use Rattle.lq_model.specs.Reading.{Reading, Nothing, Says, IsNoSyntax, IsTooDeep, reading_of}
 use Rattle.lq_model.specs.Served.{line_of}
 use Rattle.lq_model.specs.SessionLaws.{AnswersAlike, IsOutput, IsSilentAlike, LeavesTheRest, LooksSame, MemoryLineIsServed, ScriptsAlike, end, answered, refused}
 use Rattle.lq_model.specs.Visible.{TableRow}
+use Rattle.lq_model.specs.declared.syntax.Expr.{Expr, out-Expr}
+use Rattle.lq_model.specs.declared.syntax.Expr.TheOpen.{Expr-F}
 use Rattle.lq_model.specs.declared.syntax.Statement.{Statement}
 use Rattle.lq_model.specs.declared.syntax.Statement.TheVariants as statement
 
 -- ---- replies
 
--- a reply reads the schemas and the tables as seen, and nothing else of the state
-reply_alike : (a b : State) → LooksSame a b → (reading : Option (Option Statement)) → reply_to a reading ≡ reply_to b reading
-reply_alike a b same None = refl
-reply_alike a b same (Some None) = refl
-reply_alike a b same (Some (Some (statement.Run q))) =
-    ap (λ (schemas : List Schema). Some (line_of (run_reply schemas (seen_by_role a) q))) same.schemas
-    ∙ ap (λ (rows : List (List TableRow)). Some (line_of (run_reply (schemas_of b.tables) rows q))) same.seen
+-- what is served reads the schemas and the tables as seen, and nothing else of the state
+served_alike : (a b : State) → LooksSame a b → (x : Expr-F Expr) → served_top a x ≡ served_top b x
+served_alike a b same (Expr-F.Query q) =
+    ap (λ (schemas : List Schema). run_reply schemas (seen_by_role a) q) same.schemas
+    ∙ ap (λ (rows : List (List TableRow)). run_reply (schemas_of b.tables) rows q) same.seen
+served_alike a b same (Expr-F.Node n) = refl
+
+performed_alike : (a b : State) → LooksSame a b → (s : Statement) → ((perform a s).0 ≡ (perform b s).0) × LooksSame (perform a s).1 (perform b s).1
+performed_alike a b same (statement.Run x) = (served_alike a b same (out-Expr x), same)
+performed_alike a b same statement = (refl, same)
+
+reading_alike : (a b : State) → LooksSame a b → (r : Reading Statement) → ((step_by a r).0 ≡ (step_by b r).0) × LooksSame (step_by a r).1 (step_by b r).1
+reading_alike a b same Nothing = (refl, same)
+reading_alike a b same (Says s) = let alike = performed_alike a b same s in (ap (λ (d : Data). let reply : Reply = Some (line_of d) in reply) alike.0, alike.1)
+reading_alike a b same IsNoSyntax = (refl, same)
+reading_alike a b same IsTooDeep = (refl, same)
 
 pub answers_alike : AnswersAlike
 unfolding step
-answers_alike a b same line = (reply_alike a b same (reading_of line), same)
+answers_alike a b same line = reading_alike a b same (reading_of line)
 
 -- a reply that isn't the memory line is the machine's
 steps_alone : (old new : State) (line : List ℕ) (reply : Reply) → Answers old line reply new → reply ≢ Some memory_line → (reply, new) ≡ step old line
@@ -67,9 +79,19 @@ scripts_alike a b after_a after_b lines from_a from_b same runs_a runs_b has_a h
 -- ---- want of memory
 
 -- no statement changes the state yet, so a line that was answered by the memory line leaves it
+performing_stays : (old : State) (s : Statement) → (perform old s).1 ≡ old
+performing_stays old (statement.Run x) = refl
+performing_stays old statement = refl
+
+pub step_stays : (old : State) (r : Reading Statement) → (step_by old r).1 ≡ old
+step_stays old Nothing = refl
+step_stays old (Says s) = performing_stays old s
+step_stays old IsNoSyntax = refl
+step_stays old IsTooDeep = refl
+
 stays_after_memory : (old new : State) (line : List ℕ) → Answers old line (Some memory_line) new → new ≡ old
 unfolding step
-stays_after_memory old new line (as_machine steps) = ap (λ (p : Reply × State). p.1) steps
+stays_after_memory old new line (as_machine steps) = ap (λ (p : Reply × State). p.1) steps ∙ step_stays old (reading_of line)
 stays_after_memory old new line (no_memory some is stays) = stays
 
 pub leaves_the_rest : LeavesTheRest

@@ -1,24 +1,26 @@
 -- The functions of `Typing` find the types that the rules give, so that there is one type at most.
-use Rattle.std.proofs.Common.{◌≡◌, ◌∷◌, ◌&&◌, if◌then◌else◌, List, [], ℕ, ℤ, Bool, true, false, Option, Some, None, ap, ◌∙◌, sym, refl, subst, option_and_then, option_map, true≢false}
-use Rattle.std.proofs.lemmas.Bool.{and_parts}
+use Rattle.std.proofs.Common.{◌≡◌, ◌==◌, ◌+◌, ◌∷◌, ◌&&◌, if◌then◌else◌, List, [], ℕ, suc, length, arith, ℤ, Bool, true, false, Option, Some, None, ap, ◌∙◌, sym, refl, subst, option_and_then, option_map, true≢false}
+use Rattle.std.proofs.lemmas.Bool.{and_parts, eqb-true}
 use Rattle.std.proofs.lemmas.Option.{none-some, same_Some}
 use Rattle.lq_value.specs.declared.ty.Ty.{Ty, ind-Ty, map-Ty, out-Ty, roll-Ty}
 use Rattle.lq_value.specs.declared.ty.Ty.TheOpen.{Ty-F}
 use Rattle.lq_value.specs.declared.ty.Ty.TheVariants as ty
 use Rattle.lq_value.specs.declared.ty.Ty.TheVariants.{outs-Bool, outs-Group, outs-Int, outs-IntN, outs-Null, outs-Rec, outs-Row, outs-Seq, outs-Str, rolls-Bool, rolls-Group, rolls-Int, rolls-IntN, rolls-Null, rolls-Rec, rolls-Row, rolls-Seq, rolls-Str}
-use Rattle.lq_model.specs.Typing.{Names, HasType, of_integer, of_local, of_table, of_column, of_comparison, IsTypedClause, AreTypedClauses, HasSelectedType, HasItemType, clause_is_typed, clauses_are_typed, column_type, if_scalar, is_bool, is_bool_type, is_number, is_scalar, item_of, item_type, items_over, local_type, name_type, row_table, selected_type, table_number, type_of, when_fresh, with_local}
+use Rattle.lq_model.specs.Typing.{Names, is_comparison, HasType, of_integer, of_local, of_table, of_column, of_comparison, IsTypedClause, AreTypedClauses, HasSelectedType, HasItemType, clause_is_typed, clauses_are_typed, column_type, if_scalar, is_bool, is_bool_type, is_number, is_scalar, item_of, item_type, items_over, local_type, name_type, row_table, selected_type, table_number, type_of, when_fresh, with_local}
 use Rattle.lq_model.specs.TypingLaws.{HasOneType, HasOneItemType, FindsTypes, FindsItemTypes}
 use Rattle.lq_model.specs.declared.syntax.Clause.{Clause}
 use Rattle.lq_model.specs.declared.syntax.Clause.TheVariants as clause
-use Rattle.lq_model.specs.declared.syntax.Comparison.{Comparison}
+use Rattle.lq_model.specs.declared.syntax.Binary.{Binary}
+use Rattle.lq_model.specs.declared.syntax.Continuation.{Continuation}
 use Rattle.lq_model.specs.declared.syntax.Expr.{Expr, ind-Expr, map-Expr, roll-Expr}
 use Rattle.lq_model.specs.declared.syntax.Expr.TheOpen.{Expr-F}
 use Rattle.lq_model.specs.declared.syntax.Expr.TheVariants as expr
-use Rattle.lq_model.specs.declared.syntax.Expr.TheVariants.{rolls-Compare, rolls-Integer, rolls-Member, rolls-Name}
+use Rattle.lq_model.specs.declared.syntax.Expr.TheVariants.{rolls-Node}
 use Rattle.lq_model.specs.declared.syntax.Last.{Last}
 use Rattle.lq_model.specs.declared.syntax.Last.TheVariants as last
+use Rattle.lq_model.specs.declared.syntax.Node.TheVariants as node
 use Rattle.lq_model.specs.declared.syntax.Query.{Query}
-use Rattle.lq_model.proofs.Opens.{type_compare, type_integer, type_member, type_name}
+use Rattle.lq_model.proofs.Opens.{layer_type, rolled_type, type_compare, type_integer, type_member, type_name}
 
 -- ---- a type, by its layer
 
@@ -98,8 +100,9 @@ type_complete names (of_column _ row c n _ is row_typed found) =
     ∙ ap (member_type names c) (type_complete names row_typed)
     ∙ ap (λ layer. option_and_then (λ m. column_type names.tables m c) (row_table layer)) (outs-Row n)
     ∙ found
-type_complete names (of_comparison _ a b op s t is a_typed s_number b_typed t_number) =
+type_complete names (of_comparison _ a b op s t is compares a_typed s_number b_typed t_number) =
     ap (expression_type names) is ∙ type_compare op a b names
+    ∙ ap (λ (c : Bool). if c then compared_type (type_of a names) (type_of b names) else None) compares
     ∙ ap (λ (o : Option Ty). compared_type o (type_of b names)) (type_complete names a_typed)
     ∙ ap (compared_type (Some s)) (type_complete names b_typed)
     ∙ numbers_compare s t s_number t_number
@@ -109,64 +112,74 @@ type_complete names (of_comparison _ a b op s t is a_typed s_number b_typed t_nu
 abbrev IsSound : Expr → Type 0
 IsSound e = (names : Names) (t : Ty) → type_of e names ≡ Some t → HasType names e t
 
-sound_integer : (n : ℤ) → IsSound (expr.Integer n)
+sound_integer : (n : ℤ) → IsSound (expr.Node (node.Integer n))
 sound_integer n names t h =
-    subst (HasType names (expr.Integer n)) (same_Some ty.Int t (sym (type_integer n names) ∙ h)) (of_integer (expr.Integer n) n refl)
+    subst (HasType names (expr.Node (node.Integer n))) (same_Some ty.Int t (sym (type_integer n names) ∙ h)) (of_integer (expr.Node (node.Integer n)) n refl)
 
 sound_table : (x : List ℕ) (names : Names) (t : Ty) → local_type x names.locals ≡ None → (o : Option ℕ) → table_number x names.tables ≡ o
-    → option_map (λ n. ty.Seq (ty.Row n)) o ≡ Some t → HasType names (expr.Name x) t
+    → option_map (λ n. ty.Seq (ty.Row n)) o ≡ Some t → HasType names (expr.Node (node.Name x)) t
 sound_table x names t hidden None is h = absurd (none-some t h)
 sound_table x names t hidden (Some n) is h =
-    subst (HasType names (expr.Name x)) (same_Some (ty.Seq (ty.Row n)) t h) (of_table (expr.Name x) x n refl hidden is)
+    subst (HasType names (expr.Node (node.Name x))) (same_Some (ty.Seq (ty.Row n)) t h) (of_table (expr.Node (node.Name x)) x n refl hidden is)
 
-sound_local : (x : List ℕ) (names : Names) (t : Ty) (o : Option Ty) → local_type x names.locals ≡ o → name_type names x o ≡ Some t → HasType names (expr.Name x) t
+sound_local : (x : List ℕ) (names : Names) (t : Ty) (o : Option Ty) → local_type x names.locals ≡ o → name_type names x o ≡ Some t → HasType names (expr.Node (node.Name x)) t
 sound_local x names t None is h = sound_table x names t is (table_number x names.tables) refl h
-sound_local x names t (Some s) is h = of_local (expr.Name x) x t refl (is ∙ h)
+sound_local x names t (Some s) is h = of_local (expr.Node (node.Name x)) x t refl (is ∙ h)
 
-sound_name : (x : List ℕ) → IsSound (expr.Name x)
+sound_name : (x : List ℕ) → IsSound (expr.Node (node.Name x))
 sound_name x names t h = sound_local x names t (local_type x names.locals) refl (sym (type_name x names) ∙ h)
 
 sound_column : (row : Expr) (c : List ℕ) (names : Names) (s t : Ty) → HasType names row s → (o : Option ℕ) → row_table (out-Ty s) ≡ o
-    → option_and_then (λ n. column_type names.tables n c) o ≡ Some t → HasType names (expr.Member row c) t
+    → option_and_then (λ n. column_type names.tables n c) o ≡ Some t → HasType names (expr.Node (node.Member row c)) t
 sound_column row c names s t typed None is h = absurd (none-some t h)
 sound_column row c names s t typed (Some n) is h =
-    of_column (expr.Member row c) row c n t refl (subst (HasType names row) (is_row s n is) typed) h
+    of_column (expr.Node (node.Member row c)) row c n t refl (subst (HasType names row) (is_row s n is) typed) h
 
 sound_member_by : (row : Expr) (c : List ℕ) → IsSound row → (names : Names) (t : Ty) (o : Option Ty) → type_of row names ≡ o
-    → member_type names c o ≡ Some t → HasType names (expr.Member row c) t
+    → member_type names c o ≡ Some t → HasType names (expr.Node (node.Member row c)) t
 sound_member_by row c sound names t None is h = absurd (none-some t h)
 sound_member_by row c sound names t (Some s) is h = sound_column row c names s t (sound names s is) (row_table (out-Ty s)) refl h
 
-sound_member : (row : Expr) (c : List ℕ) → IsSound row → IsSound (expr.Member row c)
+sound_member : (row : Expr) (c : List ℕ) → IsSound row → IsSound (expr.Node (node.Member row c))
 sound_member row c sound names t h = sound_member_by row c sound names t (type_of row names) refl (sym (type_member row c names) ∙ h)
 
-sound_numbers : (op : Comparison) (a b : Expr) (names : Names) (r s t : Ty) → HasType names a r → HasType names b s → (n m : Bool)
-    → is_number (out-Ty r) ≡ n → is_number (out-Ty s) ≡ m → (if n && m then Some ty.Bool else None) ≡ Some t → HasType names (expr.Compare op a b) t
-sound_numbers op a b names r s t a_typed b_typed true true r_is s_is h =
-    subst (HasType names (expr.Compare op a b)) (same_Some ty.Bool t h) (of_comparison (expr.Compare op a b) a b op r s refl a_typed r_is b_typed s_is)
-sound_numbers op a b names r s t a_typed b_typed true false r_is s_is h = absurd (none-some t h)
-sound_numbers op a b names r s t a_typed b_typed false m r_is s_is h = absurd (none-some t h)
+sound_numbers : (op : Binary) → is_comparison op ≡ true → (a b : Expr) (names : Names) (r s t : Ty) → HasType names a r → HasType names b s → (n m : Bool)
+    → is_number (out-Ty r) ≡ n → is_number (out-Ty s) ≡ m → (if n && m then Some ty.Bool else None) ≡ Some t → HasType names (expr.Node (node.Binary op a b)) t
+sound_numbers op compares a b names r s t a_typed b_typed true true r_is s_is h =
+    subst (HasType names (expr.Node (node.Binary op a b))) (same_Some ty.Bool t h) (of_comparison (expr.Node (node.Binary op a b)) a b op r s refl compares a_typed r_is b_typed s_is)
+sound_numbers op compares a b names r s t a_typed b_typed true false r_is s_is h = absurd (none-some t h)
+sound_numbers op compares a b names r s t a_typed b_typed false m r_is s_is h = absurd (none-some t h)
 
-sound_compare_by : (op : Comparison) (a b : Expr) → IsSound a → IsSound b → (names : Names) (t : Ty) (o p : Option Ty) → type_of a names ≡ o → type_of b names ≡ p
-    → compared_type o p ≡ Some t → HasType names (expr.Compare op a b) t
-sound_compare_by op a b a_sound b_sound names t None p a_is b_is h = absurd (none-some t h)
-sound_compare_by op a b a_sound b_sound names t (Some r) None a_is b_is h = absurd (none-some t h)
-sound_compare_by op a b a_sound b_sound names t (Some r) (Some s) a_is b_is h =
-    sound_numbers op a b names r s t (a_sound names r a_is) (b_sound names s b_is) (is_number (out-Ty r)) (is_number (out-Ty s)) refl refl h
+sound_compare_by : (op : Binary) → is_comparison op ≡ true → (a b : Expr) → IsSound a → IsSound b → (names : Names) (t : Ty) (o p : Option Ty) → type_of a names ≡ o → type_of b names ≡ p
+    → compared_type o p ≡ Some t → HasType names (expr.Node (node.Binary op a b)) t
+sound_compare_by op compares a b a_sound b_sound names t None p a_is b_is h = absurd (none-some t h)
+sound_compare_by op compares a b a_sound b_sound names t (Some r) None a_is b_is h = absurd (none-some t h)
+sound_compare_by op compares a b a_sound b_sound names t (Some r) (Some s) a_is b_is h =
+    sound_numbers op compares a b names r s t (a_sound names r a_is) (b_sound names s b_is) (is_number (out-Ty r)) (is_number (out-Ty s)) refl refl h
 
-sound_compare : (op : Comparison) (a b : Expr) → IsSound a → IsSound b → IsSound (expr.Compare op a b)
-sound_compare op a b a_sound b_sound names t h =
-    sound_compare_by op a b a_sound b_sound names t (type_of a names) (type_of b names) refl refl (sym (type_compare op a b names) ∙ h)
+sound_compare : (op : Binary) (a b : Expr) → IsSound a → IsSound b → IsSound (expr.Node (node.Binary op a b))
+sound_compare op a b a_sound b_sound names t h = by (is_comparison op) refl (sym (type_compare op a b names) ∙ h) where
+  by : (c : Bool) → is_comparison op ≡ c → (if c then compared_type (type_of a names) (type_of b names) else None) ≡ Some t → HasType names (expr.Node (node.Binary op a b)) t
+  by true compares found = sound_compare_by op compares a b a_sound b_sound names t (type_of a names) (type_of b names) refl refl found
+  by false other found = absurd (none-some t found)
+
+-- a layer to which no rule gives a type
+no_type : (layer : Expr-F Expr) → ((names : Names) → layer_type layer names ≡ None) → IsSound (roll-Expr layer)
+no_type layer none names t h =
+    absurd (none-some t (sym (none names) ∙ sym (rolled_type layer names) ∙ h))
 
 abbrev Both : Type 0
 Both = (e : Expr) × IsSound e
 
 sound_layer : (x : Expr-F Expr) (y : Expr-F Both) → map-Expr Both Expr (λ e. e.0) y ≡ x → IsSound (roll-Expr x)
-sound_layer x (Expr-F.Integer n) h = subst (λ d. IsSound (roll-Expr d)) h (subst IsSound (sym (rolls-Integer n)) (sound_integer n))
-sound_layer x (Expr-F.Name s) h = subst (λ d. IsSound (roll-Expr d)) h (subst IsSound (sym (rolls-Name s)) (sound_name s))
-sound_layer x (Expr-F.Member row c) h = subst (λ d. IsSound (roll-Expr d)) h (subst IsSound (sym (rolls-Member row.0 c)) (sound_member row.0 c row.1))
-sound_layer x (Expr-F.Compare op a b) h =
-    subst (λ d. IsSound (roll-Expr d)) h (subst IsSound (sym (rolls-Compare op a.0 b.0)) (sound_compare op a.0 b.0 a.1 b.1))
+sound_layer x (Expr-F.Node (node.Integer n)) h = subst (λ d. IsSound (roll-Expr d)) h (subst IsSound (sym (rolls-Node (node.Integer n))) (sound_integer n))
+sound_layer x (Expr-F.Node (node.Name s)) h = subst (λ d. IsSound (roll-Expr d)) h (subst IsSound (sym (rolls-Node (node.Name s))) (sound_name s))
+sound_layer x (Expr-F.Node (node.Member row c)) h =
+    subst (λ d. IsSound (roll-Expr d)) h (subst IsSound (sym (rolls-Node (node.Member row.0 c))) (sound_member row.0 c row.1))
+sound_layer x (Expr-F.Node (node.Binary op a b)) h =
+    subst (λ d. IsSound (roll-Expr d)) h (subst IsSound (sym (rolls-Node (node.Binary op a.0 b.0))) (sound_compare op a.0 b.0 a.1 b.1))
+sound_layer x (Expr-F.Node other) h = subst (λ d. IsSound (roll-Expr d)) h (no_type (map-Expr Both Expr (λ e. e.0) (Expr-F.Node other)) (λ names. refl))
+sound_layer x (Expr-F.Query q) h = subst (λ d. IsSound (roll-Expr d)) h (no_type (map-Expr Both Expr (λ e. e.0) (Expr-F.Query q)) (λ names. refl))
 
 pub type_sound : (e : Expr) (names : Names) (t : Ty) → type_of e names ≡ Some t → HasType names e t
 type_sound e = ind-Expr IsSound sound_layer e
@@ -175,6 +188,7 @@ type_sound e = ind-Expr IsSound sound_layer e
 
 clause_complete : (names : Names) (c : Clause Expr) → IsTypedClause names c → clause_is_typed names c ≡ true
 clause_complete names (clause.Where c) typed = ap is_bool_type (type_complete names typed) ∙ ap is_bool outs-Bool
+clause_complete names clause typed = absurd typed
 
 clauses_complete : (names : Names) (cs : List (Clause Expr)) → AreTypedClauses names cs → clauses_are_typed names cs ≡ true
 clauses_complete names [] typed = refl
@@ -182,6 +196,7 @@ clauses_complete names (c ∷ cs) typed = rw (clause_complete names c typed.0, c
 
 selected_complete : (names : Names) (l : Last Expr) (t : Ty) → HasSelectedType names l t → selected_type names l ≡ Some t
 selected_complete names (last.Select v) t typed = ap if_scalar (type_complete names typed.0) ∙ rw typed.1 refl
+selected_complete names (last.Group v key) t typed = absurd typed
 
 pub item_type_complete : (names : Names) (q : Query Expr) (t : Ty) → HasItemType names q t → item_type q names ≡ Some t
 unfolding item_type
@@ -189,8 +204,9 @@ item_type_complete names q t typed =
     ap (λ (o : Option Ty). when_fresh o (items_over names q (option_and_then (λ s. item_of (out-Ty s)) (type_of q.source names)))) typed.fresh
     ∙ ap (λ (o : Option Ty). items_over names q (option_and_then (λ s. item_of (out-Ty s)) o)) (type_complete names typed.source)
     ∙ ap (λ layer. items_over names q (item_of layer)) (outs-Seq typed.item)
-    ∙ ap (λ (b : Bool). if b then selected_type (with_local names q.name typed.item) q.last else None) (clauses_complete (with_local names q.name typed.item) q.clauses typed.clauses)
-    ∙ selected_complete (with_local names q.name typed.item) q.last t typed.selected
+    ∙ ap (λ (rest : List (Continuation Expr)). if (length rest == 0) && clauses_are_typed (with_local names q.name typed.item) q.body.clauses then selected_type (with_local names q.name typed.item) q.body.last else None) typed.ended
+    ∙ ap (λ (b : Bool). if b then selected_type (with_local names q.name typed.item) q.body.last else None) (clauses_complete (with_local names q.name typed.item) q.body.clauses typed.clauses)
+    ∙ selected_complete (with_local names q.name typed.item) q.body.last t typed.selected
 
 condition_sound : (names : Names) (c : Expr) (o : Option Ty) → type_of c names ≡ o → is_bool_type o ≡ true → HasType names c ty.Bool
 condition_sound names c None is h = absurd (true≢false (sym h))
@@ -198,6 +214,7 @@ condition_sound names c (Some t) is h = subst (HasType names c) (is_truth t h) (
 
 clause_sound : (names : Names) (c : Clause Expr) → clause_is_typed names c ≡ true → IsTypedClause names c
 clause_sound names (clause.Where c) h = condition_sound names c (type_of c names) refl h
+clause_sound names clause h = absurd (true≢false (sym h))
 
 clauses_sound : (names : Names) (cs : List (Clause Expr)) → clauses_are_typed names cs ≡ true → AreTypedClauses names cs
 clauses_sound names [] h = tt
@@ -217,24 +234,32 @@ value_sound names v t (Some s) is h = scalar_sound names v s t is (is_scalar (ou
 
 selected_sound : (names : Names) (l : Last Expr) (t : Ty) → selected_type names l ≡ Some t → HasSelectedType names l t
 selected_sound names (last.Select v) t h = value_sound names v t (type_of v names) refl h
+selected_sound names (last.Group v key) t h = absurd (none-some t h)
+
+empty : (rest : List (Continuation Expr)) → (length rest == 0) ≡ true → rest ≡ []
+empty [] h = refl
+empty (c ∷ rest) h = absurd (let none : suc (length rest) ≡ 0 = eqb-true _ 0 h in omega (arith, none))
 
 body_sound : (names : Names) (q : Query Expr) (item t : Ty) → local_type q.name names.locals ≡ None → HasType names q.source (ty.Seq item) → (b : Bool)
-    → clauses_are_typed (with_local names q.name item) q.clauses ≡ b → (if b then selected_type (with_local names q.name item) q.last else None) ≡ Some t
+    → ((length q.rest == 0) && clauses_are_typed (with_local names q.name item) q.body.clauses) ≡ b → (if b then selected_type (with_local names q.name item) q.body.last else None) ≡ Some t
     → HasItemType names q t
-body_sound names q item t fresh source true clauses h = record {
-  item = item;
-  source = source;
-  fresh = fresh;
-  clauses = clauses_sound (with_local names q.name item) q.clauses clauses;
-  selected = selected_sound (with_local names q.name item) q.last t h;
-}
-body_sound names q item t fresh source false clauses h = absurd (none-some t h)
+body_sound names q item t fresh source true typed h =
+    let parts = and_parts (length q.rest == 0) (clauses_are_typed (with_local names q.name item) q.body.clauses) typed in
+    record {
+      item = item;
+      source = source;
+      fresh = fresh;
+      clauses = clauses_sound (with_local names q.name item) q.body.clauses parts.1;
+      selected = selected_sound (with_local names q.name item) q.body.last t h;
+      ended = empty q.rest parts.0;
+    }
+body_sound names q item t fresh source false typed h = absurd (none-some t h)
 
 items_sound : (names : Names) (q : Query Expr) (s t : Ty) → local_type q.name names.locals ≡ None → HasType names q.source s → (o : Option Ty) → item_of (out-Ty s) ≡ o
     → items_over names q o ≡ Some t → HasItemType names q t
 items_sound names q s t fresh source None is h = absurd (none-some t h)
 items_sound names q s t fresh source (Some item) is h =
-    body_sound names q item t fresh (subst (HasType names q.source) (is_sequence s item is) source) (clauses_are_typed (with_local names q.name item) q.clauses) refl h
+    body_sound names q item t fresh (subst (HasType names q.source) (is_sequence s item is) source) ((length q.rest == 0) && clauses_are_typed (with_local names q.name item) q.body.clauses) refl h
 
 source_sound : (names : Names) (q : Query Expr) (t : Ty) → local_type q.name names.locals ≡ None → (o : Option Ty) → type_of q.source names ≡ o
     → items_over names q (option_and_then (λ s. item_of (out-Ty s)) o) ≡ Some t → HasItemType names q t

@@ -1,6 +1,6 @@
 -- Laws of the grammar: what is read is what is spelled, and tokens spell one tree at most.
 use Rattle.std.specs.Prelude.{◌≡◌, ◌↔◌, List, ℕ, Some}
-use Rattle.lq_model.specs.Grammar.{Spells, Line, Condition}
+use Rattle.lq_model.specs.Grammar.{Spells, Line, Conditional}
 use Rattle.lq_model.specs.Parsing.{statement_of, rule_of}
 use Rattle.lq_model.specs.declared.syntax.Expr.{Expr}
 use Rattle.lq_model.specs.declared.syntax.Statement.{Statement}
@@ -12,7 +12,7 @@ IsOneStatement = (line : List ℕ) (tokens : List Token) (a b : Statement) → S
 
 -- no tokens spell two conditions
 abbrev pub IsOneCondition : Type 0
-IsOneCondition = (line : List ℕ) (tokens : List Token) (a b : Expr) → Spells line (Condition a) tokens → Spells line (Condition b) tokens → a ≡ b
+IsOneCondition = (line : List ℕ) (tokens : List Token) (a b : Expr) → Spells line (Conditional a) tokens → Spells line (Conditional b) tokens → a ≡ b
 
 -- the function on tokens reads a statement exactly where they spell it
 abbrev pub ReadsSpelledStatements : Type 0
@@ -20,4 +20,4 @@ ReadsSpelledStatements = (line : List ℕ) (tokens : List Token) (a : Statement)
 
 -- the function on tokens reads a rule exactly where they spell it as a condition
 abbrev pub ReadsSpelledConditions : Type 0
-ReadsSpelledConditions = (line : List ℕ) (tokens : List Token) (a : Expr) → (rule_of line tokens ≡ Some a) ↔ Spells line (Condition a) tokens
+ReadsSpelledConditions = (line : List ℕ) (tokens : List Token) (a : Expr) → (rule_of line tokens ≡ Some a) ↔ Spells line (Conditional a) tokens

@@ -1,3 +1,4 @@
+pub mod Depth
 pub mod Grammar
 pub mod GrammarLaws
 pub mod LexingLaws

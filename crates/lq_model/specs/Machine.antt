@@ -5,12 +5,13 @@ use Rattle.lq_value.specs.Tables.{Table}
 use Rattle.lq_value.specs.declared.table.Schema.{Schema}
 use Rattle.lq_value.specs.declared.ty.Ty.{Ty}
 use Rattle.lq_model.specs.Meaning.{World, query_meaning}
-use Rattle.lq_model.specs.Reading.{reading_of}
+use Rattle.lq_model.specs.Reading.{Reading, Nothing, Says, IsNoSyntax, IsTooDeep, reading_of}
 use Rattle.lq_model.specs.Served.{error_data, line_of, stream_data}
 use Rattle.lq_model.specs.Typing.{item_type}
 use Rattle.lq_model.specs.Visible.{TableRow, cell_named, tables_as_seen}
 use Rattle.lq_model.specs.declared.policy.PolicyParts.{PolicyParts}
-use Rattle.lq_model.specs.declared.syntax.Expr.{Expr}
+use Rattle.lq_model.specs.declared.syntax.Expr.{Expr, out-Expr}
+use Rattle.lq_model.specs.declared.syntax.Expr.TheOpen.{Expr-F}
 use Rattle.lq_model.specs.declared.syntax.Query.{Query}
 use Rattle.lq_model.specs.declared.syntax.Statement.{Statement}
 use Rattle.lq_model.specs.declared.syntax.Statement.TheVariants as statement
@@ -53,14 +54,29 @@ served world q (Some t) = stream_data (query_meaning world q [])
 unfoldable pub run_reply : List Schema → List (List TableRow) → Query Expr → Data
 run_reply schemas rows q = served (world_of schemas rows) q (item_type q (record { tables = schemas; locals = [] }))
 
-abbrev pub answer_to : State → Statement → Data
-answer_to s (statement.Run q) = run_reply (schemas_of s.tables) (seen_by_role s) q
+-- the reply of `run` in a state
+abbrev pub run_in : State → Query Expr → Data
+run_in s q = run_reply (schemas_of s.tables) (seen_by_role s) q
 
-abbrev pub reply_to : State → Option (Option Statement) → Reply
-reply_to s None = Some (line_of (error_data (codes "syntax")))
-reply_to s (Some None) = None
-reply_to s (Some (Some statement)) = Some (line_of (answer_to s statement))
+-- queries are served; other expressions have no type yet
+abbrev pub served_top : State → Expr-F Expr → Data
+served_top s (Expr-F.Query q) = run_in s q
+served_top s (Expr-F.Node n) = error_data (codes "type")
 
--- no statement changes the state yet
+-- what a statement is answered, and the state behind it; `run` alone is served yet, and nothing changes the state
+abbrev pub perform : State → Statement → Data × State
+perform old (statement.Run x) = (served_top old (out-Expr x), old)
+perform old statement = (error_data (codes "type"), old)
+
+abbrev pub replied : Data × State → Reply × State
+replied answer = (Some (line_of answer.0), answer.1)
+
+-- a line that says nothing has no reply
+abbrev pub step_by : State → Reading Statement → Reply × State
+step_by old Nothing = (None, old)
+step_by old (Says statement) = replied (perform old statement)
+step_by old IsNoSyntax = replied (error_data (codes "syntax"), old)
+step_by old IsTooDeep = replied (error_data (codes "too-deep"), old)
+
 unfoldable pub step : State → List ℕ → Reply × State
-step old line = (reply_to old (reading_of line), old)
+step old line = step_by old (reading_of line)

@@ -17,12 +17,14 @@ use Rattle.lq_model.specs.Stream.{Stream, select_by, where_by}
 use Rattle.lq_model.specs.Typing.{Names, item_of, table_number, type_of}
 use Rattle.lq_model.specs.declared.syntax.Clause.{Clause}
 use Rattle.lq_model.specs.declared.syntax.Clause.TheVariants as clause
-use Rattle.lq_model.specs.declared.syntax.Comparison.{Comparison}
-use Rattle.lq_model.specs.declared.syntax.Comparison.TheVariants as operator
+use Rattle.lq_model.specs.declared.syntax.Binary.{Binary}
+use Rattle.lq_model.specs.declared.syntax.Binary.TheVariants as binary
 use Rattle.lq_model.specs.declared.syntax.Expr.{Expr, fold-Expr}
 use Rattle.lq_model.specs.declared.syntax.Expr.TheOpen.{Expr-F}
 use Rattle.lq_model.specs.declared.syntax.Last.{Last}
 use Rattle.lq_model.specs.declared.syntax.Last.TheVariants as last
+use Rattle.lq_model.specs.declared.syntax.Node.{Node}
+use Rattle.lq_model.specs.declared.syntax.Node.TheVariants as node
 use Rattle.lq_model.specs.declared.syntax.Query.{Query}
 
 -- a local name with its type and its value
@@ -70,13 +72,15 @@ same_content (scalar.Bool false) (scalar.Bool b) = not b
 same_content (scalar.Text s) (scalar.Text t) = bytes_eq s t
 same_content a b = false
 
-abbrev pub compared : Comparison → Scalar → Scalar → Bool
-compared operator.Less a b = ordered_by int_lt a b
-compared operator.Greater a b = ordered_by int_lt b a
-compared operator.LessOrEqual a b = ordered_by int_le a b
-compared operator.GreaterOrEqual a b = ordered_by int_le b a
-compared operator.Equal a b = same_content a b
-compared operator.NotEqual a b = not (same_content a b)
+-- what an operator that compares gives; no typed comparison has another operator
+abbrev pub compared : Binary → Scalar → Scalar → Bool
+compared binary.Less a b = ordered_by int_lt a b
+compared binary.Greater a b = ordered_by int_lt b a
+compared binary.LessOrEqual a b = ordered_by int_le a b
+compared binary.GreaterOrEqual a b = ordered_by int_le b a
+compared binary.Equal a b = same_content a b
+compared binary.NotEqual a b = not (same_content a b)
+compared op a b = false
 
 -- the truth value of a condition; no typed condition is another scalar
 abbrev pub truth_of : Scalar → Result Bool Fault
@@ -123,11 +127,17 @@ module _ {R : Type 0} where
   abbrev pub on_scalar : {B : Type 0} → Result (Value R) Fault → (Scalar → Result B Fault) → Result B Fault
   on_scalar operand next = on_ok (on_ok operand (λ v. scalar_of (out-Value R v))) next
 
+  -- the meaning of a node, over the meanings of what it holds; forms that no typed expression has yet mean nothing
+  abbrev pub node_meaning : World R → Node (Meaning R) → Meaning R
+  node_meaning world (node.Integer n) scope = Ok (value.Scalar (scalar.Int n))
+  node_meaning world (node.Name x) scope = name_value world x (binding_of x scope)
+  node_meaning world (node.Member row c) scope = on_ok (row scope) (λ v. member_value world c (out-Value R v))
+  node_meaning world (node.Binary op a b) scope = on_scalar (a scope) (λ s. on_scalar (b scope) (λ t. Ok (value.Scalar (scalar.Bool (compared op s t)))))
+  node_meaning world node scope = Err fault.NullReference
+
   abbrev pub meaning_step : World R → Expr-F (Meaning R) → Meaning R
-  meaning_step world (Expr-F.Integer n) scope = Ok (value.Scalar (scalar.Int n))
-  meaning_step world (Expr-F.Name x) scope = name_value world x (binding_of x scope)
-  meaning_step world (Expr-F.Member row c) scope = on_ok (row scope) (λ v. member_value world c (out-Value R v))
-  meaning_step world (Expr-F.Compare op a b) scope = on_scalar (a scope) (λ s. on_scalar (b scope) (λ t. Ok (value.Scalar (scalar.Bool (compared op s t)))))
+  meaning_step world (Expr-F.Node n) scope = node_meaning world n scope
+  meaning_step world (Expr-F.Query q) scope = Err fault.NullReference
 
   -- «Scalar meaning»: the value of an expression, or its first fault
   unfoldable pub meaning : World R → Expr → Meaning R
@@ -142,6 +152,7 @@ module _ {R : Type 0} where
   -- a clause maps a stream of scopes to a stream of scopes
   abbrev pub clause_meaning : World R → Clause Expr → Stream (Scope R) → Stream (Scope R)
   clause_meaning world (clause.Where c) scopes = where_by (condition_at world c) scopes.0 scopes.1
+  clause_meaning world clause scopes = ([], end.Fault fault.NullReference)
 
   abbrev pub clauses_meaning : World R → List (Clause Expr) → Stream (Scope R) → Stream (Scope R)
   clauses_meaning world [] scopes = scopes
@@ -149,6 +160,7 @@ module _ {R : Type 0} where
 
   abbrev pub last_meaning : World R → Last Expr → Stream (Scope R) → Stream (Value R)
   last_meaning world (last.Select v) scopes = select_by (meaning world v) scopes.0 scopes.1
+  last_meaning world (last.Group v key) scopes = ([], end.Fault fault.NullReference)
 
   -- the stream that a value is enumerated as; a fault met in making it is its ending
   abbrev pub items_of : Value-F R (Value R) → Stream (Value R)
@@ -173,5 +185,5 @@ module _ {R : Type 0} where
   -- «Clause meaning»: the stream of a query
   unfoldable pub query_meaning : World R → Query Expr → Scope R → Stream (Value R)
   query_meaning world q scope =
-      last_meaning world q.last (clauses_meaning world q.clauses
+      last_meaning world q.body.last (clauses_meaning world q.body.clauses
       (bound_stream q.name (item_type_at world q.source scope) scope (stream_of (meaning world q.source scope))))

@@ -1,5 +1,5 @@
 -- «Typing»: which type an expression has under names, rule by rule, and the same as a function (ECMA-334, expressions).
-use Rattle.std.specs.Prelude.{◌≡◌, ◌∷◌, ◌&&◌, if◌then◌else◌, List, [], ℕ, ℤ, Bool, true, false, Option, Some, None, slice_get, option_and_then, option_map}
+use Rattle.std.specs.Prelude.{◌≡◌, ◌∷◌, ◌==◌, ◌&&◌, if◌then◌else◌, List, [], ℕ, ℤ, Bool, true, false, Option, Some, None, length, slice_get, option_and_then, option_map}
 use Rattle.std.specs.Str.{bytes_eq}
 use Rattle.lq_value.specs.Tables.{first_named}
 use Rattle.lq_value.specs.declared.table.Column.{Column}
@@ -11,12 +11,16 @@ use Rattle.lq_value.specs.declared.ty.Ty.TheOpen.{Ty-F}
 use Rattle.lq_value.specs.declared.ty.Ty.TheVariants as ty
 use Rattle.lq_model.specs.declared.syntax.Clause.{Clause}
 use Rattle.lq_model.specs.declared.syntax.Clause.TheVariants as clause
-use Rattle.lq_model.specs.declared.syntax.Comparison.{Comparison}
+use Rattle.lq_model.specs.declared.syntax.Binary.{Binary}
+use Rattle.lq_model.specs.declared.syntax.Binary.TheVariants as binary
+use Rattle.lq_model.specs.declared.syntax.Body.{Body}
 use Rattle.lq_model.specs.declared.syntax.Expr.{Expr, fold-Expr}
 use Rattle.lq_model.specs.declared.syntax.Expr.TheOpen.{Expr-F}
 use Rattle.lq_model.specs.declared.syntax.Expr.TheVariants as expr
 use Rattle.lq_model.specs.declared.syntax.Last.{Last}
 use Rattle.lq_model.specs.declared.syntax.Last.TheVariants as last
+use Rattle.lq_model.specs.declared.syntax.Node.{Node}
+use Rattle.lq_model.specs.declared.syntax.Node.TheVariants as node
 use Rattle.lq_model.specs.declared.syntax.Query.{Query}
 
 -- what the names of a place stand for: the tables, by number, and the local names with their types
@@ -62,15 +66,25 @@ is_scalar Ty-F.Bool = true
 is_scalar Ty-F.Str = true
 is_scalar layer = false
 
--- An expression has a type under names.
+-- whether an operator compares its operands
+abbrev pub is_comparison : Binary → Bool
+is_comparison binary.Less = true
+is_comparison binary.Greater = true
+is_comparison binary.LessOrEqual = true
+is_comparison binary.GreaterOrEqual = true
+is_comparison binary.Equal = true
+is_comparison binary.NotEqual = true
+is_comparison op = false
+
+-- An expression has a type under names. Forms that are spelled and have no rule here are served by a later version.
 pub data HasType (names : Names) : Expr → Ty → Type 0 where
-  of_integer : (e : Expr) (n : ℤ) → e ≡ expr.Integer n → HasType names e ty.Int
-  of_local : (e : Expr) (x : List ℕ) (t : Ty) → e ≡ expr.Name x → local_type x names.locals ≡ Some t → HasType names e t
+  of_integer : (e : Expr) (n : ℤ) → e ≡ expr.Node (node.Integer n) → HasType names e ty.Int
+  of_local : (e : Expr) (x : List ℕ) (t : Ty) → e ≡ expr.Node (node.Name x) → local_type x names.locals ≡ Some t → HasType names e t
   -- a local name hides a table of its name
-  of_table : (e : Expr) (x : List ℕ) (n : ℕ) → e ≡ expr.Name x → local_type x names.locals ≡ None → table_number x names.tables ≡ Some n → HasType names e (ty.Seq (ty.Row n))
-  of_column : (e row : Expr) (c : List ℕ) (n : ℕ) (t : Ty) → e ≡ expr.Member row c → HasType names row (ty.Row n) → column_type names.tables n c ≡ Some t → HasType names e t
-  of_comparison : (e a b : Expr) (op : Comparison) (s t : Ty) → e ≡ expr.Compare op a b → HasType names a s → is_number (out-Ty s) ≡ true → HasType names b t → is_number (out-Ty t) ≡ true
-      → HasType names e ty.Bool
+  of_table : (e : Expr) (x : List ℕ) (n : ℕ) → e ≡ expr.Node (node.Name x) → local_type x names.locals ≡ None → table_number x names.tables ≡ Some n → HasType names e (ty.Seq (ty.Row n))
+  of_column : (e row : Expr) (c : List ℕ) (n : ℕ) (t : Ty) → e ≡ expr.Node (node.Member row c) → HasType names row (ty.Row n) → column_type names.tables n c ≡ Some t → HasType names e t
+  of_comparison : (e a b : Expr) (op : Binary) (s t : Ty) → e ≡ expr.Node (node.Binary op a b) → is_comparison op ≡ true → HasType names a s → is_number (out-Ty s) ≡ true
+      → HasType names b t → is_number (out-Ty t) ≡ true → HasType names e ty.Bool
 
 -- the local names with one more
 abbrev pub with_local : Names → List ℕ → Ty → Names
@@ -79,6 +93,7 @@ with_local names name t = record { tables = names.tables; locals = (name, t) ∷
 -- A clause is typed: a condition is a truth value.
 abbrev pub IsTypedClause : Names → Clause Expr → Type 0
 IsTypedClause names (clause.Where c) = HasType names c ty.Bool
+IsTypedClause names clause = ⊥
 
 abbrev pub AreTypedClauses : Names → List (Clause Expr) → Type 0
 AreTypedClauses names [] = Unit {0}
@@ -87,6 +102,7 @@ AreTypedClauses names (c ∷ cs) = IsTypedClause names c × AreTypedClauses name
 -- What a query selects has this type. Rows, sequences and the like are served by a later version, and have no type here.
 abbrev pub HasSelectedType : Names → Last Expr → Ty → Type 0
 HasSelectedType names (last.Select v) t = HasType names v t × (is_scalar (out-Ty t) ≡ true)
+HasSelectedType names (last.Group v key) t = ⊥
 
 -- A query is a sequence of such items: its source is a sequence, its range variable stands for an item of the source in
 -- its clauses and in what it selects, and repeats no local name.
@@ -94,8 +110,9 @@ pub record HasItemType (names : Names) (q : Query Expr) (t : Ty) : Type 0 where
   pub item : Ty
   pub source : HasType names q.source (ty.Seq item)
   pub fresh : local_type q.name names.locals ≡ None
-  pub clauses : AreTypedClauses (with_local names q.name item) q.clauses
-  pub selected : HasSelectedType (with_local names q.name item) q.last t
+  pub clauses : AreTypedClauses (with_local names q.name item) q.body.clauses
+  pub selected : HasSelectedType (with_local names q.name item) q.body.last t
+  pub ended : q.rest ≡ []
 
 -- ---- the same as a function
 
@@ -116,12 +133,17 @@ abbrev pub name_type : Names → List ℕ → Option Ty → Option Ty
 name_type names x (Some t) = Some t
 name_type names x None = option_map (λ n. ty.Seq (ty.Row n)) (table_number x names.tables)
 
+abbrev pub node_type : Node (Names → Option Ty) → Names → Option Ty
+node_type (node.Integer n) names = Some ty.Int
+node_type (node.Name x) names = name_type names x (local_type x names.locals)
+node_type (node.Member row c) names = option_and_then (λ t. option_and_then (λ n. column_type names.tables n c) (row_table (out-Ty t))) (row names)
+node_type (node.Binary op a b) names =
+    if is_comparison op then option_and_then (λ s. option_and_then (λ t. if is_number (out-Ty s) && is_number (out-Ty t) then Some ty.Bool else None) (b names)) (a names) else None
+node_type node names = None
+
 abbrev pub type_step : Expr-F (Names → Option Ty) → Names → Option Ty
-type_step (Expr-F.Integer n) names = Some ty.Int
-type_step (Expr-F.Name x) names = name_type names x (local_type x names.locals)
-type_step (Expr-F.Member row c) names = option_and_then (λ t. option_and_then (λ n. column_type names.tables n c) (row_table (out-Ty t))) (row names)
-type_step (Expr-F.Compare op a b) names =
-    option_and_then (λ s. option_and_then (λ t. if is_number (out-Ty s) && is_number (out-Ty t) then Some ty.Bool else None) (b names)) (a names)
+type_step (Expr-F.Node n) names = node_type n names
+type_step (Expr-F.Query q) names = None
 
 unfoldable pub type_of : Expr → Names → Option Ty
 type_of = fold-Expr (Names → Option Ty) type_step
@@ -132,6 +154,7 @@ is_bool_type (Some t) = is_bool (out-Ty t)
 
 abbrev pub clause_is_typed : Names → Clause Expr → Bool
 clause_is_typed names (clause.Where c) = is_bool_type (type_of c names)
+clause_is_typed names clause = false
 
 abbrev pub clauses_are_typed : Names → List (Clause Expr) → Bool
 clauses_are_typed names [] = true
@@ -143,9 +166,11 @@ if_scalar (Some t) = if is_scalar (out-Ty t) then Some t else None
 
 abbrev pub selected_type : Names → Last Expr → Option Ty
 selected_type names (last.Select v) = if_scalar (type_of v names)
+selected_type names (last.Group v key) = None
 
+-- the type of what a body gives, where no continuation follows it
 abbrev pub body_type : Names → Query Expr → Option Ty
-body_type names q = if clauses_are_typed names q.clauses then selected_type names q.last else None
+body_type names q = if (length q.rest == 0) && clauses_are_typed names q.body.clauses then selected_type names q.body.last else None
 
 -- the type of a query's items, where its source gives items of this type
 abbrev pub items_over : Names → Query Expr → Option Ty → Option Ty

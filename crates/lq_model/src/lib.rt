@@ -14,5 +14,8 @@ mod token;
 pub mod typing_laws;
 
 pub use policy::{Policy, PolicyParts, Role, TablePart};
-pub use syntax::{Clause, Comparison, Expr, Last, Query, Statement};
+pub use syntax::{
+    Argument, Binary, Body, Clause, Continuation, Expr, Field, Infix, Join, Last, Level, Node, Query,
+    SortKey, Statement, Unary,
+};
 pub use token::{Kind, Token};

@@ -12,13 +12,19 @@ use Rattle.lq_value.specs.declared.value.Value.{Value, out-Value}
 use Rattle.lq_value.specs.declared.value.Value.TheVariants.{outs-Row, outs-Scalar, outs-Seq}
 use Rattle.lq_value.specs.declared.value.Value.TheVariants as value
 use Rattle.lq_model.specs.Meaning.{Scope, World, cell_value, compared, meaning, member_value, name_value, condition_at, on_ok, scalar_of, table_value, truth_of}
-use Rattle.lq_model.specs.declared.syntax.Comparison.{Comparison}
+use Rattle.lq_model.specs.declared.syntax.Binary.{Binary}
 use Rattle.lq_model.specs.declared.syntax.Expr.{Expr, fold_out-Expr, ind-Expr, map-Expr, out-Expr, roll-Expr}
 use Rattle.lq_model.specs.declared.syntax.Expr.TheOpen.{Expr-F}
-use Rattle.lq_model.specs.declared.syntax.Expr.TheVariants.{outs-Compare, outs-Integer, outs-Member, outs-Name, rolls-Compare, rolls-Integer, rolls-Member, rolls-Name}
+use Rattle.lq_model.specs.declared.syntax.Expr.TheVariants.{outs-Node, outs-Query, rolls-Node}
+use Rattle.lq_model.specs.declared.syntax.Expr.TheViews.{out-roll-Expr}
 use Rattle.lq_model.specs.declared.syntax.Expr.TheVariants as expr
+use Rattle.lq_model.specs.declared.syntax.Node.TheVariants as node
+use Rattle.lq_model.specs.declared.syntax.Argument.{Argument}
+use Rattle.lq_model.specs.declared.syntax.Field.{Field}
+use Rattle.lq_model.specs.declared.syntax.Query.{Query}
+use Rattle.lq_model.specs.declared.syntax.Unary.{Unary}
 use Rattle.lq_model.specs.Visible.{cell_named, is_true, rule_holds, rule_world}
-use Rattle.lq_model.proofs.Opens.{meaning_compare, meaning_integer, meaning_member, meaning_name}
+use Rattle.lq_model.proofs.Opens.{layer_meaning, rolled_meaning, meaning_compare, meaning_integer, meaning_member, meaning_name}
 use Rattle.lq_session.specs.OneRow.{Shape, TheRow, TheScalar, cell_in, member_in, scalar_at, scalar_in, shape_of, shape_step, truth_at}
 
 -- ---- the equations of the evaluator
@@ -31,21 +37,61 @@ module _ (variable : List ℕ) (cell : List ℕ → Option Scalar) where
   unfolding shape_of
   shape_out e = fold_out-Expr (Result Shape Fault) (shape_step variable cell) e
 
-  pub shape_integer : (n : ℤ) → shape_of variable cell (expr.Integer n) ≡ Ok (TheScalar (scalar.Int n))
-  shape_integer n = shape_out (expr.Integer n) ∙ ap layer_shape (outs-Integer n)
+  rolled_shape : (layer : Expr-F Expr) → shape_of variable cell (roll-Expr layer) ≡ layer_shape layer
+  rolled_shape layer = shape_out (roll-Expr layer) ∙ ap layer_shape (out-roll-Expr layer)
 
-  pub shape_name : (x : List ℕ) → shape_of variable cell (expr.Name x) ≡ (if bytes_eq variable x then Ok TheRow else Err fault.NullReference)
-  shape_name x = shape_out (expr.Name x) ∙ ap layer_shape (outs-Name x)
+  pub shape_integer : (n : ℤ) → shape_of variable cell (expr.Node (node.Integer n)) ≡ Ok (TheScalar (scalar.Int n))
+  shape_integer n = shape_out (expr.Node (node.Integer n)) ∙ ap layer_shape (outs-Node (node.Integer n))
 
-  pub shape_member : (row : Expr) (c : List ℕ) → shape_of variable cell (expr.Member row c) ≡ on_ok (shape_of variable cell row) (member_in (cell c))
-  shape_member row c = shape_out (expr.Member row c) ∙ ap layer_shape (outs-Member row c)
+  pub shape_name : (x : List ℕ) → shape_of variable cell (expr.Node (node.Name x)) ≡ (if bytes_eq variable x then Ok TheRow else Err fault.NullReference)
+  shape_name x = shape_out (expr.Node (node.Name x)) ∙ ap layer_shape (outs-Node (node.Name x))
 
-  pub shape_compare : (op : Comparison) (a b : Expr) → shape_of variable cell (expr.Compare op a b)
+  pub shape_member : (row : Expr) (c : List ℕ) → shape_of variable cell (expr.Node (node.Member row c)) ≡ on_ok (shape_of variable cell row) (member_in (cell c))
+  shape_member row c = shape_out (expr.Node (node.Member row c)) ∙ ap layer_shape (outs-Node (node.Member row c))
+
+  pub shape_compare : (op : Binary) (a b : Expr) → shape_of variable cell (expr.Node (node.Binary op a b))
       ≡ on_ok (on_ok (shape_of variable cell a) scalar_in) (λ s. on_ok (on_ok (shape_of variable cell b) scalar_in) (λ t. Ok (TheScalar (scalar.Bool (compared op s t)))))
-  shape_compare op a b = shape_out (expr.Compare op a b) ∙ ap layer_shape (outs-Compare op a b)
+  shape_compare op a b = shape_out (expr.Node (node.Binary op a b)) ∙ ap layer_shape (outs-Node (node.Binary op a b))
+
+  -- forms that have no meaning yet
+  pub shape_text : (t : List ℕ) → shape_of variable cell (expr.Node (node.Text t)) ≡ Err fault.NullReference
+  shape_text t = shape_out (expr.Node (node.Text t)) ∙ ap layer_shape (outs-Node (node.Text t))
+
+  pub shape_truth : (b : Bool) → shape_of variable cell (expr.Node (node.Bool b)) ≡ Err fault.NullReference
+  shape_truth b = shape_out (expr.Node (node.Bool b)) ∙ ap layer_shape (outs-Node (node.Bool b))
+
+  pub shape_null : shape_of variable cell (expr.Node node.Null) ≡ Err fault.NullReference
+  shape_null = shape_out (expr.Node node.Null) ∙ ap layer_shape (outs-Node node.Null)
+
+  pub shape_unary : (op : Unary) (a : Expr) → shape_of variable cell (expr.Node (node.Unary op a)) ≡ Err fault.NullReference
+  shape_unary op a = shape_out (expr.Node (node.Unary op a)) ∙ ap layer_shape (outs-Node (node.Unary op a))
+
+  pub shape_both : (a b : Expr) → shape_of variable cell (expr.Node (node.And a b)) ≡ Err fault.NullReference
+  shape_both a b = shape_out (expr.Node (node.And a b)) ∙ ap layer_shape (outs-Node (node.And a b))
+
+  pub shape_either : (a b : Expr) → shape_of variable cell (expr.Node (node.Or a b)) ≡ Err fault.NullReference
+  shape_either a b = shape_out (expr.Node (node.Or a b)) ∙ ap layer_shape (outs-Node (node.Or a b))
+
+  pub shape_coalesce : (a b : Expr) → shape_of variable cell (expr.Node (node.Coalesce a b)) ≡ Err fault.NullReference
+  shape_coalesce a b = shape_out (expr.Node (node.Coalesce a b)) ∙ ap layer_shape (outs-Node (node.Coalesce a b))
+
+  pub shape_choice : (a b c : Expr) → shape_of variable cell (expr.Node (node.Conditional a b c)) ≡ Err fault.NullReference
+  shape_choice a b c = shape_out (expr.Node (node.Conditional a b c)) ∙ ap layer_shape (outs-Node (node.Conditional a b c))
+
+  pub shape_host : (p : List ℕ) (xs : List Expr) → shape_of variable cell (expr.Node (node.Host p xs)) ≡ Err fault.NullReference
+  shape_host p xs = shape_out (expr.Node (node.Host p xs)) ∙ ap layer_shape (outs-Node (node.Host p xs))
+
+  pub shape_record : (fs : List (Field Expr)) → shape_of variable cell (expr.Node (node.New fs)) ≡ Err fault.NullReference
+  shape_record fs = shape_out (expr.Node (node.New fs)) ∙ ap layer_shape (outs-Node (node.New fs))
+
+  pub shape_method : (a : Expr) (m : List ℕ) (xs : List (Argument Expr)) → shape_of variable cell (expr.Node (node.Method a m xs)) ≡ Err fault.NullReference
+  shape_method a m xs = shape_out (expr.Node (node.Method a m xs)) ∙ ap layer_shape (outs-Node (node.Method a m xs))
+
+  pub shape_query : (q : Query Expr) → shape_of variable cell (expr.Query q) ≡ Err fault.NullReference
+  shape_query q = shape_out (expr.Query q) ∙ ap layer_shape (outs-Query q)
 
 -- the equations, and how a layer is read
-pub ruleset shapes = (shape_integer, shape_name, shape_member, shape_compare)
+pub ruleset shapes = (shape_integer, shape_name, shape_member, shape_compare, shape_text, shape_truth, shape_null, shape_unary, shape_both, shape_either, shape_coalesce, shape_choice, shape_host, shape_record, shape_method, shape_query)
 
 -- ---- agreement with the meaning
 
@@ -90,18 +136,18 @@ module _ {R : Type 0} (world : World R) (variable : List ℕ) (t : Ty) (r : R) w
   member_agrees m (Err f) c h = subst (λ (n : Result (Value R) Fault). Agrees world r n (Err f)) (sym (h.0 c)) (faulty f)
 
   -- the same operator on the same scalars
-  abbrev pub as_value : Comparison → Result Scalar Fault → Result Scalar Fault → Result (Value R) Fault
+  abbrev pub as_value : Binary → Result Scalar Fault → Result Scalar Fault → Result (Value R) Fault
   as_value op a b = on_ok a (λ s. on_ok b (λ t'. Ok (value.Scalar (scalar.Bool (compared op s t')))))
 
-  abbrev pub as_shape : Comparison → Result Scalar Fault → Result Scalar Fault → Result Shape Fault
+  abbrev pub as_shape : Binary → Result Scalar Fault → Result Scalar Fault → Result Shape Fault
   as_shape op a b = on_ok a (λ s. on_ok b (λ t'. Ok (TheScalar (scalar.Bool (compared op s t')))))
 
-  compared_agrees : (op : Comparison) (a b : Result Scalar Fault) → Agrees world r (as_value op a b) (as_shape op a b)
+  compared_agrees : (op : Binary) (a b : Result Scalar Fault) → Agrees world r (as_value op a b) (as_shape op a b)
   compared_agrees op (Ok s) (Ok t') = refl
   compared_agrees op (Ok s) (Err f) = faulty f
   compared_agrees op (Err f) b = faulty f
 
-  compared_alike : (op : Comparison) (a b c d : Result Scalar Fault) → a ≡ c → b ≡ d → Agrees world r (as_value op a b) (as_shape op c d)
+  compared_alike : (op : Binary) (a b c d : Result Scalar Fault) → a ≡ c → b ≡ d → Agrees world r (as_value op a b) (as_shape op c d)
   compared_alike op a b c d e f =
       subst (λ (x : Result Scalar Fault). Agrees world r (as_value op x b) (as_shape op c d)) (sym e)
       (subst (λ (y : Result Scalar Fault). Agrees world r (as_value op c y) (as_shape op c d)) (sym f) (compared_agrees op c d))
@@ -123,26 +169,34 @@ module _ {R : Type 0} (world : World R) (variable : List ℕ) (t : Ty) (r : R) w
   abbrev Both : Type 0
   Both = (e : Expr) × Means e
 
-  means_integer : (n : ℤ) → Means (expr.Integer n)
+  means_integer : (n : ℤ) → Means (expr.Node (node.Integer n))
   means_integer n = agrees_by _ _ _ _ (meaning_integer world n row_scope) (shape_integer variable (world.cell r) n) refl
 
-  means_name : (x : List ℕ) → Means (expr.Name x)
+  means_name : (x : List ℕ) → Means (expr.Node (node.Name x))
   means_name x = agrees_by _ _ _ _ (meaning_name world x row_scope) (shape_name variable (world.cell r) x) (name_agrees x (bytes_eq variable x))
 
-  means_member : (row : Expr) (c : List ℕ) → Means row → Means (expr.Member row c)
+  means_member : (row : Expr) (c : List ℕ) → Means row → Means (expr.Node (node.Member row c))
   means_member row c h = agrees_by _ _ _ _ (meaning_member world row c row_scope) (shape_member variable (world.cell r) row c) (member_agrees _ _ c h)
 
-  means_compare : (op : Comparison) (a b : Expr) → Means a → Means b → Means (expr.Compare op a b)
+  means_compare : (op : Binary) (a b : Expr) → Means a → Means b → Means (expr.Node (node.Binary op a b))
   means_compare op a b h k =
       agrees_by _ _ _ _ (meaning_compare world op a b row_scope) (shape_compare variable (world.cell r) op a b)
       (compared_alike op (on_ok (meaning world a row_scope) (λ v. scalar_of (out-Value R v))) (on_ok (meaning world b row_scope) (λ v. scalar_of (out-Value R v)))
       (on_ok (shape_of variable (world.cell r) a) scalar_in) (on_ok (shape_of variable (world.cell r) b) scalar_in) (scalars_agree _ _ h) (scalars_agree _ _ k))
 
+  -- a form that has no meaning yet
+  means_nothing : (layer : Expr-F Expr) → layer_meaning world layer row_scope ≡ Err fault.NullReference → layer_shape variable (world.cell r) layer ≡ Err fault.NullReference → Means (roll-Expr layer)
+  means_nothing layer meant found =
+      agrees_by _ _ _ _ (rolled_meaning world layer row_scope ∙ meant) (rolled_shape variable (world.cell r) layer ∙ found) (faulty fault.NullReference)
+
   means_layer : (x : Expr-F Expr) (y : Expr-F Both) → map-Expr Both Expr (λ e. e.0) y ≡ x → Means (roll-Expr x)
-  means_layer x (Expr-F.Integer n) h = subst (λ d. Means (roll-Expr d)) h (subst Means (sym (rolls-Integer n)) (means_integer n))
-  means_layer x (Expr-F.Name s) h = subst (λ d. Means (roll-Expr d)) h (subst Means (sym (rolls-Name s)) (means_name s))
-  means_layer x (Expr-F.Member row c) h = subst (λ d. Means (roll-Expr d)) h (subst Means (sym (rolls-Member row.0 c)) (means_member row.0 c row.1))
-  means_layer x (Expr-F.Compare op a b) h = subst (λ d. Means (roll-Expr d)) h (subst Means (sym (rolls-Compare op a.0 b.0)) (means_compare op a.0 b.0 a.1 b.1))
+  means_layer x (Expr-F.Node (node.Integer n)) h = subst (λ d. Means (roll-Expr d)) h (subst Means (sym (rolls-Node (node.Integer n))) (means_integer n))
+  means_layer x (Expr-F.Node (node.Name s)) h = subst (λ d. Means (roll-Expr d)) h (subst Means (sym (rolls-Node (node.Name s))) (means_name s))
+  means_layer x (Expr-F.Node (node.Member row c)) h = subst (λ d. Means (roll-Expr d)) h (subst Means (sym (rolls-Node (node.Member row.0 c))) (means_member row.0 c row.1))
+  means_layer x (Expr-F.Node (node.Binary op a b)) h = subst (λ d. Means (roll-Expr d)) h (subst Means (sym (rolls-Node (node.Binary op a.0 b.0))) (means_compare op a.0 b.0 a.1 b.1))
+
+  means_layer x (Expr-F.Node other) h = subst (λ d. Means (roll-Expr d)) h (means_nothing (map-Expr Both Expr (λ b. b.0) (Expr-F.Node other)) refl refl)
+  means_layer x (Expr-F.Query q) h = subst (λ d. Means (roll-Expr d)) h (means_nothing (map-Expr Both Expr (λ b. b.0) (Expr-F.Query q)) refl refl)
 
   -- in the scope of the row an expression means what the evaluator finds
   pub means : (e : Expr) → Means e

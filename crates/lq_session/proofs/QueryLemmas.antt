@@ -1,5 +1,6 @@
 -- A typed query over a table serves what its visible rows give, one row at a time.
-use Rattle.std.proofs.Common.{◌≡◌, ◌∷◌, if◌then◌else◌, List, [], map, ℕ, Bool, true, false, Option, Some, None, Result, Ok, Err, ap, ◌∙◌, sym, refl}
+use Rattle.std.proofs.Common.{◌≡◌, ◌∷◌, if◌then◌else◌, List, [], map, ℕ, Bool, true, false, Option, Some, None, Result, Ok, Err, ap, ◌∙◌, sym, refl, true≢false}
+use Rattle.std.proofs.lemmas.Bool.{and_parts}
 use Rattle.std.proofs.lemmas.List.{map-append}
 use Rattle.serde_json.specs.Data.{Data}
 use Rattle.lq_value.specs.declared.scalar.Scalar.{Scalar}
@@ -14,7 +15,7 @@ use Rattle.lq_value.specs.declared.value.Value.TheVariants.{outs-Scalar}
 use Rattle.lq_model.specs.Meaning.{Scope, World, clause_meaning, clauses_meaning, condition_at, last_meaning, meaning, on_ok}
 use Rattle.lq_model.specs.Served.{item_data, layer_data, scalar_data}
 use Rattle.lq_model.specs.Stream.{Stream, each, kept, one, then_ending, then_stream}
-use Rattle.lq_model.specs.Typing.{Names, with_local}
+use Rattle.lq_model.specs.Typing.{Names, clause_is_typed, clauses_are_typed, with_local}
 use Rattle.lq_model.specs.declared.syntax.Clause.{Clause}
 use Rattle.lq_model.specs.declared.syntax.Clause.TheVariants as clause
 use Rattle.lq_model.specs.declared.syntax.Expr.{Expr}
@@ -78,13 +79,14 @@ module _ {R : Type 0} (world : World R) (variable : List ℕ) (t : Ty) where
       ∙ (λ i. each (λ r. (gated-kept (test r) (condition_at world c (row_scope world variable t r)) (row_scope world variable t r)
       ∙ ap (λ (u : Result Bool Fault). kept (both (test r) u) (row_scope world variable t r)) (condition_means world variable t r c)) i) rows e)
 
-  pub clauses_rows : (cs : List (Clause Expr)) (test : R → Result Bool Fault) (rows : List R) (e : End)
+  pub clauses_rows : (names : Names) (cs : List (Clause Expr)) (test : R → Result Bool Fault) (rows : List R) (e : End) → clauses_are_typed names cs ≡ true
       → clauses_meaning world cs (kept_rows test rows e) ≡ kept_rows (λ r. both (test r) (passes variable (world.cell r) cs)) rows e
-  clauses_rows [] test rows e = λ i. kept_rows (λ r. sym (both-true (test r)) i) rows e
-  clauses_rows (clause.Where c ∷ cs) test rows e =
+  clauses_rows names [] test rows e typed = λ i. kept_rows (λ r. sym (both-true (test r)) i) rows e
+  clauses_rows names (clause.Where c ∷ cs) test rows e typed =
       ap (clauses_meaning world cs) (where_rows c test rows e)
-      ∙ clauses_rows cs (λ r. both (test r) (truth_at variable (world.cell r) c)) rows e
+      ∙ clauses_rows names cs (λ r. both (test r) (truth_at variable (world.cell r) c)) rows e (and_parts (clause_is_typed names (clause.Where c)) (clauses_are_typed names cs) typed).1
       ∙ (λ i. kept_rows (λ r. both-assoc (test r) (truth_at variable (world.cell r) c) (passes variable (world.cell r) cs) i) rows e)
+  clauses_rows names (other ∷ cs) test rows e typed = absurd (true≢false (sym typed))
 
 -- ---- what is selected
 
@@ -130,13 +132,15 @@ module _ {R : Type 0} (world : World R) (variable : List ℕ) (number : ℕ) whe
       ∙ as_data-each (λ r. gated (test r) (one (meaning world v (row_scope world variable item r)))) rows e
       ∙ (λ i. each (λ r. as_data (gated (test r) (one (scalar_found world world.schemas variable number r v typed i)))) rows e)
 
+  last_rows cs (last.Group v key) test rows e typed = absurd (true≢false (sym typed))
+
   -- the rows of a query, from its clauses to what it selects
-  pub body_rows : (cs : List (Clause Expr)) (l : Last Expr) (rows : List R) → selects_scalar body_names l ≡ true
+  pub body_rows : (cs : List (Clause Expr)) (l : Last Expr) (rows : List R) → clauses_are_typed body_names cs ≡ true → selects_scalar body_names l ≡ true
       → as_data (last_meaning world l (clauses_meaning world cs (map (row_scope world variable item) rows, end.Done)))
       ≡ each (λ r. given_stream (given_at variable (world.cell r) cs l)) rows end.Done
-  body_rows cs l rows typed =
+  body_rows cs l rows clauses typed =
       ap (λ (s : Stream (Scope R)). as_data (last_meaning world l (clauses_meaning world cs s))) (all_rows rows)
-      ∙ ap (λ (s : Stream (Scope R)). as_data (last_meaning world l s)) (clauses_rows world variable item cs (λ r. Ok true) rows end.Done)
+      ∙ ap (λ (s : Stream (Scope R)). as_data (last_meaning world l s)) (clauses_rows world variable item body_names cs (λ r. Ok true) rows end.Done clauses)
       ∙ last_rows cs l (λ r. passes variable (world.cell r) cs) rows end.Done typed
       ∙ (λ i. each (λ r. selected_as R (passes variable (world.cell r) cs) (selected variable (world.cell r) l) i) rows end.Done)
     where

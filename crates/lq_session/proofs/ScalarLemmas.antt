@@ -10,12 +10,13 @@ use Rattle.lq_value.specs.declared.value.Value.TheVariants as value
 use Rattle.lq_value.specs.declared.value.Value.TheVariants.{outs-Row as outs-value-Row, outs-Scalar}
 use Rattle.lq_model.specs.Meaning.{Scope, World, cell_value, meaning, member_value, on_ok, scalar_of}
 use Rattle.lq_model.specs.Typing.{Names, is_scalar, name_type, table_number, type_of}
-use Rattle.lq_model.specs.declared.syntax.Comparison.{Comparison}
+use Rattle.lq_model.specs.declared.syntax.Binary.{Binary}
 use Rattle.lq_model.specs.declared.syntax.Expr.{Expr, ind-Expr, map-Expr, roll-Expr}
 use Rattle.lq_model.specs.declared.syntax.Expr.TheOpen.{Expr-F}
-use Rattle.lq_model.specs.declared.syntax.Expr.TheVariants.{rolls-Compare, rolls-Integer, rolls-Member, rolls-Name}
+use Rattle.lq_model.specs.declared.syntax.Expr.TheVariants.{rolls-Node}
 use Rattle.lq_model.specs.declared.syntax.Expr.TheVariants as expr
-use Rattle.lq_model.proofs.Opens.{meaning_compare, meaning_integer, meaning_member, type_name}
+use Rattle.lq_model.specs.declared.syntax.Node.TheVariants as node
+use Rattle.lq_model.proofs.Opens.{layer_type, rolled_type, meaning_compare, meaning_integer, meaning_member, type_name}
 use Rattle.lq_session.specs.Given.{is_scalar_type}
 use Rattle.lq_session.specs.OneRow.{Shape, TheRow, TheScalar, cell_in, member_in, scalar_at, scalar_in}
 use Rattle.lq_session.proofs.OneRowLemmas.{Agrees, as_shape, as_value, means, row_scope, scalar_means, shape_compare, shape_integer, shape_member}
@@ -35,7 +36,7 @@ module _ {R : Type 0} (world : World R) (tables : List Schema) (variable : List 
   abbrev IsFound : Expr → Type 0
   IsFound e = is_scalar_type (type_of e row_names) ≡ true → meaning world e scope ≡ as_values (scalar_at variable (world.cell r) e)
 
-  found_integer : (m : ℤ) → IsFound (expr.Integer m)
+  found_integer : (m : ℤ) → IsFound (expr.Node (node.Integer m))
   unfolding scalar_at
   found_integer m typed = meaning_integer world m scope ∙ sym (ap (λ (o : Result Shape Fault). as_values (on_ok o scalar_in)) (shape_integer variable (world.cell r) m))
 
@@ -48,7 +49,7 @@ module _ {R : Type 0} (world : World R) (tables : List Schema) (variable : List 
   no_scalar_name x true h = true≢false (sym h ∙ ap is_scalar (outs-Row n))
   no_scalar_name x false h = no_scalar_table (table_number x tables) h
 
-  found_name : (x : List ℕ) → IsFound (expr.Name x)
+  found_name : (x : List ℕ) → IsFound (expr.Node (node.Name x))
   found_name x typed = absurd (no_scalar_name x (bytes_eq variable x) (sym (ap is_scalar_type (type_name x row_names)) ∙ typed))
 
   cell_found : (o : Option Scalar) → cell_value {R = R} o ≡ as_values (on_ok (cell_in o) scalar_in)
@@ -64,20 +65,20 @@ module _ {R : Type 0} (world : World R) (tables : List Schema) (variable : List 
       ap (λ (x : Result (Value R) Fault). on_ok x (λ v. member_value world c (out-Value R v))) h ∙ ap (member_value world c) (outs-Scalar s)
   member_found m (Err f) c h = h.0 c
 
-  found_member : (row : Expr) (c : List ℕ) → IsFound (expr.Member row c)
+  found_member : (row : Expr) (c : List ℕ) → IsFound (expr.Node (node.Member row c))
   unfolding scalar_at
   found_member row c typed =
       meaning_member world row c scope
       ∙ member_found _ _ c (means world variable (ty.Row n) r row)
       ∙ sym (ap (λ (o : Result Shape Fault). as_values (on_ok o scalar_in)) (shape_member variable (world.cell r) row c))
 
-  compared_found : (op : Comparison) (a b : Result Scalar Fault)
+  compared_found : (op : Binary) (a b : Result Scalar Fault)
       → as_value world variable (ty.Row n) r op a b ≡ as_values (on_ok (as_shape world variable (ty.Row n) r op a b) scalar_in)
   compared_found op (Ok s) (Ok t) = refl
   compared_found op (Ok s) (Err f) = refl
   compared_found op (Err f) b = refl
 
-  found_compare : (op : Comparison) (a b : Expr) → IsFound (expr.Compare op a b)
+  found_compare : (op : Binary) (a b : Expr) → IsFound (expr.Node (node.Binary op a b))
   unfolding scalar_at
   found_compare op a b typed =
       meaning_compare world op a b scope
@@ -89,11 +90,17 @@ module _ {R : Type 0} (world : World R) (tables : List Schema) (variable : List 
   abbrev Both : Type 0
   Both = (e : Expr) × IsFound e
 
+  -- a layer that no rule gives a type
+  found_nothing : (layer : Expr-F Expr) → layer_type layer row_names ≡ None → IsFound (roll-Expr layer)
+  found_nothing layer none typed = absurd (true≢false (sym typed ∙ ap is_scalar_type (rolled_type layer row_names ∙ none)))
+
   found_layer : (x : Expr-F Expr) (y : Expr-F Both) → map-Expr Both Expr (λ e. e.0) y ≡ x → IsFound (roll-Expr x)
-  found_layer x (Expr-F.Integer m) h = subst (λ d. IsFound (roll-Expr d)) h (subst IsFound (sym (rolls-Integer m)) (found_integer m))
-  found_layer x (Expr-F.Name s) h = subst (λ d. IsFound (roll-Expr d)) h (subst IsFound (sym (rolls-Name s)) (found_name s))
-  found_layer x (Expr-F.Member row c) h = subst (λ d. IsFound (roll-Expr d)) h (subst IsFound (sym (rolls-Member row.0 c)) (found_member row.0 c))
-  found_layer x (Expr-F.Compare op a b) h = subst (λ d. IsFound (roll-Expr d)) h (subst IsFound (sym (rolls-Compare op a.0 b.0)) (found_compare op a.0 b.0))
+  found_layer x (Expr-F.Node (node.Integer m)) h = subst (λ d. IsFound (roll-Expr d)) h (subst IsFound (sym (rolls-Node (node.Integer m))) (found_integer m))
+  found_layer x (Expr-F.Node (node.Name s)) h = subst (λ d. IsFound (roll-Expr d)) h (subst IsFound (sym (rolls-Node (node.Name s))) (found_name s))
+  found_layer x (Expr-F.Node (node.Member row c)) h = subst (λ d. IsFound (roll-Expr d)) h (subst IsFound (sym (rolls-Node (node.Member row.0 c))) (found_member row.0 c))
+  found_layer x (Expr-F.Node (node.Binary op a b)) h = subst (λ d. IsFound (roll-Expr d)) h (subst IsFound (sym (rolls-Node (node.Binary op a.0 b.0))) (found_compare op a.0 b.0))
+  found_layer x (Expr-F.Node other) h = subst (λ d. IsFound (roll-Expr d)) h (found_nothing (map-Expr Both Expr (λ b. b.0) (Expr-F.Node other)) refl)
+  found_layer x (Expr-F.Query q) h = subst (λ d. IsFound (roll-Expr d)) h (found_nothing (map-Expr Both Expr (λ b. b.0) (Expr-F.Query q)) refl)
 
   pub scalar_found : (e : Expr) → is_scalar_type (type_of e row_names) ≡ true → meaning world e scope ≡ as_values (scalar_at variable (world.cell r) e)
   scalar_found e = ind-Expr IsFound found_layer e

@@ -69,11 +69,11 @@ module _ {R : Type 0} (world : World R) (q : Query Expr) (number : ℕ) (rows : 
 
   -- the stream of the query, as data
   pub query_rows : (over : IsOver world.schemas q number) → slice_get world.rows number ≡ Some rows
-      → as_data (query_meaning world q []) ≡ each (λ r. given_stream (given_at q.name (world.cell r) q.clauses q.last)) rows end.Done
+      → as_data (query_meaning world q []) ≡ each (λ r. given_stream (given_at q.name (world.cell r) q.body.clauses q.body.last)) rows end.Done
   unfolding query_meaning
   query_rows over at =
-      ap (λ (s : Stream (Scope R)). as_data (last_meaning world q.last (clauses_meaning world q.clauses s))) (bound_rows over at)
-      ∙ body_rows world q.name number q.clauses q.last rows over.selected
+      ap (λ (s : Stream (Scope R)). as_data (last_meaning world q.body.last (clauses_meaning world q.body.clauses s))) (bound_rows over at)
+      ∙ body_rows world q.name number q.body.clauses q.body.last rows over.clauses over.selected
 
 -- ---- the reply
 
@@ -99,8 +99,8 @@ unfolding run_reply tables_as_seen
 reply_typed parts role number tables table q at over =
     served_typed world q (item_type q (top_names (schemas_of tables))) over.typed
     ∙ ap reply_of_items (query_rows world q number (seen_rows parts role number table.rows) over rows_at)
-    ∙ ap reply_of_items (given_visible (λ r. given_at q.name (world.cell r) q.clauses q.last) (λ row. record { table = number; row = row }) (λ row. visible_to parts role number row.cells) table.rows)
-    ∙ ap (λ (o : Option Schema). reply_of_items (items_given (λ row. if visible_to parts role number row.cells then given_at q.name (cell_named (columns_in o) row.cells) q.clauses q.last else Ok None) table.rows)) schema_is
+    ∙ ap reply_of_items (given_visible (λ r. given_at q.name (world.cell r) q.body.clauses q.body.last) (λ row. record { table = number; row = row }) (λ row. visible_to parts role number row.cells) table.rows)
+    ∙ ap (λ (o : Option Schema). reply_of_items (items_given (λ row. if visible_to parts role number row.cells then given_at q.name (cell_named (columns_in o) row.cells) q.body.clauses q.body.last else Ok None) table.rows)) schema_is
   where
     world : World TableRow
     world = world_of (schemas_of tables) (tables_as_seen parts role tables)

@@ -10,15 +10,16 @@ use Rattle.lq_value.specs.declared.ty.Ty.{Ty, out-Ty}
 use Rattle.lq_value.specs.declared.ty.Ty.TheVariants as ty
 use Rattle.lq_value.specs.declared.ty.Ty.TheVariants.{outs-Bool, outs-Int, outs-IntN, outs-Row, outs-Seq, outs-Str}
 use Rattle.lq_model.specs.Meaning.{World, meaning, table_value}
-use Rattle.lq_model.specs.Typing.{column_named, column_type, is_number, item_of, row_table, table_number, type_of, type_of_column}
+use Rattle.lq_model.specs.Typing.{is_comparison, column_named, column_type, is_number, item_of, row_table, table_number, type_of, type_of_column}
 use Rattle.lq_model.specs.Visible.{seen_from, seen_rows}
 use Rattle.lq_model.specs.declared.policy.PolicyParts.{PolicyParts}
-use Rattle.lq_model.specs.declared.syntax.Comparison.{Comparison}
+use Rattle.lq_model.specs.declared.syntax.Binary.{Binary}
 use Rattle.lq_model.specs.declared.syntax.Expr.{Expr, ind-Expr, map-Expr, roll-Expr}
 use Rattle.lq_model.specs.declared.syntax.Expr.TheOpen.{Expr-F}
-use Rattle.lq_model.specs.declared.syntax.Expr.TheVariants.{rolls-Compare, rolls-Integer, rolls-Member, rolls-Name}
+use Rattle.lq_model.specs.declared.syntax.Expr.TheVariants.{rolls-Node}
 use Rattle.lq_model.specs.declared.syntax.Expr.TheVariants as expr
-use Rattle.lq_model.proofs.Opens.{meaning_name, type_compare, type_integer, type_member, type_name}
+use Rattle.lq_model.specs.declared.syntax.Node.TheVariants as node
+use Rattle.lq_model.proofs.Opens.{layer_type, rolled_type, meaning_name, type_compare, type_integer, type_member, type_name}
 use Rattle.lq_session.specs.Given.{top_names}
 
 -- the table whose rows a sequence of this type has
@@ -56,11 +57,12 @@ truth_no_rows : (b : Bool) → table_of_rows (if b then Some ty.Bool else None) 
 truth_no_rows true = column_no_rows of.Bool
 truth_no_rows false = refl
 
-compare_no_rows : (o p : Option Ty)
-    → table_of_rows (option_and_then (λ s. option_and_then (λ t. if is_number (out-Ty s) && is_number (out-Ty t) then Some ty.Bool else None) p) o) ≡ None
-compare_no_rows None p = refl
-compare_no_rows (Some s) None = refl
-compare_no_rows (Some s) (Some t) = truth_no_rows (is_number (out-Ty s) && is_number (out-Ty t))
+compare_no_rows : (compares : Bool) (o p : Option Ty)
+    → table_of_rows (if compares then option_and_then (λ s. option_and_then (λ t. if is_number (out-Ty s) && is_number (out-Ty t) then Some ty.Bool else None) p) o else None) ≡ None
+compare_no_rows false o p = refl
+compare_no_rows true None p = refl
+compare_no_rows true (Some s) None = refl
+compare_no_rows true (Some s) (Some t) = truth_no_rows (is_number (out-Ty s) && is_number (out-Ty t))
 
 pub rows_of_table : (m : ℕ) → table_of_rows (Some (ty.Seq (ty.Row m))) ≡ Some m
 rows_of_table m = ap (λ u. option_and_then (λ item. row_table (out-Ty item)) (item_of u)) (outs-Seq (ty.Row m)) ∙ ap row_table (outs-Row m)
@@ -69,16 +71,16 @@ module _ {R : Type 0} (world : World R) (number : ℕ) where
   abbrev IsSource : Expr → Type 0
   IsSource e = table_of_rows (type_of e (top_names world.schemas)) ≡ Some number → meaning world e [] ≡ table_value (slice_get world.rows number)
 
-  source_integer : (n : ℤ) → IsSource (expr.Integer n)
+  source_integer : (n : ℤ) → IsSource (expr.Node (node.Integer n))
   source_integer n h = none_is_none (sym (ap table_of_rows (type_integer n (top_names world.schemas)) ∙ column_no_rows of.Int) ∙ h)
 
-  source_member : (row : Expr) (c : List ℕ) → IsSource (expr.Member row c)
+  source_member : (row : Expr) (c : List ℕ) → IsSource (expr.Node (node.Member row c))
   source_member row c h =
       none_is_none (sym (ap table_of_rows (type_member row c (top_names world.schemas)) ∙ members_no_rows world.schemas c (type_of row (top_names world.schemas))) ∙ h)
 
-  source_compare : (op : Comparison) (a b : Expr) → IsSource (expr.Compare op a b)
+  source_compare : (op : Binary) (a b : Expr) → IsSource (expr.Node (node.Binary op a b))
   source_compare op a b h =
-      none_is_none (sym (ap table_of_rows (type_compare op a b (top_names world.schemas)) ∙ compare_no_rows (type_of a (top_names world.schemas)) (type_of b (top_names world.schemas))) ∙ h)
+      none_is_none (sym (ap table_of_rows (type_compare op a b (top_names world.schemas)) ∙ compare_no_rows (is_comparison op) (type_of a (top_names world.schemas)) (type_of b (top_names world.schemas))) ∙ h)
 
   -- the table that a name stands for
   found_table : (o : Option ℕ) → table_of_rows (option_map (λ m. ty.Seq (ty.Row m)) o) ≡ Some number
@@ -86,17 +88,23 @@ module _ {R : Type 0} (world : World R) (number : ℕ) where
   found_table None h = none_is_none h
   found_table (Some m) h = let same : Some m ≡ Some number = sym (rows_of_table m) ∙ h in let e : m ≡ number = cc in ap (λ k. table_value (slice_get world.rows k)) e
 
-  source_name : (x : List ℕ) → IsSource (expr.Name x)
+  source_name : (x : List ℕ) → IsSource (expr.Node (node.Name x))
   source_name x h = meaning_name world x [] ∙ found_table (table_number x world.schemas) (sym (ap table_of_rows (type_name x (top_names world.schemas))) ∙ h)
 
   abbrev Both : Type 0
   Both = (e : Expr) × IsSource e
 
+  -- a layer that no rule gives a type
+  untyped : (layer : Expr-F Expr) → layer_type layer (top_names world.schemas) ≡ None → type_of (roll-Expr layer) (top_names world.schemas) ≡ None
+  untyped layer none = rolled_type layer (top_names world.schemas) ∙ none
+
   source_layer : (x : Expr-F Expr) (y : Expr-F Both) → map-Expr Both Expr (λ e. e.0) y ≡ x → IsSource (roll-Expr x)
-  source_layer x (Expr-F.Integer n) h = subst (λ d. IsSource (roll-Expr d)) h (subst IsSource (sym (rolls-Integer n)) (source_integer n))
-  source_layer x (Expr-F.Name s) h = subst (λ d. IsSource (roll-Expr d)) h (subst IsSource (sym (rolls-Name s)) (source_name s))
-  source_layer x (Expr-F.Member row c) h = subst (λ d. IsSource (roll-Expr d)) h (subst IsSource (sym (rolls-Member row.0 c)) (source_member row.0 c))
-  source_layer x (Expr-F.Compare op a b) h = subst (λ d. IsSource (roll-Expr d)) h (subst IsSource (sym (rolls-Compare op a.0 b.0)) (source_compare op a.0 b.0))
+  source_layer x (Expr-F.Node (node.Integer n)) h = subst (λ d. IsSource (roll-Expr d)) h (subst IsSource (sym (rolls-Node (node.Integer n))) (source_integer n))
+  source_layer x (Expr-F.Node (node.Name s)) h = subst (λ d. IsSource (roll-Expr d)) h (subst IsSource (sym (rolls-Node (node.Name s))) (source_name s))
+  source_layer x (Expr-F.Node (node.Member row c)) h = subst (λ d. IsSource (roll-Expr d)) h (subst IsSource (sym (rolls-Node (node.Member row.0 c))) (source_member row.0 c))
+  source_layer x (Expr-F.Node (node.Binary op a b)) h = subst (λ d. IsSource (roll-Expr d)) h (subst IsSource (sym (rolls-Node (node.Binary op a.0 b.0))) (source_compare op a.0 b.0))
+  source_layer x (Expr-F.Node other) h = subst (λ d. IsSource (roll-Expr d)) h (λ e. none_is_none (sym (ap table_of_rows (untyped (map-Expr Both Expr (λ b. b.0) (Expr-F.Node other)) refl)) ∙ e))
+  source_layer x (Expr-F.Query q) h = subst (λ d. IsSource (roll-Expr d)) h (λ e. none_is_none (sym (ap table_of_rows (untyped (map-Expr Both Expr (λ b. b.0) (Expr-F.Query q)) refl)) ∙ e))
 
   pub source_means : (e : Expr) → table_of_rows (type_of e (top_names world.schemas)) ≡ Some number → meaning world e [] ≡ table_value (slice_get world.rows number)
   source_means e = ind-Expr IsSource source_layer e

@@ -1,12 +1,13 @@
 -- From what a statement's calls give to the machine's step.
-use Rattle.std.proofs.Common.{◌≡◌, ◌∷◌, ◌++◌, List, [], map, ℕ, false, Option, Some, None, IsSome, ap, ap₂, ◌∙◌, sym, refl, codes, option_map, slice_get}
+use Rattle.std.proofs.Common.{◌≡◌, ◌∷◌, ◌++◌, List, [], map, ℕ, Bool, true, false, if◌then◌else◌, Option, Some, None, IsSome, ap, ap₂, ◌∙◌, sym, refl, codes, option_map, slice_get}
 use Rattle.serde_json.specs.Data.{Data}
 use Rattle.lq_value.specs.Tables.{Table}
 use Rattle.lq_value.specs.declared.table.Row.{Row}
 use Rattle.lq_value.specs.declared.table.Schema.{Schema}
 use Rattle.lq_value.specs.declared.value.End.{End}
-use Rattle.lq_model.specs.Machine.{State, reply_to, run_reply, step}
-use Rattle.lq_model.specs.Reading.{reading_of, reading_of_tokens}
+use Rattle.lq_model.specs.Machine.{State, perform, run_in, run_reply, served_top, step, step_by}
+use Rattle.lq_model.specs.Depth.{is_deep}
+use Rattle.lq_model.specs.Reading.{Reading, IsTooDeep, reading_of, reading_of_tokens, says_or_not}
 use Rattle.lq_model.specs.Parsing.{statement_of}
 use Rattle.lq_model.specs.Served.{error_data, line_of}
 use Rattle.lq_model.specs.Tokens.{tokens_of}
@@ -14,9 +15,14 @@ use Rattle.lq_model.specs.Typing.{item_type}
 use Rattle.lq_model.specs.Visible.{tables_as_seen}
 use Rattle.lq_model.specs.declared.policy.PolicyParts.{PolicyParts}
 use Rattle.lq_model.specs.declared.syntax.Expr.{Expr}
+use Rattle.lq_model.specs.declared.syntax.Expr.TheVariants as expr
+use Rattle.lq_model.specs.declared.syntax.Expr.TheVariants.{outs-Node, outs-Query}
+use Rattle.lq_model.specs.declared.syntax.Node.{Node}
 use Rattle.lq_model.specs.declared.syntax.Query.{Query}
 use Rattle.lq_model.specs.declared.syntax.Statement.{Statement}
+use Rattle.lq_model.specs.declared.syntax.Statement.TheVariants as statement
 use Rattle.lq_model.specs.declared.token.Token.{Token}
+use Rattle.lq_model.proofs.SessionLemmas.{step_stays}
 use Rattle.lq_session.specs.Given.{IsOver, given_to, top_names}
 use Rattle.lq_session.specs.Items.{items_given, listed, opening}
 use Rattle.lq_session.proofs.ItemLemmas.{line-listed}
@@ -24,14 +30,18 @@ use Rattle.lq_session.proofs.ServesLemmas.{items_to, reply_of_items, reply_typed
 
 -- ---- lines with and without a statement
 
-read_reply : (old : State) (o : Option Statement) → IsSome (reply_to old (option_map Some o))
+read_reply : (old : State) (o : Option Statement) → IsSome (step_by old (says_or_not o)).0
 read_reply old None = refl
 read_reply old (Some s) = refl
 
-tokens_reply : (old : State) (line : List ℕ) (o : Option (List Token)) → (o ≡ Some [] → ⊥) → IsSome (reply_to old (reading_of_tokens line o))
+weighed_reply : (old : State) (deep : Bool) (o : Option Statement) → IsSome (step_by old (if deep then IsTooDeep else says_or_not o)).0
+weighed_reply old true o = refl
+weighed_reply old false o = read_reply old o
+
+tokens_reply : (old : State) (line : List ℕ) (o : Option (List Token)) → (o ≡ Some [] → ⊥) → IsSome (step_by old (reading_of_tokens line o)).0
 tokens_reply old line None h = refl
 tokens_reply old line (Some []) h = absurd (h refl)
-tokens_reply old line (Some (token ∷ tokens)) h = read_reply old (statement_of line (token ∷ tokens))
+tokens_reply old line (Some (token ∷ tokens)) h = weighed_reply old (is_deep (token ∷ tokens)) (statement_of line (token ∷ tokens))
 
 -- a line that isn't blank has a reply
 pub some_reply : (old : State) (line : List ℕ) → (tokens_of line ≡ Some [] → ⊥) → IsSome (step old line).0
@@ -41,17 +51,26 @@ some_reply old line h = tokens_reply old line (tokens_of line) h
 -- a blank line has none
 pub blank_step : (old : State) (line : List ℕ) → tokens_of line ≡ Some [] → (None, old) ≡ step old line
 unfolding step reading_of
-blank_step old line h = ap (λ (o : Option (List Token)). (reply_to old (reading_of_tokens line o), old)) (sym h)
+blank_step old line h = ap (λ (o : Option (List Token)). step_by old (reading_of_tokens line o)) (sym h)
 
 -- the reply to what was read
-pub read_step : (old : State) (line : List ℕ) (o : Option (Option Statement)) → reading_of line ≡ o → reply_to old o ≡ (step old line).0
+pub read_step : (old : State) (line : List ℕ) (r : Reading Statement) → reading_of line ≡ r → (step_by old r).0 ≡ (step old line).0
 unfolding step
-read_step old line o h = ap (reply_to old) (sym h)
+read_step old line r h = ap (λ (x : Reading Statement). (step_by old x).0) (sym h)
 
 -- nothing but the reply is new
 pub step_state : (old : State) (line : List ℕ) (reply : Option (List ℕ)) → reply ≡ (step old line).0 → (reply, old) ≡ step old line
 unfolding step
-step_state old line reply h = ap (λ (r : Option (List ℕ)). (r, old)) h
+step_state old line reply h = ap₂ (λ (r : Option (List ℕ)) (s : State). let both : Option (List ℕ) × State = (r, s) in both) h (sym (step_stays old (reading_of line)))
+
+-- a query that is run is served, and any other expression has no type
+pub performed_query : (old : State) (q : Query Expr) → (perform old (statement.Run (expr.Query q))).0 ≡ run_in old q
+performed_query old q = ap (served_top old) (outs-Query q)
+
+pub performed_node : (old : State) (n : Node Expr) → (perform old (statement.Run (expr.Node n))).0 ≡ error_data (codes "type")
+performed_node old n = ap (served_top old) (outs-Node n)
+
+pub ruleset performed = (performed_query, performed_node)
 
 -- ---- the line of a run
 

@@ -1,5 +1,5 @@
 -- How the type check's types are read, and where it finds tables.
-use Rattle.std.proofs.Common.{◌≡◌, ◌+◌, ◌∷◌, ◌&&◌, if◌then◌else◌, List, [], map, ℕ, Bool, true, false, Option, Some, None, ap, ◌∙◌, sym, refl, bytes_eq, nat_eq, is_some, option_and_then, true≢false}
+use Rattle.std.proofs.Common.{◌≡◌, ◌==◌, ◌+◌, ◌∷◌, ◌&&◌, if◌then◌else◌, length, List, [], map, ℕ, Bool, true, false, Option, Some, None, ap, ◌∙◌, sym, refl, bytes_eq, nat_eq, is_some, option_and_then, true≢false}
 use Rattle.std.specs.List.{position_from}
 use Rattle.std.specs.Cmp.Lexicographic.{pointwise}
 use Rattle.lq_value.specs.Tables.{Table, first_named}
@@ -16,7 +16,7 @@ use Rattle.lq_model.specs.declared.syntax.Expr.{Expr}
 use Rattle.lq_model.specs.declared.syntax.Last.{Last}
 use Rattle.lq_model.specs.declared.syntax.Last.TheVariants as last
 use Rattle.lq_model.specs.declared.syntax.Query.{Query}
-use Rattle.lq_model.proofs.Opens.{type_compare, type_integer, type_member, type_name}
+use Rattle.lq_model.proofs.Opens.{type_compare, type_integer, type_member, type_name, type_text, type_truth, type_null, type_unary, type_both, type_either, type_coalesce, type_choice, type_host, type_record, type_method, type_query}
 use Rattle.lq_session.specs.Given.{IsOver, is_scalar_type, is_typed_body, selects_scalar, top_names}
 use Rattle.lq_session.specs.KnownTypes.{is_known_bool, is_known_number, is_known_scalar, known_row, shown_type}
 use Rattle.lq_session.specs.declared.typing.Known.{Known}
@@ -54,7 +54,7 @@ row_known (known.Scalar of.Str) = ap row_table outs-Str
 row_known (known.Row n) = ap row_table (outs-Row n)
 row_known (known.Rows n) = ap row_table (outs-Seq (ty.Row n))
 
-pub ruleset types = (type_integer, type_name, type_member, type_compare, number_known, row_known)
+pub ruleset types = (type_integer, type_name, type_member, type_compare, type_text, type_truth, type_null, type_unary, type_both, type_either, type_coalesce, type_choice, type_host, type_record, type_method, type_query, number_known, row_known)
 
 -- a table is found by its schema where it is found by its name
 pub number_is : (tables : List Table) (name : List ℕ) → first_named store.name_of name tables ≡ table_number name (schemas_of tables)
@@ -105,20 +105,26 @@ some_scalar (Some t) = by (is_scalar (out-Ty t)) where
 
 some_selected : (names : Names) (l : Last Expr) → is_some (selected_type names l) ≡ selects_scalar names l
 some_selected names (last.Select v) = some_scalar (type_of v names)
+some_selected names (last.Group v key) = refl
 
 none_of : {A : Type 0} (o : Option A) → is_some o ≡ false → o ≡ None
 none_of None h = refl
 none_of (Some x) h = absurd (true≢false h)
 
 some_body : (names : Names) (q : Query Expr) → is_some (body_type names q) ≡ is_typed_body names q
-some_body names q = by (clauses_are_typed names q.clauses) where
-  by : (b : Bool) → is_some (if b then selected_type names q.last else None) ≡ (b && selects_scalar names q.last)
-  by true = some_selected names q.last
-  by false = refl
+some_body names q = by (length q.rest == 0) (clauses_are_typed names q.body.clauses) where
+  by : (ended typed : Bool) → is_some (if ended && typed then selected_type names q.body.last else None) ≡ (ended && typed && selects_scalar names q.body.last)
+  by true true = some_selected names q.body.last
+  by true false = refl
+  by false typed = refl
 
 pub untyped_body : (tables : List Schema) (q : Query Expr) (n : ℕ) → type_of q.source (top_names tables) ≡ Some (ty.Seq (ty.Row n))
     → is_typed_body (with_local (top_names tables) q.name (ty.Row n)) q ≡ false → item_type q (top_names tables) ≡ None
 untyped_body tables q n h body = over_rows tables q n h ∙ none_of _ (some_body (with_local (top_names tables) q.name (ty.Row n)) q ∙ body)
+
+first_true : (a b : Bool) → (a && b) ≡ true → a ≡ true
+first_true true b h = refl
+first_true false b h = absurd (true≢false (sym h))
 
 second_true : (a b : Bool) → (a && b) ≡ true → b ≡ true
 second_true true b h = h
@@ -129,7 +135,8 @@ pub typed_body : (tables : List Schema) (q : Query Expr) (n : ℕ) → type_of q
 typed_body tables q n h body = record {
   source = h;
   typed = ap is_some (over_rows tables q n h) ∙ some_body (with_local (top_names tables) q.name (ty.Row n)) q ∙ body;
-  selected = second_true (clauses_are_typed (with_local (top_names tables) q.name (ty.Row n)) q.clauses) _ body;
+  clauses = second_true (length q.rest == 0) _ (first_true _ (selects_scalar (with_local (top_names tables) q.name (ty.Row n)) q.body.last) body);
+  selected = second_true ((length q.rest == 0) && clauses_are_typed (with_local (top_names tables) q.name (ty.Row n)) q.body.clauses) _ body;
 }
 
 pub ruleset queries = (untyped_source, untyped_row, untyped_scalar, untyped_body, typed_body)

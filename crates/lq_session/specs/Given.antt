@@ -1,5 +1,5 @@
 -- What a row of a table gives to a query, under the policies of a role.
-use Rattle.std.specs.Prelude.{◌≡◌, ◌&&◌, if◌then◌else◌, List, [], ℕ, Bool, true, false, Option, Some, None, Result, Ok, is_some}
+use Rattle.std.specs.Prelude.{◌≡◌, ◌==◌, ◌&&◌, length, if◌then◌else◌, List, [], ℕ, Bool, true, false, Option, Some, None, Result, Ok, is_some}
 use Rattle.lq_value.specs.declared.scalar.Scalar.{Scalar}
 use Rattle.lq_value.specs.declared.table.Row.{Row}
 use Rattle.lq_value.specs.declared.table.Schema.{Schema}
@@ -17,7 +17,7 @@ use Rattle.lq_session.specs.OneRow.{given_at}
 
 -- what a visible row gives: the query's clauses and what it selects, on the row
 abbrev pub given_by : List (List ℕ) → Query Expr → Row → Result (Option Scalar) Fault
-given_by columns q row = given_at q.name (cell_named columns row.cells) q.clauses q.last
+given_by columns q row = given_at q.name (cell_named columns row.cells) q.body.clauses q.body.last
 
 -- a hidden row gives nothing
 abbrev pub given_to : PolicyParts → ℕ → ℕ → List (List ℕ) → Query Expr → Row → Result (Option Scalar) Fault
@@ -33,9 +33,10 @@ is_scalar_type (Some t) = is_scalar (out-Ty t)
 -- whether what a query selects has the type of a scalar
 abbrev pub selects_scalar : Names → Last Expr → Bool
 selects_scalar names (last.Select v) = is_scalar_type (type_of v names)
+selects_scalar names (last.Group v key) = false
 
 abbrev pub is_typed_body : Names → Query Expr → Bool
-is_typed_body names q = clauses_are_typed names q.clauses && selects_scalar names q.last
+is_typed_body names q = (length q.rest == 0) && clauses_are_typed names q.body.clauses && selects_scalar names q.body.last
 
 -- the names of a statement: the tables, and no local name
 abbrev pub top_names : List Schema → Names
@@ -45,4 +46,5 @@ top_names tables = record { tables = tables; locals = [] }
 pub record IsOver (tables : List Schema) (q : Query Expr) (number : ℕ) : Type 0 where
   pub source : type_of q.source (top_names tables) ≡ Some (ty.Seq (ty.Row number))
   pub typed : is_some (item_type q (top_names tables)) ≡ true
-  pub selected : selects_scalar (with_local (top_names tables) q.name (ty.Row number)) q.last ≡ true
+  pub clauses : clauses_are_typed (with_local (top_names tables) q.name (ty.Row number)) q.body.clauses ≡ true
+  pub selected : selects_scalar (with_local (top_names tables) q.name (ty.Row number)) q.body.last ≡ true

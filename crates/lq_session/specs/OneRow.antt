@@ -12,6 +12,8 @@ use Rattle.lq_model.specs.declared.syntax.Clause.TheVariants as clause
 use Rattle.lq_model.specs.declared.syntax.Expr.{Expr, fold-Expr}
 use Rattle.lq_model.specs.declared.syntax.Expr.TheOpen.{Expr-F}
 use Rattle.lq_model.specs.declared.syntax.Last.{Last}
+use Rattle.lq_model.specs.declared.syntax.Node.{Node}
+use Rattle.lq_model.specs.declared.syntax.Node.TheVariants as node
 use Rattle.lq_model.specs.declared.syntax.Last.TheVariants as last
 
 -- the row itself, or a scalar
@@ -36,12 +38,17 @@ abbrev pub member_of : List (List ℕ) → List Scalar → List ℕ → Shape �
 member_of columns cells name = member_in (cell_named columns cells name)
 
 module _ (variable : List ℕ) (cell : List ℕ → Option Scalar) where
-  abbrev pub shape_step : Expr-F (Result Shape Fault) → Result Shape Fault
-  shape_step (Expr-F.Integer n) = Ok (TheScalar (scalar.Int n))
-  shape_step (Expr-F.Name x) = if bytes_eq variable x then Ok TheRow else Err fault.NullReference
-  shape_step (Expr-F.Member row c) = on_ok row (member_in (cell c))
-  shape_step (Expr-F.Compare op a b) =
+  abbrev pub node_shape : Node (Result Shape Fault) → Result Shape Fault
+  node_shape (node.Integer n) = Ok (TheScalar (scalar.Int n))
+  node_shape (node.Name x) = if bytes_eq variable x then Ok TheRow else Err fault.NullReference
+  node_shape (node.Member row c) = on_ok row (member_in (cell c))
+  node_shape (node.Binary op a b) =
       on_ok (on_ok a scalar_in) (λ s. on_ok (on_ok b scalar_in) (λ t. Ok (TheScalar (scalar.Bool (compared op s t)))))
+  node_shape node = Err fault.NullReference
+
+  abbrev pub shape_step : Expr-F (Result Shape Fault) → Result Shape Fault
+  shape_step (Expr-F.Node n) = node_shape n
+  shape_step (Expr-F.Query q) = Err fault.NullReference
 
   -- what an expression is, or its first fault
   unfoldable pub shape_of : Expr → Result Shape Fault
@@ -59,9 +66,11 @@ module _ (variable : List ℕ) (cell : List ℕ → Option Scalar) where
   abbrev pub passes : List (Clause Expr) → Result Bool Fault
   passes [] = Ok true
   passes (clause.Where c ∷ cs) = on_ok (truth_at c) (λ b. if b then passes cs else Ok false)
+  passes (clause ∷ cs) = Err fault.NullReference
 
   abbrev pub selected : Last Expr → Result Scalar Fault
   selected (last.Select v) = scalar_at v
+  selected (last.Group v key) = Err fault.NullReference
 
   -- what the row gives, None where a clause drops it
   abbrev pub given_at : List (Clause Expr) → Last Expr → Result (Option Scalar) Fault

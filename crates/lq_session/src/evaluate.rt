@@ -6,7 +6,7 @@ ghost use Rattle.lq_model.specs.Visible.{cell_named};
 ghost use Rattle.lq_session.specs.OneRow.{scalar_in};
 ghost use Rattle.lq_session.specs.Operands.{shown_operand, shown_scalar, shown_scalars};
 
-use lq_model::{Comparison, Expr};
+use lq_model::{Binary, Expr, Node};
 use lq_value::{Column, Fault, Scalar, Txt};
 
 /// What has the name of a column.
@@ -92,16 +92,17 @@ fn cell_named<'a, C: Named>(columns: &[C], cells: &'a [Scalar], name: &[u8]) -> 
 }
 
 /// What two scalars compare as.
-fn compared(operator: Comparison, left: ScalarRef<'_>, right: ScalarRef<'_>) -> bool
+fn compared(operator: Binary, left: ScalarRef<'_>, right: ScalarRef<'_>) -> bool
     ensures { result ≡ compared operator (shown_scalar left.entry) (shown_scalar right.entry) }
 {
     match operator {
-        Comparison::Less => is_less(left, right),
-        Comparison::Greater => is_less(right, left),
-        Comparison::LessOrEqual => is_at_most(left, right),
-        Comparison::GreaterOrEqual => is_at_most(right, left),
-        Comparison::Equal => is_same(left, right),
-        Comparison::NotEqual => !is_same(left, right),
+        Binary::Less => is_less(left, right),
+        Binary::Greater => is_less(right, left),
+        Binary::LessOrEqual => is_at_most(left, right),
+        Binary::GreaterOrEqual => is_at_most(right, left),
+        Binary::Equal => is_same(left, right),
+        Binary::NotEqual => !is_same(left, right),
+        _ => false,
     }
 }
 
@@ -163,6 +164,7 @@ impl<'a, C: Named> OneRow<'a, C> {
     ghost use Rattle.std.specs.Str.{bytes_eq};
     ghost use Rattle.lq_value.specs.declared.value.Fault.TheVariants as fault;
     ghost use Rattle.lq_model.specs.Visible.{cell_named};
+    ghost use Rattle.lq_model.specs.declared.syntax.Expr.TheVariants as expr;
     ghost use Rattle.lq_session.specs.OneRow.{TheRow, member_of, scalar_at, shape_of, truth_at};
     ghost use Rattle.lq_session.specs.Operands.{shown_operand, shown_operands, shown_scalars};
 
@@ -191,23 +193,47 @@ impl<'a, C: Named> OneRow<'a, C> {
     }
 
     /// What the expression is on the row, or its first fault.
+    #[cycle(operands)]
     #[tactic(auto, using(crate::proofs::OneRowLemmas::shapes))]
     fn operand(&self, expression: &Expr) -> Result<Operand<'a>, Fault>
         ensures { shown_operands result ≡ shape_of self.now.variable.now (cell_named (map C.named self.now.columns.now) self.now.cells.now) expression.now }
     {
         match expression {
-            Expr::Integer(number) => Ok(Operand::Scalar(ScalarRef::Int(*number))),
-            Expr::Name(name) => self.named(name.as_bytes()),
-            Expr::Member(row, column) => {
+            Expr::Node(node) => self.node(node),
+            Expr::Query(_) => Err(Fault::NullReference),
+        }
+    }
+
+    /// What the expression of this node is on the row, or its first fault.
+    #[cycle(operands)]
+    #[tactic(auto, using(crate::proofs::OneRowLemmas::shapes))]
+    fn node(&self, node: &Node<Expr>) -> Result<Operand<'a>, Fault>
+        ensures { shown_operands result ≡ shape_of self.now.variable.now (cell_named (map C.named self.now.columns.now) self.now.cells.now) (expr.Node node.now) }
+    {
+        match node {
+            Node::Integer(number) => Ok(Operand::Scalar(ScalarRef::Int(*number))),
+            Node::Name(name) => self.named(name.as_bytes()),
+            Node::Member(row, column) => {
                 let before = self.operand(row.get())?;
                 self.member(before, column.as_bytes())
             }
-            Expr::Compare(operator, left, right) => {
+            Node::Binary(operator, left, right) => {
                 let left = scalar_in(self.operand(left.get())?)?;
                 let right = scalar_in(self.operand(right.get())?)?;
                 let truth = compared(*operator, left, right);
                 Ok(Operand::Scalar(ScalarRef::Bool(truth)))
             }
+            Node::Text(_)
+            | Node::Bool(_)
+            | Node::Null
+            | Node::Unary(_, _)
+            | Node::And(_, _)
+            | Node::Or(_, _)
+            | Node::Coalesce(_, _)
+            | Node::Conditional(_, _, _)
+            | Node::Host(_, _)
+            | Node::New(_)
+            | Node::Method(_, _, _) => Err(Fault::NullReference),
         }
     }
 

@@ -27,7 +27,10 @@ fn passes<C: Named>(row: &OneRow<'_, C>, clauses: &[Clause<Expr>]) -> Result<boo
     ensures { result ≡ passes row.now.variable.now (cell_named (map C.named row.now.columns.now) row.now.cells.now) clauses.now }
 {
     let mut left = clauses;
-    while let [Clause::Where(condition), others @ ..] = left {
+    while let [clause, others @ ..] = left {
+        let Clause::Where(condition) = clause else {
+            return Err(Fault::NullReference);
+        };
         match row.truth(condition) {
             Ok(true) => left = others,
             Ok(false) => return Ok(false),
@@ -41,8 +44,10 @@ fn passes<C: Named>(row: &OneRow<'_, C>, clauses: &[Clause<Expr>]) -> Result<boo
 fn selected<'a, C: Named>(row: &OneRow<'a, C>, last: &Last<Expr>) -> Result<ScalarRef<'a>, Fault>
     ensures { shown_scalars result ≡ selected row.now.variable.now (cell_named (map C.named row.now.columns.now) row.now.cells.now) last.now }
 {
-    let Last::Select(value) = last;
-    row.scalar(value)
+    match last {
+        Last::Select(value) => row.scalar(value),
+        Last::Group(_, _) => Err(Fault::NullReference),
+    }
 }
 
 impl Run<'_> {
@@ -60,8 +65,8 @@ impl Run<'_> {
             columns: self.columns,
             cells: row.cells.as_slice(),
         };
-        match passes(&row, self.query.clauses.as_slice()) {
-            Ok(true) => match selected(&row, &self.query.last) {
+        match passes(&row, self.query.body.clauses.as_slice()) {
+            Ok(true) => match selected(&row, &self.query.body.last) {
                 Ok(scalar) => Ok(Some(scalar)),
                 Err(fault) => Err(fault),
             },

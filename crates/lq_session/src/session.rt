@@ -24,11 +24,11 @@ pub struct Session {
 
 impl Session {
     ghost use Rattle.std.specs.Prelude.{◌≡◌, ◌<◌, length, IfOk};
-    ghost use Rattle.lq_model.specs.Machine.{answer_to, reply_to, schemas_of, step};
+    ghost use Rattle.lq_model.specs.Machine.{perform, run_in, schemas_of, step, step_by};
     ghost use Rattle.lq_model.specs.Output.{Answers};
     ghost use Rattle.lq_model.specs.Served.{error_data, line_of};
-    ghost use Rattle.lq_model.specs.declared.syntax.Statement.TheVariants as statement;
     ghost use Rattle.lq_session.specs.Given.{IsOver};
+    ghost use Rattle.lq_syntax.specs.Texts.{said};
     ghost use Rattle.lq_session.specs.States.{state_of};
 
     /// The first state of a session over these tables, with these policies, under this role.
@@ -67,23 +67,36 @@ impl Session {
         match parse_statement(self.alloc, line) {
             Ok(read) => self.reply_to(&read),
             Err(SyntaxError::Syntax) => Ok(Some(self.refusal("syntax")?)),
+            Err(SyntaxError::TooDeep) => Ok(Some(self.refusal("too-deep")?)),
             Err(SyntaxError::Memory) => Err(AllocError),
         }
     }
 
     /// The reply to what was read from a line.
     fn reply_to(&self, read: &Option<Statement>) -> Result<Option<Line>, AllocError>
-        ensures { IfOk result (λ reply. reply ≡ reply_to (state_of self.now) (Some read.now)) }
+        ensures { IfOk result (λ reply. reply ≡ (step_by (state_of self.now) (said read.now)).0) }
     {
         match read {
             None => Ok(None),
-            Some(Statement::Run(query)) => Ok(Some(self.run(query)?)),
+            Some(statement) => Ok(Some(self.perform(statement)?)),
+        }
+    }
+
+    /// The line that a statement is answered. Queries that are run are served; all else has no type
+    /// yet.
+    #[tactic(auto, using(crate::proofs::StepLemmas::performed))]
+    fn perform(&self, statement: &Statement) -> Result<Line, AllocError>
+        ensures { IfOk result (λ line. line ≡ line_of (perform (state_of self.now) statement.now).0) }
+    {
+        match statement {
+            Statement::Run(Expr::Query(query)) => self.run(query.get()),
+            _ => self.refusal("type"),
         }
     }
 
     /// Serves a query, or refuses one that has no type.
     fn run(&self, query: &Query<Expr>) -> Result<Line, AllocError>
-        ensures { IfOk result (λ line. line ≡ line_of (answer_to (state_of self.now) (statement.Run query.now))) }
+        ensures { IfOk result (λ line. line ≡ line_of (run_in (state_of self.now) query.now)) }
     {
         match table_of(&self.store, query) {
             Some(table) => Ok(Line::from_bytes(self.run_over(table, query)?)),
@@ -102,7 +115,7 @@ impl Session {
     fn run_over(&self, table: u16, query: &Query<Expr>) -> Result<Vec<u8>, AllocError>
         requires within { table < length self.now.store }
         requires over { IsOver (schemas_of self.now.store) query.now table }
-        ensures { IfOk result (λ line. line.items ≡ line_of (answer_to (state_of self.now) (statement.Run query.now))) }
+        ensures { IfOk result (λ line. line.items ≡ line_of (run_in (state_of self.now) query.now)) }
     {
         let run = Run {
             policies: &self.policies,

@@ -1,11 +1,11 @@
 //! The types of expressions and queries over the tables of a store.
 ghost use Rattle.std.specs.Prelude.{◌≡◌, ◌<◌, None, length, option_map, IfNone, IfSome};
 ghost use Rattle.lq_model.specs.Machine.{schemas_of};
-ghost use Rattle.lq_model.specs.Typing.{column_named, item_type, table_number, type_of_column};
+ghost use Rattle.lq_model.specs.Typing.{column_named, is_comparison, item_type, table_number, type_of_column};
 ghost use Rattle.lq_session.specs.Given.{IsOver, top_names};
 ghost use Rattle.lq_session.specs.KnownTypes.{is_known_number};
 
-use lq_model::{Clause, Expr, Last, Query};
+use lq_model::{Binary, Clause, Expr, Last, Node, Query};
 use lq_store::{Column, ColumnType, Store};
 
 /// The type of an expression of this grammar.
@@ -24,6 +24,21 @@ fn is_number(known: Known) -> bool
     ensures { result ≡ is_known_number known }
 {
     matches!(known, Known::Scalar(ColumnType::Int | ColumnType::IntN))
+}
+
+/// Whether the operator compares its operands.
+fn is_comparison(operator: Binary) -> bool
+    ensures { result ≡ is_comparison operator }
+{
+    matches!(
+        operator,
+        Binary::Less
+            | Binary::Greater
+            | Binary::LessOrEqual
+            | Binary::GreaterOrEqual
+            | Binary::Equal
+            | Binary::NotEqual
+    )
 }
 
 /// The number of the table of this name.
@@ -60,6 +75,7 @@ impl KnownNames<'_> {
     ghost use Rattle.std.specs.Prelude.{◌≡◌, length, option_map, IfSome};
     ghost use Rattle.lq_model.specs.Machine.{schemas_of};
     ghost use Rattle.lq_model.specs.Typing.{clauses_are_typed, column_type, is_bool_type, local_type, name_type, type_of};
+    ghost use Rattle.lq_model.specs.declared.syntax.Expr.TheVariants as expr;
     ghost use Rattle.lq_session.specs.Given.{is_typed_body, selects_scalar};
     ghost use Rattle.lq_session.specs.KnownTypes.{IsWithin, names_of, shown_type};
 
@@ -89,23 +105,51 @@ impl KnownNames<'_> {
     }
 
     /// The type of an expression.
+    #[cycle(types)]
     #[tactic(auto, using(crate::proofs::TypingLemmas::types))]
     fn type_of(&self, expression: &Expr) -> Option<Known>
         ensures within { IfSome result (IsWithin (length self.now.store.now)) }
         ensures value { option_map shown_type result ≡ type_of expression.now (names_of self.now) }
     {
         match expression {
-            Expr::Integer(_) => Some(Known::Scalar(ColumnType::Int)),
-            Expr::Name(name) => self.name(name.as_str()),
-            Expr::Member(row, column) => match self.type_of(row.get())? {
+            Expr::Node(node) => self.type_of_node(node),
+            Expr::Query(_) => None,
+        }
+    }
+
+    /// The type of the expression of a node.
+    #[cycle(types)]
+    #[tactic(auto, using(crate::proofs::TypingLemmas::types))]
+    fn type_of_node(&self, node: &Node<Expr>) -> Option<Known>
+        ensures within { IfSome result (IsWithin (length self.now.store.now)) }
+        ensures value { option_map shown_type result ≡ type_of (expr.Node node.now) (names_of self.now) }
+    {
+        match node {
+            Node::Integer(_) => Some(Known::Scalar(ColumnType::Int)),
+            Node::Name(name) => self.name(name.as_str()),
+            Node::Member(row, column) => match self.type_of(row.get())? {
                 Known::Row(table) => self.column(table, column.as_bytes()),
                 _ => None,
             },
-            Expr::Compare(_, left, right) => {
+            Node::Binary(operator, left, right) => {
+                if !is_comparison(*operator) {
+                    return None;
+                }
                 let left = self.type_of(left.get())?;
                 let right = self.type_of(right.get())?;
                 (is_number(left) && is_number(right)).then_some(Known::Scalar(ColumnType::Bool))
             }
+            Node::Text(_)
+            | Node::Bool(_)
+            | Node::Null
+            | Node::Unary(_, _)
+            | Node::And(_, _)
+            | Node::Or(_, _)
+            | Node::Coalesce(_, _)
+            | Node::Conditional(_, _, _)
+            | Node::Host(_, _)
+            | Node::New(_)
+            | Node::Method(_, _, _) => None,
         }
     }
 
@@ -125,7 +169,9 @@ impl KnownNames<'_> {
         ensures { result ≡ clauses_are_typed (names_of self.now) clauses.now }
     {
         for clause in clauses {
-            let Clause::Where(condition) = clause;
+            let Clause::Where(condition) = clause else {
+                return false;
+            };
             if !self.is_condition(condition) {
                 return false;
             }
@@ -138,15 +184,19 @@ impl KnownNames<'_> {
     fn selects_scalar(&self, last: &Last<Expr>) -> bool
         ensures { result ≡ selects_scalar (names_of self.now) last.now }
     {
-        let Last::Select(value) = last;
-        matches!(self.type_of(value), Some(Known::Scalar(_)))
+        match last {
+            Last::Select(value) => matches!(self.type_of(value), Some(Known::Scalar(_))),
+            Last::Group(_, _) => false,
+        }
     }
 
     /// Whether the clauses and the end of a query are typed.
     fn is_typed_body(&self, query: &Query<Expr>) -> bool
         ensures { result ≡ is_typed_body (names_of self.now) query.now }
     {
-        self.clauses_are_typed(query.clauses.as_slice()) && self.selects_scalar(&query.last)
+        query.rest.is_empty()
+            && self.clauses_are_typed(query.body.clauses.as_slice())
+            && self.selects_scalar(&query.body.last)
     }
 }
 

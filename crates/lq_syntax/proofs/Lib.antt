@@ -1,3 +1,1 @@
-pub mod Fronts
-pub mod Readings
-pub mod Texts
+pub mod LevelLemmas

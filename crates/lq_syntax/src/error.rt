@@ -1,7 +1,6 @@
 //! What reading a text may end in.
 ghost use Rattle.std.specs.Prelude.{◌≡◌};
 
-use lq_lex::LexError;
 use std::alloc::AllocError;
 
 /// Why a text has no tree.
@@ -13,27 +12,39 @@ pub enum SyntaxError {
     /// The text is not of the grammar.
     #[error("syntax")]
     Syntax,
+    /// The text is deeper than a tree may be.
+    #[error("too deep")]
+    TooDeep,
 }
 
-impl From<AllocError> for SyntaxError {
-    ghost use Rattle.lq_syntax.specs.declared.error.SyntaxError.TheVariants.{Memory};
+/// Why the parser stops.
+#[derive(Debug, Drop)]
+pub enum ParseError {
+    /// Memory was refused, so that nothing is known of the tokens.
+    Memory,
+    /// The tokens spell nothing.
+    Syntax,
+}
 
-    ghost from_gives = { λ _ e. e ≡ Memory };
+impl From<ParseError> for SyntaxError {
+    ghost use Rattle.lq_syntax.specs.Outcome.{syntax_error};
 
-    fn from(_: AllocError) -> SyntaxError {
-        SyntaxError::Memory
+    ghost from_gives = { λ stopped e. e ≡ syntax_error stopped };
+
+    fn from(error: ParseError) -> SyntaxError {
+        match error {
+            ParseError::Memory => SyntaxError::Memory,
+            ParseError::Syntax => SyntaxError::Syntax,
+        }
     }
 }
 
-impl From<LexError> for SyntaxError {
-    ghost use Rattle.lq_syntax.specs.Outcome.{syntax_error};
+impl From<AllocError> for ParseError {
+    ghost use Rattle.lq_syntax.specs.declared.error.ParseError.TheVariants.{Memory};
 
-    ghost from_gives = { λ lexed e. e ≡ syntax_error lexed };
+    ghost from_gives = { λ _ e. e ≡ Memory };
 
-    fn from(error: LexError) -> SyntaxError {
-        match error {
-            LexError::Memory => SyntaxError::Memory,
-            LexError::Lexical | LexError::TooLong => SyntaxError::Syntax,
-        }
+    fn from(_: AllocError) -> ParseError {
+        ParseError::Memory
     }
 }

@@ -1,11 +1,11 @@
-//! Reads the lines of a script and the rules of policies: the parser that makes syntax trees of their
-//! tokens. Which tree a line's tokens spell is defined by `lq_model`.
+//! Reads the lines of a script and the rules of policies: makes their syntax trees. Which tree tokens spell is defined by
+//! `lq_model`.
 #![tactic(auto)]
 
-mod cursor;
+mod depth;
 mod error;
 mod parse;
-mod reader;
+mod texts;
 
 pub use error::SyntaxError;
-pub use parse::{parse_rule, parse_statement};
+pub use texts::{parse_rule, parse_statement};

@@ -1,0 +1,72 @@
+//! Reads the text of a line, and the text of a rule.
+ghost use Rattle.std.specs.Prelude.{◌≡◌, ◌<◌, length, Some};
+ghost use Rattle.lq_model.specs.Reading.{reading_of, reading_of_tokens, rule_in_tokens, rule_reading_of};
+ghost use Rattle.lq_syntax.specs.Texts.{ReadsLine, ReadsRule};
+
+use crate::depth::is_deep;
+use crate::error::SyntaxError;
+use crate::parse::{rule, statement};
+use lq_lex::{LexError, tokens};
+use lq_model::{Expr, Statement, Token};
+use std::alloc::Global;
+
+/// What the tokens of a line say.
+fn read_tokens(
+    alloc: Global,
+    line: &str,
+    tokens: &[Token],
+) -> Result<Option<Statement>, SyntaxError>
+    requires { length tokens.now < usize.MAX }
+    ensures { ReadsLine (reading_of_tokens line.now (Some tokens.now)) result }
+{
+    if tokens.is_empty() {
+        return Ok(None);
+    }
+    if is_deep(tokens) {
+        return Err(SyntaxError::TooDeep);
+    }
+    Ok(Some(statement(alloc, line, tokens)?))
+}
+
+/// What the tokens of a rule say.
+fn read_rule_tokens(alloc: Global, text: &str, tokens: &[Token]) -> Result<Expr, SyntaxError>
+    requires { length tokens.now < usize.MAX }
+    ensures { ReadsRule (rule_in_tokens text.now (Some tokens.now)) result }
+{
+    if is_deep(tokens) {
+        return Err(SyntaxError::TooDeep);
+    }
+    rule(alloc, text, tokens)
+}
+
+/// Reads one line of a script: `None` where it has no token, else the statement that it spells.
+///
+/// A line is refused as `TooDeep` where more than 64 brackets are open at a place of it, or a place weighs
+/// more than 256, whatever its tokens spell; and as `Syntax` where it has a lexical fault, is over 65,536
+/// bytes, or its tokens spell no statement. `Memory` says nothing of the line.
+#[tactic(auto, unfolding(lq_model::specs::Reading::reading_of, lq_model::specs::Tokens::tokens_of))]
+pub fn parse_statement(alloc: Global, line: &str) -> Result<Option<Statement>, SyntaxError>
+    ensures { ReadsLine (reading_of line.now) result }
+{
+    match tokens(alloc, line) {
+        Ok(tokens) => read_tokens(alloc, line, &tokens),
+        Err(LexError::Memory) => Err(SyntaxError::Memory),
+        Err(LexError::Lexical | LexError::TooLong) => Err(SyntaxError::Syntax),
+    }
+}
+
+/// Reads the rule of a row policy, a conditional expression. White space, line feeds too, and comments may
+/// stand between its tokens.
+///
+/// A text is refused as `TooDeep` and `Syntax` as a line is, also where it has no token. `Memory` says nothing
+/// of the text.
+#[tactic(auto, unfolding(lq_model::specs::Reading::rule_reading_of, lq_model::specs::Tokens::tokens_of))]
+pub fn parse_rule(alloc: Global, text: &str) -> Result<Expr, SyntaxError>
+    ensures { ReadsRule (rule_reading_of text.now) result }
+{
+    match tokens(alloc, text) {
+        Ok(tokens) => read_rule_tokens(alloc, text, &tokens),
+        Err(LexError::Memory) => Err(SyntaxError::Memory),
+        Err(LexError::Lexical | LexError::TooLong) => Err(SyntaxError::Syntax),
+    }
+}
