@@ -71,7 +71,7 @@ fn unit(value: u32) -> Option<char>
     char::from_u32(value)
 }
 
-/// The character whose number four hexadecimal digits spell, of which the last is a character still.
+/// The character whose number four hexadecimal digits spell: the values of three, and the last.
 fn unit_of(a: u8, b: u8, c: u8, last: char) -> Option<char>
     ensures { result ≡ option_and_then (λ d. literal.unit (a * 4096 + b * 256 + c * 16 + d)) (literal.hexadecimal last) }
 {
@@ -99,7 +99,7 @@ fn simple_escape(c: char) -> Option<char>
     }
 }
 
-/// Where the reader stands behind `c`, which is no backslash before it, and the character that `c`
+/// Where the reader stands behind `c`, which no backslash precedes, and the character that it
 /// stands for.
 fn step_plain(c: char) -> Option<(Place, Option<char>)>
     ensures { option_map spec.step_of result ≡ literal.step_plain c }
