@@ -1,5 +1,5 @@
 -- What is read from one line of a script.
-use Rattle.std.specs.Prelude.{◌≡◌, ◌∷◌, if◌then◌else◌, List, [], ℕ, Option, Some, None, option_and_then}
+use Rattle.std.specs.Prelude.{◌≡◌, ◌∷◌, if◌then◌else◌, true, false, List, [], ℕ, Option, Some, None, option_and_then}
 use Rattle.lq_model.specs.Depth.{is_deep}
 use Rattle.lq_model.specs.Grammar.{Part, Spells}
 use Rattle.lq_model.specs.Parsing.{rule_of, statement_of}
@@ -36,6 +36,10 @@ rule_in_tokens text (Some tokens) = if is_deep tokens then IsTooDeep else says_o
 unfoldable pub rule_reading_of : List ℕ → Reading Expr
 rule_reading_of text = rule_in_tokens text (tokens_of text)
 
--- The tokens of a text spell this part of the grammar.
+-- The tokens of a text are within the limits of depth, and spell this part of the grammar.
 abbrev pub IsSpelled : List ℕ → Part → Type 0
-IsSpelled text part = (tokens : List Token) × (tokens_of text ≡ Some tokens) × Spells text part tokens
+IsSpelled text part = (tokens : List Token) × (tokens_of text ≡ Some tokens) × (is_deep tokens ≡ false) × Spells text part tokens
+
+-- The tokens of a text are past the limits of depth.
+abbrev pub IsPastDepth : List ℕ → Type 0
+IsPastDepth text = (tokens : List Token) × (tokens_of text ≡ Some tokens) × (is_deep tokens ≡ true)

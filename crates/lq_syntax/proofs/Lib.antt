@@ -1,1 +1,6 @@
+pub mod Fronts
 pub mod LevelLemmas
+pub mod Readers
+pub mod Readings
+pub mod Turns
+pub mod Values

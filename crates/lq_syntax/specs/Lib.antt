@@ -1,3 +1,5 @@
 pub mod Levels
+pub mod Nests
 pub mod Outcome
+pub mod Parts
 pub mod Texts

@@ -1,10 +1,22 @@
-//! Reads the lines of a script and the rules of policies: makes their syntax trees. Which tree tokens spell is defined by
-//! `lq_model`.
+//! Reads the lines of a script and the rules of policies: the parser that makes their syntax trees.
+//! Which tree tokens spell is defined by `lq_model`.
 #![tactic(auto)]
 
+mod arguments;
+mod cells;
+mod clauses;
+mod cursor;
 mod depth;
 mod error;
+mod expressions;
+mod fields;
+mod grammar;
+mod literals;
+mod operators;
 mod parse;
+mod primaries;
+mod queries;
+mod statements;
 mod texts;
 
 pub use error::SyntaxError;

@@ -1,6 +1,8 @@
 //! Reads the text of a line, and the text of a rule.
-ghost use Rattle.std.specs.Prelude.{◌≡◌, ◌<◌, length, Some};
-ghost use Rattle.lq_model.specs.Reading.{reading_of, reading_of_tokens, rule_in_tokens, rule_reading_of};
+ghost use Rattle.std.specs.Prelude.{◌≡◌, ◌<◌, ◌↔◌, [], length, IfOk, IfSome, IsNone};
+ghost use Rattle.lq_model.specs.Grammar as part;
+ghost use Rattle.lq_model.specs.Reading.{IsPastDepth, IsSpelled, reading_of, reading_of_tokens, rule_in_tokens, rule_reading_of};
+ghost use Rattle.lq_model.specs.Tokens.{tokens_of};
 ghost use Rattle.lq_syntax.specs.Texts.{ReadsLine, ReadsRule};
 
 use crate::depth::is_deep;
@@ -39,13 +41,9 @@ fn read_rule_tokens(alloc: Global, text: &str, tokens: &[Token]) -> Result<Expr,
     rule(alloc, text, tokens)
 }
 
-/// Reads one line of a script: `None` where it has no token, else the statement that it spells.
-///
-/// A line is refused as `TooDeep` where more than 64 brackets are open at a place of it, or a place weighs
-/// more than 256, whatever its tokens spell; and as `Syntax` where it has a lexical fault, is over 65,536
-/// bytes, or its tokens spell no statement. `Memory` says nothing of the line.
+/// What a line says.
 #[tactic(auto, unfolding(lq_model::specs::Reading::reading_of, lq_model::specs::Tokens::tokens_of))]
-pub fn parse_statement(alloc: Global, line: &str) -> Result<Option<Statement>, SyntaxError>
+fn read_line(alloc: Global, line: &str) -> Result<Option<Statement>, SyntaxError>
     ensures { ReadsLine (reading_of line.now) result }
 {
     match tokens(alloc, line) {
@@ -55,13 +53,9 @@ pub fn parse_statement(alloc: Global, line: &str) -> Result<Option<Statement>, S
     }
 }
 
-/// Reads the rule of a row policy, a conditional expression. White space, line feeds too, and comments may
-/// stand between its tokens.
-///
-/// A text is refused as `TooDeep` and `Syntax` as a line is, also where it has no token. `Memory` says nothing
-/// of the text.
+/// What the text of a rule says.
 #[tactic(auto, unfolding(lq_model::specs::Reading::rule_reading_of, lq_model::specs::Tokens::tokens_of))]
-pub fn parse_rule(alloc: Global, text: &str) -> Result<Expr, SyntaxError>
+fn read_rule(alloc: Global, text: &str) -> Result<Expr, SyntaxError>
     ensures { ReadsRule (rule_reading_of text.now) result }
 {
     match tokens(alloc, text) {
@@ -69,4 +63,37 @@ pub fn parse_rule(alloc: Global, text: &str) -> Result<Expr, SyntaxError>
         Err(LexError::Memory) => Err(SyntaxError::Memory),
         Err(LexError::Lexical | LexError::TooLong) => Err(SyntaxError::Syntax),
     }
+}
+
+/// Reads one line of a script: `None` where it has no token, else the statement that it spells.
+///
+/// A line is refused as `TooDeep` where more than 64 brackets are open at a place of it, or a place weighs
+/// more than 256, whatever its tokens spell; and as `Syntax` where it has a lexical fault, is over 65,536
+/// bytes, or its tokens spell no statement. `Memory` says nothing of the line.
+pub fn parse_statement(alloc: Global, line: &str) -> Result<Option<Statement>, SyntaxError>
+    ensures read { ReadsLine (reading_of line.now) result }
+    // The tokens of the line spell the tree that is given, within the limits of depth.
+    ensures tree { IfOk result (λ read. IfSome read (λ tree. IsSpelled line.now (part.Line tree))) }
+    ensures none { IfOk result (λ read. IsNone read ↔ (tokens_of line.now ≡ Some [])) }
+    ensures too_deep { result ≡ Err SyntaxError.TooDeep → IsPastDepth line.now }
+    // Where the line is refused for its syntax, its tokens spell none.
+    ensures no_tree { result ≡ Err SyntaxError.Syntax → (tree : Statement) → ¬ (IsSpelled line.now (part.Line tree)) }
+{
+    read_line(alloc, line)
+}
+
+/// Reads the rule of a row policy, a conditional expression. White space, line feeds too, and comments may
+/// stand between its tokens.
+///
+/// A text is refused as `TooDeep` and `Syntax` as a line is, also where it has no token. `Memory` says nothing
+/// of the text.
+pub fn parse_rule(alloc: Global, text: &str) -> Result<Expr, SyntaxError>
+    ensures read { ReadsRule (rule_reading_of text.now) result }
+    // The tokens of the text spell the tree that is given, within the limits of depth.
+    ensures tree { IfOk result (λ tree. IsSpelled text.now (part.Conditional tree)) }
+    ensures too_deep { result ≡ Err SyntaxError.TooDeep → IsPastDepth text.now }
+    // Where the text is refused for its syntax, its tokens spell none.
+    ensures no_tree { result ≡ Err SyntaxError.Syntax → (tree : Expr) → ¬ (IsSpelled text.now (part.Conditional tree)) }
+{
+    read_rule(alloc, text)
 }

@@ -1,0 +1,6 @@
+use Rattle.std.proofs.Common.{◌≡◌, length, [], ◌-◌}
+use Rattle.lq_model.specs.Parsing.{expression, clauses}
+use Rattle.lq_syntax.proofs.grammar.Grammar.clauses.Given as goal
+
+abbrev pub invariant-loop-turn : goal.invariant-loop-turn
+invariant-loop-turn g l = clauses l.self.line.now (expression l.self.line.now l.self.depth) (length l.fn.tokens) [] l.fn.tokens ≡ clauses l.self.line.now (expression l.self.line.now l.self.depth) (l._turn-end - l._turn) l.clauses l.tokens

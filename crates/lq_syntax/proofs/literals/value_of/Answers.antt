@@ -1,0 +1,10 @@
+use Rattle.std.proofs.Common.{◌≤◌, arith}
+use Rattle.std.proofs.lemmas.Bool.Decides.{nat_tests}
+use Rattle.lq_model.specs.Tokens.{decimal_value}
+use Rattle.lq_syntax.proofs.Values.{past_limit}
+use Rattle.lq_syntax.proofs.literals.value_of.Goals as goal
+
+pub returns-then-value-from : goal.returns-then-value-from
+returns-then-value-from c =
+    let above : 2147483649 ≤ decimal_value c.args.digits.now = past_limit c.args.digits.now c.loop-digit.digit-index c.loop-digit.value 2147483649 0 (omega arith) c.loop-digit.invariant.0 (omega arith) in
+    grind (arith, nat_tests)
