@@ -114,13 +114,13 @@ def coalescing(reader):
 
 
 def repeated(*signs):
-    """What reads operand {sign operand}; the operators associate to the left."""
+    """What reads part {sign part}; the operators associate to the left."""
 
-    def read(reader, operand):
-        tree = operand(reader)
+    def read(reader, part):
+        tree = part(reader)
         while reader.next_is(*signs):
             sign = reader.take(*signs).kind
-            tree = Tree(sign, (tree, operand(reader)))
+            tree = Tree(sign, (tree, part(reader)))
         return tree
 
     return read
@@ -175,8 +175,8 @@ def unary(reader):
 
 
 def primary(reader):
-    """primary = start {"." name ["(" [argument {"," argument}] ")"]}"""
-    tree = start(reader)
+    """primary = operand {"." name ["(" [argument {"," argument}] ")"]}"""
+    tree = operand(reader)
     while reader.skip("."):
         tree = Tree(".", (tree, reader.take("name").value))
         if reader.skip("("):
@@ -186,8 +186,9 @@ def primary(reader):
     return tree
 
 
-def start(reader):
-    """start = integer | text | "true" | "false" | "null" | name | "(" top ")" | predicate | record
+def operand(reader):
+    """operand = integer | text | "true" | "false" | "null" | name | "(" top ")" | predicate | record
+    where predicate and record stand for the two lines of the grammar that start with "Host" and "new"
 
     Parentheses leave no trace in the tree.
     """

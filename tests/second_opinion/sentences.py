@@ -79,7 +79,7 @@ def unary(dice, fuel):
 
 
 def primary(dice, fuel):
-    words = start(dice, fuel)
+    words = operand(dice, fuel)
     while chance(dice, fuel):
         fuel -= 1
         words += [".", name(dice)]
@@ -88,7 +88,7 @@ def primary(dice, fuel):
     return words
 
 
-def start(dice, fuel):
+def operand(dice, fuel):
     forms = [
         lambda: [name(dice)], lambda: [name(dice), ".", name(dice)], lambda: [dice.choice(INTEGERS)], lambda: [text(dice)],
         lambda: [dice.choice(LITERALS)],
@@ -291,13 +291,12 @@ STATEMENTS = [
 
 
 def deep_served(dice, tables):
-    """A statement that is served up to the limits of depth, and spoiled sometimes past them."""
+    """What is selected stands in so many brackets as may be, or in one or two more."""
     its_name, table = dice.choice(list(tables.items()))
     brackets = MOST_BRACKETS + dice.choice([-1, 0, 0, 1, 2])
     column = ["x", ".", dice.choice(list(table.columns))]
     selected = ["("] * brackets + column + [")"] * brackets
-    count = dice.choice([0, 0, 1, 2, 3]) if brackets > 60 else 0
-    wheres = ["where", *column, dice.choice(COMPARISONS), "1"] * count
+    wheres = ["where", *column, dice.choice(COMPARISONS), "1"] * dice.choice([0, 0, 1, 2, 3])
     return ["run", "from", "x", "in", its_name, *wheres, "select", *selected, ";"]
 
 
@@ -317,7 +316,7 @@ def long_served(dice, tables):
 def deep_other(dice, tables):
     """A statement with one or two limits nearly met, or just passed."""
     statement = dice.choice(STATEMENTS)
-    words = start(dice, 0)
+    words = operand(dice, 0)
     if dice.random() < 0.6:
         words = wrapped(dice, words, dice.choice([3, 30, MOST_BRACKETS - 1, MOST_BRACKETS, MOST_BRACKETS, MOST_BRACKETS + 1]))
     if dice.random() < 0.7:
