@@ -32,6 +32,9 @@ ITEMS = {
     f"run from e{ACUTE} in t select e{ACUTE}.c;": [1, 2],
     "run from x٣ in t select x٣.c;": [1, 2],
     "run from ª in t select ª.c;": [1, 2],
+    "run from Ⅻ in t select Ⅻ.c;": [1, 2],
+    "run from ℘ in t select ℘.c;": [1, 2],
+    "run from a·b in t select a·b.c;": [1, 2],
     NESTED.format("(" * 64, "x.c", ")" * 64): [1, 2],
     "run from x in t" + " where x.c > 0" * 82 + " where 1 == 1 where 1 == 1 select 1;": [1, 1],
 }
@@ -64,7 +67,11 @@ SYNTAX = [
     "delete t x => from y in t select y;", "delete t (x => 1);", "delete;", "update t x => 1 set c = 1;", "update = 1;",
     "set = 1;", "run true.;", "run false;;", "Run 1;", "run from x in t select x.c;;",
     "run (" + "+" * 253 + ") + 1;" + "(" * 64, "run " + "(" * 64, "(" * 32 + "{" * 32, "+" * 255,
-    "{" * 64 + ")" * 65 + "(" * 64, "run " + "({" * 32 + ")}" * 32 + ";", "run 1;" + "+" * 254,
+    "{" * 64 + ")" * 65 + "(" * 64, "run " + "({" * 32 + ")}" * 32 + ";", "run 1;" + "+" * 254, "run -2147483649;",
+    "run from x in t select -2147483649;", "insert t (-2147483649);", "run ำ;", "run ͺ;", "run xͺ;", "run ·;", "run ‿;",
+    r'run "\uDbff";', r'run "\udC00";',
+    *["(" * 65 + fault for fault in ["1_", "1x", "1٣", "٣", "2147483649", "&", '"', r'"\q"', r'"\uDABC"', "\u00a0", "\ufeff", "é" + "\u00b2"]],
+    "(" * 64 + "}" * 65 + "{" * 64, "run " + "(1+1)*" * 127,
 ]
 
 TOO_DEEP = [
@@ -74,7 +81,8 @@ TOO_DEEP = [
     "run " + "from " * 255, "run new{a=" + "(" * 64, "run (" + "+" * 254 + ") + 1;", "run " + "1," * 255,
     "run a" + "?a:a" * 127 + "?;", "run a" + ".a" * 255 + ";", "run t" + ".f()" * 254 + ";", "run " + "-" * 255 + "1;",
     "run " + "(" * 64 + "-" * 191 + "1" + ")" * 64 + ";", "run from x in t select 1" + " into x select 1" * 126 + " into x;",
-    "run 2147483648" + "+1" * 255 + ";",
+    "run 2147483648" + "+1" * 255 + ";", "insert t (" + "-2147483648," * 127 + "-2147483648);",
+    "run " + "new{a=" * 63 + "(1" + "+1" * 65 + ")" + "}" * 63 + ";", "run " + "(1+1)*" * 254 + "(1+1);", "(" * 65 + " // é",
 ]
 
 TYPE = [
@@ -112,7 +120,8 @@ TYPE = [
     "run a" + "??a" * 254 + ";", "run a" + "?a:a" * 127 + ";", "run " + "(" * 64 + "1" + ")" * 64 + ";",
     "run t.f(" + "1," * 252 + "1);", "run " + "(" * 64 + "-" * 190 + "1" + ")" * 64 + ";", "run t" + ".f()" * 253 + ";",
     "run t" + ".f(1,1,1)" * 200 + ";", "run t.f(1+1).f(1+1);", "run " + "(1+" * 63 + "(1)" + ")" * 63 + "+1" * 254 + ";",
-    "insert t (" + "1," * 253 + "1);", "run " + "new{a=" * 63 + "(1" + "+1" * 64 + ")" + "}" * 63 + ";",
+    "insert t (" + "1," * 253 + "1);", "run " + "new{a=" * 63 + "(1" + "+1" * 64 + ")" + "}" * 63 + ";", "run xำ;", "run x‿y;",
+    "insert t (" + "-2147483648," * 126 + "-2147483648);", "run " + "(1+1)*" * 252 + "(1+1);",
 ]
 
 NOTHING = [

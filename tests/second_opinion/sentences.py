@@ -22,6 +22,13 @@ NO_ESCAPES = [
 PIECES = [
     "a", "b c", "//", "'", "é", "😀", "\t", "\r", "\x00", "\u2028", "/*", "from", "{", ")", "", "\ufeff", *ESCAPES, *ESCAPES,
 ]
+FORMS = """
+    new { ( a ) } | new { ( a . b ) } | new { ( a ) . b } | new { a . b ( ) } | new { a . b = 1 } | new { , } | new { a , , b } | new { 1 . a }
+    t . f ( x => y => 1 ) | t . f ( ( x => 1 ) ) | ( x => 1 ) | x => 1 | t . f ( x => a ? b : c ) | t . f ( from x in t select 1 )
+    Host . p ( ) | Host . p ( 1 , 2 ) | Host . p ( x => 1 ) | Host . p ( ( 1 ) ) | Host | Host . p | x . Host | x . from | from
+    2147483648 | - 2147483648 | - 2147483648 . x | ( - 2147483648 ) . x | - ( 2147483648 ) | - - 2147483648 | 1 - 2147483648
+    ( from x in t select 1 ) | from x in t select 1 | ( ) | ( 1 } | { 1 } | x = 1 | + 1 | x ?. c | f ( 1 ) | x . c ( ) ( ) | a ? b | 1 .
+""".replace("\n", " | ").strip(" |").split(" | ")
 LITERALS = ["true", "false", "null"]
 CHARACTERS = list("éªßΩ变имя٣３ａⅫ·‿\u0301😀#@$'\"\\&|[]~^`°€²½\u00a0\u2003\ufeff\u200b\x00\x0b\x0c\x85")
 BRACKETS = ["(", ")", "{", "}"]
@@ -203,6 +210,19 @@ def served(dice, tables):
     return ["run", *bracketed(dice, [*words, "select", *selected]), ";"]
 
 
+def untyped(dice, tables):
+    """A query of the forms that are served, whose parts are of any type."""
+    its_name, table = dice.choice(list(tables.items()))
+    variable = dice.choice([its_name, *NAMES])
+
+    def part():
+        return dice.choice([number, number, comparison, lambda *_: [variable], lambda *_: [its_name]])(dice, variable, table)
+
+    wheres = [["where", *bracketed(dice, dice.choice([part(), [*part(), dice.choice(COMPARISONS), *part()]]))] for _ in range(2)]
+    source = dice.choice([[its_name], [its_name], part()])
+    return ["run", "from", variable, "in", *source, *dice.choice([[], wheres[0], sum(wheres, [])]), "select", *part(), ";"]
+
+
 def any_token(dice):
     return dice.choice([
         lambda: name(dice), lambda: dice.choice(SIGNS), lambda: dice.choice(sorted(RESERVED)), lambda: text(dice),
@@ -233,6 +253,15 @@ def other_brackets(dice, words):
     return [*words[:place], dice.choice(BRACKETS), *words[place:]]
 
 
+def other_forms(dice, words):
+    """A form that is no expression, or hardly one, stands in a name's or an integer's place."""
+    places = [place for place, word in enumerate(words) if word in NAMES or word in INTEGERS]
+    if not places:
+        return words
+    place = dice.choice(places)
+    return [*words[:place], *dice.choice(FORMS).split(), *words[place + 1:]]
+
+
 def other_escapes(dice, words):
     """A text of which one escape, or one character, is spoiled."""
     spoiled = text(dice)
@@ -251,7 +280,9 @@ def other_characters(dice, line):
 def nearly(dice, tables):
     """A line that is one edit from a right one, and may be right by chance."""
     words = served(dice, tables) if dice.random() < 0.4 else sentence(dice)
-    kind = dice.choice([other_tokens, other_tokens, other_tokens, other_brackets, other_escapes, other_characters])
+    kind = dice.choice([
+        other_tokens, other_tokens, other_tokens, other_brackets, other_forms, other_forms, other_escapes, other_characters,
+    ])
     return kind(dice, spell(dice, words)) if kind is other_characters else spell(dice, kind(dice, words))
 
 
@@ -276,9 +307,10 @@ def weight_of(words):
 def weighted(dice, words, statement, weight):
     """The expression behind so many signs that the statement has the weight, if it had less."""
     lacking = max(weight - weight_of(statement(words)), 0)
-    operators = [["1", "+"], ["true", "&&"], ["x", "??"], ["1", "-", "1", "*"], ["-"], ["!"], ["a", "?", "b", ":"]]
-    signs = dice.choice(operators)
-    cost = sum(sign in SIGNS for sign in signs)
+    signs, cost = dice.choice([
+        (["1", "+"], 1), (["true", "&&"], 1), (["x", "??"], 1), (["1", "-", "1", "*"], 2), (["-"], 1), (["!"], 1),
+        (["a", "?", "b", ":"], 2), (["(", "1", "-", "2", ")", "%"], 1), (["new", "{", "a", "=", "1", "}", "+"], 2),
+    ])
     return signs * (lacking // cost) + ["-"] * (lacking % cost) + words
 
 
@@ -351,5 +383,5 @@ def line(dice, tables):
     if kind < 0.27:
         return spell(dice, served(dice, tables))
     if kind < 0.45:
-        return spell(dice, sentence(dice))
+        return spell(dice, dice.choice([sentence, sentence, sentence, lambda dice: untyped(dice, tables)])(dice))
     return nearly(dice, tables) if kind < 0.75 else deep(dice, tables)
