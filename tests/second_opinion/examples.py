@@ -39,6 +39,7 @@ ITEMS = {
     "run from x in t" + " where x.c > 0" * 82 + " where 1 == 1 where 1 == 1 select 1;": [1, 1],
 }
 
+LEXICAL = ["1_", "1x", "1٣", "٣", "2147483649", "&", '"', r'"\q"', r'"\uDABC"', "\u00a0", "\ufeff", "é²"]
 # Lexical faults come before depth, and faults of the grammar behind it.
 SYNTAX = [
     "run 4294967296;", "run 2147483649;", "run 1_0;", "run 1x;", "run 1é;", "run 1٣;", "run ٣;", "run 0x1;",
@@ -69,9 +70,8 @@ SYNTAX = [
     "run (" + "+" * 253 + ") + 1;" + "(" * 64, "run " + "(" * 64, "(" * 32 + "{" * 32, "+" * 255,
     "{" * 64 + ")" * 65 + "(" * 64, "run " + "({" * 32 + ")}" * 32 + ";", "run 1;" + "+" * 254, "run -2147483649;",
     "run from x in t select -2147483649;", "insert t (-2147483649);", "run ำ;", "run ͺ;", "run xͺ;", "run ·;", "run ‿;",
-    r'run "\uDbff";', r'run "\udC00";',
-    *["(" * 65 + fault for fault in ["1_", "1x", "1٣", "٣", "2147483649", "&", '"', r'"\q"', r'"\uDABC"', "\u00a0", "\ufeff", "é" + "\u00b2"]],
-    "(" * 64 + "}" * 65 + "{" * 64, "run " + "(1+1)*" * 127,
+    r'run "\uDbff";', r'run "\udC00";', *["(" * 65 + fault for fault in LEXICAL], "(" * 64 + "}" * 65 + "{" * 64,
+    "run " + "(1+1)*" * 127,
 ]
 
 TOO_DEEP = [

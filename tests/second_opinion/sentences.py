@@ -23,11 +23,12 @@ PIECES = [
     "a", "b c", "//", "'", "é", "😀", "\t", "\r", "\x00", "\u2028", "/*", "from", "{", ")", "", "\ufeff", *ESCAPES, *ESCAPES,
 ]
 FORMS = """
-    new { ( a ) } | new { ( a . b ) } | new { ( a ) . b } | new { a . b ( ) } | new { a . b = 1 } | new { , } | new { a , , b } | new { 1 . a }
-    t . f ( x => y => 1 ) | t . f ( ( x => 1 ) ) | ( x => 1 ) | x => 1 | t . f ( x => a ? b : c ) | t . f ( from x in t select 1 )
-    Host . p ( ) | Host . p ( 1 , 2 ) | Host . p ( x => 1 ) | Host . p ( ( 1 ) ) | Host | Host . p | x . Host | x . from | from
+    new { ( a ) } | new { ( a . b ) } | new { ( a ) . b } | new { a . b ( ) } | new { a . b = 1 } | new { , } | new { a , , b }
+    new { 1 . a } | t . f ( x => y => 1 ) | t . f ( ( x => 1 ) ) | ( x => 1 ) | x => 1 | t . f ( x => a ? b : c )
+    t . f ( from x in t select 1 ) | ( from x in t select 1 ) | from x in t select 1 | Host . p ( ) | Host . p ( 1 , 2 )
+    Host . p ( x => 1 ) | Host . p ( ( 1 ) ) | Host | Host . p | x . Host | x . from | from | ( ) | ( 1 } | { 1 } | x = 1 | + 1
     2147483648 | - 2147483648 | - 2147483648 . x | ( - 2147483648 ) . x | - ( 2147483648 ) | - - 2147483648 | 1 - 2147483648
-    ( from x in t select 1 ) | from x in t select 1 | ( ) | ( 1 } | { 1 } | x = 1 | + 1 | x ?. c | f ( 1 ) | x . c ( ) ( ) | a ? b | 1 .
+    x ?. c | f ( 1 ) | x . c ( ) ( ) | a ? b | 1 .
 """.replace("\n", " | ").strip(" |").split(" | ")
 LITERALS = ["true", "false", "null"]
 CHARACTERS = list("éªßΩ变имя٣３ａⅫ·‿\u0301😀#@$'\"\\&|[]~^`°€²½\u00a0\u2003\ufeff\u200b\x00\x0b\x0c\x85")
@@ -218,9 +219,10 @@ def untyped(dice, tables):
     def part():
         return dice.choice([number, number, comparison, lambda *_: [variable], lambda *_: [its_name]])(dice, variable, table)
 
-    wheres = [["where", *bracketed(dice, dice.choice([part(), [*part(), dice.choice(COMPARISONS), *part()]]))] for _ in range(2)]
-    source = dice.choice([[its_name], [its_name], part()])
-    return ["run", "from", variable, "in", *source, *dice.choice([[], wheres[0], sum(wheres, [])]), "select", *part(), ";"]
+    words = ["from", variable, "in", *dice.choice([[its_name], [its_name], part()])]
+    for _ in range(dice.choice([0, 1, 1, 2])):
+        words += ["where", *bracketed(dice, dice.choice([part(), [*part(), dice.choice(COMPARISONS), *part()]]))]
+    return ["run", *words, "select", *part(), ";"]
 
 
 def any_token(dice):
