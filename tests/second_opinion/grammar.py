@@ -5,8 +5,8 @@ from dataclasses import dataclass
 
 from lexer import LARGEST_INT, SyntaxFault
 
-# 64 brackets, each of which takes some twenty calls here, and chains of 255 signs.
-sys.setrecursionlimit(20_000)
+# 64 brackets, each of which takes some twenty calls here, and chains of 255 signs; Python stops at 1,000 calls by itself.
+sys.setrecursionlimit(5_000)
 
 
 @dataclass(frozen=True)
