@@ -3,16 +3,20 @@
 import random
 from dataclasses import dataclass, field
 
+import examples
 import files
+import sentences
 import statements
-from tables import MARK, Table
+from tables import MARK
 
-CASES = 4000
+FIRST_OF_SENTENCES = 4000
+CASES = 4300
 NO_UTF8 = [
     b"\x80", b"\xff", b"\xc3", b"\xc0\x80", b"\xe2\x82", b"\xed\xa0\x80", b"\xf4\x90\x80\x80", b"\xf0\x9f\x98", b"\xef\xbb",
     b"\xf8\x88\x80\x80\x80",
 ]
 RUN = b"run from x in t select x.c;\n"
+TABLE_OF_SCRIPT = b"c:int\n1\n2\n"
 
 
 @dataclass
@@ -28,7 +32,7 @@ class Case:
 
 def of_script(script, **more):
     """A case of a script over one small table."""
-    return Case([b"t.csv"], {"t.csv": b"c:int\n1\n2\n"}, script, **more)
+    return Case([b"t.csv"], {"t.csv": TABLE_OF_SCRIPT}, script, **more)
 
 
 def of_file(data):
@@ -110,9 +114,10 @@ def size_cases():
 
 
 def text_cases():
-    """Words that may be reserved, queries that C# has and the language perhaps not, byte order marks, and line ends."""
+    """Lines with known replies, words that may be reserved, queries that C# has, byte order marks, and line ends."""
     names = [*statements.KEYWORDS, *map(str.title, statements.KEYWORDS), *map(str.upper, statements.KEYWORDS)]
     return [of_script(script) for script in [
+        "\n".join(line for line, _ in examples.known_lines()).encode(),
         "\n".join(f"run from {name} in t select {name}.c;" for name in names).encode(),
         "\n".join(f"run {query};" for query in statements.OTHER_QUERIES).encode(),
         "\n".join(f"{query};" for query in statements.OTHER_QUERIES).encode(),
@@ -142,9 +147,9 @@ def chosen_tables(dice):
     return {name: files.table(dice) for name in names}
 
 
-def script_of(dice, tables):
+def script_of(dice, tables, line=statements.line, count=15):
     """Some lines, mostly all ended by LF; now and then byte order marks at the head, or CR LF everywhere."""
-    lines = [statements.line(dice, tables) for _ in range(dice.randrange(4, 16))]
+    lines = [line(dice, tables) for _ in range(dice.randrange(count // 4 + 1, count + 1))]
     end = dice.choice(["\n", "\n", "\n", "\r\n", "\n\n"])
     script = dice.choice([b""] * 8 + [MARK, MARK * 2]) + (end.join(lines) + dice.choice([end, end, end, ""])).encode()
     if dice.random() < 0.02:
@@ -180,9 +185,18 @@ def refused_case(dice):
     return case
 
 
+def sentences_case(dice):
+    """A script of lines of the whole grammar."""
+    tables = chosen_tables(dice)
+    data = {f"{name}.csv": files.spelled_file(dice, files.records(dice, table)) for name, table in tables.items()}
+    return Case([path.encode() for path in data], data, script_of(dice, tables, sentences.line, 60))
+
+
 def case_of(number, fixed):
     """The case of a number: first the fixed ones, then those by chance, whose number is the seed."""
     if number < len(fixed):
         return fixed[number]
     dice = random.Random(number)
+    if number >= FIRST_OF_SENTENCES:
+        return sentences_case(dice)
     return refused_case(dice) if dice.random() < 0.2 else served_case(dice)

@@ -3,19 +3,22 @@
 from tables import MARK, Table
 
 TABLE_NAMES = [
-    "t", "u", "x", "row", "T", "_", "_1", "rows", "From", "int", "host", "items", "a1", "Where", "selected_", "x" * 60,
+    "t", "u", "x", "row", "T", "_", "_1", "rows", "From", "int", "host", "items", "a1", "Where", "selected_", "x" * 60, "tä",
+    "ｔ", "t٣", "表", "ta\u0301",
 ]
-COLUMN_NAMES = ["c", "d", "C", "_", "x", "t", "id", "from_", "Select", "int", "c1", "HOST", "n" * 60]
+COLUMN_NAMES = [
+    "c", "d", "C", "_", "x", "t", "id", "from_", "Select", "int", "c1", "HOST", "n" * 60, "é", "e\u0301", "列", "aª",
+]
 CELLS = [*range(10), 0, 1, 2, 10, 100, -1, -2, -10, 2147483646, 2147483647, -2147483647, -2147483648]
 NO_NAMES = [
-    "1t.csv", "t.txt", "from.csv", "Host.csv", "t.csv.csv", ".csv", "sub/", "tä.csv", "t-1.csv", "t .csv", "t.CSV",
-    "-h", "--help", "", "sub/.csv", "ｔ.csv", "t٣.csv", "/",
+    "1t.csv", "t.txt", "from.csv", "Host.csv", "t.csv.csv", ".csv", "sub/", "t😀.csv", "t-1.csv", "t .csv", "t.CSV",
+    "-h", "--help", "", "sub/.csv", "٣t.csv", "\u0301t.csv", "t².csv", "/",
 ]
 NO_FILES = ["none.csv", "sub", "none/t.csv", "./none", "sub/none.csv", "../none.csv"]
 NO_HEADERS = [
-    b"a", b"a:", b"a:Int", b"a:int ", b" a:int", b"a :int", b"a: int", b":int", b"1a:int", b"from:int", b"a:int:int", b"a:string",
-    b"a:int?", "é:int".encode(), "aé:int".encode(), b"a:int\xff", b"\xffa:int", b"", b"a:int\x00", b'a"b:int', b"a-b:int",
-    b"Host:int", MARK + b"a:int",
+    b"a", b"a:", b"a:Int", b"a:int ", b" a:int", b"a :int", b"a: int", b":int", b"1a:int", b"from:int", b"a:int:int",
+    b"a:string", b"a:int?", "٣:int".encode(), "a\u00a0:int".encode(), "\u0301a:int".encode(), "a²:int".encode(), "é".encode(),
+    b"a:int\xff", b"\xffa:int", b"", b"a:int\x00", b'a"b:int', b"a-b:int", b"Host:int", MARK + b"a:int",
 ]
 NO_CELLS = [
     b"", b"-", b"+1", b" 1", b"1 ", b"1.0", b"1e3", b"0x1", b"--1", b"2147483648", b"-2147483649", b"9" * 10, b"9" * 40,

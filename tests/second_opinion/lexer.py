@@ -1,4 +1,4 @@
-"""The tokens of one line: names, reserved words, integers and signs."""
+"""The tokens of one line: names, reserved words, integers, texts and signs."""
 
 import re
 from dataclasses import dataclass
@@ -7,12 +7,17 @@ RESERVED = frozenset(
     "from where select group into orderby join let in on equals by ascending descending var run as insert delete "
     "update set new true false null Host".split()
 )
-LARGEST_INTEGER = 2147483648
+# The longer ones stand first, since the longest token is taken.
+SIGNS = "=> ?? <= >= == != && || ( ) { } . , ; = ? : ! - + * / % < >".split()
+LARGEST_INT = 2147483647
 
-NAME = re.compile(r"[A-Za-z_][A-Za-z0-9_]*")
-INTEGER = re.compile(r"[0-9]+(?![A-Za-z0-9_])")
-SIGN = re.compile(r"<=|>=|==|!=|[.;<>]")
-NOTHING = re.compile(r"[ \t\r\n]+|//[^\n]*")
+NOTHING = re.compile(r"(?:[ \t\r\n]|//[^\n]*)+")
+DIGITS = re.compile(r"[0-9]+")
+# ECMA-334, string literals: a simple escape, or `\u` and four hexadecimal digits, which spell no surrogate here.
+TEXT = re.compile(r"""
+    "(?: [^"\\\n] | \\['"\\0abfnrtv] | \\u(?![Dd][89A-Fa-f])[0-9A-Fa-f]{4} )*"
+""", re.VERBOSE)
+SIGN = re.compile("|".join(map(re.escape, SIGNS)))
 
 
 class SyntaxFault(Exception):
@@ -21,35 +26,49 @@ class SyntaxFault(Exception):
 
 @dataclass(frozen=True)
 class Token:
-    """`kind` is "name", "integer", or the spelling of a reserved word or a sign."""
+    """`kind` is "name", "integer", "least", "text", or the spelling of a reserved word or a sign."""
 
     kind: str
     value: object = None
 
 
+def continues_name(character):
+    """Unicode's XID_Continue, which `isidentifier` asks of each character but the first. It normalises nothing."""
+    return ("_" + character).isidentifier()
+
+
 def is_name(text):
-    """ECMA-334, identifiers: a letter or `_`, then letters, digits and `_`, and no keyword. Letters and digits are ASCII."""
-    return NAME.fullmatch(text) is not None and text not in RESERVED
+    """ECMA-334, identifiers: `_` or Unicode's XID_Start, then XID_Continue, and no keyword."""
+    return text.isidentifier() and text not in RESERVED
 
 
-def number_of(digits):
-    """The value of decimal digits, however many zeros lead; None where it is above the largest integer of all."""
+def end_of_word(line, place):
+    """Where the characters from the place on that continue a name end."""
+    while place < len(line) and continues_name(line[place]):
+        place += 1
+    return place
+
+
+def integer_of(digits):
+    """The token of decimal digits, however many zeros lead. The size of the least int is a token of its own."""
     digits = digits.lstrip("0") or "0"
-    if len(digits) > len(str(LARGEST_INTEGER)) or int(digits) > LARGEST_INTEGER:
-        return None
-    return int(digits)
+    if len(digits) > 10 or int(digits) > LARGEST_INT + 1:
+        raise SyntaxFault("an integer above the largest")
+    return Token("least") if int(digits) > LARGEST_INT else Token("integer", int(digits))
 
 
 def token_at(line, place):
     """The longest token that starts at the place, and where it ends."""
-    if found := NAME.match(line, place):
-        word = found.group()
-        return (Token(word) if word in RESERVED else Token("name", word)), found.end()
-    if found := INTEGER.match(line, place):
-        value = number_of(found.group())
-        if value is None:
-            raise SyntaxFault("an integer above the largest")
-        return Token("integer", value), found.end()
+    if line[place].isidentifier():
+        end = end_of_word(line, place)
+        word = line[place:end]
+        return (Token(word) if word in RESERVED else Token("name", word)), end
+    if found := DIGITS.match(line, place):
+        if end_of_word(line, found.end()) > found.end():
+            raise SyntaxFault("an integer directly before a name's character")
+        return integer_of(found.group()), found.end()
+    if found := TEXT.match(line, place):
+        return Token("text"), found.end()
     if found := SIGN.match(line, place):
         return Token(found.group()), found.end()
     raise SyntaxFault(f"no token at {place}")

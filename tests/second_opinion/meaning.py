@@ -3,9 +3,10 @@
 import json
 import operator
 
+from depth import DepthFault, check_depth
 from grammar import parse
 from lexer import SyntaxFault, tokens_of
-from scopes import TypeFault, type_of_query
+from scopes import TypeFault, check, source_of
 
 COMPARISONS = {
     "<": operator.lt,
@@ -24,20 +25,30 @@ def compare(left, sign, right):
     return COMPARISONS[sign](left, right)
 
 
+def value_of(tree, row):
+    """The value of an expression that has a type, where the range variable stands for the row."""
+    if tree.kind == "integer":
+        return tree.parts[0]
+    if tree.kind == "name":
+        return row
+    if tree.kind == ".":
+        return value_of(tree.parts[0], row)[tree.parts[1]]
+    left, right = (value_of(operand, row) for operand in tree.parts)
+    return compare(left, tree.kind, right)
+
+
 def visible_rows(table):
     """PostgreSQL, row security policies: where row security is off, each row is visible. The program has it off everywhere."""
     return table.rows
 
 
-def is_true(condition, row):
-    """Whether a condition is true on a row; without a where clause it is on each."""
-    return condition is None or compare(row[condition.left.name], condition.operator, condition.right)
-
-
 def items_of(query, tables):
-    """ECMA-334, where and select clauses: the rows in order, those on which the condition is true, and of each the value."""
-    rows = visible_rows(tables[query.table])
-    return [row[query.selected.name] for row in rows if is_true(query.where, row)]
+    """ECMA-334, where and select clauses: the rows in order, those on which all conditions are true, and of each the value."""
+    clauses, end, _ = query.parts
+    rows = visible_rows(source_of(clauses[0], tables))
+    for clause in clauses[1:]:
+        rows = [row for row in rows if value_of(clause.parts[0], row)]
+    return [value_of(end.parts[0], row) for row in rows]
 
 
 def compact(value):
@@ -46,15 +57,18 @@ def compact(value):
 
 
 def reply_of(line, tables):
-    """The reply to a line of a script, and nothing to a line without tokens."""
+    """The reply to a line of a script, and nothing to a line without tokens. The refusals come in the order of these calls."""
     try:
         tokens = tokens_of(line)
         if not tokens:
             return ""
-        query = parse(tokens).query
-        type_of_query(query, tables)
-        return compact({"items": items_of(query, tables)})
+        check_depth(tokens)
+        statement = parse(tokens)
+        check(statement, tables)
+        return compact({"items": items_of(statement.parts[0], tables)})
     except SyntaxFault:
         return compact({"error": "syntax"})
+    except DepthFault:
+        return compact({"error": "too-deep"})
     except TypeFault:
         return compact({"error": "type"})

@@ -1,34 +1,52 @@
-"""Types: which query means something over the present tables."""
+"""Types: which statement that the grammar spells is served, over the present tables."""
+
+COMPARISONS = ("<", ">", "<=", ">=", "==", "!=")
+SCALARS = ("int", "int?", "bool", "string")
 
 
 class TypeFault(Exception):
-    """The query has no type."""
+    """The statement has no type, or none yet."""
 
 
-def type_of_column(column, scope):
-    """ECMA-334, scopes and member access: `x.c` is a column of the rows that the range variable x stands for.
+def type_of(tree, scope):
+    """An expression's type: a scalar's name, or for a row the types of its columns. The scope has the types of range variables.
 
-    The scope maps each range variable to its rows' columns. A table's name alone stands for no row.
+    ECMA-334, scopes, member access, relational and equality operators; only some forms of these are served yet.
     """
-    if column.variable not in scope:
-        raise TypeFault(f"{column.variable} is no range variable")
-    columns = scope[column.variable]
-    if column.name not in columns:
-        raise TypeFault(f"{column.name} is no column")
-    return columns[column.name]
+    if tree.kind == "integer":
+        return "int"
+    if tree.kind == "name" and tree.parts[0] in scope:
+        return scope[tree.parts[0]]
+    if tree.kind == ".":
+        columns = type_of(tree.parts[0], scope)
+        if isinstance(columns, dict) and tree.parts[1] in columns:
+            return columns[tree.parts[1]]
+    if tree.kind in COMPARISONS and all(type_of(operand, scope) in ("int", "int?") for operand in tree.parts):
+        return "bool"
+    raise TypeFault(f"no type of {tree.kind}")
 
 
-def check_condition(condition, scope):
-    """ECMA-334, relational and equality operators: both operands are int, or one of them is int?."""
-    if type_of_column(condition.left, scope) not in ("int", "int?"):
-        raise TypeFault("an operand of another type")
+def source_of(clause, tables):
+    """The table that a from clause names."""
+    source = clause.parts[1]
+    if source.kind != "name" or source.parts[0] not in tables:
+        raise TypeFault("the source is no table's name")
+    return tables[source.parts[0]]
 
 
-def type_of_query(query, tables):
+def check_query(query, tables):
     """ECMA-334, from clause: the range variable stands for the source's rows in the clauses behind it, not in the source."""
-    if query.table not in tables:
-        raise TypeFault(f"{query.table} is no table")
-    scope = {query.variable: tables[query.table].columns}
-    if query.where is not None:
-        check_condition(query.where, scope)
-    return type_of_column(query.selected, scope)
+    clauses, end, rest = query.parts
+    scope = {clauses[0].parts[0]: source_of(clauses[0], tables).columns}
+    for clause in clauses[1:]:
+        if clause.kind != "where" or type_of(clause.parts[0], scope) != "bool":
+            raise TypeFault("a clause that isn't served, or a condition that is none")
+    if end.kind != "select" or rest is not None or type_of(end.parts[0], scope) not in SCALARS:
+        raise TypeFault("what is selected is no scalar")
+
+
+def check(statement, tables):
+    """Only `run` of a query is served yet."""
+    if statement.kind != "run" or statement.parts[0].kind != "query":
+        raise TypeFault("no run of a query")
+    check_query(statement.parts[0], tables)

@@ -1,8 +1,11 @@
 """Lines of a script by chance: statements that are served, nearly right ones, and lines of nothing. `dice` is a random.Random."""
 
-from lexer import NAME, RESERVED
+from lexer import continues_name, is_name
 
-VARIABLES = ["x", "x", "x", "y", "t", "row", "_", "_0", "X", "from_", "Select", "host", "x1", "int", "a_long_Name_2"]
+VARIABLES = [
+    "x", "x", "x", "y", "t", "row", "_", "_0", "X", "from_", "Select", "host", "x1", "int", "a_long_Name_2", "é", "変数", "x٣",
+    "e\u0301",
+]
 OTHER_NAMES = VARIABLES + ["none", "c", "C", "u", "T", "items"]
 SIGNS = ["<", ">", "<=", ">=", "==", "!="]
 GAPS = [" ", " ", " ", " ", " ", "  ", "\t", "\r", " \t \r"]
@@ -99,19 +102,16 @@ def statement(dice, tables):
     return words + ["select", variable, ".", dice.choice(columns), ";"]
 
 
-def ends_in_word(text):
-    return text[-1:].isalnum() or text[-1:] == "_"
-
-
-def starts_as_word(text):
-    return text[:1].isalnum() or text[:1] == "_"
+def joins(line, word):
+    """Whether the word, put directly behind the line, would be part of the line's last word."""
+    return all(end and continues_name(end) for end in (line[-1:], word[:1]))
 
 
 def spell(dice, words):
     """The tokens in one line: white space where two words would be one, and by chance elsewhere, and perhaps a comment."""
     line = dice.choice(["", "", "", "", " ", "\t", "\r "])
     for word in words:
-        if (ends_in_word(line) and starts_as_word(word)) or dice.random() < 0.25:
+        if joins(line, word) or dice.random() < 0.25:
             line += dice.choice(GAPS)
         line += word
     line += dice.choice(["", "", "", "", " ", "\r", "\t"])
@@ -156,7 +156,7 @@ def other_characters(dice, tables):
 def other_names(dice, tables):
     """One name, or two, that may stand for nothing: a table, a column or a range variable that isn't there, or another one."""
     words = statement(dice, tables)
-    names = [place for place, word in enumerate(words) if NAME.fullmatch(word) and word not in RESERVED]
+    names = [place for place, word in enumerate(words) if is_name(word)]
     pool = OTHER_NAMES + list(tables) + [column for table in tables.values() for column in table.columns]
     for place in dice.sample(names, dice.choice([1, 1, 1, 2])):
         words[place] = dice.choice([dice.choice(pool), words[place].swapcase(), words[place] + "_", words[place][:-1] or "_"])
@@ -166,7 +166,7 @@ def other_names(dice, tables):
 def reserved_names(dice, tables):
     """A word that may be reserved in the place of a name, as it is or in another case, in which it is a name."""
     words = statement(dice, tables)
-    names = [place for place, word in enumerate(words) if NAME.fullmatch(word) and word not in RESERVED]
+    names = [place for place, word in enumerate(words) if is_name(word)]
     word = dice.choice(KEYWORDS)
     words[dice.choice(names)] = dice.choice([word, word.capitalize(), word.upper(), word + "_", "_" + word])
     return spell(dice, words)
