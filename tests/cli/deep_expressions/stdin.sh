@@ -37,4 +37,7 @@ show("new{a=", "}", 2)
 show("new{a,b=", "}", 3)
 show("new{a=", ",}.a", 2, 1)
 show("new{a=(", ")}", 2)
+show("new{(", ").a}", 1)
+show("new{a.b(", ").c}", 2)
+show("a.b((", "))", 1)
 END

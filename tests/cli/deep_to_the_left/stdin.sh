@@ -14,8 +14,6 @@ def left(text, most, room, longer=None):
 def show(text, most=64, room=254):
     print(f"// {text}")
     print(left(text, most, room))
-    for longer in (0, 32, most):
-        print(left(text, most, room, longer))
     print("run from x in t select x.c;")
 
 
@@ -24,4 +22,8 @@ for operator in "* / % + - < > <= >= == != && ||".split():
 show(".c")
 # The brackets of a call are open for a moment, so there is room for one less.
 show(".c()", 63, 253)
+for text in ("-1", ".c"):
+    for longer in (0, 32, 64):
+        print(left(text, 64, 254, longer))
+    print("run from x in t select x.c;")
 END

@@ -1,6 +1,6 @@
-# The deepest line, three that are past the limit, and a good line.
 for _ in {1..15}; do
-    printf '%s\n' '{"error":"type"}'
-    printf '%s\n' '{"error":"too-deep"}' '{"error":"too-deep"}' '{"error":"too-deep"}'
-    printf '%s\n' '{"items":[1,2]}'
+    printf '%s\n' '{"error":"type"}' '{"items":[1,2]}'
+done
+for _ in {1..2}; do
+    printf '%s\n' '{"error":"too-deep"}' '{"error":"too-deep"}' '{"error":"too-deep"}' '{"items":[1,2]}'
 done
