@@ -1,17 +1,21 @@
 python3 - <<'END'
-# What stands in front of an open bracket is repeated until 64 brackets are open or the weight is 256: `run` and the line itself
-# weigh two, each bracket one, and each token in front of it that counts one. What is left is filled up with minus signs. Behind
-# the deepest line come one of one more sign, one of one more bracket, and a good line.
+# What stands in front of an open bracket is repeated until 64 brackets are open or the weight is 256: what stands in front of
+# it all, the line itself and each bracket weigh one or more, and each token in front of a bracket that counts. What is left
+# is filled up with minus signs. Behind the deepest line come one of one more sign, one of one more bracket, and a good line.
+def show_in(head, room, opening, closing, weight):
+    brackets = opening.count("(") + opening.count("{")
+    most = min(64 // brackets, room // (weight + brackets))
+    left = room - most * (weight + brackets)
+    print(f"// {head}{opening} .. {closing}")
+    print(f"{head}{opening * most}{'-' * left}1{closing * most};")
+    print(f"{head}{opening * most}{'-' * (left + 1)}1{closing * most};")
+    print(f"{head}{opening * (most + 1)}1{closing * (most + 1)};")
+    print("run from x in t select x.c;")
+
 
 def show(opening, closing, weight, behind=0):
-    brackets = opening.count("(") + opening.count("{")
-    most = min(64 // brackets, (254 - behind) // (weight + brackets))
-    left = 254 - behind - most * (weight + brackets)
-    print(f"// {opening} .. {closing}")
-    print(f"run {opening * most}{'-' * left}1{closing * most};")
-    print(f"run {opening * most}{'-' * (left + 1)}1{closing * most};")
-    print(f"run {opening * (most + 1)}1{closing * (most + 1)};")
-    print("run from x in t select x.c;")
+    show_in("run ", 254 - behind, opening, closing, weight)
+    show_in("run from x in t select ", 251 - behind, opening, closing, weight)
 
 
 show("(", ")", 0)
@@ -19,8 +23,8 @@ show("-(", ")", 1)
 show("!(", ")", 1)
 show("-!-(", ")", 3)
 for operator in "* / % + - < > <= >= == != && || ??".split():
-    show(f"a{operator}(", ")", 1)
-    show("(", f"){operator}a", 0)
+    show(f"1{operator}(", ")", 1)
+    show("(", f"){operator}1", 0)
 show("a?(", "):b", 1)
 show("a?b:(", ")", 2)
 show("(", ")?a:b", 0)
