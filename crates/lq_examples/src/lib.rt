@@ -3,13 +3,19 @@
 #![tactic(auto)]
 
 #[cfg(test)]
+mod devices;
+#[cfg(test)]
 mod lines;
+#[cfg(test)]
+mod loads;
 #[cfg(test)]
 mod rows;
 #[cfg(test)]
 mod scripts;
 #[cfg(test)]
 mod sessions;
+#[cfg(test)]
+mod table_files;
 #[cfg(test)]
 mod tables;
 #[cfg(test)]

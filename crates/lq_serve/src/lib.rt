@@ -17,8 +17,6 @@ mod script_lines;
 mod script_run;
 mod serve_error;
 mod table_file;
-#[cfg(test)]
-mod tests;
 
 pub use device::Device;
 pub use ending::{finish, refuse};

@@ -9,8 +9,6 @@ mod cells;
 mod header;
 mod number;
 mod reading;
-#[cfg(test)]
-mod tests;
 
 use crate::marks::without_marks;
 use cells::cells_of;

@@ -1,6 +1,6 @@
 //! Loading tables, and the lines of what is refused.
-use super::{Fault, names_of, taking};
-use crate::{Device, FileError, Files, MemoryFiles, StartError, load, refuse};
+use crate::devices::{Fault, names_of, taking};
+use lq_serve::{Device, FileError, Files, MemoryFiles, StartError, load, refuse};
 use lq_session::Session;
 use lq_value::Txt;
 use std::alloc::Global;

@@ -1,13 +1,11 @@
 //! Serving over devices that fail, and loading.
-use crate::{Device, MemoryFiles, ServeError, finish, load, serve};
+use lq_serve::{Device, MemoryFiles, ServeError, finish, load, serve};
 use lq_session::Session;
 use std::alloc::{AllocError, Global};
 use std::io;
 use std::io::{ErrorKind, Read, Write};
 use std::process::Abort;
 use std::test::Fail;
-
-mod loads;
 
 // A script, and what a session over a table t, with the numbers 1 and 2 in its column c, answers to it.
 const SCRIPT: &[u8] =
@@ -26,7 +24,7 @@ fn session(alloc: Global) -> Result<Session, Fail> {
     Ok(load(alloc, names.as_slice(), &mut files)?)
 }
 
-fn names_of(alloc: Global, words: &[&str]) -> Result<Vec<String>, AllocError> {
+pub(crate) fn names_of(alloc: Global, words: &[&str]) -> Result<Vec<String>, AllocError> {
     let mut names = Vec::new(alloc);
     for word in words {
         names.push(String::from_str(alloc, word)?)?;
@@ -42,7 +40,7 @@ const KINDS: [ErrorKind; 3] = [
 
 // What a device does at the call at which it fails.
 #[derive(Clone, Copy)]
-enum Fault {
+pub(crate) enum Fault {
     Never,
     Errs(ErrorKind),
     // A write takes nothing.
@@ -99,8 +97,8 @@ impl Read for Repeated {
 
 // Takes at most five bytes a write, and fails at the call numbered `bad`, from 1, flushes among them.
 #[derive(Drop)]
-struct Taker {
-    taken: Vec<u8>,
+pub(crate) struct Taker {
+    pub(crate) taken: Vec<u8>,
     // Whether the last call was a flush that ended well.
     flushed: bool,
     calls: u64,
@@ -134,7 +132,7 @@ impl Write for Taker {
     }
 }
 
-fn taking(alloc: Global, bad: u64, fault: Fault) -> Taker {
+pub(crate) fn taking(alloc: Global, bad: u64, fault: Fault) -> Taker {
     Taker {
         taken: Vec::new(alloc),
         flushed: false,

@@ -1,5 +1,5 @@
 //! Files and the tables that the format gives them.
-use super::{LoadError, table_from_csv};
+use lq_serve::{LoadError, table_from_csv};
 use lq_store::Table;
 use lq_value::{Scalar, Txt};
 use std::alloc::Global;
