@@ -25,8 +25,8 @@ def repeated(head, text, tail):
 
 
 def groups(opening, text, closing, joint, last=";"):
-    """Brackets side by side, which hold brackets side by side, which hold `text`: such a line is parsed whole, and its tree is as
-    large as the line."""
+    """Brackets side by side, which hold brackets side by side, which hold `text`: such a line is parsed whole, and its tree
+    is as large as the line."""
     group = "(" + joint.join([opening + text * 16 + closing] * 16) + ")"
     return lambda size: "run " + joint.join([group] * ((size - 10) // len(group + joint))) + last
 
@@ -129,11 +129,11 @@ class Script:
 
 def scripts_of(line, reply):
     """One line, eight lines, sixteen lines, and sixteen lines of half the length."""
-    made = {}
-    for name, size, count in (("one", LINE, 1), ("eight", LINE, LINES // 2), ("sixteen", LINE, LINES), ("short", LINE // 2, LINES)):
-        made[name] = Script(name)
-        made[name].write(line, size, count, reply)
-    return made
+    kinds = {"one": (LINE, 1), "eight": (LINE, LINES // 2), "sixteen": (LINE, LINES), "short": (LINE // 2, LINES)}
+    scripts = {name: Script(name) for name in kinds}
+    for name, (size, count) in kinds.items():
+        scripts[name].write(line, size, count, reply)
+    return scripts
 
 
 def is_met(one, eight, sixteen, short):

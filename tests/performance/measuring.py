@@ -12,8 +12,8 @@ class Failure(Exception):
 
 
 def run(program, table, script, reply):
-    """A run over the table file `table`, with the script and the whole expected standard output in files: its processor time
-    in seconds and its peak of memory in bytes. It has to end with status 0 and with nothing on standard error."""
+    """A run over the table file `table`, with the script and the whole expected standard output in files: its processor
+    time in seconds and its peak of memory in bytes. It has to end with status 0 and with nothing on standard error."""
     with open(script, "rb") as stdin, open("out", "wb") as out, open("err", "wb") as err:
         process = subprocess.Popen(["timeout", str(SECONDS), program, table], stdin=stdin, stdout=out, stderr=err)
         _, status, used = os.wait4(process.pid, 0)

@@ -1,4 +1,4 @@
-"""Loads a table file of 16.5 MB, 1,500,000 rows of one column, and one of half as many rows, and runs one query over each."""
+"""Loads a table file of 16.5 MB, 1,500,000 rows of one column, and one of half as many rows; runs a query over each."""
 
 import os
 

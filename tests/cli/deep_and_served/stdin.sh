@@ -13,5 +13,6 @@ for count in (64, 65):
     outside = count - 24
     print(f"run {'(' * outside}from x in (t) where (({'(' * 22}x{')' * 22}).c) <= 1 select x.c{')' * outside};")
     print(f"// {count} brackets side by side, and in different places")
-    print(f"run from x in {opening[:64]}t{closing[:64]} where {opening[:64]}x.c{closing[:64]} >= {opening[:64]}2{closing[:64]} select {opening}x.c{closing};")
+    before, behind = opening[:64], closing[:64]
+    print(f"run from x in {before}t{behind} where {before}x.c{behind} >= {before}2{behind} select {opening}x.c{closing};")
 END

@@ -1,7 +1,7 @@
 python3 - <<'END'
-# What stands in front of an open bracket is repeated until 64 brackets are open or the weight is 256: what stands in front of
-# it all, the line itself and each bracket weigh one or more, and each token in front of a bracket that counts. What is left
-# is filled up with minus signs. Behind the deepest line come one of one more sign, one of one more bracket, and a good line.
+# What stands in front of an open bracket is repeated until 64 brackets are open or the weight is 256, of which the head of
+# the line takes its part, each bracket one, and each token in front of a bracket that counts one. What is left is filled up
+# with minus signs. Behind the deepest line come one of one more sign, one of one more bracket, and a good line.
 def show_in(head, room, opening, closing, weight):
     brackets = opening.count("(") + opening.count("{")
     most = min(64 // brackets, room // (weight + brackets))

@@ -1,5 +1,5 @@
 python3 - <<'END'
-# The ways to nest in turn, each beginning with another one, until 64 brackets are open or the weight is 256; then all of it with
+# The ways to nest in turn, each line beginning with another one, until 64 brackets are open or the weight is 256; then with
 # a long chain behind each bracket.
 WAYS = [
     ("a.b(c=>", ")", 3),

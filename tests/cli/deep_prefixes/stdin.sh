@@ -1,5 +1,5 @@
 python3 - <<'END'
-# The most signs in front of an operand, spread over so many brackets: `run`, the line itself and each bracket weigh one, too.
+# The most signs in front of an operand, spread over so many brackets: `run`, the line and each bracket weigh one, too.
 def signs(text, count):
     return (text * count)[:count]
 

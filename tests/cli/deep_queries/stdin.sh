@@ -1,7 +1,7 @@
 python3 - <<'END'
-# Queries in parentheses, in each place of a query where one may stand: as many as the weight of 256 allows. `run` and the line
-# itself weigh two, each parenthesis one, and each token in front of it that counts one; what is left is filled up with minus
-# signs. Behind the deepest line come one of one more sign, one of one more query, and a good line.
+# Queries in parentheses, in each place of a query where one may stand: as many as the weight of 256 allows. `run` and the
+# line weigh two, each parenthesis one, and each token in front of it that counts one; what is left is filled up with
+# minus signs. Behind the deepest line come one of one more sign, one of one more query, and a good line.
 
 def show(opening, closing, weight, behind=0):
     brackets = opening.count("(") + opening.count("{")

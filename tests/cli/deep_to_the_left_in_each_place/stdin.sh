@@ -1,6 +1,6 @@
 python3 - <<'END'
-# Trees of over 14,000 operators, one below the other, in each place where an expression may stand: what stands in front of it
-# and behind it, and how many operators there is room for. Then such trees that are past the limit on the level of the
+# Trees of over 14,000 operators, one below the other, in each place where an expression may stand: what stands in front of
+# it and behind it, and how many operators there is room for. Then such trees that are past the limit on the level of the
 # line, a middle and the innermost level.
 def left(text, room, most=64, longer=None):
     line = "a"

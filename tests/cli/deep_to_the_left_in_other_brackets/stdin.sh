@@ -1,6 +1,7 @@
 python3 - <<'END'
-# As deep, but each level is an argument, a function, a member, the argument of a host's predicate or the source of a query. What
-# stands in front of a bracket weighs on all levels within it: so many tokens outside of the bracket, in it, and in it behind all.
+# As deep, but each level is an argument, a function, a member, the argument of a host's predicate or a part of a query.
+# What stands in front of a bracket weighs on all levels within it: so many tokens outside of the bracket, in it, and in it
+# behind the next level.
 def left(opening, closing, weights, text, more=0):
     outside, inside, behind = weights
     step = 1 + outside + inside

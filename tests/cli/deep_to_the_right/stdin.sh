@@ -1,6 +1,6 @@
 python3 - <<'END'
-# `??` and `?:` lead to the right, as deep as the weight allows: alone, spread over so many brackets, and with the brackets in
-# the middle of each choice.
+# `??` and `?:` lead to the right, as deep as the weight allows: alone, spread over so many brackets, and in the middle of
+# each choice.
 def show(line, deeper):
     print(f"run {line};")
     print(f"run {deeper};")
