@@ -1,0 +1,167 @@
+"""Long lines of each kind: 16 lines of 64 KiB against 8 of them, and against 16 of half their length."""
+
+from dataclasses import dataclass
+
+import measuring
+from measuring import Failure
+
+# A line with its line feed. Sixteen of them are the longest script.
+LINE = 65_536
+LINES = 16
+LEAST_ROUNDS = 3
+MOST_ROUNDS = 15
+MOST_TIMES = 2.3
+MOST_SECONDS = 0.05
+
+SYNTAX = '{"error":"syntax"}'
+TYPE = '{"error":"type"}'
+TOO_DEEP = '{"error":"too-deep"}'
+SERVED = '{"items":[1,2]}'
+
+
+def repeated(head, text, tail):
+    """A line of `text` as often as there is room for it between the head and the tail."""
+    return lambda size: head + text * ((size - len((head + tail).encode())) // len(text.encode())) + tail
+
+
+def groups(opening, text, closing, joint, last=";"):
+    """Brackets side by side, which hold brackets side by side, which hold `text`: such a line is parsed whole, and its tree
+    is as large as the line."""
+    group = "(" + joint.join([opening + text * 16 + closing] * 16) + ")"
+    return lambda size: "run " + joint.join([group] * ((size - 10) // len(group + joint))) + last
+
+
+def to_the_left(text):
+    """A tree that is as deep as the depth of a text allows: each bracket holds the next and a chain behind it."""
+    def line(size):
+        chain = "a"
+        for brackets in range(64, -1, -1):
+            longer = chain + text * (254 - brackets)
+            longer = f"({longer})" if brackets > 0 else longer
+            if len(longer) + len("run ;") > size - 64:
+                break
+            chain = longer
+        return f"run {chain};"
+    return line
+
+
+def conditions(size):
+    """As many conditions as are accepted, of long integers."""
+    digits = "0" * ((size - 1_600) // 125)
+    return "run from x in t " + f"where {digits}1 > 0 " * 125 + "select x.c;"
+
+
+def cells(size):
+    """As many cells as are accepted, of long integers."""
+    digits = "0" * ((size - 20) // 254 - 2)
+    return "insert t (" + ",".join([digits + "7"] * 254) + ");"
+
+
+def served_name(size):
+    """A query that is served, whose range variable has a long name."""
+    name = "x" * ((size - 40) // 2)
+    return f"run from {name} in t select {name}.c;"
+
+
+# What the lines are made of, how a line of a size is made, and its reply.
+KINDS = [
+    ("a chain of operators", repeated("run 1", "+1", ";"), TOO_DEEP),
+    ("a chain of members", repeated("run a", ".b", ";"), TOO_DEEP),
+    ("a list of arguments", repeated("run a.b(1", ",1", ");"), TOO_DEEP),
+    ("brackets that are open", repeated("run ", "(", ";"), TOO_DEEP),
+    ("brackets that close", repeated("run ", ")", ";"), SYNTAX),
+    ("brackets by turns", repeated("run ", "()", ";"), SYNTAX),
+    ("semicolons", repeated("", ";", ";"), SYNTAX),
+    ("names", repeated("run a", " a", ";"), SYNTAX),
+    ("empty texts", repeated("run ", '""', ";"), SYNTAX),
+    ("operators in groups", groups("(1", "+1", ")", "+"), TYPE),
+    ("operators in groups, and a fault", groups("(1", "+1", ")", "+", "+;"), SYNTAX),
+    ("all levels in groups", groups("(1", "*1+1<1==1&&1||1", ")", "??"), TYPE),
+    ("choices in groups", groups("(a", "?a:a", ")", "+"), TYPE),
+    ("minus signs in groups", groups("(", "-", "1)", "*"), TYPE),
+    ("lists of arguments", groups("a.b(c", ",c", ")", "-"), TYPE),
+    ("functions in groups", groups("a.b(c", ",d=>c", ")", "||"), TYPE),
+    ("members in groups", groups("new{a", ",a.b", "}", "+"), TYPE),
+    ("clauses in groups", groups("(from x in t ", "where x ", "select x)", "+"), TYPE),
+    ("calls in groups", groups("(a", ".b()", ")", "+"), TYPE),
+    ("a deep tree of operators", to_the_left("&&ab"), TYPE),
+    ("a deep tree of members", to_the_left(".abc"), TYPE),
+    ("conditions of long integers", conditions, SERVED),
+    ("cells of long integers", cells, TYPE),
+    ("a long text", repeated('run "', "a", '";'), TYPE),
+    ("a long text of other scripts", repeated('run "', "😀é列", '";'), TYPE),
+    ("a long text of escapes", repeated('run "', "\\n\\u00e9", '";'), TYPE),
+    ("a text that isn't closed", repeated('run "', "a", ";"), SYNTAX),
+    ("a long integer", repeated("run ", "0", "1;"), TYPE),
+    ("a long integer that is none", repeated("run ", "9", ";"), SYNTAX),
+    ("a long name", repeated("run ", "a", ";"), TYPE),
+    ("a long name of another script", repeated("run ", "列é", ";"), TYPE),
+    ("a long name that is served", served_name, SERVED),
+    ("a long comment", repeated("run from x in t select x.c; //", " é(", ""), SERVED),
+    ("blanks", repeated("run from x in t", " \t\r ", "select x.c;"), SERVED),
+    ("a character that starts no token", repeated("run from x in t select x.c;", " ", "#"), SYNTAX),
+]
+
+
+@dataclass
+class Script:
+    """A script of equal lines, and what it took."""
+
+    name: str
+    time: float = None
+
+    def write(self, line, size, count, reply):
+        text = line(size - 1)
+        blanks = size - 1 - len(text.encode())
+        if not 0 <= blanks < size // 8:
+            raise ValueError(f"a line of {len(text.encode())} bytes, which has to have nearly {size}")
+        with open(self.name + ".script", "wb") as script:
+            script.write((text.encode() + b" " * blanks + b"\n") * count)
+        with open(self.name + ".reply", "w") as replies:
+            replies.write((reply + "\n") * count)
+
+    def measure(self, program):
+        time, _ = measuring.run(program, "t.csv", self.name + ".script", self.name + ".reply")
+        if time <= 0:
+            raise Failure(f"{self.name}: {time} s were measured, which cannot be")
+        self.time = time if self.time is None else min(self.time, time)
+
+
+def scripts_of(line, reply):
+    """One line, eight lines, sixteen lines, and sixteen lines of half the length."""
+    kinds = {"one": (LINE, 1), "eight": (LINE, LINES // 2), "sixteen": (LINE, LINES), "short": (LINE // 2, LINES)}
+    scripts = {name: Script(name) for name in kinds}
+    for name, (size, count) in kinds.items():
+        scripts[name].write(line, size, count, reply)
+    return scripts
+
+
+def is_met(one, eight, sixteen, short):
+    return one.time <= MOST_SECONDS and sixteen.time <= MOST_TIMES * min(eight.time, short.time)
+
+
+def measure_kind(program, kind, line, reply):
+    """Measures a kind of lines, prints its figures, and tells whether the bounds are met."""
+    scripts = scripts_of(line, reply)
+    rounds = 0
+    while rounds < LEAST_ROUNDS or (not is_met(**scripts) and rounds < MOST_ROUNDS):
+        for script in scripts.values():
+            try:
+                script.measure(program)
+            except Failure as failure:
+                raise Failure(f"{kind}: {failure}") from failure
+        rounds += 1
+    one, eight, sixteen, short = (scripts[name].time * 1000 for name in ("one", "eight", "sixteen", "short"))
+    print(f"lines: {kind}: 1 in {one:.1f} ms, 8 in {eight:.1f} ms, 16 in {sixteen:.1f} ms ({sixteen / eight:.2f} times),"
+          f" 16 of half the length in {short:.1f} ms ({sixteen / short:.2f} times)", flush=True)
+    return is_met(**scripts)
+
+
+def compare(program):
+    """Measures each kind, and fails where a bound isn't met."""
+    with open("t.csv", "w") as table:
+        table.write("c:int\n1\n2\n")
+    slow = [kind for kind, line, reply in KINDS if not measure_kind(program, kind, line, reply)]
+    if slow:
+        raise Failure(f"a line takes more than {MOST_SECONDS * 1000:.0f} ms, or twice the lines or their length more than"
+                      f" {MOST_TIMES} times the time: {', '.join(slow)}")
