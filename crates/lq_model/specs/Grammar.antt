@@ -144,7 +144,6 @@ pub data Spells (line : List ℕ) : Part → List Token → Type 0 where
   cell_true : (word : Token) → word.kind ≡ k.True → Spells line (Cell (scalar.Bool true)) (word ∷ [])
   cell_false : (word : Token) → word.kind ≡ k.False → Spells line (Cell (scalar.Bool false)) (word ∷ [])
   cell_null : (word : Token) → word.kind ≡ k.Null → Spells line (Cell scalar.Null) (word ∷ [])
-
   -- ---- expressions
   -- top: a query or a conditional expression
   top_query : {q : Query Expr} {ts : List Token} → Spells line (Whole q) ts → Spells line (Top (expr.Query q)) ts
@@ -214,7 +213,6 @@ pub data Spells (line : List ℕ) : Part → List Token → Type 0 where
   argument_value : {x : Expr} {ts : List Token} → Spells line (Conditional x) ts → Spells line (OneArgument (argument.Value x)) ts
   argument_lambda : {x : Expr} {ts : List Token} (word arrow : Token) → word.kind ≡ k.Name → arrow.kind ≡ k.Arrow → Spells line (Conditional x) ts
       → Spells line (OneArgument (argument.Lambda (text_of line word) x)) (word ∷ arrow ∷ ts)
-
   -- ---- queries
   -- "from" name "in" cond body {"into" name body}
   query : {s : Expr} {b : Body Expr} {rest : List (Continuation Expr)} {xs ys zs : List Token} (from word within : Token) → from.kind ≡ k.From → word.kind ≡ k.Name → within.kind ≡ k.In

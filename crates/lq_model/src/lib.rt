@@ -15,7 +15,7 @@ pub mod typing_laws;
 
 pub use policy::{Policy, PolicyParts, Role, TablePart};
 pub use syntax::{
-    Argument, Binary, Body, Clause, Continuation, Expr, Field, Infix, Join, Last, Level, Node, Query,
-    SortKey, Statement, Unary,
+    Argument, Binary, Body, Clause, Continuation, Expr, Field, Infix, Join, Last, Level, Node,
+    Query, SortKey, Statement, Unary,
 };
 pub use token::{Kind, Token};

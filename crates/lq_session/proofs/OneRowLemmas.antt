@@ -194,7 +194,6 @@ module _ {R : Type 0} (world : World R) (variable : List ℕ) (t : Ty) (r : R) w
   means_layer x (Expr-F.Node (node.Name s)) h = subst (λ d. Means (roll-Expr d)) h (subst Means (sym (rolls-Node (node.Name s))) (means_name s))
   means_layer x (Expr-F.Node (node.Member row c)) h = subst (λ d. Means (roll-Expr d)) h (subst Means (sym (rolls-Node (node.Member row.0 c))) (means_member row.0 c row.1))
   means_layer x (Expr-F.Node (node.Binary op a b)) h = subst (λ d. Means (roll-Expr d)) h (subst Means (sym (rolls-Node (node.Binary op a.0 b.0))) (means_compare op a.0 b.0 a.1 b.1))
-
   means_layer x (Expr-F.Node other) h = subst (λ d. Means (roll-Expr d)) h (means_nothing (map-Expr Both Expr (λ b. b.0) (Expr-F.Node other)) refl refl)
   means_layer x (Expr-F.Query q) h = subst (λ d. Means (roll-Expr d)) h (means_nothing (map-Expr Both Expr (λ b. b.0) (Expr-F.Query q)) refl refl)
 

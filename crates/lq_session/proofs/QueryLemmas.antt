@@ -131,7 +131,6 @@ module _ {R : Type 0} (world : World R) (variable : List ℕ) (number : ℕ) whe
       ap as_data (each-kept (row_scope world variable item) (λ s. one (meaning world v s)) test rows e)
       ∙ as_data-each (λ r. gated (test r) (one (meaning world v (row_scope world variable item r)))) rows e
       ∙ (λ i. each (λ r. as_data (gated (test r) (one (scalar_found world world.schemas variable number r v typed i)))) rows e)
-
   last_rows cs (last.Group v key) test rows e typed = absurd (true≢false (sym typed))
 
   -- the rows of a query, from its clauses to what it selects
