@@ -70,7 +70,7 @@ def pieces(text):
 
 def name_of_impl(head):
     """`Type`, or for a trait's impl `TypeTraitArguments`, as a check prints it."""
-    head = re.split(r"\bwhere\b", head)[0].strip()
+    head = re.split(r"\bwhere\b", head.replace("->", "  "))[0].strip()
     if head.startswith("<"):
         depth = 0
         for at, mark in enumerate(head):
