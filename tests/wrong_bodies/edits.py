@@ -4,7 +4,7 @@ import glob
 import os
 import re
 
-from functions import functions_of
+from functions import functions_of, types_of
 
 CLAUSE = re.compile(r"\s*(requires|ensures|ghost)\b")
 USAGE = "a line begins with 'file: ', 'old: ', 'new: ' or 'function: '"
@@ -106,6 +106,7 @@ class Crate:
     def __init__(self, root, name):
         self.root, self.name, self.folder = root, name, f"{root}/crates/{name}"
         self.texts, self.functions = {}, {}
+        self.homes = {name: path for path in self.sources() for name in types_of(self.text_of(path))}
 
     def text_of(self, path):
         if os.path.normpath(path) != path or not path.startswith(("src/", "specs/")):
@@ -117,7 +118,7 @@ class Crate:
 
     def functions_in(self, path):
         if path not in self.functions:
-            self.functions[path] = functions_of(self.name, path, self.text_of(path))
+            self.functions[path] = functions_of(self.name, path, self.text_of(path), self.homes)
         return self.functions[path]
 
     def function_at(self, path, line):
@@ -127,10 +128,12 @@ class Crate:
         around = [it for it in self.functions_in(path) if it.first <= line <= it.last]
         return max(around, key=lambda it: it.first, default=None)
 
-    def all_functions(self):
+    def sources(self):
         files = glob.glob(f"{self.folder}/src/**/*.rt", recursive=True)
-        paths = sorted(os.path.relpath(it, self.folder) for it in files)
-        return [it for path in paths for it in self.functions_in(path)]
+        return sorted(os.path.relpath(it, self.folder) for it in files)
+
+    def all_functions(self):
+        return [it for path in self.sources() for it in self.functions_in(path)]
 
     def edits(self):
         """Its wrong bodies, and the files beside them that are none."""

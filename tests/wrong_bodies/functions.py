@@ -5,7 +5,8 @@ from collections import namedtuple
 
 # `name` is the path that a check prints, `cycle` what `#[cycle(..)]` names, or None.
 Function = namedtuple("Function", "name first last cycle")
-Block = namedtuple("Block", "name first last")
+# `is_inherent` is whether it is an `impl` of a type's own functions, and not of a trait.
+Block = namedtuple("Block", "name first last is_inherent")
 
 UNREAD = re.compile(
     r"""//[^\n]*|/\*.*?\*/|b?r(?P<marks>\#*)".*?"(?P=marks)|b?"(?:\\.|[^"\\])*"|b?'(?:\\[^\n]{1,9}?|[^\\'\n])'""",
@@ -90,7 +91,8 @@ def blocks_of(text):
     found = []
     for head in HEADS.finditer(text):
         name = name_of_impl(head[2]) if head[1] == "impl" else re.search(r"\w+", head[2])[0]
-        found.append(Block(name, head.start(), closing(text, head.end() - 1)))
+        is_inherent = head[1] == "impl" and " for " not in head[2]
+        found.append(Block(name, head.start(), closing(text, head.end() - 1), is_inherent))
     return found
 
 
@@ -101,16 +103,30 @@ def cycle_before(text, at):
     return found and found[1]
 
 
-def functions_of(crate, path, text):
-    """The functions of the file `path` of a crate, in the file's order."""
-    text = blanked(text)
+def modules_of(path):
+    """The modules that lead to the file `path` of a crate."""
     modules = re.sub(r"\Asrc/|\.rt\Z", "", path).split("/")
-    modules = [] if modules in (["lib"], ["main"]) else [it for it in modules if it != "mod"]
+    return [] if modules in (["lib"], ["main"]) else [it for it in modules if it != "mod"]
+
+
+def types_of(text):
+    """The types that the file declares."""
+    return set(re.findall(r"\b(?:struct|enum)\s+(\w+)", blanked(text)))
+
+
+def functions_of(crate, path, text, homes):
+    """The functions of the file `path` of a crate, in the file's order.
+
+    A check names the own functions of a type by the module that declares it, whatever file they stand in; `homes` has
+    the file of each type.
+    """
+    text = blanked(text)
     blocks, found = blocks_of(text), []
     line_of = lambda at: text.count("\n", 0, at) + 1
     for head in re.finditer(r"\bfn\s+(\w+)", text):
-        around = [it.name for it in blocks if it.first <= head.start() < it.last]
+        around = [it for it in blocks if it.first <= head.start() < it.last]
+        home = homes.get(around[0].name, path) if around and around[0].is_inherent else path
         end = end_of_function(text, head.end())
-        name = "::".join([crate, *modules, *around, head[1]])
+        name = "::".join([crate, *modules_of(home), *(it.name for it in around), head[1]])
         found.append(Function(name, line_of(head.start()), line_of(end - 1), cycle_before(text, head.start())))
     return found
