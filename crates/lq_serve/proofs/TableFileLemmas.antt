@@ -10,7 +10,7 @@ use Rattle.csv.specs.declared.parser.State.{State}
 use Rattle.csv.specs.declared.parser.State.TheVariants as st
 use Rattle.lq_model.specs.Tokens.{is_digit, is_name}
 use Rattle.std.specs.Prelude.{◌^◌, ◌≢◌, ℤ, map, codes, zero, option_and_then, is_none, Result, Ok, Err}
-use Rattle.std.specs.List.{list_any, position}
+use Rattle.std.specs.List.{fold, list_any, position}
 use Rattle.std.specs.Option.{ok_or}
 use Rattle.std.specs.Str.{bytes_eq}
 use Rattle.std.proofs.lemmas.List.Folds.{list_all-append}
@@ -29,13 +29,31 @@ use Rattle.lq_store.specs.declared.error.StoreError.TheVariants as store
 use Rattle.lq_store.proofs.Kept.{are_distinct-push}
 use Rattle.lq_serve.specs.declared.table_file.LoadError.{LoadError}
 use Rattle.lq_serve.specs.declared.table_file.LoadError.TheVariants.{Memory, Csv, Header, DuplicateName, Cell, TooLarge}
-use Rattle.lq_serve.specs.TableFile.{UnlessMemory, after_cell, after_column, and_then, bounded, cells_from, column_at, column_of, columns_from, decimal, has_name, int_column, int_of, is_int_type, is_plain, table_limit, table_of, table_of_records, with_record}
+use Rattle.lq_serve.specs.TableFile.{UnlessMemory, after_cell, after_column, and_then, bounded, cells_from, column_at, column_of, columns_from, has_name, natural_of, int_column, int_of, is_int_type, is_plain, table_limit, table_of, table_of_records, with_record}
 use Rattle.lq_model.specs.Script.{without_marks}
 use Rattle.lq_serve.proofs.MarkLemmas.{strip_bom-without_marks, without_marks-short}
 
 -- a value above the limit stays above it
 above_limit : (limit value : ℕ) → limit < value → nat_le value limit ≡ false
 above_limit limit value h = grind (arith, nat_tests)
+
+-- the number that digits spell behind those of a value, digit by digit
+abbrev pub decimal : ℕ → List ℕ → Option ℕ
+decimal value [] = Some value
+decimal value (c ∷ rest) = if is_digit c then decimal (value * 10 + (c - 48)) rest else None
+
+-- it is their value, where all of them are digits
+decimal_is : (value : ℕ) (digits : List ℕ) → decimal value digits ≡ (if list_all is_digit digits then Some (fold (λ v d. v * 10 + (d - 48)) value digits) else None)
+decimal_is value [] = refl
+decimal_is value (c ∷ rest) = by (is_digit c) (decimal_is (value * 10 + (c - 48)) rest) where
+  by : (d : Bool) → decimal (value * 10 + (c - 48)) rest ≡ (if list_all is_digit rest then Some (fold (λ v d. v * 10 + (d - 48)) (value * 10 + (c - 48)) rest) else None) → (if d then decimal (value * 10 + (c - 48)) rest else None)
+      ≡ (if d && list_all is_digit rest then Some (fold (λ v d. v * 10 + (d - 48)) (value * 10 + (c - 48)) rest) else None)
+  by true behind = behind
+  by false behind = refl
+
+pub natural_is : (digits : List ℕ) → 0 < length digits → decimal 0 digits ≡ natural_of digits
+natural_is [] some = absurd (omega (arith, some))
+natural_is (c ∷ rest) some = decimal_is 0 (c ∷ rest)
 
 digit_or_none : (d : Bool) (x : Option ℕ) (limit : ℕ) → bounded limit x ≡ None → bounded limit (if d then x else None) ≡ None
 digit_or_none true x limit e = e

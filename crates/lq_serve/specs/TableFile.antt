@@ -1,6 +1,6 @@
 -- The table that a file of comma-separated values means, or why it means none.
-use Rattle.std.specs.Prelude.{◌≡◌, ◌+◌, ◌*◌, ◌-◌, ◌==◌, ◌&&◌, ◌∷◌, ◌++◌, not, if◌then◌else◌, List, [], ℕ, ℤ, pos, neg_ℤ, Bool, true, false, is_none, nat_le, nat_lt, length, take, drop, codes, Option, Some, None, option_map, option_and_then, Result, Ok, Err, ⊤}
-use Rattle.std.specs.List.{list_any, position}
+use Rattle.std.specs.Prelude.{◌≡◌, ◌+◌, ◌==◌, ◌&&◌, ◌∷◌, ◌++◌, not, if◌then◌else◌, List, [], ℕ, ℤ, pos, neg_ℤ, Bool, true, false, is_none, nat_le, nat_lt, length, take, drop, codes, Option, Some, None, option_map, option_and_then, Result, Ok, Err, ⊤}
+use Rattle.std.specs.List.{list_all, list_any, position}
 use Rattle.std.specs.Str.{bytes_eq}
 use Rattle.csv.specs.Reading.{default_config, records}
 use Rattle.lq_value.specs.Tables.{Table}
@@ -11,7 +11,7 @@ use Rattle.lq_value.specs.declared.scalar.Scalar.{Scalar}
 use Rattle.lq_value.specs.declared.scalar.Scalar.TheVariants as scalar
 use Rattle.lq_store.specs.Calls.{with_row}
 use Rattle.lq_model.specs.Script.{without_marks}
-use Rattle.lq_model.specs.Tokens.{is_digit, is_name}
+use Rattle.lq_model.specs.Tokens.{decimal_value, is_digit, is_name}
 use Rattle.lq_serve.specs.declared.table_file.LoadError.{LoadError}
 use Rattle.lq_serve.specs.declared.table_file.LoadError.TheVariants.{Memory, Csv, Header, DuplicateName, Cell, TooLarge}
 
@@ -22,15 +22,10 @@ table_limit = 16777216
 abbrev pub column_limit : ℕ
 column_limit = 100
 
--- the number that digits spell behind those of a value
-abbrev pub decimal : ℕ → List ℕ → Option ℕ
-decimal value [] = Some value
-decimal value (c ∷ rest) = if is_digit c then decimal (value * 10 + (c - 48)) rest else None
-
 -- the number that one or more digits spell
 abbrev pub natural_of : List ℕ → Option ℕ
 natural_of [] = None
-natural_of (c ∷ rest) = decimal 0 (c ∷ rest)
+natural_of (c ∷ rest) = if list_all is_digit (c ∷ rest) then Some (decimal_value (c ∷ rest)) else None
 
 -- a number that is at most the limit
 abbrev pub bounded : ℕ → Option ℕ → Option ℕ
@@ -135,7 +130,7 @@ UnlessMemory DuplicateName fact = fact
 UnlessMemory (Cell record_place column_place) fact = fact
 UnlessMemory TooLarge fact = fact
 
--- a call gave what is meant, or there was no memory
-abbrev pub Gives : {A : Type 0} → Result A LoadError → Result A LoadError → Type 0
-Gives meant (Ok x) = meant ≡ Ok x
-Gives meant (Err e) = UnlessMemory e (meant ≡ Err e)
+-- what was loaded is what is meant, or there was no memory
+abbrev pub LoadsAs : {A : Type 0} → Result A LoadError → Result A LoadError → Type 0
+LoadsAs meant (Ok x) = meant ≡ Ok x
+LoadsAs meant (Err e) = UnlessMemory e (meant ≡ Err e)

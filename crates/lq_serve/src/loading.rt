@@ -50,7 +50,7 @@ const READ_LIMIT: u64 = MOST_BYTES as u64 + 1;
 /// is read once, up to the first fault, and no other file is; at most 16,777,217 bytes are asked for.
 /// `Memory` may stand for any other answer.
 pub fn load<F: Files>(alloc: Global, names: &[String], files: &mut F) -> Result<Session, StartError>
-    ensures ok { IfOk result (λ session. Started (F.holds files.old) (F.answered files.old) (F.answered files.new) (map string_bytes names.now) (state_of session)) }
+    ensures ok { IfOk result (λ it. Started (F.holds files.old) (F.answered files.old) (F.answered files.new) (map string_bytes names.now) (state_of it)) }
     ensures err { IfErr result (λ error. RefusedBy (F.holds files.old) (F.answered files.old) (F.answered files.new) (map string_bytes names.now) error) }
 {
     let mut store = Store::new(alloc);

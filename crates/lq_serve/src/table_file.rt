@@ -3,7 +3,7 @@ ghost use Rattle.std.specs.Prelude.{◌≡◌, ◌<◌, ◌+◌, ◌^◌, true, 
 ghost use Rattle.std.specs.List.{list_all};
 ghost use Rattle.csv.specs.Records.{fields_of};
 ghost use Rattle.lq_serve.specs.CsvRecords.{IsReading, records_left};
-ghost use Rattle.lq_serve.specs.TableFile.{Gives, UnlessMemory, is_plain, table_of, table_of_records, table_under, with_record, with_records};
+ghost use Rattle.lq_serve.specs.TableFile.{LoadsAs, UnlessMemory, is_plain, table_of, table_of_records, table_under, with_record, with_records};
 
 mod cells;
 mod header;
@@ -78,7 +78,7 @@ impl<T: Drop> From<AllocFailed<T>> for LoadError {
 /// columns, and then with the first fault met, record by record: a header cell's form before
 /// its name, and a record's length before its cells. `Memory` may stand for any other answer.
 pub fn table_from_csv(alloc: Global, name: Txt, bytes: &[u8]) -> Result<Table, LoadError>
-    ensures { Gives (table_of name bytes.now) result }
+    ensures { LoadsAs (table_of name bytes.now) result }
 {
     if bytes.len() > MOST_BYTES {
         return Err(LoadError::TooLarge);
@@ -95,7 +95,7 @@ fn table_of_records(
 ) -> Result<Table, LoadError>
     requires reading { IsReading reader.old }
     requires room { length (records_left reader.old) < 2 ^ 63 }
-    ensures { Gives (table_of_records name (records_left reader.old)) result }
+    ensures { LoadsAs (table_of_records name (records_left reader.old)) result }
 {
     let mut row = ByteRecord::new(alloc);
     if !read_record(reader, &mut row)? {
@@ -109,7 +109,7 @@ fn table_of_records(
 // The table without rows that a header tells of.
 fn table_under(alloc: Global, name: Txt, header: &ByteRecord) -> Result<Table, LoadError>
     requires { 0 < length (fields_of header.now) }
-    ensures table { Gives (table_under name (fields_of header.now)) result }
+    ensures table { LoadsAs (table_under name (fields_of header.now)) result }
     ensures plain { IfOk result (λ t. list_all is_plain t.schema.columns ≡ true) }
     ensures first { IfOk result (λ t. t.next ≡ 1) }
 {

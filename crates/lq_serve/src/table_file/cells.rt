@@ -1,7 +1,7 @@
 //! The cells of a record as those of a row.
 ghost use Rattle.std.specs.Prelude.{◌≡◌, []};
 ghost use Rattle.csv.specs.Records.{fields_of};
-ghost use Rattle.lq_serve.specs.TableFile.{Gives, cells_from};
+ghost use Rattle.lq_serve.specs.TableFile.{LoadsAs, cells_from};
 
 use super::LoadError;
 use super::number::int_of;
@@ -16,7 +16,7 @@ pub(crate) fn cells_of(
     row: &ByteRecord,
     place: u64,
 ) -> Result<List<Scalar>, LoadError>
-    ensures { Gives (cells_from place (fields_of row.now) []) result }
+    ensures { LoadsAs (cells_from place (fields_of row.now) []) result }
 {
     // Room for these cells and no more: a file may have millions of records.
     let mut cells = List::from_vec(Vec::with_capacity(alloc, row.len())?);

@@ -5,7 +5,7 @@ ghost use Rattle.std.specs.Option.{ok_or};
 ghost use Rattle.std.specs.Str.{bytes_eq};
 ghost use Rattle.csv.specs.Records.{fields_of};
 ghost use Rattle.lq_model.specs.Tokens.{is_name};
-ghost use Rattle.lq_serve.specs.TableFile.{Gives, column_at, column_of, columns_from, has_name, int_column};
+ghost use Rattle.lq_serve.specs.TableFile.{LoadsAs, column_at, column_of, columns_from, has_name, int_column};
 ghost use Rattle.lq_serve.specs.declared.table_file.LoadError.TheVariants.{Header};
 
 use super::LoadError;
@@ -18,7 +18,7 @@ use std::alloc::{AllocError, Global};
 /// The columns that the cells of `header` tell of. Refuses with `Header` or `DuplicateName` for
 /// the first cell that has no form of a column, or the name of an earlier one.
 pub(crate) fn columns_of(alloc: Global, header: &ByteRecord) -> Result<List<Column>, LoadError>
-    ensures { Gives (columns_from (fields_of header.now) []) result }
+    ensures { LoadsAs (columns_from (fields_of header.now) []) result }
 {
     let mut columns = List::new(alloc);
     for cell in header {
@@ -40,7 +40,7 @@ fn has_name(columns: &[Column], name: &[u8]) -> bool
 
 // The column that a cell tells of.
 fn column_of(alloc: Global, cell: &[u8]) -> Result<Column, LoadError>
-    ensures { Gives (ok_or (column_of cell.now) Header) result }
+    ensures { LoadsAs (ok_or (column_of cell.now) Header) result }
 {
     let Some(colon) = colon_of(cell) else {
         return Err(LoadError::Header);

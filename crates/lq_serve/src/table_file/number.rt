@@ -35,6 +35,7 @@ fn above_zero(size: u64) -> i32
 }
 
 // The number that `digits` spell, if they are one or more digits and it is at most `limit`.
+#[tactic(auto, using(crate::proofs::TableFileLemmas::natural_is))]
 fn natural(digits: &[u8], limit: u64) -> Option<u64>
     requires { limit < 2 ^ 32 }
     ensures value { result ≡ bounded limit (natural_of digits.now) }

@@ -1,4 +1,4 @@
-use Rattle.std.proofs.Common.{rules, ◌≡◌, true, [], refl}
+use Rattle.std.proofs.Common.{rules, [], refl}
 use Rattle.lq_serve.specs.Devices.{is_failed}
 use Rattle.lq_serve.specs.Ending.Ends.{served, unwritten}
 use Rattle.lq_serve.proofs.DeviceLemmas.{Writes-nil, unmarked}

@@ -1,5 +1,5 @@
 use Rattle.std.proofs.Common.{arith, ◌<◌, ◌∙◌, length, string_bytes, add-one}
-use Rattle.lq_serve.proofs.LoadingLemmas.{Abandoned-far, Agrees-same, Far-more, RefusedBy-fault, map-split, take-map-more}
+use Rattle.lq_serve.proofs.LoadingLemmas.{Agrees-same, Far-more, RefusedBy-fault, map-split, take-map-more}
 use Rattle.lq_serve.proofs.loading.load.Goals as goal
 
 pub returns-in-Err-clause-err : goal.returns-in-Err-clause-err

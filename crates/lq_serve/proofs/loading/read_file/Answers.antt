@@ -1,4 +1,4 @@
-use Rattle.std.proofs.Common.{rules, Some, None, refl}
+use Rattle.std.proofs.Common.{Some, None, refl}
 use Rattle.lq_serve.proofs.LoadingLemmas.{AddsFront-none, Agrees-known, Agrees-unreadable, Answered-all, known_bytes}
 use Rattle.lq_serve.proofs.loading.read_file.Goals as goal
 

@@ -1,6 +1,4 @@
-use Rattle.std.proofs.Common.{◌≡◌, ◌≤◌, ◌↔◌, ◌∙◌, arith, length, length-drop}
-use Rattle.std.specs.Str.{IsUtf8}
-use Rattle.lq_model.specs.Script.{without_marks}
+use Rattle.std.proofs.Common.{◌∙◌, arith, length-drop}
 use Rattle.lq_serve.proofs.MarkLemmas.{marked, marked_text, unmarked}
 use Rattle.lq_serve.proofs.marks.without_marks.Goals as goal
 

@@ -1,5 +1,6 @@
 use Rattle.std.proofs.Common.{◌≡◌, ◌≤◌, drop}
-use Rattle.lq_serve.specs.TableFile.{bounded, decimal, natural_of}
+use Rattle.lq_serve.specs.TableFile.{bounded, natural_of}
+use Rattle.lq_serve.proofs.TableFileLemmas.{decimal}
 use Rattle.lq_serve.proofs.table_file.number.natural.Given as goal
 
 -- the digits so far spell the value
