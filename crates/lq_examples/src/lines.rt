@@ -205,15 +205,6 @@ fn blank_lines_have_no_statement(rt: HostRuntime) -> Result<(), Fail> {
         assert!(rt; is_blank(line));
     }
     assert!(rt; !is_blank("/"));
-    let mut spaces = String::new(rt.alloc());
-    for _ in 0..65536 {
-        spaces.push(' ')?;
-    }
-    assert!(rt; is_blank(&spaces));
-    assert!(rt; parse_statement(rt.alloc(), &spaces)?.is_none());
-    spaces.push(' ')?;
-    assert!(rt; !is_blank(&spaces));
-    assert!(rt; is_syntax(rt.alloc(), &spaces));
     Ok(())
 }
 
