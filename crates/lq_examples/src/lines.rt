@@ -199,16 +199,6 @@ fn other_lines_are_refused(rt: HostRuntime) {
 }
 
 #[test]
-fn blank_lines_have_no_statement(rt: HostRuntime) -> Result<(), Fail> {
-    for line in ["", " \t\r", "// run", " /// \u{e9} #"] {
-        assert!(rt; parse_statement(rt.alloc(), line)?.is_none());
-        assert!(rt; is_blank(line));
-    }
-    assert!(rt; !is_blank("/"));
-    Ok(())
-}
-
-#[test]
 fn rules_are_read(rt: HostRuntime) -> Result<(), Fail> {
     let rule = parse_rule(rt.alloc(), "row.c\n  >= 2 // at least\n")?;
     assert!(rt; is_comparison(&rule, "row", Binary::GreaterOrEqual, 2));
