@@ -100,7 +100,7 @@ fn the_first_bytes_of_a_file_are_read(rt: HostRuntime) -> Result<(), Fail> {
         (10, "c:int\n1\n2\n"),
         (u64::MAX, "c:int\n1\n2\n"),
     ] {
-        assert_eq!(rt; files.read("t.csv", limit)?.as_slice(), bytes.as_bytes());
+        assert!(rt; files.read("t.csv", limit)?.as_slice() == bytes.as_bytes());
     }
     assert!(rt; files.read("t", 1).err() == Some(FileError::Read));
     assert_eq!(rt; files.readings().len(), 5);
@@ -182,7 +182,7 @@ fn a_refusal_ends_with_its_status_and_its_line(rt: HostRuntime) -> Result<(), Fa
         let mut errors = Device::new(&mut told);
         assert_eq!(rt; refuse(error, &mut errors), status);
         assert_eq!(rt; errors.failed(), bad > 0);
-        assert_eq!(rt; told.taken.as_slice(), line.as_bytes());
+        assert!(rt; told.taken.as_slice() == line.as_bytes());
     }
     Ok(())
 }

@@ -121,17 +121,21 @@ fn each_scalar_is_copied(rt: HostRuntime) -> Result<(), Fail> {
 }
 
 #[test]
-fn wrappers_give_back_what_they_hold(rt: HostRuntime) -> Result<(), Fail> {
-    let alloc = rt.alloc();
-    let mut list = List::new(alloc);
+fn a_list_gives_back_its_items(rt: HostRuntime) -> Result<(), Fail> {
+    let mut list = List::new(rt.alloc());
     assert!(rt; list.is_empty());
     list.push(3)?;
     list.push(5)?;
     assert!(rt; list.len() == 2);
     let list = List::from_vec(list.into_vec());
-    assert_eq!(rt; list.as_slice(), [3, 5].as_slice());
-    assert!(rt; Held::new(alloc, 4)?.into_inner() == 4);
-    let text = Txt::from_string(String::from_str(alloc, "t")?);
+    assert!(rt; list.as_slice() == [3, 5].as_slice());
+    Ok(())
+}
+
+#[test]
+fn boxes_and_texts_give_back_what_they_hold(rt: HostRuntime) -> Result<(), Fail> {
+    assert!(rt; Held::new(rt.alloc(), 4)?.into_inner() == 4);
+    let text = Txt::from_string(String::from_str(rt.alloc(), "t")?);
     assert!(rt; text.as_str() == "t");
     Ok(())
 }

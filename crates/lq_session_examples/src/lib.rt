@@ -1,0 +1,10 @@
+//! Tests of values, tables, policies and sessions, by public calls. They stand here and not in the crates that they test: a
+//! crate without tests is proved once.
+#![tactic(auto)]
+
+#[cfg(test)]
+mod sessions;
+#[cfg(test)]
+mod tables;
+#[cfg(test)]
+mod values;
