@@ -1,16 +1,16 @@
 -- The equations of the folds over expressions, one for each form.
-use Rattle.std.proofs.Common.{◌≡◌, ◌&&◌, if◌then◌else◌, List, ℕ, ℤ, Bool, Option, Some, None, Ok, ap, ◌∙◌, option_and_then}
+use Rattle.std.proofs.Common.{◌≡◌, ◌&&◌, if◌then◌else◌, List, ℕ, ℤ, Bool, Option, Some, None, Ok, ap, ◌∙◌, sym, option_and_then}
 use Rattle.lq_value.specs.declared.scalar.Scalar.TheVariants as scalar
 use Rattle.lq_value.specs.declared.ty.Ty.{Ty, out-Ty}
 use Rattle.lq_value.specs.declared.ty.Ty.TheVariants as ty
 use Rattle.lq_value.specs.declared.value.Value.{out-Value}
 use Rattle.lq_value.specs.declared.value.Value.TheVariants as value
-use Rattle.lq_model.specs.Meaning.{Meaning, Scope, World, binding_of, compared, meaning, meaning_step, member_value, name_value, on_ok, on_scalar}
+use Rattle.lq_model.specs.Meaning.{Meaning, Meant, Scope, World, binding_of, compared, meaning, meaning_step, member_value, name_value, on_ok, on_scalar}
 use Rattle.lq_model.specs.Typing.{Names, column_type, is_comparison, is_number, local_type, name_type, row_table, type_of, type_step}
 use Rattle.lq_model.specs.declared.syntax.Binary.{Binary}
-use Rattle.lq_model.specs.declared.syntax.Expr.{Expr, fold_out-Expr, map-Expr, out-Expr, roll-Expr}
+use Rattle.lq_model.specs.declared.syntax.Expr.{Expr, fold_out-Expr, map-Expr, out-Expr, para-roll-Expr, roll-Expr}
 use Rattle.lq_model.specs.declared.syntax.Expr.TheOpen.{Expr-F}
-use Rattle.lq_model.specs.declared.syntax.Expr.TheVariants.{outs-Node, outs-Query}
+use Rattle.lq_model.specs.declared.syntax.Expr.TheVariants.{outs-Node, outs-Query, rolls-Node}
 use Rattle.lq_model.specs.declared.syntax.Expr.TheViews.{out-roll-Expr}
 use Rattle.lq_model.specs.declared.syntax.Expr.TheVariants as expr
 use Rattle.lq_model.specs.declared.syntax.Node.TheVariants as node
@@ -20,32 +20,33 @@ use Rattle.lq_model.specs.declared.syntax.Query.{Query}
 use Rattle.lq_model.specs.declared.syntax.Unary.{Unary}
 
 module _ {R : Type 0} (world : World R) where
-  -- one layer of an expression, with the meaning of each operand in its place
-  abbrev pub layer_meaning : Expr-F Expr → Meaning R
-  layer_meaning layer = meaning_step world (map-Expr Expr (Meaning R) (meaning world) layer)
+  -- an expression beside what it means
+  abbrev pub beside : Expr → Meant R
+  beside e = (e, meaning world e)
 
-  pub meaning_out : (e : Expr) (scope : Scope R) → meaning world e scope ≡ layer_meaning (out-Expr e) scope
-  unfolding meaning
-  meaning_out e scope = ap (λ (m : Meaning R). m scope) (fold_out-Expr (Meaning R) (meaning_step world) e)
+  -- one layer of an expression, with each operand beside its meaning
+  abbrev pub layer_meaning : Expr-F Expr → Meaning R
+  layer_meaning layer = meaning_step world (map-Expr Expr (Meant R) beside layer)
 
   -- the meaning of a layer's expression
   pub rolled_meaning : (layer : Expr-F Expr) (scope : Scope R) → meaning world (roll-Expr layer) scope ≡ layer_meaning layer scope
-  rolled_meaning layer scope = meaning_out (roll-Expr layer) scope ∙ ap (λ (x : Expr-F Expr). layer_meaning x scope) (out-roll-Expr layer)
+  unfolding meaning
+  rolled_meaning layer scope = ap (λ (m : Meaning R). m scope) (para-roll-Expr (Meaning R) (meaning_step world) layer)
 
   pub meaning_integer : (n : ℤ) (scope : Scope R) → meaning world (expr.Node (node.Integer n)) scope ≡ Ok (value.Scalar (scalar.Int n))
-  meaning_integer n scope = meaning_out (expr.Node (node.Integer n)) scope ∙ ap (λ (x : Expr-F Expr). layer_meaning x scope) (outs-Node (node.Integer n))
+  meaning_integer n scope = ap (λ (e : Expr). meaning world e scope) (sym (rolls-Node (node.Integer n))) ∙ rolled_meaning (Expr-F.Node (node.Integer n)) scope
 
   pub meaning_name : (x : List ℕ) (scope : Scope R) → meaning world (expr.Node (node.Name x)) scope ≡ name_value world x (binding_of x scope)
-  meaning_name x scope = meaning_out (expr.Node (node.Name x)) scope ∙ ap (λ (e : Expr-F Expr). layer_meaning e scope) (outs-Node (node.Name x))
+  meaning_name x scope = ap (λ (e : Expr). meaning world e scope) (sym (rolls-Node (node.Name x))) ∙ rolled_meaning (Expr-F.Node (node.Name x)) scope
 
   pub meaning_member : (row : Expr) (c : List ℕ) (scope : Scope R)
       → meaning world (expr.Node (node.Member row c)) scope ≡ on_ok (meaning world row scope) (λ v. member_value world c (out-Value R v))
-  meaning_member row c scope = meaning_out (expr.Node (node.Member row c)) scope ∙ ap (λ (e : Expr-F Expr). layer_meaning e scope) (outs-Node (node.Member row c))
+  meaning_member row c scope = ap (λ (e : Expr). meaning world e scope) (sym (rolls-Node (node.Member row c))) ∙ rolled_meaning (Expr-F.Node (node.Member row c)) scope
 
   pub meaning_compare : (op : Binary) (a b : Expr) (scope : Scope R)
       → meaning world (expr.Node (node.Binary op a b)) scope
-      ≡ on_scalar (meaning world a scope) (λ s. on_scalar (meaning world b scope) (λ t. Ok (value.Scalar (scalar.Bool (compared op s t)))))
-  meaning_compare op a b scope = meaning_out (expr.Node (node.Binary op a b)) scope ∙ ap (λ (e : Expr-F Expr). layer_meaning e scope) (outs-Node (node.Binary op a b))
+      ≡ on_scalar world (meaning world a scope) (λ s. on_scalar world (meaning world b scope) (λ t. on_ok (compared world.unknown op s t) (λ truth. Ok (value.Scalar (scalar.Bool truth)))))
+  meaning_compare op a b scope = ap (λ (e : Expr). meaning world e scope) (sym (rolls-Node (node.Binary op a b))) ∙ rolled_meaning (Expr-F.Node (node.Binary op a b)) scope
 
 abbrev pub layer_type : Expr-F Expr → Names → Option Ty
 layer_type layer = type_step (map-Expr Expr (Names → Option Ty) type_of layer)

@@ -13,14 +13,15 @@ use Rattle.lq_value.specs.Tables.{Table}
 use Rattle.lq_value.specs.declared.scalar.Scalar.{Scalar}
 use Rattle.lq_value.specs.declared.scalar.Scalar.TheVariants as scalar
 use Rattle.lq_value.specs.declared.value.Fault.{Fault}
+use Rattle.lq_value.specs.declared.value.Fault.TheVariants as fault
 use Rattle.lq_value.specs.declared.value.Value.{Value, out-Value, roll-Value}
 use Rattle.lq_value.specs.declared.value.Value.TheOpen.{Value-F}
 use Rattle.lq_value.specs.declared.value.Value.TheVariants.{outs-Scalar, rolls-Scalar}
 use Rattle.lq_value.specs.declared.value.Value.TheVariants as value
 use Rattle.lq_value.specs.declared.value.Value.TheViews.{roll-out-Value}
-use Rattle.lq_model.specs.Meaning.{on_ok, scalar_of, truth_of}
+use Rattle.lq_model.specs.Meaning.{World, on_ok, scalar_of, truth_of}
 use Rattle.lq_model.specs.PolicyLaws.{FindsCells, IsDeniedByDefault, IsDeniedToStrangers, NarrowsByRestriction, with_policy, Filters, end, keeps, drops, SeesEachTable, SeesVisibleRows, TellsVisible}
-use Rattle.lq_model.specs.Visible.{Applies, Asked, HasCell, IsAdmitted, IsTrueOn, IsVisible, unsecured, admitted, admit, admitted_to, allows, applies, cell_named, is_admitted, is_listed, is_true, permits, rule_holds, seen_from, seen_rows, tables_as_seen, visible_to}
+use Rattle.lq_model.specs.Visible.{Applies, Asked, HasCell, IsAdmitted, IsTrueOn, IsVisible, unsecured, admitted, admit, admitted_to, allows, applies, cell_named, is_admitted, is_listed, is_true, permits, rule_holds, seen_from, seen_rows, tables_as_seen, visible_to, rule_world}
 use Rattle.lq_model.specs.declared.policy.Policy.{Policy}
 use Rattle.lq_model.specs.declared.policy.PolicyParts.{PolicyParts}
 use Rattle.lq_model.specs.declared.policy.Role.{Role}
@@ -30,12 +31,12 @@ use Rattle.lq_model.specs.declared.syntax.Expr.{Expr}
 -- ---- rules
 
 -- a value that is a truth value is that scalar
-is_truth : (v : Value (List Scalar)) → is_true (on_ok (scalar_of (out-Value (List Scalar) v)) truth_of) ≡ true → v ≡ value.Scalar (scalar.Bool true)
-is_truth v h = by (out-Value (List Scalar) v) refl h where
+is_truth : (world : World (List Scalar)) (v : Value (List Scalar)) → is_true (on_ok (scalar_of world (out-Value (List Scalar) v)) (truth_of world.unknown)) ≡ true → v ≡ value.Scalar (scalar.Bool true)
+is_truth world v h = by (out-Value (List Scalar) v) refl h where
   made : out-Value (List Scalar) v ≡ Value-F.Scalar (scalar.Bool true) → v ≡ value.Scalar (scalar.Bool true)
   made is = sym (roll-out-Value (List Scalar) v) ∙ ap (roll-Value (List Scalar)) is ∙ rolls-Scalar (scalar.Bool true)
 
-  by : (layer : Value-F (List Scalar) (Value (List Scalar))) → out-Value (List Scalar) v ≡ layer → is_true (on_ok (scalar_of layer) truth_of) ≡ true → v ≡ value.Scalar (scalar.Bool true)
+  by : (layer : Value-F (List Scalar) (Value (List Scalar))) → out-Value (List Scalar) v ≡ layer → is_true (on_ok (scalar_of world layer) (truth_of world.unknown)) ≡ true → v ≡ value.Scalar (scalar.Bool true)
   by (Value-F.Scalar (scalar.Bool true)) is h = made is
   by (Value-F.Scalar (scalar.Bool false)) is h = absurd (cc)
   by (Value-F.Scalar scalar.Null) is h = absurd (cc)
@@ -47,17 +48,18 @@ is_truth v h = by (out-Value (List Scalar) v) refl h where
   by (Value-F.Seq vs e) is h = absurd (cc)
 
 -- a rule holds where its meaning is true
-holds_as_meant : (m : Result (Value (List Scalar)) Fault) → is_true (on_ok (on_ok m (λ v. scalar_of (out-Value (List Scalar) v))) truth_of) ≡ true → m ≡ Ok (value.Scalar (scalar.Bool true))
-holds_as_meant (Ok v) h = ap Ok (is_truth v h)
-holds_as_meant (Err f) h = absurd (cc)
+holds_as_meant : (world : World (List Scalar)) (m : Result (Value (List Scalar)) Fault)
+    → is_true (on_ok (on_ok m (λ v. scalar_of world (out-Value (List Scalar) v))) (truth_of world.unknown)) ≡ true → m ≡ Ok (value.Scalar (scalar.Bool true))
+holds_as_meant world (Ok v) h = ap Ok (is_truth world v h)
+holds_as_meant world (Err f) h = absurd (cc)
 
 pub true_where_it_holds : (asked : Asked) (rule : Expr) → rule_holds asked.columns asked.table rule asked.cells ≡ true → IsTrueOn asked rule
-true_where_it_holds asked rule h = holds_as_meant _ h
+true_where_it_holds asked rule h = holds_as_meant (rule_world asked.columns) _ h
 
 pub holds_where_it_is_true : (asked : Asked) (rule : Expr) → IsTrueOn asked rule → rule_holds asked.columns asked.table rule asked.cells ≡ true
 holds_where_it_is_true asked rule h =
-    ap (λ (m : Result (Value (List Scalar)) Fault). is_true (on_ok (on_ok m (λ v. scalar_of (out-Value (List Scalar) v))) truth_of)) h
-    ∙ ap (λ (layer : Value-F (List Scalar) (Value (List Scalar))). is_true (on_ok (scalar_of layer) truth_of)) (outs-Scalar (scalar.Bool true))
+    ap (λ (m : Result (Value (List Scalar)) Fault). is_true (on_ok (on_ok m (λ v. scalar_of (rule_world asked.columns) (out-Value (List Scalar) v))) (truth_of fault.NullReference))) h
+    ∙ ap (λ (layer : Value-F (List Scalar) (Value (List Scalar))). is_true (on_ok (scalar_of (rule_world asked.columns) layer) (truth_of fault.NullReference))) (outs-Scalar (scalar.Bool true))
 
 -- ---- policies that apply
 

@@ -6,7 +6,7 @@ use Rattle.lq_value.specs.declared.ty.Ty.{Ty, ind-Ty, map-Ty, out-Ty, roll-Ty}
 use Rattle.lq_value.specs.declared.ty.Ty.TheOpen.{Ty-F}
 use Rattle.lq_value.specs.declared.ty.Ty.TheVariants as ty
 use Rattle.lq_value.specs.declared.ty.Ty.TheVariants.{outs-Bool, outs-Group, outs-Int, outs-IntN, outs-Null, outs-Rec, outs-Row, outs-Seq, outs-Str, rolls-Bool, rolls-Group, rolls-Int, rolls-IntN, rolls-Null, rolls-Rec, rolls-Row, rolls-Seq, rolls-Str}
-use Rattle.lq_model.specs.Typing.{Names, is_comparison, HasType, of_integer, of_local, of_table, of_column, of_comparison, IsTypedClause, AreTypedClauses, HasSelectedType, HasItemType, clause_is_typed, clauses_are_typed, column_type, if_scalar, is_bool, is_bool_type, is_number, is_scalar, item_of, item_type, items_over, local_type, name_type, row_table, selected_type, table_number, type_of, when_fresh, with_local}
+use Rattle.lq_model.specs.Typing.{Names, is_comparison, Claim, TypeOf, Leads, LeadAll, Selects, GivesItems, IsTyped, of_integer, of_local, of_table, of_column, of_comparison, by_where, by_none, by_first, by_select, by_query, HasType, HasItemType, body_type, column_type, if_scalar, is_bool, is_bool_type, is_number, is_scalar, item_of, item_type, items_over, local_type, name_type, names_behind, names_behind_all, row_table, selected_type, table_number, type_of, when_fresh, with_local}
 use Rattle.lq_model.specs.TypingLaws.{HasOneType, HasOneItemType, FindsTypes, FindsItemTypes}
 use Rattle.lq_model.specs.declared.syntax.Clause.{Clause}
 use Rattle.lq_model.specs.declared.syntax.Clause.TheVariants as clause
@@ -90,22 +90,61 @@ member_type names c row = option_and_then (λ t. option_and_then (λ n. column_t
 abbrev expression_type : Names → Expr → Option Ty
 expression_type names e = type_of e names
 
-pub type_complete : (names : Names) {e : Expr} {t : Ty} → HasType names e t → type_of e names ≡ Some t
-type_complete names (of_integer _ n is) = ap (expression_type names) is ∙ type_integer n names
-type_complete names (of_local _ x _ is found) = ap (expression_type names) is ∙ type_name x names ∙ ap (name_type names x) found
-type_complete names (of_table _ x n is hidden found) =
-    ap (expression_type names) is ∙ type_name x names ∙ ap (name_type names x) hidden ∙ ap (λ (o : Option ℕ). option_map (λ m. ty.Seq (ty.Row m)) o) found
-type_complete names (of_column _ row c n _ is row_typed found) =
+condition_complete : (names : Names) (x : Expr) → type_of x names ≡ Some ty.Bool → is_bool_type (type_of x names) ≡ true
+condition_complete names x typed = ap is_bool_type typed ∙ ap is_bool outs-Bool
+
+selection_complete : (names : Names) (v : Expr) (t : Ty) → type_of v names ≡ Some t → is_scalar (out-Ty t) ≡ true → if_scalar (type_of v names) ≡ Some t
+selection_complete names v t typed scalar = ap if_scalar typed ∙ rw scalar refl
+
+-- what a claim says of the functions
+abbrev IsFound : Claim → Type 0
+IsFound (TypeOf names e t) = type_of e names ≡ Some t
+IsFound (Leads outer c before behind) = names_behind type_of outer c before ≡ Some behind
+IsFound (LeadAll outer cs before behind) = names_behind_all type_of outer cs before ≡ Some behind
+IsFound (Selects names l t) = selected_type type_of l names ≡ Some t
+IsFound (GivesItems names q t) = item_type type_of q names ≡ Some t
+
+items_found : (names behind : Names) (q : Query Expr) (item t : Ty) → type_of q.source names ≡ Some (ty.Seq item) → local_type q.name names.locals ≡ None
+    → names_behind_all type_of names q.body.clauses (with_local names q.name item) ≡ Some behind → selected_type type_of q.body.last behind ≡ Some t → q.rest ≡ []
+    → item_type type_of q names ≡ Some t
+unfolding item_type
+items_found names behind q item t source fresh clauses selected ended =
+    ap (λ (o : Option Ty). when_fresh o (items_over type_of names q (option_and_then (λ s. item_of (out-Ty s)) (type_of q.source names)))) fresh
+    ∙ ap (λ (o : Option Ty). items_over type_of names q (option_and_then (λ s. item_of (out-Ty s)) o)) source
+    ∙ ap (λ layer. items_over type_of names q (item_of layer)) (outs-Seq item)
+    ∙ ap (λ (rest : List (Continuation Expr)). if length rest == 0 then body_type type_of names q.body (with_local names q.name item) else None) ended
+    ∙ ap (option_and_then (selected_type type_of q.body.last)) clauses
+    ∙ selected
+
+found : {claim : Claim} → IsTyped claim → IsFound claim
+found (of_integer names _ n is) = ap (expression_type names) is ∙ type_integer n names
+found (of_local names _ x _ is local) = ap (expression_type names) is ∙ type_name x names ∙ ap (name_type names x) local
+found (of_table names _ x n is hidden table) =
+    ap (expression_type names) is ∙ type_name x names ∙ ap (name_type names x) hidden ∙ ap (λ (o : Option ℕ). option_map (λ m. ty.Seq (ty.Row m)) o) table
+found (of_column names _ row c n _ is row_typed column) =
     ap (expression_type names) is ∙ type_member row c names
-    ∙ ap (member_type names c) (type_complete names row_typed)
+    ∙ ap (member_type names c) (found row_typed)
     ∙ ap (λ layer. option_and_then (λ m. column_type names.tables m c) (row_table layer)) (outs-Row n)
-    ∙ found
-type_complete names (of_comparison _ a b op s t is compares a_typed s_number b_typed t_number) =
+    ∙ column
+found (of_comparison names _ a b op s t is compares a_typed s_number b_typed t_number) =
     ap (expression_type names) is ∙ type_compare op a b names
     ∙ ap (λ (c : Bool). if c then compared_type (type_of a names) (type_of b names) else None) compares
-    ∙ ap (λ (o : Option Ty). compared_type o (type_of b names)) (type_complete names a_typed)
-    ∙ ap (compared_type (Some s)) (type_complete names b_typed)
+    ∙ ap (λ (o : Option Ty). compared_type o (type_of b names)) (found a_typed)
+    ∙ ap (compared_type (Some s)) (found b_typed)
     ∙ numbers_compare s t s_number t_number
+found (by_where outer names _ x is typed) =
+    ap (λ (c : Clause Expr). names_behind type_of outer c names) is ∙ ap (λ (b : Bool). if b then Some names else None) (condition_complete names x (found typed))
+found (by_none outer names) = refl
+found (by_first outer before between behind c cs first others) = ap (option_and_then (names_behind_all type_of outer cs)) (found first) ∙ found others
+found (by_select names _ v t is typed scalar) = ap (λ (l : Last Expr). selected_type type_of l names) is ∙ selection_complete names v t (found typed) scalar
+found (by_query names behind q item t source fresh clauses selected ended) =
+    items_found names behind q item t (found source) fresh (found clauses) (found selected) ended
+
+pub type_complete : (names : Names) {e : Expr} {t : Ty} → HasType names e t → type_of e names ≡ Some t
+type_complete names typed = found typed
+
+pub item_type_complete : (names : Names) (q : Query Expr) (t : Ty) → HasItemType names q t → item_type type_of q names ≡ Some t
+item_type_complete names q t typed = found typed
 
 -- ---- what is found is what the rules give
 
@@ -114,17 +153,17 @@ IsSound e = (names : Names) (t : Ty) → type_of e names ≡ Some t → HasType 
 
 sound_integer : (n : ℤ) → IsSound (expr.Node (node.Integer n))
 sound_integer n names t h =
-    subst (HasType names (expr.Node (node.Integer n))) (same_Some ty.Int t (sym (type_integer n names) ∙ h)) (of_integer (expr.Node (node.Integer n)) n refl)
+    subst (HasType names (expr.Node (node.Integer n))) (same_Some ty.Int t (sym (type_integer n names) ∙ h)) (of_integer names (expr.Node (node.Integer n)) n refl)
 
 sound_table : (x : List ℕ) (names : Names) (t : Ty) → local_type x names.locals ≡ None → (o : Option ℕ) → table_number x names.tables ≡ o
     → option_map (λ n. ty.Seq (ty.Row n)) o ≡ Some t → HasType names (expr.Node (node.Name x)) t
 sound_table x names t hidden None is h = absurd (none-some t h)
 sound_table x names t hidden (Some n) is h =
-    subst (HasType names (expr.Node (node.Name x))) (same_Some (ty.Seq (ty.Row n)) t h) (of_table (expr.Node (node.Name x)) x n refl hidden is)
+    subst (HasType names (expr.Node (node.Name x))) (same_Some (ty.Seq (ty.Row n)) t h) (of_table names (expr.Node (node.Name x)) x n refl hidden is)
 
 sound_local : (x : List ℕ) (names : Names) (t : Ty) (o : Option Ty) → local_type x names.locals ≡ o → name_type names x o ≡ Some t → HasType names (expr.Node (node.Name x)) t
 sound_local x names t None is h = sound_table x names t is (table_number x names.tables) refl h
-sound_local x names t (Some s) is h = of_local (expr.Node (node.Name x)) x t refl (is ∙ h)
+sound_local x names t (Some s) is h = of_local names (expr.Node (node.Name x)) x t refl (is ∙ h)
 
 sound_name : (x : List ℕ) → IsSound (expr.Node (node.Name x))
 sound_name x names t h = sound_local x names t (local_type x names.locals) refl (sym (type_name x names) ∙ h)
@@ -133,7 +172,7 @@ sound_column : (row : Expr) (c : List ℕ) (names : Names) (s t : Ty) → HasTyp
     → option_and_then (λ n. column_type names.tables n c) o ≡ Some t → HasType names (expr.Node (node.Member row c)) t
 sound_column row c names s t typed None is h = absurd (none-some t h)
 sound_column row c names s t typed (Some n) is h =
-    of_column (expr.Node (node.Member row c)) row c n t refl (subst (HasType names row) (is_row s n is) typed) h
+    of_column names (expr.Node (node.Member row c)) row c n t refl (subst (HasType names row) (is_row s n is) typed) h
 
 sound_member_by : (row : Expr) (c : List ℕ) → IsSound row → (names : Names) (t : Ty) (o : Option Ty) → type_of row names ≡ o
     → member_type names c o ≡ Some t → HasType names (expr.Node (node.Member row c)) t
@@ -146,7 +185,7 @@ sound_member row c sound names t h = sound_member_by row c sound names t (type_o
 sound_numbers : (op : Binary) → is_comparison op ≡ true → (a b : Expr) (names : Names) (r s t : Ty) → HasType names a r → HasType names b s → (n m : Bool)
     → is_number (out-Ty r) ≡ n → is_number (out-Ty s) ≡ m → (if n && m then Some ty.Bool else None) ≡ Some t → HasType names (expr.Node (node.Binary op a b)) t
 sound_numbers op compares a b names r s t a_typed b_typed true true r_is s_is h =
-    subst (HasType names (expr.Node (node.Binary op a b))) (same_Some ty.Bool t h) (of_comparison (expr.Node (node.Binary op a b)) a b op r s refl compares a_typed r_is b_typed s_is)
+    subst (HasType names (expr.Node (node.Binary op a b))) (same_Some ty.Bool t h) (of_comparison names (expr.Node (node.Binary op a b)) a b op r s refl compares a_typed r_is b_typed s_is)
 sound_numbers op compares a b names r s t a_typed b_typed true false r_is s_is h = absurd (none-some t h)
 sound_numbers op compares a b names r s t a_typed b_typed false m r_is s_is h = absurd (none-some t h)
 
@@ -186,53 +225,46 @@ type_sound e = ind-Expr IsSound sound_layer e
 
 -- ---- queries
 
-clause_complete : (names : Names) (c : Clause Expr) → IsTypedClause names c → clause_is_typed names c ≡ true
-clause_complete names (clause.Where c) typed = ap is_bool_type (type_complete names typed) ∙ ap is_bool outs-Bool
-clause_complete names clause typed = absurd typed
-
-clauses_complete : (names : Names) (cs : List (Clause Expr)) → AreTypedClauses names cs → clauses_are_typed names cs ≡ true
-clauses_complete names [] typed = refl
-clauses_complete names (c ∷ cs) typed = rw (clause_complete names c typed.0, clauses_complete names cs typed.1) refl
-
-selected_complete : (names : Names) (l : Last Expr) (t : Ty) → HasSelectedType names l t → selected_type names l ≡ Some t
-selected_complete names (last.Select v) t typed = ap if_scalar (type_complete names typed.0) ∙ rw typed.1 refl
-selected_complete names (last.Group v key) t typed = absurd typed
-
-pub item_type_complete : (names : Names) (q : Query Expr) (t : Ty) → HasItemType names q t → item_type q names ≡ Some t
-unfolding item_type
-item_type_complete names q t typed =
-    ap (λ (o : Option Ty). when_fresh o (items_over names q (option_and_then (λ s. item_of (out-Ty s)) (type_of q.source names)))) typed.fresh
-    ∙ ap (λ (o : Option Ty). items_over names q (option_and_then (λ s. item_of (out-Ty s)) o)) (type_complete names typed.source)
-    ∙ ap (λ layer. items_over names q (item_of layer)) (outs-Seq typed.item)
-    ∙ ap (λ (rest : List (Continuation Expr)). if (length rest == 0) && clauses_are_typed (with_local names q.name typed.item) q.body.clauses then selected_type (with_local names q.name typed.item) q.body.last else None) typed.ended
-    ∙ ap (λ (b : Bool). if b then selected_type (with_local names q.name typed.item) q.body.last else None) (clauses_complete (with_local names q.name typed.item) q.body.clauses typed.clauses)
-    ∙ selected_complete (with_local names q.name typed.item) q.body.last t typed.selected
-
 condition_sound : (names : Names) (c : Expr) (o : Option Ty) → type_of c names ≡ o → is_bool_type o ≡ true → HasType names c ty.Bool
 condition_sound names c None is h = absurd (true≢false (sym h))
 condition_sound names c (Some t) is h = subst (HasType names c) (is_truth t h) (type_sound c names t is)
 
-clause_sound : (names : Names) (c : Clause Expr) → clause_is_typed names c ≡ true → IsTypedClause names c
-clause_sound names (clause.Where c) h = condition_sound names c (type_of c names) refl h
-clause_sound names clause h = absurd (true≢false (sym h))
+where_sound : (outer before behind : Names) (c : Expr) (b : Bool) → is_bool_type (type_of c before) ≡ b → (if b then Some before else None) ≡ Some behind
+    → IsTyped (Leads outer (clause.Where c) before behind)
+where_sound outer before behind c true is h =
+    subst (λ (names : Names). IsTyped (Leads outer (clause.Where c) before names)) (same_Some before behind h)
+    (by_where outer before (clause.Where c) c refl (condition_sound before c (type_of c before) refl is))
+where_sound outer before behind c false is h = absurd (none-some behind h)
 
-clauses_sound : (names : Names) (cs : List (Clause Expr)) → clauses_are_typed names cs ≡ true → AreTypedClauses names cs
-clauses_sound names [] h = tt
-clauses_sound names (c ∷ cs) h =
-    let parts = and_parts (clause_is_typed names c) (clauses_are_typed names cs) h in (clause_sound names c parts.0, clauses_sound names cs parts.1)
+clause_sound : (outer before behind : Names) (c : Clause Expr) → names_behind type_of outer c before ≡ Some behind → IsTyped (Leads outer c before behind)
+clause_sound outer before behind (clause.Where c) h = where_sound outer before behind c (is_bool_type (type_of c before)) refl h
+clause_sound outer before behind clause h = absurd (none-some behind h)
+
+clauses_sound_by : (outer before behind : Names) (c : Clause Expr) (cs : List (Clause Expr))
+    → ((between : Names) → names_behind_all type_of outer cs between ≡ Some behind → IsTyped (LeadAll outer cs between behind))
+    → (o : Option Names) → names_behind type_of outer c before ≡ o → option_and_then (names_behind_all type_of outer cs) o ≡ Some behind
+    → IsTyped (LeadAll outer (c ∷ cs) before behind)
+clauses_sound_by outer before behind c cs others None is h = absurd (none-some behind h)
+clauses_sound_by outer before behind c cs others (Some between) is h =
+    by_first outer before between behind c cs (clause_sound outer before between c is) (others between h)
+
+clauses_sound : (outer before behind : Names) (cs : List (Clause Expr)) → names_behind_all type_of outer cs before ≡ Some behind → IsTyped (LeadAll outer cs before behind)
+clauses_sound outer before behind [] h = subst (λ (names : Names). IsTyped (LeadAll outer [] before names)) (same_Some before behind h) (by_none outer before)
+clauses_sound outer before behind (c ∷ cs) h =
+    clauses_sound_by outer before behind c cs (λ between. clauses_sound outer between behind cs) (names_behind type_of outer c before) refl h
 
 scalar_sound : (names : Names) (v : Expr) (s t : Ty) → type_of v names ≡ Some s → (b : Bool) → is_scalar (out-Ty s) ≡ b → (if b then Some s else None) ≡ Some t
-    → HasSelectedType names (last.Select v) t
+    → IsTyped (Selects names (last.Select v) t)
 scalar_sound names v s t is true scalar h =
     let same : s ≡ t = same_Some s t h in
-    (type_sound v names t (is ∙ h), subst (λ (u : Ty). is_scalar (out-Ty u) ≡ true) same scalar)
+    by_select names (last.Select v) v t refl (type_sound v names t (is ∙ h)) (subst (λ (u : Ty). is_scalar (out-Ty u) ≡ true) same scalar)
 scalar_sound names v s t is false scalar h = absurd (none-some t h)
 
-value_sound : (names : Names) (v : Expr) (t : Ty) (o : Option Ty) → type_of v names ≡ o → if_scalar o ≡ Some t → HasSelectedType names (last.Select v) t
+value_sound : (names : Names) (v : Expr) (t : Ty) (o : Option Ty) → type_of v names ≡ o → if_scalar o ≡ Some t → IsTyped (Selects names (last.Select v) t)
 value_sound names v t None is h = absurd (none-some t h)
 value_sound names v t (Some s) is h = scalar_sound names v s t is (is_scalar (out-Ty s)) refl h
 
-selected_sound : (names : Names) (l : Last Expr) (t : Ty) → selected_type names l ≡ Some t → HasSelectedType names l t
+selected_sound : (names : Names) (l : Last Expr) (t : Ty) → selected_type type_of l names ≡ Some t → IsTyped (Selects names l t)
 selected_sound names (last.Select v) t h = value_sound names v t (type_of v names) refl h
 selected_sound names (last.Group v key) t h = absurd (none-some t h)
 
@@ -240,38 +272,33 @@ empty : (rest : List (Continuation Expr)) → (length rest == 0) ≡ true → re
 empty [] h = refl
 empty (c ∷ rest) h = absurd (let none : suc (length rest) ≡ 0 = eqb-true _ 0 h in omega (arith, none))
 
-body_sound : (names : Names) (q : Query Expr) (item t : Ty) → local_type q.name names.locals ≡ None → HasType names q.source (ty.Seq item) → (b : Bool)
-    → ((length q.rest == 0) && clauses_are_typed (with_local names q.name item) q.body.clauses) ≡ b → (if b then selected_type (with_local names q.name item) q.body.last else None) ≡ Some t
-    → HasItemType names q t
-body_sound names q item t fresh source true typed h =
-    let parts = and_parts (length q.rest == 0) (clauses_are_typed (with_local names q.name item) q.body.clauses) typed in
-    record {
-      item = item;
-      source = source;
-      fresh = fresh;
-      clauses = clauses_sound (with_local names q.name item) q.body.clauses parts.1;
-      selected = selected_sound (with_local names q.name item) q.body.last t h;
-      ended = empty q.rest parts.0;
-    }
-body_sound names q item t fresh source false typed h = absurd (none-some t h)
+module _ (names : Names) (q : Query Expr) (t : Ty) (fresh : local_type q.name names.locals ≡ None) where
+  clauses_and_last : (item : Ty) → HasType names q.source (ty.Seq item) → q.rest ≡ [] → (o : Option Names)
+      → names_behind_all type_of names q.body.clauses (with_local names q.name item) ≡ o → option_and_then (selected_type type_of q.body.last) o ≡ Some t → HasItemType names q t
+  clauses_and_last item source ended None is h = absurd (none-some t h)
+  clauses_and_last item source ended (Some behind) is h =
+      by_query names behind q item t source fresh (clauses_sound names (with_local names q.name item) behind q.body.clauses is) (selected_sound behind q.body.last t h) ended
 
-items_sound : (names : Names) (q : Query Expr) (s t : Ty) → local_type q.name names.locals ≡ None → HasType names q.source s → (o : Option Ty) → item_of (out-Ty s) ≡ o
-    → items_over names q o ≡ Some t → HasItemType names q t
-items_sound names q s t fresh source None is h = absurd (none-some t h)
-items_sound names q s t fresh source (Some item) is h =
-    body_sound names q item t fresh (subst (HasType names q.source) (is_sequence s item is) source) ((length q.rest == 0) && clauses_are_typed (with_local names q.name item) q.body.clauses) refl h
+  body_sound : (item : Ty) → HasType names q.source (ty.Seq item) → (b : Bool) → (length q.rest == 0) ≡ b
+      → (if b then body_type type_of names q.body (with_local names q.name item) else None) ≡ Some t → HasItemType names q t
+  body_sound item source true ended h =
+      clauses_and_last item source (empty q.rest ended) (names_behind_all type_of names q.body.clauses (with_local names q.name item)) refl h
+  body_sound item source false ended h = absurd (none-some t h)
 
-source_sound : (names : Names) (q : Query Expr) (t : Ty) → local_type q.name names.locals ≡ None → (o : Option Ty) → type_of q.source names ≡ o
-    → items_over names q (option_and_then (λ s. item_of (out-Ty s)) o) ≡ Some t → HasItemType names q t
-source_sound names q t fresh None is h = absurd (none-some t h)
-source_sound names q t fresh (Some s) is h = items_sound names q s t fresh (type_sound q.source names s is) (item_of (out-Ty s)) refl h
+  items_sound : (s : Ty) → HasType names q.source s → (o : Option Ty) → item_of (out-Ty s) ≡ o → items_over type_of names q o ≡ Some t → HasItemType names q t
+  items_sound s source None is h = absurd (none-some t h)
+  items_sound s source (Some item) is h = body_sound item (subst (HasType names q.source) (is_sequence s item is) source) (length q.rest == 0) refl h
+
+  source_sound : (o : Option Ty) → type_of q.source names ≡ o → items_over type_of names q (option_and_then (λ s. item_of (out-Ty s)) o) ≡ Some t → HasItemType names q t
+  source_sound None is h = absurd (none-some t h)
+  source_sound (Some s) is h = items_sound s (type_sound q.source names s is) (item_of (out-Ty s)) refl h
 
 fresh_sound : (names : Names) (q : Query Expr) (t : Ty) (o : Option Ty) → local_type q.name names.locals ≡ o
-    → when_fresh o (items_over names q (option_and_then (λ s. item_of (out-Ty s)) (type_of q.source names))) ≡ Some t → HasItemType names q t
+    → when_fresh o (items_over type_of names q (option_and_then (λ s. item_of (out-Ty s)) (type_of q.source names))) ≡ Some t → HasItemType names q t
 fresh_sound names q t None is h = source_sound names q t is (type_of q.source names) refl h
 fresh_sound names q t (Some s) is h = absurd (none-some t h)
 
-pub item_type_sound : (names : Names) (q : Query Expr) (t : Ty) → item_type q names ≡ Some t → HasItemType names q t
+pub item_type_sound : (names : Names) (q : Query Expr) (t : Ty) → item_type type_of q names ≡ Some t → HasItemType names q t
 unfolding item_type
 item_type_sound names q t h = fresh_sound names q t (local_type q.name names.locals) refl h
 

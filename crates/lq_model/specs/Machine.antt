@@ -4,10 +4,12 @@ use Rattle.serde_json.specs.Data.{Data}
 use Rattle.lq_value.specs.Tables.{Table}
 use Rattle.lq_value.specs.declared.table.Schema.{Schema}
 use Rattle.lq_value.specs.declared.ty.Ty.{Ty}
-use Rattle.lq_model.specs.Meaning.{World, query_meaning}
+use Rattle.lq_value.specs.declared.value.Fault.{Fault}
+use Rattle.lq_value.specs.declared.value.Fault.TheVariants as fault
+use Rattle.lq_model.specs.Meaning.{World, stream_meaning}
 use Rattle.lq_model.specs.Reading.{Reading, Nothing, Says, IsNoSyntax, IsTooDeep, reading_of}
 use Rattle.lq_model.specs.Served.{error_data, line_of, stream_data}
-use Rattle.lq_model.specs.Typing.{item_type}
+use Rattle.lq_model.specs.Typing.{item_type, type_of}
 use Rattle.lq_model.specs.Visible.{TableRow, cell_named, tables_as_seen}
 use Rattle.lq_model.specs.declared.policy.PolicyParts.{PolicyParts}
 use Rattle.lq_model.specs.declared.syntax.Expr.{Expr, out-Expr}
@@ -41,18 +43,23 @@ abbrev pub columns_in : Option Schema → List (List ℕ)
 columns_in None = []
 columns_in (Some schema) = map (λ column. column.name) schema.columns
 
--- what queries read: these schemas, and these rows alone
+-- what queries read: these schemas, and these rows alone; the fault stands where an expression has no meaning
+abbrev pub world_by : Fault → List Schema → List (List TableRow) → World TableRow
+world_by unknown schemas rows =
+    record { schemas = schemas; rows = rows; cell = λ r. cell_named (columns_in (slice_get schemas r.table)) r.row.cells; unknown = unknown }
+
+-- any fault would do: no reply depends on it (MeaningLaws)
 abbrev pub world_of : List Schema → List (List TableRow) → World TableRow
-world_of schemas rows = record { schemas = schemas; rows = rows; cell = λ r. cell_named (columns_in (slice_get schemas r.table)) r.row.cells }
+world_of = world_by fault.NullReference
 
 -- a query without a type is refused, any other serves its stream
 abbrev pub served : World TableRow → Query Expr → Option Ty → Data
 served world q None = error_data (codes "type")
-served world q (Some t) = stream_data (query_meaning world q [])
+served world q (Some t) = stream_data (stream_meaning world q [])
 
 -- the reply of `run` over these schemas and rows
 unfoldable pub run_reply : List Schema → List (List TableRow) → Query Expr → Data
-run_reply schemas rows q = served (world_of schemas rows) q (item_type q (record { tables = schemas; locals = [] }))
+run_reply schemas rows q = served (world_of schemas rows) q (item_type type_of q (record { tables = schemas; locals = [] }))
 
 -- the reply of `run` in a state
 abbrev pub run_in : State → Query Expr → Data

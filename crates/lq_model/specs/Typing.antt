@@ -76,43 +76,50 @@ is_comparison binary.Equal = true
 is_comparison binary.NotEqual = true
 is_comparison op = false
 
--- An expression has a type under names. Forms that are spelled and have no rule here are served by a later version.
-pub data HasType (names : Names) : Expr → Ty → Type 0 where
-  of_integer : (e : Expr) (n : ℤ) → e ≡ expr.Node (node.Integer n) → HasType names e ty.Int
-  of_local : (e : Expr) (x : List ℕ) (t : Ty) → e ≡ expr.Node (node.Name x) → local_type x names.locals ≡ Some t → HasType names e t
-  -- a local name hides a table of its name
-  of_table : (e : Expr) (x : List ℕ) (n : ℕ) → e ≡ expr.Node (node.Name x) → local_type x names.locals ≡ None → table_number x names.tables ≡ Some n → HasType names e (ty.Seq (ty.Row n))
-  of_column : (e row : Expr) (c : List ℕ) (n : ℕ) (t : Ty) → e ≡ expr.Node (node.Member row c) → HasType names row (ty.Row n) → column_type names.tables n c ≡ Some t → HasType names e t
-  of_comparison : (e a b : Expr) (op : Binary) (s t : Ty) → e ≡ expr.Node (node.Binary op a b) → is_comparison op ≡ true → HasType names a s → is_number (out-Ty s) ≡ true
-      → HasType names b t → is_number (out-Ty t) ≡ true → HasType names e ty.Bool
-
 -- the local names with one more
 abbrev pub with_local : Names → List ℕ → Ty → Names
 with_local names name t = record { tables = names.tables; locals = (name, t) ∷ names.locals }
 
--- A clause is typed: a condition is a truth value.
-abbrev pub IsTypedClause : Names → Clause Expr → Type 0
-IsTypedClause names (clause.Where c) = HasType names c ty.Bool
-IsTypedClause names clause = ⊥
+-- What is said of the types of an expression and of the parts of a query.
+pub data Claim : Type 0 where
+  -- under these names the expression has this type
+  TypeOf : Names → Expr → Ty → Claim
+  -- in a query at the place of the first names, the clause has the second before it and the third behind it
+  Leads : Names → Clause Expr → Names → Names → Claim
+  LeadAll : Names → List (Clause Expr) → Names → Names → Claim
+  -- under these names a body ends with values of this type
+  Selects : Names → Last Expr → Ty → Claim
+  -- at the place of these names the items of the query have this type
+  GivesItems : Names → Query Expr → Ty → Claim
 
-abbrev pub AreTypedClauses : Names → List (Clause Expr) → Type 0
-AreTypedClauses names [] = Unit {0}
-AreTypedClauses names (c ∷ cs) = IsTypedClause names c × AreTypedClauses names cs
+-- Rule by rule, which of it is so. Forms that are spelled and have no rule here are served by a later version.
+pub data IsTyped : Claim → Type 0 where
+  of_integer : (names : Names) (e : Expr) (n : ℤ) → e ≡ expr.Node (node.Integer n) → IsTyped (TypeOf names e ty.Int)
+  of_local : (names : Names) (e : Expr) (x : List ℕ) (t : Ty) → e ≡ expr.Node (node.Name x) → local_type x names.locals ≡ Some t → IsTyped (TypeOf names e t)
+  -- a local name hides a table of its name
+  of_table : (names : Names) (e : Expr) (x : List ℕ) (n : ℕ) → e ≡ expr.Node (node.Name x) → local_type x names.locals ≡ None
+      → table_number x names.tables ≡ Some n → IsTyped (TypeOf names e (ty.Seq (ty.Row n)))
+  of_column : (names : Names) (e row : Expr) (c : List ℕ) (n : ℕ) (t : Ty) → e ≡ expr.Node (node.Member row c) → IsTyped (TypeOf names row (ty.Row n))
+      → column_type names.tables n c ≡ Some t → IsTyped (TypeOf names e t)
+  of_comparison : (names : Names) (e a b : Expr) (op : Binary) (s t : Ty) → e ≡ expr.Node (node.Binary op a b) → is_comparison op ≡ true
+      → IsTyped (TypeOf names a s) → is_number (out-Ty s) ≡ true → IsTyped (TypeOf names b t) → is_number (out-Ty t) ≡ true → IsTyped (TypeOf names e ty.Bool)
+  -- a condition is a truth value, and names nothing
+  by_where : (outer names : Names) (c : Clause Expr) (x : Expr) → c ≡ clause.Where x → IsTyped (TypeOf names x ty.Bool) → IsTyped (Leads outer c names names)
+  by_none : (outer names : Names) → IsTyped (LeadAll outer [] names names)
+  by_first : (outer before between behind : Names) (c : Clause Expr) (cs : List (Clause Expr)) → IsTyped (Leads outer c before between)
+      → IsTyped (LeadAll outer cs between behind) → IsTyped (LeadAll outer (c ∷ cs) before behind)
+  -- rows, sequences and the like are served by a later version, and are not selected here
+  by_select : (names : Names) (l : Last Expr) (v : Expr) (t : Ty) → l ≡ last.Select v → IsTyped (TypeOf names v t) → is_scalar (out-Ty t) ≡ true → IsTyped (Selects names l t)
+  -- the source is a sequence; the range variable stands for an item of it, and repeats no local name
+  by_query : (names behind : Names) (q : Query Expr) (item t : Ty) → IsTyped (TypeOf names q.source (ty.Seq item)) → local_type q.name names.locals ≡ None
+      → IsTyped (LeadAll names q.body.clauses (with_local names q.name item) behind) → IsTyped (Selects behind q.body.last t) → q.rest ≡ []
+      → IsTyped (GivesItems names q t)
 
--- What a query selects has this type. Rows, sequences and the like are served by a later version, and have no type here.
-abbrev pub HasSelectedType : Names → Last Expr → Ty → Type 0
-HasSelectedType names (last.Select v) t = HasType names v t × (is_scalar (out-Ty t) ≡ true)
-HasSelectedType names (last.Group v key) t = ⊥
+abbrev pub HasType : Names → Expr → Ty → Type 0
+HasType names e t = IsTyped (TypeOf names e t)
 
--- A query is a sequence of such items: its source is a sequence, its range variable stands for an item of the source in
--- its clauses and in what it selects, and repeats no local name.
-pub record HasItemType (names : Names) (q : Query Expr) (t : Ty) : Type 0 where
-  pub item : Ty
-  pub source : HasType names q.source (ty.Seq item)
-  pub fresh : local_type q.name names.locals ≡ None
-  pub clauses : AreTypedClauses (with_local names q.name item) q.body.clauses
-  pub selected : HasSelectedType (with_local names q.name item) q.body.last t
-  pub ended : q.rest ≡ []
+abbrev pub HasItemType : Names → Query Expr → Ty → Type 0
+HasItemType names q t = IsTyped (GivesItems names q t)
 
 -- ---- the same as a function
 
@@ -152,35 +159,37 @@ abbrev pub is_bool_type : Option Ty → Bool
 is_bool_type None = false
 is_bool_type (Some t) = is_bool (out-Ty t)
 
-abbrev pub clause_is_typed : Names → Clause Expr → Bool
-clause_is_typed names (clause.Where c) = is_bool_type (type_of c names)
-clause_is_typed names clause = false
-
-abbrev pub clauses_are_typed : Names → List (Clause Expr) → Bool
-clauses_are_typed names [] = true
-clauses_are_typed names (c ∷ cs) = clause_is_typed names c && clauses_are_typed names cs
-
 abbrev pub if_scalar : Option Ty → Option Ty
 if_scalar None = None
 if_scalar (Some t) = if is_scalar (out-Ty t) then Some t else None
-
-abbrev pub selected_type : Names → Last Expr → Option Ty
-selected_type names (last.Select v) = if_scalar (type_of v names)
-selected_type names (last.Group v key) = None
-
--- the type of what a body gives, where no continuation follows it
-abbrev pub body_type : Names → Query Expr → Option Ty
-body_type names q = if (length q.rest == 0) && clauses_are_typed names q.body.clauses then selected_type names q.body.last else None
-
--- the type of a query's items, where its source gives items of this type
-abbrev pub items_over : Names → Query Expr → Option Ty → Option Ty
-items_over names q None = None
-items_over names q (Some item) = body_type (with_local names q.name item) q
 
 abbrev pub when_fresh : Option Ty → Option Ty → Option Ty
 when_fresh None found = found
 when_fresh (Some t) found = None
 
-unfoldable pub item_type : Query Expr → Names → Option Ty
-item_type q names =
-    when_fresh (local_type q.name names.locals) (items_over names q (option_and_then (λ t. item_of (out-Ty t)) (type_of q.source names)))
+module _ {X : Type 0} (typed : X → Names → Option Ty) where
+  -- the names behind a clause, where it is typed under those before it
+  abbrev pub names_behind : Names → Clause X → Names → Option Names
+  names_behind outer (clause.Where c) before = if is_bool_type (typed c before) then Some before else None
+  names_behind outer clause before = None
+
+  abbrev pub names_behind_all : Names → List (Clause X) → Names → Option Names
+  names_behind_all outer [] before = Some before
+  names_behind_all outer (c ∷ cs) before = option_and_then (names_behind_all outer cs) (names_behind outer c before)
+
+  abbrev pub selected_type : Last X → Names → Option Ty
+  selected_type (last.Select v) names = if_scalar (typed v names)
+  selected_type (last.Group v key) names = None
+
+  -- the type of what a body gives under the names of its query's place and its own range variable
+  abbrev pub body_type : Names → Body X → Names → Option Ty
+  body_type outer body names = option_and_then (selected_type body.last) (names_behind_all outer body.clauses names)
+
+  -- the type of a query's items, where its source gives items of this type; no continuation is typed yet
+  abbrev pub items_over : Names → Query X → Option Ty → Option Ty
+  items_over names q None = None
+  items_over names q (Some item) = if length q.rest == 0 then body_type names q.body (with_local names q.name item) else None
+
+  unfoldable pub item_type : Query X → Names → Option Ty
+  item_type q names =
+      when_fresh (local_type q.name names.locals) (items_over names q (option_and_then (λ t. item_of (out-Ty t)) (typed q.source names)))

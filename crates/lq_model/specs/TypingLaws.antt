@@ -19,4 +19,4 @@ FindsTypes = (names : Names) (e : Expr) (t : Ty) → (type_of e names ≡ Some t
 
 -- the function finds a type for a query's items exactly where the rules give it
 abbrev pub FindsItemTypes : Type 0
-FindsItemTypes = (names : Names) (q : Query Expr) (t : Ty) → (item_type q names ≡ Some t) ↔ HasItemType names q t
+FindsItemTypes = (names : Names) (q : Query Expr) (t : Ty) → (item_type type_of q names ≡ Some t) ↔ HasItemType names q t

@@ -9,7 +9,8 @@ use Rattle.lq_value.specs.declared.table.Row.{Row}
 use Rattle.lq_value.specs.declared.ty.Ty.TheVariants as ty
 use Rattle.lq_value.specs.declared.value.Value.TheVariants as value
 use Rattle.lq_value.specs.declared.value.Fault.{Fault}
-use Rattle.lq_model.specs.Meaning.{Scope, World, condition_at, meaning}
+use Rattle.lq_value.specs.declared.value.Fault.TheVariants as fault
+use Rattle.lq_model.specs.Meaning.{Scope, World, meaning, truth_at}
 use Rattle.lq_model.specs.declared.policy.Policy.{Policy}
 use Rattle.lq_model.specs.declared.policy.PolicyParts.{PolicyParts}
 use Rattle.lq_model.specs.declared.policy.Role.{Role}
@@ -24,9 +25,9 @@ cell_named (column ∷ columns) (cell ∷ cells) name = if bytes_eq column name 
 
 -- ---- rules
 
--- a rule reads the cells of the row at hand, and no table
+-- a rule reads the cells of the row at hand, and no table; one without a meaning faults, and so is not true
 abbrev pub rule_world : List (List ℕ) → World (List Scalar)
-rule_world columns = record { schemas = []; rows = []; cell = cell_named columns }
+rule_world columns = record { schemas = []; rows = []; cell = cell_named columns; unknown = fault.NullReference }
 
 -- `row` is the only name of a rule
 abbrev pub rule_scope : ℕ → List Scalar → Scope (List Scalar)
@@ -38,7 +39,7 @@ is_true (Err f) = false
 
 -- whether a rule is true on a row of a table
 abbrev pub rule_holds : List (List ℕ) → ℕ → Expr → List Scalar → Bool
-rule_holds columns table rule cells = is_true (condition_at (rule_world columns) rule (rule_scope table cells))
+rule_holds columns table rule cells = is_true (truth_at (rule_world columns) rule (rule_scope table cells))
 
 -- ---- policies
 
@@ -96,7 +97,7 @@ pub record HasCell (columns : List (List ℕ)) (cells : List Scalar) (name : Lis
 -- A rule is true on a row: `row` is its only name, and stands for the row.
 abbrev pub IsTrueOn : Asked → Expr → Type 0
 IsTrueOn asked rule =
-    let world : World (List Scalar) = record { schemas = []; rows = []; cell = cell_named asked.columns } in
+    let world : World (List Scalar) = record { schemas = []; rows = []; cell = cell_named asked.columns; unknown = fault.NullReference } in
     let scope : Scope (List Scalar) = record { name = codes "row"; ty = ty.Row asked.table; value = value.Row asked.cells } ∷ [] in
     meaning world rule scope ≡ Ok (value.Scalar (scalar.Bool true))
 

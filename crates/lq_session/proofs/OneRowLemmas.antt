@@ -9,9 +9,11 @@ use Rattle.lq_value.specs.declared.value.End.TheVariants as end
 use Rattle.lq_value.specs.declared.value.Fault.{Fault}
 use Rattle.lq_value.specs.declared.value.Fault.TheVariants as fault
 use Rattle.lq_value.specs.declared.value.Value.{Value, out-Value}
+use Rattle.lq_value.specs.declared.value.Value.TheOpen.{Value-F}
 use Rattle.lq_value.specs.declared.value.Value.TheVariants.{outs-Row, outs-Scalar, outs-Seq}
 use Rattle.lq_value.specs.declared.value.Value.TheVariants as value
-use Rattle.lq_model.specs.Meaning.{Scope, World, cell_value, compared, meaning, member_value, name_value, condition_at, on_ok, scalar_of, table_value, truth_of}
+use Rattle.lq_model.specs.Meaning.{Scope, World, cell_value, compared, meaning, member_value, name_value, on_ok, scalar_of, sequence, table_value, truth_at as value_truth, truth_of}
+use Rattle.lq_model.specs.Stream.{Stream}
 use Rattle.lq_model.specs.declared.syntax.Binary.{Binary}
 use Rattle.lq_model.specs.declared.syntax.Expr.{Expr, fold_out-Expr, ind-Expr, map-Expr, out-Expr, roll-Expr}
 use Rattle.lq_model.specs.declared.syntax.Expr.TheOpen.{Expr-F}
@@ -50,7 +52,7 @@ module _ (variable : List ℕ) (cell : List ℕ → Option Scalar) where
   shape_member row c = shape_out (expr.Node (node.Member row c)) ∙ ap layer_shape (outs-Node (node.Member row c))
 
   pub shape_compare : (op : Binary) (a b : Expr) → shape_of variable cell (expr.Node (node.Binary op a b))
-      ≡ on_ok (on_ok (shape_of variable cell a) scalar_in) (λ s. on_ok (on_ok (shape_of variable cell b) scalar_in) (λ t. Ok (TheScalar (scalar.Bool (compared op s t)))))
+      ≡ on_ok (on_ok (shape_of variable cell a) scalar_in) (λ s. on_ok (on_ok (shape_of variable cell b) scalar_in) (λ t. on_ok (compared fault.NullReference op s t) (λ truth. Ok (TheScalar (scalar.Bool truth)))))
   shape_compare op a b = shape_out (expr.Node (node.Binary op a b)) ∙ ap layer_shape (outs-Node (node.Binary op a b))
 
   -- forms that have no meaning yet
@@ -95,11 +97,15 @@ pub ruleset shapes = (shape_integer, shape_name, shape_member, shape_compare, sh
 
 -- ---- agreement with the meaning
 
+-- the same world, in which what has no meaning faults as a null row does
+abbrev pub faulting : {R : Type 0} → World R → World R
+faulting world = record { schemas = world.schemas; rows = world.rows; cell = world.cell; unknown = fault.NullReference }
+
 -- A value or fault agrees with what the evaluator finds: the row, the scalar, or a fault wherever a row or a scalar is asked for.
 abbrev pub Agrees : {R : Type 0} → World R → R → Result (Value R) Fault → Result Shape Fault → Type 0
 Agrees world r m (Ok TheRow) = m ≡ Ok (value.Row r)
 Agrees world r m (Ok (TheScalar s)) = m ≡ Ok (value.Scalar s)
-Agrees {R} world r m (Err f) = ((c : List ℕ) → on_ok m (λ v. member_value world c (out-Value R v)) ≡ Err f) × (on_ok m (λ v. scalar_of (out-Value R v)) ≡ Err f)
+Agrees {R} world r m (Err f) = ((c : List ℕ) → on_ok m (λ v. member_value world c (out-Value R v)) ≡ Err f) × (on_ok m (λ v. scalar_of world (out-Value R v)) ≡ Err f)
 
 module _ {R : Type 0} (world : World R) (variable : List ℕ) (t : Ty) (r : R) where
   -- the scope of the row
@@ -107,87 +113,107 @@ module _ {R : Type 0} (world : World R) (variable : List ℕ) (t : Ty) (r : R) w
   row_scope = record { name = variable; ty = t; value = value.Row r } ∷ []
 
   abbrev pub Means : Expr → Type 0
-  Means e = Agrees world r (meaning world e row_scope) (shape_of variable (world.cell r) e)
+  Means e = Agrees (faulting world) r (meaning (faulting world) e row_scope) (shape_of variable (world.cell r) e)
 
   -- a scalar is asked of both alike
-  pub scalars_agree : (m : Result (Value R) Fault) (o : Result Shape Fault) → Agrees world r m o → on_ok m (λ v. scalar_of (out-Value R v)) ≡ on_ok o scalar_in
-  scalars_agree m (Ok TheRow) h = ap (λ (n : Result (Value R) Fault). on_ok n (λ v. scalar_of (out-Value R v))) h ∙ ap scalar_of (outs-Row r)
-  scalars_agree m (Ok (TheScalar s)) h = ap (λ (n : Result (Value R) Fault). on_ok n (λ v. scalar_of (out-Value R v))) h ∙ ap scalar_of (outs-Scalar s)
+  pub scalars_agree : (m : Result (Value R) Fault) (o : Result Shape Fault) → Agrees (faulting world) r m o → on_ok m (λ v. scalar_of (faulting world) (out-Value R v)) ≡ on_ok o scalar_in
+  scalars_agree m (Ok TheRow) h = ap (λ (n : Result (Value R) Fault). on_ok n (λ v. scalar_of (faulting world) (out-Value R v))) h ∙ ap (scalar_of (faulting world)) (outs-Row r)
+  scalars_agree m (Ok (TheScalar s)) h = ap (λ (n : Result (Value R) Fault). on_ok n (λ v. scalar_of (faulting world) (out-Value R v))) h ∙ ap (scalar_of (faulting world)) (outs-Scalar s)
   scalars_agree m (Err f) h = h.1
 
   -- a cell, or the fault of a column that the row doesn't have
-  cell_agrees : (o : Option Scalar) → Agrees world r (cell_value o) (cell_in o)
+  cell_agrees : (o : Option Scalar) → Agrees (faulting world) r (cell_value (faulting world) o) (cell_in o)
   cell_agrees (Some s) = refl
   cell_agrees None = (λ c. refl, refl)
 
-  faulty : (f : Fault) → Agrees world r (Err f) (Err f)
+  faulty : (f : Fault) → Agrees (faulting world) r (Err f) (Err f)
   faulty f = (λ c. refl, refl)
 
-  member_agrees : (m : Result (Value R) Fault) (o : Result Shape Fault) (c : List ℕ) → Agrees world r m o
-      → Agrees world r (on_ok m (λ v. member_value world c (out-Value R v))) (on_ok o (member_in (world.cell r c)))
+  -- a scalar has no column
+  pub no_member : (s : Scalar) (c : List ℕ) → member_value (faulting world) c (Value-F.Scalar s) ≡ Err fault.NullReference
+  no_member scalar.Null c = refl
+  no_member (scalar.Int n) c = refl
+  no_member (scalar.Bool b) c = refl
+  no_member (scalar.Text text) c = refl
+
+  member_agrees : (m : Result (Value R) Fault) (o : Result Shape Fault) (c : List ℕ) → Agrees (faulting world) r m o
+      → Agrees (faulting world) r (on_ok m (λ v. member_value (faulting world) c (out-Value R v))) (on_ok o (member_in (world.cell r c)))
   member_agrees m (Ok TheRow) c h =
-      subst (λ (n : Result (Value R) Fault). Agrees world r n (cell_in (world.cell r c)))
-      (sym (ap (λ (n : Result (Value R) Fault). on_ok n (λ v. member_value world c (out-Value R v))) h ∙ ap (member_value world c) (outs-Row r)))
+      subst (λ (n : Result (Value R) Fault). Agrees (faulting world) r n (cell_in (world.cell r c)))
+      (sym (ap (λ (n : Result (Value R) Fault). on_ok n (λ v. member_value (faulting world) c (out-Value R v))) h ∙ ap (member_value (faulting world) c) (outs-Row r)))
       (cell_agrees (world.cell r c))
   member_agrees m (Ok (TheScalar s)) c h =
-      subst (λ (n : Result (Value R) Fault). Agrees world r n (Err fault.NullReference))
-      (sym (ap (λ (n : Result (Value R) Fault). on_ok n (λ v. member_value world c (out-Value R v))) h ∙ ap (member_value world c) (outs-Scalar s)))
+      subst (λ (n : Result (Value R) Fault). Agrees (faulting world) r n (Err fault.NullReference))
+      (sym (ap (λ (n : Result (Value R) Fault). on_ok n (λ v. member_value (faulting world) c (out-Value R v))) h ∙ ap (member_value (faulting world) c) (outs-Scalar s) ∙ no_member s c))
       (faulty fault.NullReference)
-  member_agrees m (Err f) c h = subst (λ (n : Result (Value R) Fault). Agrees world r n (Err f)) (sym (h.0 c)) (faulty f)
+  member_agrees m (Err f) c h = subst (λ (n : Result (Value R) Fault). Agrees (faulting world) r n (Err f)) (sym (h.0 c)) (faulty f)
 
   -- the same operator on the same scalars
   abbrev pub as_value : Binary → Result Scalar Fault → Result Scalar Fault → Result (Value R) Fault
-  as_value op a b = on_ok a (λ s. on_ok b (λ t'. Ok (value.Scalar (scalar.Bool (compared op s t')))))
+  as_value op a b = on_ok a (λ s. on_ok b (λ t'. on_ok (compared fault.NullReference op s t') (λ truth. Ok (value.Scalar (scalar.Bool truth)))))
 
   abbrev pub as_shape : Binary → Result Scalar Fault → Result Scalar Fault → Result Shape Fault
-  as_shape op a b = on_ok a (λ s. on_ok b (λ t'. Ok (TheScalar (scalar.Bool (compared op s t')))))
+  as_shape op a b = on_ok a (λ s. on_ok b (λ t'. on_ok (compared fault.NullReference op s t') (λ truth. Ok (TheScalar (scalar.Bool truth)))))
 
-  compared_agrees : (op : Binary) (a b : Result Scalar Fault) → Agrees world r (as_value op a b) (as_shape op a b)
-  compared_agrees op (Ok s) (Ok t') = refl
+  truth_agrees : (o : Result Bool Fault) → Agrees (faulting world) r (on_ok o (λ truth. Ok (value.Scalar (scalar.Bool truth)))) (on_ok o (λ truth. Ok (TheScalar (scalar.Bool truth))))
+  truth_agrees (Ok truth) = refl
+  truth_agrees (Err f) = faulty f
+
+  compared_agrees : (op : Binary) (a b : Result Scalar Fault) → Agrees (faulting world) r (as_value op a b) (as_shape op a b)
+  compared_agrees op (Ok s) (Ok t') = truth_agrees (compared fault.NullReference op s t')
   compared_agrees op (Ok s) (Err f) = faulty f
   compared_agrees op (Err f) b = faulty f
 
-  compared_alike : (op : Binary) (a b c d : Result Scalar Fault) → a ≡ c → b ≡ d → Agrees world r (as_value op a b) (as_shape op c d)
+  compared_alike : (op : Binary) (a b c d : Result Scalar Fault) → a ≡ c → b ≡ d → Agrees (faulting world) r (as_value op a b) (as_shape op c d)
   compared_alike op a b c d e f =
-      subst (λ (x : Result Scalar Fault). Agrees world r (as_value op x b) (as_shape op c d)) (sym e)
-      (subst (λ (y : Result Scalar Fault). Agrees world r (as_value op c y) (as_shape op c d)) (sym f) (compared_agrees op c d))
+      subst (λ (x : Result Scalar Fault). Agrees (faulting world) r (as_value op x b) (as_shape op c d)) (sym e)
+      (subst (λ (y : Result Scalar Fault). Agrees (faulting world) r (as_value op c y) (as_shape op c d)) (sym f) (compared_agrees op c d))
+
+  -- a sequence is neither a row nor a scalar
+  sequence_agrees : (items : Stream (Value R)) → Agrees (faulting world) r (Ok (sequence items)) (Err fault.NullReference)
+  sequence_agrees items = (λ c. ap (member_value (faulting world) c) (outs-Seq items.0 items.1), ap (scalar_of (faulting world)) (outs-Seq items.0 items.1))
 
   -- the sequence of a table's rows is neither a row nor a scalar
-  table_agrees : (o : Option (List R)) → Agrees world r (table_value o) (Err fault.NullReference)
+  table_agrees : (o : Option (List R)) → Agrees (faulting world) r (table_value (faulting world) o) (Err fault.NullReference)
   table_agrees None = faulty fault.NullReference
-  table_agrees (Some rows) = (λ c. ap (member_value world c) (outs-Seq (map value.Row rows) end.Done), ap scalar_of (outs-Seq (map value.Row rows) end.Done))
+  table_agrees (Some rows) = sequence_agrees (map value.Row rows, end.Done)
 
   name_agrees : (x : List ℕ) (b : Bool)
-      → Agrees world r (name_value world x (if b then Some (record { name = variable; ty = t; value = value.Row r }) else None)) (if b then Ok TheRow else Err fault.NullReference)
+      → Agrees (faulting world) r (name_value (faulting world) x (if b then Some (record { name = variable; ty = t; value = value.Row r }) else None)) (if b then Ok TheRow else Err fault.NullReference)
   name_agrees x true = refl
   name_agrees x false = table_agrees _
 
   -- both by what they are equal to
-  agrees_by : (m n : Result (Value R) Fault) (o p : Result Shape Fault) → m ≡ n → o ≡ p → Agrees world r n p → Agrees world r m o
-  agrees_by m n o p e f h = subst (λ (q : Result Shape Fault). Agrees world r m q) (sym f) (subst (λ (q : Result (Value R) Fault). Agrees world r q p) (sym e) h)
+  agrees_by : (m n : Result (Value R) Fault) (o p : Result Shape Fault) → m ≡ n → o ≡ p → Agrees (faulting world) r n p → Agrees (faulting world) r m o
+  agrees_by m n o p e f h = subst (λ (q : Result Shape Fault). Agrees (faulting world) r m q) (sym f) (subst (λ (q : Result (Value R) Fault). Agrees (faulting world) r q p) (sym e) h)
 
   abbrev Both : Type 0
   Both = (e : Expr) × Means e
 
   means_integer : (n : ℤ) → Means (expr.Node (node.Integer n))
-  means_integer n = agrees_by _ _ _ _ (meaning_integer world n row_scope) (shape_integer variable (world.cell r) n) refl
+  means_integer n = agrees_by _ _ _ _ (meaning_integer (faulting world) n row_scope) (shape_integer variable (world.cell r) n) refl
 
   means_name : (x : List ℕ) → Means (expr.Node (node.Name x))
-  means_name x = agrees_by _ _ _ _ (meaning_name world x row_scope) (shape_name variable (world.cell r) x) (name_agrees x (bytes_eq variable x))
+  means_name x = agrees_by _ _ _ _ (meaning_name (faulting world) x row_scope) (shape_name variable (world.cell r) x) (name_agrees x (bytes_eq variable x))
 
   means_member : (row : Expr) (c : List ℕ) → Means row → Means (expr.Node (node.Member row c))
-  means_member row c h = agrees_by _ _ _ _ (meaning_member world row c row_scope) (shape_member variable (world.cell r) row c) (member_agrees _ _ c h)
+  means_member row c h = agrees_by _ _ _ _ (meaning_member (faulting world) row c row_scope) (shape_member variable (world.cell r) row c) (member_agrees _ _ c h)
 
   means_compare : (op : Binary) (a b : Expr) → Means a → Means b → Means (expr.Node (node.Binary op a b))
   means_compare op a b h k =
-      agrees_by _ _ _ _ (meaning_compare world op a b row_scope) (shape_compare variable (world.cell r) op a b)
-      (compared_alike op (on_ok (meaning world a row_scope) (λ v. scalar_of (out-Value R v))) (on_ok (meaning world b row_scope) (λ v. scalar_of (out-Value R v)))
+      agrees_by _ _ _ _ (meaning_compare (faulting world) op a b row_scope) (shape_compare variable (world.cell r) op a b)
+      (compared_alike op (on_ok (meaning (faulting world) a row_scope) (λ v. scalar_of (faulting world) (out-Value R v))) (on_ok (meaning (faulting world) b row_scope) (λ v. scalar_of (faulting world) (out-Value R v)))
       (on_ok (shape_of variable (world.cell r) a) scalar_in) (on_ok (shape_of variable (world.cell r) b) scalar_in) (scalars_agree _ _ h) (scalars_agree _ _ k))
 
   -- a form that has no meaning yet
-  means_nothing : (layer : Expr-F Expr) → layer_meaning world layer row_scope ≡ Err fault.NullReference → layer_shape variable (world.cell r) layer ≡ Err fault.NullReference → Means (roll-Expr layer)
+  means_nothing : (layer : Expr-F Expr) → layer_meaning (faulting world) layer row_scope ≡ Err fault.NullReference → layer_shape variable (world.cell r) layer ≡ Err fault.NullReference → Means (roll-Expr layer)
   means_nothing layer meant found =
-      agrees_by _ _ _ _ (rolled_meaning world layer row_scope ∙ meant) (rolled_shape variable (world.cell r) layer ∙ found) (faulty fault.NullReference)
+      agrees_by _ _ _ _ (rolled_meaning (faulting world) layer row_scope ∙ meant) (rolled_shape variable (world.cell r) layer ∙ found) (faulty fault.NullReference)
+
+  -- a query's sequence is neither a row nor a scalar
+  means_query : (layer : Expr-F Expr) (items : Stream (Value R)) → layer_meaning (faulting world) layer row_scope ≡ Ok (sequence items) → layer_shape variable (world.cell r) layer ≡ Err fault.NullReference → Means (roll-Expr layer)
+  means_query layer items meant found =
+      agrees_by _ _ _ _ (rolled_meaning (faulting world) layer row_scope ∙ meant) (rolled_shape variable (world.cell r) layer ∙ found) (sequence_agrees items)
 
   means_layer : (x : Expr-F Expr) (y : Expr-F Both) → map-Expr Both Expr (λ e. e.0) y ≡ x → Means (roll-Expr x)
   means_layer x (Expr-F.Node (node.Integer n)) h = subst (λ d. Means (roll-Expr d)) h (subst Means (sym (rolls-Node (node.Integer n))) (means_integer n))
@@ -195,20 +221,20 @@ module _ {R : Type 0} (world : World R) (variable : List ℕ) (t : Ty) (r : R) w
   means_layer x (Expr-F.Node (node.Member row c)) h = subst (λ d. Means (roll-Expr d)) h (subst Means (sym (rolls-Node (node.Member row.0 c))) (means_member row.0 c row.1))
   means_layer x (Expr-F.Node (node.Binary op a b)) h = subst (λ d. Means (roll-Expr d)) h (subst Means (sym (rolls-Node (node.Binary op a.0 b.0))) (means_compare op a.0 b.0 a.1 b.1))
   means_layer x (Expr-F.Node other) h = subst (λ d. Means (roll-Expr d)) h (means_nothing (map-Expr Both Expr (λ b. b.0) (Expr-F.Node other)) refl refl)
-  means_layer x (Expr-F.Query q) h = subst (λ d. Means (roll-Expr d)) h (means_nothing (map-Expr Both Expr (λ b. b.0) (Expr-F.Query q)) refl refl)
+  means_layer x (Expr-F.Query q) h = subst (λ d. Means (roll-Expr d)) h (means_query (map-Expr Both Expr (λ b. b.0) (Expr-F.Query q)) _ refl refl)
 
   -- in the scope of the row an expression means what the evaluator finds
   pub means : (e : Expr) → Means e
   means e = ind-Expr Means means_layer e
 
-  pub scalar_means : (e : Expr) → on_ok (meaning world e row_scope) (λ v. scalar_of (out-Value R v)) ≡ scalar_at variable (world.cell r) e
+  pub scalar_means : (e : Expr) → on_ok (meaning (faulting world) e row_scope) (λ v. scalar_of (faulting world) (out-Value R v)) ≡ scalar_at variable (world.cell r) e
   unfolding scalar_at
   scalar_means e = scalars_agree _ _ (means e)
 
   -- a condition of the row
-  pub condition_means : (c : Expr) → condition_at world c row_scope ≡ truth_at variable (world.cell r) c
+  pub condition_means : (c : Expr) → value_truth (faulting world) c row_scope ≡ truth_at variable (world.cell r) c
   unfolding truth_at
-  condition_means c = ap (λ (m : Result Scalar Fault). on_ok m truth_of) (scalar_means c)
+  condition_means c = ap (λ (m : Result Scalar Fault). on_ok m (truth_of fault.NullReference)) (scalar_means c)
 
 -- a rule of a row policy holds where it is true on the row
 pub rule_means : (columns : List (List ℕ)) (table : ℕ) (rule : Expr) (cells : List Scalar)

@@ -16,10 +16,10 @@ use Rattle.lq_value.specs.declared.value.Value.{Value}
 use Rattle.lq_value.specs.declared.value.Value.TheVariants as value
 use Rattle.lq_value.specs.declared.value.Value.TheVariants.{outs-Seq as outs-value-Seq}
 use Rattle.lq_model.specs.Machine.{columns_in, run_reply, schemas_of, served, world_of}
-use Rattle.lq_model.specs.Meaning.{Scope, World, bound, bound_stream, clauses_meaning, item_type_at, items_of, last_meaning, meaning, or_null, query_meaning, stream_of, table_value}
+use Rattle.lq_model.specs.Meaning.{Scope, World, bound, bound_stream, item_type_at, items_of, meaning, or_null, query_meaning, stream_meaning, stream_of, table_value}
 use Rattle.lq_model.specs.Served.{error_data, stream_data, stream_members}
 use Rattle.lq_model.specs.Stream.{Stream, each, then_stream}
-use Rattle.lq_model.specs.Typing.{item_of, item_type}
+use Rattle.lq_model.specs.Typing.{item_of, item_type, type_of}
 use Rattle.lq_model.specs.Visible.{TableRow, cell_named, seen_rows, tables_as_seen, visible_to}
 use Rattle.lq_model.specs.declared.policy.PolicyParts.{PolicyParts}
 use Rattle.lq_model.specs.declared.syntax.Expr.{Expr}
@@ -27,8 +27,8 @@ use Rattle.lq_model.specs.declared.syntax.Query.{Query}
 use Rattle.lq_session.specs.Given.{IsOver, given_to, top_names}
 use Rattle.lq_session.specs.Items.{before_items, items_given}
 use Rattle.lq_session.specs.OneRow.{given_at}
-use Rattle.lq_session.proofs.OneRowLemmas.{row_scope}
-use Rattle.lq_session.proofs.QueryLemmas.{as_data, body_rows, given_stream}
+use Rattle.lq_session.proofs.OneRowLemmas.{faulting, row_scope}
+use Rattle.lq_session.proofs.QueryLemmas.{as_data, body_rows, clauses_at, given_stream, last_at}
 use Rattle.lq_session.proofs.SourceLemmas.{rows_of_table, table_of_rows, schema_at, seen_at, source_means}
 
 -- ---- rows, one at a time
@@ -53,35 +53,39 @@ given_visible given as_row seen (row ∷ rows) = by (seen row) (given_visible gi
 
 -- ---- the query
 
+-- the type of a source's items
+abbrev source_type : {R : Type 0} → World R → Expr → Scope R → Ty
+source_type world source scope = item_type_at world type_of (meaning world) source scope
+
 module _ {R : Type 0} (world : World R) (q : Query Expr) (number : ℕ) (rows : List R) where
   -- the source's items, each bound to the range variable
   bound_rows : (over : IsOver world.schemas q number) → slice_get world.rows number ≡ Some rows
-      → bound_stream q.name (item_type_at world q.source []) [] (stream_of (meaning world q.source [])) ≡ (map (row_scope world q.name (ty.Row number)) rows, end.Done)
+      → bound_stream q.name (source_type (faulting world) q.source []) [] (stream_of (faulting world) (meaning (faulting world) q.source [])) ≡ (map (row_scope (faulting world) q.name (ty.Row number)) rows, end.Done)
   bound_rows over at =
-      ap (λ (m : Result (Value R) Fault). bound_stream q.name (item_type_at world q.source []) [] (stream_of m))
-      (source_means world number q.source (ap table_of_rows over.source ∙ rows_of_table number) ∙ ap table_value at)
-      ∙ ap (λ u. bound_stream q.name (item_type_at world q.source []) [] (items_of u)) (outs-value-Seq (map value.Row rows) end.Done)
+      ap (λ (m : Result (Value R) Fault). bound_stream q.name (source_type (faulting world) q.source []) [] (stream_of (faulting world) m))
+      (source_means (faulting world) number q.source (ap table_of_rows over.source ∙ rows_of_table number) ∙ ap (table_value (faulting world)) at)
+      ∙ ap (λ u. bound_stream q.name (source_type (faulting world) q.source []) [] (items_of (faulting world) u)) (outs-value-Seq (map value.Row rows) end.Done)
       ∙ ap (λ (t : Ty). bound_stream q.name t [] (map value.Row rows, end.Done)) item_is
       ∙ ap (λ (scopes : List (Scope R)). (scopes, end.Done)) (map-map (bound q.name (ty.Row number) []) value.Row rows)
     where
-      item_is : item_type_at world q.source [] ≡ ty.Row number
+      item_is : source_type (faulting world) q.source [] ≡ ty.Row number
       item_is = ap (λ (o : Option Ty). or_null (option_and_then (λ t. item_of (out-Ty t)) o)) over.source ∙ ap (λ u. or_null (item_of u)) (outs-Seq (ty.Row number))
 
   -- the stream of the query, as data
   pub query_rows : (over : IsOver world.schemas q number) → slice_get world.rows number ≡ Some rows
-      → as_data (query_meaning world q []) ≡ each (λ r. given_stream (given_at q.name (world.cell r) q.body.clauses q.body.last)) rows end.Done
+      → as_data (stream_meaning (faulting world) q []) ≡ each (λ r. given_stream (given_at q.name (world.cell r) q.body.clauses q.body.last)) rows end.Done
   unfolding query_meaning
   query_rows over at =
-      ap (λ (s : Stream (Scope R)). as_data (last_meaning world q.body.last (clauses_meaning world q.body.clauses s))) (bound_rows over at)
-      ∙ body_rows world q.name number q.body.clauses q.body.last rows over.clauses over.selected
+      ap (λ (s : Stream (Scope R)). as_data (last_at (faulting world) q.body.last (clauses_at (faulting world) q.body.clauses s))) (bound_rows over at)
+      ∙ body_rows (faulting world) q.name number q.body.clauses q.body.last rows over.clauses over.selected
 
 -- ---- the reply
 
-served_typed : (world : World TableRow) (q : Query Expr) (o : Option Ty) → is_some o ≡ true → served world q o ≡ stream_data (query_meaning world q [])
+served_typed : (world : World TableRow) (q : Query Expr) (o : Option Ty) → is_some o ≡ true → served world q o ≡ stream_data (stream_meaning world q [])
 served_typed world q None h = absurd (true≢false (sym h))
 served_typed world q (Some t) h = refl
 
-pub reply_untyped : (schemas : List Schema) (rows : List (List TableRow)) (q : Query Expr) → item_type q (top_names schemas) ≡ None → run_reply schemas rows q ≡ error_data (codes "type")
+pub reply_untyped : (schemas : List Schema) (rows : List (List TableRow)) (q : Query Expr) → item_type type_of q (top_names schemas) ≡ None → run_reply schemas rows q ≡ error_data (codes "type")
 unfolding run_reply
 reply_untyped schemas rows q h = ap (served (world_of schemas rows) q) h
 
@@ -97,7 +101,7 @@ pub reply_typed : (parts : PolicyParts) (role number : ℕ) (tables : List Table
     → run_reply (schemas_of tables) (tables_as_seen parts role tables) q ≡ reply_of_items (items_to parts role number table q)
 unfolding run_reply tables_as_seen
 reply_typed parts role number tables table q at over =
-    served_typed world q (item_type q (top_names (schemas_of tables))) over.typed
+    served_typed world q (item_type type_of q (top_names (schemas_of tables))) over.typed
     ∙ ap reply_of_items (query_rows world q number (seen_rows parts role number table.rows) over rows_at)
     ∙ ap reply_of_items (given_visible (λ r. given_at q.name (world.cell r) q.body.clauses q.body.last) (λ row. record { table = number; row = row }) (λ row. visible_to parts role number row.cells) table.rows)
     ∙ ap (λ (o : Option Schema). reply_of_items (items_given (λ row. if visible_to parts role number row.cells then given_at q.name (cell_named (columns_in o) row.cells) q.body.clauses q.body.last else Ok None) table.rows)) schema_is

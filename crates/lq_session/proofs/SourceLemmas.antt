@@ -69,7 +69,7 @@ rows_of_table m = ap (λ u. option_and_then (λ item. row_table (out-Ty item)) (
 
 module _ {R : Type 0} (world : World R) (number : ℕ) where
   abbrev IsSource : Expr → Type 0
-  IsSource e = table_of_rows (type_of e (top_names world.schemas)) ≡ Some number → meaning world e [] ≡ table_value (slice_get world.rows number)
+  IsSource e = table_of_rows (type_of e (top_names world.schemas)) ≡ Some number → meaning world e [] ≡ table_value world (slice_get world.rows number)
 
   source_integer : (n : ℤ) → IsSource (expr.Node (node.Integer n))
   source_integer n h = none_is_none (sym (ap table_of_rows (type_integer n (top_names world.schemas)) ∙ column_no_rows of.Int) ∙ h)
@@ -84,9 +84,9 @@ module _ {R : Type 0} (world : World R) (number : ℕ) where
 
   -- the table that a name stands for
   found_table : (o : Option ℕ) → table_of_rows (option_map (λ m. ty.Seq (ty.Row m)) o) ≡ Some number
-      → table_value (option_and_then (λ m. slice_get world.rows m) o) ≡ table_value (slice_get world.rows number)
+      → table_value world (option_and_then (λ m. slice_get world.rows m) o) ≡ table_value world (slice_get world.rows number)
   found_table None h = none_is_none h
-  found_table (Some m) h = let same : Some m ≡ Some number = sym (rows_of_table m) ∙ h in let e : m ≡ number = cc in ap (λ k. table_value (slice_get world.rows k)) e
+  found_table (Some m) h = let same : Some m ≡ Some number = sym (rows_of_table m) ∙ h in let e : m ≡ number = cc in ap (λ k. table_value world (slice_get world.rows k)) e
 
   source_name : (x : List ℕ) → IsSource (expr.Node (node.Name x))
   source_name x h = meaning_name world x [] ∙ found_table (table_number x world.schemas) (sym (ap table_of_rows (type_name x (top_names world.schemas))) ∙ h)
@@ -106,7 +106,7 @@ module _ {R : Type 0} (world : World R) (number : ℕ) where
   source_layer x (Expr-F.Node other) h = subst (λ d. IsSource (roll-Expr d)) h (λ e. none_is_none (sym (ap table_of_rows (untyped (map-Expr Both Expr (λ b. b.0) (Expr-F.Node other)) refl)) ∙ e))
   source_layer x (Expr-F.Query q) h = subst (λ d. IsSource (roll-Expr d)) h (λ e. none_is_none (sym (ap table_of_rows (untyped (map-Expr Both Expr (λ b. b.0) (Expr-F.Query q)) refl)) ∙ e))
 
-  pub source_means : (e : Expr) → table_of_rows (type_of e (top_names world.schemas)) ≡ Some number → meaning world e [] ≡ table_value (slice_get world.rows number)
+  pub source_means : (e : Expr) → table_of_rows (type_of e (top_names world.schemas)) ≡ Some number → meaning world e [] ≡ table_value world (slice_get world.rows number)
   source_means e = ind-Expr IsSource source_layer e
 
 same_place : (start number : ℕ) → (start + 1) + number ≡ start + suc number

@@ -11,7 +11,7 @@ use Rattle.lq_model.specs.Reading.{Reading, IsTooDeep, reading_of, reading_of_to
 use Rattle.lq_model.specs.Parsing.{statement_of}
 use Rattle.lq_model.specs.Served.{error_data, line_of}
 use Rattle.lq_model.specs.Tokens.{tokens_of}
-use Rattle.lq_model.specs.Typing.{item_type}
+use Rattle.lq_model.specs.Typing.{item_type, type_of}
 use Rattle.lq_model.specs.Visible.{tables_as_seen}
 use Rattle.lq_model.specs.declared.policy.PolicyParts.{PolicyParts}
 use Rattle.lq_model.specs.declared.syntax.Expr.{Expr}
@@ -99,7 +99,7 @@ module _ (parts : PolicyParts) (role number : ℕ) (tables : List Table) (q : Qu
       ∙ ap line_of (sym (reply_typed parts role number tables t q at over))
 
 -- the line of a query without a type
-pub untyped_line : (s : State) (q : Query Expr) → item_type q (top_names (map (λ table. table.schema) s.tables)) ≡ None
+pub untyped_line : (s : State) (q : Query Expr) → item_type type_of q (top_names (map (λ table. table.schema) s.tables)) ≡ None
     → line_of (error_data (codes "type")) ≡ line_of (run_reply (map (λ table. table.schema) s.tables) (tables_as_seen s.policies s.role s.tables) q)
 untyped_line s q h = ap line_of (sym (reply_untyped (map (λ table. table.schema) s.tables) (tables_as_seen s.policies s.role s.tables) q h))
 

@@ -11,13 +11,15 @@ use Rattle.lq_value.specs.declared.ty.Ty.TheVariants as ty
 use Rattle.lq_value.specs.declared.ty.Ty.TheVariants.{outs-Bool, outs-Int, outs-IntN, outs-Row, outs-Seq, outs-Str}
 use Rattle.lq_store.specs.Rules as store
 use Rattle.lq_model.specs.Machine.{schemas_of}
-use Rattle.lq_model.specs.Typing.{Names, body_type, clauses_are_typed, if_scalar, is_bool, is_number, is_scalar, item_of, item_type, items_over, row_table, selected_type, table_number, type_of, type_of_column, with_local}
+use Rattle.lq_model.specs.Typing.{Names, body_type, if_scalar, is_bool, is_bool_type, is_number, is_scalar, item_of, item_type, items_over, names_behind_all, row_table, selected_type, table_number, type_of, type_of_column, with_local}
+use Rattle.lq_model.specs.declared.syntax.Clause.{Clause}
+use Rattle.lq_model.specs.declared.syntax.Clause.TheVariants as clause
 use Rattle.lq_model.specs.declared.syntax.Expr.{Expr}
 use Rattle.lq_model.specs.declared.syntax.Last.{Last}
 use Rattle.lq_model.specs.declared.syntax.Last.TheVariants as last
 use Rattle.lq_model.specs.declared.syntax.Query.{Query}
 use Rattle.lq_model.proofs.Opens.{type_compare, type_integer, type_member, type_name, type_text, type_truth, type_null, type_unary, type_both, type_either, type_coalesce, type_choice, type_host, type_record, type_method, type_query}
-use Rattle.lq_session.specs.Given.{IsOver, is_scalar_type, is_typed_body, selects_scalar, top_names}
+use Rattle.lq_session.specs.Given.{IsOver, clauses_are_typed, is_scalar_type, is_typed_body, selects_scalar, top_names}
 use Rattle.lq_session.specs.KnownTypes.{is_known_bool, is_known_number, is_known_scalar, known_row, shown_type}
 use Rattle.lq_session.specs.declared.typing.Known.{Known}
 use Rattle.lq_session.specs.declared.typing.Known.TheVariants as known
@@ -72,29 +74,29 @@ scalar_has_no_items of.Bool = ap item_of outs-Bool
 scalar_has_no_items of.Str = ap item_of outs-Str
 
 -- a source of no sequence type leaves the query untyped
-pub untyped_source : (tables : List Schema) (q : Query Expr) → type_of q.source (top_names tables) ≡ None → item_type q (top_names tables) ≡ None
+pub untyped_source : (tables : List Schema) (q : Query Expr) → type_of q.source (top_names tables) ≡ None → item_type type_of q (top_names tables) ≡ None
 unfolding item_type
-untyped_source tables q h = ap (λ (o : Option Ty). items_over (top_names tables) q (option_and_then (λ t. item_of (out-Ty t)) o)) h
+untyped_source tables q h = ap (λ (o : Option Ty). items_over type_of (top_names tables) q (option_and_then (λ t. item_of (out-Ty t)) o)) h
 
-pub untyped_row : (tables : List Schema) (q : Query Expr) (n : ℕ) → type_of q.source (top_names tables) ≡ Some (ty.Row n) → item_type q (top_names tables) ≡ None
+pub untyped_row : (tables : List Schema) (q : Query Expr) (n : ℕ) → type_of q.source (top_names tables) ≡ Some (ty.Row n) → item_type type_of q (top_names tables) ≡ None
 unfolding item_type
 untyped_row tables q n h =
-    ap (λ (o : Option Ty). items_over (top_names tables) q (option_and_then (λ t. item_of (out-Ty t)) o)) h
-    ∙ ap (λ u. items_over (top_names tables) q (item_of u)) (outs-Row n)
+    ap (λ (o : Option Ty). items_over type_of (top_names tables) q (option_and_then (λ t. item_of (out-Ty t)) o)) h
+    ∙ ap (λ u. items_over type_of (top_names tables) q (item_of u)) (outs-Row n)
 
-pub untyped_scalar : (tables : List Schema) (q : Query Expr) (t : ColumnType) → type_of q.source (top_names tables) ≡ Some (type_of_column t) → item_type q (top_names tables) ≡ None
+pub untyped_scalar : (tables : List Schema) (q : Query Expr) (t : ColumnType) → type_of q.source (top_names tables) ≡ Some (type_of_column t) → item_type type_of q (top_names tables) ≡ None
 unfolding item_type
 untyped_scalar tables q t h =
-    ap (λ (o : Option Ty). items_over (top_names tables) q (option_and_then (λ u. item_of (out-Ty u)) o)) h
-    ∙ ap (items_over (top_names tables) q) (scalar_has_no_items t)
+    ap (λ (o : Option Ty). items_over type_of (top_names tables) q (option_and_then (λ u. item_of (out-Ty u)) o)) h
+    ∙ ap (items_over type_of (top_names tables) q) (scalar_has_no_items t)
 
 -- over the rows of a table the query's type is that of its body
 over_rows : (tables : List Schema) (q : Query Expr) (n : ℕ) → type_of q.source (top_names tables) ≡ Some (ty.Seq (ty.Row n))
-    → item_type q (top_names tables) ≡ body_type (with_local (top_names tables) q.name (ty.Row n)) q
+    → item_type type_of q (top_names tables) ≡ (if length q.rest == 0 then body_type type_of (top_names tables) q.body (with_local (top_names tables) q.name (ty.Row n)) else None)
 unfolding item_type
 over_rows tables q n h =
-    ap (λ (o : Option Ty). items_over (top_names tables) q (option_and_then (λ t. item_of (out-Ty t)) o)) h
-    ∙ ap (λ u. items_over (top_names tables) q (item_of u)) (outs-Seq (ty.Row n))
+    ap (λ (o : Option Ty). items_over type_of (top_names tables) q (option_and_then (λ t. item_of (out-Ty t)) o)) h
+    ∙ ap (λ u. items_over type_of (top_names tables) q (item_of u)) (outs-Seq (ty.Row n))
 
 some_scalar : (o : Option Ty) → is_some (if_scalar o) ≡ is_scalar_type o
 some_scalar None = refl
@@ -103,7 +105,7 @@ some_scalar (Some t) = by (is_scalar (out-Ty t)) where
   by true = refl
   by false = refl
 
-some_selected : (names : Names) (l : Last Expr) → is_some (selected_type names l) ≡ selects_scalar names l
+some_selected : (names : Names) (l : Last Expr) → is_some (selected_type type_of l names) ≡ selects_scalar names l
 some_selected names (last.Select v) = some_scalar (type_of v names)
 some_selected names (last.Group v key) = refl
 
@@ -111,16 +113,30 @@ none_of : {A : Type 0} (o : Option A) → is_some o ≡ false → o ≡ None
 none_of None h = refl
 none_of (Some x) h = absurd (true≢false h)
 
-some_body : (names : Names) (q : Query Expr) → is_some (body_type names q) ≡ is_typed_body names q
-some_body names q = by (length q.rest == 0) (clauses_are_typed names q.body.clauses) where
-  by : (ended typed : Bool) → is_some (if ended && typed then selected_type names q.body.last else None) ≡ (ended && typed && selects_scalar names q.body.last)
-  by true true = some_selected names q.body.last
-  by true false = refl
-  by false typed = refl
+-- conditions name nothing
+same_names : (outer names : Names) (cs : List (Clause Expr)) → names_behind_all type_of outer cs names ≡ (if clauses_are_typed names cs then Some names else None)
+same_names outer names [] = refl
+same_names outer names (clause.Where c ∷ cs) = by (is_bool_type (type_of c names)) (same_names outer names cs) where
+  by : (b : Bool) → names_behind_all type_of outer cs names ≡ (if clauses_are_typed names cs then Some names else None)
+      → option_and_then (names_behind_all type_of outer cs) (if b then Some names else None) ≡ (if b && clauses_are_typed names cs then Some names else None)
+  by true h = h
+  by false h = refl
+same_names outer names (other ∷ cs) = refl
+
+some_body : (outer names : Names) (q : Query Expr)
+    → is_some (if length q.rest == 0 then body_type type_of outer q.body names else None) ≡ is_typed_body names q
+some_body outer names q =
+    ap (λ (o : Option Names). is_some (if length q.rest == 0 then option_and_then (selected_type type_of q.body.last) o else None)) (same_names outer names q.body.clauses)
+    ∙ by (length q.rest == 0) (clauses_are_typed names q.body.clauses)
+  where
+    by : (ended typed : Bool) → is_some (if ended then option_and_then (selected_type type_of q.body.last) (if typed then Some names else None) else None) ≡ (ended && typed && selects_scalar names q.body.last)
+    by true true = some_selected names q.body.last
+    by true false = refl
+    by false typed = refl
 
 pub untyped_body : (tables : List Schema) (q : Query Expr) (n : ℕ) → type_of q.source (top_names tables) ≡ Some (ty.Seq (ty.Row n))
-    → is_typed_body (with_local (top_names tables) q.name (ty.Row n)) q ≡ false → item_type q (top_names tables) ≡ None
-untyped_body tables q n h body = over_rows tables q n h ∙ none_of _ (some_body (with_local (top_names tables) q.name (ty.Row n)) q ∙ body)
+    → is_typed_body (with_local (top_names tables) q.name (ty.Row n)) q ≡ false → item_type type_of q (top_names tables) ≡ None
+untyped_body tables q n h body = over_rows tables q n h ∙ none_of _ (some_body (top_names tables) (with_local (top_names tables) q.name (ty.Row n)) q ∙ body)
 
 first_true : (a b : Bool) → (a && b) ≡ true → a ≡ true
 first_true true b h = refl
@@ -134,7 +150,7 @@ pub typed_body : (tables : List Schema) (q : Query Expr) (n : ℕ) → type_of q
     → is_typed_body (with_local (top_names tables) q.name (ty.Row n)) q ≡ true → IsOver tables q n
 typed_body tables q n h body = record {
   source = h;
-  typed = ap is_some (over_rows tables q n h) ∙ some_body (with_local (top_names tables) q.name (ty.Row n)) q ∙ body;
+  typed = ap is_some (over_rows tables q n h) ∙ some_body (top_names tables) (with_local (top_names tables) q.name (ty.Row n)) q ∙ body;
   clauses = second_true (length q.rest == 0) _ (first_true _ (selects_scalar (with_local (top_names tables) q.name (ty.Row n)) q.body.last) body);
   selected = second_true ((length q.rest == 0) && clauses_are_typed (with_local (top_names tables) q.name (ty.Row n)) q.body.clauses) _ body;
 }

@@ -1,14 +1,16 @@
 -- What a row of a table gives to a query, under the policies of a role.
-use Rattle.std.specs.Prelude.{◌≡◌, ◌==◌, ◌&&◌, length, if◌then◌else◌, List, [], ℕ, Bool, true, false, Option, Some, None, Result, Ok, is_some}
+use Rattle.std.specs.Prelude.{◌≡◌, ◌∷◌, ◌==◌, ◌&&◌, length, if◌then◌else◌, List, [], ℕ, Bool, true, false, Option, Some, None, Result, Ok, is_some}
 use Rattle.lq_value.specs.declared.scalar.Scalar.{Scalar}
 use Rattle.lq_value.specs.declared.table.Row.{Row}
 use Rattle.lq_value.specs.declared.table.Schema.{Schema}
 use Rattle.lq_value.specs.declared.ty.Ty.{Ty, out-Ty}
 use Rattle.lq_value.specs.declared.ty.Ty.TheVariants as ty
 use Rattle.lq_value.specs.declared.value.Fault.{Fault}
-use Rattle.lq_model.specs.Typing.{Names, clauses_are_typed, is_scalar, item_type, type_of, with_local}
+use Rattle.lq_model.specs.Typing.{Names, is_bool_type, is_scalar, item_type, type_of, with_local}
 use Rattle.lq_model.specs.Visible.{cell_named, visible_to}
 use Rattle.lq_model.specs.declared.policy.PolicyParts.{PolicyParts}
+use Rattle.lq_model.specs.declared.syntax.Clause.{Clause}
+use Rattle.lq_model.specs.declared.syntax.Clause.TheVariants as clause
 use Rattle.lq_model.specs.declared.syntax.Expr.{Expr}
 use Rattle.lq_model.specs.declared.syntax.Last.{Last}
 use Rattle.lq_model.specs.declared.syntax.Last.TheVariants as last
@@ -24,6 +26,15 @@ abbrev pub given_to : PolicyParts → ℕ → ℕ → List (List ℕ) → Query 
 given_to parts role table columns q row = if visible_to parts role table row.cells then given_by columns q row else Ok None
 
 -- ---- the type check of a query over a table
+
+-- whether a clause is a condition with a type, and so are all
+abbrev pub clause_is_typed : Names → Clause Expr → Bool
+clause_is_typed names (clause.Where c) = is_bool_type (type_of c names)
+clause_is_typed names clause = false
+
+abbrev pub clauses_are_typed : Names → List (Clause Expr) → Bool
+clauses_are_typed names [] = true
+clauses_are_typed names (c ∷ cs) = clause_is_typed names c && clauses_are_typed names cs
 
 -- whether a type, if there is one, is that of scalars
 abbrev pub is_scalar_type : Option Ty → Bool
@@ -45,6 +56,6 @@ top_names tables = record { tables = tables; locals = [] }
 -- A typed query whose source is the table with this number.
 pub record IsOver (tables : List Schema) (q : Query Expr) (number : ℕ) : Type 0 where
   pub source : type_of q.source (top_names tables) ≡ Some (ty.Seq (ty.Row number))
-  pub typed : is_some (item_type q (top_names tables)) ≡ true
+  pub typed : is_some (item_type type_of q (top_names tables)) ≡ true
   pub clauses : clauses_are_typed (with_local (top_names tables) q.name (ty.Row number)) q.body.clauses ≡ true
   pub selected : selects_scalar (with_local (top_names tables) q.name (ty.Row number)) q.body.last ≡ true

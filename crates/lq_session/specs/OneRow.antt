@@ -1,4 +1,5 @@
--- What an expression is on one row, as the evaluator finds it: the row is the only local name.
+-- What an expression is on one row, as the evaluator finds it: the row is the only local name. What has no meaning faults as a
+-- null row does; the type check leaves none of it to be run.
 use Rattle.std.specs.Prelude.{◌∷◌, if◌then◌else◌, List, [], ℕ, Bool, true, false, Option, Some, None, Result, Ok, Err}
 use Rattle.std.specs.Str.{bytes_eq}
 use Rattle.lq_value.specs.declared.scalar.Scalar.{Scalar}
@@ -43,7 +44,7 @@ module _ (variable : List ℕ) (cell : List ℕ → Option Scalar) where
   node_shape (node.Name x) = if bytes_eq variable x then Ok TheRow else Err fault.NullReference
   node_shape (node.Member row c) = on_ok row (member_in (cell c))
   node_shape (node.Binary op a b) =
-      on_ok (on_ok a scalar_in) (λ s. on_ok (on_ok b scalar_in) (λ t. Ok (TheScalar (scalar.Bool (compared op s t)))))
+      on_ok (on_ok a scalar_in) (λ s. on_ok (on_ok b scalar_in) (λ t. on_ok (compared fault.NullReference op s t) (λ truth. Ok (TheScalar (scalar.Bool truth)))))
   node_shape node = Err fault.NullReference
 
   abbrev pub shape_step : Expr-F (Result Shape Fault) → Result Shape Fault
@@ -60,7 +61,7 @@ module _ (variable : List ℕ) (cell : List ℕ → Option Scalar) where
 
   -- whether a condition is true
   unfoldable pub truth_at : Expr → Result Bool Fault
-  truth_at e = on_ok (scalar_at e) truth_of
+  truth_at e = on_ok (scalar_at e) (truth_of fault.NullReference)
 
   -- whether the row passes the clauses, from the first on; the first fault is the answer
   abbrev pub passes : List (Clause Expr) → Result Bool Fault

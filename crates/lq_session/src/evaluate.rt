@@ -1,6 +1,7 @@
 //! What an expression is on one row: the scalar meaning of conditions, of what a query selects, and of rules.
 ghost use Rattle.std.specs.Prelude.{◌≡◌, map, int_lt, int_le};
 ghost use Rattle.std.specs.Option.{option_copied};
+ghost use Rattle.lq_value.specs.declared.value.Fault.TheVariants as fault;
 ghost use Rattle.lq_model.specs.Meaning.{compared, ordered_by, same_content, truth_of};
 ghost use Rattle.lq_model.specs.Visible.{cell_named};
 ghost use Rattle.lq_session.specs.OneRow.{scalar_in};
@@ -92,8 +93,8 @@ fn cell_named<'a, C: Named>(columns: &[C], cells: &'a [Scalar], name: &[u8]) -> 
 }
 
 /// What two scalars compare as.
-fn compared(operator: Binary, left: ScalarRef<'_>, right: ScalarRef<'_>) -> bool
-    ensures { result ≡ compared operator (shown_scalar left.entry) (shown_scalar right.entry) }
+fn compared(operator: Binary, left: ScalarRef<'_>, right: ScalarRef<'_>) -> Result<bool, Fault>
+    ensures { result ≡ compared fault.NullReference operator (shown_scalar left.entry) (shown_scalar right.entry) }
 {
     match operator {
         Binary::Less => is_less(left, right),
@@ -101,41 +102,47 @@ fn compared(operator: Binary, left: ScalarRef<'_>, right: ScalarRef<'_>) -> bool
         Binary::LessOrEqual => is_at_most(left, right),
         Binary::GreaterOrEqual => is_at_most(right, left),
         Binary::Equal => is_same(left, right),
-        Binary::NotEqual => !is_same(left, right),
-        _ => false,
+        Binary::NotEqual => match is_same(left, right) {
+            Ok(same) => Ok(!same),
+            Err(fault) => Err(fault),
+        },
+        _ => Err(Fault::NullReference),
     }
 }
 
-/// Whether both are ints and the first is less.
-fn is_less(left: ScalarRef<'_>, right: ScalarRef<'_>) -> bool
-    ensures { result ≡ ordered_by int_lt (shown_scalar left.entry) (shown_scalar right.entry) }
+/// Whether the first int is less than the second; nothing is less than null or more.
+fn is_less(left: ScalarRef<'_>, right: ScalarRef<'_>) -> Result<bool, Fault>
+    ensures { result ≡ ordered_by fault.NullReference int_lt (shown_scalar left.entry) (shown_scalar right.entry) }
 {
     match (left, right) {
-        (ScalarRef::Int(m), ScalarRef::Int(n)) => m < n,
-        _ => false,
+        (ScalarRef::Int(m), ScalarRef::Int(n)) => Ok(m < n),
+        (ScalarRef::Null, _) | (_, ScalarRef::Null) => Ok(false),
+        _ => Err(Fault::NullReference),
     }
 }
 
-/// Whether both are ints and the first is at most the second.
-fn is_at_most(left: ScalarRef<'_>, right: ScalarRef<'_>) -> bool
-    ensures { result ≡ ordered_by int_le (shown_scalar left.entry) (shown_scalar right.entry) }
+/// Whether the first int is at most the second; nothing is at most null, and null is at most nothing.
+fn is_at_most(left: ScalarRef<'_>, right: ScalarRef<'_>) -> Result<bool, Fault>
+    ensures { result ≡ ordered_by fault.NullReference int_le (shown_scalar left.entry) (shown_scalar right.entry) }
 {
     match (left, right) {
-        (ScalarRef::Int(m), ScalarRef::Int(n)) => m <= n,
-        _ => false,
+        (ScalarRef::Int(m), ScalarRef::Int(n)) => Ok(m <= n),
+        (ScalarRef::Null, _) | (_, ScalarRef::Null) => Ok(false),
+        _ => Err(Fault::NullReference),
     }
 }
 
 /// Whether both are null or have the same content.
-fn is_same(left: ScalarRef<'_>, right: ScalarRef<'_>) -> bool
-    ensures { result ≡ same_content (shown_scalar left.entry) (shown_scalar right.entry) }
+fn is_same(left: ScalarRef<'_>, right: ScalarRef<'_>) -> Result<bool, Fault>
+    ensures { result ≡ same_content fault.NullReference (shown_scalar left.entry) (shown_scalar right.entry) }
 {
     match (left, right) {
-        (ScalarRef::Null, ScalarRef::Null) => true,
-        (ScalarRef::Int(m), ScalarRef::Int(n)) => m == n,
-        (ScalarRef::Bool(a), ScalarRef::Bool(b)) => a == b,
-        (ScalarRef::Text(s), ScalarRef::Text(t)) => s.as_bytes() == t.as_bytes(),
-        _ => false,
+        (ScalarRef::Null, ScalarRef::Null) => Ok(true),
+        (ScalarRef::Int(m), ScalarRef::Int(n)) => Ok(m == n),
+        (ScalarRef::Bool(a), ScalarRef::Bool(b)) => Ok(a == b),
+        (ScalarRef::Text(s), ScalarRef::Text(t)) => Ok(s.as_bytes() == t.as_bytes()),
+        (ScalarRef::Null, _) | (_, ScalarRef::Null) => Ok(false),
+        _ => Err(Fault::NullReference),
     }
 }
 
@@ -151,7 +158,7 @@ fn scalar_in(operand: Operand<'_>) -> Result<ScalarRef<'_>, Fault>
 
 /// The truth value that a scalar is; no other scalar is a condition.
 fn truth_of(scalar: ScalarRef<'_>) -> Result<bool, Fault>
-    ensures { result ≡ truth_of (shown_scalar scalar.entry) }
+    ensures { result ≡ truth_of fault.NullReference (shown_scalar scalar.entry) }
 {
     match scalar {
         ScalarRef::Bool(truth) => Ok(truth),
@@ -220,7 +227,7 @@ impl<'a, C: Named> OneRow<'a, C> {
             Node::Binary(operator, left, right) => {
                 let left = scalar_in(self.operand(left.get())?)?;
                 let right = scalar_in(self.operand(right.get())?)?;
-                let truth = compared(*operator, left, right);
+                let truth = compared(*operator, left, right)?;
                 Ok(Operand::Scalar(ScalarRef::Bool(truth)))
             }
             Node::Text(_)

@@ -1,7 +1,7 @@
 //! The types of expressions and queries over the tables of a store.
 ghost use Rattle.std.specs.Prelude.{◌≡◌, ◌<◌, None, length, option_map, IfNone, IfSome};
 ghost use Rattle.lq_model.specs.Machine.{schemas_of};
-ghost use Rattle.lq_model.specs.Typing.{column_named, is_comparison, item_type, table_number, type_of_column};
+ghost use Rattle.lq_model.specs.Typing.{column_named, is_comparison, item_type, table_number, type_of, type_of_column};
 ghost use Rattle.lq_session.specs.Given.{IsOver, top_names};
 ghost use Rattle.lq_session.specs.KnownTypes.{is_known_number};
 
@@ -74,9 +74,9 @@ struct KnownNames<'a> {
 impl KnownNames<'_> {
     ghost use Rattle.std.specs.Prelude.{◌≡◌, length, option_map, IfSome};
     ghost use Rattle.lq_model.specs.Machine.{schemas_of};
-    ghost use Rattle.lq_model.specs.Typing.{clauses_are_typed, column_type, is_bool_type, local_type, name_type, type_of};
+    ghost use Rattle.lq_model.specs.Typing.{column_type, is_bool_type, local_type, name_type, type_of};
     ghost use Rattle.lq_model.specs.declared.syntax.Expr.TheVariants as expr;
-    ghost use Rattle.lq_session.specs.Given.{is_typed_body, selects_scalar};
+    ghost use Rattle.lq_session.specs.Given.{clauses_are_typed, is_typed_body, selects_scalar};
     ghost use Rattle.lq_session.specs.KnownTypes.{IsWithin, names_of, shown_type};
 
     /// The type of a column of a table.
@@ -203,7 +203,7 @@ impl KnownNames<'_> {
 /// The number of the table that a typed query ranges over; None where the query has no type.
 #[tactic(auto, using(crate::proofs::TypingLemmas::queries))]
 pub(crate) fn table_of<'a>(store: &'a Store, query: &'a Query<Expr>) -> Option<u16>
-    ensures untyped { IfNone result (item_type query.now (top_names (schemas_of store.now)) ≡ None) }
+    ensures untyped { IfNone result (item_type type_of query.now (top_names (schemas_of store.now)) ≡ None) }
     ensures over { IfSome result (λ n. IsOver (schemas_of store.now) query.now n) }
     ensures within { IfSome result (λ n. n < length store.now) }
 {

@@ -1,5 +1,5 @@
 use Rattle.std.proofs.Common.{◌≡◌, drop}
-use Rattle.lq_model.specs.Typing.{clauses_are_typed}
+use Rattle.lq_session.specs.Given.{clauses_are_typed}
 use Rattle.lq_session.specs.KnownTypes.{names_of}
 use Rattle.lq_session.proofs.typing.KnownNames.clauses_are_typed.Given as goal
 
