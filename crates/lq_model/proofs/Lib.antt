@@ -6,6 +6,7 @@ pub mod Following
 pub mod Forwards
 pub mod LexingLemmas
 pub mod LiteralLemmas
+pub mod MeaningLemmas
 pub mod Opens
 pub mod OutputLemmas
 pub mod Pieces

@@ -1,15 +1,19 @@
 -- Lemmas on runs over lines, on replies joined, and on output that is cut short.
 use Rattle.std.proofs.Common.{◌≡◌, ◌+◌, ℕ, List, [], ◌∷◌, ◌++◌, refl, sym, ◌∙◌, ap, subst, append_assoc, append-nil, arith}
+use Rattle.lq_model.specs.HostCalls.{HostCall}
 use Rattle.lq_model.specs.Machine.{State, Reply}
 use Rattle.lq_model.specs.Output.{Answers, Runs, bytes_of, joined, one_if_some, count_of_replies, IsCutOff}
 
 -- a step after a run is a run over one more line
 pub Runs-more : (old mid new : State) (lines : List (List ℕ)) (replies : List Reply) (line : List ℕ) (reply : Reply)
-    → Runs old lines replies mid → Answers mid line reply new → Runs old (lines ++ line ∷ []) (replies ++ reply ∷ []) new
-Runs-more old mid new [] [] line reply run step = (new, subst (λ s. Answers s line reply new) run step, refl)
-Runs-more old mid new [] (r ∷ rs) line reply run step = absurd run
-Runs-more old mid new (l ∷ ls) [] line reply run step = absurd run
-Runs-more old mid new (l ∷ ls) (r ∷ rs) line reply run step = (run.0, run.1, Runs-more run.0 mid new ls rs line reply run.2 step)
+    → (calls stretch : List HostCall) → Runs old lines replies calls mid → Answers mid line reply stretch new
+    → Runs old (lines ++ line ∷ []) (replies ++ reply ∷ []) (calls ++ stretch) new
+Runs-more old mid new [] [] line reply calls stretch run step =
+    (new, stretch, [], ap (λ c. c ++ stretch) run.1 ∙ sym (append-nil stretch), subst (λ s. Answers s line reply stretch new) run.0 step, (refl, refl))
+Runs-more old mid new [] (r ∷ rs) line reply calls stretch run step = absurd run
+Runs-more old mid new (l ∷ ls) [] line reply calls stretch run step = absurd run
+Runs-more old mid new (l ∷ ls) (r ∷ rs) line reply calls stretch run step =
+    (run.0, run.1, run.2 ++ stretch, ap (λ c. c ++ stretch) run.3 ∙ append_assoc run.1 run.2 stretch, run.4, Runs-more run.0 mid new ls rs line reply run.2 stretch run.5 step)
 
 pub joined-more : (replies : List Reply) (reply : Reply) → joined (replies ++ reply ∷ []) ≡ joined replies ++ bytes_of reply
 joined-more [] reply = append-nil (bytes_of reply)

@@ -3,6 +3,7 @@ use Rattle.std.proofs.Common.{◌≡◌, ◌≢◌, ◌∷◌, List, [], ℕ, Op
 use Rattle.serde_json.specs.Data.{Data}
 use Rattle.serde_json.proofs.OnLiterals.{serde_json_on_literals}
 use Rattle.lq_value.specs.declared.table.Schema.{Schema}
+use Rattle.lq_model.specs.HostCalls.{HostCall}
 use Rattle.lq_model.specs.Machine.{State, Reply, memory_line, perform, run_reply, schemas_of, seen_by_role, served_top, step, step_by}
 use Rattle.lq_model.specs.Output.{Answers, as_machine, no_memory, stepped}
 use Rattle.lq_model.specs.Reading.{Reading, Nothing, Says, IsNoSyntax, IsTooDeep, reading_of}
@@ -38,9 +39,9 @@ unfolding step
 answers_alike a b same line = reading_alike a b same (reading_of line)
 
 -- a reply that isn't the memory line is the machine's
-steps_alone : (old new : State) (line : List ℕ) (reply : Reply) → Answers old line reply new → reply ≢ Some memory_line → (reply, new) ≡ step old line
-steps_alone old new line reply (as_machine steps) other = steps
-steps_alone old new line reply (no_memory some is stays) other = absurd (other is)
+steps_alone : (old new : State) (line : List ℕ) (reply : Reply) (calls : List HostCall) → Answers old line reply calls new → reply ≢ Some memory_line → (reply, new) ≡ step old line
+steps_alone old new line reply calls (as_machine steps allowed) other = steps
+steps_alone old new line reply calls (no_memory some is stays allowed) other = absurd (other is)
 
 -- ---- scripts
 
@@ -52,11 +53,11 @@ before old mid line lines reply rest new first later =
     ∙ ap (λ (now : Reply × State). let all : List Reply × State = (now.0 ∷ (stepped now.1 lines).0, (stepped now.1 lines).1) in all) first
 
 pub is_output : IsOutput
-is_output old new [] [] stays has = ap (λ (s : State). let end : List Reply × State = ([], s) in end) stays
-is_output old new [] (reply ∷ replies) stays has = absurd stays
-is_output old new (line ∷ lines) [] stays has = absurd stays
-is_output old new (line ∷ lines) (reply ∷ replies) runs has =
-    before old runs.0 line lines reply replies new (steps_alone old runs.0 line reply runs.1 has.0) (is_output runs.0 new lines replies runs.2 has.1)
+is_output old new [] [] calls stays has = ap (λ (s : State). let end : List Reply × State = ([], s) in end) stays.0
+is_output old new [] (reply ∷ replies) calls stays has = absurd stays
+is_output old new (line ∷ lines) [] calls stays has = absurd stays
+is_output old new (line ∷ lines) (reply ∷ replies) calls runs has =
+    before old runs.0 line lines reply replies new (steps_alone old runs.0 line reply runs.1 runs.4 has.0) (is_output runs.0 new lines replies runs.2 runs.5 has.1)
 
 -- the machine steps states that look the same alike
 stepped_alike : (a b : State) → LooksSame a b → (lines : List (List ℕ)) → ((stepped a lines).0 ≡ (stepped b lines).0) × LooksSame (stepped a lines).1 (stepped b lines).1
@@ -67,9 +68,9 @@ stepped_alike a b same (line ∷ lines) =
     (ap (λ (reply : Reply). reply ∷ (stepped (step a line).1 lines).0) now.0 ∙ ap (λ (replies : List Reply). (step b line).0 ∷ replies) rest.0, rest.1)
 
 pub scripts_alike : ScriptsAlike
-scripts_alike a b after_a after_b lines from_a from_b same runs_a runs_b has_a has_b =
-    let of_a = is_output a after_a lines from_a runs_a has_a in
-    let of_b = is_output b after_b lines from_b runs_b has_b in
+scripts_alike a b after_a after_b lines from_a from_b calls_a calls_b same runs_a runs_b has_a has_b =
+    let of_a = is_output a after_a lines from_a calls_a runs_a has_a in
+    let of_b = is_output b after_b lines from_b calls_b runs_b has_b in
     let alike = stepped_alike a b same lines in (
       ap (λ (p : List Reply × State). p.0) of_a ∙ alike.0 ∙ sym (ap (λ (p : List Reply × State). p.0) of_b),
       subst (λ (s : State). LooksSame after_a s) (sym (ap (λ (p : List Reply × State). p.1) of_b))
@@ -89,25 +90,25 @@ step_stays old (Says s) = performing_stays old s
 step_stays old IsNoSyntax = refl
 step_stays old IsTooDeep = refl
 
-stays_after_memory : (old new : State) (line : List ℕ) → Answers old line (Some memory_line) new → new ≡ old
+stays_after_memory : (old new : State) (line : List ℕ) (calls : List HostCall) → Answers old line (Some memory_line) calls new → new ≡ old
 unfolding step
-stays_after_memory old new line (as_machine steps) = ap (λ (p : Reply × State). p.1) steps ∙ step_stays old (reading_of line)
-stays_after_memory old new line (no_memory some is stays) = stays
+stays_after_memory old new line calls (as_machine steps allowed) = ap (λ (p : Reply × State). p.1) steps ∙ step_stays old (reading_of line)
+stays_after_memory old new line calls (no_memory some is stays allowed) = stays
 
 pub leaves_the_rest : LeavesTheRest
-leaves_the_rest old new [] served [] rest stays end = ap (λ (s : State). let nothing : List Reply × State = ([], s) in nothing) stays
-leaves_the_rest old new [] served (reply ∷ replies) rest stays without = absurd stays
-leaves_the_rest old new (line ∷ lines) served [] rest runs without = absurd runs
-leaves_the_rest old new (line ∷ lines) (kept ∷ served) (reply ∷ replies) (given ∷ rest) runs (answered other without) =
-    before old runs.0 line served reply rest new (steps_alone old runs.0 line reply runs.1 other) (leaves_the_rest runs.0 new lines served replies rest runs.2 without)
-leaves_the_rest old new (line ∷ lines) served (reply ∷ replies) rest runs (refused without) =
-    leaves_the_rest runs.0 new lines served replies rest runs.2 without ∙ ap (λ (s : State). stepped s served) (stays_after_memory old runs.0 line runs.1)
+leaves_the_rest old new [] served [] rest calls stays end = ap (λ (s : State). let nothing : List Reply × State = ([], s) in nothing) stays.0
+leaves_the_rest old new [] served (reply ∷ replies) rest calls stays without = absurd stays
+leaves_the_rest old new (line ∷ lines) served [] rest calls runs without = absurd runs
+leaves_the_rest old new (line ∷ lines) (kept ∷ served) (reply ∷ replies) (given ∷ rest) calls runs (answered other without) =
+    before old runs.0 line served reply rest new (steps_alone old runs.0 line reply runs.1 runs.4 other) (leaves_the_rest runs.0 new lines served replies rest runs.2 runs.5 without)
+leaves_the_rest old new (line ∷ lines) served (reply ∷ replies) rest calls runs (refused without) =
+    leaves_the_rest runs.0 new lines served replies rest runs.2 runs.5 without ∙ ap (λ (s : State). stepped s served) (stays_after_memory old runs.0 line runs.1 runs.4)
 
 pub silent_alike : IsSilentAlike
-silent_alike old new line reply (as_machine steps) =
+silent_alike old new line reply calls (as_machine steps allowed) =
     let same : reply ≡ (step old line).0 = ap (λ (p : Reply × State). p.0) steps in
     (λ none. sym same ∙ none, λ none. same ∙ none)
-silent_alike old new line reply (no_memory some is stays) =
+silent_alike old new line reply calls (no_memory some is stays allowed) =
     (λ none. absurd (let other : Some memory_line ≡ None = sym is ∙ none in cc), λ none. absurd (no_some (subst (λ (r : Reply). IsSome r) none some))) where
       no_some : IsSome {T = List ℕ} None → ⊥
       no_some h = cc

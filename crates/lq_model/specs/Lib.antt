@@ -1,9 +1,11 @@
 pub mod Depth
 pub mod Grammar
 pub mod GrammarLaws
+pub mod HostCalls
 pub mod LexingLaws
 pub mod Machine
 pub mod Meaning
+pub mod MeaningLaws
 pub mod Output
 pub mod Parsing
 pub mod PolicyLaws

@@ -1,18 +1,22 @@
 -- «Output»: the replies to the lines of a script, stepped in order.
 use Rattle.std.specs.Prelude.{◌≡◌, ◌+◌, ◌∷◌, ◌++◌, List, [], ℕ, Some, None, IsSome}
+use Rattle.lq_model.specs.HostCalls.{HostCall, MayCall}
 use Rattle.lq_model.specs.Machine.{State, Reply, step, memory_line}
 
--- The session does a step of the machine, or it answers the memory line in place of a reply and stays as it was.
-pub data Answers (old : State) (line : List ℕ) (reply : Reply) (new : State) : Type 0 where
-  as_machine : (reply, new) ≡ step old line → Answers old line reply new
-  no_memory : IsSome (step old line).0 → reply ≡ Some memory_line → new ≡ old → Answers old line reply new
+-- The session does a step of the machine, or it answers the memory line in place of a reply and stays as it was. Either way it
+-- adds to the log only calls that the line allows.
+pub data Answers (old : State) (line : List ℕ) (reply : Reply) (calls : List HostCall) (new : State) : Type 0 where
+  as_machine : (reply, new) ≡ step old line → MayCall old line calls → Answers old line reply calls new
+  no_memory : IsSome (step old line).0 → reply ≡ Some memory_line → new ≡ old → MayCall old line calls → Answers old line reply calls new
 
--- These replies, one for each line, may be given to the lines in turn.
-abbrev pub Runs : State → List (List ℕ) → List Reply → State → Type 0
-Runs old [] [] new = new ≡ old
-Runs old (line ∷ lines) (reply ∷ replies) new = (mid : State) × Answers old line reply mid × Runs mid lines replies new
-Runs old [] (reply ∷ replies) new = ⊥
-Runs old (line ∷ lines) [] new = ⊥
+-- These replies, one for each line, may be given to the lines in turn, while the log grows by these calls: with each reply by
+-- the stretch that its line added.
+abbrev pub Runs : State → List (List ℕ) → List Reply → List HostCall → State → Type 0
+Runs old [] [] calls new = (new ≡ old) × (calls ≡ [])
+Runs old (line ∷ lines) (reply ∷ replies) calls new =
+    (mid : State) × (stretch : List HostCall) × (later : List HostCall) × (calls ≡ stretch ++ later) × Answers old line reply stretch mid × Runs mid lines replies later new
+Runs old [] (reply ∷ replies) calls new = ⊥
+Runs old (line ∷ lines) [] calls new = ⊥
 
 -- the machine alone, over the lines in order
 abbrev pub stepped : State → List (List ℕ) → List Reply × State

@@ -1,5 +1,6 @@
 -- Laws of the session machine and of its output.
 use Rattle.std.specs.Prelude.{◌≡◌, ◌≢◌, ◌↔◌, ◌∷◌, List, [], ℕ, map, Some, None, codes}
+use Rattle.lq_model.specs.HostCalls.{HostCall}
 use Rattle.lq_model.specs.Machine.{State, Reply, memory_line, step}
 use Rattle.lq_model.specs.Output.{Answers, Runs, stepped}
 use Rattle.lq_model.specs.Served.{error_data, line_of}
@@ -29,12 +30,13 @@ HasNoMemoryLine (reply ∷ replies) = (reply ≢ Some memory_line) × HasNoMemor
 -- and so do whole scripts where no reply is the memory line
 abbrev pub ScriptsAlike : Type 0
 ScriptsAlike =
-    (a b after_a after_b : State) (lines : List (List ℕ)) (from_a from_b : List Reply) → LooksSame a b → Runs a lines from_a after_a → Runs b lines from_b after_b
+    (a b after_a after_b : State) (lines : List (List ℕ)) (from_a from_b : List Reply) (calls_a calls_b : List HostCall) → LooksSame a b → Runs a lines from_a calls_a after_a
+    → Runs b lines from_b calls_b after_b
     → HasNoMemoryLine from_a → HasNoMemoryLine from_b → (from_a ≡ from_b) × LooksSame after_a after_b
 
 -- where no reply is the memory line, the replies to the lines and the state behind them are the machine's
 abbrev pub IsOutput : Type 0
-IsOutput = (old new : State) (lines : List (List ℕ)) (replies : List Reply) → Runs old lines replies new → HasNoMemoryLine replies → (replies, new) ≡ stepped old lines
+IsOutput = (old new : State) (lines : List (List ℕ)) (replies : List Reply) (calls : List HostCall) → Runs old lines replies calls new → HasNoMemoryLine replies → (replies, new) ≡ stepped old lines
 
 -- ---- want of memory
 
@@ -49,12 +51,12 @@ pub data WithoutMemoryLines : List (List ℕ) → List Reply → List (List ℕ)
 -- where some replies are the memory line, the others and the state behind the script are the machine's over the other lines
 abbrev pub LeavesTheRest : Type 0
 LeavesTheRest =
-    (old new : State) (lines served : List (List ℕ)) (replies rest : List Reply) → Runs old lines replies new → WithoutMemoryLines lines replies served rest
+    (old new : State) (lines served : List (List ℕ)) (replies rest : List Reply) (calls : List HostCall) → Runs old lines replies calls new → WithoutMemoryLines lines replies served rest
     → (rest, new) ≡ stepped old served
 
 -- a line has no reply exactly where the machine has none for it
 abbrev pub IsSilentAlike : Type 0
-IsSilentAlike = (old new : State) (line : List ℕ) (reply : Reply) → Answers old line reply new → (reply ≡ None) ↔ ((step old line).0 ≡ None)
+IsSilentAlike = (old new : State) (line : List ℕ) (reply : Reply) (calls : List HostCall) → Answers old line reply calls new → (reply ≡ None) ↔ ((step old line).0 ≡ None)
 
 -- the memory line is the line of a refusal
 abbrev pub MemoryLineIsServed : Type 0

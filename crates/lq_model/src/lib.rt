@@ -6,6 +6,7 @@
 
 pub mod grammar_laws;
 pub mod lexing_laws;
+pub mod meaning_laws;
 mod policy;
 pub mod policy_laws;
 pub mod session_laws;

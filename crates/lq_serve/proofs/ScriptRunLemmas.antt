@@ -18,7 +18,7 @@ pub UnderWay-start : (lines : List (List ℕ)) (old : State) (before : Option (L
 UnderWay-start lines old before = record {
   front = [];
   split = refl;
-  so_far = record { replies = []; run = refl; written = Appends-nil before; lines = refl; count = refl };
+  so_far = record { replies = []; calls = []; run = (refl, refl); written = Appends-nil before; lines = refl; count = refl };
 }
 
 pub UnderWay-more : (lines rest : List (List ℕ)) (line : List ℕ) (old now new : State) (before between after : Option (List ℕ)) (summary : Summary) (count : ℕ)
@@ -29,7 +29,8 @@ UnderWay-more lines rest line old now new before between after summary count way
   split = way.split ∙ sym (append_assoc way.front (line ∷ []) rest);
   so_far = record {
     replies = way.so_far.replies ++ told.reply ∷ [];
-    run = Runs-more old now new way.front way.so_far.replies line told.reply way.so_far.run told.answer;
+    calls = way.so_far.calls ++ told.calls;
+    run = Runs-more old now new way.front way.so_far.replies line told.reply way.so_far.calls told.calls way.so_far.run told.answer;
     written = subst (Appends before after) (sym (joined-more way.so_far.replies told.reply))
         (Appends-trans before between after _ _ way.so_far.written told.written);
     lines = omega (arith, way.so_far.lines, length-append way.front (line ∷ []));
@@ -46,7 +47,8 @@ UnderWay-stopped lines rest line old now new before between after summary way to
   rest = rest;
   split = way.split ∙ sym (append_assoc way.front (line ∷ []) rest);
   replies = way.so_far.replies ++ told.reply ∷ [];
-  run = Runs-more old now new way.front way.so_far.replies line told.reply way.so_far.run told.answer;
+  calls = way.so_far.calls ++ told.calls;
+  run = Runs-more old now new way.front way.so_far.replies line told.reply way.so_far.calls told.calls way.so_far.run told.answer;
   bytes = joined way.so_far.replies ++ told.written.front;
   cut = IsCutOff-more way.so_far.replies told.reply told.written.front told.written.left told.written.split;
   written = Appends-trans before between after _ _ way.so_far.written told.written.written;
@@ -60,6 +62,7 @@ UnderWay-unflushed lines old now before between after summary way kept = record 
   rest = [];
   split = way.split;
   replies = way.so_far.replies;
+  calls = way.so_far.calls;
   run = way.so_far.run;
   bytes = joined way.so_far.replies;
   cut = IsCutOff-whole way.so_far.replies;
@@ -73,6 +76,7 @@ UnderWay-done lines old now before between after summary way kept =
     let all : lines ≡ way.front = way.split ∙ append-nil way.front in
     subst (λ l. Served l old now before after summary) (sym all) (record {
       replies = way.so_far.replies;
+      calls = way.so_far.calls;
       run = way.so_far.run;
       written = Appends-kept before between after _ way.so_far.written kept;
       lines = way.so_far.lines;

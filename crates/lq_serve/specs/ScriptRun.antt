@@ -3,6 +3,7 @@ use Rattle.std.specs.Prelude.{◌≡◌, ◌++◌, ℕ, List, Option, IfSome, le
 use Rattle.std.specs.Str.{IsUtf8}
 use Rattle.std.specs.Io.KnownBytes.{Appends}
 use Rattle.lq_model.specs.Script.{IsInSize, stepped_lines}
+use Rattle.lq_model.specs.HostCalls.{HostCall}
 use Rattle.lq_model.specs.Machine.{State, Reply}
 use Rattle.lq_model.specs.Output.{Answers, Runs, bytes_of, joined, one_if_some, count_of_replies, IsCutOff}
 use Rattle.lq_serve.specs.Devices.{AppendsFront}
@@ -17,7 +18,8 @@ pub record IsScript (known : Option (List ℕ)) (script : List ℕ) : Type 0 whe
 -- Each line was stepped in order, and their replies were written, whole and nothing else.
 pub record Served (all : List (List ℕ)) (old new : State) (before after : Option (List ℕ)) (summary : Summary) : Type 0 where
   pub replies : List Reply
-  pub run : Runs old all replies new
+  pub calls : List HostCall
+  pub run : Runs old all replies calls new
   pub written : Appends before after (joined replies)
   pub lines : summary.lines ≡ length all
   pub count : summary.replies ≡ count_of_replies replies
@@ -28,7 +30,8 @@ pub record Stopped (all : List (List ℕ)) (old new : State) (before after : Opt
   pub rest : List (List ℕ)
   pub split : all ≡ front ++ rest
   pub replies : List Reply
-  pub run : Runs old front replies new
+  pub calls : List HostCall
+  pub run : Runs old front replies calls new
   pub bytes : List ℕ
   pub cut : IsCutOff replies bytes
   pub written : Appends before after bytes
@@ -56,12 +59,14 @@ IsNoText known = IfSome known (λ all. IsInSize all × ¬ (IsUtf8 all))
 -- One line was stepped, and its reply was written whole.
 pub record Told (line : List ℕ) (old new : State) (before after : Option (List ℕ)) (count : ℕ) : Type 0 where
   pub reply : Reply
-  pub answer : Answers old line reply new
+  pub calls : List HostCall
+  pub answer : Answers old line reply calls new
   pub written : Appends before after (bytes_of reply)
   pub counted : count ≡ one_if_some reply
 
 -- One line was stepped, and a front of its reply was written.
 pub record ToldInPart (line : List ℕ) (old new : State) (before after : Option (List ℕ)) : Type 0 where
   pub reply : Reply
-  pub answer : Answers old line reply new
+  pub calls : List HostCall
+  pub answer : Answers old line reply calls new
   pub written : AppendsFront before after (bytes_of reply)

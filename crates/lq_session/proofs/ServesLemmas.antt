@@ -24,12 +24,13 @@ use Rattle.lq_model.specs.Visible.{TableRow, cell_named, seen_rows, tables_as_se
 use Rattle.lq_model.specs.declared.policy.PolicyParts.{PolicyParts}
 use Rattle.lq_model.specs.declared.syntax.Expr.{Expr}
 use Rattle.lq_model.specs.declared.syntax.Query.{Query}
+use Rattle.lq_model.proofs.MeaningLemmas.{seen_at}
 use Rattle.lq_session.specs.Given.{IsOver, given_to, top_names}
 use Rattle.lq_session.specs.Items.{before_items, items_given}
 use Rattle.lq_session.specs.OneRow.{given_at}
 use Rattle.lq_session.proofs.OneRowLemmas.{faulting, row_scope}
 use Rattle.lq_session.proofs.QueryLemmas.{as_data, body_rows, clauses_at, given_stream, last_at}
-use Rattle.lq_session.proofs.SourceLemmas.{rows_of_table, table_of_rows, schema_at, seen_at, source_means}
+use Rattle.lq_session.proofs.SourceLemmas.{rows_of_table, table_of_rows, schema_at, source_means}
 
 -- ---- rows, one at a time
 

@@ -109,18 +109,6 @@ module _ {R : Type 0} (world : World R) (number : ℕ) where
   pub source_means : (e : Expr) → table_of_rows (type_of e (top_names world.schemas)) ≡ Some number → meaning world e [] ≡ table_value world (slice_get world.rows number)
   source_means e = ind-Expr IsSource source_layer e
 
-same_place : (start number : ℕ) → (start + 1) + number ≡ start + suc number
-same_place start number = omega arith
-
--- the rows of a table as seen, by its number
-pub seen_at : (parts : PolicyParts) (role start number : ℕ) (tables : List Table)
-    → slice_get (seen_from parts role start tables) number ≡ option_map (λ table. seen_rows parts role (start + number) table.rows) (slice_get tables number)
-seen_at parts role start number [] = refl
-seen_at parts role start zero (table ∷ tables) = ap (λ n. Some (seen_rows parts role n table.rows)) (sym (add-zero start))
-seen_at parts role start (suc number) (table ∷ tables) =
-    seen_at parts role (start + 1) number tables
-    ∙ ap (λ n. option_map (λ t. seen_rows parts role n t.rows) (slice_get tables number)) (same_place start number)
-
 -- the table with a number, and its schema
 pub schema_at : (number : ℕ) (tables : List Table) → slice_get (map (λ table. table.schema) tables) number ≡ option_map (λ table. table.schema) (slice_get tables number)
 schema_at number tables = slice_get-map (λ table. table.schema) tables number

@@ -23,7 +23,7 @@ pub struct Session {
 }
 
 impl Session {
-    ghost use Rattle.std.specs.Prelude.{◌≡◌, ◌<◌, length, IfOk};
+    ghost use Rattle.std.specs.Prelude.{◌≡◌, ◌<◌, [], length, IfOk};
     ghost use Rattle.lq_model.specs.Machine.{perform, run_in, schemas_of, step, step_by};
     ghost use Rattle.lq_model.specs.Output.{Answers};
     ghost use Rattle.lq_model.specs.Served.{error_data, line_of};
@@ -45,11 +45,11 @@ impl Session {
     }
 
     /// Answers one line of a script: a step of the session machine, or the memory line in place
-    /// of its reply, which leaves the session as it was. A line without a token has no reply, and
+    /// of its reply, which leaves the session as it was. No line asks a host yet. A line without a token has no reply, and
     /// one of more than 65,536 bytes is refused as `syntax`.
     #[tactic(auto, using(crate::proofs::StepLemmas::steps))]
     pub fn step(&mut self, line: &str) -> Option<Line>
-        ensures { Answers (state_of self.old) line.now result (state_of self.new) }
+        ensures { Answers (state_of self.old) line.now result [] (state_of self.new) }
     {
         if is_blank(line) {
             return None;

@@ -1,0 +1,5 @@
+use Rattle.lq_model.proofs.MeaningLemmas.{serves_meanings}
+use Rattle.lq_model.proofs.meaning_laws.served_meanings.Goals as goal
+
+pub returns : goal.returns
+returns c = serves_meanings

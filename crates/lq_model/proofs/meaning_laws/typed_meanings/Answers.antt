@@ -1,0 +1,8 @@
+use Rattle.lq_model.proofs.MeaningLemmas.{has_meaning, has_stream}
+use Rattle.lq_model.proofs.meaning_laws.typed_meanings.Goals as goal
+
+pub returns-clause-expression : goal.returns-clause-expression
+returns-clause-expression c = has_meaning
+
+pub returns-clause-query : goal.returns-clause-query
+returns-clause-query c = has_stream
