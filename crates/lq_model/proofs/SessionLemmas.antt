@@ -1,5 +1,5 @@
 -- Proofs of the laws of the session machine and of its output.
-use Rattle.std.proofs.Common.{◌≡◌, ◌≢◌, ◌∷◌, List, [], ℕ, Option, Some, None, IsSome, ap, ◌∙◌, sym, refl, subst}
+use Rattle.std.proofs.Common.{◌≡◌, ◌≢◌, ◌∷◌, ◌++◌, List, [], ℕ, Option, Some, None, IsSome, ap, ap₂, ◌∙◌, sym, refl, subst}
 use Rattle.serde_json.specs.Data.{Data}
 use Rattle.serde_json.proofs.OnLiterals.{serde_json_on_literals}
 use Rattle.lq_value.specs.declared.table.Schema.{Schema}
@@ -8,7 +8,7 @@ use Rattle.lq_model.specs.Machine.{State, Reply, memory_line, perform, run_reply
 use Rattle.lq_model.specs.Output.{Answers, as_machine, no_memory, stepped}
 use Rattle.lq_model.specs.Reading.{Reading, Nothing, Says, IsNoSyntax, IsTooDeep, reading_of}
 use Rattle.lq_model.specs.Served.{line_of}
-use Rattle.lq_model.specs.SessionLaws.{AnswersAlike, IsOutput, IsSilentAlike, LeavesTheRest, LooksSame, MemoryLineIsServed, ScriptsAlike, end, answered, refused}
+use Rattle.lq_model.specs.SessionLaws.{AnswersAlike, AsksNoHost, IsOutput, IsSilentAlike, LeavesTheRest, LooksSame, MemoryLineIsServed, ScriptsAlike, end, answered, refused}
 use Rattle.lq_model.specs.Visible.{TableRow}
 use Rattle.lq_model.specs.declared.syntax.Expr.{Expr, out-Expr}
 use Rattle.lq_model.specs.declared.syntax.Expr.TheOpen.{Expr-F}
@@ -112,6 +112,19 @@ silent_alike old new line reply calls (no_memory some is stays allowed) =
     (λ none. absurd (let other : Some memory_line ≡ None = sym is ∙ none in cc), λ none. absurd (no_some (subst (λ (r : Reply). IsSome r) none some))) where
       no_some : IsSome {T = List ℕ} None → ⊥
       no_some h = cc
+
+-- ---- the log of host calls
+
+adds_no_call : (old new : State) (line : List ℕ) (reply : Reply) (calls : List HostCall) → Answers old line reply calls new → calls ≡ []
+adds_no_call old new line reply calls (as_machine steps allowed) = allowed
+adds_no_call old new line reply calls (no_memory some is stays allowed) = allowed
+
+pub asks_no_host : AsksNoHost
+asks_no_host old new [] [] calls run = run.1
+asks_no_host old new [] (reply ∷ replies) calls run = absurd run
+asks_no_host old new (line ∷ lines) [] calls run = absurd run
+asks_no_host old new (line ∷ lines) (reply ∷ replies) calls run =
+    run.3 ∙ ap₂ (λ (a b : List HostCall). a ++ b) (adds_no_call old run.0 line reply run.1 run.4) (asks_no_host run.0 new lines replies run.2 run.5)
 
 pub memory_line_served : MemoryLineIsServed
 unfolding serde_json_on_literals

@@ -58,6 +58,10 @@ LeavesTheRest =
 abbrev pub IsSilentAlike : Type 0
 IsSilentAlike = (old new : State) (line : List ℕ) (reply : Reply) (calls : List HostCall) → Answers old line reply calls new → (reply ≡ None) ↔ ((step old line).0 ≡ None)
 
+-- no run asks a host, as no statement does yet
+abbrev pub AsksNoHost : Type 0
+AsksNoHost = (old new : State) (lines : List (List ℕ)) (replies : List Reply) (calls : List HostCall) → Runs old lines replies calls new → calls ≡ []
+
 -- the memory line is the line of a refusal
 abbrev pub MemoryLineIsServed : Type 0
 MemoryLineIsServed = memory_line ≡ line_of (error_data (codes "memory"))

@@ -1,6 +1,6 @@
 //! Laws of the session machine and of its output. Each function's contract is the law that it is
 //! named for; the functions themselves do nothing.
-ghost use Rattle.lq_model.specs.SessionLaws.{AnswersAlike, ScriptsAlike, IsOutput, LeavesTheRest, IsSilentAlike, MemoryLineIsServed};
+ghost use Rattle.lq_model.specs.SessionLaws.{AnswersAlike, AsksNoHost, ScriptsAlike, IsOutput, LeavesTheRest, IsSilentAlike, MemoryLineIsServed};
 
 /// Hidden rows change no answer: two states whose roles see the same tables, under the same
 /// policies and schemas, give every line the same reply and every script the same replies, the
@@ -21,6 +21,11 @@ pub fn output_law()
 pub fn memory_law()
     ensures others { LeavesTheRest }
     ensures silent { IsSilentAlike }
+{}
+
+/// No run of a script adds a call to the log of host calls, as no statement asks a host yet.
+pub fn logged_calls()
+    ensures { AsksNoHost }
 {}
 
 /// The memory line is served as any other refusal is.
