@@ -1,5 +1,5 @@
 -- What is typed means the same in two worlds that differ only in the fault that stands where there is no meaning.
-use Rattle.std.proofs.Common.{◌≡◌, ◌+◌, ◌∷◌, if◌then◌else◌, List, [], map, filter, ℕ, zero, suc, ℤ, Bool, true, false, not, Option, Some, None, Result, Ok, Err, ap, ap₂, ◌∙◌, arith, sym, refl, subst, slice_get, option_and_then, option_map, bytes_eq, int_lt, int_le, codes, true≢false, add-zero, zero-add}
+use Rattle.std.proofs.Common.{◌≡◌, ◌+◌, ◌∷◌, if◌then◌else◌, List, [], map, filter, ℕ, zero, suc, ℤ, Bool, true, false, not, Option, Some, None, Result, Ok, Err, ap, ap₂, ◌∙◌, arith, sym, refl, subst, slice_get, option_and_then, option_map, bytes_eq, int_lt, int_le, true≢false, add-zero, zero-add}
 use Rattle.std.proofs.lemmas.Option.{none-some, same_Some, slice_get-map}
 use Rattle.std.specs.List.{position_from}
 use Rattle.std.specs.Ordering.{int_eq}
@@ -21,18 +21,19 @@ use Rattle.lq_value.specs.declared.value.Fault.TheVariants as fault
 use Rattle.lq_value.specs.declared.value.Value.{Value, out-Value}
 use Rattle.lq_value.specs.declared.value.Value.TheVariants as value
 use Rattle.lq_value.specs.declared.value.Value.TheVariants.{outs-Row as outs-value-Row, outs-Scalar, outs-Seq as outs-value-Seq}
-use Rattle.lq_model.specs.Machine.{State, columns_in, run_in, run_reply, schemas_of, seen_by_role, served, world_by}
-use Rattle.lq_model.specs.Meaning.{Binding, Scope, World, binding_of, bound, bound_stream, cell_value, clause_meaning, clauses_meaning, compared, condition_at, item_type_at, items_of, last_meaning, meaning, member_value, name_value, names_at, on_ok, on_scalar, or_null, ordered_by, query_meaning, same_content, scalar_of, source_scopes, stream_meaning, stream_of, table_value, truth_of, typed_locals}
+use Rattle.lq_model.specs.Machine.{State, columns_in, run_reply, schemas_of, seen_by_role, served, world_by}
+use Rattle.lq_model.specs.Meaning.{Binding, Scope, World, binding_of, bound, bound_stream, cell_value, clause_meaning, clauses_meaning, compared, condition_at, continued, item_type_at, items_of, last_meaning, meaning, member_value, name_value, names_at, on_ok, on_scalar, or_null, ordered_by, query_meaning, same_content, scalar_of, source_scopes, stream_meaning, stream_of, table_value, truth_of, typed_locals}
 use Rattle.lq_model.specs.MeaningLaws.{Every, HasCells, HasMeaning, HasStream, HaveTypes, HoldsRows, IsOf, is_scalar as is_scalar_value, is_row, is_sequence, IsOfScope, IsScalarOf, IsTypedTable, ServesMeanings, assuming}
 use Rattle.lq_model.specs.Served.{stream_data}
 use Rattle.lq_model.specs.Stream.{Stream, each, kept, one, select_by, then_stream, where_by}
-use Rattle.lq_model.specs.Typing.{Names, Claim, TypeOf, Leads, LeadAll, Selects, GivesItems, IsTyped, of_integer, of_local, of_table, of_column, of_comparison, by_where, by_none, by_first, by_select, by_query, HasItemType, HasType, column_named, column_type, is_comparison, is_number, is_scalar, item_of, item_type, local_type, row_table, table_number, type_of, type_of_column, with_local}
+use Rattle.lq_model.specs.Typing.{Names, Claim, TypeOf, Leads, LeadAll, Selects, GivesItems, IsTyped, of_integer, of_local, of_table, of_column, of_comparison, by_where, by_none, by_first, by_select, by_query, HasType, column_named, column_type, is_comparison, is_number, item_of, item_type, local_type, row_table, table_number, type_of, type_of_column, with_local}
 use Rattle.lq_model.specs.Visible.{TableRow, cell_named, seen_from, seen_rows, tables_as_seen, visible_to}
 use Rattle.lq_model.specs.declared.policy.PolicyParts.{PolicyParts}
 use Rattle.lq_model.specs.declared.syntax.Binary.{Binary}
 use Rattle.lq_model.specs.declared.syntax.Binary.TheVariants as binary
 use Rattle.lq_model.specs.declared.syntax.Clause.{Clause}
 use Rattle.lq_model.specs.declared.syntax.Clause.TheVariants as clause
+use Rattle.lq_model.specs.declared.syntax.Continuation.{Continuation}
 use Rattle.lq_model.specs.declared.syntax.Expr.{Expr}
 use Rattle.lq_model.specs.declared.syntax.Expr.TheVariants as expr
 use Rattle.lq_model.specs.declared.syntax.Last.{Last}
@@ -466,16 +467,20 @@ module _ {R : Type 0} (world : World R) (holds : HoldsRows world) (f g : Fault) 
           every_more (λ b. IsOf world b.ty b.value) (record { name = q.name; ty = found; value = v }) scope (subst (λ (t : Ty). IsOf world t v) (sym is_item) fits) at.1)
 
   means_query : (names behind : Names) (q : Query Expr) (item t : Ty) → HasType names q.source (ty.Seq item) → Means (TypeOf names q.source (ty.Seq item))
-      → Means (LeadAll names q.body.clauses (with_local names q.name item) behind) → Means (Selects behind q.body.last t) → Means (GivesItems names q t)
+      → Means (LeadAll names q.body.clauses (with_local names q.name item) behind) → Means (Selects behind q.body.last t) → q.rest ≡ [] → Means (GivesItems names q t)
   unfolding query_meaning
-  means_query names behind q item t typed source clauses selected scope at =
+  means_query names behind q item t typed source clauses selected ended scope at =
       let sources = means_source names q item typed source scope at in
       let led = clauses scope (sources_in left q scope) sources.named in
       let items = selected (clauses_in left scope q.body.clauses (sources_in left q scope)) led.named in
+      let alike = items.same ∙ ap (last_in right q.body.last) (led.alike ∙ ap (clauses_in right scope q.body.clauses) sources.alike) in
       record {
-        same = items.same ∙ ap (last_in right q.body.last) (led.alike ∙ ap (clauses_in right scope q.body.clauses) sources.alike);
-        typed = items.typed;
+        same = without_rest left ended ∙ alike ∙ sym (without_rest right ended);
+        typed = subst (λ (s : Stream (Value R)). Every (IsOf world t) s.0) (sym (without_rest left ended)) items.typed;
       }
+    where
+      without_rest : (w : World R) → q.rest ≡ [] → stream_meaning w q scope ≡ last_in w q.body.last (clauses_in w scope q.body.clauses (sources_in w q scope))
+      without_rest w ended = ap (λ (rest : List (Continuation Expr)). continued w type_of (meaning w) rest (last_in w q.body.last (clauses_in w scope q.body.clauses (sources_in w q scope)))) ended
 
   means : {claim : Claim} → IsTyped claim → Means claim
   means (of_integer names e n is) = same_as names e (expr.Node (node.Integer n)) ty.Int is (means_integer names n)
@@ -488,7 +493,7 @@ module _ {R : Type 0} (world : World R) (holds : HoldsRows world) (f g : Fault) 
   means (by_none outer names) = λ place scopes all. record { alike = refl; named = all; }
   means (by_first outer before between behind c cs first others) = means_all outer before between behind c cs (means first) (means others)
   means (by_select names l v t is typed scalar) = subst (λ (k : Last Expr). Means (Selects names k t)) (sym is) (means_select names v t (means typed))
-  means (by_query names behind q item t source fresh clauses selected ended) = means_query names behind q item t source (means source) (means clauses) (means selected)
+  means (by_query names behind q item t source fresh clauses selected ended) = means_query names behind q item t source (means source) (means clauses) (means selected) ended
 
 -- ---- the laws
 

@@ -1,6 +1,6 @@
 -- How deep a text is: its open brackets, and the weight of its tokens. Both have a limit, which keeps the stack that a
 -- tree of the text takes small.
-use Rattle.std.specs.Prelude.{◌+◌, ◌∷◌, ◌||◌, List, [], ℕ, Bool, true, false, length, nat_lt}
+use Rattle.std.specs.Prelude.{◌+◌, ◌∷◌, ◌||◌, List, [], ℕ, Bool, false, length, nat_lt}
 use Rattle.lq_model.specs.declared.token.Kind.{Kind}
 use Rattle.lq_model.specs.declared.token.Kind.TheVariants as k
 use Rattle.lq_model.specs.declared.token.Token.{Token}

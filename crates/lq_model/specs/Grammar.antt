@@ -19,7 +19,6 @@ use Rattle.lq_model.specs.declared.syntax.Infix.{Infix}
 use Rattle.lq_model.specs.declared.syntax.Infix.TheVariants as between
 use Rattle.lq_model.specs.declared.syntax.Last.{Last}
 use Rattle.lq_model.specs.declared.syntax.Last.TheVariants as last
-use Rattle.lq_model.specs.declared.syntax.Node.{Node}
 use Rattle.lq_model.specs.declared.syntax.Node.TheVariants as node
 use Rattle.lq_model.specs.declared.syntax.Query.{Query}
 use Rattle.lq_model.specs.declared.syntax.SortKey.{SortKey}

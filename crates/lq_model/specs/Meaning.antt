@@ -20,6 +20,7 @@ use Rattle.lq_model.specs.declared.syntax.Clause.TheVariants as clause
 use Rattle.lq_model.specs.declared.syntax.Body.{Body}
 use Rattle.lq_model.specs.declared.syntax.Binary.{Binary}
 use Rattle.lq_model.specs.declared.syntax.Binary.TheVariants as binary
+use Rattle.lq_model.specs.declared.syntax.Continuation.{Continuation}
 use Rattle.lq_model.specs.declared.syntax.Expr.{Expr, para-Expr}
 use Rattle.lq_model.specs.declared.syntax.Expr.TheOpen.{Expr-F}
 use Rattle.lq_model.specs.declared.syntax.Last.{Last}
@@ -185,9 +186,14 @@ module _ {R X : Type 0} (world : World R) (typed : X → Names → Option Ty) (m
   abbrev pub source_scopes : Query X → Scope R → Stream (Scope R)
   source_scopes q outer = bound_stream q.name (item_type_at q.source outer) outer (stream_of world (meant q.source outer))
 
+  -- what follows by `into` goes on with the items; none of it is typed yet
+  abbrev pub continued : List (Continuation X) → Stream (Value R) → Stream (Value R)
+  continued [] items = items
+  continued (next ∷ rest) items = ([], end.Fault world.unknown)
+
   -- «Clause meaning»: the stream of a query at the place of this scope
   unfoldable pub query_meaning : Query X → Scope R → Stream (Value R)
-  query_meaning q outer = body_meaning outer q.body (source_scopes q outer)
+  query_meaning q outer = continued q.rest (body_meaning outer q.body (source_scopes q outer))
 
 -- ---- expressions
 

@@ -1,6 +1,6 @@
 -- The one tree that tokens spell, as functions that read it from the front. A line of the grammar that leads back to an
 -- earlier one calls `inner`, so that no function here reaches itself but through the number that bounds how deep.
-use Rattle.std.specs.Prelude.{◌+◌, ◌-◌, ◌∷◌, ◌++◌, ◌==◌, if◌then◌else◌, List, [], ℕ, zero, suc, Bool, true, false, Option, Some, None, pos, neg_ℤ, length, nat_lt, nat_le, option_and_then, option_map, slice_get}
+use Rattle.std.specs.Prelude.{◌+◌, ◌-◌, ◌∷◌, ◌++◌, ◌==◌, if◌then◌else◌, List, [], ℕ, zero, suc, Bool, true, false, Option, Some, None, pos, neg_ℤ, length, nat_lt, nat_le, option_and_then, slice_get}
 use denote.Enum.Bare.{sameb}
 use Rattle.lq_value.specs.declared.scalar.Scalar.{Scalar}
 use Rattle.lq_value.specs.declared.scalar.Scalar.TheVariants as scalar

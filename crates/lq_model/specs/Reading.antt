@@ -1,5 +1,5 @@
 -- What is read from one line of a script.
-use Rattle.std.specs.Prelude.{◌≡◌, ◌∷◌, if◌then◌else◌, true, false, List, [], ℕ, Option, Some, None, option_and_then}
+use Rattle.std.specs.Prelude.{◌≡◌, ◌∷◌, if◌then◌else◌, true, false, List, [], ℕ, Option, Some, None}
 use Rattle.lq_model.specs.Depth.{is_deep}
 use Rattle.lq_model.specs.Grammar.{Part, Spells}
 use Rattle.lq_model.specs.Parsing.{rule_of, statement_of}

@@ -16,12 +16,13 @@ use Rattle.lq_value.specs.declared.value.Value.{Value}
 use Rattle.lq_value.specs.declared.value.Value.TheVariants as value
 use Rattle.lq_value.specs.declared.value.Value.TheVariants.{outs-Seq as outs-value-Seq}
 use Rattle.lq_model.specs.Machine.{columns_in, run_reply, schemas_of, served, world_of}
-use Rattle.lq_model.specs.Meaning.{Scope, World, bound, bound_stream, item_type_at, items_of, meaning, or_null, query_meaning, stream_meaning, stream_of, table_value}
+use Rattle.lq_model.specs.Meaning.{Scope, World, bound, bound_stream, continued, item_type_at, items_of, meaning, or_null, query_meaning, stream_meaning, stream_of, table_value}
 use Rattle.lq_model.specs.Served.{error_data, stream_data, stream_members}
 use Rattle.lq_model.specs.Stream.{Stream, each, then_stream}
 use Rattle.lq_model.specs.Typing.{item_of, item_type, type_of}
 use Rattle.lq_model.specs.Visible.{TableRow, cell_named, seen_rows, tables_as_seen, visible_to}
 use Rattle.lq_model.specs.declared.policy.PolicyParts.{PolicyParts}
+use Rattle.lq_model.specs.declared.syntax.Continuation.{Continuation}
 use Rattle.lq_model.specs.declared.syntax.Expr.{Expr}
 use Rattle.lq_model.specs.declared.syntax.Query.{Query}
 use Rattle.lq_model.proofs.MeaningLemmas.{seen_at}
@@ -77,7 +78,9 @@ module _ {R : Type 0} (world : World R) (q : Query Expr) (number : ℕ) (rows : 
       → as_data (stream_meaning (faulting world) q []) ≡ each (λ r. given_stream (given_at q.name (world.cell r) q.body.clauses q.body.last)) rows end.Done
   unfolding query_meaning
   query_rows over at =
-      ap (λ (s : Stream (Scope R)). as_data (last_at (faulting world) q.body.last (clauses_at (faulting world) q.body.clauses s))) (bound_rows over at)
+      ap (λ (rest : List (Continuation Expr)). as_data (continued (faulting world) type_of (meaning (faulting world)) rest (last_at (faulting world) q.body.last
+      (clauses_at (faulting world) q.body.clauses (bound_stream q.name (source_type (faulting world) q.source []) [] (stream_of (faulting world) (meaning (faulting world) q.source []))))))) over.ended
+      ∙ ap (λ (s : Stream (Scope R)). as_data (last_at (faulting world) q.body.last (clauses_at (faulting world) q.body.clauses s))) (bound_rows over at)
       ∙ body_rows (faulting world) q.name number q.body.clauses q.body.last rows over.clauses over.selected
 
 -- ---- the reply

@@ -1,5 +1,6 @@
 -- How the type check's types are read, and where it finds tables.
-use Rattle.std.proofs.Common.{◌≡◌, ◌==◌, ◌+◌, ◌∷◌, ◌&&◌, if◌then◌else◌, length, List, [], map, ℕ, Bool, true, false, Option, Some, None, ap, ◌∙◌, sym, refl, bytes_eq, nat_eq, is_some, option_and_then, true≢false}
+use Rattle.std.proofs.Common.{◌≡◌, ◌==◌, ◌+◌, ◌∷◌, ◌&&◌, if◌then◌else◌, length, List, [], map, ℕ, Bool, true, false, Option, Some, None, ap, ◌∙◌, sym, refl, bytes_eq, nat_eq, is_some, option_and_then, true≢false, suc, arith}
+use Rattle.std.proofs.lemmas.Bool.{eqb-true}
 use Rattle.std.specs.List.{position_from}
 use Rattle.std.specs.Cmp.Lexicographic.{pointwise}
 use Rattle.lq_value.specs.Tables.{Table, first_named}
@@ -14,6 +15,7 @@ use Rattle.lq_model.specs.Machine.{schemas_of}
 use Rattle.lq_model.specs.Typing.{Names, body_type, if_scalar, is_bool, is_bool_type, is_number, is_scalar, item_of, item_type, items_over, names_behind_all, row_table, selected_type, table_number, type_of, type_of_column, with_local}
 use Rattle.lq_model.specs.declared.syntax.Clause.{Clause}
 use Rattle.lq_model.specs.declared.syntax.Clause.TheVariants as clause
+use Rattle.lq_model.specs.declared.syntax.Continuation.{Continuation}
 use Rattle.lq_model.specs.declared.syntax.Expr.{Expr}
 use Rattle.lq_model.specs.declared.syntax.Last.{Last}
 use Rattle.lq_model.specs.declared.syntax.Last.TheVariants as last
@@ -146,6 +148,10 @@ second_true : (a b : Bool) → (a && b) ≡ true → b ≡ true
 second_true true b h = h
 second_true false b h = absurd (true≢false (sym h))
 
+no_rest : (rest : List (Continuation Expr)) → (length rest == 0) ≡ true → rest ≡ []
+no_rest [] h = refl
+no_rest (next ∷ rest) h = absurd (let none : suc (length rest) ≡ 0 = eqb-true _ 0 h in omega (arith, none))
+
 pub typed_body : (tables : List Schema) (q : Query Expr) (n : ℕ) → type_of q.source (top_names tables) ≡ Some (ty.Seq (ty.Row n))
     → is_typed_body (with_local (top_names tables) q.name (ty.Row n)) q ≡ true → IsOver tables q n
 typed_body tables q n h body = record {
@@ -153,6 +159,7 @@ typed_body tables q n h body = record {
   typed = ap is_some (over_rows tables q n h) ∙ some_body (top_names tables) (with_local (top_names tables) q.name (ty.Row n)) q ∙ body;
   clauses = second_true (length q.rest == 0) _ (first_true _ (selects_scalar (with_local (top_names tables) q.name (ty.Row n)) q.body.last) body);
   selected = second_true ((length q.rest == 0) && clauses_are_typed (with_local (top_names tables) q.name (ty.Row n)) q.body.clauses) _ body;
+  ended = no_rest q.rest (first_true _ (clauses_are_typed (with_local (top_names tables) q.name (ty.Row n)) q.body.clauses) (first_true _ (selects_scalar (with_local (top_names tables) q.name (ty.Row n)) q.body.last) body));
 }
 
 pub ruleset queries = (untyped_source, untyped_row, untyped_scalar, untyped_body, typed_body)

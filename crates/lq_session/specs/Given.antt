@@ -59,3 +59,4 @@ pub record IsOver (tables : List Schema) (q : Query Expr) (number : ℕ) : Type 
   pub typed : is_some (item_type type_of q (top_names tables)) ≡ true
   pub clauses : clauses_are_typed (with_local (top_names tables) q.name (ty.Row number)) q.body.clauses ≡ true
   pub selected : selects_scalar (with_local (top_names tables) q.name (ty.Row number)) q.body.last ≡ true
+  pub ended : q.rest ≡ []
