@@ -6,3 +6,4 @@ pub mod ScalarLemmas
 pub mod SourceLemmas
 pub mod ServesLemmas
 pub mod StepLemmas
+pub mod StoredLemmas

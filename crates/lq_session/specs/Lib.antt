@@ -7,3 +7,4 @@ pub mod Operands
 pub mod Roles
 pub mod RunGives
 pub mod States
+pub mod StoredMeanings

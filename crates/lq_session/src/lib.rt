@@ -3,6 +3,7 @@
 
 mod evaluate;
 mod line;
+pub mod meaning_laws;
 mod policies;
 mod reply;
 mod running;
