@@ -23,10 +23,10 @@ use Rattle.lq_value.specs.declared.value.Value.TheVariants as value
 use Rattle.lq_value.specs.declared.value.Value.TheVariants.{outs-Row as outs-value-Row, outs-Scalar, outs-Seq as outs-value-Seq}
 use Rattle.lq_model.specs.Machine.{State, columns_in, run_reply, schemas_of, seen_by_role, served, world_by}
 use Rattle.lq_model.specs.Meaning.{Binding, Scope, World, binding_of, bound, bound_stream, cell_value, clause_meaning, clauses_meaning, compared, condition_at, continued, item_type_at, items_of, last_meaning, meaning, member_value, name_value, names_at, on_ok, on_scalar, or_null, ordered_by, query_meaning, same_content, scalar_of, source_scopes, stream_meaning, stream_of, table_value, truth_of, typed_locals}
-use Rattle.lq_model.specs.MeaningLaws.{Every, HasCells, HasMeaning, HasStream, HaveTypes, HoldsRows, IsOf, is_scalar as is_scalar_value, is_row, is_sequence, IsOfScope, IsScalarOf, IsTypedTable, ServesMeanings, assuming}
+use Rattle.lq_model.specs.MeaningLaws.{Every, HasCells, HasMeaning, HasStream, HaveTypes, HoldsRows, SelectsScalars, IsOf, is_scalar as is_scalar_value, is_row, is_sequence, IsOfScope, IsScalarOf, IsTypedTable, ServesMeanings, assuming}
 use Rattle.lq_model.specs.Served.{stream_data}
 use Rattle.lq_model.specs.Stream.{Stream, each, kept, one, select_by, then_stream, where_by}
-use Rattle.lq_model.specs.Typing.{Names, Claim, TypeOf, Leads, LeadAll, Selects, GivesItems, IsTyped, of_integer, of_local, of_table, of_column, of_comparison, by_where, by_none, by_first, by_select, by_query, HasType, column_named, column_type, is_comparison, is_number, item_of, item_type, local_type, row_table, table_number, type_of, type_of_column, with_local}
+use Rattle.lq_model.specs.Typing.{Names, Claim, TypeOf, Leads, LeadAll, Selects, GivesItems, IsTyped, of_integer, of_local, of_table, of_column, of_comparison, by_where, by_none, by_first, by_select, by_query, HasType, column_named, column_type, is_comparison, is_number, is_scalar, item_of, item_type, local_type, row_table, table_number, type_of, type_of_column, with_local}
 use Rattle.lq_model.specs.Visible.{TableRow, cell_named, seen_from, seen_rows, tables_as_seen, visible_to}
 use Rattle.lq_model.specs.declared.policy.PolicyParts.{PolicyParts}
 use Rattle.lq_model.specs.declared.syntax.Binary.{Binary}
@@ -504,6 +504,41 @@ has_meaning world holds scope fits e t typed f g =
 pub has_stream : HasStream
 has_stream world holds scope fits q t typed f g =
     let items = means world holds f g typed scope (refl, fits) in (items.same, items.typed)
+
+row_is_no_scalar : (layer : Ty-F Ty) (n : ℕ) → row_table layer ≡ Some n → is_scalar layer ≡ true → ⊥
+row_is_no_scalar (Ty-F.Row m) n h k = true≢false (sym k)
+row_is_no_scalar layer n h k = none-some n h
+
+sequence_is_no_scalar : (layer : Ty-F Ty) (item : Ty) → item_of layer ≡ Some item → is_scalar layer ≡ true → ⊥
+sequence_is_no_scalar (Ty-F.Seq t) item h k = true≢false (sym k)
+sequence_is_no_scalar layer item h k = none-some item h
+
+scalar_value : {R : Type 0} (world : World R) (t : Ty) (v : Value R) → IsOf world t v → is_scalar (out-Ty t) ≡ true → (s : Scalar) × (v ≡ value.Scalar s)
+scalar_value world t _ (is_scalar_value _ s fits) scalar = (s, refl)
+scalar_value world t _ (is_row _ n r is cells) scalar = absurd (row_is_no_scalar (out-Ty t) n is scalar)
+scalar_value world t _ (is_sequence _ item xs e is items) scalar = absurd (sequence_is_no_scalar (out-Ty t) item is scalar)
+
+-- what a claim says of what is selected
+abbrev IsScalarClaim : Claim → Type 0
+IsScalarClaim (Selects names l t) = is_scalar (out-Ty t) ≡ true
+IsScalarClaim (GivesItems names q t) = is_scalar (out-Ty t) ≡ true
+IsScalarClaim claim = Unit {0}
+
+scalar_claim : {claim : Claim} → IsTyped claim → IsScalarClaim claim
+scalar_claim (by_select names l v t is typed scalar) = scalar
+scalar_claim (by_query names behind q item t source fresh clauses selected ended) = scalar_claim selected
+scalar_claim (of_integer names e n is) = tt
+scalar_claim (of_local names e x t is found) = tt
+scalar_claim (of_table names e x n is hidden found) = tt
+scalar_claim (of_column names e row c n t is typed found) = tt
+scalar_claim (of_comparison names e a b op s t is compares a_typed s_number b_typed t_number) = tt
+scalar_claim (by_where outer names c x is typed) = tt
+scalar_claim (by_none outer names) = tt
+scalar_claim (by_first outer before between behind c cs first others) = tt
+
+pub selects_scalars : SelectsScalars
+selects_scalars world holds scope fits q t typed f k v is =
+    scalar_value world t v ((has_stream world holds scope fits q t typed f f).1 k v is) (scalar_claim typed)
 
 -- ---- the rows that a role sees
 

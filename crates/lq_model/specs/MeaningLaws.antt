@@ -76,6 +76,12 @@ HasStream =
     → (f g : Fault)
     → (stream_meaning (assuming f world) q scope ≡ stream_meaning (assuming g world) q scope) × Every (IsOf world t) (stream_meaning (assuming f world) q scope).0
 
+-- the items of a typed query are scalars: what is served has a value for JSON
+abbrev pub SelectsScalars : Type 0
+SelectsScalars =
+    (world : World TableRow) → HoldsRows world → (scope : Scope TableRow) → IsOfScope world scope → (q : Query Expr) (t : Ty) → HasItemType (names_at world scope) q t
+    → (f : Fault) → Every (λ v. (s : Scalar) × (v ≡ value.Scalar s)) (stream_meaning (assuming f world) q scope).0
+
 -- ---- what the machine serves
 
 -- There is one cell a column, of its type.
