@@ -1,5 +1,5 @@
 -- Where a query's source has the type of a table's rows, it means the rows of that table as they are seen.
-use Rattle.std.proofs.Common.{◌≡◌, ◌+◌, ◌∷◌, ◌&&◌, if◌then◌else◌, List, [], map, ℕ, ℤ, Bool, true, false, Option, Some, None, ap, ◌∙◌, sym, refl, subst, slice_get, option_and_then, option_map, zero, suc, add-zero, arith}
+use Rattle.std.proofs.Common.{◌≡◌, ◌&&◌, if◌then◌else◌, List, [], map, ℕ, ℤ, Bool, true, false, Option, Some, None, ap, ◌∙◌, sym, refl, subst, slice_get, option_and_then, option_map}
 use Rattle.std.proofs.lemmas.Option.{slice_get-map}
 use Rattle.lq_value.specs.Tables.{Table}
 use Rattle.lq_value.specs.declared.table.Column.{Column}
@@ -11,8 +11,6 @@ use Rattle.lq_value.specs.declared.ty.Ty.TheVariants as ty
 use Rattle.lq_value.specs.declared.ty.Ty.TheVariants.{outs-Bool, outs-Int, outs-IntN, outs-Row, outs-Seq, outs-Str}
 use Rattle.lq_model.specs.Meaning.{World, meaning, table_value}
 use Rattle.lq_model.specs.Typing.{is_comparison, column_named, column_type, is_number, item_of, row_table, table_number, type_of, type_of_column}
-use Rattle.lq_model.specs.Visible.{seen_from, seen_rows}
-use Rattle.lq_model.specs.declared.policy.PolicyParts.{PolicyParts}
 use Rattle.lq_model.specs.declared.syntax.Binary.{Binary}
 use Rattle.lq_model.specs.declared.syntax.Expr.{Expr, ind-Expr, map-Expr, roll-Expr}
 use Rattle.lq_model.specs.declared.syntax.Expr.TheOpen.{Expr-F}
