@@ -434,7 +434,7 @@ module _ {R : Type 0} (world : World R) (holds : HoldsRows world) (f g : Fault) 
   means_all outer before between behind c cs first others place scopes all =
       let one = first place scopes all in
       let rest = others place (clause_in left place c scopes) one.named in
-      record { alike = rest.alike ∙ ap (clauses_in right place cs) one.alike; named = rest.named; }
+      record { alike = rest.alike ∙ ap (clauses_in right place cs) one.alike; named = rest.named }
 
   means_select : (names : Names) (v : Expr) (t : Ty) → Means (TypeOf names v t) → Means (Selects names (last.Select v) t)
   means_select names v t means scopes all = record {
@@ -462,9 +462,10 @@ module _ {R : Type 0} (world : World R) (holds : HoldsRows world) (f g : Fault) 
           ∙ ap (λ layer. or_null (item_of layer)) (outs-Seq item)
 
       binds : (v : Value R) → IsOf world item v → At (with_local names q.name item) (bound q.name found scope v)
-      binds v fits =
-          (ap (λ (m : Names). with_local m q.name item) at.0 ∙ ap (λ (t : Ty). with_local (names_at world scope) q.name t) (sym is_item),
-          every_more (λ b. IsOf world b.ty b.value) (record { name = q.name; ty = found; value = v }) scope (subst (λ (t : Ty). IsOf world t v) (sym is_item) fits) at.1)
+      binds v fits = (
+        ap (λ (m : Names). with_local m q.name item) at.0 ∙ ap (λ (t : Ty). with_local (names_at world scope) q.name t) (sym is_item),
+        every_more (λ b. IsOf world b.ty b.value) (record { name = q.name; ty = found; value = v }) scope (subst (λ (t : Ty). IsOf world t v) (sym is_item) fits) at.1,
+      )
 
   means_query : (names behind : Names) (q : Query Expr) (item t : Ty) → HasType names q.source (ty.Seq item) → Means (TypeOf names q.source (ty.Seq item))
       → Means (LeadAll names q.body.clauses (with_local names q.name item) behind) → Means (Selects behind q.body.last t) → q.rest ≡ [] → Means (GivesItems names q t)
@@ -490,7 +491,7 @@ module _ {R : Type 0} (world : World R) (holds : HoldsRows world) (f g : Fault) 
   means (of_comparison names e a b op s t is compares a_typed s_number b_typed t_number) =
       same_as names e (expr.Node (node.Binary op a b)) ty.Bool is (means_comparison names a b op s t compares s_number t_number (means a_typed) (means b_typed))
   means (by_where outer names c x is typed) = subst (λ (d : Clause Expr). Means (Leads outer d names names)) (sym is) (means_where outer names x (means typed))
-  means (by_none outer names) = λ place scopes all. record { alike = refl; named = all; }
+  means (by_none outer names) = λ place scopes all. record { alike = refl; named = all }
   means (by_first outer before between behind c cs first others) = means_all outer before between behind c cs (means first) (means others)
   means (by_select names l v t is typed scalar) = subst (λ (k : Last Expr). Means (Selects names k t)) (sym is) (means_select names v t (means typed))
   means (by_query names behind q item t source fresh clauses selected ended) = means_query names behind q item t source (means source) (means clauses) (means selected) ended
@@ -601,13 +602,14 @@ module _ (s : State) (typed : Every IsTypedTable s.tables) (unknown : Fault) whe
   unfolding tables_as_seen
   holds_seen n schema is =
       let found = table_with s.tables n schema is in
-      let at : slice_get (schemas_of s.tables) n ≡ Some found.0.schema = is ∙ ap Some (sym found.2) in
-      (seen_rows s.policies s.role n found.0.rows,
-      seen_at s.policies s.role 0 n s.tables ∙ ap (option_map (λ t. seen_rows s.policies s.role (0 + n) t.rows)) found.1
-      ∙ ap (λ m. Some (seen_rows s.policies s.role m found.0.rows)) (zero-add n),
-      every_map (λ row. HaveTypes found.0.schema.columns row.cells) (HasCells seen_world n) (λ row. record { table = n; row = row }) (λ row fit. column_by n found.0 row at fit)
-      (filter (λ row. visible_to s.policies s.role n row.cells) found.0.rows)
-      (every_filter (λ row. HaveTypes found.0.schema.columns row.cells) (λ row. visible_to s.policies s.role n row.cells) found.0.rows (typed n found.0 found.1)))
+      let at : slice_get (schemas_of s.tables) n ≡ Some found.0.schema = is ∙ ap Some (sym found.2) in (
+        seen_rows s.policies s.role n found.0.rows,
+        seen_at s.policies s.role 0 n s.tables ∙ ap (option_map (λ t. seen_rows s.policies s.role (0 + n) t.rows)) found.1
+            ∙ ap (λ m. Some (seen_rows s.policies s.role m found.0.rows)) (zero-add n),
+        every_map (λ row. HaveTypes found.0.schema.columns row.cells) (HasCells seen_world n) (λ row. record { table = n; row = row }) (λ row fit. column_by n found.0 row at fit)
+            (filter (λ row. visible_to s.policies s.role n row.cells) found.0.rows)
+            (every_filter (λ row. HaveTypes found.0.schema.columns row.cells) (λ row. visible_to s.policies s.role n row.cells) found.0.rows (typed n found.0 found.1)),
+      )
 
 pub serves_meanings : ServesMeanings
 unfolding run_reply
