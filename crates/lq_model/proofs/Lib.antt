@@ -8,6 +8,7 @@ pub mod LexingLemmas
 pub mod LiteralLemmas
 pub mod MeaningLemmas
 pub mod Opens
+pub mod OperationLemmas
 pub mod OutputLemmas
 pub mod Pieces
 pub mod PolicyLemmas

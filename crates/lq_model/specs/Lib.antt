@@ -6,6 +6,8 @@ pub mod LexingLaws
 pub mod Machine
 pub mod Meaning
 pub mod MeaningLaws
+pub mod OperationLaws
+pub mod Operations
 pub mod Output
 pub mod Parsing
 pub mod PolicyLaws

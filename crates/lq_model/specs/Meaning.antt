@@ -1,6 +1,5 @@
 -- «Scalar meaning» and «Clause meaning»: what expressions and queries mean (ECMA-334, expressions and query expressions).
-use Rattle.std.specs.Prelude.{◌∷◌, if◌then◌else◌, not, List, [], map, ℕ, ℤ, Bool, true, false, Option, Some, None, Result, Ok, Err, slice_get, option_and_then, int_lt, int_le}
-use Rattle.std.specs.Ordering.{int_eq}
+use Rattle.std.specs.Prelude.{◌∷◌, if◌then◌else◌, List, [], map, ℕ, Bool, Option, Some, None, Result, Ok, Err, slice_get, option_and_then}
 use Rattle.std.specs.Str.{bytes_eq}
 use Rattle.lq_value.specs.declared.scalar.Scalar.{Scalar}
 use Rattle.lq_value.specs.declared.scalar.Scalar.TheVariants as scalar
@@ -13,13 +12,12 @@ use Rattle.lq_value.specs.declared.value.Fault.TheVariants as fault
 use Rattle.lq_value.specs.declared.value.Value.{Value, out-Value}
 use Rattle.lq_value.specs.declared.value.Value.TheOpen.{Value-F}
 use Rattle.lq_value.specs.declared.value.Value.TheVariants as value
+pub use Rattle.lq_model.specs.Operations.{compared, on_ok, ordered_by, same_content, truth_of}
 use Rattle.lq_model.specs.Stream.{Stream, select_by, where_by}
 use Rattle.lq_model.specs.Typing.{Names, item_of, table_number, type_of}
 use Rattle.lq_model.specs.declared.syntax.Clause.{Clause}
 use Rattle.lq_model.specs.declared.syntax.Clause.TheVariants as clause
 use Rattle.lq_model.specs.declared.syntax.Body.{Body}
-use Rattle.lq_model.specs.declared.syntax.Binary.{Binary}
-use Rattle.lq_model.specs.declared.syntax.Binary.TheVariants as binary
 use Rattle.lq_model.specs.declared.syntax.Continuation.{Continuation}
 use Rattle.lq_model.specs.declared.syntax.Expr.{Expr, para-Expr}
 use Rattle.lq_model.specs.declared.syntax.Expr.TheOpen.{Expr-F}
@@ -51,51 +49,9 @@ pub record World (R : Type 0) : Type 0 where
 abbrev pub Meaning : Type 0 → Type 0
 Meaning R = Scope R → Result (Value R) Fault
 
--- operands are evaluated from left to right, and the first fault is the result
-abbrev pub on_ok : {A B : Type 0} → Result A Fault → (A → Result B Fault) → Result B Fault
-on_ok (Ok x) next = next x
-on_ok (Err f) next = Err f
-
 abbrev pub or_null : Option Ty → Ty
 or_null None = ty.Null
 or_null (Some t) = t
-
--- ---- operators
-
--- what operators give to two scalars; scalars that no typed operator takes give what is unknown
-module _ (unknown : Fault) where
-  -- `<` of two ints; false where an operand is null
-  abbrev pub ordered_by : (ℤ → ℤ → Bool) → Scalar → Scalar → Result Bool Fault
-  ordered_by test (scalar.Int m) (scalar.Int n) = Ok (test m n)
-  ordered_by test scalar.Null b = Ok false
-  ordered_by test a scalar.Null = Ok false
-  ordered_by test a b = Err unknown
-
-  -- `==`: true for two nulls and for equal contents
-  abbrev pub same_content : Scalar → Scalar → Result Bool Fault
-  same_content scalar.Null scalar.Null = Ok true
-  same_content (scalar.Int m) (scalar.Int n) = Ok (int_eq m n)
-  same_content (scalar.Bool true) (scalar.Bool b) = Ok b
-  same_content (scalar.Bool false) (scalar.Bool b) = Ok (not b)
-  same_content (scalar.Text s) (scalar.Text t) = Ok (bytes_eq s t)
-  same_content scalar.Null b = Ok false
-  same_content a scalar.Null = Ok false
-  same_content a b = Err unknown
-
-  -- what an operator that compares gives; others give nothing yet
-  abbrev pub compared : Binary → Scalar → Scalar → Result Bool Fault
-  compared binary.Less a b = ordered_by int_lt a b
-  compared binary.Greater a b = ordered_by int_lt b a
-  compared binary.LessOrEqual a b = ordered_by int_le a b
-  compared binary.GreaterOrEqual a b = ordered_by int_le b a
-  compared binary.Equal a b = same_content a b
-  compared binary.NotEqual a b = on_ok (same_content a b) (λ same. Ok (not same))
-  compared op a b = Err unknown
-
-  -- the truth value of a condition
-  abbrev pub truth_of : Scalar → Result Bool Fault
-  truth_of (scalar.Bool b) = Ok b
-  truth_of s = Err unknown
 
 module _ {R : Type 0} where
   -- the local name's binding

@@ -1,13 +1,15 @@
 //! What every answer of the server means: tokens, grammar, types, meanings, policies, the session
 //! machine and its output. The definitions stand in `specs/`, the laws about them are the contracts
-//! of the functions of `lexing_laws`, `grammar_laws`, `typing_laws`, `meaning_laws`, `policy_laws`
-//! and `session_laws`, and tokens, syntax trees, operator calls and policies are plain types.
+//! of the functions of `lexing_laws`, `grammar_laws`, `typing_laws`, `operation_laws`,
+//! `meaning_laws`, `policy_laws` and `session_laws`, and tokens, syntax trees, operator calls and policies are plain types.
 #![tactic(auto)]
 
 mod calls;
 pub mod grammar_laws;
 pub mod lexing_laws;
 pub mod meaning_laws;
+mod operation;
+pub mod operation_laws;
 mod policy;
 pub mod policy_laws;
 pub mod session_laws;
@@ -16,6 +18,7 @@ mod token;
 pub mod typing_laws;
 
 pub use calls::{Call, Operator, Paired, Part};
+pub use operation::Op;
 pub use policy::{Policy, PolicyParts, Role, TablePart};
 pub use syntax::{
     Argument, Binary, Body, Clause, Continuation, Expr, Field, Infix, Join, Last, Level, Node,

@@ -1,0 +1,15 @@
+//! What operators and members give to the values of their operands.
+#![tactic(auto)]
+
+mod arithmetic;
+mod comparison;
+mod error;
+mod operations;
+mod scalar_ref;
+mod texts;
+
+pub use comparison::compared;
+pub use error::ScalarError;
+pub use lq_model::Op;
+pub use operations::apply;
+pub use scalar_ref::ScalarRef;

@@ -1,0 +1,103 @@
+//! An operator or member, applied to the values of its operands.
+ghost use Rattle.std.specs.Prelude.{◌≡◌};
+ghost use Rattle.lq_value.specs.declared.value.Fault.TheVariants as fault;
+ghost use Rattle.lq_model.specs.Operations.{applied, compared, has_value, of_one, of_two, truth, truth_of, value_of};
+ghost use Rattle.lq_scalar.specs.Operands.{IsAnswer};
+
+use crate::arithmetic::{arithmetic, negated};
+use crate::comparison::compared;
+use crate::error::ScalarError;
+use crate::scalar_ref::ScalarRef;
+use crate::texts::{joined, length_of, searched};
+use lq_model::{Binary, Op};
+use lq_value::{Fault, Scalar};
+use std::alloc::Global;
+
+/// What an operator or member gives to the values of its operands, in their order: its result or
+/// its fault. `+` of texts alone takes memory.
+///
+/// Values of another number or of other kinds than the operator takes, which no typed expression
+/// has, give NullReference.
+pub fn apply(alloc: Global, op: Op, values: &[Scalar]) -> Result<Scalar, ScalarError>
+    ensures { IsAnswer (applied fault.NullReference op values.now) result }
+{
+    match values {
+        [operand] => Ok(of_one(op, operand)?),
+        [left, right] => of_two(alloc, op, left, right),
+        _ => Err(ScalarError::Fault(Fault::NullReference)),
+    }
+}
+
+fn of_one(op: Op, operand: &Scalar) -> Result<Scalar, Fault>
+    ensures { result ≡ of_one fault.NullReference op operand.now }
+{
+    match op {
+        Op::Not => Ok(Scalar::Bool(!truth_of(operand)?)),
+        Op::Minus => negated(operand),
+        Op::HasValue => Ok(Scalar::Bool(has_value(operand)?)),
+        Op::Value => value_of(operand),
+        Op::Length => length_of(operand),
+        _ => Err(Fault::NullReference),
+    }
+}
+
+fn of_two(alloc: Global, op: Op, left: &Scalar, right: &Scalar) -> Result<Scalar, ScalarError>
+    ensures { IsAnswer (of_two fault.NullReference op left.now right.now) result }
+{
+    match op {
+        Op::Multiply | Op::Divide | Op::Remainder | Op::Add | Op::Subtract => {
+            Ok(arithmetic(op, left, right)?)
+        }
+        Op::Concat => joined(alloc, left, right),
+        Op::Less => Ok(compared_as(Binary::Less, left, right)?),
+        Op::Greater => Ok(compared_as(Binary::Greater, left, right)?),
+        Op::LessOrEqual => Ok(compared_as(Binary::LessOrEqual, left, right)?),
+        Op::GreaterOrEqual => Ok(compared_as(Binary::GreaterOrEqual, left, right)?),
+        Op::Equal => Ok(compared_as(Binary::Equal, left, right)?),
+        Op::NotEqual => Ok(compared_as(Binary::NotEqual, left, right)?),
+        Op::StartsWith | Op::EndsWith | Op::Contains => {
+            Ok(Scalar::Bool(searched(op, left, right)?))
+        }
+        Op::Not | Op::Minus | Op::HasValue | Op::Value | Op::Length => {
+            Err(ScalarError::Fault(Fault::NullReference))
+        }
+    }
+}
+
+fn compared_as(operator: Binary, left: &Scalar, right: &Scalar) -> Result<Scalar, Fault>
+    ensures { result ≡ truth fault.NullReference (compared fault.NullReference operator left.now right.now) }
+{
+    let truth = compared(operator, ScalarRef::of(left), ScalarRef::of(right))?;
+    Ok(Scalar::Bool(truth))
+}
+
+fn truth_of(operand: &Scalar) -> Result<bool, Fault>
+    ensures { result ≡ truth_of fault.NullReference operand.now }
+{
+    match operand {
+        Scalar::Bool(truth) => Ok(*truth),
+        _ => Err(Fault::NullReference),
+    }
+}
+
+/// Whether an `int?` has a value.
+fn has_value(operand: &Scalar) -> Result<bool, Fault>
+    ensures { result ≡ has_value fault.NullReference operand.now }
+{
+    match operand {
+        Scalar::Int(_) => Ok(true),
+        Scalar::Null => Ok(false),
+        _ => Err(Fault::NullReference),
+    }
+}
+
+/// The value of an `int?`.
+fn value_of(operand: &Scalar) -> Result<Scalar, Fault>
+    ensures { result ≡ value_of fault.NullReference operand.now }
+{
+    match operand {
+        Scalar::Int(number) => Ok(Scalar::Int(*number)),
+        Scalar::Null => Err(Fault::InvalidOperation),
+        _ => Err(Fault::NullReference),
+    }
+}
