@@ -22,7 +22,8 @@ use Rattle.lq_value.specs.declared.value.Value.{Value, out-Value}
 use Rattle.lq_value.specs.declared.value.Value.TheVariants as value
 use Rattle.lq_value.specs.declared.value.Value.TheVariants.{outs-Row as outs-value-Row, outs-Scalar, outs-Seq as outs-value-Seq}
 use Rattle.lq_model.specs.Machine.{State, columns_in, run_reply, schemas_of, seen_by_role, served, world_by}
-use Rattle.lq_model.specs.Meaning.{Binding, Scope, World, binding_of, bound, bound_stream, cell_value, clause_meaning, clauses_meaning, compared, condition_at, continued, item_type_at, items_of, last_meaning, meaning, member_value, name_value, names_at, on_ok, on_scalar, or_null, ordered_by, query_meaning, same_content, scalar_of, source_scopes, stream_meaning, stream_of, table_value, truth_of, typed_locals}
+use Rattle.lq_model.specs.Meaning.{Binding, Scope, World, binding_of, bound, bound_stream, cell_value, clause_meaning, clauses_meaning, condition_at, continued, item_type_at, items_of, last_meaning, meaning, member_value, name_value, names_at, on_scalar, or_null, query_meaning, scalar_of, source_scopes, stream_meaning, stream_of, table_value, typed_locals}
+use Rattle.lq_model.specs.Operations.{compared, on_ok, ordered_by, same_content, truth_of}
 use Rattle.lq_model.specs.MeaningLaws.{Every, HasCells, HasMeaning, HasStream, HaveTypes, HoldsRows, SelectsScalars, IsOf, is_scalar as is_scalar_value, is_row, is_sequence, IsOfScope, IsScalarOf, IsTypedTable, ServesMeanings, assuming}
 use Rattle.lq_model.specs.Served.{stream_data}
 use Rattle.lq_model.specs.Stream.{Stream, each, kept, one, select_by, then_stream, where_by}

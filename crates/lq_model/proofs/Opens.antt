@@ -5,7 +5,8 @@ use Rattle.lq_value.specs.declared.ty.Ty.{Ty, out-Ty}
 use Rattle.lq_value.specs.declared.ty.Ty.TheVariants as ty
 use Rattle.lq_value.specs.declared.value.Value.{out-Value}
 use Rattle.lq_value.specs.declared.value.Value.TheVariants as value
-use Rattle.lq_model.specs.Meaning.{Meaning, Meant, Scope, World, binding_of, compared, meaning, meaning_step, member_value, name_value, on_ok, on_scalar}
+use Rattle.lq_model.specs.Meaning.{Meaning, Meant, Scope, World, binding_of, meaning, meaning_step, member_value, name_value, on_scalar}
+use Rattle.lq_model.specs.Operations.{compared, on_ok}
 use Rattle.lq_model.specs.Typing.{Names, column_type, is_comparison, is_number, local_type, name_type, row_table, type_of, type_step}
 use Rattle.lq_model.specs.declared.syntax.Binary.{Binary}
 use Rattle.lq_model.specs.declared.syntax.Expr.{Expr, fold_out-Expr, map-Expr, out-Expr, para-roll-Expr, roll-Expr}

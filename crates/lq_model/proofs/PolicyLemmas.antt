@@ -19,7 +19,8 @@ use Rattle.lq_value.specs.declared.value.Value.TheOpen.{Value-F}
 use Rattle.lq_value.specs.declared.value.Value.TheVariants.{outs-Scalar, rolls-Scalar}
 use Rattle.lq_value.specs.declared.value.Value.TheVariants as value
 use Rattle.lq_value.specs.declared.value.Value.TheViews.{roll-out-Value}
-use Rattle.lq_model.specs.Meaning.{World, on_ok, scalar_of, truth_of}
+use Rattle.lq_model.specs.Meaning.{World, scalar_of}
+use Rattle.lq_model.specs.Operations.{on_ok, truth_of}
 use Rattle.lq_model.specs.PolicyLaws.{FindsCells, IsDeniedByDefault, IsDeniedToStrangers, NarrowsByRestriction, with_policy, Filters, end, keeps, drops, SeesEachTable, SeesVisibleRows, TellsVisible}
 use Rattle.lq_model.specs.Visible.{Applies, Asked, HasCell, IsAdmitted, IsTrueOn, IsVisible, unsecured, admitted, admit, admitted_to, allows, applies, cell_named, is_admitted, is_listed, is_true, permits, rule_holds, seen_from, seen_rows, tables_as_seen, visible_to, rule_world}
 use Rattle.lq_model.specs.declared.policy.Policy.{Policy}

@@ -12,7 +12,7 @@ use Rattle.lq_value.specs.declared.value.Fault.TheVariants as fault
 use Rattle.lq_value.specs.declared.value.Value.{Value, out-Value}
 use Rattle.lq_value.specs.declared.value.Value.TheOpen.{Value-F}
 use Rattle.lq_value.specs.declared.value.Value.TheVariants as value
-pub use Rattle.lq_model.specs.Operations.{compared, on_ok, ordered_by, same_content, truth_of}
+use Rattle.lq_model.specs.Operations.{compared, on_ok, truth_of}
 use Rattle.lq_model.specs.Stream.{Stream, select_by, where_by}
 use Rattle.lq_model.specs.Typing.{Names, item_of, table_number, type_of}
 use Rattle.lq_model.specs.declared.syntax.Clause.{Clause}

@@ -11,11 +11,7 @@ use lq_value::Fault;
 /// What two scalars compare as: `<` and the like of numbers, `==` and `!=` of scalars of one kind
 /// or null. Takes no memory, and copies no text. Any other operator and any other operands, which
 /// no typed expression has, give NullReference.
-pub fn compared(
-    operator: Binary,
-    left: ScalarRef<'_>,
-    right: ScalarRef<'_>,
-) -> Result<bool, Fault>
+pub fn compared(operator: Binary, left: ScalarRef<'_>, right: ScalarRef<'_>) -> Result<bool, Fault>
     ensures { result ≡ compared fault.NullReference operator (shown_scalar left.entry) (shown_scalar right.entry) }
 {
     match operator {

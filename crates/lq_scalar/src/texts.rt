@@ -14,11 +14,7 @@ use lq_value::{Fault, Scalar, Txt};
 use std::alloc::{AllocError, Global};
 
 /// Two texts, one behind the other; null is taken as empty.
-pub(crate) fn joined(
-    alloc: Global,
-    left: &Scalar,
-    right: &Scalar,
-) -> Result<Scalar, ScalarError>
+pub(crate) fn joined(alloc: Global, left: &Scalar, right: &Scalar) -> Result<Scalar, ScalarError>
     ensures { IsAnswer (joined fault.NullReference left.now right.now) result }
 {
     let text = match (left, right) {
@@ -58,7 +54,10 @@ fn utf16_units(text: &str) -> Option<i32>
 {
     let mut units: u32 = 0;
     for c in text.chars() {
-        units = units.checked_add(c.len_utf16() as u32)?;
+        let Some(counted) = units.checked_add(c.len_utf16() as u32) else {
+            return None;
+        };
+        units = counted;
     }
     i32::try_from(units).ok()
 }

@@ -12,7 +12,8 @@ use Rattle.lq_value.specs.declared.value.Value.{Value, out-Value}
 use Rattle.lq_value.specs.declared.value.Value.TheOpen.{Value-F}
 use Rattle.lq_value.specs.declared.value.Value.TheVariants.{outs-Row, outs-Scalar, outs-Seq}
 use Rattle.lq_value.specs.declared.value.Value.TheVariants as value
-use Rattle.lq_model.specs.Meaning.{Scope, World, cell_value, compared, meaning, member_value, name_value, on_ok, scalar_of, sequence, table_value, truth_at as value_truth, truth_of}
+use Rattle.lq_model.specs.Meaning.{Scope, World, cell_value, meaning, member_value, name_value, scalar_of, sequence, table_value, truth_at as value_truth}
+use Rattle.lq_model.specs.Operations.{compared, on_ok, truth_of}
 use Rattle.lq_model.specs.Stream.{Stream}
 use Rattle.lq_model.specs.declared.syntax.Binary.{Binary}
 use Rattle.lq_model.specs.declared.syntax.Expr.{Expr, fold_out-Expr, ind-Expr, map-Expr, out-Expr, roll-Expr}

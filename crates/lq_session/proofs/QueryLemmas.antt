@@ -12,7 +12,8 @@ use Rattle.lq_value.specs.declared.value.End.TheVariants as end
 use Rattle.lq_value.specs.declared.value.Fault.{Fault}
 use Rattle.lq_value.specs.declared.value.Value.{Value}
 use Rattle.lq_value.specs.declared.value.Value.TheVariants.{outs-Scalar}
-use Rattle.lq_model.specs.Meaning.{Scope, World, clause_meaning, clauses_meaning, last_meaning, meaning, on_ok, truth_at as value_truth}
+use Rattle.lq_model.specs.Meaning.{Scope, World, clause_meaning, clauses_meaning, last_meaning, meaning, truth_at as value_truth}
+use Rattle.lq_model.specs.Operations.{on_ok}
 use Rattle.lq_model.specs.Served.{item_data, layer_data, scalar_data}
 use Rattle.lq_model.specs.Stream.{Stream, each, kept, one, then_ending, then_stream}
 use Rattle.lq_model.specs.Typing.{Names, type_of, with_local}

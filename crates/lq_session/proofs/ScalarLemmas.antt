@@ -10,7 +10,8 @@ use Rattle.lq_value.specs.declared.value.Fault.TheVariants as fault
 use Rattle.lq_value.specs.declared.value.Value.{Value, out-Value}
 use Rattle.lq_value.specs.declared.value.Value.TheVariants as value
 use Rattle.lq_value.specs.declared.value.Value.TheVariants.{outs-Row as outs-value-Row, outs-Scalar}
-use Rattle.lq_model.specs.Meaning.{Scope, World, cell_value, compared, meaning, member_value, on_ok, scalar_of}
+use Rattle.lq_model.specs.Meaning.{Scope, World, cell_value, meaning, member_value, scalar_of}
+use Rattle.lq_model.specs.Operations.{compared, on_ok}
 use Rattle.lq_model.specs.Typing.{Names, is_scalar, name_type, table_number, type_of}
 use Rattle.lq_model.specs.declared.syntax.Binary.{Binary}
 use Rattle.lq_model.specs.declared.syntax.Expr.{Expr, ind-Expr, map-Expr, roll-Expr}

@@ -6,7 +6,7 @@ use Rattle.lq_value.specs.declared.scalar.Scalar.{Scalar}
 use Rattle.lq_value.specs.declared.scalar.Scalar.TheVariants as scalar
 use Rattle.lq_value.specs.declared.value.Fault.{Fault}
 use Rattle.lq_value.specs.declared.value.Fault.TheVariants as fault
-use Rattle.lq_model.specs.Meaning.{compared, on_ok, truth_of}
+use Rattle.lq_model.specs.Operations.{compared, on_ok, truth_of}
 use Rattle.lq_model.specs.Visible.{cell_named}
 use Rattle.lq_model.specs.declared.syntax.Clause.{Clause}
 use Rattle.lq_model.specs.declared.syntax.Clause.TheVariants as clause

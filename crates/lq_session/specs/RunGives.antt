@@ -4,9 +4,9 @@ use Rattle.lq_value.specs.declared.scalar.Scalar.{Scalar}
 use Rattle.lq_value.specs.declared.table.Row.{Row}
 use Rattle.lq_value.specs.declared.value.Fault.{Fault}
 use Rattle.lq_session.specs.Given.{given_to}
-use Rattle.lq_session.specs.Operands.{shown_scalar}
+use Rattle.lq_scalar.specs.Operands.{shown_scalar}
 use Rattle.lq_session.specs.Roles.{number_of}
-use Rattle.lq_session.specs.declared.evaluate.ScalarRef.{ScalarRef}
+use Rattle.lq_scalar.specs.declared.scalar_ref.ScalarRef.{ScalarRef}
 use Rattle.lq_session.specs.declared.running.Run.{Run}
 
 abbrev pub shown_given : Result (Option ScalarRef) Fault → Result (Option Scalar) Fault

@@ -1,13 +1,15 @@
 //! What an expression is on one row: the scalar meaning of conditions, of what a query selects, and of rules.
-ghost use Rattle.std.specs.Prelude.{◌≡◌, map, int_lt, int_le};
+ghost use Rattle.std.specs.Prelude.{◌≡◌, map};
 ghost use Rattle.std.specs.Option.{option_copied};
 ghost use Rattle.lq_value.specs.declared.value.Fault.TheVariants as fault;
-ghost use Rattle.lq_model.specs.Meaning.{compared, ordered_by, same_content, truth_of};
+ghost use Rattle.lq_model.specs.Operations.{truth_of};
 ghost use Rattle.lq_model.specs.Visible.{cell_named};
 ghost use Rattle.lq_session.specs.OneRow.{scalar_in};
-ghost use Rattle.lq_session.specs.Operands.{shown_operand, shown_scalar, shown_scalars};
+ghost use Rattle.lq_scalar.specs.Operands.{shown_scalar};
+ghost use Rattle.lq_session.specs.Operands.{shown_operand, shown_scalars};
 
-use lq_model::{Binary, Expr, Node};
+use lq_model::{Expr, Node};
+use lq_scalar::{ScalarRef, compared};
 use lq_value::{Column, Fault, Scalar, Txt};
 
 /// What has the name of a column.
@@ -37,15 +39,6 @@ impl Named for Column {
     }
 }
 
-/// A scalar as an operand, borrowed from the cell that it stands in.
-#[derive(Clone, Copy, Drop)]
-pub(crate) enum ScalarRef<'a> {
-    Null,
-    Int(i32),
-    Bool(bool),
-    Text(&'a Txt),
-}
-
 /// What an expression is on a row: the row itself, or a scalar.
 #[derive(Clone, Copy, Drop)]
 pub(crate) enum Operand<'a> {
@@ -59,18 +52,6 @@ pub(crate) struct OneRow<'a, C> {
     pub(crate) variable: &'a [u8],
     pub(crate) columns: &'a [C],
     pub(crate) cells: &'a [Scalar],
-}
-
-/// The scalar of a cell.
-fn scalar_of(cell: &Scalar) -> ScalarRef<'_>
-    ensures { shown_scalar result ≡ cell.now }
-{
-    match cell {
-        Scalar::Null => ScalarRef::Null,
-        Scalar::Int(number) => ScalarRef::Int(*number),
-        Scalar::Bool(truth) => ScalarRef::Bool(*truth),
-        Scalar::Text(text) => ScalarRef::Text(text),
-    }
 }
 
 /// The cell under the column of this name.
@@ -90,60 +71,6 @@ fn cell_named<'a, C: Named>(columns: &[C], cells: &'a [Scalar], name: &[u8]) -> 
         cells_left = other_cells;
     }
     None
-}
-
-/// What two scalars compare as.
-fn compared(operator: Binary, left: ScalarRef<'_>, right: ScalarRef<'_>) -> Result<bool, Fault>
-    ensures { result ≡ compared fault.NullReference operator (shown_scalar left.entry) (shown_scalar right.entry) }
-{
-    match operator {
-        Binary::Less => is_less(left, right),
-        Binary::Greater => is_less(right, left),
-        Binary::LessOrEqual => is_at_most(left, right),
-        Binary::GreaterOrEqual => is_at_most(right, left),
-        Binary::Equal => is_same(left, right),
-        Binary::NotEqual => match is_same(left, right) {
-            Ok(same) => Ok(!same),
-            Err(fault) => Err(fault),
-        },
-        _ => Err(Fault::NullReference),
-    }
-}
-
-/// Whether the first int is less than the second; nothing is less than null or more.
-fn is_less(left: ScalarRef<'_>, right: ScalarRef<'_>) -> Result<bool, Fault>
-    ensures { result ≡ ordered_by fault.NullReference int_lt (shown_scalar left.entry) (shown_scalar right.entry) }
-{
-    match (left, right) {
-        (ScalarRef::Int(m), ScalarRef::Int(n)) => Ok(m < n),
-        (ScalarRef::Null, _) | (_, ScalarRef::Null) => Ok(false),
-        _ => Err(Fault::NullReference),
-    }
-}
-
-/// Whether the first int is at most the second; nothing is at most null, and null is at most nothing.
-fn is_at_most(left: ScalarRef<'_>, right: ScalarRef<'_>) -> Result<bool, Fault>
-    ensures { result ≡ ordered_by fault.NullReference int_le (shown_scalar left.entry) (shown_scalar right.entry) }
-{
-    match (left, right) {
-        (ScalarRef::Int(m), ScalarRef::Int(n)) => Ok(m <= n),
-        (ScalarRef::Null, _) | (_, ScalarRef::Null) => Ok(false),
-        _ => Err(Fault::NullReference),
-    }
-}
-
-/// Whether both are null or have the same content.
-fn is_same(left: ScalarRef<'_>, right: ScalarRef<'_>) -> Result<bool, Fault>
-    ensures { result ≡ same_content fault.NullReference (shown_scalar left.entry) (shown_scalar right.entry) }
-{
-    match (left, right) {
-        (ScalarRef::Null, ScalarRef::Null) => Ok(true),
-        (ScalarRef::Int(m), ScalarRef::Int(n)) => Ok(m == n),
-        (ScalarRef::Bool(a), ScalarRef::Bool(b)) => Ok(a == b),
-        (ScalarRef::Text(s), ScalarRef::Text(t)) => Ok(s.as_bytes() == t.as_bytes()),
-        (ScalarRef::Null, _) | (_, ScalarRef::Null) => Ok(false),
-        _ => Err(Fault::NullReference),
-    }
 }
 
 /// The scalar that an operand is; a row is none.
@@ -192,7 +119,7 @@ impl<'a, C: Named> OneRow<'a, C> {
     {
         match before {
             Operand::Row => match cell_named(self.columns, self.cells, column) {
-                Some(cell) => Ok(Operand::Scalar(scalar_of(cell))),
+                Some(cell) => Ok(Operand::Scalar(ScalarRef::of(cell))),
                 None => Err(Fault::NullReference),
             },
             Operand::Scalar(_) => Err(Fault::NullReference),

@@ -5,9 +5,9 @@ ghost use Rattle.serde_json.specs.View.{view};
 ghost use Rattle.serde_json.specs.Written.{comma_if, compact_text};
 ghost use Rattle.lq_model.specs.Served.{error_data, line_of, scalar_data, stream_members};
 ghost use Rattle.lq_session.specs.Items.{listed, opening};
-ghost use Rattle.lq_session.specs.Operands.{shown_scalar};
+ghost use Rattle.lq_scalar.specs.Operands.{shown_scalar};
 
-use crate::evaluate::ScalarRef;
+use lq_scalar::ScalarRef;
 use lq_value::{End, Fault};
 use serde_json::{Map, Value};
 use std::alloc::{AllocError, Global};

@@ -4,10 +4,11 @@ ghost use Rattle.lq_model.specs.Visible.{cell_named};
 ghost use Rattle.lq_session.specs.OneRow.{passes, selected};
 ghost use Rattle.lq_session.specs.Operands.{shown_scalars};
 
-use crate::evaluate::{Named, OneRow, ScalarRef};
+use crate::evaluate::{Named, OneRow};
 use crate::policies::{Action, Policies, RoleId};
 use crate::reply::push_item;
 use lq_model::{Clause, Expr, Last, Query};
+use lq_scalar::ScalarRef;
 use lq_store::{Column, Row};
 use lq_value::{End, Fault};
 use std::alloc::{AllocError, Global};
