@@ -22,12 +22,12 @@ use Rattle.lq_value.specs.declared.value.Value.{Value, out-Value}
 use Rattle.lq_value.specs.declared.value.Value.TheVariants as value
 use Rattle.lq_value.specs.declared.value.Value.TheVariants.{outs-Row as outs-value-Row, outs-Scalar, outs-Seq as outs-value-Seq}
 use Rattle.lq_model.specs.Machine.{State, columns_in, run_reply, schemas_of, seen_by_role, served, world_by}
-use Rattle.lq_model.specs.Meaning.{Binding, Scope, World, binding_of, bound, bound_stream, cell_value, clause_meaning, clauses_meaning, condition_at, continued, item_type_at, items_of, last_meaning, meaning, member_value, name_value, names_at, on_scalar, or_null, query_meaning, scalar_of, source_scopes, stream_meaning, stream_of, table_value, typed_locals}
+use Rattle.lq_model.specs.Meaning.{Binding, Scope, World, binding_of, bound, bound_stream, cell_value, clause_meaning, clauses_meaning, condition_at, continued, item_type_at, items_of, last_meaning, meaning, member_value, name_value, names_at, on_scalar, or_null, query_meaning, scalar_of, source_scopes, stream_meaning, stream_of, table_value, truth_value, typed_locals}
 use Rattle.lq_model.specs.Operations.{compared, on_ok, ordered_by, same_content, truth_of}
 use Rattle.lq_model.specs.MeaningLaws.{Every, HasCells, HasMeaning, HasStream, HaveTypes, HoldsRows, SelectsScalars, IsOf, is_scalar as is_scalar_value, is_row, is_sequence, IsOfScope, IsScalarOf, IsTypedTable, ServesMeanings, assuming}
 use Rattle.lq_model.specs.Served.{stream_data}
 use Rattle.lq_model.specs.Stream.{Stream, each, kept, one, select_by, then_stream, where_by}
-use Rattle.lq_model.specs.Typing.{Names, Claim, TypeOf, Leads, LeadAll, Selects, GivesItems, IsTyped, of_integer, of_local, of_table, of_column, of_comparison, by_where, by_none, by_first, by_select, by_query, HasType, column_named, column_type, is_comparison, is_number, is_scalar, item_of, item_type, local_type, row_table, table_number, type_of, type_of_column, with_local}
+use Rattle.lq_model.specs.Typing.{Names, Claim, TypeOf, Leads, LeadAll, Selects, GivesItems, IsTyped, of_integer, of_local, of_table, of_column, of_comparison, of_truth, of_not, of_both, of_either, by_where, by_none, by_first, by_select, by_query, HasType, column_named, column_type, is_comparison, is_number, is_scalar, item_of, item_type, local_type, row_table, table_number, type_of, type_of_column, with_local}
 use Rattle.lq_model.specs.Visible.{TableRow, cell_named, seen_from, seen_rows, tables_as_seen, visible_to}
 use Rattle.lq_model.specs.declared.policy.PolicyParts.{PolicyParts}
 use Rattle.lq_model.specs.declared.syntax.Binary.{Binary}
@@ -41,7 +41,8 @@ use Rattle.lq_model.specs.declared.syntax.Last.{Last}
 use Rattle.lq_model.specs.declared.syntax.Last.TheVariants as last
 use Rattle.lq_model.specs.declared.syntax.Node.TheVariants as node
 use Rattle.lq_model.specs.declared.syntax.Query.{Query}
-use Rattle.lq_model.proofs.Opens.{meaning_compare, meaning_integer, meaning_member, meaning_name}
+use Rattle.lq_model.specs.declared.syntax.Unary.TheVariants as unary
+use Rattle.lq_model.proofs.Opens.{meaning_both, meaning_compare, meaning_either, meaning_integer, meaning_member, meaning_name, meaning_not, meaning_truth}
 use Rattle.lq_model.proofs.TypingLemmas.{item_type_sound, type_complete}
 
 -- ---- lists
@@ -253,6 +254,10 @@ pub data AreNumbers (m n : Result Scalar Fault) : Type 0 where
   same_number : (s : Scalar) → IsNumber s → m ≡ Ok s → n ≡ Ok s → AreNumbers m n
   same_number_fault : (x : Fault) → m ≡ Err x → n ≡ Err x → AreNumbers m n
 
+pub data AreTruths (m n : Result Bool Fault) : Type 0 where
+  same_truth : (b : Bool) → m ≡ Ok b → n ≡ Ok b → AreTruths m n
+  same_truth_fault : (x : Fault) → m ≡ Err x → n ≡ Err x → AreTruths m n
+
 module _ {R : Type 0} (world : World R) (holds : HoldsRows world) (f g : Fault) where
   abbrev left : World R
   left = assuming f world
@@ -302,6 +307,28 @@ module _ {R : Type 0} (world : World R) (holds : HoldsRows world) (f g : Fault) 
       ∙ sym (ap (λ (o : Result (Value R) Fault). on_scalar right o (truth_of g)) (k ∙ ap Ok found.1) ∙ ap (λ layer. on_ok (scalar_of right layer) (truth_of g)) (outs-Scalar (scalar.Bool found.0)))
   condition_outcome m n (same_fault x h k) =
       ap (λ (o : Result (Value R) Fault). on_scalar left o (truth_of f)) h ∙ sym (ap (λ (o : Result (Value R) Fault). on_scalar right o (truth_of g)) k)
+
+  -- a truth value that is the same in both worlds, or the same fault
+  truth_outcome : (m n : Result (Value R) Fault) → IsSame world ty.Bool m n → AreTruths (on_scalar left m (truth_of f)) (on_scalar right n (truth_of g))
+  truth_outcome m n (same_value v fits h k) =
+      let found = bool_value world ty.Bool v outs-Bool fits in
+      same_truth found.0
+      (ap (λ (o : Result (Value R) Fault). on_scalar left o (truth_of f)) (h ∙ ap Ok found.1) ∙ ap (λ layer. on_ok (scalar_of left layer) (truth_of f)) (outs-Scalar (scalar.Bool found.0)))
+      (ap (λ (o : Result (Value R) Fault). on_scalar right o (truth_of g)) (k ∙ ap Ok found.1) ∙ ap (λ layer. on_ok (scalar_of right layer) (truth_of g)) (outs-Scalar (scalar.Bool found.0)))
+  truth_outcome m n (same_fault x h k) =
+      same_truth_fault x (ap (λ (o : Result (Value R) Fault). on_scalar left o (truth_of f)) h) (ap (λ (o : Result (Value R) Fault). on_scalar right o (truth_of g)) k)
+
+  -- what follows a truth value, by what it is
+  after_truth : (t : Ty) (a b : Result Bool Fault) → AreTruths a b → (next more : Bool → Result (Value R) Fault) → ((c : Bool) → IsSame world t (next c) (more c))
+      → IsSame world t (on_ok a next) (on_ok b more)
+  after_truth t a b (same_truth c h k) next more same =
+      subst (λ (o : Result Bool Fault). IsSame world t (on_ok o next) (on_ok b more)) (sym h)
+      (subst (λ (o : Result Bool Fault). IsSame world t (next c) (on_ok o more)) (sym k) (same c))
+  after_truth t a b (same_truth_fault x h k) next more same =
+      same_fault x (ap (λ (o : Result Bool Fault). on_ok o next) h) (ap (λ (o : Result Bool Fault). on_ok o more) k)
+
+  truth_is_same : (b : Bool) → IsSame world ty.Bool (Ok (truth_value b)) (Ok (truth_value b))
+  truth_is_same b = same_value (truth_value b) (truth_is_of b) refl refl
 
   -- a column of a row that is one, or is null
   abbrev column_of : World R → List ℕ → Result (Value R) Fault → Result (Value R) Fault
@@ -423,6 +450,32 @@ module _ {R : Type 0} (world : World R) (holds : HoldsRows world) (f g : Fault) 
       by_outcomes ty.Bool _ _ _ _ (meaning_compare left op a b scope) (meaning_compare right op a b scope)
       (compared_outcome op compares _ _ _ _ (number_outcome s _ _ (a_means scope at) s_number) (number_outcome t _ _ (b_means scope at) t_number))
 
+  means_truth : (names : Names) (b : Bool) → Means (TypeOf names (expr.Node (node.Bool b)) ty.Bool)
+  means_truth names b scope at = same_value (truth_value b) (truth_is_of b) (meaning_truth left b scope) (meaning_truth right b scope)
+
+  means_not : (names : Names) (a : Expr) → Means (TypeOf names a ty.Bool) → Means (TypeOf names (expr.Node (node.Unary unary.Not a)) ty.Bool)
+  means_not names a means scope at =
+      by_outcomes ty.Bool _ _ _ _ (meaning_not left a scope) (meaning_not right a scope)
+      (after_truth ty.Bool _ _ (truth_outcome _ _ (means scope at)) (λ t. Ok (truth_value (not t))) (λ t. Ok (truth_value (not t))) (λ t. truth_is_same (not t)))
+
+  means_both : (names : Names) (a b : Expr) → Means (TypeOf names a ty.Bool) → Means (TypeOf names b ty.Bool) → Means (TypeOf names (expr.Node (node.And a b)) ty.Bool)
+  means_both names a b a_means b_means scope at =
+      by_outcomes ty.Bool _ _ _ _ (meaning_both left a b scope) (meaning_both right a b scope)
+      (after_truth ty.Bool _ _ (truth_outcome _ _ (a_means scope at)) _ _ second)
+    where
+      second : (t : Bool) → IsSame world ty.Bool (if t then meaning left b scope else Ok (truth_value false)) (if t then meaning right b scope else Ok (truth_value false))
+      second true = b_means scope at
+      second false = truth_is_same false
+
+  means_either : (names : Names) (a b : Expr) → Means (TypeOf names a ty.Bool) → Means (TypeOf names b ty.Bool) → Means (TypeOf names (expr.Node (node.Or a b)) ty.Bool)
+  means_either names a b a_means b_means scope at =
+      by_outcomes ty.Bool _ _ _ _ (meaning_either left a b scope) (meaning_either right a b scope)
+      (after_truth ty.Bool _ _ (truth_outcome _ _ (a_means scope at)) _ _ second)
+    where
+      second : (t : Bool) → IsSame world ty.Bool (if t then Ok (truth_value true) else meaning left b scope) (if t then Ok (truth_value true) else meaning right b scope)
+      second true = truth_is_same true
+      second false = b_means scope at
+
   means_where : (outer names : Names) (x : Expr) → Means (TypeOf names x ty.Bool) → Means (Leads outer (clause.Where x) names names)
   means_where outer names x means place scopes all = record {
     alike = each_same (At names) (λ s. kept (condition_at left type_of (meaning left) x s) s) (λ s. kept (condition_at right type_of (meaning right) x s) s)
@@ -491,6 +544,10 @@ module _ {R : Type 0} (world : World R) (holds : HoldsRows world) (f g : Fault) 
   means (of_column names e row c n t is typed found) = same_as names e (expr.Node (node.Member row c)) t is (means_column names row c n t found (means typed))
   means (of_comparison names e a b op s t is compares a_typed s_number b_typed t_number) =
       same_as names e (expr.Node (node.Binary op a b)) ty.Bool is (means_comparison names a b op s t compares s_number t_number (means a_typed) (means b_typed))
+  means (of_truth names e b is) = same_as names e (expr.Node (node.Bool b)) ty.Bool is (means_truth names b)
+  means (of_not names e a is typed) = same_as names e (expr.Node (node.Unary unary.Not a)) ty.Bool is (means_not names a (means typed))
+  means (of_both names e a b is a_typed b_typed) = same_as names e (expr.Node (node.And a b)) ty.Bool is (means_both names a b (means a_typed) (means b_typed))
+  means (of_either names e a b is a_typed b_typed) = same_as names e (expr.Node (node.Or a b)) ty.Bool is (means_either names a b (means a_typed) (means b_typed))
   means (by_where outer names c x is typed) = subst (λ (d : Clause Expr). Means (Leads outer d names names)) (sym is) (means_where outer names x (means typed))
   means (by_none outer names) = λ place scopes all. record { alike = refl; named = all }
   means (by_first outer before between behind c cs first others) = means_all outer before between behind c cs (means first) (means others)
@@ -534,6 +591,10 @@ scalar_claim (of_local names e x t is found) = tt
 scalar_claim (of_table names e x n is hidden found) = tt
 scalar_claim (of_column names e row c n t is typed found) = tt
 scalar_claim (of_comparison names e a b op s t is compares a_typed s_number b_typed t_number) = tt
+scalar_claim (of_truth names e b is) = tt
+scalar_claim (of_not names e a is typed) = tt
+scalar_claim (of_both names e a b is a_typed b_typed) = tt
+scalar_claim (of_either names e a b is a_typed b_typed) = tt
 scalar_claim (by_where outer names c x is typed) = tt
 scalar_claim (by_none outer names) = tt
 scalar_claim (by_first outer before between behind c cs first others) = tt

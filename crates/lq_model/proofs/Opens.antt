@@ -1,13 +1,13 @@
 -- The equations of the folds over expressions, one for each form.
-use Rattle.std.proofs.Common.{◌≡◌, ◌&&◌, if◌then◌else◌, List, ℕ, ℤ, Bool, Option, Some, None, Ok, ap, ◌∙◌, sym, option_and_then}
+use Rattle.std.proofs.Common.{◌≡◌, ◌&&◌, if◌then◌else◌, not, List, ℕ, ℤ, Bool, true, false, Option, Some, None, Ok, ap, ◌∙◌, sym, option_and_then}
 use Rattle.lq_value.specs.declared.scalar.Scalar.TheVariants as scalar
 use Rattle.lq_value.specs.declared.ty.Ty.{Ty, out-Ty}
 use Rattle.lq_value.specs.declared.ty.Ty.TheVariants as ty
 use Rattle.lq_value.specs.declared.value.Value.{out-Value}
 use Rattle.lq_value.specs.declared.value.Value.TheVariants as value
-use Rattle.lq_model.specs.Meaning.{Meaning, Meant, Scope, World, binding_of, meaning, meaning_step, member_value, name_value, on_scalar}
+use Rattle.lq_model.specs.Meaning.{Meaning, Meant, Scope, World, binding_of, meaning, meaning_step, member_value, name_value, on_scalar, on_truth, truth_value}
 use Rattle.lq_model.specs.Operations.{compared, on_ok}
-use Rattle.lq_model.specs.Typing.{Names, column_type, is_comparison, is_number, local_type, name_type, row_table, type_of, type_step}
+use Rattle.lq_model.specs.Typing.{Names, column_type, is_bool_type, is_comparison, is_number, local_type, name_type, row_table, truth_type, type_of, type_step}
 use Rattle.lq_model.specs.declared.syntax.Binary.{Binary}
 use Rattle.lq_model.specs.declared.syntax.Expr.{Expr, fold_out-Expr, map-Expr, out-Expr, para-roll-Expr, roll-Expr}
 use Rattle.lq_model.specs.declared.syntax.Expr.TheOpen.{Expr-F}
@@ -18,7 +18,7 @@ use Rattle.lq_model.specs.declared.syntax.Node.TheVariants as node
 use Rattle.lq_model.specs.declared.syntax.Argument.{Argument}
 use Rattle.lq_model.specs.declared.syntax.Field.{Field}
 use Rattle.lq_model.specs.declared.syntax.Query.{Query}
-use Rattle.lq_model.specs.declared.syntax.Unary.{Unary}
+use Rattle.lq_model.specs.declared.syntax.Unary.TheVariants as unary
 
 module _ {R : Type 0} (world : World R) where
   -- an expression beside what it means
@@ -49,6 +49,21 @@ module _ {R : Type 0} (world : World R) where
       ≡ on_scalar world (meaning world a scope) (λ s. on_scalar world (meaning world b scope) (λ t. on_ok (compared world.unknown op s t) (λ truth. Ok (value.Scalar (scalar.Bool truth)))))
   meaning_compare op a b scope = ap (λ (e : Expr). meaning world e scope) (sym (rolls-Node (node.Binary op a b))) ∙ rolled_meaning (Expr-F.Node (node.Binary op a b)) scope
 
+  pub meaning_truth : (b : Bool) (scope : Scope R) → meaning world (expr.Node (node.Bool b)) scope ≡ Ok (truth_value b)
+  meaning_truth b scope = ap (λ (e : Expr). meaning world e scope) (sym (rolls-Node (node.Bool b))) ∙ rolled_meaning (Expr-F.Node (node.Bool b)) scope
+
+  pub meaning_not : (a : Expr) (scope : Scope R)
+      → meaning world (expr.Node (node.Unary unary.Not a)) scope ≡ on_truth world (meaning world a scope) (λ t. Ok (truth_value (not t)))
+  meaning_not a scope = ap (λ (e : Expr). meaning world e scope) (sym (rolls-Node (node.Unary unary.Not a))) ∙ rolled_meaning (Expr-F.Node (node.Unary unary.Not a)) scope
+
+  pub meaning_both : (a b : Expr) (scope : Scope R)
+      → meaning world (expr.Node (node.And a b)) scope ≡ on_truth world (meaning world a scope) (λ t. if t then meaning world b scope else Ok (truth_value false))
+  meaning_both a b scope = ap (λ (e : Expr). meaning world e scope) (sym (rolls-Node (node.And a b))) ∙ rolled_meaning (Expr-F.Node (node.And a b)) scope
+
+  pub meaning_either : (a b : Expr) (scope : Scope R)
+      → meaning world (expr.Node (node.Or a b)) scope ≡ on_truth world (meaning world a scope) (λ t. if t then Ok (truth_value true) else meaning world b scope)
+  meaning_either a b scope = ap (λ (e : Expr). meaning world e scope) (sym (rolls-Node (node.Or a b))) ∙ rolled_meaning (Expr-F.Node (node.Or a b)) scope
+
 abbrev pub layer_type : Expr-F Expr → Names → Option Ty
 layer_type layer = type_step (map-Expr Expr (Names → Option Ty) type_of layer)
 
@@ -71,6 +86,20 @@ pub type_compare : (op : Binary) (a b : Expr) (names : Names)
     ≡ (if is_comparison op then option_and_then (λ s. option_and_then (λ t. if is_number (out-Ty s) && is_number (out-Ty t) then Some ty.Bool else None) (type_of b names)) (type_of a names) else None)
 type_compare op a b names = type_out (expr.Node (node.Binary op a b)) names ∙ ap (λ (e : Expr-F Expr). layer_type e names) (outs-Node (node.Binary op a b))
 
+pub type_truth : (b : Bool) (names : Names) → type_of (expr.Node (node.Bool b)) names ≡ Some ty.Bool
+type_truth b names = type_out (expr.Node (node.Bool b)) names ∙ ap (λ (e : Expr-F Expr). layer_type e names) (outs-Node (node.Bool b))
+
+pub type_not : (a : Expr) (names : Names) → type_of (expr.Node (node.Unary unary.Not a)) names ≡ truth_type (is_bool_type (type_of a names))
+type_not a names = type_out (expr.Node (node.Unary unary.Not a)) names ∙ ap (λ (e : Expr-F Expr). layer_type e names) (outs-Node (node.Unary unary.Not a))
+
+pub type_both : (a b : Expr) (names : Names)
+    → type_of (expr.Node (node.And a b)) names ≡ truth_type (is_bool_type (type_of a names) && is_bool_type (type_of b names))
+type_both a b names = type_out (expr.Node (node.And a b)) names ∙ ap (λ (e : Expr-F Expr). layer_type e names) (outs-Node (node.And a b))
+
+pub type_either : (a b : Expr) (names : Names)
+    → type_of (expr.Node (node.Or a b)) names ≡ truth_type (is_bool_type (type_of a names) && is_bool_type (type_of b names))
+type_either a b names = type_out (expr.Node (node.Or a b)) names ∙ ap (λ (e : Expr-F Expr). layer_type e names) (outs-Node (node.Or a b))
+
 -- the type of a layer's expression
 pub rolled_type : (layer : Expr-F Expr) (names : Names) → type_of (roll-Expr layer) names ≡ layer_type layer names
 rolled_type layer names = type_out (roll-Expr layer) names ∙ ap (λ (x : Expr-F Expr). layer_type x names) (out-roll-Expr layer)
@@ -80,20 +109,11 @@ rolled_type layer names = type_out (roll-Expr layer) names ∙ ap (λ (x : Expr-
 pub type_text : (t : List ℕ) (names : Names) → type_of (expr.Node (node.Text t)) names ≡ None
 type_text t names = type_out (expr.Node (node.Text t)) names ∙ ap (λ (e : Expr-F Expr). layer_type e names) (outs-Node (node.Text t))
 
-pub type_truth : (b : Bool) (names : Names) → type_of (expr.Node (node.Bool b)) names ≡ None
-type_truth b names = type_out (expr.Node (node.Bool b)) names ∙ ap (λ (e : Expr-F Expr). layer_type e names) (outs-Node (node.Bool b))
-
 pub type_null : (names : Names) → type_of (expr.Node node.Null) names ≡ None
 type_null names = type_out (expr.Node node.Null) names ∙ ap (λ (e : Expr-F Expr). layer_type e names) (outs-Node node.Null)
 
-pub type_unary : (op : Unary) (a : Expr) (names : Names) → type_of (expr.Node (node.Unary op a)) names ≡ None
-type_unary op a names = type_out (expr.Node (node.Unary op a)) names ∙ ap (λ (e : Expr-F Expr). layer_type e names) (outs-Node (node.Unary op a))
-
-pub type_both : (a b : Expr) (names : Names) → type_of (expr.Node (node.And a b)) names ≡ None
-type_both a b names = type_out (expr.Node (node.And a b)) names ∙ ap (λ (e : Expr-F Expr). layer_type e names) (outs-Node (node.And a b))
-
-pub type_either : (a b : Expr) (names : Names) → type_of (expr.Node (node.Or a b)) names ≡ None
-type_either a b names = type_out (expr.Node (node.Or a b)) names ∙ ap (λ (e : Expr-F Expr). layer_type e names) (outs-Node (node.Or a b))
+pub type_minus : (a : Expr) (names : Names) → type_of (expr.Node (node.Unary unary.Minus a)) names ≡ None
+type_minus a names = type_out (expr.Node (node.Unary unary.Minus a)) names ∙ ap (λ (e : Expr-F Expr). layer_type e names) (outs-Node (node.Unary unary.Minus a))
 
 pub type_coalesce : (a b : Expr) (names : Names) → type_of (expr.Node (node.Coalesce a b)) names ≡ None
 type_coalesce a b names = type_out (expr.Node (node.Coalesce a b)) names ∙ ap (λ (e : Expr-F Expr). layer_type e names) (outs-Node (node.Coalesce a b))

@@ -1,12 +1,12 @@
 -- The functions of `Typing` find the types that the rules give, so that there is one type at most.
-use Rattle.std.proofs.Common.{◌≡◌, ◌==◌, ◌∷◌, ◌&&◌, if◌then◌else◌, List, [], ℕ, suc, length, arith, ℤ, Bool, true, false, Option, Some, None, ap, ◌∙◌, sym, refl, subst, option_and_then, option_map, true≢false}
+use Rattle.std.proofs.Common.{◌≡◌, ◌==◌, ◌∷◌, ◌&&◌, if◌then◌else◌, List, [], ℕ, suc, length, arith, ℤ, Bool, true, false, Option, Some, None, ap, ap₂, ◌∙◌, sym, refl, subst, option_and_then, option_map, true≢false}
 use Rattle.std.proofs.lemmas.Bool.{eqb-true}
 use Rattle.std.proofs.lemmas.Option.{none-some, same_Some}
 use Rattle.lq_value.specs.declared.ty.Ty.{Ty, ind-Ty, map-Ty, out-Ty, roll-Ty}
 use Rattle.lq_value.specs.declared.ty.Ty.TheOpen.{Ty-F}
 use Rattle.lq_value.specs.declared.ty.Ty.TheVariants as ty
 use Rattle.lq_value.specs.declared.ty.Ty.TheVariants.{outs-Bool, outs-Group, outs-Int, outs-IntN, outs-Null, outs-Rec, outs-Row, outs-Seq, outs-Str, rolls-Bool, rolls-Group, rolls-Int, rolls-IntN, rolls-Null, rolls-Rec, rolls-Row, rolls-Seq, rolls-Str}
-use Rattle.lq_model.specs.Typing.{Names, is_comparison, Claim, TypeOf, Leads, LeadAll, Selects, GivesItems, IsTyped, of_integer, of_local, of_table, of_column, of_comparison, by_where, by_none, by_first, by_select, by_query, HasType, HasItemType, body_type, column_type, if_scalar, is_bool, is_bool_type, is_number, is_scalar, item_of, item_type, items_over, local_type, name_type, names_behind, names_behind_all, row_table, selected_type, table_number, type_of, when_fresh, with_local}
+use Rattle.lq_model.specs.Typing.{Names, is_comparison, Claim, TypeOf, Leads, LeadAll, Selects, GivesItems, IsTyped, of_integer, of_local, of_table, of_column, of_comparison, of_truth, of_not, of_both, of_either, by_where, by_none, by_first, by_select, by_query, HasType, HasItemType, body_type, column_type, if_scalar, is_bool, is_bool_type, is_number, is_scalar, item_of, item_type, items_over, truth_type, local_type, name_type, names_behind, names_behind_all, row_table, selected_type, table_number, type_of, when_fresh, with_local}
 use Rattle.lq_model.specs.TypingLaws.{HasOneType, HasOneItemType, FindsTypes, FindsItemTypes}
 use Rattle.lq_model.specs.declared.syntax.Clause.{Clause}
 use Rattle.lq_model.specs.declared.syntax.Clause.TheVariants as clause
@@ -20,7 +20,8 @@ use Rattle.lq_model.specs.declared.syntax.Last.{Last}
 use Rattle.lq_model.specs.declared.syntax.Last.TheVariants as last
 use Rattle.lq_model.specs.declared.syntax.Node.TheVariants as node
 use Rattle.lq_model.specs.declared.syntax.Query.{Query}
-use Rattle.lq_model.proofs.Opens.{layer_type, rolled_type, type_compare, type_integer, type_member, type_name}
+use Rattle.lq_model.specs.declared.syntax.Unary.TheVariants as unary
+use Rattle.lq_model.proofs.Opens.{layer_type, rolled_type, type_both, type_compare, type_either, type_integer, type_member, type_name, type_not, type_truth}
 
 -- ---- a type, by its layer
 
@@ -96,6 +97,10 @@ condition_complete names x typed = ap is_bool_type typed ∙ ap is_bool outs-Boo
 selection_complete : (names : Names) (v : Expr) (t : Ty) → type_of v names ≡ Some t → is_scalar (out-Ty t) ≡ true → if_scalar (type_of v names) ≡ Some t
 selection_complete names v t typed scalar = ap if_scalar typed ∙ rw scalar refl
 
+both_truths : (names : Names) (a b : Expr) → type_of a names ≡ Some ty.Bool → type_of b names ≡ Some ty.Bool
+    → truth_type (is_bool_type (type_of a names) && is_bool_type (type_of b names)) ≡ Some ty.Bool
+both_truths names a b left right = ap₂ (λ (x y : Bool). truth_type (x && y)) (condition_complete names a left) (condition_complete names b right)
+
 -- what a claim says of the functions
 abbrev IsFound : Claim → Type 0
 IsFound (TypeOf names e t) = type_of e names ≡ Some t
@@ -132,6 +137,10 @@ found (of_comparison names _ a b op s t is compares a_typed s_number b_typed t_n
     ∙ ap (λ (o : Option Ty). compared_type o (type_of b names)) (found a_typed)
     ∙ ap (compared_type (Some s)) (found b_typed)
     ∙ numbers_compare s t s_number t_number
+found (of_truth names _ b is) = ap (expression_type names) is ∙ type_truth b names
+found (of_not names _ a is typed) = ap (expression_type names) is ∙ type_not a names ∙ ap truth_type (condition_complete names a (found typed))
+found (of_both names _ a b is left right) = ap (expression_type names) is ∙ type_both a b names ∙ both_truths names a b (found left) (found right)
+found (of_either names _ a b is left right) = ap (expression_type names) is ∙ type_either a b names ∙ both_truths names a b (found left) (found right)
 found (by_where outer names _ x is typed) =
     ap (λ (c : Clause Expr). names_behind type_of outer c names) is ∙ ap (λ (b : Bool). if b then Some names else None) (condition_complete names x (found typed))
 found (by_none outer names) = refl
@@ -202,6 +211,40 @@ sound_compare op a b a_sound b_sound names t h = by (is_comparison op) refl (sym
   by true compares found = sound_compare_by op compares a b a_sound b_sound names t (type_of a names) (type_of b names) refl refl found
   by false other found = absurd (none-some t found)
 
+condition_sound_by : (names : Names) (c : Expr) → IsSound c → (o : Option Ty) → type_of c names ≡ o → is_bool_type o ≡ true → HasType names c ty.Bool
+condition_sound_by names c sound None is h = absurd (true≢false (sym h))
+condition_sound_by names c sound (Some t) is h = subst (HasType names c) (is_truth t h) (sound names t is)
+
+-- an expression that has the type of truth values where the function finds it
+condition_of : (c : Expr) → IsSound c → (names : Names) → is_bool_type (type_of c names) ≡ true → HasType names c ty.Bool
+condition_of c sound names h = condition_sound_by names c sound (type_of c names) refl h
+
+sound_truth : (b : Bool) → IsSound (expr.Node (node.Bool b))
+sound_truth b names t h =
+    subst (HasType names (expr.Node (node.Bool b))) (same_Some ty.Bool t (sym (type_truth b names) ∙ h)) (of_truth names (expr.Node (node.Bool b)) b refl)
+
+sound_not : (a : Expr) → IsSound a → IsSound (expr.Node (node.Unary unary.Not a))
+sound_not a sound names t h = by (is_bool_type (type_of a names)) refl (sym (type_not a names) ∙ h) where
+  by : (c : Bool) → is_bool_type (type_of a names) ≡ c → truth_type c ≡ Some t → HasType names (expr.Node (node.Unary unary.Not a)) t
+  by true is found = subst (HasType names (expr.Node (node.Unary unary.Not a))) (same_Some ty.Bool t found) (of_not names (expr.Node (node.Unary unary.Not a)) a refl (condition_of a sound names is))
+  by false is found = absurd (none-some t found)
+
+-- two truth values under an operator
+truths_by : (names : Names) (e a b : Expr) (t : Ty) → IsSound a → IsSound b → (HasType names a ty.Bool → HasType names b ty.Bool → HasType names e ty.Bool) → (c d : Bool)
+    → is_bool_type (type_of a names) ≡ c → is_bool_type (type_of b names) ≡ d → truth_type (c && d) ≡ Some t → HasType names e t
+truths_by names e a b t a_sound b_sound rule true true a_is b_is found =
+    subst (HasType names e) (same_Some ty.Bool t found) (rule (condition_of a a_sound names a_is) (condition_of b b_sound names b_is))
+truths_by names e a b t a_sound b_sound rule true false a_is b_is found = absurd (none-some t found)
+truths_by names e a b t a_sound b_sound rule false d a_is b_is found = absurd (none-some t found)
+
+sound_both : (a b : Expr) → IsSound a → IsSound b → IsSound (expr.Node (node.And a b))
+sound_both a b a_sound b_sound names t h =
+    truths_by names (expr.Node (node.And a b)) a b t a_sound b_sound (of_both names (expr.Node (node.And a b)) a b refl) _ _ refl refl (sym (type_both a b names) ∙ h)
+
+sound_either : (a b : Expr) → IsSound a → IsSound b → IsSound (expr.Node (node.Or a b))
+sound_either a b a_sound b_sound names t h =
+    truths_by names (expr.Node (node.Or a b)) a b t a_sound b_sound (of_either names (expr.Node (node.Or a b)) a b refl) _ _ refl refl (sym (type_either a b names) ∙ h)
+
 -- a layer to which no rule gives a type
 no_type : (layer : Expr-F Expr) → ((names : Names) → layer_type layer names ≡ None) → IsSound (roll-Expr layer)
 no_type layer none names t h =
@@ -217,6 +260,13 @@ sound_layer x (Expr-F.Node (node.Member row c)) h =
     subst (λ d. IsSound (roll-Expr d)) h (subst IsSound (sym (rolls-Node (node.Member row.0 c))) (sound_member row.0 c row.1))
 sound_layer x (Expr-F.Node (node.Binary op a b)) h =
     subst (λ d. IsSound (roll-Expr d)) h (subst IsSound (sym (rolls-Node (node.Binary op a.0 b.0))) (sound_compare op a.0 b.0 a.1 b.1))
+sound_layer x (Expr-F.Node (node.Bool b)) h = subst (λ d. IsSound (roll-Expr d)) h (subst IsSound (sym (rolls-Node (node.Bool b))) (sound_truth b))
+sound_layer x (Expr-F.Node (node.Unary unary.Not a)) h =
+    subst (λ d. IsSound (roll-Expr d)) h (subst IsSound (sym (rolls-Node (node.Unary unary.Not a.0))) (sound_not a.0 a.1))
+sound_layer x (Expr-F.Node (node.And a b)) h =
+    subst (λ d. IsSound (roll-Expr d)) h (subst IsSound (sym (rolls-Node (node.And a.0 b.0))) (sound_both a.0 b.0 a.1 b.1))
+sound_layer x (Expr-F.Node (node.Or a b)) h =
+    subst (λ d. IsSound (roll-Expr d)) h (subst IsSound (sym (rolls-Node (node.Or a.0 b.0))) (sound_either a.0 b.0 a.1 b.1))
 sound_layer x (Expr-F.Node other) h = subst (λ d. IsSound (roll-Expr d)) h (no_type (map-Expr Both Expr (λ e. e.0) (Expr-F.Node other)) (λ names. refl))
 sound_layer x (Expr-F.Query q) h = subst (λ d. IsSound (roll-Expr d)) h (no_type (map-Expr Both Expr (λ e. e.0) (Expr-F.Query q)) (λ names. refl))
 
@@ -225,15 +275,11 @@ type_sound e = ind-Expr IsSound sound_layer e
 
 -- ---- queries
 
-condition_sound : (names : Names) (c : Expr) (o : Option Ty) → type_of c names ≡ o → is_bool_type o ≡ true → HasType names c ty.Bool
-condition_sound names c None is h = absurd (true≢false (sym h))
-condition_sound names c (Some t) is h = subst (HasType names c) (is_truth t h) (type_sound c names t is)
-
 where_sound : (outer before behind : Names) (c : Expr) (b : Bool) → is_bool_type (type_of c before) ≡ b → (if b then Some before else None) ≡ Some behind
     → IsTyped (Leads outer (clause.Where c) before behind)
 where_sound outer before behind c true is h =
     subst (λ (names : Names). IsTyped (Leads outer (clause.Where c) before names)) (same_Some before behind h)
-    (by_where outer before (clause.Where c) c refl (condition_sound before c (type_of c before) refl is))
+    (by_where outer before (clause.Where c) c refl (condition_of c (type_sound c) before is))
 where_sound outer before behind c false is h = absurd (none-some behind h)
 
 clause_sound : (outer before behind : Names) (c : Clause Expr) → names_behind type_of outer c before ≡ Some behind → IsTyped (Leads outer c before behind)

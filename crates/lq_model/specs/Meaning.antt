@@ -1,5 +1,5 @@
 -- «Scalar meaning» and «Clause meaning»: what expressions and queries mean (ECMA-334, expressions and query expressions).
-use Rattle.std.specs.Prelude.{◌∷◌, if◌then◌else◌, List, [], map, ℕ, Bool, Option, Some, None, Result, Ok, Err, slice_get, option_and_then}
+use Rattle.std.specs.Prelude.{◌∷◌, if◌then◌else◌, not, List, [], map, ℕ, Bool, true, false, Option, Some, None, Result, Ok, Err, slice_get, option_and_then}
 use Rattle.std.specs.Str.{bytes_eq}
 use Rattle.lq_value.specs.declared.scalar.Scalar.{Scalar}
 use Rattle.lq_value.specs.declared.scalar.Scalar.TheVariants as scalar
@@ -26,6 +26,7 @@ use Rattle.lq_model.specs.declared.syntax.Last.TheVariants as last
 use Rattle.lq_model.specs.declared.syntax.Node.{Node}
 use Rattle.lq_model.specs.declared.syntax.Node.TheVariants as node
 use Rattle.lq_model.specs.declared.syntax.Query.{Query}
+use Rattle.lq_model.specs.declared.syntax.Unary.TheVariants as unary
 
 -- a local name with its type and its value
 pub record Binding (R : Type 0) : Type 0 where
@@ -102,6 +103,10 @@ module _ {R : Type 0} (world : World R) where
   abbrev pub on_scalar : {B : Type 0} → Result (Value R) Fault → (Scalar → Result B Fault) → Result B Fault
   on_scalar operand next = on_ok (on_ok operand (λ v. scalar_of (out-Value R v))) next
 
+  -- an operand that is a truth value
+  abbrev pub on_truth : {B : Type 0} → Result (Value R) Fault → (Bool → Result B Fault) → Result B Fault
+  on_truth operand next = on_ok (on_scalar operand (truth_of world.unknown)) next
+
   -- the stream that a value is enumerated as; a fault met in making it is its ending
   abbrev pub items_of : Value-F R (Value R) → Stream (Value R)
   items_of (Value-F.Seq xs e) = (xs, e)
@@ -161,6 +166,9 @@ Meant R = Expr × Meaning R
 abbrev pub sequence : {R : Type 0} → Stream (Value R) → Value R
 sequence items = value.Seq items.0 items.1
 
+abbrev pub truth_value : {R : Type 0} → Bool → Value R
+truth_value b = value.Scalar (scalar.Bool b)
+
 module _ {R : Type 0} (world : World R) where
   -- the meaning of a node, over the meanings of what it holds
   abbrev pub node_meaning : Node (Meant R) → Meaning R
@@ -169,6 +177,11 @@ module _ {R : Type 0} (world : World R) where
   node_meaning (node.Member row c) scope = on_ok (row.1 scope) (λ v. member_value world c (out-Value R v))
   node_meaning (node.Binary op a b) scope =
       on_scalar world (a.1 scope) (λ s. on_scalar world (b.1 scope) (λ t. on_ok (compared world.unknown op s t) (λ truth. Ok (value.Scalar (scalar.Bool truth)))))
+  node_meaning (node.Bool b) scope = Ok (truth_value b)
+  node_meaning (node.Unary unary.Not a) scope = on_truth world (a.1 scope) (λ t. Ok (truth_value (not t)))
+  -- the second operand is evaluated only where the first leaves it open
+  node_meaning (node.And a b) scope = on_truth world (a.1 scope) (λ t. if t then b.1 scope else Ok (truth_value false))
+  node_meaning (node.Or a b) scope = on_truth world (a.1 scope) (λ t. if t then Ok (truth_value true) else b.1 scope)
   node_meaning node scope = Err world.unknown
 
   abbrev pub meaning_step : Expr-F (Meant R) → Meaning R

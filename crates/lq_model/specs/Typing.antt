@@ -22,6 +22,7 @@ use Rattle.lq_model.specs.declared.syntax.Last.TheVariants as last
 use Rattle.lq_model.specs.declared.syntax.Node.{Node}
 use Rattle.lq_model.specs.declared.syntax.Node.TheVariants as node
 use Rattle.lq_model.specs.declared.syntax.Query.{Query}
+use Rattle.lq_model.specs.declared.syntax.Unary.TheVariants as unary
 
 -- what the names of a place stand for: the tables, by number, and the local names with their types
 pub record Names : Type 0 where
@@ -103,6 +104,12 @@ pub data IsTyped : Claim → Type 0 where
       → column_type names.tables n c ≡ Some t → IsTyped (TypeOf names e t)
   of_comparison : (names : Names) (e a b : Expr) (op : Binary) (s t : Ty) → e ≡ expr.Node (node.Binary op a b) → is_comparison op ≡ true
       → IsTyped (TypeOf names a s) → is_number (out-Ty s) ≡ true → IsTyped (TypeOf names b t) → is_number (out-Ty t) ≡ true → IsTyped (TypeOf names e ty.Bool)
+  of_truth : (names : Names) (e : Expr) (b : Bool) → e ≡ expr.Node (node.Bool b) → IsTyped (TypeOf names e ty.Bool)
+  of_not : (names : Names) (e a : Expr) → e ≡ expr.Node (node.Unary unary.Not a) → IsTyped (TypeOf names a ty.Bool) → IsTyped (TypeOf names e ty.Bool)
+  of_both : (names : Names) (e a b : Expr) → e ≡ expr.Node (node.And a b) → IsTyped (TypeOf names a ty.Bool) → IsTyped (TypeOf names b ty.Bool)
+      → IsTyped (TypeOf names e ty.Bool)
+  of_either : (names : Names) (e a b : Expr) → e ≡ expr.Node (node.Or a b) → IsTyped (TypeOf names a ty.Bool) → IsTyped (TypeOf names b ty.Bool)
+      → IsTyped (TypeOf names e ty.Bool)
   -- a condition is a truth value, and names nothing
   by_where : (outer names : Names) (c : Clause Expr) (x : Expr) → c ≡ clause.Where x → IsTyped (TypeOf names x ty.Bool) → IsTyped (Leads outer c names names)
   by_none : (outer names : Names) → IsTyped (LeadAll outer [] names names)
@@ -140,12 +147,24 @@ abbrev pub name_type : Names → List ℕ → Option Ty → Option Ty
 name_type names x (Some t) = Some t
 name_type names x None = option_map (λ n. ty.Seq (ty.Row n)) (table_number x names.tables)
 
+abbrev pub is_bool_type : Option Ty → Bool
+is_bool_type None = false
+is_bool_type (Some t) = is_bool (out-Ty t)
+
+-- of truth values alone, there is a truth value
+abbrev pub truth_type : Bool → Option Ty
+truth_type are_truths = if are_truths then Some ty.Bool else None
+
 abbrev pub node_type : Node (Names → Option Ty) → Names → Option Ty
 node_type (node.Integer n) names = Some ty.Int
 node_type (node.Name x) names = name_type names x (local_type x names.locals)
 node_type (node.Member row c) names = option_and_then (λ t. option_and_then (λ n. column_type names.tables n c) (row_table (out-Ty t))) (row names)
 node_type (node.Binary op a b) names =
     if is_comparison op then option_and_then (λ s. option_and_then (λ t. if is_number (out-Ty s) && is_number (out-Ty t) then Some ty.Bool else None) (b names)) (a names) else None
+node_type (node.Bool b) names = Some ty.Bool
+node_type (node.Unary unary.Not a) names = truth_type (is_bool_type (a names))
+node_type (node.And a b) names = truth_type (is_bool_type (a names) && is_bool_type (b names))
+node_type (node.Or a b) names = truth_type (is_bool_type (a names) && is_bool_type (b names))
 node_type node names = None
 
 abbrev pub type_step : Expr-F (Names → Option Ty) → Names → Option Ty
@@ -154,10 +173,6 @@ type_step (Expr-F.Query q) names = None
 
 unfoldable pub type_of : Expr → Names → Option Ty
 type_of = fold-Expr (Names → Option Ty) type_step
-
-abbrev pub is_bool_type : Option Ty → Bool
-is_bool_type None = false
-is_bool_type (Some t) = is_bool (out-Ty t)
 
 abbrev pub if_scalar : Option Ty → Option Ty
 if_scalar None = None
