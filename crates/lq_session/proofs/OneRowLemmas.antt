@@ -1,5 +1,5 @@
 -- What an expression is on one row is what it means in the scope of that row.
-use Rattle.std.proofs.Common.{◌≡◌, ◌∷◌, if◌then◌else◌, List, [], map, ℕ, ℤ, Bool, true, false, Option, Some, None, Result, Ok, Err, ap, ◌∙◌, sym, refl, subst, bytes_eq, codes, map-id}
+use Rattle.std.proofs.Common.{◌≡◌, ◌∷◌, if◌then◌else◌, not, List, [], map, ℕ, ℤ, Bool, true, false, Option, Some, None, Result, Ok, Err, ap, ◌∙◌, sym, refl, subst, bytes_eq, codes, map-id}
 use Rattle.std.specs.Result.{result_unwrap_or}
 use Rattle.lq_value.specs.declared.scalar.Scalar.{Scalar}
 use Rattle.lq_value.specs.declared.scalar.Scalar.TheVariants as scalar
@@ -12,7 +12,7 @@ use Rattle.lq_value.specs.declared.value.Value.{Value, out-Value}
 use Rattle.lq_value.specs.declared.value.Value.TheOpen.{Value-F}
 use Rattle.lq_value.specs.declared.value.Value.TheVariants.{outs-Row, outs-Scalar, outs-Seq}
 use Rattle.lq_value.specs.declared.value.Value.TheVariants as value
-use Rattle.lq_model.specs.Meaning.{Scope, World, cell_value, meaning, member_value, name_value, scalar_of, sequence, table_value, truth_at as value_truth}
+use Rattle.lq_model.specs.Meaning.{Scope, World, cell_value, meaning, member_value, name_value, on_scalar, scalar_of, sequence, table_value, truth_at as value_truth, truth_value}
 use Rattle.lq_model.specs.Operations.{compared, on_ok, truth_of}
 use Rattle.lq_model.specs.Stream.{Stream}
 use Rattle.lq_model.specs.declared.syntax.Binary.{Binary}
@@ -25,10 +25,10 @@ use Rattle.lq_model.specs.declared.syntax.Node.TheVariants as node
 use Rattle.lq_model.specs.declared.syntax.Argument.{Argument}
 use Rattle.lq_model.specs.declared.syntax.Field.{Field}
 use Rattle.lq_model.specs.declared.syntax.Query.{Query}
-use Rattle.lq_model.specs.declared.syntax.Unary.{Unary}
+use Rattle.lq_model.specs.declared.syntax.Unary.TheVariants as unary
 use Rattle.lq_model.specs.Visible.{cell_named, is_true, rule_holds, rule_world}
-use Rattle.lq_model.proofs.Opens.{layer_meaning, rolled_meaning, meaning_compare, meaning_integer, meaning_member, meaning_name}
-use Rattle.lq_session.specs.OneRow.{Shape, TheRow, TheScalar, cell_in, member_in, scalar_at, scalar_in, shape_of, shape_step, truth_at}
+use Rattle.lq_model.proofs.Opens.{layer_meaning, rolled_meaning, meaning_both, meaning_compare, meaning_either, meaning_integer, meaning_member, meaning_name, meaning_not, meaning_truth}
+use Rattle.lq_session.specs.OneRow.{Shape, TheRow, TheScalar, cell_in, member_in, scalar_at, scalar_in, shape_of, shape_step, truth_at, truth_in, truth_shape}
 
 -- ---- the equations of the evaluator
 
@@ -60,19 +60,24 @@ module _ (variable : List ℕ) (cell : List ℕ → Option Scalar) where
   pub shape_text : (t : List ℕ) → shape_of variable cell (expr.Node (node.Text t)) ≡ Err fault.NullReference
   shape_text t = shape_out (expr.Node (node.Text t)) ∙ ap layer_shape (outs-Node (node.Text t))
 
-  pub shape_truth : (b : Bool) → shape_of variable cell (expr.Node (node.Bool b)) ≡ Err fault.NullReference
+  pub shape_truth : (b : Bool) → shape_of variable cell (expr.Node (node.Bool b)) ≡ Ok (truth_shape b)
   shape_truth b = shape_out (expr.Node (node.Bool b)) ∙ ap layer_shape (outs-Node (node.Bool b))
 
   pub shape_null : shape_of variable cell (expr.Node node.Null) ≡ Err fault.NullReference
   shape_null = shape_out (expr.Node node.Null) ∙ ap layer_shape (outs-Node node.Null)
 
-  pub shape_unary : (op : Unary) (a : Expr) → shape_of variable cell (expr.Node (node.Unary op a)) ≡ Err fault.NullReference
-  shape_unary op a = shape_out (expr.Node (node.Unary op a)) ∙ ap layer_shape (outs-Node (node.Unary op a))
+  pub shape_minus : (a : Expr) → shape_of variable cell (expr.Node (node.Unary unary.Minus a)) ≡ Err fault.NullReference
+  shape_minus a = shape_out (expr.Node (node.Unary unary.Minus a)) ∙ ap layer_shape (outs-Node (node.Unary unary.Minus a))
 
-  pub shape_both : (a b : Expr) → shape_of variable cell (expr.Node (node.And a b)) ≡ Err fault.NullReference
+  pub shape_not : (a : Expr) → shape_of variable cell (expr.Node (node.Unary unary.Not a)) ≡ on_ok (on_ok (shape_of variable cell a) truth_in) (λ t. Ok (truth_shape (not t)))
+  shape_not a = shape_out (expr.Node (node.Unary unary.Not a)) ∙ ap layer_shape (outs-Node (node.Unary unary.Not a))
+
+  pub shape_both : (a b : Expr) → shape_of variable cell (expr.Node (node.And a b))
+      ≡ on_ok (on_ok (shape_of variable cell a) truth_in) (λ t. if t then shape_of variable cell b else Ok (truth_shape false))
   shape_both a b = shape_out (expr.Node (node.And a b)) ∙ ap layer_shape (outs-Node (node.And a b))
 
-  pub shape_either : (a b : Expr) → shape_of variable cell (expr.Node (node.Or a b)) ≡ Err fault.NullReference
+  pub shape_either : (a b : Expr) → shape_of variable cell (expr.Node (node.Or a b))
+      ≡ on_ok (on_ok (shape_of variable cell a) truth_in) (λ t. if t then Ok (truth_shape true) else shape_of variable cell b)
   shape_either a b = shape_out (expr.Node (node.Or a b)) ∙ ap layer_shape (outs-Node (node.Or a b))
 
   pub shape_coalesce : (a b : Expr) → shape_of variable cell (expr.Node (node.Coalesce a b)) ≡ Err fault.NullReference
@@ -94,7 +99,7 @@ module _ (variable : List ℕ) (cell : List ℕ → Option Scalar) where
   shape_query q = shape_out (expr.Query q) ∙ ap layer_shape (outs-Query q)
 
 -- the equations, and how a layer is read
-pub ruleset shapes = (shape_integer, shape_name, shape_member, shape_compare, shape_text, shape_truth, shape_null, shape_unary, shape_both, shape_either, shape_coalesce, shape_choice, shape_host, shape_record, shape_method, shape_query)
+pub ruleset shapes = (shape_integer, shape_name, shape_member, shape_compare, shape_text, shape_truth, shape_null, shape_minus, shape_not, shape_both, shape_either, shape_coalesce, shape_choice, shape_host, shape_record, shape_method, shape_query)
 
 -- ---- agreement with the meaning
 
@@ -206,6 +211,41 @@ module _ {R : Type 0} (world : World R) (variable : List ℕ) (t : Ty) (r : R) w
       (compared_alike op (on_ok (meaning (faulting world) a row_scope) (λ v. scalar_of (faulting world) (out-Value R v))) (on_ok (meaning (faulting world) b row_scope) (λ v. scalar_of (faulting world) (out-Value R v)))
       (on_ok (shape_of variable (world.cell r) a) scalar_in) (on_ok (shape_of variable (world.cell r) b) scalar_in) (scalars_agree _ _ h) (scalars_agree _ _ k))
 
+  -- a truth value is asked of both alike
+  pub truths_agree : (m : Result (Value R) Fault) (o : Result Shape Fault) → Agrees (faulting world) r m o → on_scalar (faulting world) m (truth_of fault.NullReference) ≡ on_ok o truth_in
+  truths_agree m o h = ap (λ (s : Result Scalar Fault). on_ok s (truth_of fault.NullReference)) (scalars_agree m o h) ∙ both_steps o where
+    both_steps : (p : Result Shape Fault) → on_ok (on_ok p scalar_in) (truth_of fault.NullReference) ≡ on_ok p truth_in
+    both_steps (Ok shape) = refl
+    both_steps (Err f) = refl
+
+  -- what follows a truth value, by what it is
+  after_truth : (a b : Result Bool Fault) → a ≡ b → (next : Bool → Result (Value R) Fault) (more : Bool → Result Shape Fault)
+      → ((t : Bool) → Agrees (faulting world) r (next t) (more t)) → Agrees (faulting world) r (on_ok a next) (on_ok b more)
+  after_truth a b same next more agree = subst (λ (o : Result Bool Fault). Agrees (faulting world) r (on_ok o next) (on_ok b more)) (sym same) (by b) where
+    by : (o : Result Bool Fault) → Agrees (faulting world) r (on_ok o next) (on_ok o more)
+    by (Ok t) = agree t
+    by (Err f) = faulty f
+
+  means_truth : (b : Bool) → Means (expr.Node (node.Bool b))
+  means_truth b = agrees_by _ _ _ _ (meaning_truth (faulting world) b row_scope) (shape_truth variable (world.cell r) b) refl
+
+  means_not : (a : Expr) → Means a → Means (expr.Node (node.Unary unary.Not a))
+  means_not a h =
+      agrees_by _ _ _ _ (meaning_not (faulting world) a row_scope) (shape_not variable (world.cell r) a)
+      (after_truth _ _ (truths_agree _ _ h) (λ t. Ok (truth_value (not t))) (λ t. Ok (truth_shape (not t))) (λ t. refl))
+
+  means_both : (a b : Expr) → Means a → Means b → Means (expr.Node (node.And a b))
+  means_both a b h k = agrees_by _ _ _ _ (meaning_both (faulting world) a b row_scope) (shape_both variable (world.cell r) a b) (after_truth _ _ (truths_agree _ _ h) _ _ second) where
+    second : (t : Bool) → Agrees (faulting world) r (if t then meaning (faulting world) b row_scope else Ok (truth_value false)) (if t then shape_of variable (world.cell r) b else Ok (truth_shape false))
+    second true = k
+    second false = refl
+
+  means_either : (a b : Expr) → Means a → Means b → Means (expr.Node (node.Or a b))
+  means_either a b h k = agrees_by _ _ _ _ (meaning_either (faulting world) a b row_scope) (shape_either variable (world.cell r) a b) (after_truth _ _ (truths_agree _ _ h) _ _ second) where
+    second : (t : Bool) → Agrees (faulting world) r (if t then Ok (truth_value true) else meaning (faulting world) b row_scope) (if t then Ok (truth_shape true) else shape_of variable (world.cell r) b)
+    second true = refl
+    second false = k
+
   -- a form that has no meaning yet
   means_nothing : (layer : Expr-F Expr) → layer_meaning (faulting world) layer row_scope ≡ Err fault.NullReference → layer_shape variable (world.cell r) layer ≡ Err fault.NullReference → Means (roll-Expr layer)
   means_nothing layer meant found =
@@ -221,6 +261,10 @@ module _ {R : Type 0} (world : World R) (variable : List ℕ) (t : Ty) (r : R) w
   means_layer x (Expr-F.Node (node.Name s)) h = subst (λ d. Means (roll-Expr d)) h (subst Means (sym (rolls-Node (node.Name s))) (means_name s))
   means_layer x (Expr-F.Node (node.Member row c)) h = subst (λ d. Means (roll-Expr d)) h (subst Means (sym (rolls-Node (node.Member row.0 c))) (means_member row.0 c row.1))
   means_layer x (Expr-F.Node (node.Binary op a b)) h = subst (λ d. Means (roll-Expr d)) h (subst Means (sym (rolls-Node (node.Binary op a.0 b.0))) (means_compare op a.0 b.0 a.1 b.1))
+  means_layer x (Expr-F.Node (node.Bool b)) h = subst (λ d. Means (roll-Expr d)) h (subst Means (sym (rolls-Node (node.Bool b))) (means_truth b))
+  means_layer x (Expr-F.Node (node.Unary unary.Not a)) h = subst (λ d. Means (roll-Expr d)) h (subst Means (sym (rolls-Node (node.Unary unary.Not a.0))) (means_not a.0 a.1))
+  means_layer x (Expr-F.Node (node.And a b)) h = subst (λ d. Means (roll-Expr d)) h (subst Means (sym (rolls-Node (node.And a.0 b.0))) (means_both a.0 b.0 a.1 b.1))
+  means_layer x (Expr-F.Node (node.Or a b)) h = subst (λ d. Means (roll-Expr d)) h (subst Means (sym (rolls-Node (node.Or a.0 b.0))) (means_either a.0 b.0 a.1 b.1))
   means_layer x (Expr-F.Node other) h = subst (λ d. Means (roll-Expr d)) h (means_nothing (map-Expr Both Expr (λ b. b.0) (Expr-F.Node other)) refl refl)
   means_layer x (Expr-F.Query q) h = subst (λ d. Means (roll-Expr d)) h (means_query (map-Expr Both Expr (λ b. b.0) (Expr-F.Query q)) _ refl refl)
 

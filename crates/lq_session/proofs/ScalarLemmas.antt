@@ -1,8 +1,10 @@
 -- An expression whose type is a scalar means a scalar or a fault, and the evaluator finds it.
-use Rattle.std.proofs.Common.{◌≡◌, ◌∷◌, if◌then◌else◌, List, [], ℕ, ℤ, Bool, true, false, Option, Some, None, Result, Ok, Err, ap, ◌∙◌, sym, refl, subst, bytes_eq, option_map, true≢false}
+use Rattle.std.proofs.Common.{◌≡◌, ◌∷◌, ◌&&◌, if◌then◌else◌, not, List, [], ℕ, ℤ, Bool, true, false, Option, Some, None, Result, Ok, Err, ap, ◌∙◌, sym, refl, subst, bytes_eq, option_map, true≢false}
 use Rattle.lq_value.specs.declared.scalar.Scalar.{Scalar}
 use Rattle.lq_value.specs.declared.scalar.Scalar.TheVariants as scalar
 use Rattle.lq_value.specs.declared.table.Schema.{Schema}
+use Rattle.lq_value.specs.declared.ty.Ty.{Ty, out-Ty}
+use Rattle.lq_value.specs.declared.ty.Ty.TheOpen.{Ty-F}
 use Rattle.lq_value.specs.declared.ty.Ty.TheVariants as ty
 use Rattle.lq_value.specs.declared.ty.Ty.TheVariants.{outs-Row, outs-Seq}
 use Rattle.lq_value.specs.declared.value.Fault.{Fault}
@@ -10,19 +12,20 @@ use Rattle.lq_value.specs.declared.value.Fault.TheVariants as fault
 use Rattle.lq_value.specs.declared.value.Value.{Value, out-Value}
 use Rattle.lq_value.specs.declared.value.Value.TheVariants as value
 use Rattle.lq_value.specs.declared.value.Value.TheVariants.{outs-Row as outs-value-Row, outs-Scalar}
-use Rattle.lq_model.specs.Meaning.{Scope, World, cell_value, meaning, member_value, scalar_of}
-use Rattle.lq_model.specs.Operations.{compared, on_ok}
-use Rattle.lq_model.specs.Typing.{Names, is_scalar, name_type, table_number, type_of}
+use Rattle.lq_model.specs.Meaning.{Scope, World, cell_value, meaning, member_value, on_scalar, scalar_of, truth_value}
+use Rattle.lq_model.specs.Operations.{compared, on_ok, truth_of}
+use Rattle.lq_model.specs.Typing.{Names, is_bool, is_bool_type, is_scalar, name_type, table_number, truth_type, type_of}
 use Rattle.lq_model.specs.declared.syntax.Binary.{Binary}
 use Rattle.lq_model.specs.declared.syntax.Expr.{Expr, ind-Expr, map-Expr, roll-Expr}
 use Rattle.lq_model.specs.declared.syntax.Expr.TheOpen.{Expr-F}
 use Rattle.lq_model.specs.declared.syntax.Expr.TheVariants.{rolls-Node}
 use Rattle.lq_model.specs.declared.syntax.Expr.TheVariants as expr
 use Rattle.lq_model.specs.declared.syntax.Node.TheVariants as node
-use Rattle.lq_model.proofs.Opens.{layer_type, rolled_type, meaning_compare, meaning_integer, meaning_member, type_name}
+use Rattle.lq_model.specs.declared.syntax.Unary.TheVariants as unary
+use Rattle.lq_model.proofs.Opens.{layer_type, rolled_type, meaning_both, meaning_compare, meaning_either, meaning_integer, meaning_member, meaning_not, meaning_truth, type_both, type_either, type_name}
 use Rattle.lq_session.specs.Given.{is_scalar_type}
-use Rattle.lq_session.specs.OneRow.{Shape, TheRow, TheScalar, cell_in, member_in, scalar_at, scalar_in}
-use Rattle.lq_session.proofs.OneRowLemmas.{Agrees, as_shape, as_value, faulting, means, no_member, row_scope, scalar_means, shape_compare, shape_integer, shape_member}
+use Rattle.lq_session.specs.OneRow.{Shape, TheRow, TheScalar, cell_in, member_in, scalar_at, scalar_in, shape_of, truth_in, truth_shape}
+use Rattle.lq_session.proofs.OneRowLemmas.{Agrees, as_shape, as_value, faulting, means, no_member, row_scope, scalar_means, shape_both, shape_compare, shape_either, shape_integer, shape_member, shape_not, shape_truth, truths_agree}
 
 -- a scalar as a value
 abbrev pub as_values : {R : Type 0} → Result Scalar Fault → Result (Value R) Fault
@@ -95,6 +98,78 @@ module _ {R : Type 0} (world : World R) (tables : List Schema) (variable : List 
       ∙ compared_found op (scalar_at variable (world.cell r) a) (scalar_at variable (world.cell r) b)
       ∙ sym (ap (λ (o : Result Shape Fault). as_values (on_ok o scalar_in)) (shape_compare variable (world.cell r) op a b))
 
+  -- a truth value as it is found, and what follows it
+  abbrev truth_at_row : Expr → Result Bool Fault
+  truth_at_row a = on_ok (shape_of variable (world.cell r) a) truth_in
+
+  truths : (a : Expr) → on_scalar (faulting world) (meaning (faulting world) a scope) (truth_of fault.NullReference) ≡ truth_at_row a
+  truths a = truths_agree (faulting world) variable (ty.Row n) r _ _ (means (faulting world) variable (ty.Row n) r a)
+
+  abbrev in_scalars : Result Shape Fault → Result (Value R) Fault
+  in_scalars o = as_values (on_ok o scalar_in)
+
+  found_truth : (b : Bool) → IsFound (expr.Node (node.Bool b))
+  unfolding scalar_at
+  found_truth b typed = meaning_truth (faulting world) b scope ∙ sym (ap in_scalars (shape_truth variable (world.cell r) b))
+
+  not_found : (o : Result Bool Fault) → on_ok o (λ t. Ok (truth_value (not t))) ≡ in_scalars (on_ok o (λ t. Ok (truth_shape (not t))))
+  not_found (Ok t) = refl
+  not_found (Err f) = refl
+
+  found_not : (a : Expr) → IsFound (expr.Node (node.Unary unary.Not a))
+  unfolding scalar_at
+  found_not a typed =
+      meaning_not (faulting world) a scope
+      ∙ ap (λ (o : Result Bool Fault). on_ok o (λ t. Ok (truth_value (not t)))) (truths a)
+      ∙ not_found (truth_at_row a)
+      ∙ sym (ap in_scalars (shape_not variable (world.cell r) a))
+
+  truth_is_scalar : (o : Option Ty) → is_bool_type o ≡ true → is_scalar_type o ≡ true
+  truth_is_scalar None h = absurd (true≢false (sym h))
+  truth_is_scalar (Some t) h = by (out-Ty t) h where
+    by : (layer : Ty-F Ty) → is_bool layer ≡ true → is_scalar layer ≡ true
+    by Ty-F.Bool k = refl
+    by layer k = absurd (true≢false (sym k))
+
+  -- of two truth values the second is one
+  second_typed : (a b : Bool) → is_scalar_type (truth_type (a && b)) ≡ true → b ≡ true
+  second_typed true true h = refl
+  second_typed true false h = absurd (true≢false (sym h))
+  second_typed false b h = absurd (true≢false (sym h))
+
+  second_found : (a b : Expr) → IsFound b → is_scalar_type (truth_type (is_bool_type (type_of a row_names) && is_bool_type (type_of b row_names))) ≡ true
+      → meaning (faulting world) b scope ≡ in_scalars (shape_of variable (world.cell r) b)
+  unfolding scalar_at
+  second_found a b found typed = found (truth_is_scalar (type_of b row_names) (second_typed (is_bool_type (type_of a row_names)) (is_bool_type (type_of b row_names)) typed))
+
+  both_found : (b : Expr) → meaning (faulting world) b scope ≡ in_scalars (shape_of variable (world.cell r) b) → (o : Result Bool Fault)
+      → on_ok o (λ t. if t then meaning (faulting world) b scope else Ok (truth_value false)) ≡ in_scalars (on_ok o (λ t. if t then shape_of variable (world.cell r) b else Ok (truth_shape false)))
+  both_found b second (Ok true) = second
+  both_found b second (Ok false) = refl
+  both_found b second (Err f) = refl
+
+  either_found : (b : Expr) → meaning (faulting world) b scope ≡ in_scalars (shape_of variable (world.cell r) b) → (o : Result Bool Fault)
+      → on_ok o (λ t. if t then Ok (truth_value true) else meaning (faulting world) b scope) ≡ in_scalars (on_ok o (λ t. if t then Ok (truth_shape true) else shape_of variable (world.cell r) b))
+  either_found b second (Ok true) = refl
+  either_found b second (Ok false) = second
+  either_found b second (Err f) = refl
+
+  found_both : (a b : Expr) → IsFound b → IsFound (expr.Node (node.And a b))
+  unfolding scalar_at
+  found_both a b found typed =
+      meaning_both (faulting world) a b scope
+      ∙ ap (λ (o : Result Bool Fault). on_ok o (λ t. if t then meaning (faulting world) b scope else Ok (truth_value false))) (truths a)
+      ∙ both_found b (second_found a b found (sym (ap is_scalar_type (type_both a b row_names)) ∙ typed)) (truth_at_row a)
+      ∙ sym (ap in_scalars (shape_both variable (world.cell r) a b))
+
+  found_either : (a b : Expr) → IsFound b → IsFound (expr.Node (node.Or a b))
+  unfolding scalar_at
+  found_either a b found typed =
+      meaning_either (faulting world) a b scope
+      ∙ ap (λ (o : Result Bool Fault). on_ok o (λ t. if t then Ok (truth_value true) else meaning (faulting world) b scope)) (truths a)
+      ∙ either_found b (second_found a b found (sym (ap is_scalar_type (type_either a b row_names)) ∙ typed)) (truth_at_row a)
+      ∙ sym (ap in_scalars (shape_either variable (world.cell r) a b))
+
   abbrev Both : Type 0
   Both = (e : Expr) × IsFound e
 
@@ -107,6 +182,10 @@ module _ {R : Type 0} (world : World R) (tables : List Schema) (variable : List 
   found_layer x (Expr-F.Node (node.Name s)) h = subst (λ d. IsFound (roll-Expr d)) h (subst IsFound (sym (rolls-Node (node.Name s))) (found_name s))
   found_layer x (Expr-F.Node (node.Member row c)) h = subst (λ d. IsFound (roll-Expr d)) h (subst IsFound (sym (rolls-Node (node.Member row.0 c))) (found_member row.0 c))
   found_layer x (Expr-F.Node (node.Binary op a b)) h = subst (λ d. IsFound (roll-Expr d)) h (subst IsFound (sym (rolls-Node (node.Binary op a.0 b.0))) (found_compare op a.0 b.0))
+  found_layer x (Expr-F.Node (node.Bool b)) h = subst (λ d. IsFound (roll-Expr d)) h (subst IsFound (sym (rolls-Node (node.Bool b))) (found_truth b))
+  found_layer x (Expr-F.Node (node.Unary unary.Not a)) h = subst (λ d. IsFound (roll-Expr d)) h (subst IsFound (sym (rolls-Node (node.Unary unary.Not a.0))) (found_not a.0))
+  found_layer x (Expr-F.Node (node.And a b)) h = subst (λ d. IsFound (roll-Expr d)) h (subst IsFound (sym (rolls-Node (node.And a.0 b.0))) (found_both a.0 b.0 b.1))
+  found_layer x (Expr-F.Node (node.Or a b)) h = subst (λ d. IsFound (roll-Expr d)) h (subst IsFound (sym (rolls-Node (node.Or a.0 b.0))) (found_either a.0 b.0 b.1))
   found_layer x (Expr-F.Node other) h = subst (λ d. IsFound (roll-Expr d)) h (found_nothing (map-Expr Both Expr (λ b. b.0) (Expr-F.Node other)) refl)
   found_layer x (Expr-F.Query q) h = subst (λ d. IsFound (roll-Expr d)) h (found_nothing (map-Expr Both Expr (λ b. b.0) (Expr-F.Query q)) refl)
 

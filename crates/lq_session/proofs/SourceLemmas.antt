@@ -10,14 +10,15 @@ use Rattle.lq_value.specs.declared.ty.Ty.{Ty, out-Ty}
 use Rattle.lq_value.specs.declared.ty.Ty.TheVariants as ty
 use Rattle.lq_value.specs.declared.ty.Ty.TheVariants.{outs-Bool, outs-Int, outs-IntN, outs-Row, outs-Seq, outs-Str}
 use Rattle.lq_model.specs.Meaning.{World, meaning, table_value}
-use Rattle.lq_model.specs.Typing.{is_comparison, column_named, column_type, is_number, item_of, row_table, table_number, type_of, type_of_column}
+use Rattle.lq_model.specs.Typing.{is_bool_type, is_comparison, column_named, column_type, is_number, item_of, row_table, table_number, type_of, type_of_column}
 use Rattle.lq_model.specs.declared.syntax.Binary.{Binary}
 use Rattle.lq_model.specs.declared.syntax.Expr.{Expr, ind-Expr, map-Expr, roll-Expr}
 use Rattle.lq_model.specs.declared.syntax.Expr.TheOpen.{Expr-F}
 use Rattle.lq_model.specs.declared.syntax.Expr.TheVariants.{rolls-Node}
 use Rattle.lq_model.specs.declared.syntax.Expr.TheVariants as expr
 use Rattle.lq_model.specs.declared.syntax.Node.TheVariants as node
-use Rattle.lq_model.proofs.Opens.{layer_type, rolled_type, meaning_name, type_compare, type_integer, type_member, type_name}
+use Rattle.lq_model.specs.declared.syntax.Unary.TheVariants as unary
+use Rattle.lq_model.proofs.Opens.{layer_type, rolled_type, meaning_name, type_both, type_compare, type_either, type_integer, type_member, type_name, type_not, type_truth}
 use Rattle.lq_session.specs.Given.{top_names}
 
 -- the table whose rows a sequence of this type has
@@ -80,6 +81,20 @@ module _ {R : Type 0} (world : World R) (number : ℕ) where
   source_compare op a b h =
       none_is_none (sym (ap table_of_rows (type_compare op a b (top_names world.schemas)) ∙ compare_no_rows (is_comparison op) (type_of a (top_names world.schemas)) (type_of b (top_names world.schemas))) ∙ h)
 
+  source_truth : (b : Bool) → IsSource (expr.Node (node.Bool b))
+  source_truth b h = none_is_none (sym (ap table_of_rows (type_truth b (top_names world.schemas)) ∙ column_no_rows of.Bool) ∙ h)
+
+  source_not : (a : Expr) → IsSource (expr.Node (node.Unary unary.Not a))
+  source_not a h = none_is_none (sym (ap table_of_rows (type_not a (top_names world.schemas)) ∙ truth_no_rows (is_bool_type (type_of a (top_names world.schemas)))) ∙ h)
+
+  source_both : (a b : Expr) → IsSource (expr.Node (node.And a b))
+  source_both a b h =
+      none_is_none (sym (ap table_of_rows (type_both a b (top_names world.schemas)) ∙ truth_no_rows (is_bool_type (type_of a (top_names world.schemas)) && is_bool_type (type_of b (top_names world.schemas)))) ∙ h)
+
+  source_either : (a b : Expr) → IsSource (expr.Node (node.Or a b))
+  source_either a b h =
+      none_is_none (sym (ap table_of_rows (type_either a b (top_names world.schemas)) ∙ truth_no_rows (is_bool_type (type_of a (top_names world.schemas)) && is_bool_type (type_of b (top_names world.schemas)))) ∙ h)
+
   -- the table that a name stands for
   found_table : (o : Option ℕ) → table_of_rows (option_map (λ m. ty.Seq (ty.Row m)) o) ≡ Some number
       → table_value world (option_and_then (λ m. slice_get world.rows m) o) ≡ table_value world (slice_get world.rows number)
@@ -101,6 +116,10 @@ module _ {R : Type 0} (world : World R) (number : ℕ) where
   source_layer x (Expr-F.Node (node.Name s)) h = subst (λ d. IsSource (roll-Expr d)) h (subst IsSource (sym (rolls-Node (node.Name s))) (source_name s))
   source_layer x (Expr-F.Node (node.Member row c)) h = subst (λ d. IsSource (roll-Expr d)) h (subst IsSource (sym (rolls-Node (node.Member row.0 c))) (source_member row.0 c))
   source_layer x (Expr-F.Node (node.Binary op a b)) h = subst (λ d. IsSource (roll-Expr d)) h (subst IsSource (sym (rolls-Node (node.Binary op a.0 b.0))) (source_compare op a.0 b.0))
+  source_layer x (Expr-F.Node (node.Bool b)) h = subst (λ d. IsSource (roll-Expr d)) h (subst IsSource (sym (rolls-Node (node.Bool b))) (source_truth b))
+  source_layer x (Expr-F.Node (node.Unary unary.Not a)) h = subst (λ d. IsSource (roll-Expr d)) h (subst IsSource (sym (rolls-Node (node.Unary unary.Not a.0))) (source_not a.0))
+  source_layer x (Expr-F.Node (node.And a b)) h = subst (λ d. IsSource (roll-Expr d)) h (subst IsSource (sym (rolls-Node (node.And a.0 b.0))) (source_both a.0 b.0))
+  source_layer x (Expr-F.Node (node.Or a b)) h = subst (λ d. IsSource (roll-Expr d)) h (subst IsSource (sym (rolls-Node (node.Or a.0 b.0))) (source_either a.0 b.0))
   source_layer x (Expr-F.Node other) h = subst (λ d. IsSource (roll-Expr d)) h (λ e. none_is_none (sym (ap table_of_rows (untyped (map-Expr Both Expr (λ b. b.0) (Expr-F.Node other)) refl)) ∙ e))
   source_layer x (Expr-F.Query q) h = subst (λ d. IsSource (roll-Expr d)) h (λ e. none_is_none (sym (ap table_of_rows (untyped (map-Expr Both Expr (λ b. b.0) (Expr-F.Query q)) refl)) ∙ e))
 

@@ -20,7 +20,7 @@ use Rattle.lq_model.specs.declared.syntax.Expr.{Expr}
 use Rattle.lq_model.specs.declared.syntax.Last.{Last}
 use Rattle.lq_model.specs.declared.syntax.Last.TheVariants as last
 use Rattle.lq_model.specs.declared.syntax.Query.{Query}
-use Rattle.lq_model.proofs.Opens.{type_compare, type_integer, type_member, type_name, type_text, type_truth, type_null, type_unary, type_both, type_either, type_coalesce, type_choice, type_host, type_record, type_method, type_query}
+use Rattle.lq_model.proofs.Opens.{type_compare, type_integer, type_member, type_name, type_text, type_truth, type_null, type_minus, type_not, type_both, type_either, type_coalesce, type_choice, type_host, type_record, type_method, type_query}
 use Rattle.lq_session.specs.Given.{IsOver, clauses_are_typed, is_scalar_type, is_typed_body, selects_scalar, top_names}
 use Rattle.lq_session.specs.KnownTypes.{is_known_bool, is_known_number, is_known_scalar, known_row, shown_type}
 use Rattle.lq_session.specs.declared.typing.Known.{Known}
@@ -58,7 +58,7 @@ row_known (known.Scalar of.Str) = ap row_table outs-Str
 row_known (known.Row n) = ap row_table (outs-Row n)
 row_known (known.Rows n) = ap row_table (outs-Seq (ty.Row n))
 
-pub ruleset types = (type_integer, type_name, type_member, type_compare, type_text, type_truth, type_null, type_unary, type_both, type_either, type_coalesce, type_choice, type_host, type_record, type_method, type_query, number_known, row_known)
+pub ruleset types = (type_integer, type_name, type_member, type_compare, type_text, type_truth, type_null, type_minus, type_not, type_both, type_either, type_coalesce, type_choice, type_host, type_record, type_method, type_query, number_known, row_known)
 
 -- a table is found by its schema where it is found by its name
 pub number_is : (tables : List Table) (name : List ℕ) → first_named store.name_of name tables ≡ table_number name (schemas_of tables)

@@ -1,6 +1,6 @@
 -- What an expression is on one row, as the evaluator finds it: the row is the only local name. What has no meaning faults as a
 -- null row does; the type check leaves none of it to be run.
-use Rattle.std.specs.Prelude.{◌∷◌, if◌then◌else◌, List, [], ℕ, Bool, true, false, Option, Some, None, Result, Ok, Err}
+use Rattle.std.specs.Prelude.{◌∷◌, if◌then◌else◌, not, List, [], ℕ, Bool, true, false, Option, Some, None, Result, Ok, Err}
 use Rattle.std.specs.Str.{bytes_eq}
 use Rattle.lq_value.specs.declared.scalar.Scalar.{Scalar}
 use Rattle.lq_value.specs.declared.scalar.Scalar.TheVariants as scalar
@@ -16,6 +16,7 @@ use Rattle.lq_model.specs.declared.syntax.Last.{Last}
 use Rattle.lq_model.specs.declared.syntax.Node.{Node}
 use Rattle.lq_model.specs.declared.syntax.Node.TheVariants as node
 use Rattle.lq_model.specs.declared.syntax.Last.TheVariants as last
+use Rattle.lq_model.specs.declared.syntax.Unary.TheVariants as unary
 
 -- the row itself, or a scalar
 pub data Shape : Type 0 where
@@ -25,6 +26,12 @@ pub data Shape : Type 0 where
 abbrev pub scalar_in : Shape → Result Scalar Fault
 scalar_in TheRow = Err fault.NullReference
 scalar_in (TheScalar s) = Ok s
+
+abbrev pub truth_in : Shape → Result Bool Fault
+truth_in shape = on_ok (scalar_in shape) (truth_of fault.NullReference)
+
+abbrev pub truth_shape : Bool → Shape
+truth_shape b = TheScalar (scalar.Bool b)
 
 abbrev pub cell_in : Option Scalar → Result Shape Fault
 cell_in (Some s) = Ok (TheScalar s)
@@ -45,6 +52,10 @@ module _ (variable : List ℕ) (cell : List ℕ → Option Scalar) where
   node_shape (node.Member row c) = on_ok row (member_in (cell c))
   node_shape (node.Binary op a b) =
       on_ok (on_ok a scalar_in) (λ s. on_ok (on_ok b scalar_in) (λ t. on_ok (compared fault.NullReference op s t) (λ truth. Ok (TheScalar (scalar.Bool truth)))))
+  node_shape (node.Bool b) = Ok (truth_shape b)
+  node_shape (node.Unary unary.Not a) = on_ok (on_ok a truth_in) (λ t. Ok (truth_shape (not t)))
+  node_shape (node.And a b) = on_ok (on_ok a truth_in) (λ t. if t then b else Ok (truth_shape false))
+  node_shape (node.Or a b) = on_ok (on_ok a truth_in) (λ t. if t then Ok (truth_shape true) else b)
   node_shape node = Err fault.NullReference
 
   abbrev pub shape_step : Expr-F (Result Shape Fault) → Result Shape Fault

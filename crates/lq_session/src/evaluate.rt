@@ -4,11 +4,11 @@ ghost use Rattle.std.specs.Option.{option_copied};
 ghost use Rattle.lq_value.specs.declared.value.Fault.TheVariants as fault;
 ghost use Rattle.lq_model.specs.Operations.{truth_of};
 ghost use Rattle.lq_model.specs.Visible.{cell_named};
-ghost use Rattle.lq_session.specs.OneRow.{scalar_in};
+ghost use Rattle.lq_session.specs.OneRow.{scalar_in, truth_in, truth_shape};
 ghost use Rattle.lq_scalar.specs.Operands.{shown_scalar};
 ghost use Rattle.lq_session.specs.Operands.{shown_operand, shown_scalars};
 
-use lq_model::{Expr, Node};
+use lq_model::{Expr, Node, Unary};
 use lq_scalar::{ScalarRef, compared};
 use lq_value::{Column, Fault, Scalar, Txt};
 
@@ -93,6 +93,20 @@ fn truth_of(scalar: ScalarRef<'_>) -> Result<bool, Fault>
     }
 }
 
+/// The truth value that an operand is; no other operand is a condition.
+fn truth_in(operand: Operand<'_>) -> Result<bool, Fault>
+    ensures { result ≡ truth_in (shown_operand operand.entry) }
+{
+    truth_of(scalar_in(operand)?)
+}
+
+/// A truth value as an operand.
+fn truth_operand<'a>(truth: bool) -> Operand<'a>
+    ensures { shown_operand result ≡ truth_shape truth }
+{
+    Operand::Scalar(ScalarRef::Bool(truth))
+}
+
 impl<'a, C: Named> OneRow<'a, C> {
     ghost use Rattle.std.specs.Prelude.{◌≡◌, map, if◌then◌else◌, Ok, Err};
     ghost use Rattle.std.specs.Str.{bytes_eq};
@@ -157,12 +171,28 @@ impl<'a, C: Named> OneRow<'a, C> {
                 let truth = compared(*operator, left, right)?;
                 Ok(Operand::Scalar(ScalarRef::Bool(truth)))
             }
+            Node::Bool(truth) => Ok(truth_operand(*truth)),
+            Node::Unary(Unary::Not, operand) => {
+                let truth = truth_in(self.operand(operand.get())?)?;
+                Ok(truth_operand(!truth))
+            }
+            Node::And(left, right) => {
+                if truth_in(self.operand(left.get())?)? {
+                    self.operand(right.get())
+                } else {
+                    Ok(truth_operand(false))
+                }
+            }
+            Node::Or(left, right) => {
+                if truth_in(self.operand(left.get())?)? {
+                    Ok(truth_operand(true))
+                } else {
+                    self.operand(right.get())
+                }
+            }
             Node::Text(_)
-            | Node::Bool(_)
             | Node::Null
-            | Node::Unary(_, _)
-            | Node::And(_, _)
-            | Node::Or(_, _)
+            | Node::Unary(Unary::Minus, _)
             | Node::Coalesce(_, _)
             | Node::Conditional(_, _, _)
             | Node::Host(_, _)

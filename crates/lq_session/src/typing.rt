@@ -1,11 +1,11 @@
 //! The types of expressions and queries over the tables of a store.
 ghost use Rattle.std.specs.Prelude.{◌≡◌, ◌<◌, None, length, option_map, IfNone, IfSome};
 ghost use Rattle.lq_model.specs.Machine.{schemas_of};
-ghost use Rattle.lq_model.specs.Typing.{column_named, is_comparison, item_type, table_number, type_of, type_of_column};
+ghost use Rattle.lq_model.specs.Typing.{column_named, is_comparison, item_type, table_number, truth_type, type_of, type_of_column};
 ghost use Rattle.lq_session.specs.Given.{IsOver, top_names};
-ghost use Rattle.lq_session.specs.KnownTypes.{is_known_number};
+ghost use Rattle.lq_session.specs.KnownTypes.{is_known_number, shown_type};
 
-use lq_model::{Binary, Clause, Expr, Last, Node, Query};
+use lq_model::{Binary, Clause, Expr, Last, Node, Query, Unary};
 use lq_store::{Column, ColumnType, Store};
 
 /// The type of an expression of this grammar.
@@ -39,6 +39,13 @@ fn is_comparison(operator: Binary) -> bool
             | Binary::Equal
             | Binary::NotEqual
     )
+}
+
+/// The type of truth values, where all operands are some.
+fn truth_type(are_truths: bool) -> Option<Known>
+    ensures { option_map shown_type result ≡ truth_type are_truths }
+{
+    are_truths.then_some(Known::Scalar(ColumnType::Bool))
 }
 
 /// The number of the table of this name.
@@ -139,12 +146,14 @@ impl KnownNames<'_> {
                 let right = self.type_of(right.get())?;
                 (is_number(left) && is_number(right)).then_some(Known::Scalar(ColumnType::Bool))
             }
+            Node::Bool(_) => Some(Known::Scalar(ColumnType::Bool)),
+            Node::Unary(Unary::Not, operand) => truth_type(self.is_condition(operand.get())),
+            Node::And(left, right) | Node::Or(left, right) => {
+                truth_type(self.is_condition(left.get()) && self.is_condition(right.get()))
+            }
             Node::Text(_)
-            | Node::Bool(_)
             | Node::Null
-            | Node::Unary(_, _)
-            | Node::And(_, _)
-            | Node::Or(_, _)
+            | Node::Unary(Unary::Minus, _)
             | Node::Coalesce(_, _)
             | Node::Conditional(_, _, _)
             | Node::Host(_, _)
@@ -154,6 +163,7 @@ impl KnownNames<'_> {
     }
 
     /// Whether the expression is a truth value.
+    #[cycle(types)]
     #[tactic(auto, using(crate::proofs::TypingLemmas::bool_known))]
     fn is_condition(&self, expression: &Expr) -> bool
         ensures { result ≡ is_bool_type (type_of expression.now (names_of self.now)) }
