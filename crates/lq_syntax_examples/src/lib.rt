@@ -1,5 +1,5 @@
-//! Tests of tokens, of trees and of total rules, by the public calls that give them. They stand here and not in the crates that they
-//! test: a crate without tests is proved once.
+//! Tests of tokens, of trees and of total rules, by the public calls that give them. They stand here
+//! and not in the crates that they test: a crate without tests is proved once.
 #![tactic(auto)]
 
 #[cfg(test)]
