@@ -25,4 +25,5 @@ pub mod ScriptLemmas
 pub mod SessionLemmas
 pub mod Soundness
 pub mod Trees
+pub mod TotalityLemmas
 pub mod TypingLemmas

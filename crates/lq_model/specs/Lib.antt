@@ -18,6 +18,8 @@ pub mod SessionLaws
 pub mod Stream
 pub mod TextLiterals
 pub mod Tokens
+pub mod Totality
+pub mod TotalityLaws
 pub mod Typing
 pub mod TypingLaws
 pub mod Visible

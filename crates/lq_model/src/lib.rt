@@ -1,7 +1,8 @@
 //! What every answer of the server means: tokens, grammar, types, meanings, policies, the session
 //! machine and its output. The definitions stand in `specs/`, the laws about them are the contracts
 //! of the functions of `lexing_laws`, `grammar_laws`, `typing_laws`, `operation_laws`,
-//! `meaning_laws`, `policy_laws` and `session_laws`, and tokens, syntax trees, operator calls and policies are plain types.
+//! `meaning_laws`, `totality_laws`, `policy_laws` and `session_laws`, and tokens, syntax trees, operator calls and policies
+//! are plain types.
 #![tactic(auto)]
 
 mod calls;
@@ -15,6 +16,7 @@ pub mod policy_laws;
 pub mod session_laws;
 mod syntax;
 mod token;
+pub mod totality_laws;
 pub mod typing_laws;
 
 pub use calls::{Call, Operator, Paired, Part};

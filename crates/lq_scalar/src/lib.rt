@@ -7,9 +7,11 @@ mod error;
 mod operations;
 mod scalar_ref;
 mod texts;
+mod totality;
 
 pub use comparison::compared;
 pub use error::ScalarError;
 pub use lq_model::Op;
 pub use operations::apply;
 pub use scalar_ref::ScalarRef;
+pub use totality::is_total;

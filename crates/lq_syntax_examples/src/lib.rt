@@ -1,7 +1,9 @@
-//! Tests of tokens and of trees, by the public calls that give them. They stand here and not in the crates that they
-//! test: a crate without tests is proved once.
+//! Tests of tokens, of trees and of total rules, by the public calls that give them. They stand here
+//! and not in the crates that they test: a crate without tests is proved once.
 #![tactic(auto)]
 
+#[cfg(test)]
+mod rules;
 #[cfg(test)]
 mod tokens;
 #[cfg(test)]
