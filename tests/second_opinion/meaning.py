@@ -29,10 +29,18 @@ def value_of(tree, row):
     """The value of an expression that has a type, where the range variable stands for the row."""
     if tree.kind == "integer":
         return tree.parts[0]
+    if tree.kind in ("true", "false"):
+        return tree.kind == "true"
     if tree.kind == "name":
         return row
     if tree.kind == ".":
         return value_of(tree.parts[0], row)[tree.parts[1]]
+    if tree.kind == "unary !":
+        return not value_of(tree.parts[0], row)
+    if tree.kind == "&&":
+        return value_of(tree.parts[0], row) and value_of(tree.parts[1], row)
+    if tree.kind == "||":
+        return value_of(tree.parts[0], row) or value_of(tree.parts[1], row)
     left, right = (value_of(operand, row) for operand in tree.parts)
     return compare(left, tree.kind, right)
 

@@ -2,6 +2,7 @@
 
 COMPARISONS = ("<", ">", "<=", ">=", "==", "!=")
 SCALARS = ("int", "int?", "bool", "string")
+OF_TRUTHS = ("unary !", "&&", "||")
 
 
 class TypeFault(Exception):
@@ -11,10 +12,12 @@ class TypeFault(Exception):
 def type_of(tree, scope):
     """An expression's type: a scalar's name, or for a row the types of its columns. The scope has the types of range variables.
 
-    ECMA-334, scopes, member access, relational and equality operators; only some forms of these are served yet.
+    ECMA-334, scopes, literals, member access, relational, equality and logical operators; only some forms are served yet.
     """
     if tree.kind == "integer":
         return "int"
+    if tree.kind in ("true", "false"):
+        return "bool"
     if tree.kind == "name" and tree.parts[0] in scope:
         return scope[tree.parts[0]]
     if tree.kind == ".":
@@ -22,6 +25,8 @@ def type_of(tree, scope):
         if isinstance(columns, dict) and tree.parts[1] in columns:
             return columns[tree.parts[1]]
     if tree.kind in COMPARISONS and all(type_of(operand, scope) in ("int", "int?") for operand in tree.parts):
+        return "bool"
+    if tree.kind in OF_TRUTHS and all(type_of(operand, scope) == "bool" for operand in tree.parts):
         return "bool"
     raise TypeFault(f"no type of {tree.kind}")
 

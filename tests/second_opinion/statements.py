@@ -90,6 +90,32 @@ def number_near(dice, table, column):
     return dice.choice(["", "", "", "0", "00", "0" * 40]) + str(value)
 
 
+def comparison(dice, variable, table):
+    """A comparison of a column with a number, or now and then of two columns."""
+    columns = list(table.columns)
+    column = dice.choice(columns)
+    other = [variable, ".", dice.choice(columns)] if dice.random() < 0.1 else [number_near(dice, table, column)]
+    return [variable, ".", column, dice.choice(SIGNS), *other]
+
+
+def condition(dice, variable, table, depth):
+    """Comparisons and truth values under `!`, `&&` and `||`, in brackets where the grammar wants them and by chance elsewhere."""
+    kind = dice.choice(["comparison"] * 5 + ["literal", "not", "&&", "&&", "||", "||"]) if depth else "comparison"
+    if kind == "comparison":
+        return comparison(dice, variable, table)
+    if kind == "literal":
+        return [dice.choice(["true", "false"])]
+    if kind == "not":
+        return ["!"] * dice.choice([1, 1, 2]) + ["(", *condition(dice, variable, table, depth - 1), ")"]
+    left, right = (condition(dice, variable, table, depth - 1) for _ in range(2))
+    return [*(in_brackets(dice, left)), kind, *(in_brackets(dice, right))]
+
+
+def in_brackets(dice, words):
+    """What stands beside an operator, in brackets by chance: without them the operators' order groups it anew."""
+    return ["(", *words, ")"] if dice.random() < 0.4 else words
+
+
 def statement(dice, tables):
     """The spelled tokens of a statement that is served, over one of the tables."""
     name, table = dice.choice(list(tables.items()))
@@ -97,8 +123,7 @@ def statement(dice, tables):
     variable = dice.choice(VARIABLES + [name])
     words = ["run", "from", variable, "in", name]
     if dice.random() < 0.6:
-        column = dice.choice(columns)
-        words += ["where", variable, ".", column, dice.choice(SIGNS), number_near(dice, table, column)]
+        words += ["where", *condition(dice, variable, table, dice.choice([0, 0, 1, 2, 4]))]
     return words + ["select", variable, ".", dice.choice(columns), ";"]
 
 
