@@ -1,8 +1,11 @@
-//! Copies of values, and the wrappers that values are made of.
+//! Copies of values, sameness and order, and the wrappers that values are made of.
 ghost use Rattle.std.specs.Prelude.{◌≡◌};
 
-use lq_value::{End, Fault, Held, List, RowRef, Scalar, Txt, Value, copy, copy_scalar};
+use lq_value::{
+    End, Fault, Held, List, RowRef, Scalar, Txt, Value, copy, copy_scalar, order, same,
+};
 use std::alloc::{AllocError, Global};
+use std::cmp::Ordering;
 use std::test::Fail;
 
 /// A row by its cells.
@@ -137,5 +140,134 @@ fn boxes_and_texts_give_back_what_they_hold(rt: HostRuntime) -> Result<(), Fail>
     assert!(rt; Held::new(rt.alloc(), 4)?.into_inner() == 4);
     let text = Txt::from_string(String::from_str(rt.alloc(), "t")?);
     assert!(rt; text.as_str() == "t");
+    Ok(())
+}
+
+// Two scalars as they are spelled, a text in quotes, and how the first stands to the second.
+const ORDERS: [(&str, &str, Ordering); 16] = [
+    ("null", "null", Ordering::Equal),
+    ("null", "-2147483648", Ordering::Less),
+    ("null", "false", Ordering::Less),
+    ("null", "''", Ordering::Less),
+    ("-1", "1", Ordering::Less),
+    ("10", "9", Ordering::Greater),
+    ("7", "7", Ordering::Equal),
+    ("false", "true", Ordering::Less),
+    ("true", "true", Ordering::Equal),
+    ("''", "'a'", Ordering::Less),
+    ("'a'", "'b'", Ordering::Less),
+    ("'ab'", "'a'", Ordering::Greater),
+    ("'B'", "'a'", Ordering::Less),
+    ("'\u{e9}'", "'z'", Ordering::Greater),
+    ("'\u{e9}'", "'\u{e9}'", Ordering::Equal),
+    // No typed expression compares these: they stand in the order of their kinds.
+    ("1", "'1'", Ordering::Less),
+];
+
+type Spelled<'a> = &'a [(&'a str, &'a str)];
+
+// Two records by their members, names and scalars, and whether they are the same.
+const RECORDS: [(Spelled<'static>, Spelled<'static>, bool); 8] = [
+    (&[], &[], true),
+    (&[("K", "1")], &[("K", "1")], true),
+    (
+        &[("K", "null"), ("V", "'x'")],
+        &[("K", "null"), ("V", "'x'")],
+        true,
+    ),
+    (&[("K", "1")], &[("K", "2")], false),
+    (&[("K", "1")], &[("V", "1")], false),
+    (&[("K", "1")], &[], false),
+    (&[("K", "1"), ("V", "2")], &[("K", "1"), ("V", "3")], false),
+    (&[("K", "1"), ("V", "2")], &[("V", "2"), ("K", "1")], false),
+];
+
+fn spelled(alloc: Global, word: &str) -> Result<Scalar, AllocError> {
+    if let Some(text) = word.strip_prefix('\'') {
+        let text = text.strip_suffix('\'').unwrap_or(text);
+        return Ok(Scalar::Text(Txt::from_str(alloc, text)?));
+    }
+    Ok(match word {
+        "true" => Scalar::Bool(true),
+        "false" => Scalar::Bool(false),
+        _ => word.parse().map_or(Scalar::Null, Scalar::Int),
+    })
+}
+
+fn spelled_record<'a>(
+    alloc: Global,
+    spelling: &[(&str, &str)],
+) -> Result<Value<Cells<'a>>, AllocError> {
+    let mut members = List::new(alloc);
+    for (name, word) in spelling {
+        let value = Value::Scalar(spelled(alloc, word)?);
+        members.push((Txt::from_str(alloc, name)?, value))?;
+    }
+    Ok(Value::Rec(members))
+}
+
+// A record whose only member, K, is this record.
+fn around<'a>(alloc: Global, spelling: &[(&str, &str)]) -> Result<Value<Cells<'a>>, AllocError> {
+    let mut members = List::new(alloc);
+    let inner = spelled_record(alloc, spelling)?;
+    members.push((Txt::from_str(alloc, "K")?, inner))?;
+    Ok(Value::Rec(members))
+}
+
+#[test]
+fn scalars_stand_in_order(rt: HostRuntime) -> Result<(), Fail> {
+    for (first, second, expected) in ORDERS {
+        let left = spelled(rt.alloc(), first)?;
+        let right = spelled(rt.alloc(), second)?;
+        assert!(rt; order(&left, &right) == expected, "{first} {second}");
+        assert!(rt;
+            order(&right, &left) == expected.reverse(),
+            "{second} {first}"
+        );
+    }
+    Ok(())
+}
+
+#[test]
+fn scalars_are_the_same_by_content(rt: HostRuntime) -> Result<(), Fail> {
+    for (first, second, expected) in ORDERS {
+        let left: Value<Cells<'_>> = Value::Scalar(spelled(rt.alloc(), first)?);
+        let right = Value::Scalar(spelled(rt.alloc(), second)?);
+        let level = expected == Ordering::Equal;
+        assert!(rt; same(&left, &right) == level, "{first} {second}");
+    }
+    Ok(())
+}
+
+#[test]
+fn records_are_the_same_by_all_members(rt: HostRuntime) -> Result<(), Fail> {
+    for (number, (first, second, expected)) in RECORDS.into_iter().enumerate() {
+        let left = spelled_record(rt.alloc(), first)?;
+        let right = spelled_record(rt.alloc(), second)?;
+        assert!(rt; same(&left, &right) == expected, "records {number}");
+        assert!(rt; same(&right, &left) == expected, "records {number}, turned");
+        let left = around(rt.alloc(), first)?;
+        let right = around(rt.alloc(), second)?;
+        assert!(rt; same(&left, &right) == expected, "records {number}, nested");
+    }
+    Ok(())
+}
+
+#[test]
+fn rows_and_sequences_are_the_same_as_nothing(rt: HostRuntime) -> Result<(), Fail> {
+    let alloc = rt.alloc();
+    let cells = [Scalar::Int(7)];
+    let row = Cells { cells: &cells };
+    let values = [
+        Value::Row(row),
+        group(alloc, row)?,
+        sequence(alloc)?,
+        record(alloc, row)?,
+    ];
+    let null = Value::Scalar(Scalar::Null);
+    for value in &values {
+        assert!(rt; !same(value, value));
+        assert!(rt; !same(&null, value) && !same(value, &null));
+    }
     Ok(())
 }

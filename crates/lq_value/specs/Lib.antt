@@ -1,2 +1,3 @@
+pub mod SameAndOrder
 pub mod Tables
 pub mod formers

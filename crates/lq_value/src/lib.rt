@@ -3,7 +3,10 @@
 
 mod copies;
 mod held;
+pub mod key_laws;
 mod list;
+mod ordering;
+mod sameness;
 mod scalar;
 mod table;
 mod txt;
@@ -13,6 +16,8 @@ mod value;
 pub use copies::{copy, copy_scalar};
 pub use held::Held;
 pub use list::List;
+pub use ordering::order;
+pub use sameness::same;
 pub use scalar::Scalar;
 pub use table::{Column, ColumnType, Row, Schema};
 pub use txt::Txt;
