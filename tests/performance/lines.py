@@ -11,6 +11,8 @@ LINES = 16
 LEAST_ROUNDS = 3
 MOST_ROUNDS = 15
 MOST_TIMES = 2.3
+# The tree of a longer line leaves the processor's caches. Where time grew with the square of the length this would be 4.
+MOST_TIMES_OF_LENGTH = 3.0
 MOST_SECONDS = 0.05
 
 SYNTAX = '{"error":"syntax"}'
@@ -137,7 +139,8 @@ def scripts_of(line, reply):
 
 
 def is_met(one, eight, sixteen, short):
-    return one.time <= MOST_SECONDS and sixteen.time <= MOST_TIMES * min(eight.time, short.time)
+    in_time = one.time <= MOST_SECONDS and sixteen.time <= MOST_TIMES * eight.time
+    return in_time and sixteen.time <= MOST_TIMES_OF_LENGTH * short.time
 
 
 def measure_kind(program, kind, line, reply):
@@ -163,5 +166,5 @@ def compare(program):
         table.write("c:int\n1\n2\n")
     slow = [kind for kind, line, reply in KINDS if not measure_kind(program, kind, line, reply)]
     if slow:
-        raise Failure(f"a line takes more than {MOST_SECONDS * 1000:.0f} ms, or twice the lines or their length more than"
-                      f" {MOST_TIMES} times the time: {', '.join(slow)}")
+        raise Failure(f"a line takes more than {MOST_SECONDS * 1000:.0f} ms, or twice the lines more than {MOST_TIMES} times the"
+                      f" time, or twice their length more than {MOST_TIMES_OF_LENGTH} times: {', '.join(slow)}")

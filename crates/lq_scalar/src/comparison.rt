@@ -2,11 +2,27 @@
 ghost use Rattle.std.specs.Prelude.{◌≡◌, int_le, int_lt};
 ghost use Rattle.lq_value.specs.declared.value.Fault.TheVariants as fault;
 ghost use Rattle.lq_model.specs.Operations.{compared, ordered_by, same_content};
+ghost use Rattle.lq_model.specs.Typing.{is_comparison};
 ghost use Rattle.lq_scalar.specs.Operands.{shown_scalar};
 
 use crate::scalar_ref::ScalarRef;
 use lq_model::Binary;
 use lq_value::Fault;
+
+/// Whether the operator compares its operands.
+pub fn is_comparison(operator: Binary) -> bool
+    ensures { result ≡ is_comparison operator }
+{
+    matches!(
+        operator,
+        Binary::Less
+            | Binary::Greater
+            | Binary::LessOrEqual
+            | Binary::GreaterOrEqual
+            | Binary::Equal
+            | Binary::NotEqual
+    )
+}
 
 /// What two scalars compare as: `<` and the like of numbers, `==` and `!=` of scalars of one kind
 /// or null. Takes no memory, and copies no text. Any other operator and any other operands, which

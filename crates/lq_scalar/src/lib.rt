@@ -9,7 +9,7 @@ mod scalar_ref;
 mod texts;
 mod totality;
 
-pub use comparison::compared;
+pub use comparison::{compared, is_comparison};
 pub use error::ScalarError;
 pub use lq_model::Op;
 pub use operations::apply;

@@ -5,6 +5,7 @@ ghost use Rattle.lq_model.specs.Typing.{is_comparison};
 ghost use Rattle.lq_model.specs.declared.syntax.Expr.{out-Expr};
 ghost use Rattle.lq_model.specs.declared.syntax.Expr.TheVariants as expr;
 
+use crate::comparison::is_comparison;
 use lq_model::{Argument, Binary, Expr, Node, Unary};
 
 /// What is known of an expression of a rule by its form. Both are told at once, so that no expression
@@ -131,20 +132,6 @@ fn strength_of_node(node: &Node<Expr>) -> Strength
         },
         Node::Host(_, _) | Node::New(_) => total_where(false),
     }
-}
-
-fn is_comparison(operator: Binary) -> bool
-    ensures { result ≡ is_comparison operator }
-{
-    matches!(
-        operator,
-        Binary::Less
-            | Binary::Greater
-            | Binary::LessOrEqual
-            | Binary::GreaterOrEqual
-            | Binary::Equal
-            | Binary::NotEqual
-    )
 }
 
 fn is_division(operator: Binary) -> bool

@@ -1,11 +1,12 @@
 //! The types of expressions and queries over the tables of a store.
 ghost use Rattle.std.specs.Prelude.{◌≡◌, ◌<◌, None, length, option_map, IfNone, IfSome};
 ghost use Rattle.lq_model.specs.Machine.{schemas_of};
-ghost use Rattle.lq_model.specs.Typing.{column_named, is_comparison, item_type, table_number, truth_type, type_of, type_of_column};
+ghost use Rattle.lq_model.specs.Typing.{column_named, item_type, table_number, truth_type, type_of, type_of_column};
 ghost use Rattle.lq_session.specs.Given.{IsOver, top_names};
 ghost use Rattle.lq_session.specs.KnownTypes.{is_known_number, shown_type};
 
-use lq_model::{Binary, Clause, Expr, Last, Node, Query, Unary};
+use lq_model::{Clause, Expr, Last, Node, Query, Unary};
+use lq_scalar::is_comparison;
 use lq_store::{Column, ColumnType, Store};
 
 /// The type of an expression of this grammar.
@@ -24,21 +25,6 @@ fn is_number(known: Known) -> bool
     ensures { result ≡ is_known_number known }
 {
     matches!(known, Known::Scalar(ColumnType::Int | ColumnType::IntN))
-}
-
-/// Whether the operator compares its operands.
-fn is_comparison(operator: Binary) -> bool
-    ensures { result ≡ is_comparison operator }
-{
-    matches!(
-        operator,
-        Binary::Less
-            | Binary::Greater
-            | Binary::LessOrEqual
-            | Binary::GreaterOrEqual
-            | Binary::Equal
-            | Binary::NotEqual
-    )
 }
 
 /// The type of truth values, where all operands are some.
