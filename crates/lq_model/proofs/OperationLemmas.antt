@@ -1,6 +1,6 @@
 -- What operators and members give to operands that they take, and what division and searching are.
-use Rattle.std.proofs.Common.{◌≡◌, ◌-◌, ◌∷◌, ◌++◌, ◌||◌, ◌⊎◌, ◌<◌, List, [], ℕ, zero, suc, ℤ, pos, negsuc, neg_ℤ, Bool, true, false, not, Result, Ok, Err, ap, refl, sym, ◌∙◌, subst, inl, inr, ⊎_elim, arith, true≢false, drop, take, length, if◌then◌else◌, int_le, int_lt}
-use Rattle.std.specs.Prelude.{◌↔◌, ◌+ℤ◌, ◌*ℤ◌, int_div, int_rem, unsigned_abs}
+use Rattle.std.proofs.Common.{◌≡◌, ◌-◌, ◌∷◌, ◌++◌, ◌||◌, ◌<◌, List, [], ℕ, zero, suc, ℤ, pos, negsuc, neg_ℤ, Bool, true, false, not, Result, Ok, Err, ap, refl, sym, ◌∙◌, subst, inl, inr, arith, true≢false, drop, take, length, if◌then◌else◌, int_le, int_lt}
+use Rattle.std.specs.Prelude.{◌+ℤ◌, ◌*ℤ◌, int_div, int_rem, unsigned_abs}
 use Rattle.std.specs.Ordering.{int_eq}
 use Rattle.std.proofs.Math.Dec.{leb-zero}
 use Rattle.std.proofs.lemmas.Bool.Decides.{Decides-eqb}
@@ -11,11 +11,9 @@ use Rattle.lq_value.specs.declared.scalar.Scalar.TheVariants as scalar
 use Rattle.lq_value.specs.declared.value.Fault.{Fault}
 use Rattle.lq_value.specs.declared.value.Fault.TheVariants as fault
 use Rattle.lq_model.specs.OperationLaws.{AreOfOneKind, Divides, FindsParts, FindsPrefixes, FindsSuffixes, HasSignOf, IsDecided, IsNumber, IsText, IsTruth, Takes}
-use Rattle.lq_model.specs.Operations.{applied, arithmetic, begins_with, checked, compared, computed, divided, ends_in, found, has_in, has_value, is_int, joined, left_over, length_of, negated, of_one, of_two, on_ok, ordered_by, same_content, searched, truth, truth_of, value_of}
+use Rattle.lq_model.specs.Operations.{applied, arithmetic, begins_with, checked, computed, divided, ends_in, found, has_in, has_value, is_int, joined, left_over, length_of, negated, on_ok, ordered_by, same_content, searched, truth, truth_of, value_of}
 use Rattle.lq_model.specs.declared.operation.Op.{Op}
 use Rattle.lq_model.specs.declared.operation.Op.TheVariants as op
-use Rattle.lq_model.specs.declared.syntax.Binary.{Binary}
-use Rattle.lq_model.specs.declared.syntax.Binary.TheVariants as binary
 
 -- ---- what is decided, whatever stands where there is no meaning
 

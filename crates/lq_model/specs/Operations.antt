@@ -1,6 +1,6 @@
 -- «Scalar meaning» of the operators and members that evaluate all their operands (ECMA-334, arithmetic, relational, equality and
 -- logical negation operators; .NET, Nullable<int> and String), a case for each row of their table.
-use Rattle.std.specs.Prelude.{◌+◌, ◌∷◌, ◌++◌, ◌&&◌, ◌||◌, ◌⊎◌, if◌then◌else◌, not, List, [], ℕ, ℤ, pos, neg_ℤ, ◌+ℤ◌, ◌-ℤ◌, ◌*ℤ◌, Bool, true, false, Result, Ok, Err, length, int_div, int_le, int_lt, int_rem, nat_eq}
+use Rattle.std.specs.Prelude.{◌+◌, ◌∷◌, ◌++◌, ◌&&◌, ◌||◌, if◌then◌else◌, not, List, [], ℕ, ℤ, pos, neg_ℤ, ◌+ℤ◌, ◌-ℤ◌, ◌*ℤ◌, Bool, true, false, Result, Ok, Err, length, int_div, int_le, int_lt, int_rem, nat_eq}
 use Rattle.std.specs.Char.Escape.{encode_utf16}
 use Rattle.std.specs.List.{ends_with, starts_with}
 use Rattle.std.specs.Ordering.{int_eq}

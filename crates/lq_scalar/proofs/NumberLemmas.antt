@@ -1,13 +1,11 @@
 -- An int holds a number exactly where its 32 bits do, and checked arithmetic tells so.
-use Rattle.std.proofs.Common.{◌≡◌, ◌<◌, ◌≤◌, ◌&&◌, ◌^◌, ℕ, zero, suc, ℤ, pos, negsuc, neg_ℤ, Bool, true, false, Option, Some, None, Result, Ok, Err, ap, refl, sym, ◌∙◌, subst, arith, true≢false, if◌then◌else◌, int_le, SFits, w32}
+use Rattle.std.proofs.Common.{◌≡◌, ◌&&◌, zero, suc, ℤ, pos, negsuc, Bool, true, false, Option, Some, None, Ok, Err, ap, refl, sym, ◌∙◌, arith, true≢false, if◌then◌else◌, int_le, SFits, w32}
 use Rattle.std.specs.Prelude.{int_div, int_rem}
 use Rattle.std.specs.Int.{CanDivide, IsNonZero}
 use Rattle.std.specs.Option.{SomeIff}
 use Rattle.std.specs.Ordering.{int_eq}
 use Rattle.std.proofs.lemmas.Bool.{le-leb, leb-true}
-use Rattle.lq_value.specs.declared.scalar.Scalar.{Scalar}
 use Rattle.lq_value.specs.declared.scalar.Scalar.TheVariants as scalar
-use Rattle.lq_value.specs.declared.value.Fault.{Fault}
 use Rattle.lq_value.specs.declared.value.Fault.TheVariants as fault
 use Rattle.lq_model.specs.Operations.{checked, divided, is_int, left_over, on_ok}
 use Rattle.lq_scalar.specs.Operands.{int_or_overflow}

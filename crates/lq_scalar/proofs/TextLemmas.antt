@@ -1,5 +1,5 @@
 -- What std's searches find, and how many UTF-16 units it counts, is what the definitions say.
-use Rattle.std.proofs.Common.{◌≡◌, ◌+◌, ◌-◌, ◌/◌, ◌%◌, ◌∷◌, [], ◌<◌, ◌≤◌, ◌^◌, List, ℕ, ℤ, pos, Bool, true, false, Option, Some, None, Result, Ok, Err, length, drop, get_or, ap, refl, sym, ◌∙◌, arith, true≢false, if◌then◌else◌, nat_le, nat_lt, SFits, w32}
+use Rattle.std.proofs.Common.{◌≡◌, ◌+◌, ◌-◌, ◌/◌, ◌%◌, ◌∷◌, [], ◌<◌, ◌≤◌, List, ℕ, ℤ, pos, Bool, true, false, Some, None, Result, Ok, Err, length, drop, get_or, ap, refl, sym, ◌∙◌, arith, if◌then◌else◌, nat_le, nat_lt, SFits, w32}
 use Rattle.std.specs.Char.Escape.{encode_utf16}
 use Rattle.std.specs.Result.{OkIff, result_ok}
 use Rattle.std.proofs.lemmas.Bool.{le-leb, leb-false, leb-true, ltb-false, ltb-true}
