@@ -1,7 +1,6 @@
 //! Texts: joined, measured and searched by their bytes (ECMA-334, string concatenation; .NET,
 //! `String`).
-ghost use Rattle.std.specs.Prelude.{◌≡◌, ◌++◌, ◌≤◌, IfOk};
-ghost use Rattle.std.specs.Option.{SomeIff};
+ghost use Rattle.std.specs.Prelude.{◌≡◌, ◌++◌, IfOk};
 ghost use Rattle.std.specs.Str.{chars};
 ghost use Rattle.lq_value.specs.declared.value.Fault.TheVariants as fault;
 ghost use Rattle.lq_model.specs.Operations.{found, joined, length_of, searched, utf16_units};

@@ -168,28 +168,21 @@ impl<'a, C: Named> OneRow<'a, C> {
             Node::Binary(operator, left, right) => {
                 let left = scalar_in(self.operand(left.get())?)?;
                 let right = scalar_in(self.operand(right.get())?)?;
-                let truth = compared(*operator, left, right)?;
-                Ok(Operand::Scalar(ScalarRef::Bool(truth)))
+                Ok(truth_operand(compared(*operator, left, right)?))
             }
             Node::Bool(truth) => Ok(truth_operand(*truth)),
             Node::Unary(Unary::Not, operand) => {
                 let truth = truth_in(self.operand(operand.get())?)?;
                 Ok(truth_operand(!truth))
             }
-            Node::And(left, right) => {
-                if truth_in(self.operand(left.get())?)? {
-                    self.operand(right.get())
-                } else {
-                    Ok(truth_operand(false))
-                }
-            }
-            Node::Or(left, right) => {
-                if truth_in(self.operand(left.get())?)? {
-                    Ok(truth_operand(true))
-                } else {
-                    self.operand(right.get())
-                }
-            }
+            Node::And(left, right) => match truth_in(self.operand(left.get())?)? {
+                true => self.operand(right.get()),
+                false => Ok(truth_operand(false)),
+            },
+            Node::Or(left, right) => match truth_in(self.operand(left.get())?)? {
+                true => Ok(truth_operand(true)),
+                false => self.operand(right.get()),
+            },
             Node::Text(_)
             | Node::Null
             | Node::Unary(Unary::Minus, _)

@@ -12,7 +12,7 @@ use lq_store::{Column, ColumnType, Store};
 /// The type of an expression of this grammar.
 #[derive(Clone, Copy, Debug, Drop, Eq, PartialEq)]
 pub(crate) enum Known {
-    /// That of a column with this type, of an integer or of a comparison.
+    /// That of a column with this type; an integer is an int, and a truth value a bool.
     Scalar(ColumnType),
     /// A row of the table with this number.
     Row(u16),
