@@ -1,6 +1,7 @@
 -- What is typed means the same in two worlds that differ only in the fault that stands where there is no meaning.
 use Rattle.std.proofs.Common.{◌≡◌, ◌+◌, ◌∷◌, if◌then◌else◌, List, [], map, filter, ℕ, zero, suc, ℤ, Bool, true, false, not, Option, Some, None, Result, Ok, Err, ap, ap₂, ◌∙◌, arith, sym, refl, subst, slice_get, option_and_then, option_map, bytes_eq, int_lt, int_le, true≢false, add-zero, zero-add}
 use Rattle.std.proofs.lemmas.Option.{none-some, same_Some, slice_get-map}
+use Rattle.std.specs.Prelude.{pos, neg_ℤ, ◌+ℤ◌, ◌-ℤ◌, ◌*ℤ◌, int_div, int_rem}
 use Rattle.std.specs.List.{position_from}
 use Rattle.std.specs.Ordering.{int_eq}
 use Rattle.lq_value.specs.Tables.{Table}
@@ -13,7 +14,7 @@ use Rattle.lq_value.specs.declared.table.Schema.{Schema}
 use Rattle.lq_value.specs.declared.ty.Ty.{Ty, out-Ty}
 use Rattle.lq_value.specs.declared.ty.Ty.TheOpen.{Ty-F}
 use Rattle.lq_value.specs.declared.ty.Ty.TheVariants as ty
-use Rattle.lq_value.specs.declared.ty.Ty.TheVariants.{outs-Bool, outs-Int, outs-Row, outs-Seq}
+use Rattle.lq_value.specs.declared.ty.Ty.TheVariants.{outs-Bool, outs-Int, outs-IntN, outs-Row, outs-Seq}
 use Rattle.lq_value.specs.declared.value.End.{End}
 use Rattle.lq_value.specs.declared.value.End.TheVariants as end
 use Rattle.lq_value.specs.declared.value.Fault.{Fault}
@@ -22,13 +23,16 @@ use Rattle.lq_value.specs.declared.value.Value.{Value, out-Value}
 use Rattle.lq_value.specs.declared.value.Value.TheVariants as value
 use Rattle.lq_value.specs.declared.value.Value.TheVariants.{outs-Row as outs-value-Row, outs-Scalar, outs-Seq as outs-value-Seq}
 use Rattle.lq_model.specs.Machine.{State, columns_in, run_reply, schemas_of, seen_by_role, served, world_by}
-use Rattle.lq_model.specs.Meaning.{Binding, Scope, World, binding_of, bound, bound_stream, cell_value, clause_meaning, clauses_meaning, condition_at, continued, item_type_at, items_of, last_meaning, meaning, member_value, name_value, names_at, on_scalar, or_null, query_meaning, scalar_of, source_scopes, stream_meaning, stream_of, table_value, truth_value, typed_locals}
-use Rattle.lq_model.specs.Operations.{compared, on_ok, ordered_by, same_content, truth_of}
+use Rattle.lq_model.specs.Meaning.{Binding, Scope, World, binding_of, bound, bound_stream, cell_value, clause_meaning, clauses_meaning, condition_at, continued, item_type_at, items_of, last_meaning, meaning, member_value, name_value, names_at, as_value, on_scalar, or_null, query_meaning, scalar_of, source_scopes, stream_meaning, stream_of, table_value, truth_value, typed_locals}
+use Rattle.lq_model.specs.OperationLaws.{IsNumber}
+use Rattle.lq_model.specs.Operations.{arithmetic, checked, compared, computed, divided, is_int, left_over, negated, of_two, on_ok, operation_of, ordered_by, same_content, truth, truth_of}
 use Rattle.lq_model.specs.MeaningLaws.{Every, HasCells, HasMeaning, HasStream, HaveTypes, HoldsRows, SelectsScalars, IsOf, is_scalar as is_scalar_value, is_row, is_sequence, IsOfScope, IsScalarOf, IsTypedTable, ServesMeanings, assuming}
 use Rattle.lq_model.specs.Served.{stream_data}
 use Rattle.lq_model.specs.Stream.{Stream, each, kept, one, select_by, then_stream, where_by}
-use Rattle.lq_model.specs.Typing.{Names, Claim, TypeOf, Leads, LeadAll, Selects, GivesItems, IsTyped, of_integer, of_local, of_table, of_column, of_comparison, of_truth, of_not, of_both, of_either, by_where, by_none, by_first, by_select, by_query, HasType, column_named, column_type, is_comparison, is_number, is_scalar, item_of, item_type, local_type, row_table, table_number, type_of, type_of_column, with_local}
+use Rattle.lq_model.specs.Typing.{Names, Claim, TypeOf, Leads, LeadAll, Selects, GivesItems, IsTyped, of_integer, of_local, of_table, of_column, of_comparison, of_arithmetic, of_minus, of_truth, of_not, of_both, of_either, by_where, by_none, by_first, by_select, by_query, HasType, column_named, column_type, is_comparison, number_type, is_number, is_scalar, item_of, item_type, local_type, row_table, table_number, type_of, type_of_column, with_local}
 use Rattle.lq_model.specs.Visible.{TableRow, cell_named, seen_from, seen_rows, tables_as_seen, visible_to}
+use Rattle.lq_model.specs.declared.operation.Op.{Op}
+use Rattle.lq_model.specs.declared.operation.Op.TheVariants as operation
 use Rattle.lq_model.specs.declared.policy.PolicyParts.{PolicyParts}
 use Rattle.lq_model.specs.declared.syntax.Binary.{Binary}
 use Rattle.lq_model.specs.declared.syntax.Binary.TheVariants as binary
@@ -42,7 +46,7 @@ use Rattle.lq_model.specs.declared.syntax.Last.TheVariants as last
 use Rattle.lq_model.specs.declared.syntax.Node.TheVariants as node
 use Rattle.lq_model.specs.declared.syntax.Query.{Query}
 use Rattle.lq_model.specs.declared.syntax.Unary.TheVariants as unary
-use Rattle.lq_model.proofs.Opens.{meaning_both, meaning_compare, meaning_either, meaning_integer, meaning_member, meaning_name, meaning_not, meaning_truth}
+use Rattle.lq_model.proofs.Opens.{meaning_binary, meaning_both, meaning_either, meaning_integer, meaning_member, meaning_minus, meaning_name, meaning_not, meaning_truth}
 use Rattle.lq_model.proofs.TypingLemmas.{item_type_sound, type_complete}
 
 -- ---- lists
@@ -146,11 +150,6 @@ no_binding x (b ∷ bs) h = no_binding_by x b bs (local_type x (typed_locals bs)
 
 -- ---- scalars that operators take
 
-abbrev IsNumber : Scalar → Type 0
-IsNumber (scalar.Int n) = Unit {0}
-IsNumber scalar.Null = Unit {0}
-IsNumber s = ⊥
-
 number_layer : (layer : Ty-F Ty) (s : Scalar) → IsScalarOf layer s → is_number layer ≡ true → IsNumber s
 number_layer Ty-F.Int (scalar.Int n) fits h = tt
 number_layer Ty-F.Int s fits h = absurd fits
@@ -191,6 +190,101 @@ numbers_compared binary.Equal compares s t a b = numbers_same s t a b
 numbers_compared binary.NotEqual compares s t a b = numbers_differ (λ unknown. same_content unknown s t) (numbers_same s t a b)
 numbers_compared op compares s t a b = absurd (true≢false (sym compares))
 
+-- what an operator gives to scalars, whatever stands where there is no meaning: a scalar of this layer, or a fault
+pub data Gives (layer : Ty-F Ty) (o : Fault → Result Scalar Fault) : Type 0 where
+  gives : (s : Scalar) → IsScalarOf layer s → ((unknown : Fault) → o unknown ≡ Ok s) → Gives layer o
+  faults : (x : Fault) → ((unknown : Fault) → o unknown ≡ Err x) → Gives layer o
+
+abbrev operated : Binary → Scalar → Scalar → Fault → Result Scalar Fault
+operated op s t unknown = of_two unknown (operation_of op) s t
+
+truth_given : (o : Fault → Result Bool Fault) → Decides o → Gives Ty-F.Bool (λ unknown. truth unknown (o unknown))
+truth_given o decided = gives (scalar.Bool decided.0) tt (λ unknown. ap (truth unknown) (decided.1 unknown))
+
+comparison_given : (op : Binary) → is_comparison op ≡ true → (s t : Scalar) → IsNumber s → IsNumber t → Gives Ty-F.Bool (operated op s t)
+comparison_given binary.Less compares s t a b = truth_given _ (numbers_compared binary.Less refl s t a b)
+comparison_given binary.Greater compares s t a b = truth_given _ (numbers_compared binary.Greater refl s t a b)
+comparison_given binary.LessOrEqual compares s t a b = truth_given _ (numbers_compared binary.LessOrEqual refl s t a b)
+comparison_given binary.GreaterOrEqual compares s t a b = truth_given _ (numbers_compared binary.GreaterOrEqual refl s t a b)
+comparison_given binary.Equal compares s t a b = truth_given _ (numbers_compared binary.Equal refl s t a b)
+comparison_given binary.NotEqual compares s t a b = truth_given _ (numbers_compared binary.NotEqual refl s t a b)
+comparison_given op compares s t a b = absurd (true≢false (sym compares))
+
+checked_given : (z : ℤ) → Gives Ty-F.Int (λ unknown. checked z)
+checked_given z = by (is_int z) where
+  by : (b : Bool) → Gives Ty-F.Int (λ unknown. if b then Ok (scalar.Int z) else Err fault.Overflow)
+  by true = gives (scalar.Int z) tt (λ unknown. refl)
+  by false = faults fault.Overflow (λ unknown. refl)
+
+divided_given : (m n : ℤ) → Gives Ty-F.Int (λ unknown. divided m n)
+divided_given m n = by (int_eq n (pos 0)) where
+  by : (b : Bool) → Gives Ty-F.Int (λ unknown. if b then Err fault.DivideByZero else checked (int_div m n))
+  by true = faults fault.DivideByZero (λ unknown. refl)
+  by false = checked_given (int_div m n)
+
+left_over_given : (m n : ℤ) → Gives Ty-F.Int (λ unknown. left_over m n)
+left_over_given m n = by (int_eq n (pos 0)) (is_int (int_div m n)) where
+  by : (b c : Bool)
+      → Gives Ty-F.Int (λ unknown. if b then Err fault.DivideByZero else on_ok (if c then Ok (scalar.Int (int_div m n)) else Err fault.Overflow) (λ quotient. Ok (scalar.Int (int_rem m n))))
+  by true c = faults fault.DivideByZero (λ unknown. refl)
+  by false true = gives (scalar.Int (int_rem m n)) tt (λ unknown. refl)
+  by false false = faults fault.Overflow (λ unknown. refl)
+
+-- an int may stand for an int?
+widened : (o : Fault → Result Scalar Fault) → Gives Ty-F.Int o → Gives Ty-F.IntN o
+widened o (gives (scalar.Int n) fits is) = gives (scalar.Int n) tt is
+widened o (gives s fits is) = absurd fits
+widened o (faults x is) = faults x is
+
+of_int? : (o : Fault → Result Scalar Fault) → Gives Ty-F.IntN o → Gives (out-Ty ty.IntN) o
+of_int? o given = subst (λ (layer : Ty-F Ty). Gives layer o) (sym outs-IntN) given
+
+null_given : (o : Fault → Result Scalar Fault) → ((unknown : Fault) → o unknown ≡ Ok scalar.Null) → Gives (out-Ty ty.IntN) o
+null_given o is = of_int? o (gives scalar.Null tt is)
+
+module _ (o : Op) (given : (m n : ℤ) → Gives Ty-F.Int (λ unknown. computed unknown o m n)) where
+  arithmetic_given : (k l : Ty-F Ty) → is_number k ≡ true → is_number l ≡ true → (s t : Scalar) → IsScalarOf k s → IsScalarOf l t
+      → Gives (out-Ty (number_type k l)) (λ unknown. arithmetic unknown o s t)
+  arithmetic_given Ty-F.Int Ty-F.Int a b (scalar.Int m) (scalar.Int n) f g = subst (λ (layer : Ty-F Ty). Gives layer (λ unknown. computed unknown o m n)) (sym outs-Int) (given m n)
+  arithmetic_given Ty-F.Int Ty-F.Int a b (scalar.Int m) t f g = absurd g
+  arithmetic_given Ty-F.Int Ty-F.Int a b s t f g = absurd f
+  arithmetic_given Ty-F.Int Ty-F.IntN a b (scalar.Int m) (scalar.Int n) f g = of_int? _ (widened _ (given m n))
+  arithmetic_given Ty-F.Int Ty-F.IntN a b (scalar.Int m) scalar.Null f g = null_given _ (λ unknown. refl)
+  arithmetic_given Ty-F.Int Ty-F.IntN a b (scalar.Int m) t f g = absurd g
+  arithmetic_given Ty-F.Int Ty-F.IntN a b s t f g = absurd f
+  arithmetic_given Ty-F.Int l a b s t f g = absurd (true≢false (sym b))
+  arithmetic_given Ty-F.IntN Ty-F.Int a b (scalar.Int m) (scalar.Int n) f g = of_int? _ (widened _ (given m n))
+  arithmetic_given Ty-F.IntN Ty-F.Int a b scalar.Null (scalar.Int n) f g = null_given _ (λ unknown. refl)
+  arithmetic_given Ty-F.IntN Ty-F.Int a b (scalar.Int m) t f g = absurd g
+  arithmetic_given Ty-F.IntN Ty-F.Int a b scalar.Null t f g = absurd g
+  arithmetic_given Ty-F.IntN Ty-F.Int a b s t f g = absurd f
+  arithmetic_given Ty-F.IntN Ty-F.IntN a b (scalar.Int m) (scalar.Int n) f g = of_int? _ (widened _ (given m n))
+  arithmetic_given Ty-F.IntN Ty-F.IntN a b (scalar.Int m) scalar.Null f g = null_given _ (λ unknown. refl)
+  arithmetic_given Ty-F.IntN Ty-F.IntN a b scalar.Null (scalar.Int n) f g = null_given _ (λ unknown. refl)
+  arithmetic_given Ty-F.IntN Ty-F.IntN a b scalar.Null scalar.Null f g = null_given _ (λ unknown. refl)
+  arithmetic_given Ty-F.IntN Ty-F.IntN a b (scalar.Int m) t f g = absurd g
+  arithmetic_given Ty-F.IntN Ty-F.IntN a b scalar.Null t f g = absurd g
+  arithmetic_given Ty-F.IntN Ty-F.IntN a b s t f g = absurd f
+  arithmetic_given Ty-F.IntN l a b s t f g = absurd (true≢false (sym b))
+  arithmetic_given k l a b s t f g = absurd (true≢false (sym a))
+
+computed_given : (op : Binary) → is_comparison op ≡ false → (k l : Ty-F Ty) → is_number k ≡ true → is_number l ≡ true → (s t : Scalar) → IsScalarOf k s → IsScalarOf l t
+    → Gives (out-Ty (number_type k l)) (operated op s t)
+computed_given binary.Multiply computes k l a b s t f g = arithmetic_given operation.Multiply (λ m n. checked_given (m *ℤ n)) k l a b s t f g
+computed_given binary.Divide computes k l a b s t f g = arithmetic_given operation.Divide divided_given k l a b s t f g
+computed_given binary.Remainder computes k l a b s t f g = arithmetic_given operation.Remainder left_over_given k l a b s t f g
+computed_given binary.Add computes k l a b s t f g = arithmetic_given operation.Add (λ m n. checked_given (m +ℤ n)) k l a b s t f g
+computed_given binary.Subtract computes k l a b s t f g = arithmetic_given operation.Subtract (λ m n. checked_given (m -ℤ n)) k l a b s t f g
+computed_given op computes k l a b s t f g = absurd (true≢false computes)
+
+minus_given : (layer : Ty-F Ty) → is_number layer ≡ true → (s : Scalar) → IsScalarOf layer s → Gives layer (λ unknown. negated unknown s)
+minus_given Ty-F.Int number (scalar.Int n) fits = checked_given (neg_ℤ n)
+minus_given Ty-F.Int number s fits = absurd fits
+minus_given Ty-F.IntN number (scalar.Int n) fits = widened _ (checked_given (neg_ℤ n))
+minus_given Ty-F.IntN number scalar.Null fits = gives scalar.Null tt (λ unknown. refl)
+minus_given Ty-F.IntN number s fits = absurd fits
+minus_given layer number s fits = absurd (true≢false (sym number))
+
 bool_layer : (s : Scalar) → IsScalarOf Ty-F.Bool s → (b : Bool) × (s ≡ scalar.Bool b)
 bool_layer (scalar.Bool b) fits = (b, refl)
 bool_layer s fits = absurd fits
@@ -211,8 +305,8 @@ sequence_is_no_number layer item h k = none-some item h
 
 module _ {R : Type 0} (world : World R) where
   -- a value of a number's type is a number
-  number_value : (t : Ty) (v : Value R) → IsOf world t v → is_number (out-Ty t) ≡ true → (s : Scalar) × (v ≡ value.Scalar s) × IsNumber s
-  number_value t _ (is_scalar_value _ s fits) number = (s, refl, number_layer (out-Ty t) s fits number)
+  number_value : (t : Ty) (v : Value R) → IsOf world t v → is_number (out-Ty t) ≡ true → (s : Scalar) × (v ≡ value.Scalar s) × IsScalarOf (out-Ty t) s
+  number_value t _ (is_scalar_value _ s fits) number = (s, refl, fits)
   number_value t _ (is_row _ n r is cells) number = absurd (row_is_no_number (out-Ty t) n is number)
   number_value t _ (is_sequence _ item xs e is items) number = absurd (sequence_is_no_number (out-Ty t) item is number)
 
@@ -250,9 +344,9 @@ pub data IsSame {R : Type 0} (world : World R) (t : Ty) (m n : Result (Value R) 
   same_value : (v : Value R) → IsOf world t v → m ≡ Ok v → n ≡ Ok v → IsSame world t m n
   same_fault : (x : Fault) → m ≡ Err x → n ≡ Err x → IsSame world t m n
 
-pub data AreNumbers (m n : Result Scalar Fault) : Type 0 where
-  same_number : (s : Scalar) → IsNumber s → m ≡ Ok s → n ≡ Ok s → AreNumbers m n
-  same_number_fault : (x : Fault) → m ≡ Err x → n ≡ Err x → AreNumbers m n
+pub data AreScalars (t : Ty) (m n : Result Scalar Fault) : Type 0 where
+  same_scalar : (s : Scalar) → IsScalarOf (out-Ty t) s → m ≡ Ok s → n ≡ Ok s → AreScalars t m n
+  same_scalar_fault : (x : Fault) → m ≡ Err x → n ≡ Err x → AreScalars t m n
 
 pub data AreTruths (m n : Result Bool Fault) : Type 0 where
   same_truth : (b : Bool) → m ≡ Ok b → n ≡ Ok b → AreTruths m n
@@ -274,31 +368,45 @@ module _ {R : Type 0} (world : World R) (holds : HoldsRows world) (f g : Fault) 
   of_its_type t m n (same_fault x h k) v is = absurd cc
 
   number_outcome : (t : Ty) (m n : Result (Value R) Fault) → IsSame world t m n → is_number (out-Ty t) ≡ true
-      → AreNumbers (on_ok m (λ v. scalar_of left (out-Value R v))) (on_ok n (λ v. scalar_of right (out-Value R v)))
+      → AreScalars t (on_ok m (λ v. scalar_of left (out-Value R v))) (on_ok n (λ v. scalar_of right (out-Value R v)))
   number_outcome t m n (same_value v fits h k) number =
       let found = number_value world t v fits number in
-      same_number found.0 found.2
+      same_scalar found.0 found.2
       (ap (λ (o : Result (Value R) Fault). on_ok o (λ w. scalar_of left (out-Value R w))) (h ∙ ap Ok found.1) ∙ ap (scalar_of left) (outs-Scalar found.0))
       (ap (λ (o : Result (Value R) Fault). on_ok o (λ w. scalar_of right (out-Value R w))) (k ∙ ap Ok found.1) ∙ ap (scalar_of right) (outs-Scalar found.0))
   number_outcome t m n (same_fault x h k) number =
-      same_number_fault x (ap (λ (o : Result (Value R) Fault). on_ok o (λ w. scalar_of left (out-Value R w))) h)
+      same_scalar_fault x (ap (λ (o : Result (Value R) Fault). on_ok o (λ w. scalar_of left (out-Value R w))) h)
       (ap (λ (o : Result (Value R) Fault). on_ok o (λ w. scalar_of right (out-Value R w))) k)
-
-  -- an operator that compares, on what its operands come to
-  abbrev comparison : Fault → Binary → Result Scalar Fault → Result Scalar Fault → Result (Value R) Fault
-  comparison unknown op a b = on_ok a (λ s. on_ok b (λ t. on_ok (compared unknown op s t) (λ truth. Ok (value.Scalar (scalar.Bool truth)))))
 
   truth_is_of : (b : Bool) → IsOf world ty.Bool (value.Scalar (scalar.Bool b))
   truth_is_of b = is_scalar_value ty.Bool (scalar.Bool b) (subst (λ (u : Ty-F Ty). IsScalarOf u (scalar.Bool b)) (sym outs-Bool) tt)
 
-  compared_outcome : (op : Binary) → is_comparison op ≡ true → (a b c d : Result Scalar Fault) → AreNumbers a c → AreNumbers b d → IsSame world ty.Bool (comparison f op a b) (comparison g op c d)
-  compared_outcome op compares a b c d (same_number s s_is ha hc) (same_number t t_is hb hd) =
-      let decided = numbers_compared op compares s t s_is t_is in
-      same_value (value.Scalar (scalar.Bool decided.0)) (truth_is_of decided.0)
-      (ap₂ (comparison f op) ha hb ∙ ap (λ (o : Result Bool Fault). on_ok o (λ truth. Ok (value.Scalar (scalar.Bool truth)))) (decided.1 f))
-      (ap₂ (comparison g op) hc hd ∙ ap (λ (o : Result Bool Fault). on_ok o (λ truth. Ok (value.Scalar (scalar.Bool truth)))) (decided.1 g))
-  compared_outcome op compares a b c d (same_number s s_is ha hc) (same_number_fault x hb hd) = same_fault x (ap₂ (comparison f op) ha hb) (ap₂ (comparison g op) hc hd)
-  compared_outcome op compares a b c d (same_number_fault x ha hc) others = same_fault x (ap (λ (o : Result Scalar Fault). comparison f op o b) ha) (ap (λ (o : Result Scalar Fault). comparison g op o d) hc)
+  -- what an operator gives, as a value
+  given_outcome : (t : Ty) (o : Fault → Result Scalar Fault) → Gives (out-Ty t) o → IsSame world t (as_value (o f)) (as_value (o g))
+  given_outcome t o (gives s fits is) = same_value (value.Scalar s) (is_scalar_value t s fits) (ap as_value (is f)) (ap as_value (is g))
+  given_outcome t o (faults x is) = same_fault x (ap as_value (is f)) (ap as_value (is g))
+
+  same_outcomes : (t : Ty) (m n k l : Result (Value R) Fault) → m ≡ k → n ≡ l → IsSame world t k l → IsSame world t m n
+  same_outcomes t m n k l h i same = subst (λ (o : Result (Value R) Fault). IsSame world t o n) (sym h) (subst (λ (o : Result (Value R) Fault). IsSame world t k o) (sym i) same)
+
+  -- an operator on what its operands come to
+  abbrev of_operands : Fault → Binary → Result Scalar Fault → Result Scalar Fault → Result (Value R) Fault
+  of_operands unknown op a b = on_ok a (λ s. on_ok b (λ t. as_value (operated op s t unknown)))
+
+  operands_outcome : (op : Binary) (r s t : Ty) → ((x y : Scalar) → IsScalarOf (out-Ty s) x → IsScalarOf (out-Ty t) y → Gives (out-Ty r) (operated op x y))
+      → (a b c d : Result Scalar Fault) → AreScalars s a c → AreScalars t b d → IsSame world r (of_operands f op a b) (of_operands g op c d)
+  operands_outcome op r s t given a b c d (same_scalar x x_fits ha hc) (same_scalar y y_fits hb hd) =
+      same_outcomes r _ _ _ _ (ap₂ (of_operands f op) ha hb) (ap₂ (of_operands g op) hc hd) (given_outcome r (operated op x y) (given x y x_fits y_fits))
+  operands_outcome op r s t given a b c d (same_scalar x x_fits ha hc) (same_scalar_fault y hb hd) = same_fault y (ap₂ (of_operands f op) ha hb) (ap₂ (of_operands g op) hc hd)
+  operands_outcome op r s t given a b c d (same_scalar_fault x ha hc) others = same_fault x (ap (λ (o : Result Scalar Fault). of_operands f op o b) ha) (ap (λ (o : Result Scalar Fault). of_operands g op o d) hc)
+
+  negative_outcome : (t : Ty) → is_number (out-Ty t) ≡ true → (a c : Result Scalar Fault) → AreScalars t a c
+      → IsSame world t (on_ok a (λ s. as_value (negated f s))) (on_ok c (λ s. as_value (negated g s)))
+  negative_outcome t number a c (same_scalar s fits ha hc) =
+      same_outcomes t _ _ _ _ (ap (λ (o : Result Scalar Fault). on_ok o (λ x. as_value (negated f x))) ha) (ap (λ (o : Result Scalar Fault). on_ok o (λ x. as_value (negated g x))) hc)
+      (given_outcome t (λ unknown. negated unknown s) (minus_given (out-Ty t) number s fits))
+  negative_outcome t number a c (same_scalar_fault x ha hc) =
+      same_fault x (ap (λ (o : Result Scalar Fault). on_ok o (λ s. as_value (negated f s))) ha) (ap (λ (o : Result Scalar Fault). on_ok o (λ s. as_value (negated g s))) hc)
 
   condition_outcome : (m n : Result (Value R) Fault) → IsSame world ty.Bool m n → on_scalar left m (truth_of f) ≡ on_scalar right n (truth_of g)
   condition_outcome m n (same_value v fits h k) =
@@ -444,11 +552,27 @@ module _ {R : Type 0} (world : World R) (holds : HoldsRows world) (f g : Fault) 
       by_outcomes t _ _ _ _ (meaning_member left row c scope) (meaning_member right row c scope)
       (member_outcome n c t (ap (λ (m : Names). column_type m.tables n c) (sym at.0) ∙ found) _ _ (means scope at))
 
+  means_binary : (names : Names) (a b : Expr) (op : Binary) (r s t : Ty) → is_number (out-Ty s) ≡ true → is_number (out-Ty t) ≡ true
+      → ((x y : Scalar) → IsScalarOf (out-Ty s) x → IsScalarOf (out-Ty t) y → Gives (out-Ty r) (operated op x y))
+      → Means (TypeOf names a s) → Means (TypeOf names b t) → Means (TypeOf names (expr.Node (node.Binary op a b)) r)
+  means_binary names a b op r s t s_number t_number given a_means b_means scope at =
+      by_outcomes r _ _ _ _ (meaning_binary left op a b scope) (meaning_binary right op a b scope)
+      (operands_outcome op r s t given _ _ _ _ (number_outcome s _ _ (a_means scope at) s_number) (number_outcome t _ _ (b_means scope at) t_number))
+
   means_comparison : (names : Names) (a b : Expr) (op : Binary) (s t : Ty) → is_comparison op ≡ true → is_number (out-Ty s) ≡ true → is_number (out-Ty t) ≡ true
       → Means (TypeOf names a s) → Means (TypeOf names b t) → Means (TypeOf names (expr.Node (node.Binary op a b)) ty.Bool)
-  means_comparison names a b op s t compares s_number t_number a_means b_means scope at =
-      by_outcomes ty.Bool _ _ _ _ (meaning_compare left op a b scope) (meaning_compare right op a b scope)
-      (compared_outcome op compares _ _ _ _ (number_outcome s _ _ (a_means scope at) s_number) (number_outcome t _ _ (b_means scope at) t_number))
+  means_comparison names a b op s t compares s_number t_number =
+      means_binary names a b op ty.Bool s t s_number t_number (λ x y x_fits y_fits. subst (λ (layer : Ty-F Ty). Gives layer (operated op x y)) (sym outs-Bool)
+      (comparison_given op compares x y (number_layer (out-Ty s) x x_fits s_number) (number_layer (out-Ty t) y y_fits t_number)))
+
+  means_arithmetic : (names : Names) (a b : Expr) (op : Binary) (s t : Ty) → is_comparison op ≡ false → is_number (out-Ty s) ≡ true → is_number (out-Ty t) ≡ true
+      → Means (TypeOf names a s) → Means (TypeOf names b t) → Means (TypeOf names (expr.Node (node.Binary op a b)) (number_type (out-Ty s) (out-Ty t)))
+  means_arithmetic names a b op s t computes s_number t_number =
+      means_binary names a b op (number_type (out-Ty s) (out-Ty t)) s t s_number t_number (λ x y x_fits y_fits. computed_given op computes (out-Ty s) (out-Ty t) s_number t_number x y x_fits y_fits)
+
+  means_minus : (names : Names) (a : Expr) (t : Ty) → is_number (out-Ty t) ≡ true → Means (TypeOf names a t) → Means (TypeOf names (expr.Node (node.Unary unary.Minus a)) t)
+  means_minus names a t number means scope at =
+      by_outcomes t _ _ _ _ (meaning_minus left a scope) (meaning_minus right a scope) (negative_outcome t number _ _ (number_outcome t _ _ (means scope at) number))
 
   means_truth : (names : Names) (b : Bool) → Means (TypeOf names (expr.Node (node.Bool b)) ty.Bool)
   means_truth names b scope at = same_value (truth_value b) (truth_is_of b) (meaning_truth left b scope) (meaning_truth right b scope)
@@ -544,6 +668,9 @@ module _ {R : Type 0} (world : World R) (holds : HoldsRows world) (f g : Fault) 
   means (of_column names e row c n t is typed found) = same_as names e (expr.Node (node.Member row c)) t is (means_column names row c n t found (means typed))
   means (of_comparison names e a b op s t is compares a_typed s_number b_typed t_number) =
       same_as names e (expr.Node (node.Binary op a b)) ty.Bool is (means_comparison names a b op s t compares s_number t_number (means a_typed) (means b_typed))
+  means (of_arithmetic names e a b op s t is computes a_typed s_number b_typed t_number) =
+      same_as names e (expr.Node (node.Binary op a b)) (number_type (out-Ty s) (out-Ty t)) is (means_arithmetic names a b op s t computes s_number t_number (means a_typed) (means b_typed))
+  means (of_minus names e a t is typed number) = same_as names e (expr.Node (node.Unary unary.Minus a)) t is (means_minus names a t number (means typed))
   means (of_truth names e b is) = same_as names e (expr.Node (node.Bool b)) ty.Bool is (means_truth names b)
   means (of_not names e a is typed) = same_as names e (expr.Node (node.Unary unary.Not a)) ty.Bool is (means_not names a (means typed))
   means (of_both names e a b is a_typed b_typed) = same_as names e (expr.Node (node.And a b)) ty.Bool is (means_both names a b (means a_typed) (means b_typed))
@@ -591,6 +718,8 @@ scalar_claim (of_local names e x t is found) = tt
 scalar_claim (of_table names e x n is hidden found) = tt
 scalar_claim (of_column names e row c n t is typed found) = tt
 scalar_claim (of_comparison names e a b op s t is compares a_typed s_number b_typed t_number) = tt
+scalar_claim (of_arithmetic names e a b op s t is computes a_typed s_number b_typed t_number) = tt
+scalar_claim (of_minus names e a t is typed number) = tt
 scalar_claim (of_truth names e b is) = tt
 scalar_claim (of_not names e a is typed) = tt
 scalar_claim (of_both names e a b is a_typed b_typed) = tt

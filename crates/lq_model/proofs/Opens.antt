@@ -5,9 +5,9 @@ use Rattle.lq_value.specs.declared.ty.Ty.{Ty, out-Ty}
 use Rattle.lq_value.specs.declared.ty.Ty.TheVariants as ty
 use Rattle.lq_value.specs.declared.value.Value.{out-Value}
 use Rattle.lq_value.specs.declared.value.Value.TheVariants as value
-use Rattle.lq_model.specs.Meaning.{Meaning, Meant, Scope, World, binding_of, meaning, meaning_step, member_value, name_value, on_scalar, on_truth, truth_value}
-use Rattle.lq_model.specs.Operations.{compared, on_ok}
-use Rattle.lq_model.specs.Typing.{Names, column_type, is_bool_type, is_comparison, is_number, local_type, name_type, row_table, truth_type, type_of, type_step}
+use Rattle.lq_model.specs.Meaning.{Meaning, Meant, Scope, World, binding_of, meaning, meaning_step, member_value, name_value, as_value, on_scalar, on_truth, truth_value}
+use Rattle.lq_model.specs.Operations.{negated, of_two, on_ok, operation_of}
+use Rattle.lq_model.specs.Typing.{Names, binary_type, column_type, if_number, is_bool_type, local_type, name_type, row_table, truth_type, type_of, type_step}
 use Rattle.lq_model.specs.declared.syntax.Binary.{Binary}
 use Rattle.lq_model.specs.declared.syntax.Expr.{Expr, fold_out-Expr, map-Expr, out-Expr, para-roll-Expr, roll-Expr}
 use Rattle.lq_model.specs.declared.syntax.Expr.TheOpen.{Expr-F}
@@ -44,10 +44,14 @@ module _ {R : Type 0} (world : World R) where
       → meaning world (expr.Node (node.Member row c)) scope ≡ on_ok (meaning world row scope) (λ v. member_value world c (out-Value R v))
   meaning_member row c scope = ap (λ (e : Expr). meaning world e scope) (sym (rolls-Node (node.Member row c))) ∙ rolled_meaning (Expr-F.Node (node.Member row c)) scope
 
-  pub meaning_compare : (op : Binary) (a b : Expr) (scope : Scope R)
+  pub meaning_binary : (op : Binary) (a b : Expr) (scope : Scope R)
       → meaning world (expr.Node (node.Binary op a b)) scope
-      ≡ on_scalar world (meaning world a scope) (λ s. on_scalar world (meaning world b scope) (λ t. on_ok (compared world.unknown op s t) (λ truth. Ok (value.Scalar (scalar.Bool truth)))))
-  meaning_compare op a b scope = ap (λ (e : Expr). meaning world e scope) (sym (rolls-Node (node.Binary op a b))) ∙ rolled_meaning (Expr-F.Node (node.Binary op a b)) scope
+      ≡ on_scalar world (meaning world a scope) (λ s. on_scalar world (meaning world b scope) (λ t. as_value (of_two world.unknown (operation_of op) s t)))
+  meaning_binary op a b scope = ap (λ (e : Expr). meaning world e scope) (sym (rolls-Node (node.Binary op a b))) ∙ rolled_meaning (Expr-F.Node (node.Binary op a b)) scope
+
+  pub meaning_minus : (a : Expr) (scope : Scope R)
+      → meaning world (expr.Node (node.Unary unary.Minus a)) scope ≡ on_scalar world (meaning world a scope) (λ s. as_value (negated world.unknown s))
+  meaning_minus a scope = ap (λ (e : Expr). meaning world e scope) (sym (rolls-Node (node.Unary unary.Minus a))) ∙ rolled_meaning (Expr-F.Node (node.Unary unary.Minus a)) scope
 
   pub meaning_truth : (b : Bool) (scope : Scope R) → meaning world (expr.Node (node.Bool b)) scope ≡ Ok (truth_value b)
   meaning_truth b scope = ap (λ (e : Expr). meaning world e scope) (sym (rolls-Node (node.Bool b))) ∙ rolled_meaning (Expr-F.Node (node.Bool b)) scope
@@ -81,10 +85,12 @@ pub type_member : (row : Expr) (c : List ℕ) (names : Names)
     → type_of (expr.Node (node.Member row c)) names ≡ option_and_then (λ t. option_and_then (λ n. column_type names.tables n c) (row_table (out-Ty t))) (type_of row names)
 type_member row c names = type_out (expr.Node (node.Member row c)) names ∙ ap (λ (e : Expr-F Expr). layer_type e names) (outs-Node (node.Member row c))
 
-pub type_compare : (op : Binary) (a b : Expr) (names : Names)
-    → type_of (expr.Node (node.Binary op a b)) names
-    ≡ (if is_comparison op then option_and_then (λ s. option_and_then (λ t. if is_number (out-Ty s) && is_number (out-Ty t) then Some ty.Bool else None) (type_of b names)) (type_of a names) else None)
-type_compare op a b names = type_out (expr.Node (node.Binary op a b)) names ∙ ap (λ (e : Expr-F Expr). layer_type e names) (outs-Node (node.Binary op a b))
+pub type_binary : (op : Binary) (a b : Expr) (names : Names)
+    → type_of (expr.Node (node.Binary op a b)) names ≡ binary_type op (type_of a names) (type_of b names)
+type_binary op a b names = type_out (expr.Node (node.Binary op a b)) names ∙ ap (λ (e : Expr-F Expr). layer_type e names) (outs-Node (node.Binary op a b))
+
+pub type_minus : (a : Expr) (names : Names) → type_of (expr.Node (node.Unary unary.Minus a)) names ≡ if_number (type_of a names)
+type_minus a names = type_out (expr.Node (node.Unary unary.Minus a)) names ∙ ap (λ (e : Expr-F Expr). layer_type e names) (outs-Node (node.Unary unary.Minus a))
 
 pub type_truth : (b : Bool) (names : Names) → type_of (expr.Node (node.Bool b)) names ≡ Some ty.Bool
 type_truth b names = type_out (expr.Node (node.Bool b)) names ∙ ap (λ (e : Expr-F Expr). layer_type e names) (outs-Node (node.Bool b))
@@ -111,9 +117,6 @@ type_text t names = type_out (expr.Node (node.Text t)) names ∙ ap (λ (e : Exp
 
 pub type_null : (names : Names) → type_of (expr.Node node.Null) names ≡ None
 type_null names = type_out (expr.Node node.Null) names ∙ ap (λ (e : Expr-F Expr). layer_type e names) (outs-Node node.Null)
-
-pub type_minus : (a : Expr) (names : Names) → type_of (expr.Node (node.Unary unary.Minus a)) names ≡ None
-type_minus a names = type_out (expr.Node (node.Unary unary.Minus a)) names ∙ ap (λ (e : Expr-F Expr). layer_type e names) (outs-Node (node.Unary unary.Minus a))
 
 pub type_coalesce : (a b : Expr) (names : Names) → type_of (expr.Node (node.Coalesce a b)) names ≡ None
 type_coalesce a b names = type_out (expr.Node (node.Coalesce a b)) names ∙ ap (λ (e : Expr-F Expr). layer_type e names) (outs-Node (node.Coalesce a b))

@@ -6,7 +6,7 @@ use Rattle.lq_value.specs.declared.ty.Ty.{Ty, ind-Ty, map-Ty, out-Ty, roll-Ty}
 use Rattle.lq_value.specs.declared.ty.Ty.TheOpen.{Ty-F}
 use Rattle.lq_value.specs.declared.ty.Ty.TheVariants as ty
 use Rattle.lq_value.specs.declared.ty.Ty.TheVariants.{outs-Bool, outs-Group, outs-Int, outs-IntN, outs-Null, outs-Rec, outs-Row, outs-Seq, outs-Str, rolls-Bool, rolls-Group, rolls-Int, rolls-IntN, rolls-Null, rolls-Rec, rolls-Row, rolls-Seq, rolls-Str}
-use Rattle.lq_model.specs.Typing.{Names, is_comparison, Claim, TypeOf, Leads, LeadAll, Selects, GivesItems, IsTyped, of_integer, of_local, of_table, of_column, of_comparison, of_truth, of_not, of_both, of_either, by_where, by_none, by_first, by_select, by_query, HasType, HasItemType, body_type, column_type, if_scalar, is_bool, is_bool_type, is_number, is_scalar, item_of, item_type, items_over, truth_type, local_type, name_type, names_behind, names_behind_all, row_table, selected_type, table_number, type_of, when_fresh, with_local}
+use Rattle.lq_model.specs.Typing.{Names, is_comparison, Claim, TypeOf, Leads, LeadAll, Selects, GivesItems, IsTyped, of_integer, of_local, of_table, of_column, of_comparison, of_arithmetic, of_minus, of_truth, of_not, of_both, of_either, by_where, by_none, by_first, by_select, by_query, HasType, HasItemType, body_type, column_type, if_scalar, is_bool, is_bool_type, is_number, is_scalar, item_of, item_type, items_over, binary_type, if_number, number_type, result_type, truth_type, local_type, name_type, names_behind, names_behind_all, row_table, selected_type, table_number, type_of, when_fresh, with_local}
 use Rattle.lq_model.specs.TypingLaws.{HasOneType, HasOneItemType, FindsTypes, FindsItemTypes}
 use Rattle.lq_model.specs.declared.syntax.Clause.{Clause}
 use Rattle.lq_model.specs.declared.syntax.Clause.TheVariants as clause
@@ -21,7 +21,7 @@ use Rattle.lq_model.specs.declared.syntax.Last.TheVariants as last
 use Rattle.lq_model.specs.declared.syntax.Node.TheVariants as node
 use Rattle.lq_model.specs.declared.syntax.Query.{Query}
 use Rattle.lq_model.specs.declared.syntax.Unary.TheVariants as unary
-use Rattle.lq_model.proofs.Opens.{layer_type, rolled_type, type_both, type_compare, type_either, type_integer, type_member, type_name, type_not, type_truth}
+use Rattle.lq_model.proofs.Opens.{layer_type, rolled_type, type_binary, type_both, type_either, type_integer, type_member, type_minus, type_name, type_not, type_truth}
 
 -- ---- a type, by its layer
 
@@ -79,11 +79,8 @@ is_truth t h = is_of_layer t ∙ bool_layer (out-Ty t) h
 
 -- ---- what the rules give is found
 
-abbrev compared_type : Option Ty → Option Ty → Option Ty
-compared_type left right = option_and_then (λ s. option_and_then (λ t. if is_number (out-Ty s) && is_number (out-Ty t) then Some ty.Bool else None) right) left
-
-numbers_compare : (s t : Ty) → is_number (out-Ty s) ≡ true → is_number (out-Ty t) ≡ true → compared_type (Some s) (Some t) ≡ Some ty.Bool
-numbers_compare s t s_number t_number = rw (s_number, t_number) refl
+numbers_compute : (op : Binary) (s t : Ty) → is_number (out-Ty s) ≡ true → is_number (out-Ty t) ≡ true → binary_type op (Some s) (Some t) ≡ Some (result_type op s t)
+numbers_compute op s t s_number t_number = rw (s_number, t_number) refl
 
 abbrev member_type : Names → List ℕ → Option Ty → Option Ty
 member_type names c row = option_and_then (λ t. option_and_then (λ n. column_type names.tables n c) (row_table (out-Ty t))) row
@@ -132,11 +129,17 @@ found (of_column names _ row c n _ is row_typed column) =
     ∙ ap (λ layer. option_and_then (λ m. column_type names.tables m c) (row_table layer)) (outs-Row n)
     ∙ column
 found (of_comparison names _ a b op s t is compares a_typed s_number b_typed t_number) =
-    ap (expression_type names) is ∙ type_compare op a b names
-    ∙ ap (λ (c : Bool). if c then compared_type (type_of a names) (type_of b names) else None) compares
-    ∙ ap (λ (o : Option Ty). compared_type o (type_of b names)) (found a_typed)
-    ∙ ap (compared_type (Some s)) (found b_typed)
-    ∙ numbers_compare s t s_number t_number
+    ap (expression_type names) is ∙ type_binary op a b names
+    ∙ ap₂ (binary_type op) (found a_typed) (found b_typed)
+    ∙ numbers_compute op s t s_number t_number
+    ∙ ap (λ (c : Bool). Some (if c then ty.Bool else number_type (out-Ty s) (out-Ty t))) compares
+found (of_arithmetic names _ a b op s t is computes a_typed s_number b_typed t_number) =
+    ap (expression_type names) is ∙ type_binary op a b names
+    ∙ ap₂ (binary_type op) (found a_typed) (found b_typed)
+    ∙ numbers_compute op s t s_number t_number
+    ∙ ap (λ (c : Bool). Some (if c then ty.Bool else number_type (out-Ty s) (out-Ty t))) computes
+found (of_minus names _ a t is typed number) =
+    ap (expression_type names) is ∙ type_minus a names ∙ ap if_number (found typed) ∙ ap (λ (c : Bool). if c then Some t else None) number
 found (of_truth names _ b is) = ap (expression_type names) is ∙ type_truth b names
 found (of_not names _ a is typed) = ap (expression_type names) is ∙ type_not a names ∙ ap truth_type (condition_complete names a (found typed))
 found (of_both names _ a b is left right) = ap (expression_type names) is ∙ type_both a b names ∙ both_truths names a b (found left) (found right)
@@ -191,25 +194,44 @@ sound_member_by row c sound names t (Some s) is h = sound_column row c names s t
 sound_member : (row : Expr) (c : List ℕ) → IsSound row → IsSound (expr.Node (node.Member row c))
 sound_member row c sound names t h = sound_member_by row c sound names t (type_of row names) refl (sym (type_member row c names) ∙ h)
 
-sound_numbers : (op : Binary) → is_comparison op ≡ true → (a b : Expr) (names : Names) (r s t : Ty) → HasType names a r → HasType names b s → (n m : Bool)
-    → is_number (out-Ty r) ≡ n → is_number (out-Ty s) ≡ m → (if n && m then Some ty.Bool else None) ≡ Some t → HasType names (expr.Node (node.Binary op a b)) t
-sound_numbers op compares a b names r s t a_typed b_typed true true r_is s_is h =
-    subst (HasType names (expr.Node (node.Binary op a b))) (same_Some ty.Bool t h) (of_comparison names (expr.Node (node.Binary op a b)) a b op r s refl compares a_typed r_is b_typed s_is)
-sound_numbers op compares a b names r s t a_typed b_typed true false r_is s_is h = absurd (none-some t h)
-sound_numbers op compares a b names r s t a_typed b_typed false m r_is s_is h = absurd (none-some t h)
+-- the rule for an operator, by whether it compares
+sound_result : (op : Binary) (a b : Expr) (names : Names) (r s : Ty) → HasType names a r → HasType names b s → is_number (out-Ty r) ≡ true → is_number (out-Ty s) ≡ true
+    → HasType names (expr.Node (node.Binary op a b)) (result_type op r s)
+sound_result op a b names r s a_typed b_typed r_is s_is = by (is_comparison op) refl where
+  by : (c : Bool) → is_comparison op ≡ c → HasType names (expr.Node (node.Binary op a b)) (if c then ty.Bool else number_type (out-Ty r) (out-Ty s))
+  by true compares = of_comparison names (expr.Node (node.Binary op a b)) a b op r s refl compares a_typed r_is b_typed s_is
+  by false computes = of_arithmetic names (expr.Node (node.Binary op a b)) a b op r s refl computes a_typed r_is b_typed s_is
 
-sound_compare_by : (op : Binary) → is_comparison op ≡ true → (a b : Expr) → IsSound a → IsSound b → (names : Names) (t : Ty) (o p : Option Ty) → type_of a names ≡ o → type_of b names ≡ p
-    → compared_type o p ≡ Some t → HasType names (expr.Node (node.Binary op a b)) t
-sound_compare_by op compares a b a_sound b_sound names t None p a_is b_is h = absurd (none-some t h)
-sound_compare_by op compares a b a_sound b_sound names t (Some r) None a_is b_is h = absurd (none-some t h)
-sound_compare_by op compares a b a_sound b_sound names t (Some r) (Some s) a_is b_is h =
-    sound_numbers op compares a b names r s t (a_sound names r a_is) (b_sound names s b_is) (is_number (out-Ty r)) (is_number (out-Ty s)) refl refl h
+sound_numbers : (op : Binary) (a b : Expr) (names : Names) (r s t : Ty) → HasType names a r → HasType names b s → (n m : Bool)
+    → is_number (out-Ty r) ≡ n → is_number (out-Ty s) ≡ m → (if n && m then Some (result_type op r s) else None) ≡ Some t → HasType names (expr.Node (node.Binary op a b)) t
+sound_numbers op a b names r s t a_typed b_typed true true r_is s_is h =
+    subst (HasType names (expr.Node (node.Binary op a b))) (same_Some (result_type op r s) t h) (sound_result op a b names r s a_typed b_typed r_is s_is)
+sound_numbers op a b names r s t a_typed b_typed true false r_is s_is h = absurd (none-some t h)
+sound_numbers op a b names r s t a_typed b_typed false m r_is s_is h = absurd (none-some t h)
 
-sound_compare : (op : Binary) (a b : Expr) → IsSound a → IsSound b → IsSound (expr.Node (node.Binary op a b))
-sound_compare op a b a_sound b_sound names t h = by (is_comparison op) refl (sym (type_compare op a b names) ∙ h) where
-  by : (c : Bool) → is_comparison op ≡ c → (if c then compared_type (type_of a names) (type_of b names) else None) ≡ Some t → HasType names (expr.Node (node.Binary op a b)) t
-  by true compares found = sound_compare_by op compares a b a_sound b_sound names t (type_of a names) (type_of b names) refl refl found
-  by false other found = absurd (none-some t found)
+sound_binary_by : (op : Binary) (a b : Expr) → IsSound a → IsSound b → (names : Names) (t : Ty) (o p : Option Ty) → type_of a names ≡ o → type_of b names ≡ p
+    → binary_type op o p ≡ Some t → HasType names (expr.Node (node.Binary op a b)) t
+sound_binary_by op a b a_sound b_sound names t None p a_is b_is h = absurd (none-some t h)
+sound_binary_by op a b a_sound b_sound names t (Some r) None a_is b_is h = absurd (none-some t h)
+sound_binary_by op a b a_sound b_sound names t (Some r) (Some s) a_is b_is h =
+    sound_numbers op a b names r s t (a_sound names r a_is) (b_sound names s b_is) (is_number (out-Ty r)) (is_number (out-Ty s)) refl refl h
+
+sound_binary : (op : Binary) (a b : Expr) → IsSound a → IsSound b → IsSound (expr.Node (node.Binary op a b))
+sound_binary op a b a_sound b_sound names t h =
+    sound_binary_by op a b a_sound b_sound names t (type_of a names) (type_of b names) refl refl (sym (type_binary op a b names) ∙ h)
+
+sound_negative : (a : Expr) (names : Names) (s t : Ty) → HasType names a s → (b : Bool) → is_number (out-Ty s) ≡ b → (if b then Some s else None) ≡ Some t
+    → HasType names (expr.Node (node.Unary unary.Minus a)) t
+sound_negative a names s t typed true number h =
+    subst (HasType names (expr.Node (node.Unary unary.Minus a))) (same_Some s t h) (of_minus names (expr.Node (node.Unary unary.Minus a)) a s refl typed number)
+sound_negative a names s t typed false number h = absurd (none-some t h)
+
+sound_minus_by : (a : Expr) → IsSound a → (names : Names) (t : Ty) (o : Option Ty) → type_of a names ≡ o → if_number o ≡ Some t → HasType names (expr.Node (node.Unary unary.Minus a)) t
+sound_minus_by a sound names t None is h = absurd (none-some t h)
+sound_minus_by a sound names t (Some s) is h = sound_negative a names s t (sound names s is) (is_number (out-Ty s)) refl h
+
+sound_minus : (a : Expr) → IsSound a → IsSound (expr.Node (node.Unary unary.Minus a))
+sound_minus a sound names t h = sound_minus_by a sound names t (type_of a names) refl (sym (type_minus a names) ∙ h)
 
 condition_sound_by : (names : Names) (c : Expr) → IsSound c → (o : Option Ty) → type_of c names ≡ o → is_bool_type o ≡ true → HasType names c ty.Bool
 condition_sound_by names c sound None is h = absurd (true≢false (sym h))
@@ -259,8 +281,10 @@ sound_layer x (Expr-F.Node (node.Name s)) h = subst (λ d. IsSound (roll-Expr d)
 sound_layer x (Expr-F.Node (node.Member row c)) h =
     subst (λ d. IsSound (roll-Expr d)) h (subst IsSound (sym (rolls-Node (node.Member row.0 c))) (sound_member row.0 c row.1))
 sound_layer x (Expr-F.Node (node.Binary op a b)) h =
-    subst (λ d. IsSound (roll-Expr d)) h (subst IsSound (sym (rolls-Node (node.Binary op a.0 b.0))) (sound_compare op a.0 b.0 a.1 b.1))
+    subst (λ d. IsSound (roll-Expr d)) h (subst IsSound (sym (rolls-Node (node.Binary op a.0 b.0))) (sound_binary op a.0 b.0 a.1 b.1))
 sound_layer x (Expr-F.Node (node.Bool b)) h = subst (λ d. IsSound (roll-Expr d)) h (subst IsSound (sym (rolls-Node (node.Bool b))) (sound_truth b))
+sound_layer x (Expr-F.Node (node.Unary unary.Minus a)) h =
+    subst (λ d. IsSound (roll-Expr d)) h (subst IsSound (sym (rolls-Node (node.Unary unary.Minus a.0))) (sound_minus a.0 a.1))
 sound_layer x (Expr-F.Node (node.Unary unary.Not a)) h =
     subst (λ d. IsSound (roll-Expr d)) h (subst IsSound (sym (rolls-Node (node.Unary unary.Not a.0))) (sound_not a.0 a.1))
 sound_layer x (Expr-F.Node (node.And a b)) h =

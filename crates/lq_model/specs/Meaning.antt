@@ -12,7 +12,7 @@ use Rattle.lq_value.specs.declared.value.Fault.TheVariants as fault
 use Rattle.lq_value.specs.declared.value.Value.{Value, out-Value}
 use Rattle.lq_value.specs.declared.value.Value.TheOpen.{Value-F}
 use Rattle.lq_value.specs.declared.value.Value.TheVariants as value
-use Rattle.lq_model.specs.Operations.{compared, on_ok, truth_of}
+use Rattle.lq_model.specs.Operations.{negated, of_two, on_ok, operation_of, truth_of}
 use Rattle.lq_model.specs.Stream.{Stream, select_by, where_by}
 use Rattle.lq_model.specs.Typing.{Names, item_of, table_number, type_of}
 use Rattle.lq_model.specs.declared.syntax.Clause.{Clause}
@@ -166,6 +166,10 @@ Meant R = Expr × Meaning R
 abbrev pub sequence : {R : Type 0} → Stream (Value R) → Value R
 sequence items = value.Seq items.0 items.1
 
+-- a scalar, or the fault in its place, as a value
+abbrev pub as_value : {R : Type 0} → Result Scalar Fault → Result (Value R) Fault
+as_value found = on_ok found (λ s. Ok (value.Scalar s))
+
 abbrev pub truth_value : {R : Type 0} → Bool → Value R
 truth_value b = value.Scalar (scalar.Bool b)
 
@@ -176,7 +180,8 @@ module _ {R : Type 0} (world : World R) where
   node_meaning (node.Name x) scope = name_value world x (binding_of x scope)
   node_meaning (node.Member row c) scope = on_ok (row.1 scope) (λ v. member_value world c (out-Value R v))
   node_meaning (node.Binary op a b) scope =
-      on_scalar world (a.1 scope) (λ s. on_scalar world (b.1 scope) (λ t. on_ok (compared world.unknown op s t) (λ truth. Ok (value.Scalar (scalar.Bool truth)))))
+      on_scalar world (a.1 scope) (λ s. on_scalar world (b.1 scope) (λ t. as_value (of_two world.unknown (operation_of op) s t)))
+  node_meaning (node.Unary unary.Minus a) scope = on_scalar world (a.1 scope) (λ s. as_value (negated world.unknown s))
   node_meaning (node.Bool b) scope = Ok (truth_value b)
   node_meaning (node.Unary unary.Not a) scope = on_truth world (a.1 scope) (λ t. Ok (truth_value (not t)))
   -- the second operand is evaluated only where the first leaves it open

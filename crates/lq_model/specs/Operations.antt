@@ -55,6 +55,20 @@ abbrev pub utf16_units : List ℕ → ℕ
 utf16_units [] = 0
 utf16_units (c ∷ cs) = length (encode_utf16 c) + utf16_units cs
 
+-- what a sign between two numbers does
+abbrev pub operation_of : Binary → Op
+operation_of binary.Multiply = op.Multiply
+operation_of binary.Divide = op.Divide
+operation_of binary.Remainder = op.Remainder
+operation_of binary.Add = op.Add
+operation_of binary.Subtract = op.Subtract
+operation_of binary.Less = op.Less
+operation_of binary.Greater = op.Greater
+operation_of binary.LessOrEqual = op.LessOrEqual
+operation_of binary.GreaterOrEqual = op.GreaterOrEqual
+operation_of binary.Equal = op.Equal
+operation_of binary.NotEqual = op.NotEqual
+
 -- ---- what is done to operands; scalars that no typed operator takes give what is unknown
 
 module _ (unknown : Fault) where

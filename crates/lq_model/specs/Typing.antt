@@ -77,6 +77,11 @@ is_comparison binary.Equal = true
 is_comparison binary.NotEqual = true
 is_comparison op = false
 
+-- arithmetic of two ints gives an int, and any other an int?
+abbrev pub number_type : Ty-F Ty → Ty-F Ty → Ty
+number_type Ty-F.Int Ty-F.Int = ty.Int
+number_type s t = ty.IntN
+
 -- the local names with one more
 abbrev pub with_local : Names → List ℕ → Ty → Names
 with_local names name t = record { tables = names.tables; locals = (name, t) ∷ names.locals }
@@ -104,6 +109,11 @@ pub data IsTyped : Claim → Type 0 where
       → column_type names.tables n c ≡ Some t → IsTyped (TypeOf names e t)
   of_comparison : (names : Names) (e a b : Expr) (op : Binary) (s t : Ty) → e ≡ expr.Node (node.Binary op a b) → is_comparison op ≡ true
       → IsTyped (TypeOf names a s) → is_number (out-Ty s) ≡ true → IsTyped (TypeOf names b t) → is_number (out-Ty t) ≡ true → IsTyped (TypeOf names e ty.Bool)
+  of_arithmetic : (names : Names) (e a b : Expr) (op : Binary) (s t : Ty) → e ≡ expr.Node (node.Binary op a b) → is_comparison op ≡ false
+      → IsTyped (TypeOf names a s) → is_number (out-Ty s) ≡ true → IsTyped (TypeOf names b t) → is_number (out-Ty t) ≡ true
+      → IsTyped (TypeOf names e (number_type (out-Ty s) (out-Ty t)))
+  of_minus : (names : Names) (e a : Expr) (t : Ty) → e ≡ expr.Node (node.Unary unary.Minus a) → IsTyped (TypeOf names a t) → is_number (out-Ty t) ≡ true
+      → IsTyped (TypeOf names e t)
   of_truth : (names : Names) (e : Expr) (b : Bool) → e ≡ expr.Node (node.Bool b) → IsTyped (TypeOf names e ty.Bool)
   of_not : (names : Names) (e a : Expr) → e ≡ expr.Node (node.Unary unary.Not a) → IsTyped (TypeOf names a ty.Bool) → IsTyped (TypeOf names e ty.Bool)
   of_both : (names : Names) (e a b : Expr) → e ≡ expr.Node (node.And a b) → IsTyped (TypeOf names a ty.Bool) → IsTyped (TypeOf names b ty.Bool)
@@ -155,13 +165,26 @@ is_bool_type (Some t) = is_bool (out-Ty t)
 abbrev pub truth_type : Bool → Option Ty
 truth_type are_truths = if are_truths then Some ty.Bool else None
 
+-- what an operator gives to two numbers: a truth value where it compares, and else a number
+abbrev pub result_type : Binary → Ty → Ty → Ty
+result_type op s t = if is_comparison op then ty.Bool else number_type (out-Ty s) (out-Ty t)
+
+abbrev pub binary_type : Binary → Option Ty → Option Ty → Option Ty
+binary_type op None right = None
+binary_type op (Some s) None = None
+binary_type op (Some s) (Some t) = if is_number (out-Ty s) && is_number (out-Ty t) then Some (result_type op s t) else None
+
+abbrev pub if_number : Option Ty → Option Ty
+if_number None = None
+if_number (Some t) = if is_number (out-Ty t) then Some t else None
+
 abbrev pub node_type : Node (Names → Option Ty) → Names → Option Ty
 node_type (node.Integer n) names = Some ty.Int
 node_type (node.Name x) names = name_type names x (local_type x names.locals)
 node_type (node.Member row c) names = option_and_then (λ t. option_and_then (λ n. column_type names.tables n c) (row_table (out-Ty t))) (row names)
-node_type (node.Binary op a b) names =
-    if is_comparison op then option_and_then (λ s. option_and_then (λ t. if is_number (out-Ty s) && is_number (out-Ty t) then Some ty.Bool else None) (b names)) (a names) else None
+node_type (node.Binary op a b) names = binary_type op (a names) (b names)
 node_type (node.Bool b) names = Some ty.Bool
+node_type (node.Unary unary.Minus a) names = if_number (a names)
 node_type (node.Unary unary.Not a) names = truth_type (is_bool_type (a names))
 node_type (node.And a b) names = truth_type (is_bool_type (a names) && is_bool_type (b names))
 node_type (node.Or a b) names = truth_type (is_bool_type (a names) && is_bool_type (b names))
