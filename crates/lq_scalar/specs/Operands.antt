@@ -21,6 +21,23 @@ IsAnswer meant (Ok s) = meant ≡ Ok s
 IsAnswer meant (Err (error.Fault f)) = meant ≡ Err f
 IsAnswer meant (Err error.Memory) = Unit {0}
 
+abbrev pub shown_scalars : Result ScalarRef Fault → Result Scalar Fault
+shown_scalars (Ok s) = Ok (shown_scalar s)
+shown_scalars (Err f) = Err f
+
+-- a number, or null in place of none
+abbrev pub number_or_null : Option ℤ → Scalar
+number_or_null (Some n) = scalar.Int n
+number_or_null None = scalar.Null
+
+abbrev pub numbers_in : Result (Option ℤ) Fault → Result Scalar Fault
+numbers_in (Ok n) = Ok (number_or_null n)
+numbers_in (Err f) = Err f
+
+abbrev pub ints_in : Result ℤ Fault → Result Scalar Fault
+ints_in (Ok n) = Ok (scalar.Int n)
+ints_in (Err f) = Err f
+
 -- an int, where one holds the number
 abbrev pub int_or_overflow : Option ℤ → Result Scalar Fault
 int_or_overflow (Some n) = Ok (scalar.Int n)

@@ -2,48 +2,53 @@
 ghost use Rattle.std.specs.Prelude.{◌≡◌};
 ghost use Rattle.lq_value.specs.declared.value.Fault.TheVariants as fault;
 ghost use Rattle.lq_model.specs.Operations.{arithmetic, computed, divided, left_over, negated};
-ghost use Rattle.lq_scalar.specs.Operands.{int_or_overflow};
+ghost use Rattle.lq_scalar.specs.Operands.{int_or_overflow, ints_in, numbers_in, shown_scalar};
 
+use crate::scalar_ref::ScalarRef;
 use lq_model::Op;
-use lq_value::{Fault, Scalar};
+use lq_value::Fault;
 
-/// What an operator of arithmetic gives to two numbers: null, where one is null.
-pub(crate) fn arithmetic(op: Op, left: &Scalar, right: &Scalar) -> Result<Scalar, Fault>
-    ensures { result ≡ arithmetic fault.NullReference op left.now right.now }
+/// What an operator of arithmetic gives to two numbers: null, where one is null. None stands for null.
+pub(crate) fn arithmetic(
+    op: Op,
+    left: ScalarRef<'_>,
+    right: ScalarRef<'_>,
+) -> Result<Option<i32>, Fault>
+    ensures { numbers_in result ≡ arithmetic fault.NullReference op (shown_scalar left.entry) (shown_scalar right.entry) }
 {
     match (left, right) {
-        (Scalar::Int(left), Scalar::Int(right)) => computed(op, *left, *right),
-        (Scalar::Int(_) | Scalar::Null, Scalar::Int(_) | Scalar::Null) => Ok(Scalar::Null),
+        (ScalarRef::Int(left), ScalarRef::Int(right)) => Ok(Some(computed(op, left, right)?)),
+        (ScalarRef::Int(_) | ScalarRef::Null, ScalarRef::Int(_) | ScalarRef::Null) => Ok(None),
         _ => Err(Fault::NullReference),
     }
 }
 
-/// The number with the other sign.
+/// The number with the other sign; of null, null.
 #[tactic(auto, using(crate::proofs::NumberLemmas::checked_is))]
-pub(crate) fn negated(operand: &Scalar) -> Result<Scalar, Fault>
-    ensures { result ≡ negated fault.NullReference operand.now }
+pub(crate) fn negated(operand: ScalarRef<'_>) -> Result<Option<i32>, Fault>
+    ensures { numbers_in result ≡ negated fault.NullReference (shown_scalar operand.entry) }
 {
     match operand {
-        Scalar::Int(number) => int_or_overflow(number.checked_neg()),
-        Scalar::Null => Ok(Scalar::Null),
+        ScalarRef::Int(number) => Ok(Some(int_or_overflow(number.checked_neg())?)),
+        ScalarRef::Null => Ok(None),
         _ => Err(Fault::NullReference),
     }
 }
 
 /// An int; None is one that no int holds.
-pub(crate) fn int_or_overflow(number: Option<i32>) -> Result<Scalar, Fault>
-    ensures { result ≡ int_or_overflow number }
+pub(crate) fn int_or_overflow(number: Option<i32>) -> Result<i32, Fault>
+    ensures { ints_in result ≡ int_or_overflow number }
 {
     match number {
-        Some(number) => Ok(Scalar::Int(number)),
+        Some(number) => Ok(number),
         None => Err(Fault::Overflow),
     }
 }
 
 /// What an operator of arithmetic gives to two ints.
 #[tactic(auto, using(crate::proofs::NumberLemmas::checked_is))]
-fn computed(op: Op, left: i32, right: i32) -> Result<Scalar, Fault>
-    ensures { result ≡ computed fault.NullReference op left right }
+fn computed(op: Op, left: i32, right: i32) -> Result<i32, Fault>
+    ensures { ints_in result ≡ computed fault.NullReference op left right }
 {
     match op {
         Op::Multiply => int_or_overflow(left.checked_mul(right)),
@@ -57,8 +62,8 @@ fn computed(op: Op, left: i32, right: i32) -> Result<Scalar, Fault>
 
 /// The quotient, truncated towards zero.
 #[tactic(auto, using(crate::proofs::NumberLemmas::quotient_is))]
-fn divided(left: i32, right: i32) -> Result<Scalar, Fault>
-    ensures { result ≡ divided left right }
+fn divided(left: i32, right: i32) -> Result<i32, Fault>
+    ensures { ints_in result ≡ divided left right }
 {
     if right == 0 {
         return Err(Fault::DivideByZero);
@@ -69,8 +74,8 @@ fn divided(left: i32, right: i32) -> Result<Scalar, Fault>
 /// What the quotient leaves of the dividend. The least int has no quotient by -1, and so no
 /// remainder.
 #[tactic(auto, using(crate::proofs::NumberLemmas::remainder_is))]
-fn left_over(left: i32, right: i32) -> Result<Scalar, Fault>
-    ensures { result ≡ left_over left right }
+fn left_over(left: i32, right: i32) -> Result<i32, Fault>
+    ensures { ints_in result ≡ left_over left right }
 {
     if right == 0 {
         return Err(Fault::DivideByZero);

@@ -6,6 +6,7 @@ mod comparison;
 mod error;
 mod operations;
 mod scalar_ref;
+mod signs;
 mod texts;
 mod totality;
 
@@ -14,4 +15,5 @@ pub use error::ScalarError;
 pub use lq_model::Op;
 pub use operations::apply;
 pub use scalar_ref::ScalarRef;
+pub use signs::{negate, operate};
 pub use totality::is_total;

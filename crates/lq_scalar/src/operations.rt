@@ -2,7 +2,7 @@
 ghost use Rattle.std.specs.Prelude.{◌≡◌};
 ghost use Rattle.lq_value.specs.declared.value.Fault.TheVariants as fault;
 ghost use Rattle.lq_model.specs.Operations.{applied, compared, has_value, of_one, of_two, truth, truth_of, value_of};
-ghost use Rattle.lq_scalar.specs.Operands.{IsAnswer};
+ghost use Rattle.lq_scalar.specs.Operands.{IsAnswer, number_or_null};
 
 use crate::arithmetic::{arithmetic, negated};
 use crate::comparison::compared;
@@ -33,7 +33,7 @@ fn of_one(op: Op, operand: &Scalar) -> Result<Scalar, Fault>
 {
     match op {
         Op::Not => Ok(Scalar::Bool(!truth_of(operand)?)),
-        Op::Minus => negated(operand),
+        Op::Minus => Ok(number(negated(ScalarRef::of(operand))?)),
         Op::HasValue => Ok(Scalar::Bool(has_value(operand)?)),
         Op::Value => value_of(operand),
         Op::Length => length_of(operand),
@@ -46,7 +46,8 @@ fn of_two(alloc: Global, op: Op, left: &Scalar, right: &Scalar) -> Result<Scalar
 {
     match op {
         Op::Multiply | Op::Divide | Op::Remainder | Op::Add | Op::Subtract => {
-            Ok(arithmetic(op, left, right)?)
+            let result = arithmetic(op, ScalarRef::of(left), ScalarRef::of(right))?;
+            Ok(number(result))
         }
         Op::Concat => joined(alloc, left, right),
         Op::Less => Ok(compared_as(Binary::Less, left, right)?),
@@ -61,6 +62,16 @@ fn of_two(alloc: Global, op: Op, left: &Scalar, right: &Scalar) -> Result<Scalar
         Op::Not | Op::Minus | Op::HasValue | Op::Value | Op::Length => {
             Err(ScalarError::Fault(Fault::NullReference))
         }
+    }
+}
+
+/// A number, or null.
+fn number(number: Option<i32>) -> Scalar
+    ensures { result ≡ number_or_null number }
+{
+    match number {
+        Some(number) => Scalar::Int(number),
+        None => Scalar::Null,
     }
 }
 

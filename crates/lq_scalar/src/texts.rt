@@ -42,7 +42,7 @@ pub(crate) fn length_of(operand: &Scalar) -> Result<Scalar, Fault>
     ensures { result ≡ length_of fault.NullReference operand.now }
 {
     match operand {
-        Scalar::Text(text) => int_or_overflow(utf16_units(text.as_str())),
+        Scalar::Text(text) => Ok(Scalar::Int(int_or_overflow(utf16_units(text.as_str()))?)),
         Scalar::Null | Scalar::Int(_) | Scalar::Bool(_) => Err(Fault::NullReference),
     }
 }
