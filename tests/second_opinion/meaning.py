@@ -25,6 +25,29 @@ def compare(left, sign, right):
     return COMPARISONS[sign](left, right)
 
 
+class Fault(Exception):
+    """An evaluation ends with this fault, which has the name of .NET's exception without its last word."""
+
+
+def checked(number):
+    """ECMA-334, checked operators: a result that no int holds is an overflow."""
+    if not -2147483648 <= number <= 2147483647:
+        raise Fault("Overflow")
+    return number
+
+
+def compute(left, sign, right):
+    """ECMA-334, arithmetic operators, lifted: a null operand gives null. Division goes towards zero; the remainder is the rest."""
+    if left is None or right is None:
+        return None
+    if sign in ("/", "%"):
+        if right == 0:
+            raise Fault("DivideByZero")
+        quotient = checked(abs(left) // abs(right) * (1 if (left < 0) == (right < 0) else -1))
+        return quotient if sign == "/" else left - quotient * right
+    return checked({"*": operator.mul, "+": operator.add, "-": operator.sub}[sign](left, right))
+
+
 def value_of(tree, row):
     """The value of an expression that has a type, where the range variable stands for the row."""
     if tree.kind == "integer":
@@ -41,8 +64,11 @@ def value_of(tree, row):
         return value_of(tree.parts[0], row) and value_of(tree.parts[1], row)
     if tree.kind == "||":
         return value_of(tree.parts[0], row) or value_of(tree.parts[1], row)
+    if tree.kind == "unary -":
+        operand = value_of(tree.parts[0], row)
+        return None if operand is None else checked(-operand)
     left, right = (value_of(operand, row) for operand in tree.parts)
-    return compare(left, tree.kind, right)
+    return compare(left, tree.kind, right) if tree.kind in COMPARISONS else compute(left, tree.kind, right)
 
 
 def visible_rows(table):
@@ -51,12 +77,22 @@ def visible_rows(table):
 
 
 def items_of(query, tables):
-    """ECMA-334, where and select clauses: the rows in order, those on which all conditions are true, and of each the value."""
+    """ECMA-334, where and select clauses: one row after the other, and of each on which all conditions are true, the value."""
     clauses, end, _ = query.parts
-    rows = visible_rows(source_of(clauses[0], tables))
-    for clause in clauses[1:]:
-        rows = [row for row in rows if value_of(clause.parts[0], row)]
-    return [value_of(end.parts[0], row) for row in rows]
+    for row in visible_rows(source_of(clauses[0], tables)):
+        if all(value_of(clause.parts[0], row) for clause in clauses[1:]):
+            yield value_of(end.parts[0], row)
+
+
+def stream_of(items):
+    """A reply's members: the items up to the end or the first fault."""
+    served = []
+    try:
+        for item in items:
+            served.append(item)
+    except Fault as fault:
+        return {"fault": str(fault), "items": served}
+    return {"items": served}
 
 
 def compact(value):
@@ -73,7 +109,7 @@ def reply_of(line, tables):
         check_depth(tokens)
         statement = parse(tokens)
         check(statement, tables)
-        return compact({"items": items_of(statement.parts[0], tables)})
+        return compact(stream_of(items_of(statement.parts[0], tables)))
     except SyntaxFault:
         return compact({"error": "syntax"})
     except DepthFault:

@@ -3,6 +3,7 @@
 COMPARISONS = ("<", ">", "<=", ">=", "==", "!=")
 SCALARS = ("int", "int?", "bool", "string")
 OF_TRUTHS = ("unary !", "&&", "||")
+ARITHMETIC = ("*", "/", "%", "+", "-")
 
 
 class TypeFault(Exception):
@@ -12,7 +13,8 @@ class TypeFault(Exception):
 def type_of(tree, scope):
     """An expression's type: a scalar's name, or for a row the types of its columns. The scope has the types of range variables.
 
-    ECMA-334, scopes, literals, member access, relational, equality and logical operators; only some forms are served yet.
+    ECMA-334, scopes, literals, member access, arithmetic, relational, equality and logical operators; only some forms of these
+    are served yet.
     """
     if tree.kind == "integer":
         return "int"
@@ -28,6 +30,10 @@ def type_of(tree, scope):
         return "bool"
     if tree.kind in OF_TRUTHS and all(type_of(operand, scope) == "bool" for operand in tree.parts):
         return "bool"
+    if tree.kind in ARITHMETIC or tree.kind == "unary -":
+        types = {type_of(operand, scope) for operand in tree.parts}
+        if types <= {"int", "int?"}:
+            return "int" if types == {"int"} else "int?"
     raise TypeFault(f"no type of {tree.kind}")
 
 

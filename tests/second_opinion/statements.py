@@ -90,10 +90,27 @@ def number_near(dice, table, column):
     return dice.choice(["", "", "", "0", "00", "0" * 40]) + str(value)
 
 
+def number(dice, variable, table, depth):
+    """A column, a literal near its cells, or arithmetic on such; some of it divides by 0 or leaves the ints."""
+    kind = dice.choice(["column", "literal", "minus", "sum", "sum", "product", "quotient"]) if depth else dice.choice(["column", "literal"])
+    column = dice.choice(list(table.columns))
+    if kind == "column":
+        return [variable, ".", column]
+    if kind == "literal":
+        return [number_near(dice, table, column)]
+    if kind == "minus":
+        return ["-", "(", *number(dice, variable, table, depth - 1), ")"]
+    left, right = (number(dice, variable, table, depth - 1) for _ in range(2))
+    sign = dice.choice({"sum": ["+", "-"], "product": ["*"], "quotient": ["/", "%"]}[kind])
+    return [*in_brackets(dice, left), sign, *in_brackets(dice, right)]
+
+
 def comparison(dice, variable, table):
-    """A comparison of a column with a number, or now and then of two columns."""
+    """A comparison of a column with a number, or now and then of two columns, or of what arithmetic gives."""
     columns = list(table.columns)
     column = dice.choice(columns)
+    if dice.random() < 0.15:
+        return [*number(dice, variable, table, 2), dice.choice(SIGNS), *number(dice, variable, table, 2)]
     other = [variable, ".", dice.choice(columns)] if dice.random() < 0.1 else [number_near(dice, table, column)]
     return [variable, ".", column, dice.choice(SIGNS), *other]
 
@@ -124,6 +141,8 @@ def statement(dice, tables):
     words = ["run", "from", variable, "in", name]
     if dice.random() < 0.6:
         words += ["where", *condition(dice, variable, table, dice.choice([0, 0, 1, 2, 4]))]
+    if dice.random() < 0.3:
+        return words + ["select", *number(dice, variable, table, dice.choice([1, 2, 3])), ";"]
     return words + ["select", variable, ".", dice.choice(columns), ";"]
 
 

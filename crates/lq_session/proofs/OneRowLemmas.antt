@@ -12,8 +12,8 @@ use Rattle.lq_value.specs.declared.value.Value.{Value, out-Value}
 use Rattle.lq_value.specs.declared.value.Value.TheOpen.{Value-F}
 use Rattle.lq_value.specs.declared.value.Value.TheVariants.{outs-Row, outs-Scalar, outs-Seq}
 use Rattle.lq_value.specs.declared.value.Value.TheVariants as value
-use Rattle.lq_model.specs.Meaning.{Scope, World, cell_value, meaning, member_value, name_value, on_scalar, scalar_of, sequence, table_value, truth_at as value_truth, truth_value}
-use Rattle.lq_model.specs.Operations.{compared, on_ok, truth_of}
+use Rattle.lq_model.specs.Meaning.{Scope, World, as_value, cell_value, meaning, member_value, name_value, on_scalar, scalar_of, sequence, table_value, truth_at as value_truth, truth_value}
+use Rattle.lq_model.specs.Operations.{negated, of_two, on_ok, operation_of, truth_of}
 use Rattle.lq_model.specs.Stream.{Stream}
 use Rattle.lq_model.specs.declared.syntax.Binary.{Binary}
 use Rattle.lq_model.specs.declared.syntax.Expr.{Expr, fold_out-Expr, ind-Expr, map-Expr, out-Expr, roll-Expr}
@@ -27,8 +27,8 @@ use Rattle.lq_model.specs.declared.syntax.Field.{Field}
 use Rattle.lq_model.specs.declared.syntax.Query.{Query}
 use Rattle.lq_model.specs.declared.syntax.Unary.TheVariants as unary
 use Rattle.lq_model.specs.Visible.{cell_named, is_true, rule_holds, rule_world}
-use Rattle.lq_model.proofs.Opens.{layer_meaning, rolled_meaning, meaning_both, meaning_compare, meaning_either, meaning_integer, meaning_member, meaning_name, meaning_not, meaning_truth}
-use Rattle.lq_session.specs.OneRow.{Shape, TheRow, TheScalar, cell_in, member_in, scalar_at, scalar_in, shape_of, shape_step, truth_at, truth_in, truth_shape}
+use Rattle.lq_model.proofs.Opens.{layer_meaning, rolled_meaning, meaning_binary, meaning_both, meaning_either, meaning_integer, meaning_member, meaning_minus, meaning_name, meaning_not, meaning_truth}
+use Rattle.lq_session.specs.OneRow.{Shape, TheRow, TheScalar, cell_in, member_in, scalar_at, scalar_in, scalar_shape, shape_of, shape_step, truth_at, truth_in, truth_shape}
 
 -- ---- the equations of the evaluator
 
@@ -52,9 +52,13 @@ module _ (variable : List ℕ) (cell : List ℕ → Option Scalar) where
   pub shape_member : (row : Expr) (c : List ℕ) → shape_of variable cell (expr.Node (node.Member row c)) ≡ on_ok (shape_of variable cell row) (member_in (cell c))
   shape_member row c = shape_out (expr.Node (node.Member row c)) ∙ ap layer_shape (outs-Node (node.Member row c))
 
-  pub shape_compare : (op : Binary) (a b : Expr) → shape_of variable cell (expr.Node (node.Binary op a b))
-      ≡ on_ok (on_ok (shape_of variable cell a) scalar_in) (λ s. on_ok (on_ok (shape_of variable cell b) scalar_in) (λ t. on_ok (compared fault.NullReference op s t) (λ truth. Ok (TheScalar (scalar.Bool truth)))))
-  shape_compare op a b = shape_out (expr.Node (node.Binary op a b)) ∙ ap layer_shape (outs-Node (node.Binary op a b))
+  pub shape_binary : (op : Binary) (a b : Expr) → shape_of variable cell (expr.Node (node.Binary op a b))
+      ≡ on_ok (on_ok (shape_of variable cell a) scalar_in) (λ s. on_ok (on_ok (shape_of variable cell b) scalar_in) (λ t. scalar_shape (of_two fault.NullReference (operation_of op) s t)))
+  shape_binary op a b = shape_out (expr.Node (node.Binary op a b)) ∙ ap layer_shape (outs-Node (node.Binary op a b))
+
+  pub shape_minus : (a : Expr) → shape_of variable cell (expr.Node (node.Unary unary.Minus a))
+      ≡ on_ok (on_ok (shape_of variable cell a) scalar_in) (λ s. scalar_shape (negated fault.NullReference s))
+  shape_minus a = shape_out (expr.Node (node.Unary unary.Minus a)) ∙ ap layer_shape (outs-Node (node.Unary unary.Minus a))
 
   -- forms that have no meaning yet
   pub shape_text : (t : List ℕ) → shape_of variable cell (expr.Node (node.Text t)) ≡ Err fault.NullReference
@@ -65,9 +69,6 @@ module _ (variable : List ℕ) (cell : List ℕ → Option Scalar) where
 
   pub shape_null : shape_of variable cell (expr.Node node.Null) ≡ Err fault.NullReference
   shape_null = shape_out (expr.Node node.Null) ∙ ap layer_shape (outs-Node node.Null)
-
-  pub shape_minus : (a : Expr) → shape_of variable cell (expr.Node (node.Unary unary.Minus a)) ≡ Err fault.NullReference
-  shape_minus a = shape_out (expr.Node (node.Unary unary.Minus a)) ∙ ap layer_shape (outs-Node (node.Unary unary.Minus a))
 
   pub shape_not : (a : Expr) → shape_of variable cell (expr.Node (node.Unary unary.Not a)) ≡ on_ok (on_ok (shape_of variable cell a) truth_in) (λ t. Ok (truth_shape (not t)))
   shape_not a = shape_out (expr.Node (node.Unary unary.Not a)) ∙ ap layer_shape (outs-Node (node.Unary unary.Not a))
@@ -99,7 +100,7 @@ module _ (variable : List ℕ) (cell : List ℕ → Option Scalar) where
   shape_query q = shape_out (expr.Query q) ∙ ap layer_shape (outs-Query q)
 
 -- the equations, and how a layer is read
-pub ruleset shapes = (shape_integer, shape_name, shape_member, shape_compare, shape_text, shape_truth, shape_null, shape_minus, shape_not, shape_both, shape_either, shape_coalesce, shape_choice, shape_host, shape_record, shape_method, shape_query)
+pub ruleset shapes = (shape_integer, shape_name, shape_member, shape_binary, shape_text, shape_truth, shape_null, shape_minus, shape_not, shape_both, shape_either, shape_coalesce, shape_choice, shape_host, shape_record, shape_method, shape_query)
 
 -- ---- agreement with the meaning
 
@@ -155,25 +156,33 @@ module _ {R : Type 0} (world : World R) (variable : List ℕ) (t : Ty) (r : R) w
   member_agrees m (Err f) c h = subst (λ (n : Result (Value R) Fault). Agrees (faulting world) r n (Err f)) (sym (h.0 c)) (faulty f)
 
   -- the same operator on the same scalars
-  abbrev pub as_value : Binary → Result Scalar Fault → Result Scalar Fault → Result (Value R) Fault
-  as_value op a b = on_ok a (λ s. on_ok b (λ t'. on_ok (compared fault.NullReference op s t') (λ truth. Ok (value.Scalar (scalar.Bool truth)))))
+  abbrev pub operated_value : Binary → Result Scalar Fault → Result Scalar Fault → Result (Value R) Fault
+  operated_value op a b = on_ok a (λ s. on_ok b (λ t'. as_value (of_two fault.NullReference (operation_of op) s t')))
 
-  abbrev pub as_shape : Binary → Result Scalar Fault → Result Scalar Fault → Result Shape Fault
-  as_shape op a b = on_ok a (λ s. on_ok b (λ t'. on_ok (compared fault.NullReference op s t') (λ truth. Ok (TheScalar (scalar.Bool truth)))))
+  abbrev pub operated_shape : Binary → Result Scalar Fault → Result Scalar Fault → Result Shape Fault
+  operated_shape op a b = on_ok a (λ s. on_ok b (λ t'. scalar_shape (of_two fault.NullReference (operation_of op) s t')))
 
-  truth_agrees : (o : Result Bool Fault) → Agrees (faulting world) r (on_ok o (λ truth. Ok (value.Scalar (scalar.Bool truth)))) (on_ok o (λ truth. Ok (TheScalar (scalar.Bool truth))))
-  truth_agrees (Ok truth) = refl
-  truth_agrees (Err f) = faulty f
+  result_agrees : (o : Result Scalar Fault) → Agrees (faulting world) r (as_value o) (scalar_shape o)
+  result_agrees (Ok s) = refl
+  result_agrees (Err f) = faulty f
 
-  compared_agrees : (op : Binary) (a b : Result Scalar Fault) → Agrees (faulting world) r (as_value op a b) (as_shape op a b)
-  compared_agrees op (Ok s) (Ok t') = truth_agrees (compared fault.NullReference op s t')
-  compared_agrees op (Ok s) (Err f) = faulty f
-  compared_agrees op (Err f) b = faulty f
+  operated_agrees : (op : Binary) (a b : Result Scalar Fault) → Agrees (faulting world) r (operated_value op a b) (operated_shape op a b)
+  operated_agrees op (Ok s) (Ok t') = result_agrees (of_two fault.NullReference (operation_of op) s t')
+  operated_agrees op (Ok s) (Err f) = faulty f
+  operated_agrees op (Err f) b = faulty f
 
-  compared_alike : (op : Binary) (a b c d : Result Scalar Fault) → a ≡ c → b ≡ d → Agrees (faulting world) r (as_value op a b) (as_shape op c d)
-  compared_alike op a b c d e f =
-      subst (λ (x : Result Scalar Fault). Agrees (faulting world) r (as_value op x b) (as_shape op c d)) (sym e)
-      (subst (λ (y : Result Scalar Fault). Agrees (faulting world) r (as_value op c y) (as_shape op c d)) (sym f) (compared_agrees op c d))
+  operated_alike : (op : Binary) (a b c d : Result Scalar Fault) → a ≡ c → b ≡ d → Agrees (faulting world) r (operated_value op a b) (operated_shape op c d)
+  operated_alike op a b c d e f =
+      subst (λ (x : Result Scalar Fault). Agrees (faulting world) r (operated_value op x b) (operated_shape op c d)) (sym e)
+      (subst (λ (y : Result Scalar Fault). Agrees (faulting world) r (operated_value op c y) (operated_shape op c d)) (sym f) (operated_agrees op c d))
+
+  negated_agrees : (a : Result Scalar Fault) → Agrees (faulting world) r (on_ok a (λ s. as_value (negated fault.NullReference s))) (on_ok a (λ s. scalar_shape (negated fault.NullReference s)))
+  negated_agrees (Ok s) = result_agrees (negated fault.NullReference s)
+  negated_agrees (Err f) = faulty f
+
+  negated_alike : (a c : Result Scalar Fault) → a ≡ c → Agrees (faulting world) r (on_ok a (λ s. as_value (negated fault.NullReference s))) (on_ok c (λ s. scalar_shape (negated fault.NullReference s)))
+  negated_alike a c e =
+      subst (λ (x : Result Scalar Fault). Agrees (faulting world) r (on_ok x (λ s. as_value (negated fault.NullReference s))) (on_ok c (λ s. scalar_shape (negated fault.NullReference s)))) (sym e) (negated_agrees c)
 
   -- a sequence is neither a row nor a scalar
   sequence_agrees : (items : Stream (Value R)) → Agrees (faulting world) r (Ok (sequence items)) (Err fault.NullReference)
@@ -205,11 +214,16 @@ module _ {R : Type 0} (world : World R) (variable : List ℕ) (t : Ty) (r : R) w
   means_member : (row : Expr) (c : List ℕ) → Means row → Means (expr.Node (node.Member row c))
   means_member row c h = agrees_by _ _ _ _ (meaning_member (faulting world) row c row_scope) (shape_member variable (world.cell r) row c) (member_agrees _ _ c h)
 
-  means_compare : (op : Binary) (a b : Expr) → Means a → Means b → Means (expr.Node (node.Binary op a b))
-  means_compare op a b h k =
-      agrees_by _ _ _ _ (meaning_compare (faulting world) op a b row_scope) (shape_compare variable (world.cell r) op a b)
-      (compared_alike op (on_ok (meaning (faulting world) a row_scope) (λ v. scalar_of (faulting world) (out-Value R v))) (on_ok (meaning (faulting world) b row_scope) (λ v. scalar_of (faulting world) (out-Value R v)))
+  means_binary : (op : Binary) (a b : Expr) → Means a → Means b → Means (expr.Node (node.Binary op a b))
+  means_binary op a b h k =
+      agrees_by _ _ _ _ (meaning_binary (faulting world) op a b row_scope) (shape_binary variable (world.cell r) op a b)
+      (operated_alike op (on_ok (meaning (faulting world) a row_scope) (λ v. scalar_of (faulting world) (out-Value R v))) (on_ok (meaning (faulting world) b row_scope) (λ v. scalar_of (faulting world) (out-Value R v)))
       (on_ok (shape_of variable (world.cell r) a) scalar_in) (on_ok (shape_of variable (world.cell r) b) scalar_in) (scalars_agree _ _ h) (scalars_agree _ _ k))
+
+  means_minus : (a : Expr) → Means a → Means (expr.Node (node.Unary unary.Minus a))
+  means_minus a h =
+      agrees_by _ _ _ _ (meaning_minus (faulting world) a row_scope) (shape_minus variable (world.cell r) a)
+      (negated_alike (on_ok (meaning (faulting world) a row_scope) (λ v. scalar_of (faulting world) (out-Value R v))) (on_ok (shape_of variable (world.cell r) a) scalar_in) (scalars_agree _ _ h))
 
   -- a truth value is asked of both alike
   pub truths_agree : (m : Result (Value R) Fault) (o : Result Shape Fault) → Agrees (faulting world) r m o → on_scalar (faulting world) m (truth_of fault.NullReference) ≡ on_ok o truth_in
@@ -260,7 +274,8 @@ module _ {R : Type 0} (world : World R) (variable : List ℕ) (t : Ty) (r : R) w
   means_layer x (Expr-F.Node (node.Integer n)) h = subst (λ d. Means (roll-Expr d)) h (subst Means (sym (rolls-Node (node.Integer n))) (means_integer n))
   means_layer x (Expr-F.Node (node.Name s)) h = subst (λ d. Means (roll-Expr d)) h (subst Means (sym (rolls-Node (node.Name s))) (means_name s))
   means_layer x (Expr-F.Node (node.Member row c)) h = subst (λ d. Means (roll-Expr d)) h (subst Means (sym (rolls-Node (node.Member row.0 c))) (means_member row.0 c row.1))
-  means_layer x (Expr-F.Node (node.Binary op a b)) h = subst (λ d. Means (roll-Expr d)) h (subst Means (sym (rolls-Node (node.Binary op a.0 b.0))) (means_compare op a.0 b.0 a.1 b.1))
+  means_layer x (Expr-F.Node (node.Binary op a b)) h = subst (λ d. Means (roll-Expr d)) h (subst Means (sym (rolls-Node (node.Binary op a.0 b.0))) (means_binary op a.0 b.0 a.1 b.1))
+  means_layer x (Expr-F.Node (node.Unary unary.Minus a)) h = subst (λ d. Means (roll-Expr d)) h (subst Means (sym (rolls-Node (node.Unary unary.Minus a.0))) (means_minus a.0 a.1))
   means_layer x (Expr-F.Node (node.Bool b)) h = subst (λ d. Means (roll-Expr d)) h (subst Means (sym (rolls-Node (node.Bool b))) (means_truth b))
   means_layer x (Expr-F.Node (node.Unary unary.Not a)) h = subst (λ d. Means (roll-Expr d)) h (subst Means (sym (rolls-Node (node.Unary unary.Not a.0))) (means_not a.0 a.1))
   means_layer x (Expr-F.Node (node.And a b)) h = subst (λ d. Means (roll-Expr d)) h (subst Means (sym (rolls-Node (node.And a.0 b.0))) (means_both a.0 b.0 a.1 b.1))

@@ -12,8 +12,8 @@ use Rattle.lq_value.specs.declared.value.Fault.TheVariants as fault
 use Rattle.lq_value.specs.declared.value.Value.{Value, out-Value}
 use Rattle.lq_value.specs.declared.value.Value.TheVariants as value
 use Rattle.lq_value.specs.declared.value.Value.TheVariants.{outs-Row as outs-value-Row, outs-Scalar}
-use Rattle.lq_model.specs.Meaning.{Scope, World, cell_value, meaning, member_value, on_scalar, scalar_of, truth_value}
-use Rattle.lq_model.specs.Operations.{compared, on_ok, truth_of}
+use Rattle.lq_model.specs.Meaning.{Scope, World, as_value, cell_value, meaning, member_value, on_scalar, scalar_of, truth_value}
+use Rattle.lq_model.specs.Operations.{negated, of_two, on_ok, operation_of, truth_of}
 use Rattle.lq_model.specs.Typing.{Names, is_bool, is_bool_type, is_scalar, name_type, table_number, truth_type, type_of}
 use Rattle.lq_model.specs.declared.syntax.Binary.{Binary}
 use Rattle.lq_model.specs.declared.syntax.Expr.{Expr, ind-Expr, map-Expr, roll-Expr}
@@ -22,10 +22,10 @@ use Rattle.lq_model.specs.declared.syntax.Expr.TheVariants.{rolls-Node}
 use Rattle.lq_model.specs.declared.syntax.Expr.TheVariants as expr
 use Rattle.lq_model.specs.declared.syntax.Node.TheVariants as node
 use Rattle.lq_model.specs.declared.syntax.Unary.TheVariants as unary
-use Rattle.lq_model.proofs.Opens.{layer_type, rolled_type, meaning_both, meaning_compare, meaning_either, meaning_integer, meaning_member, meaning_not, meaning_truth, type_both, type_either, type_name}
+use Rattle.lq_model.proofs.Opens.{layer_type, rolled_type, meaning_binary, meaning_both, meaning_either, meaning_integer, meaning_member, meaning_minus, meaning_not, meaning_truth, type_both, type_either, type_name}
 use Rattle.lq_session.specs.Given.{is_scalar_type}
-use Rattle.lq_session.specs.OneRow.{Shape, TheRow, TheScalar, cell_in, member_in, scalar_at, scalar_in, shape_of, truth_in, truth_shape}
-use Rattle.lq_session.proofs.OneRowLemmas.{Agrees, as_shape, as_value, faulting, means, no_member, row_scope, scalar_means, shape_both, shape_compare, shape_either, shape_integer, shape_member, shape_not, shape_truth, truths_agree}
+use Rattle.lq_session.specs.OneRow.{Shape, TheRow, TheScalar, cell_in, member_in, scalar_at, scalar_in, scalar_shape, shape_of, truth_in, truth_shape}
+use Rattle.lq_session.proofs.OneRowLemmas.{Agrees, operated_shape, operated_value, faulting, means, no_member, row_scope, scalar_means, shape_binary, shape_both, shape_either, shape_integer, shape_member, shape_minus, shape_not, shape_truth, truths_agree}
 
 -- a scalar as a value
 abbrev pub as_values : {R : Type 0} → Result Scalar Fault → Result (Value R) Fault
@@ -78,25 +78,37 @@ module _ {R : Type 0} (world : World R) (tables : List Schema) (variable : List 
       ∙ member_found _ _ c (means (faulting world) variable (ty.Row n) r row)
       ∙ sym (ap (λ (o : Result Shape Fault). as_values (on_ok o scalar_in)) (shape_member variable (world.cell r) row c))
 
-  truth_found : (o : Result Bool Fault)
-      → on_ok o (λ truth. Ok (value.Scalar (scalar.Bool truth))) ≡ as_values {R = R} (on_ok (on_ok o (λ truth. Ok (TheScalar (scalar.Bool truth)))) scalar_in)
-  truth_found (Ok truth) = refl
-  truth_found (Err f) = refl
+  result_found : (o : Result Scalar Fault) → as_value {R = R} o ≡ as_values (on_ok (scalar_shape o) scalar_in)
+  result_found (Ok s) = refl
+  result_found (Err f) = refl
 
-  compared_found : (op : Binary) (a b : Result Scalar Fault)
-      → as_value (faulting world) variable (ty.Row n) r op a b ≡ as_values (on_ok (as_shape (faulting world) variable (ty.Row n) r op a b) scalar_in)
-  compared_found op (Ok s) (Ok t) = truth_found (compared fault.NullReference op s t)
-  compared_found op (Ok s) (Err f) = refl
-  compared_found op (Err f) b = refl
+  operated_found : (op : Binary) (a b : Result Scalar Fault)
+      → operated_value (faulting world) variable (ty.Row n) r op a b ≡ as_values (on_ok (operated_shape (faulting world) variable (ty.Row n) r op a b) scalar_in)
+  operated_found op (Ok s) (Ok t) = result_found (of_two fault.NullReference (operation_of op) s t)
+  operated_found op (Ok s) (Err f) = refl
+  operated_found op (Err f) b = refl
 
-  found_compare : (op : Binary) (a b : Expr) → IsFound (expr.Node (node.Binary op a b))
+  found_binary : (op : Binary) (a b : Expr) → IsFound (expr.Node (node.Binary op a b))
   unfolding scalar_at
-  found_compare op a b typed =
-      meaning_compare (faulting world) op a b scope
-      ∙ ap (λ (x : Result Scalar Fault). as_value (faulting world) variable (ty.Row n) r op x (on_ok (meaning (faulting world) b scope) (λ v. scalar_of (faulting world) (out-Value R v)))) (scalar_means (faulting world) variable (ty.Row n) r a)
-      ∙ ap (λ (y : Result Scalar Fault). as_value (faulting world) variable (ty.Row n) r op (scalar_at variable (world.cell r) a) y) (scalar_means (faulting world) variable (ty.Row n) r b)
-      ∙ compared_found op (scalar_at variable (world.cell r) a) (scalar_at variable (world.cell r) b)
-      ∙ sym (ap (λ (o : Result Shape Fault). as_values (on_ok o scalar_in)) (shape_compare variable (world.cell r) op a b))
+  found_binary op a b typed =
+      meaning_binary (faulting world) op a b scope
+      ∙ ap (λ (x : Result Scalar Fault). operated_value (faulting world) variable (ty.Row n) r op x (on_ok (meaning (faulting world) b scope) (λ v. scalar_of (faulting world) (out-Value R v)))) (scalar_means (faulting world) variable (ty.Row n) r a)
+      ∙ ap (λ (y : Result Scalar Fault). operated_value (faulting world) variable (ty.Row n) r op (scalar_at variable (world.cell r) a) y) (scalar_means (faulting world) variable (ty.Row n) r b)
+      ∙ operated_found op (scalar_at variable (world.cell r) a) (scalar_at variable (world.cell r) b)
+      ∙ sym (ap (λ (o : Result Shape Fault). as_values (on_ok o scalar_in)) (shape_binary variable (world.cell r) op a b))
+
+  negated_found : (a : Result Scalar Fault)
+      → on_ok a (λ s. as_value {R = R} (negated fault.NullReference s)) ≡ as_values (on_ok (on_ok a (λ s. scalar_shape (negated fault.NullReference s))) scalar_in)
+  negated_found (Ok s) = result_found (negated fault.NullReference s)
+  negated_found (Err f) = refl
+
+  found_minus : (a : Expr) → IsFound (expr.Node (node.Unary unary.Minus a))
+  unfolding scalar_at
+  found_minus a typed =
+      meaning_minus (faulting world) a scope
+      ∙ ap (λ (x : Result Scalar Fault). on_ok x (λ s. as_value (negated fault.NullReference s))) (scalar_means (faulting world) variable (ty.Row n) r a)
+      ∙ negated_found (scalar_at variable (world.cell r) a)
+      ∙ sym (ap (λ (o : Result Shape Fault). as_values (on_ok o scalar_in)) (shape_minus variable (world.cell r) a))
 
   -- a truth value as it is found, and what follows it
   abbrev truth_at_row : Expr → Result Bool Fault
@@ -181,7 +193,8 @@ module _ {R : Type 0} (world : World R) (tables : List Schema) (variable : List 
   found_layer x (Expr-F.Node (node.Integer m)) h = subst (λ d. IsFound (roll-Expr d)) h (subst IsFound (sym (rolls-Node (node.Integer m))) (found_integer m))
   found_layer x (Expr-F.Node (node.Name s)) h = subst (λ d. IsFound (roll-Expr d)) h (subst IsFound (sym (rolls-Node (node.Name s))) (found_name s))
   found_layer x (Expr-F.Node (node.Member row c)) h = subst (λ d. IsFound (roll-Expr d)) h (subst IsFound (sym (rolls-Node (node.Member row.0 c))) (found_member row.0 c))
-  found_layer x (Expr-F.Node (node.Binary op a b)) h = subst (λ d. IsFound (roll-Expr d)) h (subst IsFound (sym (rolls-Node (node.Binary op a.0 b.0))) (found_compare op a.0 b.0))
+  found_layer x (Expr-F.Node (node.Binary op a b)) h = subst (λ d. IsFound (roll-Expr d)) h (subst IsFound (sym (rolls-Node (node.Binary op a.0 b.0))) (found_binary op a.0 b.0))
+  found_layer x (Expr-F.Node (node.Unary unary.Minus a)) h = subst (λ d. IsFound (roll-Expr d)) h (subst IsFound (sym (rolls-Node (node.Unary unary.Minus a.0))) (found_minus a.0))
   found_layer x (Expr-F.Node (node.Bool b)) h = subst (λ d. IsFound (roll-Expr d)) h (subst IsFound (sym (rolls-Node (node.Bool b))) (found_truth b))
   found_layer x (Expr-F.Node (node.Unary unary.Not a)) h = subst (λ d. IsFound (roll-Expr d)) h (subst IsFound (sym (rolls-Node (node.Unary unary.Not a.0))) (found_not a.0))
   found_layer x (Expr-F.Node (node.And a b)) h = subst (λ d. IsFound (roll-Expr d)) h (subst IsFound (sym (rolls-Node (node.And a.0 b.0))) (found_both a.0 b.0 b.1))

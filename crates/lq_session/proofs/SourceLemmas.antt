@@ -1,5 +1,5 @@
 -- Where a query's source has the type of a table's rows, it means the rows of that table as they are seen.
-use Rattle.std.proofs.Common.{◌≡◌, ◌&&◌, if◌then◌else◌, List, [], map, ℕ, ℤ, Bool, true, false, Option, Some, None, ap, ◌∙◌, sym, refl, subst, slice_get, option_and_then, option_map}
+use Rattle.std.proofs.Common.{◌≡◌, ◌&&◌, if◌then◌else◌, List, [], map, ℕ, ℤ, Bool, true, false, Option, Some, None, ap, ◌∙◌, sym, refl, subst, slice_get, option_and_then, option_map, true≢false}
 use Rattle.std.proofs.lemmas.Option.{slice_get-map}
 use Rattle.lq_value.specs.Tables.{Table}
 use Rattle.lq_value.specs.declared.table.Column.{Column}
@@ -7,10 +7,11 @@ use Rattle.lq_value.specs.declared.table.ColumnType.{ColumnType}
 use Rattle.lq_value.specs.declared.table.ColumnType.TheVariants as of
 use Rattle.lq_value.specs.declared.table.Schema.{Schema}
 use Rattle.lq_value.specs.declared.ty.Ty.{Ty, out-Ty}
+use Rattle.lq_value.specs.declared.ty.Ty.TheOpen.{Ty-F}
 use Rattle.lq_value.specs.declared.ty.Ty.TheVariants as ty
 use Rattle.lq_value.specs.declared.ty.Ty.TheVariants.{outs-Bool, outs-Int, outs-IntN, outs-Row, outs-Seq, outs-Str}
 use Rattle.lq_model.specs.Meaning.{World, meaning, table_value}
-use Rattle.lq_model.specs.Typing.{is_bool_type, is_comparison, column_named, column_type, is_number, item_of, row_table, table_number, type_of, type_of_column}
+use Rattle.lq_model.specs.Typing.{binary_type, if_number, is_bool_type, is_comparison, number_type, column_named, column_type, is_number, item_of, row_table, table_number, type_of, type_of_column}
 use Rattle.lq_model.specs.declared.syntax.Binary.{Binary}
 use Rattle.lq_model.specs.declared.syntax.Expr.{Expr, ind-Expr, map-Expr, roll-Expr}
 use Rattle.lq_model.specs.declared.syntax.Expr.TheOpen.{Expr-F}
@@ -18,7 +19,7 @@ use Rattle.lq_model.specs.declared.syntax.Expr.TheVariants.{rolls-Node}
 use Rattle.lq_model.specs.declared.syntax.Expr.TheVariants as expr
 use Rattle.lq_model.specs.declared.syntax.Node.TheVariants as node
 use Rattle.lq_model.specs.declared.syntax.Unary.TheVariants as unary
-use Rattle.lq_model.proofs.Opens.{layer_type, rolled_type, meaning_name, type_both, type_compare, type_either, type_integer, type_member, type_name, type_not, type_truth}
+use Rattle.lq_model.proofs.Opens.{layer_type, rolled_type, meaning_name, type_binary, type_both, type_either, type_integer, type_member, type_minus, type_name, type_not, type_truth}
 use Rattle.lq_session.specs.Given.{top_names}
 
 -- the table whose rows a sequence of this type has
@@ -56,12 +57,30 @@ truth_no_rows : (b : Bool) → table_of_rows (if b then Some ty.Bool else None) 
 truth_no_rows true = column_no_rows of.Bool
 truth_no_rows false = refl
 
-compare_no_rows : (compares : Bool) (o p : Option Ty)
-    → table_of_rows (if compares then option_and_then (λ s. option_and_then (λ t. if is_number (out-Ty s) && is_number (out-Ty t) then Some ty.Bool else None) p) o else None) ≡ None
-compare_no_rows false o p = refl
-compare_no_rows true None p = refl
-compare_no_rows true (Some s) None = refl
-compare_no_rows true (Some s) (Some t) = truth_no_rows (is_number (out-Ty s) && is_number (out-Ty t))
+number_no_rows : (k l : Ty-F Ty) → table_of_rows (Some (number_type k l)) ≡ None
+number_no_rows Ty-F.Int Ty-F.Int = column_no_rows of.Int
+number_no_rows k l = column_no_rows of.IntN
+
+binary_no_rows : (op : Binary) (o p : Option Ty) → table_of_rows (binary_type op o p) ≡ None
+binary_no_rows op None p = refl
+binary_no_rows op (Some s) None = refl
+binary_no_rows op (Some s) (Some t) = by (is_number (out-Ty s) && is_number (out-Ty t)) (is_comparison op) where
+  by : (b c : Bool) → table_of_rows (if b then Some (if c then ty.Bool else number_type (out-Ty s) (out-Ty t)) else None) ≡ None
+  by true true = column_no_rows of.Bool
+  by true false = number_no_rows (out-Ty s) (out-Ty t)
+  by false c = refl
+
+number_has_no_items : (layer : Ty-F Ty) → is_number layer ≡ true → item_of layer ≡ None
+number_has_no_items Ty-F.Int h = refl
+number_has_no_items Ty-F.IntN h = refl
+number_has_no_items layer h = absurd (true≢false (sym h))
+
+minus_no_rows : (o : Option Ty) → table_of_rows (if_number o) ≡ None
+minus_no_rows None = refl
+minus_no_rows (Some t) = by (is_number (out-Ty t)) refl where
+  by : (b : Bool) → is_number (out-Ty t) ≡ b → table_of_rows (if b then Some t else None) ≡ None
+  by true is = ap (λ o. option_and_then (λ item. row_table (out-Ty item)) o) (number_has_no_items (out-Ty t) is)
+  by false is = refl
 
 pub rows_of_table : (m : ℕ) → table_of_rows (Some (ty.Seq (ty.Row m))) ≡ Some m
 rows_of_table m = ap (λ u. option_and_then (λ item. row_table (out-Ty item)) (item_of u)) (outs-Seq (ty.Row m)) ∙ ap row_table (outs-Row m)
@@ -77,9 +96,12 @@ module _ {R : Type 0} (world : World R) (number : ℕ) where
   source_member row c h =
       none_is_none (sym (ap table_of_rows (type_member row c (top_names world.schemas)) ∙ members_no_rows world.schemas c (type_of row (top_names world.schemas))) ∙ h)
 
-  source_compare : (op : Binary) (a b : Expr) → IsSource (expr.Node (node.Binary op a b))
-  source_compare op a b h =
-      none_is_none (sym (ap table_of_rows (type_compare op a b (top_names world.schemas)) ∙ compare_no_rows (is_comparison op) (type_of a (top_names world.schemas)) (type_of b (top_names world.schemas))) ∙ h)
+  source_binary : (op : Binary) (a b : Expr) → IsSource (expr.Node (node.Binary op a b))
+  source_binary op a b h =
+      none_is_none (sym (ap table_of_rows (type_binary op a b (top_names world.schemas)) ∙ binary_no_rows op (type_of a (top_names world.schemas)) (type_of b (top_names world.schemas))) ∙ h)
+
+  source_minus : (a : Expr) → IsSource (expr.Node (node.Unary unary.Minus a))
+  source_minus a h = none_is_none (sym (ap table_of_rows (type_minus a (top_names world.schemas)) ∙ minus_no_rows (type_of a (top_names world.schemas))) ∙ h)
 
   source_truth : (b : Bool) → IsSource (expr.Node (node.Bool b))
   source_truth b h = none_is_none (sym (ap table_of_rows (type_truth b (top_names world.schemas)) ∙ column_no_rows of.Bool) ∙ h)
@@ -115,7 +137,8 @@ module _ {R : Type 0} (world : World R) (number : ℕ) where
   source_layer x (Expr-F.Node (node.Integer n)) h = subst (λ d. IsSource (roll-Expr d)) h (subst IsSource (sym (rolls-Node (node.Integer n))) (source_integer n))
   source_layer x (Expr-F.Node (node.Name s)) h = subst (λ d. IsSource (roll-Expr d)) h (subst IsSource (sym (rolls-Node (node.Name s))) (source_name s))
   source_layer x (Expr-F.Node (node.Member row c)) h = subst (λ d. IsSource (roll-Expr d)) h (subst IsSource (sym (rolls-Node (node.Member row.0 c))) (source_member row.0 c))
-  source_layer x (Expr-F.Node (node.Binary op a b)) h = subst (λ d. IsSource (roll-Expr d)) h (subst IsSource (sym (rolls-Node (node.Binary op a.0 b.0))) (source_compare op a.0 b.0))
+  source_layer x (Expr-F.Node (node.Binary op a b)) h = subst (λ d. IsSource (roll-Expr d)) h (subst IsSource (sym (rolls-Node (node.Binary op a.0 b.0))) (source_binary op a.0 b.0))
+  source_layer x (Expr-F.Node (node.Unary unary.Minus a)) h = subst (λ d. IsSource (roll-Expr d)) h (subst IsSource (sym (rolls-Node (node.Unary unary.Minus a.0))) (source_minus a.0))
   source_layer x (Expr-F.Node (node.Bool b)) h = subst (λ d. IsSource (roll-Expr d)) h (subst IsSource (sym (rolls-Node (node.Bool b))) (source_truth b))
   source_layer x (Expr-F.Node (node.Unary unary.Not a)) h = subst (λ d. IsSource (roll-Expr d)) h (subst IsSource (sym (rolls-Node (node.Unary unary.Not a.0))) (source_not a.0))
   source_layer x (Expr-F.Node (node.And a b)) h = subst (λ d. IsSource (roll-Expr d)) h (subst IsSource (sym (rolls-Node (node.And a.0 b.0))) (source_both a.0 b.0))

@@ -1,5 +1,5 @@
 -- How the type check's types are read, and where it finds tables.
-use Rattle.std.proofs.Common.{◌≡◌, ◌==◌, ◌+◌, ◌∷◌, ◌&&◌, if◌then◌else◌, length, List, [], map, ℕ, Bool, true, false, Option, Some, None, ap, ◌∙◌, sym, refl, bytes_eq, nat_eq, is_some, option_and_then, true≢false, suc, arith}
+use Rattle.std.proofs.Common.{◌≡◌, ◌==◌, ◌+◌, ◌∷◌, ◌&&◌, if◌then◌else◌, length, List, [], map, ℕ, Bool, true, false, Option, Some, None, ap, ap₂, ◌∙◌, sym, refl, bytes_eq, nat_eq, is_some, option_and_then, true≢false, suc, arith}
 use Rattle.std.proofs.lemmas.Bool.{eqb-true}
 use Rattle.std.specs.List.{position_from}
 use Rattle.std.specs.Cmp.Lexicographic.{pointwise}
@@ -12,7 +12,8 @@ use Rattle.lq_value.specs.declared.ty.Ty.TheVariants as ty
 use Rattle.lq_value.specs.declared.ty.Ty.TheVariants.{outs-Bool, outs-Int, outs-IntN, outs-Row, outs-Seq, outs-Str}
 use Rattle.lq_store.specs.Rules as store
 use Rattle.lq_model.specs.Machine.{schemas_of}
-use Rattle.lq_model.specs.Typing.{Names, body_type, if_scalar, is_bool, is_bool_type, is_number, is_scalar, item_of, item_type, items_over, names_behind_all, row_table, selected_type, table_number, type_of, type_of_column, with_local}
+use Rattle.lq_model.specs.Typing.{Names, binary_type, body_type, if_scalar, is_comparison, number_type, result_type, is_bool, is_bool_type, is_number, is_scalar, item_of, item_type, items_over, names_behind_all, row_table, selected_type, table_number, type_of, type_of_column, with_local}
+use Rattle.lq_model.specs.declared.syntax.Binary.{Binary}
 use Rattle.lq_model.specs.declared.syntax.Clause.{Clause}
 use Rattle.lq_model.specs.declared.syntax.Clause.TheVariants as clause
 use Rattle.lq_model.specs.declared.syntax.Continuation.{Continuation}
@@ -20,9 +21,9 @@ use Rattle.lq_model.specs.declared.syntax.Expr.{Expr}
 use Rattle.lq_model.specs.declared.syntax.Last.{Last}
 use Rattle.lq_model.specs.declared.syntax.Last.TheVariants as last
 use Rattle.lq_model.specs.declared.syntax.Query.{Query}
-use Rattle.lq_model.proofs.Opens.{type_compare, type_integer, type_member, type_name, type_text, type_truth, type_null, type_minus, type_not, type_both, type_either, type_coalesce, type_choice, type_host, type_record, type_method, type_query}
+use Rattle.lq_model.proofs.Opens.{type_binary, type_integer, type_member, type_name, type_text, type_truth, type_null, type_minus, type_not, type_both, type_either, type_coalesce, type_choice, type_host, type_record, type_method, type_query}
 use Rattle.lq_session.specs.Given.{IsOver, clauses_are_typed, is_scalar_type, is_typed_body, selects_scalar, top_names}
-use Rattle.lq_session.specs.KnownTypes.{is_known_bool, is_known_number, is_known_scalar, known_row, shown_type}
+use Rattle.lq_session.specs.KnownTypes.{is_known_bool, is_known_number, is_known_scalar, known_number_type, known_row, shown_type}
 use Rattle.lq_session.specs.declared.typing.Known.{Known}
 use Rattle.lq_session.specs.declared.typing.Known.TheVariants as known
 
@@ -58,7 +59,27 @@ row_known (known.Scalar of.Str) = ap row_table outs-Str
 row_known (known.Row n) = ap row_table (outs-Row n)
 row_known (known.Rows n) = ap row_table (outs-Seq (ty.Row n))
 
-pub ruleset types = (type_integer, type_name, type_member, type_compare, type_text, type_truth, type_null, type_minus, type_not, type_both, type_either, type_coalesce, type_choice, type_host, type_record, type_method, type_query, number_known, row_known)
+-- the type of what an operator gives to numbers, and that it takes nothing else
+pub result_known : (op : Binary) (k l : Known)
+    → binary_type op (Some (shown_type k)) (Some (shown_type l))
+    ≡ (if is_known_number k && is_known_number l then Some (if is_comparison op then ty.Bool else type_of_column (known_number_type k l)) else None)
+result_known op k l =
+    ap₂ (λ (a b : Bool). if a && b then Some (result_type op (shown_type k) (shown_type l)) else None) (number_known k) (number_known l) ∙ by k l
+  where
+    compared_or : (t u : Ty) → t ≡ u → Some (if is_comparison op then ty.Bool else t) ≡ Some (if is_comparison op then ty.Bool else u)
+    compared_or t u same = ap (λ (v : Ty). Some (if is_comparison op then ty.Bool else v)) same
+
+    by : (k l : Known) → (if is_known_number k && is_known_number l then Some (result_type op (shown_type k) (shown_type l)) else None)
+        ≡ (if is_known_number k && is_known_number l then Some (if is_comparison op then ty.Bool else type_of_column (known_number_type k l)) else None)
+    by (known.Scalar of.Int) (known.Scalar of.Int) = compared_or _ _ (ap₂ number_type outs-Int outs-Int)
+    by (known.Scalar of.Int) (known.Scalar of.IntN) = compared_or _ _ (ap₂ number_type outs-Int outs-IntN)
+    by (known.Scalar of.IntN) (known.Scalar of.Int) = compared_or _ _ (ap₂ number_type outs-IntN outs-Int)
+    by (known.Scalar of.IntN) (known.Scalar of.IntN) = compared_or _ _ (ap₂ number_type outs-IntN outs-IntN)
+    by (known.Scalar of.Int) m = refl
+    by (known.Scalar of.IntN) m = refl
+    by m n = refl
+
+pub ruleset types = (type_integer, type_name, type_member, type_binary, type_text, type_truth, type_null, type_minus, type_not, type_both, type_either, type_coalesce, type_choice, type_host, type_record, type_method, type_query, number_known, row_known)
 
 -- a table is found by its schema where it is found by its name
 pub number_is : (tables : List Table) (name : List ℕ) → first_named store.name_of name tables ≡ table_number name (schemas_of tables)

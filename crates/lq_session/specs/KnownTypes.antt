@@ -36,6 +36,11 @@ is_known_number (known.Scalar t) = is_number_column t
 is_known_number (known.Row n) = false
 is_known_number (known.Rows n) = false
 
+-- the type of arithmetic on two numbers
+abbrev pub known_number_type : Known → Known → ColumnType
+known_number_type (known.Scalar of.Int) (known.Scalar of.Int) = of.Int
+known_number_type k l = of.IntN
+
 abbrev pub is_known_bool : Known → Bool
 is_known_bool (known.Scalar of.Bool) = true
 is_known_bool k = false

@@ -6,7 +6,7 @@ use Rattle.lq_value.specs.declared.scalar.Scalar.{Scalar}
 use Rattle.lq_value.specs.declared.scalar.Scalar.TheVariants as scalar
 use Rattle.lq_value.specs.declared.value.Fault.{Fault}
 use Rattle.lq_value.specs.declared.value.Fault.TheVariants as fault
-use Rattle.lq_model.specs.Operations.{compared, on_ok, truth_of}
+use Rattle.lq_model.specs.Operations.{negated, of_two, on_ok, operation_of, truth_of}
 use Rattle.lq_model.specs.Visible.{cell_named}
 use Rattle.lq_model.specs.declared.syntax.Clause.{Clause}
 use Rattle.lq_model.specs.declared.syntax.Clause.TheVariants as clause
@@ -33,6 +33,9 @@ truth_in shape = on_ok (scalar_in shape) (truth_of fault.NullReference)
 abbrev pub truth_shape : Bool → Shape
 truth_shape b = TheScalar (scalar.Bool b)
 
+abbrev pub scalar_shape : Result Scalar Fault → Result Shape Fault
+scalar_shape found = on_ok found (λ s. Ok (TheScalar s))
+
 abbrev pub cell_in : Option Scalar → Result Shape Fault
 cell_in (Some s) = Ok (TheScalar s)
 cell_in None = Err fault.NullReference
@@ -50,8 +53,8 @@ module _ (variable : List ℕ) (cell : List ℕ → Option Scalar) where
   node_shape (node.Integer n) = Ok (TheScalar (scalar.Int n))
   node_shape (node.Name x) = if bytes_eq variable x then Ok TheRow else Err fault.NullReference
   node_shape (node.Member row c) = on_ok row (member_in (cell c))
-  node_shape (node.Binary op a b) =
-      on_ok (on_ok a scalar_in) (λ s. on_ok (on_ok b scalar_in) (λ t. on_ok (compared fault.NullReference op s t) (λ truth. Ok (TheScalar (scalar.Bool truth)))))
+  node_shape (node.Binary op a b) = on_ok (on_ok a scalar_in) (λ s. on_ok (on_ok b scalar_in) (λ t. scalar_shape (of_two fault.NullReference (operation_of op) s t)))
+  node_shape (node.Unary unary.Minus a) = on_ok (on_ok a scalar_in) (λ s. scalar_shape (negated fault.NullReference s))
   node_shape (node.Bool b) = Ok (truth_shape b)
   node_shape (node.Unary unary.Not a) = on_ok (on_ok a truth_in) (λ t. Ok (truth_shape (not t)))
   node_shape (node.And a b) = on_ok (on_ok a truth_in) (λ t. if t then b else Ok (truth_shape false))

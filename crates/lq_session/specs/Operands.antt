@@ -15,7 +15,3 @@ shown_operand (operand.Scalar s) = TheScalar (shown_scalar s)
 abbrev pub shown_operands : Result Operand Fault → Result Shape Fault
 shown_operands (Ok o) = Ok (shown_operand o)
 shown_operands (Err f) = Err f
-
-abbrev pub shown_scalars : Result ScalarRef Fault → Result Scalar Fault
-shown_scalars (Ok s) = Ok (shown_scalar s)
-shown_scalars (Err f) = Err f

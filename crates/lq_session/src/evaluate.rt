@@ -5,11 +5,11 @@ ghost use Rattle.lq_value.specs.declared.value.Fault.TheVariants as fault;
 ghost use Rattle.lq_model.specs.Operations.{truth_of};
 ghost use Rattle.lq_model.specs.Visible.{cell_named};
 ghost use Rattle.lq_session.specs.OneRow.{scalar_in, truth_in, truth_shape};
-ghost use Rattle.lq_scalar.specs.Operands.{shown_scalar};
-ghost use Rattle.lq_session.specs.Operands.{shown_operand, shown_scalars};
+ghost use Rattle.lq_scalar.specs.Operands.{shown_scalar, shown_scalars};
+ghost use Rattle.lq_session.specs.Operands.{shown_operand};
 
 use lq_model::{Expr, Node, Unary};
-use lq_scalar::{ScalarRef, compared};
+use lq_scalar::{ScalarRef, negate, operate};
 use lq_value::{Column, Fault, Scalar, Txt};
 
 /// What has the name of a column.
@@ -114,7 +114,8 @@ impl<'a, C: Named> OneRow<'a, C> {
     ghost use Rattle.lq_model.specs.Visible.{cell_named};
     ghost use Rattle.lq_model.specs.declared.syntax.Expr.TheVariants as expr;
     ghost use Rattle.lq_session.specs.OneRow.{TheRow, member_of, scalar_at, shape_of, truth_at};
-    ghost use Rattle.lq_session.specs.Operands.{shown_operand, shown_operands, shown_scalars};
+    ghost use Rattle.lq_scalar.specs.Operands.{shown_scalars};
+    ghost use Rattle.lq_session.specs.Operands.{shown_operand, shown_operands};
 
     /// What a name is: the row's variable, or nothing that is known here.
     fn named(&self, name: &[u8]) -> Result<Operand<'a>, Fault>
@@ -161,16 +162,17 @@ impl<'a, C: Named> OneRow<'a, C> {
         match node {
             Node::Integer(number) => Ok(Operand::Scalar(ScalarRef::Int(*number))),
             Node::Name(name) => self.named(name.as_bytes()),
-            Node::Member(row, column) => {
-                let before = self.operand(row.get())?;
-                self.member(before, column.as_bytes())
-            }
+            Node::Member(row, column) => self.member(self.operand(row.get())?, column.as_bytes()),
             Node::Binary(operator, left, right) => {
                 let left = scalar_in(self.operand(left.get())?)?;
                 let right = scalar_in(self.operand(right.get())?)?;
-                Ok(truth_operand(compared(*operator, left, right)?))
+                Ok(Operand::Scalar(operate(*operator, left, right)?))
             }
             Node::Bool(truth) => Ok(truth_operand(*truth)),
+            Node::Unary(Unary::Minus, operand) => {
+                let number = scalar_in(self.operand(operand.get())?)?;
+                Ok(Operand::Scalar(negate(number)?))
+            }
             Node::Unary(Unary::Not, operand) => {
                 let truth = truth_in(self.operand(operand.get())?)?;
                 Ok(truth_operand(!truth))
@@ -185,7 +187,6 @@ impl<'a, C: Named> OneRow<'a, C> {
             },
             Node::Text(_)
             | Node::Null
-            | Node::Unary(Unary::Minus, _)
             | Node::Coalesce(_, _)
             | Node::Conditional(_, _, _)
             | Node::Host(_, _)

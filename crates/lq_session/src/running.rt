@@ -2,7 +2,7 @@
 ghost use Rattle.std.specs.Prelude.{◌≡◌, map};
 ghost use Rattle.lq_model.specs.Visible.{cell_named};
 ghost use Rattle.lq_session.specs.OneRow.{passes, selected};
-ghost use Rattle.lq_session.specs.Operands.{shown_scalars};
+ghost use Rattle.lq_scalar.specs.Operands.{shown_scalars};
 
 use crate::evaluate::{Named, OneRow};
 use crate::policies::{Action, Policies, RoleId};

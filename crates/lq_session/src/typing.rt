@@ -1,11 +1,11 @@
 //! The types of expressions and queries over the tables of a store.
-ghost use Rattle.std.specs.Prelude.{◌≡◌, ◌<◌, None, length, option_map, IfNone, IfSome};
+ghost use Rattle.std.specs.Prelude.{◌≡◌, ◌<◌, None, Some, length, option_map, IfNone, IfSome};
 ghost use Rattle.lq_model.specs.Machine.{schemas_of};
-ghost use Rattle.lq_model.specs.Typing.{column_named, item_type, table_number, truth_type, type_of, type_of_column};
+ghost use Rattle.lq_model.specs.Typing.{binary_type, column_named, item_type, table_number, truth_type, type_of, type_of_column};
 ghost use Rattle.lq_session.specs.Given.{IsOver, top_names};
-ghost use Rattle.lq_session.specs.KnownTypes.{is_known_number, shown_type};
+ghost use Rattle.lq_session.specs.KnownTypes.{is_known_number, known_number_type, shown_type};
 
-use lq_model::{Clause, Expr, Last, Node, Query, Unary};
+use lq_model::{Binary, Clause, Expr, Last, Node, Query, Unary};
 use lq_scalar::is_comparison;
 use lq_store::{Column, ColumnType, Store};
 
@@ -25,6 +25,32 @@ fn is_number(known: Known) -> bool
     ensures { result ≡ is_known_number known }
 {
     matches!(known, Known::Scalar(ColumnType::Int | ColumnType::IntN))
+}
+
+/// The type of arithmetic on two numbers: `int` where both are ints.
+fn number_type(left: Known, right: Known) -> ColumnType
+    ensures { result ≡ known_number_type left right }
+{
+    match (left, right) {
+        (Known::Scalar(ColumnType::Int), Known::Scalar(ColumnType::Int)) => ColumnType::Int,
+        _ => ColumnType::IntN,
+    }
+}
+
+/// The type of what an operator gives to operands of these types, which it takes where they are
+/// numbers.
+#[tactic(auto, using(crate::proofs::TypingLemmas::result_known))]
+fn result_type(operator: Binary, left: Known, right: Known) -> Option<Known>
+    ensures { option_map shown_type result ≡ binary_type operator (Some (shown_type left)) (Some (shown_type right)) }
+{
+    if !is_number(left) || !is_number(right) {
+        return None;
+    }
+    if is_comparison(operator) {
+        Some(Known::Scalar(ColumnType::Bool))
+    } else {
+        Some(Known::Scalar(number_type(left, right)))
+    }
 }
 
 /// The type of truth values, where all operands are some.
@@ -125,12 +151,12 @@ impl KnownNames<'_> {
                 _ => None,
             },
             Node::Binary(operator, left, right) => {
-                if !is_comparison(*operator) {
-                    return None;
-                }
                 let left = self.type_of(left.get())?;
-                let right = self.type_of(right.get())?;
-                (is_number(left) && is_number(right)).then_some(Known::Scalar(ColumnType::Bool))
+                result_type(*operator, left, self.type_of(right.get())?)
+            }
+            Node::Unary(Unary::Minus, operand) => {
+                let known = self.type_of(operand.get())?;
+                is_number(known).then_some(known)
             }
             Node::Bool(_) => Some(Known::Scalar(ColumnType::Bool)),
             Node::Unary(Unary::Not, operand) => truth_type(self.is_condition(operand.get())),
@@ -139,7 +165,6 @@ impl KnownNames<'_> {
             }
             Node::Text(_)
             | Node::Null
-            | Node::Unary(Unary::Minus, _)
             | Node::Coalesce(_, _)
             | Node::Conditional(_, _, _)
             | Node::Host(_, _)
