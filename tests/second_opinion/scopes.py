@@ -31,9 +31,9 @@ def type_of(tree, scope):
     if tree.kind in OF_TRUTHS and all(type_of(operand, scope) == "bool" for operand in tree.parts):
         return "bool"
     if tree.kind in ARITHMETIC or tree.kind == "unary -":
-        types = {type_of(operand, scope) for operand in tree.parts}
-        if types <= {"int", "int?"}:
-            return "int" if types == {"int"} else "int?"
+        types = [type_of(operand, scope) for operand in tree.parts]
+        if all(kind in ("int", "int?") for kind in types):
+            return "int?" if "int?" in types else "int"
     raise TypeFault(f"no type of {tree.kind}")
 
 
