@@ -14,7 +14,7 @@ use Rattle.lq_value.specs.declared.table.Schema.{Schema}
 use Rattle.lq_value.specs.declared.ty.Ty.{Ty, out-Ty}
 use Rattle.lq_value.specs.declared.ty.Ty.TheOpen.{Ty-F}
 use Rattle.lq_value.specs.declared.ty.Ty.TheVariants as ty
-use Rattle.lq_value.specs.declared.ty.Ty.TheVariants.{outs-Bool, outs-Int, outs-IntN, outs-Row, outs-Seq}
+use Rattle.lq_value.specs.declared.ty.Ty.TheVariants.{outs-Bool, outs-Int, outs-IntN, outs-Row, outs-Seq, outs-Str}
 use Rattle.lq_value.specs.declared.value.End.{End}
 use Rattle.lq_value.specs.declared.value.End.TheVariants as end
 use Rattle.lq_value.specs.declared.value.Fault.{Fault}
@@ -29,7 +29,7 @@ use Rattle.lq_model.specs.Operations.{arithmetic, checked, compared, computed, d
 use Rattle.lq_model.specs.MeaningLaws.{Every, HasCells, HasMeaning, HasStream, HaveTypes, HoldsRows, SelectsScalars, IsOf, is_scalar as is_scalar_value, is_row, is_sequence, IsOfScope, IsScalarOf, IsTypedTable, ServesMeanings, assuming}
 use Rattle.lq_model.specs.Served.{stream_data}
 use Rattle.lq_model.specs.Stream.{Stream, each, kept, one, select_by, then_stream, where_by}
-use Rattle.lq_model.specs.Typing.{Names, Claim, TypeOf, Leads, LeadAll, Selects, GivesItems, IsTyped, of_integer, of_local, of_table, of_column, of_comparison, of_arithmetic, of_minus, of_truth, of_not, of_both, of_either, by_where, by_none, by_first, by_select, by_query, HasType, column_named, column_type, is_comparison, number_type, is_number, is_scalar, item_of, item_type, local_type, row_table, table_number, type_of, type_of_column, with_local}
+use Rattle.lq_model.specs.Typing.{Names, Claim, TypeOf, Leads, LeadAll, Selects, GivesItems, IsTyped, of_integer, of_local, of_table, of_column, of_comparison, of_arithmetic, of_minus, of_choice, of_truth, of_not, of_both, of_either, by_where, by_none, by_first, by_select, by_query, HasType, column_named, column_type, chosen, is_comparison, number_type, is_number, is_scalar, item_of, item_type, local_type, row_table, table_number, type_of, type_of_column, with_local}
 use Rattle.lq_model.specs.Visible.{TableRow, cell_named, seen_from, seen_rows, tables_as_seen, visible_to}
 use Rattle.lq_model.specs.declared.operation.Op.{Op}
 use Rattle.lq_model.specs.declared.operation.Op.TheVariants as operation
@@ -46,7 +46,7 @@ use Rattle.lq_model.specs.declared.syntax.Last.TheVariants as last
 use Rattle.lq_model.specs.declared.syntax.Node.TheVariants as node
 use Rattle.lq_model.specs.declared.syntax.Query.{Query}
 use Rattle.lq_model.specs.declared.syntax.Unary.TheVariants as unary
-use Rattle.lq_model.proofs.Opens.{meaning_binary, meaning_both, meaning_either, meaning_integer, meaning_member, meaning_minus, meaning_name, meaning_not, meaning_truth}
+use Rattle.lq_model.proofs.Opens.{meaning_binary, meaning_both, meaning_choice, meaning_either, meaning_integer, meaning_member, meaning_minus, meaning_name, meaning_not, meaning_truth}
 use Rattle.lq_model.proofs.TypingLemmas.{item_type_sound, type_complete}
 
 -- ---- lists
@@ -301,6 +301,50 @@ sequence_is_no_number : (layer : Ty-F Ty) (item : Ty) → item_of layer ≡ Some
 sequence_is_no_number (Ty-F.Seq t) item h k = true≢false (sym k)
 sequence_is_no_number layer item h k = none-some item h
 
+row_is_no_scalar : (layer : Ty-F Ty) (n : ℕ) → row_table layer ≡ Some n → is_scalar layer ≡ true → ⊥
+row_is_no_scalar (Ty-F.Row m) n h k = true≢false (sym k)
+row_is_no_scalar layer n h k = none-some n h
+
+sequence_is_no_scalar : (layer : Ty-F Ty) (item : Ty) → item_of layer ≡ Some item → is_scalar layer ≡ true → ⊥
+sequence_is_no_scalar (Ty-F.Seq t) item h k = true≢false (sym k)
+sequence_is_no_scalar layer item h k = none-some item h
+
+-- what may be chosen is a scalar, and of the type of the choice
+choice_fits : (k l : Ty-F Ty) (r : Ty) → chosen k l ≡ Some r → (s : Scalar) → IsScalarOf k s → IsScalarOf (out-Ty r) s
+choice_fits k l r h s fits = subst (λ (t : Ty). IsScalarOf (out-Ty t) s) (same_Some (choice k l) r (found k l h)) (by k l h s fits) where
+  choice : Ty-F Ty → Ty-F Ty → Ty
+  choice k l = or_null (chosen k l)
+
+  found : (k l : Ty-F Ty) → chosen k l ≡ Some r → Some (choice k l) ≡ Some r
+  found k l h = ap (λ (o : Option Ty). Some (or_null o)) h
+
+  by : (k l : Ty-F Ty) → chosen k l ≡ Some r → (s : Scalar) → IsScalarOf k s → IsScalarOf (out-Ty (choice k l)) s
+  by Ty-F.Int Ty-F.Int h s fits = subst (λ (layer : Ty-F Ty). IsScalarOf layer s) (sym outs-Int) fits
+  by Ty-F.Int Ty-F.IntN h (scalar.Int n) fits = subst (λ (layer : Ty-F Ty). IsScalarOf layer (scalar.Int n)) (sym outs-IntN) tt
+  by Ty-F.Int Ty-F.IntN h s fits = absurd fits
+  by Ty-F.IntN Ty-F.Int h s fits = subst (λ (layer : Ty-F Ty). IsScalarOf layer s) (sym outs-IntN) fits
+  by Ty-F.IntN Ty-F.IntN h s fits = subst (λ (layer : Ty-F Ty). IsScalarOf layer s) (sym outs-IntN) fits
+  by Ty-F.Bool Ty-F.Bool h s fits = subst (λ (layer : Ty-F Ty). IsScalarOf layer s) (sym outs-Bool) fits
+  by Ty-F.Str Ty-F.Str h s fits = subst (λ (layer : Ty-F Ty). IsScalarOf layer s) (sym outs-Str) fits
+  by k l h s fits = absurd (none-some r h)
+
+-- either may stand first
+chosen_turned : (k l : Ty-F Ty) (r : Ty) → chosen k l ≡ Some r → chosen l k ≡ Some r
+chosen_turned Ty-F.Int Ty-F.Int r h = h
+chosen_turned Ty-F.Int Ty-F.IntN r h = h
+chosen_turned Ty-F.IntN Ty-F.Int r h = h
+chosen_turned Ty-F.IntN Ty-F.IntN r h = h
+chosen_turned Ty-F.Bool Ty-F.Bool r h = h
+chosen_turned Ty-F.Str Ty-F.Str r h = h
+chosen_turned k l r h = absurd (none-some r h)
+
+chosen_scalar : (k l : Ty-F Ty) (r : Ty) → chosen k l ≡ Some r → is_scalar k ≡ true
+chosen_scalar Ty-F.Int l r h = refl
+chosen_scalar Ty-F.IntN l r h = refl
+chosen_scalar Ty-F.Bool l r h = refl
+chosen_scalar Ty-F.Str l r h = refl
+chosen_scalar k l r h = absurd (none-some r h)
+
 -- ---- values that operators take, by their types
 
 module _ {R : Type 0} (world : World R) where
@@ -309,6 +353,12 @@ module _ {R : Type 0} (world : World R) where
   number_value t _ (is_scalar_value _ s fits) number = (s, refl, fits)
   number_value t _ (is_row _ n r is cells) number = absurd (row_is_no_number (out-Ty t) n is number)
   number_value t _ (is_sequence _ item xs e is items) number = absurd (sequence_is_no_number (out-Ty t) item is number)
+
+  -- a value that is chosen is of the type of the choice
+  chosen_value : (t u r : Ty) (v : Value R) → IsOf world t v → chosen (out-Ty t) (out-Ty u) ≡ Some r → IsOf world r v
+  chosen_value t u r _ (is_scalar_value _ s fits) chooses = is_scalar_value r s (choice_fits (out-Ty t) (out-Ty u) r chooses s fits)
+  chosen_value t u r _ (is_row _ n row is cells) chooses = absurd (row_is_no_scalar (out-Ty t) n is (chosen_scalar (out-Ty t) (out-Ty u) r chooses))
+  chosen_value t u r _ (is_sequence _ item xs e is items) chooses = absurd (sequence_is_no_scalar (out-Ty t) item is (chosen_scalar (out-Ty t) (out-Ty u) r chooses))
 
   -- a value of the type of truth values is one
   bool_value : (t : Ty) (v : Value R) → out-Ty t ≡ Ty-F.Bool → IsOf world t v → (b : Bool) × (v ≡ value.Scalar (scalar.Bool b))
@@ -434,6 +484,10 @@ module _ {R : Type 0} (world : World R) (holds : HoldsRows world) (f g : Fault) 
       (subst (λ (o : Result Bool Fault). IsSame world t (next c) (on_ok o more)) (sym k) (same c))
   after_truth t a b (same_truth_fault x h k) next more same =
       same_fault x (ap (λ (o : Result Bool Fault). on_ok o next) h) (ap (λ (o : Result Bool Fault). on_ok o more) k)
+
+  chosen_outcome : (t u r : Ty) (m n : Result (Value R) Fault) → IsSame world t m n → chosen (out-Ty t) (out-Ty u) ≡ Some r → IsSame world r m n
+  chosen_outcome t u r m n (same_value v fits h k) chooses = same_value v (chosen_value world t u r v fits chooses) h k
+  chosen_outcome t u r m n (same_fault x h k) chooses = same_fault x h k
 
   truth_is_same : (b : Bool) → IsSame world ty.Bool (Ok (truth_value b)) (Ok (truth_value b))
   truth_is_same b = same_value (truth_value b) (truth_is_of b) refl refl
@@ -600,6 +654,16 @@ module _ {R : Type 0} (world : World R) (holds : HoldsRows world) (f g : Fault) 
       second true = truth_is_same true
       second false = b_means scope at
 
+  means_choice : (names : Names) (c a b : Expr) (s t r : Ty) → chosen (out-Ty s) (out-Ty t) ≡ Some r → Means (TypeOf names c ty.Bool) → Means (TypeOf names a s) → Means (TypeOf names b t)
+      → Means (TypeOf names (expr.Node (node.Conditional c a b)) r)
+  means_choice names c a b s t r chooses c_means a_means b_means scope at =
+      by_outcomes r _ _ _ _ (meaning_choice left c a b scope) (meaning_choice right c a b scope)
+      (after_truth r _ _ (truth_outcome _ _ (c_means scope at)) _ _ one_of)
+    where
+      one_of : (x : Bool) → IsSame world r (if x then meaning left a scope else meaning left b scope) (if x then meaning right a scope else meaning right b scope)
+      one_of true = chosen_outcome s t r _ _ (a_means scope at) chooses
+      one_of false = chosen_outcome t s r _ _ (b_means scope at) (chosen_turned (out-Ty s) (out-Ty t) r chooses)
+
   means_where : (outer names : Names) (x : Expr) → Means (TypeOf names x ty.Bool) → Means (Leads outer (clause.Where x) names names)
   means_where outer names x means place scopes all = record {
     alike = each_same (At names) (λ s. kept (condition_at left type_of (meaning left) x s) s) (λ s. kept (condition_at right type_of (meaning right) x s) s)
@@ -671,6 +735,8 @@ module _ {R : Type 0} (world : World R) (holds : HoldsRows world) (f g : Fault) 
   means (of_arithmetic names e a b op s t is computes a_typed s_number b_typed t_number) =
       same_as names e (expr.Node (node.Binary op a b)) (number_type (out-Ty s) (out-Ty t)) is (means_arithmetic names a b op s t computes s_number t_number (means a_typed) (means b_typed))
   means (of_minus names e a t is typed number) = same_as names e (expr.Node (node.Unary unary.Minus a)) t is (means_minus names a t number (means typed))
+  means (of_choice names e c a b s t r is c_typed a_typed b_typed chooses) =
+      same_as names e (expr.Node (node.Conditional c a b)) r is (means_choice names c a b s t r chooses (means c_typed) (means a_typed) (means b_typed))
   means (of_truth names e b is) = same_as names e (expr.Node (node.Bool b)) ty.Bool is (means_truth names b)
   means (of_not names e a is typed) = same_as names e (expr.Node (node.Unary unary.Not a)) ty.Bool is (means_not names a (means typed))
   means (of_both names e a b is a_typed b_typed) = same_as names e (expr.Node (node.And a b)) ty.Bool is (means_both names a b (means a_typed) (means b_typed))
@@ -690,14 +756,6 @@ has_meaning world holds scope fits e t typed f g =
 pub has_stream : HasStream
 has_stream world holds scope fits q t typed f g =
     let items = means world holds f g typed scope (refl, fits) in (items.same, items.typed)
-
-row_is_no_scalar : (layer : Ty-F Ty) (n : ℕ) → row_table layer ≡ Some n → is_scalar layer ≡ true → ⊥
-row_is_no_scalar (Ty-F.Row m) n h k = true≢false (sym k)
-row_is_no_scalar layer n h k = none-some n h
-
-sequence_is_no_scalar : (layer : Ty-F Ty) (item : Ty) → item_of layer ≡ Some item → is_scalar layer ≡ true → ⊥
-sequence_is_no_scalar (Ty-F.Seq t) item h k = true≢false (sym k)
-sequence_is_no_scalar layer item h k = none-some item h
 
 scalar_value : {R : Type 0} (world : World R) (t : Ty) (v : Value R) → IsOf world t v → is_scalar (out-Ty t) ≡ true → (s : Scalar) × (v ≡ value.Scalar s)
 scalar_value world t _ (is_scalar_value _ s fits) scalar = (s, refl)
@@ -720,6 +778,7 @@ scalar_claim (of_column names e row c n t is typed found) = tt
 scalar_claim (of_comparison names e a b op s t is compares a_typed s_number b_typed t_number) = tt
 scalar_claim (of_arithmetic names e a b op s t is computes a_typed s_number b_typed t_number) = tt
 scalar_claim (of_minus names e a t is typed number) = tt
+scalar_claim (of_choice names e c a b s t r is c_typed a_typed b_typed chooses) = tt
 scalar_claim (of_truth names e b is) = tt
 scalar_claim (of_not names e a is typed) = tt
 scalar_claim (of_both names e a b is a_typed b_typed) = tt

@@ -7,7 +7,7 @@ use Rattle.lq_value.specs.declared.value.Value.{out-Value}
 use Rattle.lq_value.specs.declared.value.Value.TheVariants as value
 use Rattle.lq_model.specs.Meaning.{Meaning, Meant, Scope, World, binding_of, meaning, meaning_step, member_value, name_value, as_value, on_scalar, on_truth, truth_value}
 use Rattle.lq_model.specs.Operations.{negated, of_two, on_ok, operation_of}
-use Rattle.lq_model.specs.Typing.{Names, binary_type, column_type, if_number, is_bool_type, local_type, name_type, row_table, truth_type, type_of, type_step}
+use Rattle.lq_model.specs.Typing.{Names, binary_type, choice_type, column_type, if_number, is_bool_type, local_type, name_type, row_table, truth_type, type_of, type_step}
 use Rattle.lq_model.specs.declared.syntax.Binary.{Binary}
 use Rattle.lq_model.specs.declared.syntax.Expr.{Expr, fold_out-Expr, map-Expr, out-Expr, para-roll-Expr, roll-Expr}
 use Rattle.lq_model.specs.declared.syntax.Expr.TheOpen.{Expr-F}
@@ -68,6 +68,11 @@ module _ {R : Type 0} (world : World R) where
       → meaning world (expr.Node (node.Or a b)) scope ≡ on_truth world (meaning world a scope) (λ t. if t then Ok (truth_value true) else meaning world b scope)
   meaning_either a b scope = ap (λ (e : Expr). meaning world e scope) (sym (rolls-Node (node.Or a b))) ∙ rolled_meaning (Expr-F.Node (node.Or a b)) scope
 
+  pub meaning_choice : (c a b : Expr) (scope : Scope R)
+      → meaning world (expr.Node (node.Conditional c a b)) scope
+      ≡ on_truth world (meaning world c scope) (λ t. if t then meaning world a scope else meaning world b scope)
+  meaning_choice c a b scope = ap (λ (e : Expr). meaning world e scope) (sym (rolls-Node (node.Conditional c a b))) ∙ rolled_meaning (Expr-F.Node (node.Conditional c a b)) scope
+
 abbrev pub layer_type : Expr-F Expr → Names → Option Ty
 layer_type layer = type_step (map-Expr Expr (Names → Option Ty) type_of layer)
 
@@ -106,6 +111,10 @@ pub type_either : (a b : Expr) (names : Names)
     → type_of (expr.Node (node.Or a b)) names ≡ truth_type (is_bool_type (type_of a names) && is_bool_type (type_of b names))
 type_either a b names = type_out (expr.Node (node.Or a b)) names ∙ ap (λ (e : Expr-F Expr). layer_type e names) (outs-Node (node.Or a b))
 
+pub type_choice : (c a b : Expr) (names : Names)
+    → type_of (expr.Node (node.Conditional c a b)) names ≡ choice_type (is_bool_type (type_of c names)) (type_of a names) (type_of b names)
+type_choice c a b names = type_out (expr.Node (node.Conditional c a b)) names ∙ ap (λ (e : Expr-F Expr). layer_type e names) (outs-Node (node.Conditional c a b))
+
 -- the type of a layer's expression
 pub rolled_type : (layer : Expr-F Expr) (names : Names) → type_of (roll-Expr layer) names ≡ layer_type layer names
 rolled_type layer names = type_out (roll-Expr layer) names ∙ ap (λ (x : Expr-F Expr). layer_type x names) (out-roll-Expr layer)
@@ -120,9 +129,6 @@ type_null names = type_out (expr.Node node.Null) names ∙ ap (λ (e : Expr-F Ex
 
 pub type_coalesce : (a b : Expr) (names : Names) → type_of (expr.Node (node.Coalesce a b)) names ≡ None
 type_coalesce a b names = type_out (expr.Node (node.Coalesce a b)) names ∙ ap (λ (e : Expr-F Expr). layer_type e names) (outs-Node (node.Coalesce a b))
-
-pub type_choice : (a b c : Expr) (names : Names) → type_of (expr.Node (node.Conditional a b c)) names ≡ None
-type_choice a b c names = type_out (expr.Node (node.Conditional a b c)) names ∙ ap (λ (e : Expr-F Expr). layer_type e names) (outs-Node (node.Conditional a b c))
 
 pub type_host : (p : List ℕ) (xs : List Expr) (names : Names) → type_of (expr.Node (node.Host p xs)) names ≡ None
 type_host p xs names = type_out (expr.Node (node.Host p xs)) names ∙ ap (λ (e : Expr-F Expr). layer_type e names) (outs-Node (node.Host p xs))

@@ -6,7 +6,7 @@ use Rattle.lq_value.specs.declared.ty.Ty.{Ty, ind-Ty, map-Ty, out-Ty, roll-Ty}
 use Rattle.lq_value.specs.declared.ty.Ty.TheOpen.{Ty-F}
 use Rattle.lq_value.specs.declared.ty.Ty.TheVariants as ty
 use Rattle.lq_value.specs.declared.ty.Ty.TheVariants.{outs-Bool, outs-Group, outs-Int, outs-IntN, outs-Null, outs-Rec, outs-Row, outs-Seq, outs-Str, rolls-Bool, rolls-Group, rolls-Int, rolls-IntN, rolls-Null, rolls-Rec, rolls-Row, rolls-Seq, rolls-Str}
-use Rattle.lq_model.specs.Typing.{Names, is_comparison, Claim, TypeOf, Leads, LeadAll, Selects, GivesItems, IsTyped, of_integer, of_local, of_table, of_column, of_comparison, of_arithmetic, of_minus, of_truth, of_not, of_both, of_either, by_where, by_none, by_first, by_select, by_query, HasType, HasItemType, body_type, column_type, if_scalar, is_bool, is_bool_type, is_number, is_scalar, item_of, item_type, items_over, binary_type, if_number, number_type, result_type, truth_type, local_type, name_type, names_behind, names_behind_all, row_table, selected_type, table_number, type_of, when_fresh, with_local}
+use Rattle.lq_model.specs.Typing.{Names, is_comparison, Claim, TypeOf, Leads, LeadAll, Selects, GivesItems, IsTyped, of_integer, of_local, of_table, of_column, of_comparison, of_arithmetic, of_minus, of_choice, of_truth, of_not, of_both, of_either, by_where, by_none, by_first, by_select, by_query, HasType, HasItemType, body_type, column_type, if_scalar, is_bool, is_bool_type, is_number, is_scalar, item_of, item_type, items_over, binary_type, choice_type, chosen, if_number, number_type, result_type, truth_type, local_type, name_type, names_behind, names_behind_all, row_table, selected_type, table_number, type_of, when_fresh, with_local}
 use Rattle.lq_model.specs.TypingLaws.{HasOneType, HasOneItemType, FindsTypes, FindsItemTypes}
 use Rattle.lq_model.specs.declared.syntax.Clause.{Clause}
 use Rattle.lq_model.specs.declared.syntax.Clause.TheVariants as clause
@@ -21,7 +21,7 @@ use Rattle.lq_model.specs.declared.syntax.Last.TheVariants as last
 use Rattle.lq_model.specs.declared.syntax.Node.TheVariants as node
 use Rattle.lq_model.specs.declared.syntax.Query.{Query}
 use Rattle.lq_model.specs.declared.syntax.Unary.TheVariants as unary
-use Rattle.lq_model.proofs.Opens.{layer_type, rolled_type, type_binary, type_both, type_either, type_integer, type_member, type_minus, type_name, type_not, type_truth}
+use Rattle.lq_model.proofs.Opens.{layer_type, rolled_type, type_binary, type_both, type_choice, type_either, type_integer, type_member, type_minus, type_name, type_not, type_truth}
 
 -- ---- a type, by its layer
 
@@ -144,6 +144,10 @@ found (of_truth names _ b is) = ap (expression_type names) is ∙ type_truth b n
 found (of_not names _ a is typed) = ap (expression_type names) is ∙ type_not a names ∙ ap truth_type (condition_complete names a (found typed))
 found (of_both names _ a b is left right) = ap (expression_type names) is ∙ type_both a b names ∙ both_truths names a b (found left) (found right)
 found (of_either names _ a b is left right) = ap (expression_type names) is ∙ type_either a b names ∙ both_truths names a b (found left) (found right)
+found (of_choice names _ c a b s t r is c_typed a_typed b_typed chooses) =
+    ap (expression_type names) is ∙ type_choice c a b names
+    ∙ (λ i. choice_type (condition_complete names c (found c_typed) i) (found a_typed i) (found b_typed i))
+    ∙ chooses
 found (by_where outer names _ x is typed) =
     ap (λ (c : Clause Expr). names_behind type_of outer c names) is ∙ ap (λ (b : Bool). if b then Some names else None) (condition_complete names x (found typed))
 found (by_none outer names) = refl
@@ -267,6 +271,18 @@ sound_either : (a b : Expr) → IsSound a → IsSound b → IsSound (expr.Node (
 sound_either a b a_sound b_sound names t h =
     truths_by names (expr.Node (node.Or a b)) a b t a_sound b_sound (of_either names (expr.Node (node.Or a b)) a b refl) _ _ refl refl (sym (type_either a b names) ∙ h)
 
+sound_choice_by : (c a b : Expr) → IsSound c → IsSound a → IsSound b → (names : Names) (r : Ty) (x : Bool) (o p : Option Ty) → is_bool_type (type_of c names) ≡ x
+    → type_of a names ≡ o → type_of b names ≡ p → choice_type x o p ≡ Some r → HasType names (expr.Node (node.Conditional c a b)) r
+sound_choice_by c a b c_sound a_sound b_sound names r true (Some s) (Some t) x_is a_is b_is h =
+    of_choice names (expr.Node (node.Conditional c a b)) c a b s t r refl (condition_of c c_sound names x_is) (a_sound names s a_is) (b_sound names t b_is) h
+sound_choice_by c a b c_sound a_sound b_sound names r true (Some s) None x_is a_is b_is h = absurd (none-some r h)
+sound_choice_by c a b c_sound a_sound b_sound names r true None p x_is a_is b_is h = absurd (none-some r h)
+sound_choice_by c a b c_sound a_sound b_sound names r false o p x_is a_is b_is h = absurd (none-some r h)
+
+sound_choice : (c a b : Expr) → IsSound c → IsSound a → IsSound b → IsSound (expr.Node (node.Conditional c a b))
+sound_choice c a b c_sound a_sound b_sound names r h =
+    sound_choice_by c a b c_sound a_sound b_sound names r (is_bool_type (type_of c names)) (type_of a names) (type_of b names) refl refl refl (sym (type_choice c a b names) ∙ h)
+
 -- a layer to which no rule gives a type
 no_type : (layer : Expr-F Expr) → ((names : Names) → layer_type layer names ≡ None) → IsSound (roll-Expr layer)
 no_type layer none names t h =
@@ -291,6 +307,8 @@ sound_layer x (Expr-F.Node (node.And a b)) h =
     subst (λ d. IsSound (roll-Expr d)) h (subst IsSound (sym (rolls-Node (node.And a.0 b.0))) (sound_both a.0 b.0 a.1 b.1))
 sound_layer x (Expr-F.Node (node.Or a b)) h =
     subst (λ d. IsSound (roll-Expr d)) h (subst IsSound (sym (rolls-Node (node.Or a.0 b.0))) (sound_either a.0 b.0 a.1 b.1))
+sound_layer x (Expr-F.Node (node.Conditional c a b)) h =
+    subst (λ d. IsSound (roll-Expr d)) h (subst IsSound (sym (rolls-Node (node.Conditional c.0 a.0 b.0))) (sound_choice c.0 a.0 b.0 c.1 a.1 b.1))
 sound_layer x (Expr-F.Node other) h = subst (λ d. IsSound (roll-Expr d)) h (no_type (map-Expr Both Expr (λ e. e.0) (Expr-F.Node other)) (λ names. refl))
 sound_layer x (Expr-F.Query q) h = subst (λ d. IsSound (roll-Expr d)) h (no_type (map-Expr Both Expr (λ e. e.0) (Expr-F.Query q)) (λ names. refl))
 

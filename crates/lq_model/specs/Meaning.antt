@@ -187,6 +187,8 @@ module _ {R : Type 0} (world : World R) where
   -- the second operand is evaluated only where the first leaves it open
   node_meaning (node.And a b) scope = on_truth world (a.1 scope) (λ t. if t then b.1 scope else Ok (truth_value false))
   node_meaning (node.Or a b) scope = on_truth world (a.1 scope) (λ t. if t then Ok (truth_value true) else b.1 scope)
+  -- and of two values the one that is chosen
+  node_meaning (node.Conditional c a b) scope = on_truth world (c.1 scope) (λ t. if t then a.1 scope else b.1 scope)
   node_meaning node scope = Err world.unknown
 
   abbrev pub meaning_step : Expr-F (Meant R) → Meaning R

@@ -82,6 +82,16 @@ abbrev pub number_type : Ty-F Ty → Ty-F Ty → Ty
 number_type Ty-F.Int Ty-F.Int = ty.Int
 number_type s t = ty.IntN
 
+-- the type of a choice between values of these types: one type of scalars, or int? where both are numbers
+abbrev pub chosen : Ty-F Ty → Ty-F Ty → Option Ty
+chosen Ty-F.Int Ty-F.Int = Some ty.Int
+chosen Ty-F.Int Ty-F.IntN = Some ty.IntN
+chosen Ty-F.IntN Ty-F.Int = Some ty.IntN
+chosen Ty-F.IntN Ty-F.IntN = Some ty.IntN
+chosen Ty-F.Bool Ty-F.Bool = Some ty.Bool
+chosen Ty-F.Str Ty-F.Str = Some ty.Str
+chosen s t = None
+
 -- the local names with one more
 abbrev pub with_local : Names → List ℕ → Ty → Names
 with_local names name t = record { tables = names.tables; locals = (name, t) ∷ names.locals }
@@ -120,6 +130,8 @@ pub data IsTyped : Claim → Type 0 where
       → IsTyped (TypeOf names e ty.Bool)
   of_either : (names : Names) (e a b : Expr) → e ≡ expr.Node (node.Or a b) → IsTyped (TypeOf names a ty.Bool) → IsTyped (TypeOf names b ty.Bool)
       → IsTyped (TypeOf names e ty.Bool)
+  of_choice : (names : Names) (e c a b : Expr) (s t r : Ty) → e ≡ expr.Node (node.Conditional c a b) → IsTyped (TypeOf names c ty.Bool)
+      → IsTyped (TypeOf names a s) → IsTyped (TypeOf names b t) → chosen (out-Ty s) (out-Ty t) ≡ Some r → IsTyped (TypeOf names e r)
   -- a condition is a truth value, and names nothing
   by_where : (outer names : Names) (c : Clause Expr) (x : Expr) → c ≡ clause.Where x → IsTyped (TypeOf names x ty.Bool) → IsTyped (Leads outer c names names)
   by_none : (outer names : Names) → IsTyped (LeadAll outer [] names names)
@@ -178,6 +190,10 @@ abbrev pub if_number : Option Ty → Option Ty
 if_number None = None
 if_number (Some t) = if is_number (out-Ty t) then Some t else None
 
+abbrev pub choice_type : Bool → Option Ty → Option Ty → Option Ty
+choice_type true (Some s) (Some t) = chosen (out-Ty s) (out-Ty t)
+choice_type is_condition s t = None
+
 abbrev pub node_type : Node (Names → Option Ty) → Names → Option Ty
 node_type (node.Integer n) names = Some ty.Int
 node_type (node.Name x) names = name_type names x (local_type x names.locals)
@@ -186,6 +202,7 @@ node_type (node.Binary op a b) names = binary_type op (a names) (b names)
 node_type (node.Bool b) names = Some ty.Bool
 node_type (node.Unary unary.Minus a) names = if_number (a names)
 node_type (node.Unary unary.Not a) names = truth_type (is_bool_type (a names))
+node_type (node.Conditional c a b) names = choice_type (is_bool_type (c names)) (a names) (b names)
 node_type (node.And a b) names = truth_type (is_bool_type (a names) && is_bool_type (b names))
 node_type (node.Or a b) names = truth_type (is_bool_type (a names) && is_bool_type (b names))
 node_type node names = None
