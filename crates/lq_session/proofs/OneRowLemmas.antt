@@ -27,7 +27,7 @@ use Rattle.lq_model.specs.declared.syntax.Field.{Field}
 use Rattle.lq_model.specs.declared.syntax.Query.{Query}
 use Rattle.lq_model.specs.declared.syntax.Unary.TheVariants as unary
 use Rattle.lq_model.specs.Visible.{cell_named, is_true, rule_holds, rule_world}
-use Rattle.lq_model.proofs.Opens.{layer_meaning, rolled_meaning, meaning_binary, meaning_both, meaning_either, meaning_integer, meaning_member, meaning_minus, meaning_name, meaning_not, meaning_truth}
+use Rattle.lq_model.proofs.Opens.{layer_meaning, rolled_meaning, meaning_binary, meaning_both, meaning_choice, meaning_either, meaning_integer, meaning_member, meaning_minus, meaning_name, meaning_not, meaning_truth}
 use Rattle.lq_session.specs.OneRow.{Shape, TheRow, TheScalar, cell_in, member_in, scalar_at, scalar_in, scalar_shape, shape_of, shape_step, truth_at, truth_in, truth_shape}
 
 -- ---- the equations of the evaluator
@@ -84,8 +84,9 @@ module _ (variable : List ℕ) (cell : List ℕ → Option Scalar) where
   pub shape_coalesce : (a b : Expr) → shape_of variable cell (expr.Node (node.Coalesce a b)) ≡ Err fault.NullReference
   shape_coalesce a b = shape_out (expr.Node (node.Coalesce a b)) ∙ ap layer_shape (outs-Node (node.Coalesce a b))
 
-  pub shape_choice : (a b c : Expr) → shape_of variable cell (expr.Node (node.Conditional a b c)) ≡ Err fault.NullReference
-  shape_choice a b c = shape_out (expr.Node (node.Conditional a b c)) ∙ ap layer_shape (outs-Node (node.Conditional a b c))
+  pub shape_choice : (c a b : Expr) → shape_of variable cell (expr.Node (node.Conditional c a b))
+      ≡ on_ok (on_ok (shape_of variable cell c) truth_in) (λ t. if t then shape_of variable cell a else shape_of variable cell b)
+  shape_choice c a b = shape_out (expr.Node (node.Conditional c a b)) ∙ ap layer_shape (outs-Node (node.Conditional c a b))
 
   pub shape_host : (p : List ℕ) (xs : List Expr) → shape_of variable cell (expr.Node (node.Host p xs)) ≡ Err fault.NullReference
   shape_host p xs = shape_out (expr.Node (node.Host p xs)) ∙ ap layer_shape (outs-Node (node.Host p xs))
@@ -260,6 +261,15 @@ module _ {R : Type 0} (world : World R) (variable : List ℕ) (t : Ty) (r : R) w
     second true = refl
     second false = k
 
+  means_choice : (c a b : Expr) → Means c → Means a → Means b → Means (expr.Node (node.Conditional c a b))
+  means_choice c a b h k l =
+      agrees_by _ _ _ _ (meaning_choice (faulting world) c a b row_scope) (shape_choice variable (world.cell r) c a b) (after_truth _ _ (truths_agree _ _ h) _ _ one_of)
+    where
+      one_of : (t : Bool)
+          → Agrees (faulting world) r (if t then meaning (faulting world) a row_scope else meaning (faulting world) b row_scope) (if t then shape_of variable (world.cell r) a else shape_of variable (world.cell r) b)
+      one_of true = k
+      one_of false = l
+
   -- a form that has no meaning yet
   means_nothing : (layer : Expr-F Expr) → layer_meaning (faulting world) layer row_scope ≡ Err fault.NullReference → layer_shape variable (world.cell r) layer ≡ Err fault.NullReference → Means (roll-Expr layer)
   means_nothing layer meant found =
@@ -280,6 +290,7 @@ module _ {R : Type 0} (world : World R) (variable : List ℕ) (t : Ty) (r : R) w
   means_layer x (Expr-F.Node (node.Unary unary.Not a)) h = subst (λ d. Means (roll-Expr d)) h (subst Means (sym (rolls-Node (node.Unary unary.Not a.0))) (means_not a.0 a.1))
   means_layer x (Expr-F.Node (node.And a b)) h = subst (λ d. Means (roll-Expr d)) h (subst Means (sym (rolls-Node (node.And a.0 b.0))) (means_both a.0 b.0 a.1 b.1))
   means_layer x (Expr-F.Node (node.Or a b)) h = subst (λ d. Means (roll-Expr d)) h (subst Means (sym (rolls-Node (node.Or a.0 b.0))) (means_either a.0 b.0 a.1 b.1))
+  means_layer x (Expr-F.Node (node.Conditional c a b)) h = subst (λ d. Means (roll-Expr d)) h (subst Means (sym (rolls-Node (node.Conditional c.0 a.0 b.0))) (means_choice c.0 a.0 b.0 c.1 a.1 b.1))
   means_layer x (Expr-F.Node other) h = subst (λ d. Means (roll-Expr d)) h (means_nothing (map-Expr Both Expr (λ b. b.0) (Expr-F.Node other)) refl refl)
   means_layer x (Expr-F.Query q) h = subst (λ d. Means (roll-Expr d)) h (means_query (map-Expr Both Expr (λ b. b.0) (Expr-F.Query q)) _ refl refl)
 

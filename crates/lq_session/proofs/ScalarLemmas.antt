@@ -14,7 +14,7 @@ use Rattle.lq_value.specs.declared.value.Value.TheVariants as value
 use Rattle.lq_value.specs.declared.value.Value.TheVariants.{outs-Row as outs-value-Row, outs-Scalar}
 use Rattle.lq_model.specs.Meaning.{Scope, World, as_value, cell_value, meaning, member_value, on_scalar, scalar_of, truth_value}
 use Rattle.lq_model.specs.Operations.{negated, of_two, on_ok, operation_of, truth_of}
-use Rattle.lq_model.specs.Typing.{Names, is_bool, is_bool_type, is_scalar, name_type, table_number, truth_type, type_of}
+use Rattle.lq_model.specs.Typing.{Names, choice_type, chosen, is_bool, is_bool_type, is_scalar, name_type, table_number, truth_type, type_of}
 use Rattle.lq_model.specs.declared.syntax.Binary.{Binary}
 use Rattle.lq_model.specs.declared.syntax.Expr.{Expr, ind-Expr, map-Expr, roll-Expr}
 use Rattle.lq_model.specs.declared.syntax.Expr.TheOpen.{Expr-F}
@@ -22,10 +22,10 @@ use Rattle.lq_model.specs.declared.syntax.Expr.TheVariants.{rolls-Node}
 use Rattle.lq_model.specs.declared.syntax.Expr.TheVariants as expr
 use Rattle.lq_model.specs.declared.syntax.Node.TheVariants as node
 use Rattle.lq_model.specs.declared.syntax.Unary.TheVariants as unary
-use Rattle.lq_model.proofs.Opens.{layer_type, rolled_type, meaning_binary, meaning_both, meaning_either, meaning_integer, meaning_member, meaning_minus, meaning_not, meaning_truth, type_both, type_either, type_name}
+use Rattle.lq_model.proofs.Opens.{layer_type, rolled_type, meaning_binary, meaning_both, meaning_choice, meaning_either, meaning_integer, meaning_member, meaning_minus, meaning_not, meaning_truth, type_both, type_choice, type_either, type_name}
 use Rattle.lq_session.specs.Given.{is_scalar_type}
 use Rattle.lq_session.specs.OneRow.{Shape, TheRow, TheScalar, cell_in, member_in, scalar_at, scalar_in, scalar_shape, shape_of, truth_in, truth_shape}
-use Rattle.lq_session.proofs.OneRowLemmas.{Agrees, operated_shape, operated_value, faulting, means, no_member, row_scope, scalar_means, shape_binary, shape_both, shape_either, shape_integer, shape_member, shape_minus, shape_not, shape_truth, truths_agree}
+use Rattle.lq_session.proofs.OneRowLemmas.{Agrees, operated_shape, operated_value, faulting, means, no_member, row_scope, scalar_means, shape_binary, shape_both, shape_choice, shape_either, shape_integer, shape_member, shape_minus, shape_not, shape_truth, truths_agree}
 
 -- a scalar as a value
 abbrev pub as_values : {R : Type 0} → Result Scalar Fault → Result (Value R) Fault
@@ -182,6 +182,36 @@ module _ {R : Type 0} (world : World R) (tables : List Schema) (variable : List 
       ∙ either_found b (second_found a b found (sym (ap is_scalar_type (type_either a b row_names)) ∙ typed)) (truth_at_row a)
       ∙ sym (ap in_scalars (shape_either variable (world.cell r) a b))
 
+  -- what may be chosen has the type of a scalar
+  chosen_parts : (k l : Ty-F Ty) → is_scalar_type (chosen k l) ≡ true → (is_scalar k ≡ true) × (is_scalar l ≡ true)
+  chosen_parts Ty-F.Int Ty-F.Int h = (refl, refl)
+  chosen_parts Ty-F.Int Ty-F.IntN h = (refl, refl)
+  chosen_parts Ty-F.IntN Ty-F.Int h = (refl, refl)
+  chosen_parts Ty-F.IntN Ty-F.IntN h = (refl, refl)
+  chosen_parts Ty-F.Bool Ty-F.Bool h = (refl, refl)
+  chosen_parts Ty-F.Str Ty-F.Str h = (refl, refl)
+  chosen_parts k l h = absurd (true≢false (sym h))
+
+  choice_parts : (c : Bool) (o p : Option Ty) → is_scalar_type (choice_type c o p) ≡ true → (is_scalar_type o ≡ true) × (is_scalar_type p ≡ true)
+  choice_parts true (Some s) (Some t) h = chosen_parts (out-Ty s) (out-Ty t) h
+  choice_parts c o p h = absurd (true≢false (sym h))
+
+  choice_found : (a b : Expr) → meaning (faulting world) a scope ≡ in_scalars (shape_of variable (world.cell r) a) → meaning (faulting world) b scope ≡ in_scalars (shape_of variable (world.cell r) b)
+      → (o : Result Bool Fault)
+      → on_ok o (λ t. if t then meaning (faulting world) a scope else meaning (faulting world) b scope) ≡ in_scalars (on_ok o (λ t. if t then shape_of variable (world.cell r) a else shape_of variable (world.cell r) b))
+  choice_found a b first second (Ok true) = first
+  choice_found a b first second (Ok false) = second
+  choice_found a b first second (Err f) = refl
+
+  found_choice : (c a b : Expr) → IsFound a → IsFound b → IsFound (expr.Node (node.Conditional c a b))
+  unfolding scalar_at
+  found_choice c a b first second typed =
+      let parts = choice_parts (is_bool_type (type_of c row_names)) (type_of a row_names) (type_of b row_names) (sym (ap is_scalar_type (type_choice c a b row_names)) ∙ typed) in
+      meaning_choice (faulting world) c a b scope
+      ∙ ap (λ (o : Result Bool Fault). on_ok o (λ t. if t then meaning (faulting world) a scope else meaning (faulting world) b scope)) (truths c)
+      ∙ choice_found a b (first parts.0) (second parts.1) (truth_at_row c)
+      ∙ sym (ap in_scalars (shape_choice variable (world.cell r) c a b))
+
   abbrev Both : Type 0
   Both = (e : Expr) × IsFound e
 
@@ -199,6 +229,7 @@ module _ {R : Type 0} (world : World R) (tables : List Schema) (variable : List 
   found_layer x (Expr-F.Node (node.Unary unary.Not a)) h = subst (λ d. IsFound (roll-Expr d)) h (subst IsFound (sym (rolls-Node (node.Unary unary.Not a.0))) (found_not a.0))
   found_layer x (Expr-F.Node (node.And a b)) h = subst (λ d. IsFound (roll-Expr d)) h (subst IsFound (sym (rolls-Node (node.And a.0 b.0))) (found_both a.0 b.0 b.1))
   found_layer x (Expr-F.Node (node.Or a b)) h = subst (λ d. IsFound (roll-Expr d)) h (subst IsFound (sym (rolls-Node (node.Or a.0 b.0))) (found_either a.0 b.0 b.1))
+  found_layer x (Expr-F.Node (node.Conditional c a b)) h = subst (λ d. IsFound (roll-Expr d)) h (subst IsFound (sym (rolls-Node (node.Conditional c.0 a.0 b.0))) (found_choice c.0 a.0 b.0 a.1 b.1))
   found_layer x (Expr-F.Node other) h = subst (λ d. IsFound (roll-Expr d)) h (found_nothing (map-Expr Both Expr (λ b. b.0) (Expr-F.Node other)) refl)
   found_layer x (Expr-F.Query q) h = subst (λ d. IsFound (roll-Expr d)) h (found_nothing (map-Expr Both Expr (λ b. b.0) (Expr-F.Query q)) refl)
 

@@ -11,7 +11,7 @@ use Rattle.lq_value.specs.declared.ty.Ty.TheOpen.{Ty-F}
 use Rattle.lq_value.specs.declared.ty.Ty.TheVariants as ty
 use Rattle.lq_value.specs.declared.ty.Ty.TheVariants.{outs-Bool, outs-Int, outs-IntN, outs-Row, outs-Seq, outs-Str}
 use Rattle.lq_model.specs.Meaning.{World, meaning, table_value}
-use Rattle.lq_model.specs.Typing.{binary_type, if_number, is_bool_type, is_comparison, number_type, column_named, column_type, is_number, item_of, row_table, table_number, type_of, type_of_column}
+use Rattle.lq_model.specs.Typing.{binary_type, choice_type, chosen, if_number, is_bool_type, is_comparison, number_type, column_named, column_type, is_number, item_of, row_table, table_number, type_of, type_of_column}
 use Rattle.lq_model.specs.declared.syntax.Binary.{Binary}
 use Rattle.lq_model.specs.declared.syntax.Expr.{Expr, ind-Expr, map-Expr, roll-Expr}
 use Rattle.lq_model.specs.declared.syntax.Expr.TheOpen.{Expr-F}
@@ -19,7 +19,7 @@ use Rattle.lq_model.specs.declared.syntax.Expr.TheVariants.{rolls-Node}
 use Rattle.lq_model.specs.declared.syntax.Expr.TheVariants as expr
 use Rattle.lq_model.specs.declared.syntax.Node.TheVariants as node
 use Rattle.lq_model.specs.declared.syntax.Unary.TheVariants as unary
-use Rattle.lq_model.proofs.Opens.{layer_type, rolled_type, meaning_name, type_binary, type_both, type_either, type_integer, type_member, type_minus, type_name, type_not, type_truth}
+use Rattle.lq_model.proofs.Opens.{layer_type, rolled_type, meaning_name, type_binary, type_both, type_choice, type_either, type_integer, type_member, type_minus, type_name, type_not, type_truth}
 use Rattle.lq_session.specs.Given.{top_names}
 
 -- the table whose rows a sequence of this type has
@@ -82,6 +82,19 @@ minus_no_rows (Some t) = by (is_number (out-Ty t)) refl where
   by true is = ap (λ o. option_and_then (λ item. row_table (out-Ty item)) o) (number_has_no_items (out-Ty t) is)
   by false is = refl
 
+chosen_no_rows : (k l : Ty-F Ty) → table_of_rows (chosen k l) ≡ None
+chosen_no_rows Ty-F.Int Ty-F.Int = column_no_rows of.Int
+chosen_no_rows Ty-F.Int Ty-F.IntN = column_no_rows of.IntN
+chosen_no_rows Ty-F.IntN Ty-F.Int = column_no_rows of.IntN
+chosen_no_rows Ty-F.IntN Ty-F.IntN = column_no_rows of.IntN
+chosen_no_rows Ty-F.Bool Ty-F.Bool = column_no_rows of.Bool
+chosen_no_rows Ty-F.Str Ty-F.Str = column_no_rows of.Str
+chosen_no_rows k l = refl
+
+choice_no_rows : (c : Bool) (o p : Option Ty) → table_of_rows (choice_type c o p) ≡ None
+choice_no_rows true (Some s) (Some t) = chosen_no_rows (out-Ty s) (out-Ty t)
+choice_no_rows c o p = refl
+
 pub rows_of_table : (m : ℕ) → table_of_rows (Some (ty.Seq (ty.Row m))) ≡ Some m
 rows_of_table m = ap (λ u. option_and_then (λ item. row_table (out-Ty item)) (item_of u)) (outs-Seq (ty.Row m)) ∙ ap row_table (outs-Row m)
 
@@ -102,6 +115,10 @@ module _ {R : Type 0} (world : World R) (number : ℕ) where
 
   source_minus : (a : Expr) → IsSource (expr.Node (node.Unary unary.Minus a))
   source_minus a h = none_is_none (sym (ap table_of_rows (type_minus a (top_names world.schemas)) ∙ minus_no_rows (type_of a (top_names world.schemas))) ∙ h)
+
+  source_choice : (c a b : Expr) → IsSource (expr.Node (node.Conditional c a b))
+  source_choice c a b h =
+      none_is_none (sym (ap table_of_rows (type_choice c a b (top_names world.schemas)) ∙ choice_no_rows (is_bool_type (type_of c (top_names world.schemas))) (type_of a (top_names world.schemas)) (type_of b (top_names world.schemas))) ∙ h)
 
   source_truth : (b : Bool) → IsSource (expr.Node (node.Bool b))
   source_truth b h = none_is_none (sym (ap table_of_rows (type_truth b (top_names world.schemas)) ∙ column_no_rows of.Bool) ∙ h)
@@ -143,6 +160,7 @@ module _ {R : Type 0} (world : World R) (number : ℕ) where
   source_layer x (Expr-F.Node (node.Unary unary.Not a)) h = subst (λ d. IsSource (roll-Expr d)) h (subst IsSource (sym (rolls-Node (node.Unary unary.Not a.0))) (source_not a.0))
   source_layer x (Expr-F.Node (node.And a b)) h = subst (λ d. IsSource (roll-Expr d)) h (subst IsSource (sym (rolls-Node (node.And a.0 b.0))) (source_both a.0 b.0))
   source_layer x (Expr-F.Node (node.Or a b)) h = subst (λ d. IsSource (roll-Expr d)) h (subst IsSource (sym (rolls-Node (node.Or a.0 b.0))) (source_either a.0 b.0))
+  source_layer x (Expr-F.Node (node.Conditional c a b)) h = subst (λ d. IsSource (roll-Expr d)) h (subst IsSource (sym (rolls-Node (node.Conditional c.0 a.0 b.0))) (source_choice c.0 a.0 b.0))
   source_layer x (Expr-F.Node other) h = subst (λ d. IsSource (roll-Expr d)) h (λ e. none_is_none (sym (ap table_of_rows (untyped (map-Expr Both Expr (λ b. b.0) (Expr-F.Node other)) refl)) ∙ e))
   source_layer x (Expr-F.Query q) h = subst (λ d. IsSource (roll-Expr d)) h (λ e. none_is_none (sym (ap table_of_rows (untyped (map-Expr Both Expr (λ b. b.0) (Expr-F.Query q)) refl)) ∙ e))
 

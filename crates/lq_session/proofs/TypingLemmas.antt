@@ -12,7 +12,7 @@ use Rattle.lq_value.specs.declared.ty.Ty.TheVariants as ty
 use Rattle.lq_value.specs.declared.ty.Ty.TheVariants.{outs-Bool, outs-Int, outs-IntN, outs-Row, outs-Seq, outs-Str}
 use Rattle.lq_store.specs.Rules as store
 use Rattle.lq_model.specs.Machine.{schemas_of}
-use Rattle.lq_model.specs.Typing.{Names, binary_type, body_type, if_scalar, is_comparison, number_type, result_type, is_bool, is_bool_type, is_number, is_scalar, item_of, item_type, items_over, names_behind_all, row_table, selected_type, table_number, type_of, type_of_column, with_local}
+use Rattle.lq_model.specs.Typing.{Names, binary_type, body_type, chosen, if_scalar, is_comparison, number_type, result_type, is_bool, is_bool_type, is_number, is_scalar, item_of, item_type, items_over, names_behind_all, row_table, selected_type, table_number, type_of, type_of_column, with_local}
 use Rattle.lq_model.specs.declared.syntax.Binary.{Binary}
 use Rattle.lq_model.specs.declared.syntax.Clause.{Clause}
 use Rattle.lq_model.specs.declared.syntax.Clause.TheVariants as clause
@@ -23,7 +23,7 @@ use Rattle.lq_model.specs.declared.syntax.Last.TheVariants as last
 use Rattle.lq_model.specs.declared.syntax.Query.{Query}
 use Rattle.lq_model.proofs.Opens.{type_binary, type_integer, type_member, type_name, type_text, type_truth, type_null, type_minus, type_not, type_both, type_either, type_coalesce, type_choice, type_host, type_record, type_method, type_query}
 use Rattle.lq_session.specs.Given.{IsOver, clauses_are_typed, is_scalar_type, is_typed_body, selects_scalar, top_names}
-use Rattle.lq_session.specs.KnownTypes.{is_known_bool, is_known_number, is_known_scalar, known_number_type, known_row, shown_type}
+use Rattle.lq_session.specs.KnownTypes.{is_known_bool, is_known_number, is_known_scalar, known_layer, known_number_type, known_row, shown_type}
 use Rattle.lq_session.specs.declared.typing.Known.{Known}
 use Rattle.lq_session.specs.declared.typing.Known.TheVariants as known
 
@@ -58,6 +58,18 @@ row_known (known.Scalar of.Bool) = ap row_table outs-Bool
 row_known (known.Scalar of.Str) = ap row_table outs-Str
 row_known (known.Row n) = ap row_table (outs-Row n)
 row_known (known.Rows n) = ap row_table (outs-Seq (ty.Row n))
+
+pub layer_known : (k : Known) → out-Ty (shown_type k) ≡ known_layer k
+layer_known (known.Scalar of.Int) = outs-Int
+layer_known (known.Scalar of.IntN) = outs-IntN
+layer_known (known.Scalar of.Bool) = outs-Bool
+layer_known (known.Scalar of.Str) = outs-Str
+layer_known (known.Row n) = outs-Row n
+layer_known (known.Rows n) = outs-Seq (ty.Row n)
+
+-- the type of a choice
+pub chosen_known : (k l : Known) → chosen (out-Ty (shown_type k)) (out-Ty (shown_type l)) ≡ chosen (known_layer k) (known_layer l)
+chosen_known k l = ap₂ chosen (layer_known k) (layer_known l)
 
 -- the type of what an operator gives to numbers, and that it takes nothing else
 pub result_known : (op : Binary) (k l : Known)

@@ -3,6 +3,7 @@ use Rattle.std.specs.Prelude.{◌∷◌, ◌<◌, List, [], ℕ, Bool, true, fal
 use Rattle.lq_value.specs.declared.table.ColumnType.{ColumnType}
 use Rattle.lq_value.specs.declared.table.ColumnType.TheVariants as of
 use Rattle.lq_value.specs.declared.ty.Ty.{Ty}
+use Rattle.lq_value.specs.declared.ty.Ty.TheOpen.{Ty-F}
 use Rattle.lq_value.specs.declared.ty.Ty.TheVariants as ty
 use Rattle.std.specs.Borrow.{Bor}
 use Rattle.lq_model.specs.Machine.{schemas_of}
@@ -40,6 +41,15 @@ is_known_number (known.Rows n) = false
 abbrev pub known_number_type : Known → Known → ColumnType
 known_number_type (known.Scalar of.Int) (known.Scalar of.Int) = of.Int
 known_number_type k l = of.IntN
+
+-- the layer of a known type
+abbrev pub known_layer : Known → Ty-F Ty
+known_layer (known.Scalar of.Int) = Ty-F.Int
+known_layer (known.Scalar of.IntN) = Ty-F.IntN
+known_layer (known.Scalar of.Bool) = Ty-F.Bool
+known_layer (known.Scalar of.Str) = Ty-F.Str
+known_layer (known.Row n) = Ty-F.Row n
+known_layer (known.Rows n) = Ty-F.Seq (ty.Row n)
 
 abbrev pub is_known_bool : Known → Bool
 is_known_bool (known.Scalar of.Bool) = true

@@ -59,6 +59,7 @@ module _ (variable : List ℕ) (cell : List ℕ → Option Scalar) where
   node_shape (node.Unary unary.Not a) = on_ok (on_ok a truth_in) (λ t. Ok (truth_shape (not t)))
   node_shape (node.And a b) = on_ok (on_ok a truth_in) (λ t. if t then b else Ok (truth_shape false))
   node_shape (node.Or a b) = on_ok (on_ok a truth_in) (λ t. if t then Ok (truth_shape true) else b)
+  node_shape (node.Conditional c a b) = on_ok (on_ok c truth_in) (λ t. if t then a else b)
   node_shape node = Err fault.NullReference
 
   abbrev pub shape_step : Expr-F (Result Shape Fault) → Result Shape Fault

@@ -185,10 +185,15 @@ impl<'a, C: Named> OneRow<'a, C> {
                 true => Ok(truth_operand(true)),
                 false => self.operand(right.get()),
             },
+            Node::Conditional(condition, left, right) => {
+                match truth_in(self.operand(condition.get())?)? {
+                    true => self.operand(left.get()),
+                    false => self.operand(right.get()),
+                }
+            }
             Node::Text(_)
             | Node::Null
             | Node::Coalesce(_, _)
-            | Node::Conditional(_, _, _)
             | Node::Host(_, _)
             | Node::New(_)
             | Node::Method(_, _, _) => Err(Fault::NullReference),

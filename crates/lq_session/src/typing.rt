@@ -1,7 +1,8 @@
 //! The types of expressions and queries over the tables of a store.
 ghost use Rattle.std.specs.Prelude.{◌≡◌, ◌<◌, None, Some, length, option_map, IfNone, IfSome};
 ghost use Rattle.lq_model.specs.Machine.{schemas_of};
-ghost use Rattle.lq_model.specs.Typing.{binary_type, column_named, item_type, table_number, truth_type, type_of, type_of_column};
+ghost use Rattle.lq_model.specs.Typing.{binary_type, chosen, column_named, item_type, table_number, truth_type, type_of, type_of_column};
+ghost use Rattle.lq_value.specs.declared.ty.Ty.{out-Ty};
 ghost use Rattle.lq_session.specs.Given.{IsOver, top_names};
 ghost use Rattle.lq_session.specs.KnownTypes.{is_known_number, known_number_type, shown_type};
 
@@ -50,6 +51,21 @@ fn result_type(operator: Binary, left: Known, right: Known) -> Option<Known>
         Some(Known::Scalar(ColumnType::Bool))
     } else {
         Some(Known::Scalar(number_type(left, right)))
+    }
+}
+
+/// The type of a choice between values of these types: their type, or `int?` where they are numbers.
+#[tactic(auto, using(crate::proofs::TypingLemmas::chosen_known))]
+fn chosen(left: Known, right: Known) -> Option<Known>
+    ensures { option_map shown_type result ≡ chosen (out-Ty (shown_type left)) (out-Ty (shown_type right)) }
+{
+    if is_number(left) && is_number(right) {
+        return Some(Known::Scalar(number_type(left, right)));
+    }
+    match (left, right) {
+        (Known::Scalar(ColumnType::Bool), Known::Scalar(ColumnType::Bool))
+        | (Known::Scalar(ColumnType::Str), Known::Scalar(ColumnType::Str)) => Some(left),
+        _ => None,
     }
 }
 
@@ -158,6 +174,13 @@ impl KnownNames<'_> {
                 let known = self.type_of(operand.get())?;
                 is_number(known).then_some(known)
             }
+            Node::Conditional(condition, left, right) => {
+                if !self.is_condition(condition.get()) {
+                    return None;
+                }
+                let left = self.type_of(left.get())?;
+                chosen(left, self.type_of(right.get())?)
+            }
             Node::Bool(_) => Some(Known::Scalar(ColumnType::Bool)),
             Node::Unary(Unary::Not, operand) => truth_type(self.is_condition(operand.get())),
             Node::And(left, right) | Node::Or(left, right) => {
@@ -166,7 +189,6 @@ impl KnownNames<'_> {
             Node::Text(_)
             | Node::Null
             | Node::Coalesce(_, _)
-            | Node::Conditional(_, _, _)
             | Node::Host(_, _)
             | Node::New(_)
             | Node::Method(_, _, _) => None,
