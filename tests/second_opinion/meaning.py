@@ -64,6 +64,8 @@ def value_of(tree, row):
         return value_of(tree.parts[0], row) and value_of(tree.parts[1], row)
     if tree.kind == "||":
         return value_of(tree.parts[0], row) or value_of(tree.parts[1], row)
+    if tree.kind == "?":
+        return value_of(tree.parts[1 if value_of(tree.parts[0], row) else 2], row)
     if tree.kind == "unary -":
         operand = value_of(tree.parts[0], row)
         return None if operand is None else checked(-operand)

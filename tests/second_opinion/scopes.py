@@ -30,6 +30,12 @@ def type_of(tree, scope):
         return "bool"
     if tree.kind in OF_TRUTHS and all(type_of(operand, scope) == "bool" for operand in tree.parts):
         return "bool"
+    if tree.kind == "?" and type_of(tree.parts[0], scope) == "bool":
+        types = [type_of(choice, scope) for choice in tree.parts[1:]]
+        if types[0] == types[1] and types[0] in SCALARS:
+            return types[0]
+        if all(kind in ("int", "int?") for kind in types):
+            return "int?"
     if tree.kind in ARITHMETIC or tree.kind == "unary -":
         types = [type_of(operand, scope) for operand in tree.parts]
         if all(kind in ("int", "int?") for kind in types):

@@ -141,6 +141,9 @@ def statement(dice, tables):
     words = ["run", "from", variable, "in", name]
     if dice.random() < 0.6:
         words += ["where", *condition(dice, variable, table, dice.choice([0, 0, 1, 2, 4]))]
+    if dice.random() < 0.1:
+        choices = (number(dice, variable, table, 1) for _ in range(2))
+        return words + ["select", *condition(dice, variable, table, 1), "?", *next(choices), ":", *next(choices), ";"]
     if dice.random() < 0.3:
         return words + ["select", *number(dice, variable, table, dice.choice([1, 2, 3])), ";"]
     return words + ["select", variable, ".", dice.choice(columns), ";"]

@@ -1,12 +1,12 @@
 //! What an expression is on one row: the scalar meaning of conditions, of what a query selects, and of rules.
-ghost use Rattle.std.specs.Prelude.{◌≡◌, map};
+ghost use Rattle.std.specs.Prelude.{◌≡◌, map, not, Ok};
 ghost use Rattle.std.specs.Option.{option_copied};
 ghost use Rattle.lq_value.specs.declared.value.Fault.TheVariants as fault;
-ghost use Rattle.lq_model.specs.Operations.{truth_of};
+ghost use Rattle.lq_model.specs.Operations.{negated, on_ok, truth_of};
 ghost use Rattle.lq_model.specs.Visible.{cell_named};
-ghost use Rattle.lq_session.specs.OneRow.{scalar_in, truth_in, truth_shape};
+ghost use Rattle.lq_session.specs.OneRow.{scalar_in, scalar_shape, truth_in, truth_shape};
 ghost use Rattle.lq_scalar.specs.Operands.{shown_scalar, shown_scalars};
-ghost use Rattle.lq_session.specs.Operands.{shown_operand};
+ghost use Rattle.lq_session.specs.Operands.{shown_operand, shown_operands};
 
 use lq_model::{Expr, Node, Unary};
 use lq_scalar::{ScalarRef, negate, operate};
@@ -107,6 +107,21 @@ fn truth_operand<'a>(truth: bool) -> Operand<'a>
     Operand::Scalar(ScalarRef::Bool(truth))
 }
 
+/// The number with the other sign.
+fn minus<'a>(operand: Operand<'a>) -> Result<Operand<'a>, Fault>
+    ensures { shown_operands result ≡ on_ok (scalar_in (shown_operand operand.entry)) (λ s. scalar_shape (negated fault.NullReference s)) }
+{
+    Ok(Operand::Scalar(negate(scalar_in(operand)?)?))
+}
+
+/// The other truth value.
+fn not<'a>(operand: Operand<'a>) -> Result<Operand<'a>, Fault>
+    ensures { shown_operands result ≡ on_ok (truth_in (shown_operand operand.entry)) (λ t. Ok (truth_shape (not t))) }
+{
+    let truth = truth_in(operand)?;
+    Ok(truth_operand(!truth))
+}
+
 impl<'a, C: Named> OneRow<'a, C> {
     ghost use Rattle.std.specs.Prelude.{◌≡◌, map, if◌then◌else◌, Ok, Err};
     ghost use Rattle.std.specs.Str.{bytes_eq};
@@ -169,14 +184,8 @@ impl<'a, C: Named> OneRow<'a, C> {
                 Ok(Operand::Scalar(operate(*operator, left, right)?))
             }
             Node::Bool(truth) => Ok(truth_operand(*truth)),
-            Node::Unary(Unary::Minus, operand) => {
-                let number = scalar_in(self.operand(operand.get())?)?;
-                Ok(Operand::Scalar(negate(number)?))
-            }
-            Node::Unary(Unary::Not, operand) => {
-                let truth = truth_in(self.operand(operand.get())?)?;
-                Ok(truth_operand(!truth))
-            }
+            Node::Unary(Unary::Minus, operand) => minus(self.operand(operand.get())?),
+            Node::Unary(Unary::Not, operand) => not(self.operand(operand.get())?),
             Node::And(left, right) => match truth_in(self.operand(left.get())?)? {
                 true => self.operand(right.get()),
                 false => Ok(truth_operand(false)),
