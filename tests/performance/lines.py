@@ -9,7 +9,7 @@ from measuring import Failure
 LINE = 65_536
 LINES = 16
 LEAST_ROUNDS = 3
-MOST_ROUNDS = 15
+MOST_ROUNDS = 60
 MOST_TIMES = 2.3
 # The tree of a longer line leaves the processor's caches. Where time grew with the square of the length this would be 4.
 MOST_TIMES_OF_LENGTH = 3.0
