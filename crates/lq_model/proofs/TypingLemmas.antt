@@ -6,7 +6,7 @@ use Rattle.lq_value.specs.declared.ty.Ty.{Ty, ind-Ty, map-Ty, out-Ty, roll-Ty}
 use Rattle.lq_value.specs.declared.ty.Ty.TheOpen.{Ty-F}
 use Rattle.lq_value.specs.declared.ty.Ty.TheVariants as ty
 use Rattle.lq_value.specs.declared.ty.Ty.TheVariants.{outs-Bool, outs-Group, outs-Int, outs-IntN, outs-Null, outs-Rec, outs-Row, outs-Seq, outs-Str, rolls-Bool, rolls-Group, rolls-Int, rolls-IntN, rolls-Null, rolls-Rec, rolls-Row, rolls-Seq, rolls-Str}
-use Rattle.lq_model.specs.Typing.{Names, is_comparison, Claim, TypeOf, Leads, LeadAll, Selects, GivesItems, IsTyped, of_integer, of_local, of_table, of_column, of_comparison, of_arithmetic, of_minus, of_choice, of_truth, of_not, of_both, of_either, by_where, by_none, by_first, by_select, by_query, HasType, HasItemType, body_type, column_type, if_scalar, is_bool, is_bool_type, is_number, is_scalar, item_of, item_type, items_over, binary_type, choice_type, chosen, if_number, number_type, result_type, truth_type, local_type, name_type, names_behind, names_behind_all, row_table, selected_type, table_number, type_of, when_fresh, with_local}
+use Rattle.lq_model.specs.Typing.{Names, is_comparison, Claim, TypeOf, Leads, LeadAll, Selects, GivesItems, IsTyped, of_integer, of_local, of_table, of_column, of_comparison, of_arithmetic, of_minus, of_choice, of_truth, of_not, of_both, of_either, by_where, by_none, by_first, by_select, by_query, HasType, HasItemType, body_type, column_type, if_scalar, is_bool, is_bool_type, is_number, is_scalar, item_of, item_type, items_over, binary_type, choice_type, if_number, number_type, result_type, truth_type, local_type, name_type, names_behind, names_behind_all, row_table, selected_type, table_number, type_of, when_fresh, with_local}
 use Rattle.lq_model.specs.TypingLaws.{HasOneType, HasOneItemType, FindsTypes, FindsItemTypes}
 use Rattle.lq_model.specs.declared.syntax.Clause.{Clause}
 use Rattle.lq_model.specs.declared.syntax.Clause.TheVariants as clause

@@ -1,7 +1,6 @@
 -- An expression whose type is a scalar means a scalar or a fault, and the evaluator finds it.
 use Rattle.std.proofs.Common.{◌≡◌, ◌∷◌, ◌&&◌, if◌then◌else◌, not, List, [], ℕ, ℤ, Bool, true, false, Option, Some, None, Result, Ok, Err, ap, ◌∙◌, sym, refl, subst, bytes_eq, option_map, true≢false}
 use Rattle.lq_value.specs.declared.scalar.Scalar.{Scalar}
-use Rattle.lq_value.specs.declared.scalar.Scalar.TheVariants as scalar
 use Rattle.lq_value.specs.declared.table.Schema.{Schema}
 use Rattle.lq_value.specs.declared.ty.Ty.{Ty, out-Ty}
 use Rattle.lq_value.specs.declared.ty.Ty.TheOpen.{Ty-F}

@@ -1,9 +1,7 @@
 -- What the evaluator's operands show.
 use Rattle.std.specs.Prelude.{Result, Ok, Err}
-use Rattle.lq_value.specs.declared.scalar.Scalar.{Scalar}
 use Rattle.lq_value.specs.declared.value.Fault.{Fault}
 use Rattle.lq_scalar.specs.Operands.{shown_scalar}
-use Rattle.lq_scalar.specs.declared.scalar_ref.ScalarRef.{ScalarRef}
 use Rattle.lq_session.specs.OneRow.{Shape, TheRow, TheScalar}
 use Rattle.lq_session.specs.declared.evaluate.Operand.{Operand}
 use Rattle.lq_session.specs.declared.evaluate.Operand.TheVariants as operand
