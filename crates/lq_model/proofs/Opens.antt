@@ -1,21 +1,25 @@
 -- The equations of the folds over expressions, one for each form.
-use Rattle.std.proofs.Common.{◌≡◌, ◌&&◌, if◌then◌else◌, not, List, ℕ, ℤ, Bool, true, false, Option, Some, None, Ok, ap, ◌∙◌, sym, option_and_then}
+use Rattle.std.proofs.Common.{◌≡◌, ◌∷◌, ◌&&◌, if◌then◌else◌, not, List, [], ℕ, ℤ, Bool, true, false, Option, Some, None, Result, Ok, Err, ap, ◌∙◌, sym, option_and_then}
 use Rattle.lq_value.specs.declared.scalar.Scalar.TheVariants as scalar
 use Rattle.lq_value.specs.declared.ty.Ty.{Ty, out-Ty}
 use Rattle.lq_value.specs.declared.ty.Ty.TheVariants as ty
-use Rattle.lq_value.specs.declared.value.Value.{out-Value}
+use Rattle.lq_value.specs.declared.value.Fault.{Fault}
+use Rattle.lq_value.specs.declared.value.Value.{Value, out-Value}
 use Rattle.lq_value.specs.declared.value.Value.TheVariants as value
-use Rattle.lq_model.specs.Meaning.{Meaning, Meant, Scope, World, binding_of, meaning, meaning_step, member_value, name_value, as_value, on_scalar, on_truth, truth_value}
-use Rattle.lq_model.specs.Operations.{negated, of_two, on_ok, operation_of}
-use Rattle.lq_model.specs.Typing.{Names, binary_type, choice_type, column_type, if_number, is_bool_type, local_type, name_type, row_table, truth_type, type_of, type_step}
+use Rattle.lq_model.specs.Meaning.{Meaning, Meant, Scope, World, binding_of, is_null, meaning, meaning_step, member_value, name_value, names_at, as_value, on_scalar, on_truth, operated_meaning, operation_at, same_values, told, truth_value}
+use Rattle.lq_model.specs.Members.{is_search, search_named, sole_argument}
+use Rattle.lq_model.specs.Operations.{negated, of_search, on_ok}
+use Rattle.lq_model.specs.Typing.{Names, binary_type, choice_type, coalesced, if_number, is_bool_type, is_equality, is_text_type, local_type, member_type, name_type, of_operands, truth_type, type_of, type_step}
 use Rattle.lq_model.specs.declared.syntax.Binary.{Binary}
 use Rattle.lq_model.specs.declared.syntax.Expr.{Expr, fold_out-Expr, map-Expr, out-Expr, para-roll-Expr, roll-Expr}
 use Rattle.lq_model.specs.declared.syntax.Expr.TheOpen.{Expr-F}
-use Rattle.lq_model.specs.declared.syntax.Expr.TheVariants.{outs-Node, outs-Query, rolls-Node}
+use Rattle.lq_model.specs.declared.syntax.Expr.TheVariants.{outs-Node, outs-Query, rolls-Node, rolls-Query}
 use Rattle.lq_model.specs.declared.syntax.Expr.TheViews.{out-roll-Expr}
 use Rattle.lq_model.specs.declared.syntax.Expr.TheVariants as expr
+use Rattle.lq_model.specs.declared.syntax.Node.{Node}
 use Rattle.lq_model.specs.declared.syntax.Node.TheVariants as node
 use Rattle.lq_model.specs.declared.syntax.Argument.{Argument}
+use Rattle.lq_model.specs.declared.syntax.Argument.TheVariants as argument
 use Rattle.lq_model.specs.declared.syntax.Field.{Field}
 use Rattle.lq_model.specs.declared.syntax.Query.{Query}
 use Rattle.lq_model.specs.declared.syntax.Unary.TheVariants as unary
@@ -40,14 +44,55 @@ module _ {R : Type 0} (world : World R) where
   pub meaning_name : (x : List ℕ) (scope : Scope R) → meaning world (expr.Node (node.Name x)) scope ≡ name_value world x (binding_of x scope)
   meaning_name x scope = ap (λ (e : Expr). meaning world e scope) (sym (rolls-Node (node.Name x))) ∙ rolled_meaning (Expr-F.Node (node.Name x)) scope
 
-  pub meaning_member : (row : Expr) (c : List ℕ) (scope : Scope R)
-      → meaning world (expr.Node (node.Member row c)) scope ≡ on_ok (meaning world row scope) (λ v. member_value world c (out-Value R v))
-  meaning_member row c scope = ap (λ (e : Expr). meaning world e scope) (sym (rolls-Node (node.Member row c))) ∙ rolled_meaning (Expr-F.Node (node.Member row c)) scope
+  -- the meaning of a node, over the meanings of what it holds
+  node_is : (n : Node Expr) (scope : Scope R) → meaning world (expr.Node n) scope ≡ layer_meaning (Expr-F.Node n) scope
+  node_is n scope = ap (λ (e : Expr). meaning world e scope) (sym (rolls-Node n)) ∙ rolled_meaning (Expr-F.Node n) scope
+
+  pub meaning_text : (t : List ℕ) (scope : Scope R) → meaning world (expr.Node (node.Text t)) scope ≡ Ok (value.Scalar (scalar.Text t))
+  meaning_text t scope = node_is (node.Text t) scope
+
+  pub meaning_null : (scope : Scope R) → meaning world (expr.Node node.Null) scope ≡ Ok (value.Scalar scalar.Null)
+  meaning_null scope = node_is node.Null scope
+
+  pub meaning_member : (a : Expr) (m : List ℕ) (scope : Scope R)
+      → meaning world (expr.Node (node.Member a m)) scope
+      ≡ on_ok (meaning world a scope) (λ v. member_value world (type_of a (names_at world scope)) m (out-Value R v))
+  meaning_member a m scope = node_is (node.Member a m) scope
+
+  -- the meaning of an argument that is there
+  abbrev pub argument_meaning : Option Expr → Scope R → Result (Value R) Fault
+  argument_meaning None scope = Err world.unknown
+  argument_meaning (Some e) scope = meaning world e scope
+
+  pub meaning_method : (a : Expr) (m : List ℕ) (xs : List (Argument Expr)) (scope : Scope R)
+      → meaning world (expr.Node (node.Method a m xs)) scope
+      ≡ on_scalar world (meaning world a scope)
+        (λ s. on_scalar world (argument_meaning (sole_argument xs) scope) (λ t. as_value (of_search world.unknown (search_named m) s t)))
+  meaning_method a m [] scope = node_is (node.Method a m []) scope
+  meaning_method a m (argument.Value b ∷ []) scope = node_is (node.Method a m (argument.Value b ∷ [])) scope
+  meaning_method a m (argument.Lambda x b ∷ []) scope = node_is (node.Method a m (argument.Lambda x b ∷ [])) scope
+  meaning_method a m (argument.Value b ∷ c ∷ xs) scope = node_is (node.Method a m (argument.Value b ∷ c ∷ xs)) scope
+  meaning_method a m (argument.Lambda x b ∷ c ∷ xs) scope = node_is (node.Method a m (argument.Lambda x b ∷ c ∷ xs)) scope
 
   pub meaning_binary : (op : Binary) (a b : Expr) (scope : Scope R)
       → meaning world (expr.Node (node.Binary op a b)) scope
-      ≡ on_scalar world (meaning world a scope) (λ s. on_scalar world (meaning world b scope) (λ t. as_value (of_two world.unknown (operation_of op) s t)))
-  meaning_binary op a b scope = ap (λ (e : Expr). meaning world e scope) (sym (rolls-Node (node.Binary op a b))) ∙ rolled_meaning (Expr-F.Node (node.Binary op a b)) scope
+      ≡ (if is_equality op then on_ok (meaning world a scope) (λ v. on_ok (meaning world b scope) (λ w. on_ok (same_values world (out-Value R v) (out-Value R w)) (λ same. Ok (truth_value (told op same)))))
+        else operated_meaning world (operation_at op (type_of a (names_at world scope)) (type_of b (names_at world scope))) (meaning world a scope) (meaning world b scope))
+  meaning_binary op a b scope = node_is (node.Binary op a b) scope
+
+  pub meaning_coalesce : (a b : Expr) (scope : Scope R)
+      → meaning world (expr.Node (node.Coalesce a b)) scope
+      ≡ on_scalar world (meaning world a scope) (λ s. if is_null s then meaning world b scope else Ok (value.Scalar s))
+  meaning_coalesce a b scope = node_is (node.Coalesce a b) scope
+
+  pub meaning_query : (q : Query Expr) (scope : Scope R) → meaning world (expr.Query q) scope ≡ layer_meaning (Expr-F.Query q) scope
+  meaning_query q scope = ap (λ (e : Expr). meaning world e scope) (sym (rolls-Query q)) ∙ rolled_meaning (Expr-F.Query q) scope
+
+  pub meaning_host : (p : List ℕ) (xs : List Expr) (scope : Scope R) → meaning world (expr.Node (node.Host p xs)) scope ≡ Err world.unknown
+  meaning_host p xs scope = node_is (node.Host p xs) scope
+
+  pub meaning_record : (fs : List (Field Expr)) (scope : Scope R) → meaning world (expr.Node (node.New fs)) scope ≡ Err world.unknown
+  meaning_record fs scope = node_is (node.New fs) scope
 
   pub meaning_minus : (a : Expr) (scope : Scope R)
       → meaning world (expr.Node (node.Unary unary.Minus a)) scope ≡ on_scalar world (meaning world a scope) (λ s. as_value (negated world.unknown s))
@@ -86,9 +131,35 @@ type_integer n names = type_out (expr.Node (node.Integer n)) names ∙ ap (λ (x
 pub type_name : (x : List ℕ) (names : Names) → type_of (expr.Node (node.Name x)) names ≡ name_type names x (local_type x names.locals)
 type_name x names = type_out (expr.Node (node.Name x)) names ∙ ap (λ (e : Expr-F Expr). layer_type e names) (outs-Node (node.Name x))
 
-pub type_member : (row : Expr) (c : List ℕ) (names : Names)
-    → type_of (expr.Node (node.Member row c)) names ≡ option_and_then (λ t. option_and_then (λ n. column_type names.tables n c) (row_table (out-Ty t))) (type_of row names)
-type_member row c names = type_out (expr.Node (node.Member row c)) names ∙ ap (λ (e : Expr-F Expr). layer_type e names) (outs-Node (node.Member row c))
+pub type_member : (a : Expr) (m : List ℕ) (names : Names)
+    → type_of (expr.Node (node.Member a m)) names ≡ option_and_then (λ t. member_type names m (out-Ty t)) (type_of a names)
+type_member a m names = type_out (expr.Node (node.Member a m)) names ∙ ap (λ (e : Expr-F Expr). layer_type e names) (outs-Node (node.Member a m))
+
+-- the type of an argument that is there
+abbrev pub argument_type : Option Expr → Names → Option Ty
+argument_type None names = None
+argument_type (Some e) names = type_of e names
+
+node_type_is : (n : Node Expr) (names : Names) → type_of (expr.Node n) names ≡ layer_type (Expr-F.Node n) names
+node_type_is n names = type_out (expr.Node n) names ∙ ap (λ (e : Expr-F Expr). layer_type e names) (outs-Node n)
+
+pub type_method : (a : Expr) (m : List ℕ) (xs : List (Argument Expr)) (names : Names)
+    → type_of (expr.Node (node.Method a m xs)) names
+    ≡ truth_type (is_search m && is_text_type (type_of a names) && is_text_type (argument_type (sole_argument xs) names))
+type_method a m [] names = node_type_is (node.Method a m []) names
+type_method a m (argument.Value b ∷ []) names = node_type_is (node.Method a m (argument.Value b ∷ [])) names
+type_method a m (argument.Lambda x b ∷ []) names = node_type_is (node.Method a m (argument.Lambda x b ∷ [])) names
+type_method a m (argument.Value b ∷ c ∷ xs) names = node_type_is (node.Method a m (argument.Value b ∷ c ∷ xs)) names
+type_method a m (argument.Lambda x b ∷ c ∷ xs) names = node_type_is (node.Method a m (argument.Lambda x b ∷ c ∷ xs)) names
+
+pub type_text : (t : List ℕ) (names : Names) → type_of (expr.Node (node.Text t)) names ≡ Some ty.Str
+type_text t names = node_type_is (node.Text t) names
+
+pub type_null : (names : Names) → type_of (expr.Node node.Null) names ≡ Some ty.Null
+type_null names = node_type_is node.Null names
+
+pub type_coalesce : (a b : Expr) (names : Names) → type_of (expr.Node (node.Coalesce a b)) names ≡ of_operands coalesced (type_of a names) (type_of b names)
+type_coalesce a b names = node_type_is (node.Coalesce a b) names
 
 pub type_binary : (op : Binary) (a b : Expr) (names : Names)
     → type_of (expr.Node (node.Binary op a b)) names ≡ binary_type op (type_of a names) (type_of b names)
@@ -121,23 +192,11 @@ rolled_type layer names = type_out (roll-Expr layer) names ∙ ap (λ (x : Expr-
 
 -- forms that have no type yet
 
-pub type_text : (t : List ℕ) (names : Names) → type_of (expr.Node (node.Text t)) names ≡ None
-type_text t names = type_out (expr.Node (node.Text t)) names ∙ ap (λ (e : Expr-F Expr). layer_type e names) (outs-Node (node.Text t))
-
-pub type_null : (names : Names) → type_of (expr.Node node.Null) names ≡ None
-type_null names = type_out (expr.Node node.Null) names ∙ ap (λ (e : Expr-F Expr). layer_type e names) (outs-Node node.Null)
-
-pub type_coalesce : (a b : Expr) (names : Names) → type_of (expr.Node (node.Coalesce a b)) names ≡ None
-type_coalesce a b names = type_out (expr.Node (node.Coalesce a b)) names ∙ ap (λ (e : Expr-F Expr). layer_type e names) (outs-Node (node.Coalesce a b))
-
 pub type_host : (p : List ℕ) (xs : List Expr) (names : Names) → type_of (expr.Node (node.Host p xs)) names ≡ None
 type_host p xs names = type_out (expr.Node (node.Host p xs)) names ∙ ap (λ (e : Expr-F Expr). layer_type e names) (outs-Node (node.Host p xs))
 
 pub type_record : (fs : List (Field Expr)) (names : Names) → type_of (expr.Node (node.New fs)) names ≡ None
 type_record fs names = type_out (expr.Node (node.New fs)) names ∙ ap (λ (e : Expr-F Expr). layer_type e names) (outs-Node (node.New fs))
-
-pub type_method : (a : Expr) (m : List ℕ) (xs : List (Argument Expr)) (names : Names) → type_of (expr.Node (node.Method a m xs)) names ≡ None
-type_method a m xs names = type_out (expr.Node (node.Method a m xs)) names ∙ ap (λ (e : Expr-F Expr). layer_type e names) (outs-Node (node.Method a m xs))
 
 pub type_query : (q : Query Expr) (names : Names) → type_of (expr.Query q) names ≡ None
 type_query q names = type_out (expr.Query q) names ∙ ap (λ (e : Expr-F Expr). layer_type e names) (outs-Query q)

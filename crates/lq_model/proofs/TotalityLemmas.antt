@@ -2,7 +2,8 @@
 use Rattle.std.proofs.Common.{◌≡◌, ◌∷◌, ◌&&◌, ◌||◌, ◌⊎◌, inl, inr, if◌then◌else◌, List, [], ℕ, suc, zero, ℤ, pos, negsuc, Bool, true, false, codes, bytes_eq, int_le, ap, ◌∙◌, sym, refl, subst, true≢false, arith}
 use Rattle.std.proofs.lemmas.Bool.{and_parts, and_from, le-leb}
 use Rattle.std.proofs.lemmas.Slice.Eq.{bytes_eq-Decides}
-use Rattle.lq_model.specs.Totality.{Claim, Holds, IsSearch, IsSure, IsTotal, Strength, Sure, Told, Total, contains, ends, is_division, is_divisor, is_natural, is_row, is_search, is_sure, is_total, starts, strength_of, strength_step, sure_coalesce, sure_conditional, sure_text, sure_user, total_and, total_coalesce, total_column, total_comparison, total_conditional, total_division, total_has_value, total_integer, total_minus, total_not, total_null, total_or, total_search, total_text, total_truth, total_user, total_where}
+use Rattle.lq_model.specs.Members.{IsSearch, contains, ends, is_search, starts}
+use Rattle.lq_model.specs.Totality.{Claim, Holds, IsSure, IsTotal, Strength, Sure, Told, Total, is_division, is_divisor, is_natural, is_row, is_sure, is_total, strength_of, strength_step, sure_coalesce, sure_conditional, sure_text, sure_user, total_and, total_coalesce, total_column, total_comparison, total_conditional, total_division, total_has_value, total_integer, total_minus, total_not, total_null, total_or, total_search, total_text, total_truth, total_user, total_where}
 use Rattle.lq_model.specs.TotalityLaws.{TellsTotal}
 use Rattle.lq_model.specs.Typing.{is_comparison}
 use Rattle.lq_model.specs.declared.syntax.Argument.{Argument}

@@ -6,6 +6,7 @@ pub mod LexingLaws
 pub mod Machine
 pub mod Meaning
 pub mod MeaningLaws
+pub mod Members
 pub mod OperationLaws
 pub mod Operations
 pub mod Output

@@ -6,14 +6,15 @@ use Rattle.lq_value.specs.declared.table.Schema.{Schema}
 use Rattle.lq_value.specs.declared.ty.Ty.{Ty}
 use Rattle.lq_value.specs.declared.value.Fault.{Fault}
 use Rattle.lq_value.specs.declared.value.Fault.TheVariants as fault
-use Rattle.lq_model.specs.Meaning.{World, stream_meaning}
+use Rattle.lq_model.specs.Meaning.{World, meaning, stream_meaning}
 use Rattle.lq_model.specs.Reading.{Reading, Nothing, Says, IsNoSyntax, IsTooDeep, reading_of}
-use Rattle.lq_model.specs.Served.{error_data, line_of, stream_data}
-use Rattle.lq_model.specs.Typing.{item_type, type_of}
+use Rattle.lq_model.specs.Served.{error_data, line_of, stream_data, value_data}
+use Rattle.lq_model.specs.Typing.{if_scalar, item_type, type_of}
 use Rattle.lq_model.specs.Visible.{TableRow, cell_named, tables_as_seen}
 use Rattle.lq_model.specs.declared.policy.PolicyParts.{PolicyParts}
 use Rattle.lq_model.specs.declared.syntax.Expr.{Expr, out-Expr}
 use Rattle.lq_model.specs.declared.syntax.Expr.TheOpen.{Expr-F}
+use Rattle.lq_model.specs.declared.syntax.Expr.TheVariants as expr
 use Rattle.lq_model.specs.declared.syntax.Query.{Query}
 use Rattle.lq_model.specs.declared.syntax.Statement.{Statement}
 use Rattle.lq_model.specs.declared.syntax.Statement.TheVariants as statement
@@ -65,10 +66,22 @@ run_reply schemas rows q = served (world_of schemas rows) q (item_type type_of q
 abbrev pub run_in : State → Query Expr → Data
 run_in s q = run_reply (schemas_of s.tables) (seen_by_role s) q
 
--- queries are served; other expressions have no type yet
+-- an expression without the type of a scalar is refused, any other serves its value
+abbrev pub served_value : World TableRow → Expr → Option Ty → Data
+served_value world e None = error_data (codes "type")
+served_value world e (Some t) = value_data (meaning world e [])
+
+-- the reply of `run` of an expression over these schemas and rows
+unfoldable pub value_reply : List Schema → List (List TableRow) → Expr → Data
+value_reply schemas rows e = served_value (world_of schemas rows) e (if_scalar (type_of e (record { tables = schemas; locals = [] })))
+
+abbrev pub value_in : State → Expr → Data
+value_in s e = value_reply (schemas_of s.tables) (seen_by_role s) e
+
+-- a query is served item by item, and any other expression by its value
 abbrev pub served_top : State → Expr-F Expr → Data
 served_top s (Expr-F.Query q) = run_in s q
-served_top s (Expr-F.Node n) = error_data (codes "type")
+served_top s (Expr-F.Node n) = value_in s (expr.Node n)
 
 -- what a statement is answered, and the state behind it; `run` alone is served yet, and nothing changes the state
 abbrev pub perform : State → Statement → Data × State

@@ -1,5 +1,5 @@
 -- «Scalar meaning» and «Clause meaning»: what expressions and queries mean (ECMA-334, expressions and query expressions).
-use Rattle.std.specs.Prelude.{◌∷◌, if◌then◌else◌, not, List, [], map, ℕ, Bool, true, false, Option, Some, None, Result, Ok, Err, slice_get, option_and_then}
+use Rattle.std.specs.Prelude.{◌∷◌, ◌||◌, if◌then◌else◌, not, List, [], map, ℕ, Bool, true, false, Option, Some, None, Result, Ok, Err, slice_get, option_and_then, is_some}
 use Rattle.std.specs.Str.{bytes_eq}
 use Rattle.lq_value.specs.declared.scalar.Scalar.{Scalar}
 use Rattle.lq_value.specs.declared.scalar.Scalar.TheVariants as scalar
@@ -12,9 +12,14 @@ use Rattle.lq_value.specs.declared.value.Fault.TheVariants as fault
 use Rattle.lq_value.specs.declared.value.Value.{Value, out-Value}
 use Rattle.lq_value.specs.declared.value.Value.TheOpen.{Value-F}
 use Rattle.lq_value.specs.declared.value.Value.TheVariants as value
-use Rattle.lq_model.specs.Operations.{negated, of_two, on_ok, operation_of, truth_of}
+use Rattle.lq_model.specs.Members.{member_named, search_named, sole_argument}
+use Rattle.lq_model.specs.Operations.{negated, of_member, of_search, of_two, on_ok, operation_of, same_content, truth_of}
 use Rattle.lq_model.specs.Stream.{Stream, select_by, where_by}
-use Rattle.lq_model.specs.Typing.{Names, item_of, table_number, type_of}
+use Rattle.lq_model.specs.Typing.{Names, is_equality, is_text_type, item_of, row_table, table_number, type_of}
+use Rattle.lq_model.specs.declared.operation.Op.{Op}
+use Rattle.lq_model.specs.declared.operation.Op.TheVariants as op
+use Rattle.lq_model.specs.declared.syntax.Binary.{Binary}
+use Rattle.lq_model.specs.declared.syntax.Binary.TheVariants as binary
 use Rattle.lq_model.specs.declared.syntax.Clause.{Clause}
 use Rattle.lq_model.specs.declared.syntax.Clause.TheVariants as clause
 use Rattle.lq_model.specs.declared.syntax.Body.{Body}
@@ -74,6 +79,32 @@ module _ {R : Type 0} where
   abbrev pub bound_stream : List ℕ → Ty → Scope R → Stream (Value R) → Stream (Scope R)
   bound_stream name t scope items = (map (bound name t scope) items.0, items.1)
 
+-- a scalar, or the fault in its place, as a value
+abbrev pub as_value : {R : Type 0} → Result Scalar Fault → Result (Value R) Fault
+as_value found = on_ok found (λ s. Ok (value.Scalar s))
+
+abbrev pub truth_value : {R : Type 0} → Bool → Value R
+truth_value b = value.Scalar (scalar.Bool b)
+
+-- whether the type is that of a row
+abbrev pub is_row_type : Option Ty → Bool
+is_row_type None = false
+is_row_type (Some t) = is_some (row_table (out-Ty t))
+
+-- what a sign does between operands of these types: `+` joins texts
+abbrev pub operation_at : Binary → Option Ty → Option Ty → Op
+operation_at binary.Add s t = if is_text_type s || is_text_type t then op.Concat else op.Add
+operation_at sign s t = operation_of sign
+
+-- what `==` or `!=` tells of operands that are the same, or aren't
+abbrev pub told : Binary → Bool → Bool
+told binary.NotEqual same = not same
+told sign same = same
+
+abbrev pub is_null : Scalar → Bool
+is_null scalar.Null = true
+is_null s = false
+
 module _ {R : Type 0} (world : World R) where
   -- a table stands for the sequence of its rows
   abbrev pub table_value : Option (List R) → Result (Value R) Fault
@@ -89,11 +120,23 @@ module _ {R : Type 0} (world : World R) where
   cell_value (Some s) = Ok (value.Scalar s)
   cell_value None = Err world.unknown
 
-  -- a column of a row; a null row's faults
-  abbrev pub member_value : List ℕ → Value-F R (Value R) → Result (Value R) Fault
-  member_value column (Value-F.Row r) = cell_value (world.cell r column)
-  member_value column (Value-F.Scalar scalar.Null) = Err fault.NullReference
-  member_value column layer = Err world.unknown
+  -- a member of a null, by the type of what is null: a row has none
+  abbrev pub null_member : Option Ty → List ℕ → Result Scalar Fault
+  null_member t m = if is_row_type t then Err fault.NullReference else of_member world.unknown (member_named m) scalar.Null
+
+  -- a column of a row, or a member of a scalar, which stands where an expression of this type does
+  abbrev pub member_value : Option Ty → List ℕ → Value-F R (Value R) → Result (Value R) Fault
+  member_value t m (Value-F.Row r) = cell_value (world.cell r m)
+  member_value t m (Value-F.Scalar scalar.Null) = as_value (null_member t m)
+  member_value t m (Value-F.Scalar s) = as_value (of_member world.unknown (member_named m) s)
+  member_value t m layer = Err world.unknown
+
+  -- whether two operands are the same: scalars by their contents, and a row isn't null
+  abbrev pub same_values : Value-F R (Value R) → Value-F R (Value R) → Result Bool Fault
+  same_values (Value-F.Scalar s) (Value-F.Scalar t) = same_content world.unknown s t
+  same_values (Value-F.Scalar scalar.Null) (Value-F.Row r) = Ok false
+  same_values (Value-F.Row r) (Value-F.Scalar scalar.Null) = Ok false
+  same_values v w = Err world.unknown
 
   -- an operand that is a scalar
   abbrev pub scalar_of : Value-F R (Value R) → Result Scalar Fault
@@ -166,27 +209,35 @@ Meant R = Expr × Meaning R
 abbrev pub sequence : {R : Type 0} → Stream (Value R) → Value R
 sequence items = value.Seq items.0 items.1
 
--- a scalar, or the fault in its place, as a value
-abbrev pub as_value : {R : Type 0} → Result Scalar Fault → Result (Value R) Fault
-as_value found = on_ok found (λ s. Ok (value.Scalar s))
-
-abbrev pub truth_value : {R : Type 0} → Bool → Value R
-truth_value b = value.Scalar (scalar.Bool b)
-
 module _ {R : Type 0} (world : World R) where
+  -- the meaning of an argument that is there
+  abbrev pub meaning_at : Scope R → Option (Meant R) → Result (Value R) Fault
+  meaning_at scope None = Err world.unknown
+  meaning_at scope (Some a) = a.1 scope
+
+  -- an operator that evaluates two scalars
+  abbrev pub operated_meaning : Op → Result (Value R) Fault → Result (Value R) Fault → Result (Value R) Fault
+  operated_meaning operation a b = on_scalar world a (λ s. on_scalar world b (λ t. as_value (of_two world.unknown operation s t)))
+
   -- the meaning of a node, over the meanings of what it holds
   abbrev pub node_meaning : Node (Meant R) → Meaning R
   node_meaning (node.Integer n) scope = Ok (value.Scalar (scalar.Int n))
   node_meaning (node.Name x) scope = name_value world x (binding_of x scope)
-  node_meaning (node.Member row c) scope = on_ok (row.1 scope) (λ v. member_value world c (out-Value R v))
+  node_meaning (node.Text t) scope = Ok (value.Scalar (scalar.Text t))
+  node_meaning node.Null scope = Ok (value.Scalar scalar.Null)
+  node_meaning (node.Member a m) scope = on_ok (a.1 scope) (λ v. member_value world (type_of a.0 (names_at world scope)) m (out-Value R v))
+  node_meaning (node.Method a m arguments) scope =
+      on_scalar world (a.1 scope) (λ s. on_scalar world (meaning_at scope (sole_argument arguments)) (λ t. as_value (of_search world.unknown (search_named m) s t)))
   node_meaning (node.Binary op a b) scope =
-      on_scalar world (a.1 scope) (λ s. on_scalar world (b.1 scope) (λ t. as_value (of_two world.unknown (operation_of op) s t)))
+      if is_equality op then on_ok (a.1 scope) (λ v. on_ok (b.1 scope) (λ w. on_ok (same_values world (out-Value R v) (out-Value R w)) (λ same. Ok (truth_value (told op same)))))
+      else operated_meaning (operation_at op (type_of a.0 (names_at world scope)) (type_of b.0 (names_at world scope))) (a.1 scope) (b.1 scope)
   node_meaning (node.Unary unary.Minus a) scope = on_scalar world (a.1 scope) (λ s. as_value (negated world.unknown s))
   node_meaning (node.Bool b) scope = Ok (truth_value b)
   node_meaning (node.Unary unary.Not a) scope = on_truth world (a.1 scope) (λ t. Ok (truth_value (not t)))
   -- the second operand is evaluated only where the first leaves it open
   node_meaning (node.And a b) scope = on_truth world (a.1 scope) (λ t. if t then b.1 scope else Ok (truth_value false))
   node_meaning (node.Or a b) scope = on_truth world (a.1 scope) (λ t. if t then Ok (truth_value true) else b.1 scope)
+  node_meaning (node.Coalesce a b) scope = on_scalar world (a.1 scope) (λ s. if is_null s then b.1 scope else Ok (value.Scalar s))
   -- and of two values the one that is chosen
   node_meaning (node.Conditional c a b) scope = on_truth world (c.1 scope) (λ t. if t then a.1 scope else b.1 scope)
   node_meaning node scope = Err world.unknown

@@ -1,6 +1,6 @@
 -- «Scalar meaning» of the operators and members that evaluate all their operands (ECMA-334, arithmetic, relational, equality and
 -- logical negation operators; .NET, Nullable<int> and String), a case for each row of their table.
-use Rattle.std.specs.Prelude.{◌+◌, ◌∷◌, ◌++◌, ◌&&◌, ◌||◌, if◌then◌else◌, not, List, [], ℕ, ℤ, pos, neg_ℤ, ◌+ℤ◌, ◌-ℤ◌, ◌*ℤ◌, Bool, true, false, Result, Ok, Err, length, int_div, int_le, int_lt, int_rem, nat_eq}
+use Rattle.std.specs.Prelude.{◌+◌, ◌∷◌, ◌++◌, ◌&&◌, ◌||◌, if◌then◌else◌, not, List, [], ℕ, ℤ, pos, neg_ℤ, ◌+ℤ◌, ◌-ℤ◌, ◌*ℤ◌, Bool, true, false, Option, Some, None, Result, Ok, Err, length, int_div, int_le, int_lt, int_rem, nat_eq}
 use Rattle.std.specs.Char.Escape.{encode_utf16}
 use Rattle.std.specs.List.{ends_with, starts_with}
 use Rattle.std.specs.Ordering.{int_eq}
@@ -196,6 +196,15 @@ module _ (unknown : Fault) where
   of_two op.EndsWith a b = truth (searched op.EndsWith a b)
   of_two op.Contains a b = truth (searched op.Contains a b)
   of_two other a b = Err unknown
+
+  -- a member of a scalar, and a search in a text, where there are such
+  abbrev pub of_member : Option Op → Scalar → Result Scalar Fault
+  of_member (Some o) a = of_one o a
+  of_member None a = Err unknown
+
+  abbrev pub of_search : Option Op → Scalar → Scalar → Result Scalar Fault
+  of_search (Some o) a b = of_two o a b
+  of_search None a b = Err unknown
 
   -- «Scalar meaning» of one operator or member, on the values of its operands
   abbrev pub applied : Op → List Scalar → Result Scalar Fault

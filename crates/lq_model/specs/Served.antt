@@ -1,5 +1,5 @@
 -- «Served bytes»: the line of a reply, the compact text of its JSON value and a line feed.
-use Rattle.std.specs.Prelude.{◌∷◌, ◌++◌, List, [], map, ℕ, codes}
+use Rattle.std.specs.Prelude.{◌∷◌, ◌++◌, List, [], map, ℕ, Result, Ok, Err, codes}
 use Rattle.serde_json.specs.Data.{Data, Members, array, boolean, no_members, null, number, object, put, string}
 use Rattle.serde_json.specs.Find.{of_integer}
 use Rattle.serde_json.specs.View.{items_of}
@@ -42,6 +42,14 @@ stream_members items (end.Fault f) = put (codes "items") (array (items_of items)
 
 abbrev pub stream_data : {R : Type 0} → Stream (Value R) → Data
 stream_data s = object (stream_members (map item_data s.0) s.1)
+
+-- the members of a value's reply
+abbrev pub value_members : {R : Type 0} → Result (Value R) Fault → Members
+value_members (Ok v) = put (codes "value") (item_data v) no_members
+value_members (Err f) = put (codes "fault") (string (fault_name f)) no_members
+
+abbrev pub value_data : {R : Type 0} → Result (Value R) Fault → Data
+value_data found = object (value_members found)
 
 -- a refusal's reply
 abbrev pub error_data : List ℕ → Data

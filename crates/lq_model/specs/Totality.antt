@@ -1,6 +1,7 @@
 -- Which rules of row policies can't fault, form by form, and the same as a function. A rule's names are `row`, with its columns, and `user`.
 use Rattle.std.specs.Prelude.{◌≡◌, ◌∷◌, ◌&&◌, ◌||◌, if◌then◌else◌, List, [], ℕ, suc, ℤ, pos, Bool, true, false, codes, int_le}
 use Rattle.std.specs.Str.{bytes_eq}
+use Rattle.lq_model.specs.Members.{IsSearch, is_search}
 use Rattle.lq_model.specs.Typing.{is_comparison}
 use Rattle.lq_model.specs.declared.syntax.Argument.{Argument}
 use Rattle.lq_model.specs.declared.syntax.Argument.TheVariants as argument
@@ -18,12 +19,6 @@ abbrev pub is_division : Binary → Bool
 is_division binary.Divide = true
 is_division binary.Remainder = true
 is_division op = false
-
--- The methods that look for a text in another.
-pub data IsSearch (method : List ℕ) : Type 0 where
-  starts : method ≡ codes "StartsWith" → IsSearch method
-  ends : method ≡ codes "EndsWith" → IsSearch method
-  contains : method ≡ codes "Contains" → IsSearch method
 
 -- What is said of an expression of a rule.
 pub data Claim : Type 0 where
@@ -82,9 +77,6 @@ is_divisor layer = false
 abbrev pub is_row : Expr-F Expr → Bool
 is_row (Expr-F.Node (node.Name x)) = bytes_eq x (codes "row")
 is_row layer = false
-
-abbrev pub is_search : List ℕ → Bool
-is_search m = bytes_eq m (codes "StartsWith") || bytes_eq m (codes "EndsWith") || bytes_eq m (codes "Contains")
 
 -- whether an expression is total, and whether it is sure
 pub record Strength : Type 0 where

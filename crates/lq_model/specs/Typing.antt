@@ -1,5 +1,5 @@
 -- «Typing»: which type an expression has under names, rule by rule, and the same as a function (ECMA-334, expressions).
-use Rattle.std.specs.Prelude.{◌≡◌, ◌∷◌, ◌==◌, ◌&&◌, if◌then◌else◌, List, [], ℕ, ℤ, Bool, true, false, Option, Some, None, length, slice_get, option_and_then, option_map}
+use Rattle.std.specs.Prelude.{◌≡◌, ◌∷◌, ◌==◌, ◌&&◌, if◌then◌else◌, List, [], ℕ, ℤ, Bool, true, false, Option, Some, None, length, slice_get, option_and_then, option_map, codes}
 use Rattle.std.specs.Str.{bytes_eq}
 use Rattle.lq_value.specs.Tables.{first_named}
 use Rattle.lq_value.specs.declared.table.Column.{Column}
@@ -9,6 +9,9 @@ use Rattle.lq_value.specs.declared.table.Schema.{Schema}
 use Rattle.lq_value.specs.declared.ty.Ty.{Ty, out-Ty}
 use Rattle.lq_value.specs.declared.ty.Ty.TheOpen.{Ty-F}
 use Rattle.lq_value.specs.declared.ty.Ty.TheVariants as ty
+use Rattle.lq_model.specs.Members.{IsSearch, is_search, sole_argument}
+use Rattle.lq_model.specs.declared.syntax.Argument.{Argument}
+use Rattle.lq_model.specs.declared.syntax.Argument.TheVariants as argument
 use Rattle.lq_model.specs.declared.syntax.Clause.{Clause}
 use Rattle.lq_model.specs.declared.syntax.Clause.TheVariants as clause
 use Rattle.lq_model.specs.declared.syntax.Binary.{Binary}
@@ -67,6 +70,19 @@ is_scalar Ty-F.Bool = true
 is_scalar Ty-F.Str = true
 is_scalar layer = false
 
+-- whether an operator asks for the order of its operands, or whether they are the same
+abbrev pub is_ordering : Binary → Bool
+is_ordering binary.Less = true
+is_ordering binary.Greater = true
+is_ordering binary.LessOrEqual = true
+is_ordering binary.GreaterOrEqual = true
+is_ordering op = false
+
+abbrev pub is_equality : Binary → Bool
+is_equality binary.Equal = true
+is_equality binary.NotEqual = true
+is_equality op = false
+
 -- whether an operator compares its operands
 abbrev pub is_comparison : Binary → Bool
 is_comparison binary.Less = true
@@ -82,14 +98,57 @@ abbrev pub number_type : Ty-F Ty → Ty-F Ty → Ty
 number_type Ty-F.Int Ty-F.Int = ty.Int
 number_type s t = ty.IntN
 
--- the type of a choice between values of these types: one type of scalars, or int? where both are numbers
+-- what `==` compares: two numbers, truth values or texts; and null with a number, a text, a row or null
+abbrev pub are_comparable : Ty-F Ty → Ty-F Ty → Bool
+are_comparable Ty-F.Int Ty-F.Int = true
+are_comparable Ty-F.Int Ty-F.IntN = true
+are_comparable Ty-F.Int Ty-F.Null = true
+are_comparable Ty-F.IntN Ty-F.Int = true
+are_comparable Ty-F.IntN Ty-F.IntN = true
+are_comparable Ty-F.IntN Ty-F.Null = true
+are_comparable Ty-F.Bool Ty-F.Bool = true
+are_comparable Ty-F.Str Ty-F.Str = true
+are_comparable Ty-F.Str Ty-F.Null = true
+are_comparable (Ty-F.Row n) Ty-F.Null = true
+are_comparable Ty-F.Null Ty-F.Int = true
+are_comparable Ty-F.Null Ty-F.IntN = true
+are_comparable Ty-F.Null Ty-F.Str = true
+are_comparable Ty-F.Null (Ty-F.Row n) = true
+are_comparable Ty-F.Null Ty-F.Null = true
+are_comparable s t = false
+
+-- texts that `+` joins: two, or one and null
+abbrev pub are_joined : Ty-F Ty → Ty-F Ty → Bool
+are_joined Ty-F.Str Ty-F.Str = true
+are_joined Ty-F.Str Ty-F.Null = true
+are_joined Ty-F.Null Ty-F.Str = true
+are_joined s t = false
+
+-- the type of `a ?? b`, whose first operand may be null
+abbrev pub coalesced : Ty-F Ty → Ty-F Ty → Option Ty
+coalesced Ty-F.IntN Ty-F.Int = Some ty.Int
+coalesced Ty-F.IntN Ty-F.IntN = Some ty.IntN
+coalesced Ty-F.IntN Ty-F.Null = Some ty.IntN
+coalesced Ty-F.Str Ty-F.Str = Some ty.Str
+coalesced Ty-F.Str Ty-F.Null = Some ty.Str
+coalesced s t = None
+
+-- the type of a choice between values of these types: one type of scalars or rows; int? where both are numbers; and with null
+-- the other's, if it may be null
 abbrev pub chosen : Ty-F Ty → Ty-F Ty → Option Ty
 chosen Ty-F.Int Ty-F.Int = Some ty.Int
 chosen Ty-F.Int Ty-F.IntN = Some ty.IntN
 chosen Ty-F.IntN Ty-F.Int = Some ty.IntN
 chosen Ty-F.IntN Ty-F.IntN = Some ty.IntN
+chosen Ty-F.IntN Ty-F.Null = Some ty.IntN
+chosen Ty-F.Null Ty-F.IntN = Some ty.IntN
 chosen Ty-F.Bool Ty-F.Bool = Some ty.Bool
 chosen Ty-F.Str Ty-F.Str = Some ty.Str
+chosen Ty-F.Str Ty-F.Null = Some ty.Str
+chosen Ty-F.Null Ty-F.Str = Some ty.Str
+chosen (Ty-F.Row m) (Ty-F.Row n) = if m == n then Some (ty.Row m) else None
+chosen (Ty-F.Row n) Ty-F.Null = Some (ty.Row n)
+chosen Ty-F.Null (Ty-F.Row n) = Some (ty.Row n)
 chosen s t = None
 
 -- the local names with one more
@@ -117,11 +176,23 @@ pub data IsTyped : Claim → Type 0 where
       → table_number x names.tables ≡ Some n → IsTyped (TypeOf names e (ty.Seq (ty.Row n)))
   of_column : (names : Names) (e row : Expr) (c : List ℕ) (n : ℕ) (t : Ty) → e ≡ expr.Node (node.Member row c) → IsTyped (TypeOf names row (ty.Row n))
       → column_type names.tables n c ≡ Some t → IsTyped (TypeOf names e t)
-  of_comparison : (names : Names) (e a b : Expr) (op : Binary) (s t : Ty) → e ≡ expr.Node (node.Binary op a b) → is_comparison op ≡ true
+  of_text : (names : Names) (e : Expr) (x : List ℕ) → e ≡ expr.Node (node.Text x) → IsTyped (TypeOf names e ty.Str)
+  of_null : (names : Names) (e : Expr) → e ≡ expr.Node node.Null → IsTyped (TypeOf names e ty.Null)
+  -- members of an int? and of a text
+  of_has_value : (names : Names) (e a : Expr) → e ≡ expr.Node (node.Member a (codes "HasValue")) → IsTyped (TypeOf names a ty.IntN) → IsTyped (TypeOf names e ty.Bool)
+  of_value : (names : Names) (e a : Expr) → e ≡ expr.Node (node.Member a (codes "Value")) → IsTyped (TypeOf names a ty.IntN) → IsTyped (TypeOf names e ty.Int)
+  of_length : (names : Names) (e a : Expr) → e ≡ expr.Node (node.Member a (codes "Length")) → IsTyped (TypeOf names a ty.Str) → IsTyped (TypeOf names e ty.Int)
+  of_search : (names : Names) (e a b : Expr) (m : List ℕ) → e ≡ expr.Node (node.Method a m (argument.Value b ∷ [])) → IsSearch m → IsTyped (TypeOf names a ty.Str)
+      → IsTyped (TypeOf names b ty.Str) → IsTyped (TypeOf names e ty.Bool)
+  of_ordering : (names : Names) (e a b : Expr) (op : Binary) (s t : Ty) → e ≡ expr.Node (node.Binary op a b) → is_ordering op ≡ true
       → IsTyped (TypeOf names a s) → is_number (out-Ty s) ≡ true → IsTyped (TypeOf names b t) → is_number (out-Ty t) ≡ true → IsTyped (TypeOf names e ty.Bool)
+  of_equality : (names : Names) (e a b : Expr) (op : Binary) (s t : Ty) → e ≡ expr.Node (node.Binary op a b) → is_equality op ≡ true
+      → IsTyped (TypeOf names a s) → IsTyped (TypeOf names b t) → are_comparable (out-Ty s) (out-Ty t) ≡ true → IsTyped (TypeOf names e ty.Bool)
   of_arithmetic : (names : Names) (e a b : Expr) (op : Binary) (s t : Ty) → e ≡ expr.Node (node.Binary op a b) → is_comparison op ≡ false
       → IsTyped (TypeOf names a s) → is_number (out-Ty s) ≡ true → IsTyped (TypeOf names b t) → is_number (out-Ty t) ≡ true
       → IsTyped (TypeOf names e (number_type (out-Ty s) (out-Ty t)))
+  of_joined : (names : Names) (e a b : Expr) (s t : Ty) → e ≡ expr.Node (node.Binary binary.Add a b) → IsTyped (TypeOf names a s) → IsTyped (TypeOf names b t)
+      → are_joined (out-Ty s) (out-Ty t) ≡ true → IsTyped (TypeOf names e ty.Str)
   of_minus : (names : Names) (e a : Expr) (t : Ty) → e ≡ expr.Node (node.Unary unary.Minus a) → IsTyped (TypeOf names a t) → is_number (out-Ty t) ≡ true
       → IsTyped (TypeOf names e t)
   of_truth : (names : Names) (e : Expr) (b : Bool) → e ≡ expr.Node (node.Bool b) → IsTyped (TypeOf names e ty.Bool)
@@ -130,6 +201,8 @@ pub data IsTyped : Claim → Type 0 where
       → IsTyped (TypeOf names e ty.Bool)
   of_either : (names : Names) (e a b : Expr) → e ≡ expr.Node (node.Or a b) → IsTyped (TypeOf names a ty.Bool) → IsTyped (TypeOf names b ty.Bool)
       → IsTyped (TypeOf names e ty.Bool)
+  of_coalesced : (names : Names) (e a b : Expr) (s t r : Ty) → e ≡ expr.Node (node.Coalesce a b) → IsTyped (TypeOf names a s) → IsTyped (TypeOf names b t)
+      → coalesced (out-Ty s) (out-Ty t) ≡ Some r → IsTyped (TypeOf names e r)
   of_choice : (names : Names) (e c a b : Expr) (s t r : Ty) → e ≡ expr.Node (node.Conditional c a b) → IsTyped (TypeOf names c ty.Bool)
       → IsTyped (TypeOf names a s) → IsTyped (TypeOf names b t) → chosen (out-Ty s) (out-Ty t) ≡ Some r → IsTyped (TypeOf names e r)
   -- a condition is a truth value, and names nothing
@@ -164,6 +237,10 @@ abbrev pub is_bool : Ty-F Ty → Bool
 is_bool Ty-F.Bool = true
 is_bool layer = false
 
+abbrev pub is_text : Ty-F Ty → Bool
+is_text Ty-F.Str = true
+is_text layer = false
+
 -- a local name's type, else a table's
 abbrev pub name_type : Names → List ℕ → Option Ty → Option Ty
 name_type names x (Some t) = Some t
@@ -177,31 +254,64 @@ is_bool_type (Some t) = is_bool (out-Ty t)
 abbrev pub truth_type : Bool → Option Ty
 truth_type are_truths = if are_truths then Some ty.Bool else None
 
--- what an operator gives to two numbers: a truth value where it compares, and else a number
-abbrev pub result_type : Binary → Ty → Ty → Ty
-result_type op s t = if is_comparison op then ty.Bool else number_type (out-Ty s) (out-Ty t)
+-- what an operator gives to two numbers: a truth value where it asks for their order, and else a number
+abbrev pub result_type : Binary → Ty-F Ty → Ty-F Ty → Ty
+result_type op s t = if is_ordering op then ty.Bool else number_type s t
+
+-- `+` joins texts
+abbrev pub joined_type : Binary → Ty-F Ty → Ty-F Ty → Option Ty
+joined_type binary.Add s t = if are_joined s t then Some ty.Str else None
+joined_type op s t = None
+
+abbrev pub operated_type : Binary → Ty-F Ty → Ty-F Ty → Option Ty
+operated_type op s t =
+    if is_equality op then truth_type (are_comparable s t)
+    else (if is_number s && is_number t then Some (result_type op s t) else joined_type op s t)
+
+-- the type of what two operands that have types give
+abbrev pub of_operands : (Ty-F Ty → Ty-F Ty → Option Ty) → Option Ty → Option Ty → Option Ty
+of_operands given (Some s) (Some t) = given (out-Ty s) (out-Ty t)
+of_operands given s t = None
 
 abbrev pub binary_type : Binary → Option Ty → Option Ty → Option Ty
-binary_type op None right = None
-binary_type op (Some s) None = None
-binary_type op (Some s) (Some t) = if is_number (out-Ty s) && is_number (out-Ty t) then Some (result_type op s t) else None
+binary_type op s t = of_operands (operated_type op) s t
 
 abbrev pub if_number : Option Ty → Option Ty
 if_number None = None
 if_number (Some t) = if is_number (out-Ty t) then Some t else None
 
 abbrev pub choice_type : Bool → Option Ty → Option Ty → Option Ty
-choice_type true (Some s) (Some t) = chosen (out-Ty s) (out-Ty t)
-choice_type is_condition s t = None
+choice_type true s t = of_operands chosen s t
+choice_type false s t = None
+
+-- the member of this name: a column of a row, or a member of an int? or of a text
+abbrev pub member_type : Names → List ℕ → Ty-F Ty → Option Ty
+member_type names m (Ty-F.Row n) = column_type names.tables n m
+member_type names m Ty-F.IntN = if bytes_eq m (codes "HasValue") then Some ty.Bool else (if bytes_eq m (codes "Value") then Some ty.Int else None)
+member_type names m Ty-F.Str = if bytes_eq m (codes "Length") then Some ty.Int else None
+member_type names m layer = None
+
+abbrev pub is_text_type : Option Ty → Bool
+is_text_type None = false
+is_text_type (Some t) = is_text (out-Ty t)
+
+-- the type of an argument that is there
+abbrev pub type_at : Names → Option (Names → Option Ty) → Option Ty
+type_at names None = None
+type_at names (Some typed) = typed names
 
 abbrev pub node_type : Node (Names → Option Ty) → Names → Option Ty
 node_type (node.Integer n) names = Some ty.Int
 node_type (node.Name x) names = name_type names x (local_type x names.locals)
-node_type (node.Member row c) names = option_and_then (λ t. option_and_then (λ n. column_type names.tables n c) (row_table (out-Ty t))) (row names)
+node_type (node.Text t) names = Some ty.Str
+node_type node.Null names = Some ty.Null
+node_type (node.Member a m) names = option_and_then (λ t. member_type names m (out-Ty t)) (a names)
+node_type (node.Method a m arguments) names = truth_type (is_search m && is_text_type (a names) && is_text_type (type_at names (sole_argument arguments)))
 node_type (node.Binary op a b) names = binary_type op (a names) (b names)
 node_type (node.Bool b) names = Some ty.Bool
 node_type (node.Unary unary.Minus a) names = if_number (a names)
 node_type (node.Unary unary.Not a) names = truth_type (is_bool_type (a names))
+node_type (node.Coalesce a b) names = of_operands coalesced (a names) (b names)
 node_type (node.Conditional c a b) names = choice_type (is_bool_type (c names)) (a names) (b names)
 node_type (node.And a b) names = truth_type (is_bool_type (a names) && is_bool_type (b names))
 node_type (node.Or a b) names = truth_type (is_bool_type (a names) && is_bool_type (b names))
