@@ -4,6 +4,7 @@
 mod arithmetic;
 mod comparison;
 mod error;
+mod names;
 mod operations;
 mod scalar_ref;
 mod signs;
@@ -13,6 +14,7 @@ mod totality;
 pub use comparison::{compared, is_comparison};
 pub use error::ScalarError;
 pub use lq_model::Op;
+pub use names::{ExprType, Named, Names};
 pub use operations::apply;
 pub use scalar_ref::ScalarRef;
 pub use signs::{negate, operate};

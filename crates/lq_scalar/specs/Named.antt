@@ -1,0 +1,73 @@
+-- What names stand for, as an evaluation finds it.
+use Rattle.std.specs.Prelude.{◌≡◌, List, ℕ, Option, Some, None, Result, Ok, Err}
+use Rattle.lq_value.specs.declared.scalar.Scalar.{Scalar}
+use Rattle.lq_value.specs.declared.ty.Ty.{Ty}
+use Rattle.lq_value.specs.declared.ty.Ty.TheOpen.{Ty-F}
+use Rattle.lq_value.specs.declared.ty.Ty.TheVariants as ty
+use Rattle.lq_value.specs.declared.value.Fault.{Fault}
+use Rattle.lq_value.specs.declared.value.Fault.TheVariants as fault
+use Rattle.lq_value.specs.declared.value.Value.{Value, out-Value}
+use Rattle.lq_value.specs.declared.value.Value.TheOpen.{Value-F}
+use Rattle.lq_model.specs.Meaning.{Binding, World}
+use Rattle.lq_scalar.specs.declared.names.ExprType.{ExprType}
+use Rattle.lq_scalar.specs.declared.names.ExprType.TheVariants as kind
+use Rattle.lq_scalar.specs.declared.names.Named.{Named}
+use Rattle.lq_scalar.specs.declared.names.Named.TheVariants as named
+
+abbrev pub shown_type : ExprType → Ty
+shown_type kind.Int = ty.Int
+shown_type kind.IntN = ty.IntN
+shown_type kind.Bool = ty.Bool
+shown_type kind.Str = ty.Str
+shown_type kind.Null = ty.Null
+shown_type (kind.Row n) = ty.Row n
+shown_type (kind.Rows n) = ty.Seq (ty.Row n)
+
+-- the layer of a type
+abbrev pub layer_of : ExprType → Ty-F Ty
+layer_of kind.Int = Ty-F.Int
+layer_of kind.IntN = Ty-F.IntN
+layer_of kind.Bool = Ty-F.Bool
+layer_of kind.Str = Ty-F.Str
+layer_of kind.Null = Ty-F.Null
+layer_of (kind.Row n) = Ty-F.Row n
+layer_of (kind.Rows n) = Ty-F.Seq (ty.Row n)
+
+-- ---- rows and scalars
+
+-- the row that a value is
+abbrev pub row_in : {R : Type 0} → Value-F R (Value R) → Option R
+row_in (Value-F.Row r) = Some r
+row_in layer = None
+
+-- the row that a local name stands for
+abbrev pub row_at : {R : Type 0} → Option (Binding R) → Option R
+row_at None = None
+row_at {R} (Some b) = row_in (out-Value R b.value)
+
+-- the cell of a row under the column of this name
+abbrev pub cell_in : {R : Type 0} → World R → List ℕ → Option R → Option Scalar
+cell_in world column None = None
+cell_in world column (Some r) = world.cell r column
+
+-- What an operand is: a row, or a scalar.
+pub data Shape (R : Type 0) : Type 0 where
+  TheRow : Option R → Shape R
+  TheScalar : Scalar → Shape R
+
+-- the row or scalar that a value is; anything else is none
+abbrev pub shape_in : {R : Type 0} → Value-F R (Value R) → Result (Shape R) Fault
+shape_in (Value-F.Row r) = Ok (TheRow (Some r))
+shape_in (Value-F.Scalar s) = Ok (TheScalar s)
+shape_in layer = Err fault.NullReference
+
+-- the row or scalar that a local name stands for
+abbrev pub shape_at : {R : Type 0} → Option (Binding R) → Result (Shape R) Fault
+shape_at None = Err fault.NullReference
+shape_at {R} (Some b) = shape_in (out-Value R b.value)
+
+-- what is named, where the name stands for this row if for one
+abbrev pub shown_named : {R : Type 0} → Option R → Option Named → Result (Shape R) Fault
+shown_named row None = Err fault.NullReference
+shown_named row (Some named.Row) = Ok (TheRow row)
+shown_named row (Some (named.Scalar s)) = Ok (TheScalar s.now)

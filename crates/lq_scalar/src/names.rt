@@ -1,0 +1,86 @@
+//! What the names of an expression stand for, and the types of what it holds.
+ghost use Rattle.std.specs.Prelude.{◌≡◌};
+ghost use Rattle.lq_model.specs.Typing.{type_of_column};
+ghost use Rattle.lq_scalar.specs.Named.{shown_type};
+
+use lq_value::{ColumnType, Scalar};
+
+/// The type of an expression that is evaluated to a row or a scalar, or of a table (ECMA-334, types).
+#[derive(Clone, Copy, Debug, Drop, Eq, PartialEq)]
+pub enum ExprType {
+    /// `int`
+    Int,
+    /// `int?`
+    IntN,
+    /// `bool`
+    Bool,
+    /// `string`
+    Str,
+    /// That of `null` alone.
+    Null,
+    /// A row of the table with this number.
+    Row(u16),
+    /// The sequence of the rows of the table with this number.
+    Rows(u16),
+}
+
+impl ExprType {
+    /// The type of a column's cells.
+    pub fn of_column(column: ColumnType) -> ExprType
+        ensures { shown_type result ≡ type_of_column column }
+    {
+        match column {
+            ColumnType::Int => ExprType::Int,
+            ColumnType::IntN => ExprType::IntN,
+            ColumnType::Bool => ExprType::Bool,
+            ColumnType::Str => ExprType::Str,
+        }
+    }
+}
+
+/// What a name stands for where an expression is evaluated.
+#[derive(Clone, Copy, Drop)]
+pub enum Named<'a> {
+    /// A row.
+    Row,
+    /// A scalar.
+    Scalar(&'a Scalar),
+}
+
+/// The names of a place: the types that they have, the scalars and rows that they stand for, and
+/// the cells of these rows.
+pub trait Names {
+    ghost use Rattle.std.specs.Prelude.{◌≡◌, option_map};
+    ghost use Rattle.std.specs.Option.{option_copied};
+    ghost use Rattle.lq_model.specs.Meaning.{Scope, World, binding_of, names_at};
+    ghost use Rattle.lq_model.specs.Typing.{column_type, local_type, name_type};
+    ghost use Rattle.lq_scalar.specs.Named.{cell_in, row_at, shape_at, shown_named, shown_type};
+
+    /// A row as it is meant.
+    ghost Row: { Type 0 };
+
+    /// The tables, and the cells of rows.
+    ghost world: { Self → World Row };
+
+    /// The local names with their types and values.
+    ghost scope: { Self → Scope Row };
+
+    /// The type of a name: that of the local name, else of the table.
+    fn name_type(&self, name: &str) -> Option<ExprType>
+        ensures {
+            option_map shown_type result
+            ≡ name_type (names_at (world self.now) (scope self.now)) name.now (local_type name.now (names_at (world self.now) (scope self.now)).locals)
+        };
+
+    /// The type of a column of the table with this number.
+    fn column_type(&self, table: u16, column: &str) -> Option<ExprType>
+        ensures { option_map shown_type result ≡ column_type (world self.now).schemas table column.now };
+
+    /// The row or scalar that a local name stands for.
+    fn named(&self, name: &str) -> Option<Named<'_>>
+        ensures { shown_named (row_at (binding_of name.now (scope self.now))) result ≡ shape_at (binding_of name.now (scope self.now)) };
+
+    /// The cell of the row that a local name stands for, under the column of this name.
+    fn cell(&self, row: &str, column: &str) -> Option<&Scalar>
+        ensures { option_copied result ≡ cell_in (world self.now) column.now (row_at (binding_of row.now (scope self.now))) };
+}
