@@ -1,5 +1,5 @@
 -- What borrowed operands show, and what an evaluation answers.
-use Rattle.std.specs.Prelude.{◌≡◌, if◌then◌else◌, ℕ, ℤ, pos, nat_le, Option, Some, None, Result, Ok, Err}
+use Rattle.std.specs.Prelude.{◌≡◌, if◌then◌else◌, List, ℕ, ℤ, pos, nat_le, Option, Some, None, Result, Ok, Err}
 use Rattle.lq_value.specs.declared.scalar.Scalar.{Scalar}
 use Rattle.lq_value.specs.declared.scalar.Scalar.TheVariants as scalar
 use Rattle.lq_value.specs.declared.value.Fault.{Fault}
@@ -20,6 +20,12 @@ abbrev pub IsAnswer : Result Scalar Fault → Result Scalar ScalarError → Type
 IsAnswer meant (Ok s) = meant ≡ Ok s
 IsAnswer meant (Err (error.Fault f)) = meant ≡ Err f
 IsAnswer meant (Err error.Memory) = Unit {0}
+
+-- the same of a text
+abbrev pub IsText : Result Scalar Fault → Result (List ℕ) ScalarError → Type 0
+IsText meant (Ok t) = meant ≡ Ok (scalar.Text t)
+IsText meant (Err (error.Fault f)) = meant ≡ Err f
+IsText meant (Err error.Memory) = Unit {0}
 
 abbrev pub shown_scalars : Result ScalarRef Fault → Result Scalar Fault
 shown_scalars (Ok s) = Ok (shown_scalar s)

@@ -4,7 +4,9 @@
 mod arithmetic;
 mod comparison;
 mod error;
+mod members;
 mod names;
+mod operand;
 mod operations;
 mod scalar_ref;
 mod signs;

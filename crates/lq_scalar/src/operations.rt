@@ -1,12 +1,13 @@
 //! An operator or member, applied to the values of its operands.
 ghost use Rattle.std.specs.Prelude.{◌≡◌};
 ghost use Rattle.lq_value.specs.declared.value.Fault.TheVariants as fault;
-ghost use Rattle.lq_model.specs.Operations.{applied, compared, has_value, of_one, of_two, truth, truth_of, value_of};
+ghost use Rattle.lq_model.specs.Operations.{applied, compared, of_one, of_two, truth, truth_of};
 ghost use Rattle.lq_scalar.specs.Operands.{IsAnswer, number_or_null};
 
 use crate::arithmetic::{arithmetic, negated};
 use crate::comparison::compared;
 use crate::error::ScalarError;
+use crate::members::{has_value, value_of};
 use crate::scalar_ref::ScalarRef;
 use crate::texts::{joined, length_of, searched};
 use lq_model::{Binary, Op};
@@ -34,9 +35,9 @@ fn of_one(op: Op, operand: &Scalar) -> Result<Scalar, Fault>
     match op {
         Op::Not => Ok(Scalar::Bool(!truth_of(operand)?)),
         Op::Minus => Ok(number(negated(ScalarRef::of(operand))?)),
-        Op::HasValue => Ok(Scalar::Bool(has_value(operand)?)),
-        Op::Value => value_of(operand),
-        Op::Length => length_of(operand),
+        Op::HasValue => Ok(Scalar::Bool(has_value(ScalarRef::of(operand))?)),
+        Op::Value => Ok(Scalar::Int(value_of(ScalarRef::of(operand))?)),
+        Op::Length => Ok(Scalar::Int(length_of(ScalarRef::of(operand))?)),
         _ => Err(Fault::NullReference),
     }
 }
@@ -49,7 +50,7 @@ fn of_two(alloc: Global, op: Op, left: &Scalar, right: &Scalar) -> Result<Scalar
             let result = arithmetic(op, ScalarRef::of(left), ScalarRef::of(right))?;
             Ok(number(result))
         }
-        Op::Concat => joined(alloc, left, right),
+        Op::Concat => Ok(Scalar::Text(joined(alloc, ScalarRef::of(left), ScalarRef::of(right))?)),
         Op::Less => Ok(compared_as(Binary::Less, left, right)?),
         Op::Greater => Ok(compared_as(Binary::Greater, left, right)?),
         Op::LessOrEqual => Ok(compared_as(Binary::LessOrEqual, left, right)?),
@@ -57,7 +58,8 @@ fn of_two(alloc: Global, op: Op, left: &Scalar, right: &Scalar) -> Result<Scalar
         Op::Equal => Ok(compared_as(Binary::Equal, left, right)?),
         Op::NotEqual => Ok(compared_as(Binary::NotEqual, left, right)?),
         Op::StartsWith | Op::EndsWith | Op::Contains => {
-            Ok(Scalar::Bool(searched(op, left, right)?))
+            let found = searched(op, ScalarRef::of(left), ScalarRef::of(right))?;
+            Ok(Scalar::Bool(found))
         }
         Op::Not | Op::Minus | Op::HasValue | Op::Value | Op::Length => {
             Err(ScalarError::Fault(Fault::NullReference))
@@ -87,28 +89,6 @@ fn truth_of(operand: &Scalar) -> Result<bool, Fault>
 {
     match operand {
         Scalar::Bool(truth) => Ok(*truth),
-        _ => Err(Fault::NullReference),
-    }
-}
-
-/// Whether an `int?` has a value.
-fn has_value(operand: &Scalar) -> Result<bool, Fault>
-    ensures { result ≡ has_value fault.NullReference operand.now }
-{
-    match operand {
-        Scalar::Int(_) => Ok(true),
-        Scalar::Null => Ok(false),
-        _ => Err(Fault::NullReference),
-    }
-}
-
-/// The value of an `int?`.
-fn value_of(operand: &Scalar) -> Result<Scalar, Fault>
-    ensures { result ≡ value_of fault.NullReference operand.now }
-{
-    match operand {
-        Scalar::Int(number) => Ok(Scalar::Int(*number)),
-        Scalar::Null => Err(Fault::InvalidOperation),
         _ => Err(Fault::NullReference),
     }
 }

@@ -1,49 +1,61 @@
 //! Texts: joined, measured and searched by their bytes (ECMA-334, string concatenation; .NET,
 //! `String`).
-ghost use Rattle.std.specs.Prelude.{◌≡◌, ◌++◌, IfOk};
+ghost use Rattle.std.specs.Prelude.{◌≡◌};
 ghost use Rattle.std.specs.Str.{chars};
 ghost use Rattle.lq_value.specs.declared.value.Fault.TheVariants as fault;
 ghost use Rattle.lq_model.specs.Operations.{found, joined, length_of, searched, utf16_units};
-ghost use Rattle.lq_scalar.specs.Operands.{IsAnswer, units_within};
+ghost use Rattle.lq_scalar.specs.Operands.{IsText, ints_in, shown_scalar, units_within};
 
 use crate::arithmetic::int_or_overflow;
 use crate::error::ScalarError;
+use crate::scalar_ref::ScalarRef;
 use lq_model::Op;
-use lq_value::{Fault, Scalar, Txt};
+use lq_value::{Fault, Txt};
 use std::alloc::{AllocError, Global};
 
-/// Two texts, one behind the other; null is taken as empty.
-pub(crate) fn joined(alloc: Global, left: &Scalar, right: &Scalar) -> Result<Scalar, ScalarError>
-    ensures { IsAnswer (joined fault.NullReference left.now right.now) result }
-{
-    let text = match (left, right) {
-        (Scalar::Text(left), Scalar::Text(right)) => {
-            concatenated(alloc, left.as_str(), right.as_str())?
-        }
-        (Scalar::Text(text), Scalar::Null) | (Scalar::Null, Scalar::Text(text)) => {
-            Txt::from_str(alloc, text.as_str())?
-        }
-        (Scalar::Null, Scalar::Null) => Txt::from_str(alloc, "")?,
-        _ => return Err(ScalarError::Fault(Fault::NullReference)),
-    };
-    Ok(Scalar::Text(text))
+/// What makes the texts of an evaluation.
+pub(crate) trait Joins: Copy {
+    ghost use Rattle.std.specs.Prelude.{◌≡◌, ◌++◌, IfOk};
+
+    /// One text behind the other.
+    fn concatenated(self, left: &str, right: &str) -> Result<Txt, AllocError>
+        ensures { IfOk result (λ text. text ≡ left.now ++ right.now) };
 }
 
-fn concatenated(alloc: Global, left: &str, right: &str) -> Result<Txt, AllocError>
-    ensures { IfOk result (λ text. text ≡ left.now ++ right.now) }
+impl Joins for Global {
+    fn concatenated(self, left: &str, right: &str) -> Result<Txt, AllocError> {
+        let mut text = String::from_str(self, left)?;
+        text.push_str(right)?;
+        Ok(Txt::from_string(text))
+    }
+}
+
+/// Two texts, one behind the other; null is taken as empty.
+pub(crate) fn joined<T: Joins>(
+    texts: T,
+    left: ScalarRef<'_>,
+    right: ScalarRef<'_>,
+) -> Result<Txt, ScalarError>
+    ensures { IsText (joined fault.NullReference (shown_scalar left.entry) (shown_scalar right.entry)) result }
 {
-    let mut text = String::from_str(alloc, left)?;
-    text.push_str(right)?;
-    Ok(Txt::from_string(text))
+    match (left, right) {
+        (ScalarRef::Text(left), ScalarRef::Text(right)) => {
+            Ok(texts.concatenated(left.as_str(), right.as_str())?)
+        }
+        (ScalarRef::Text(text), ScalarRef::Null) => Ok(texts.concatenated(text.as_str(), "")?),
+        (ScalarRef::Null, ScalarRef::Text(text)) => Ok(texts.concatenated("", text.as_str())?),
+        (ScalarRef::Null, ScalarRef::Null) => Ok(texts.concatenated("", "")?),
+        _ => Err(ScalarError::Fault(Fault::NullReference)),
+    }
 }
 
 /// The length of a text in UTF-16 units.
-pub(crate) fn length_of(operand: &Scalar) -> Result<Scalar, Fault>
-    ensures { result ≡ length_of fault.NullReference operand.now }
+pub(crate) fn length_of(operand: ScalarRef<'_>) -> Result<i32, Fault>
+    ensures { ints_in result ≡ length_of fault.NullReference (shown_scalar operand.entry) }
 {
     match operand {
-        Scalar::Text(text) => Ok(Scalar::Int(int_or_overflow(utf16_units(text.as_str()))?)),
-        Scalar::Null | Scalar::Int(_) | Scalar::Bool(_) => Err(Fault::NullReference),
+        ScalarRef::Text(text) => int_or_overflow(utf16_units(text.as_str())),
+        ScalarRef::Null | ScalarRef::Int(_) | ScalarRef::Bool(_) => Err(Fault::NullReference),
     }
 }
 
@@ -62,10 +74,14 @@ fn utf16_units(text: &str) -> Option<i32>
 }
 
 /// Whether a text has another in it. A null text or argument faults.
-pub(crate) fn searched(op: Op, text: &Scalar, needle: &Scalar) -> Result<bool, Fault>
-    ensures { result ≡ searched fault.NullReference op text.now needle.now }
+pub(crate) fn searched(
+    op: Op,
+    text: ScalarRef<'_>,
+    needle: ScalarRef<'_>,
+) -> Result<bool, Fault>
+    ensures { result ≡ searched fault.NullReference op (shown_scalar text.entry) (shown_scalar needle.entry) }
 {
-    let (Scalar::Text(text), Scalar::Text(needle)) = (text, needle) else {
+    let (ScalarRef::Text(text), ScalarRef::Text(needle)) = (text, needle) else {
         return Err(Fault::NullReference);
     };
     found(op, text.as_str(), needle.as_str())
