@@ -1,6 +1,7 @@
 //! Which rules of row policies can't fault, by their form.
 ghost use Rattle.std.specs.Prelude.{◌≡◌, ◌&&◌, if◌then◌else◌, false};
-ghost use Rattle.lq_model.specs.Totality.{is_division, is_divisor, is_natural, is_row, is_search, is_sure, is_total};
+ghost use Rattle.lq_model.specs.Members.{is_search};
+ghost use Rattle.lq_model.specs.Totality.{is_division, is_divisor, is_natural, is_row, is_sure, is_total};
 ghost use Rattle.lq_model.specs.Typing.{is_comparison};
 ghost use Rattle.lq_model.specs.declared.syntax.Expr.{out-Expr};
 ghost use Rattle.lq_model.specs.declared.syntax.Expr.TheVariants as expr;
@@ -141,7 +142,7 @@ fn is_division(operator: Binary) -> bool
 }
 
 /// Whether the method looks for a text in another.
-fn is_search(method: &str) -> bool
+pub(crate) fn is_search(method: &str) -> bool
     ensures { result ≡ is_search method.now }
 {
     method == "StartsWith" || method == "EndsWith" || method == "Contains"
