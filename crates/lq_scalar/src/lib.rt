@@ -12,6 +12,7 @@ mod scalar_ref;
 mod signs;
 mod texts;
 mod totality;
+mod types;
 
 pub use comparison::{compared, is_comparison};
 pub use error::ScalarError;
@@ -21,3 +22,4 @@ pub use operations::apply;
 pub use scalar_ref::ScalarRef;
 pub use signs::{negate, operate};
 pub use totality::is_total;
+pub use types::type_of;

@@ -1,7 +1,7 @@
 //! What the names of an expression stand for, and the types of what it holds.
 ghost use Rattle.std.specs.Prelude.{◌≡◌};
-ghost use Rattle.lq_model.specs.Typing.{type_of_column};
-ghost use Rattle.lq_scalar.specs.Named.{shown_type};
+ghost use Rattle.lq_model.specs.Typing.{is_scalar, type_of_column};
+ghost use Rattle.lq_scalar.specs.Named.{layer_of, shown_type};
 
 use lq_value::{ColumnType, Scalar};
 
@@ -36,6 +36,16 @@ impl ExprType {
             ColumnType::Str => ExprType::Str,
         }
     }
+
+    /// Whether a cell may hold values of the type.
+    pub fn is_scalar(self) -> bool
+        ensures { result ≡ is_scalar (layer_of self) }
+    {
+        matches!(
+            self,
+            ExprType::Int | ExprType::IntN | ExprType::Bool | ExprType::Str
+        )
+    }
 }
 
 /// What a name stands for where an expression is evaluated.
@@ -67,10 +77,8 @@ pub trait Names {
 
     /// The type of a name: that of the local name, else of the table.
     fn name_type(&self, name: &str) -> Option<ExprType>
-        ensures {
-            option_map shown_type result
-            ≡ name_type (names_at (world self.now) (scope self.now)) name.now (local_type name.now (names_at (world self.now) (scope self.now)).locals)
-        };
+        ensures { option_map shown_type result
+            ≡ name_type (names_at (world self.now) (scope self.now)) name.now (local_type name.now (names_at (world self.now) (scope self.now)).locals) };
 
     /// The type of a column of the table with this number.
     fn column_type(&self, table: u16, column: &str) -> Option<ExprType>

@@ -142,7 +142,7 @@ fn is_division(operator: Binary) -> bool
 }
 
 /// Whether the method looks for a text in another.
-fn is_search(method: &str) -> bool
+pub(crate) fn is_search(method: &str) -> bool
     ensures { result ≡ is_search method.now }
 {
     method == "StartsWith" || method == "EndsWith" || method == "Contains"
