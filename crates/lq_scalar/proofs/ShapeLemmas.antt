@@ -24,8 +24,10 @@ use Rattle.lq_model.specs.declared.syntax.Node.TheVariants as node
 use Rattle.lq_model.specs.declared.syntax.Query.{Query}
 use Rattle.lq_model.specs.declared.syntax.Unary.TheVariants as unary
 use Rattle.lq_model.proofs.Opens.{argument_meaning, meaning_binary, meaning_both, meaning_choice, meaning_coalesce, meaning_either, meaning_host, meaning_integer, meaning_member, meaning_method, meaning_minus, meaning_name, meaning_not, meaning_null, meaning_query, meaning_record, meaning_text, meaning_truth}
+use Rattle.lq_scalar.specs.declared.operand.Operand.{Operand}
+use Rattle.lq_scalar.specs.declared.operand.Operand.TheVariants as operand
 use Rattle.lq_scalar.specs.Named.{Shape, TheRow, TheScalar, cell_in, shape_at, shape_in}
-use Rattle.lq_scalar.specs.Shapes.{cell_shape, faulting, member_of_null, member_shape, named_member, operated_scalars, same_shapes, scalar_in, scalar_shape, shape_of, told_shapes, truth_in, truth_shape}
+use Rattle.lq_scalar.specs.Shapes.{faulting, member_of_null, member_shape, named_member, operand_part, operand_scalar, operated_scalars, same_parts, scalar_part, shown_operand, scalar_in, scalar_or_fault, scalar_shape, shape_of, told_shapes, truth_in, truth_shape}
 
 -- the row or scalar that a value is, or the fault in its place
 abbrev pub viewed : {R : Type 0} → Result (Value R) Fault → Result (Shape R) Fault
@@ -96,7 +98,7 @@ module _ {R : Type 0} (world : World R) where
   name_viewed x (Some b) = refl
   name_viewed x None = table_viewed (option_and_then (λ number. slice_get world.rows number) (table_number x world.schemas))
 
-  cell_viewed : (o : Option Scalar) → viewed (cell_value (faulting world) o) ≡ cell_shape o
+  cell_viewed : (o : Option Scalar) → viewed (cell_value (faulting world) o) ≡ scalar_shape (scalar_or_fault o)
   cell_viewed (Some s) = viewed_scalar s
   cell_viewed None = refl
 
@@ -118,18 +120,18 @@ module _ {R : Type 0} (world : World R) where
   told_viewed sign (Ok same) = viewed_scalar (scalar.Bool (told sign same))
   told_viewed sign (Err f) = refl
 
-  same_viewed : (sign : Binary) (v w : Value-F R (Value R)) (x y : Shape R) → same_values (faulting world) v w ≡ same_shapes x y
+  same_viewed : (sign : Binary) (v w : Value-F R (Value R)) (x y : Shape R) → same_values (faulting world) v w ≡ same_parts (scalar_part x) (scalar_part y)
       → viewed (on_ok (same_values (faulting world) v w) (λ same. Ok (truth_value (told sign same)))) ≡ truth_shape (told_shapes sign x y)
   same_viewed sign v w x y h =
       told_viewed sign (same_values (faulting world) v w) ∙ ap (λ (o : Result Bool Fault). truth_shape (on_ok o (λ same. Ok (told sign same)))) h
 
-  scalar_and_row : (s : Scalar) (r : R) → same_values (faulting world) (Value-F.Scalar s) (Value-F.Row r) ≡ same_shapes (TheScalar s) (TheRow (Some r))
+  scalar_and_row : (s : Scalar) (r : R) → same_values (faulting world) (Value-F.Scalar s) (Value-F.Row r) ≡ same_parts (Some s) None
   scalar_and_row scalar.Null r = refl
   scalar_and_row (scalar.Int n) r = refl
   scalar_and_row (scalar.Bool b) r = refl
   scalar_and_row (scalar.Text t) r = refl
 
-  row_and_scalar : (r : R) (s : Scalar) → same_values (faulting world) (Value-F.Row r) (Value-F.Scalar s) ≡ same_shapes (TheRow (Some r)) (TheScalar s)
+  row_and_scalar : (r : R) (s : Scalar) → same_values (faulting world) (Value-F.Row r) (Value-F.Scalar s) ≡ same_parts None (Some s)
   row_and_scalar r scalar.Null = refl
   row_and_scalar r (scalar.Int n) = refl
   row_and_scalar r (scalar.Bool b) = refl
@@ -275,5 +277,17 @@ module _ {R : Type 0} (world : World R) (scope : Scope R) where
   unfolding shape_of
   shape_query q = ap viewed (meaning_query (faulting world) q scope) ∙ ap shape_in (outs-Seq _ _)
 
+-- ---- how operands are read
+
+pub part_shown : {R : Type 0} (scope : Scope R) (found : Operand) → scalar_part (shown_operand scope found) ≡ operand_part found
+part_shown scope (operand.Row x) = refl
+part_shown scope (operand.Scalar s) = refl
+part_shown scope (operand.Made t) = refl
+
+pub scalar_shown : {R : Type 0} (scope : Scope R) (found : Operand) → scalar_in (shown_operand scope found) ≡ operand_scalar found
+scalar_shown scope (operand.Row x) = refl
+scalar_shown scope (operand.Scalar s) = refl
+scalar_shown scope (operand.Made t) = refl
+
 -- the equations, and how operands are read
-pub ruleset shapes = (shape_integer, shape_text, shape_truth, shape_null, shape_name, shape_member, shape_method, shape_binary, shape_minus, shape_not, shape_both, shape_either, shape_coalesce, shape_choice, shape_host, shape_record, shape_query)
+pub ruleset shapes = (shape_integer, shape_text, shape_truth, shape_null, shape_name, shape_member, shape_method, shape_binary, shape_minus, shape_not, shape_both, shape_either, shape_coalesce, shape_choice, shape_host, shape_record, shape_query, part_shown, scalar_shown)

@@ -39,9 +39,10 @@ scalar_shape found = on_ok found (λ s. Ok (TheScalar s))
 abbrev pub truth_shape : {R : Type 0} → Result Bool Fault → Result (Shape R) Fault
 truth_shape found = on_ok found (λ b. Ok (TheScalar (scalar.Bool b)))
 
-abbrev pub cell_shape : {R : Type 0} → Option Scalar → Result (Shape R) Fault
-cell_shape (Some s) = Ok (TheScalar s)
-cell_shape None = Err fault.NullReference
+-- a scalar that is there
+abbrev pub scalar_or_fault : Option Scalar → Result Scalar Fault
+scalar_or_fault (Some s) = Ok s
+scalar_or_fault None = Err fault.NullReference
 
 -- the member of this name of a scalar
 abbrev pub named_member : List ℕ → Scalar → Result Scalar Fault
@@ -56,19 +57,27 @@ member_of_scalar t m scalar.Null = member_of_null t m
 member_of_scalar t m s = named_member m s
 
 abbrev pub member_shape : {R : Type 0} → World R → Option Ty → List ℕ → Shape R → Result (Shape R) Fault
-member_shape world t m (TheRow r) = cell_shape (cell_in world m r)
+member_shape world t m (TheRow r) = scalar_shape (scalar_or_fault (cell_in world m r))
 member_shape world t m (TheScalar s) = scalar_shape (member_of_scalar t m s)
 
--- whether two are the same
-abbrev pub same_shapes : {R : Type 0} → Shape R → Shape R → Result Bool Fault
-same_shapes (TheScalar s) (TheScalar t) = same_content fault.NullReference s t
-same_shapes (TheScalar scalar.Null) (TheRow r) = Ok false
-same_shapes (TheRow r) (TheScalar scalar.Null) = Ok false
-same_shapes v w = Err fault.NullReference
+-- the scalar that a shape is, if it isn't a row
+abbrev pub scalar_part : {R : Type 0} → Shape R → Option Scalar
+scalar_part (TheScalar s) = Some s
+scalar_part (TheRow r) = None
+
+-- whether two are the same: scalars by their contents, and a row isn't null
+abbrev pub same_parts : Option Scalar → Option Scalar → Result Bool Fault
+same_parts (Some s) (Some t) = same_content fault.NullReference s t
+same_parts (Some scalar.Null) None = Ok false
+same_parts None (Some scalar.Null) = Ok false
+same_parts v w = Err fault.NullReference
+
+abbrev pub told_parts : Binary → Option Scalar → Option Scalar → Result Bool Fault
+told_parts sign v w = on_ok (same_parts v w) (λ same. Ok (told sign same))
 
 -- what `==` or `!=` tells of two
 abbrev pub told_shapes : {R : Type 0} → Binary → Shape R → Shape R → Result Bool Fault
-told_shapes sign v w = on_ok (same_shapes v w) (λ same. Ok (told sign same))
+told_shapes sign v w = told_parts sign (scalar_part v) (scalar_part w)
 
 -- an operator that evaluates two scalars, which stand where expressions of these types do
 abbrev pub operated_scalars : Binary → Option Ty → Option Ty → Scalar → Scalar → Result Scalar Fault
@@ -107,8 +116,16 @@ IsTruth meant (Ok b) = meant ≡ Ok b
 IsTruth meant (Err (error.Fault f)) = meant ≡ Err f
 IsTruth meant (Err error.Memory) = Unit {0}
 
--- the scalar that an operand is
+-- an operand that is no fault
+abbrev pub shown_operands : {R : Type 0} → Scope R → Result Operand Fault → Result (Shape R) Fault
+shown_operands scope (Ok found) = Ok (shown_operand scope found)
+shown_operands scope (Err f) = Err f
+
+-- the scalar that an operand is, if it isn't a row
+abbrev pub operand_part : Operand → Option Scalar
+operand_part (operand.Row x) = None
+operand_part (operand.Scalar s) = Some (shown_scalar s)
+operand_part (operand.Made t) = Some (scalar.Text t)
+
 abbrev pub operand_scalar : Operand → Result Scalar Fault
-operand_scalar (operand.Row x) = Err fault.NullReference
-operand_scalar (operand.Scalar s) = Ok (shown_scalar s)
-operand_scalar (operand.Made t) = Ok (scalar.Text t)
+operand_scalar found = scalar_or_fault (operand_part found)

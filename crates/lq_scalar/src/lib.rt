@@ -4,6 +4,7 @@
 mod arithmetic;
 mod comparison;
 mod error;
+mod evaluation;
 mod members;
 mod names;
 mod operand;

@@ -1,6 +1,4 @@
 //! Operands as they are evaluated: rows by their names, and scalars, borrowed where they stand.
-ghost use Rattle.lq_scalar.specs.Operands.{shown_scalar};
-
 use crate::scalar_ref::ScalarRef;
 use lq_value::{Fault, Txt};
 
@@ -16,24 +14,33 @@ pub(crate) enum Operand<'a> {
 }
 
 impl Operand<'_> {
-    ghost use Rattle.std.specs.Prelude.{◌≡◌};
+    ghost use Rattle.std.specs.Prelude.{◌≡◌, option_map, Ok};
+    ghost use Rattle.lq_model.specs.Meaning.{is_null};
     ghost use Rattle.lq_model.specs.Operations.{on_ok, truth_of};
     ghost use Rattle.lq_value.specs.declared.value.Fault.TheVariants as fault;
-    ghost use Rattle.lq_scalar.specs.Operands.{shown_scalars};
-    ghost use Rattle.lq_scalar.specs.Shapes.{operand_scalar};
+    ghost use Rattle.lq_scalar.specs.Operands.{shown_scalar, shown_scalars};
+    ghost use Rattle.lq_scalar.specs.Shapes.{operand_part, operand_scalar};
 
-    /// The scalar that it is; a row is none.
-    pub(crate) fn scalar(&self) -> Result<ScalarRef<'_>, Fault>
-        ensures { shown_scalars result ≡ operand_scalar self.now }
+    /// The scalar that it is, if it isn't a row.
+    pub(crate) fn part(&self) -> Option<ScalarRef<'_>>
+        ensures { option_map shown_scalar result ≡ operand_part self.now }
     {
         match self {
-            Operand::Row(_) => Err(Fault::NullReference),
-            Operand::Scalar(scalar) => Ok(*scalar),
-            Operand::Made(text) => Ok(ScalarRef::Text(text)),
+            Operand::Row(_) => None,
+            Operand::Scalar(scalar) => Some(*scalar),
+            Operand::Made(text) => Some(ScalarRef::Text(text)),
         }
     }
 
-    /// The truth value that it is; nothing else is a condition.
+    /// The scalar that it is. A row is none, and no typed expression has one where a scalar is asked
+    /// for.
+    pub(crate) fn scalar(&self) -> Result<ScalarRef<'_>, Fault>
+        ensures { shown_scalars result ≡ operand_scalar self.now }
+    {
+        self.part().ok_or(Fault::NullReference)
+    }
+
+    /// The truth value that it is.
     pub(crate) fn truth(&self) -> Result<bool, Fault>
         ensures { result ≡ on_ok (operand_scalar self.now) (truth_of fault.NullReference) }
     {
@@ -41,5 +48,12 @@ impl Operand<'_> {
             Operand::Scalar(ScalarRef::Bool(truth)) => Ok(*truth),
             _ => Err(Fault::NullReference),
         }
+    }
+
+    /// Whether it is null. A row is none.
+    pub(crate) fn is_null(&self) -> Result<bool, Fault>
+        ensures { result ≡ on_ok (operand_scalar self.now) (λ s. Ok (is_null s)) }
+    {
+        Ok(matches!(self.scalar()?, ScalarRef::Null))
     }
 }

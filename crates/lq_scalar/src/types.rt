@@ -1,6 +1,6 @@
 //! The types of expressions over names.
 ghost use Rattle.std.specs.Prelude.{◌≡◌, ◌&&◌, option_map};
-ghost use Rattle.lq_model.specs.Meaning.{names_at};
+ghost use Rattle.lq_model.specs.Meaning.{is_row_type, names_at};
 ghost use Rattle.lq_model.specs.Typing.{are_comparable, are_joined, chosen, coalesced, if_number, is_bool_type, is_number, is_ordering, is_text_type, joined_type, member_type, number_type, operated_type, truth_type, type_of};
 ghost use Rattle.lq_model.specs.declared.syntax.Expr.TheVariants as expr;
 ghost use Rattle.lq_scalar.specs.Named.{layer_of, shown_type};
@@ -27,10 +27,18 @@ fn is_bool(found: Option<ExprType>) -> bool
 
 /// Whether there is a type, and it is `string`.
 #[tactic(auto, using(crate::proofs::TypeLemmas::layer_known))]
-fn is_text(found: Option<ExprType>) -> bool
+pub(crate) fn is_text(found: Option<ExprType>) -> bool
     ensures { result ≡ is_text_type (option_map shown_type found) }
 {
     matches!(found, Some(ExprType::Str))
+}
+
+/// Whether there is a type, and it is that of a row.
+#[tactic(auto, using(crate::proofs::TypeLemmas::layer_known))]
+pub(crate) fn is_row(found: Option<ExprType>) -> bool
+    ensures { result ≡ is_row_type (option_map shown_type found) }
+{
+    matches!(found, Some(ExprType::Row(_)))
 }
 
 /// The type of what operands that are truth values or texts give, where all of them are.

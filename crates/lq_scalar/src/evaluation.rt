@@ -1,0 +1,252 @@
+//! Evaluation of expressions to a row or a scalar, or to their first fault (ECMA-334, expressions).
+ghost use Rattle.std.specs.Prelude.{◌≡◌, option_map, true};
+ghost use Rattle.lq_model.specs.Typing.{is_equality};
+ghost use Rattle.lq_scalar.specs.Operands.{shown_scalar};
+ghost use Rattle.lq_scalar.specs.Shapes.{operated_scalars, told_parts};
+
+use crate::comparison::compared;
+use crate::error::ScalarError;
+use crate::members::{member_of, search};
+use crate::names::{Named, Names};
+use crate::operand::Operand;
+use crate::scalar_ref::ScalarRef;
+use crate::signs::{negate, operate};
+use crate::texts::{Joins, joined};
+use crate::types::{is_row, is_text, type_of};
+use lq_model::{Argument, Binary, Expr, Node, Unary};
+use lq_value::Fault;
+
+fn is_equality(sign: Binary) -> bool
+    ensures { result ≡ is_equality sign }
+{
+    matches!(sign, Binary::Equal | Binary::NotEqual)
+}
+
+/// What `==` or `!=` tells of two operands: scalars by their contents, and a row, None here, isn't
+/// null.
+fn told(
+    sign: Binary,
+    left: Option<ScalarRef<'_>>,
+    right: Option<ScalarRef<'_>>,
+) -> Result<bool, Fault>
+    requires { is_equality sign ≡ true }
+    ensures { result ≡ told_parts sign (option_map shown_scalar left.entry) (option_map shown_scalar right.entry) }
+{
+    match (left, right) {
+        (Some(left), Some(right)) => compared(sign, left, right),
+        (Some(ScalarRef::Null), None) | (None, Some(ScalarRef::Null)) => {
+            Ok(sign == Binary::NotEqual)
+        }
+        _ => Err(Fault::NullReference),
+    }
+}
+
+/// Where expressions are evaluated: what their names stand for, and what makes their texts.
+#[derive(Drop)]
+pub(crate) struct Evaluation<'a, N, T> {
+    pub(crate) names: &'a N,
+    pub(crate) texts: T,
+}
+
+impl<'a, N: Names, T: Joins> Evaluation<'a, N, T> {
+    ghost use Rattle.std.specs.Prelude.{◌≡◌, Err};
+    ghost use Rattle.lq_value.specs.declared.value.Fault.TheVariants as fault;
+    ghost use Rattle.lq_model.specs.Meaning.{binding_of, names_at};
+    ghost use Rattle.lq_model.specs.Operations.{negated, on_ok};
+    ghost use Rattle.lq_model.specs.Typing.{is_text_type, type_of};
+    ghost use Rattle.lq_model.specs.declared.syntax.Expr.TheVariants as expr;
+    ghost use Rattle.lq_model.specs.declared.syntax.Node.TheVariants as node;
+    ghost use Rattle.lq_model.specs.declared.syntax.Binary.TheVariants as binary;
+    ghost use Rattle.lq_value.specs.declared.scalar.Scalar.TheVariants as scalar;
+    ghost use Rattle.lq_scalar.specs.Named.{cell_in, row_at, shape_at};
+    ghost use Rattle.lq_scalar.specs.Operands.{IsAnswer, shown_scalar, shown_scalars};
+    ghost use Rattle.lq_scalar.specs.Shapes.{IsOperand, scalar_or_fault, member_of_null, member_shape, operated_scalars, scalar_shape, scalar_in, shape_of, shown_operand, shown_operands};
+
+    /// What a name stands for.
+    fn named(&self, name: &'a str) -> Result<Operand<'a>, Fault>
+        ensures { shown_operands (N.scope self.now.names.now) result ≡ shape_at (binding_of name.now (N.scope self.now.names.now)) }
+    {
+        match self.names.named(name) {
+            Some(Named::Row) => Ok(Operand::Row(name)),
+            Some(Named::Scalar(scalar)) => Ok(Operand::Scalar(ScalarRef::of(scalar))),
+            None => Err(Fault::NullReference),
+        }
+    }
+
+    /// The column of the row that a name stands for.
+    fn cell(&self, row: &str, column: &str) -> Result<ScalarRef<'a>, Fault>
+        ensures { shown_scalars result ≡ scalar_or_fault (cell_in (N.world self.now.names.now) column.now (row_at (binding_of row.now (N.scope self.now.names.now)))) }
+    {
+        match self.names.cell(row, column) {
+            Some(cell) => Ok(ScalarRef::of(cell)),
+            None => Err(Fault::NullReference),
+        }
+    }
+
+    /// A member of null, by the type of what is null: a row has none.
+    fn member_of_null(&self, operand: &Expr, member: &str) -> Result<ScalarRef<'a>, Fault>
+        ensures { shown_scalars result ≡ member_of_null (type_of operand.now (names_at (N.world self.now.names.now) (N.scope self.now.names.now))) member.now }
+    {
+        if is_row(type_of(self.names, operand)) {
+            return Err(Fault::NullReference);
+        }
+        member_of(ScalarRef::Null, member)
+    }
+
+    /// A member of what an operand was evaluated to.
+    fn member(&self, operand: &Expr, value: &Operand<'_>, member: &str) -> Result<Operand<'a>, Fault>
+        ensures {
+            shown_operands (N.scope self.now.names.now) result
+            ≡ member_shape (N.world self.now.names.now) (type_of operand.now (names_at (N.world self.now.names.now) (N.scope self.now.names.now))) member.now
+              (shown_operand (N.scope self.now.names.now) value.now)
+        }
+    {
+        match value {
+            Operand::Row(row) => Ok(Operand::Scalar(self.cell(row, member)?)),
+            Operand::Scalar(ScalarRef::Null) => {
+                Ok(Operand::Scalar(self.member_of_null(operand, member)?))
+            }
+            Operand::Scalar(scalar) => Ok(Operand::Scalar(member_of(*scalar, member)?)),
+            Operand::Made(text) => Ok(Operand::Scalar(member_of(ScalarRef::Text(text), member)?)),
+        }
+    }
+
+    /// Whether the expression has the type of texts.
+    fn is_text(&self, expression: &Expr) -> bool
+        ensures { result ≡ is_text_type (type_of expression.now (names_at (N.world self.now.names.now) (N.scope self.now.names.now))) }
+    {
+        is_text(type_of(self.names, expression))
+    }
+
+    /// The sum of two nulls: the empty text where one has the type of texts, and else null.
+    fn sum_of_nulls(&self, left: &Expr, right: &Expr) -> Result<Operand<'a>, ScalarError>
+        ensures {
+            IsOperand (N.scope self.now.names.now)
+            (scalar_shape (operated_scalars binary.Add (type_of left.now (names_at (N.world self.now.names.now) (N.scope self.now.names.now)))
+            (type_of right.now (names_at (N.world self.now.names.now) (N.scope self.now.names.now))) scalar.Null scalar.Null)) result
+        }
+    {
+        if self.is_text(left) || self.is_text(right) {
+            Ok(Operand::Made(joined(self.texts, ScalarRef::Null, ScalarRef::Null)?))
+        } else {
+            Ok(Operand::Scalar(ScalarRef::Null))
+        }
+    }
+
+    /// What a sign other than `==` and `!=` gives to two scalars: `+` joins texts.
+    fn operated(
+        &self,
+        sign: Binary,
+        left: &Expr,
+        right: &Expr,
+        x: ScalarRef<'_>,
+        y: ScalarRef<'_>,
+    ) -> Result<Operand<'a>, ScalarError>
+        ensures {
+            IsOperand (N.scope self.now.names.now)
+            (scalar_shape (operated_scalars sign (type_of left.now (names_at (N.world self.now.names.now) (N.scope self.now.names.now)))
+            (type_of right.now (names_at (N.world self.now.names.now) (N.scope self.now.names.now))) (shown_scalar x.entry) (shown_scalar y.entry))) result
+        }
+    {
+        match (sign, x, y) {
+            (Binary::Add, ScalarRef::Text(_), _) | (Binary::Add, _, ScalarRef::Text(_)) => {
+                Ok(Operand::Made(joined(self.texts, x, y)?))
+            }
+            (Binary::Add, ScalarRef::Null, ScalarRef::Null) => self.sum_of_nulls(left, right),
+            _ => Ok(Operand::Scalar(operate(sign, x, y)?)),
+        }
+    }
+
+    /// What the expression is, or its first fault.
+    #[cycle(operands)]
+    #[tactic(auto, using(crate::proofs::ShapeLemmas::shapes))]
+    pub(crate) fn operand(&self, expression: &'a Expr) -> Result<Operand<'a>, ScalarError>
+        ensures { IsOperand (N.scope self.now.names.now) (shape_of (N.world self.now.names.now) (N.scope self.now.names.now) expression.now) result }
+    {
+        match expression {
+            Expr::Node(node) => self.node(node),
+            Expr::Query(_) => Err(ScalarError::Fault(Fault::NullReference)),
+        }
+    }
+
+    /// What the expression of this node is, or its first fault.
+    #[cycle(operands)]
+    #[tactic(auto, using(crate::proofs::ShapeLemmas::shapes))]
+    fn node(&self, node: &'a Node<Expr>) -> Result<Operand<'a>, ScalarError>
+        ensures { IsOperand (N.scope self.now.names.now) (shape_of (N.world self.now.names.now) (N.scope self.now.names.now) (expr.Node node.now)) result }
+    {
+        match node {
+            Node::Integer(number) => Ok(Operand::Scalar(ScalarRef::Int(*number))),
+            Node::Text(text) => Ok(Operand::Scalar(ScalarRef::Text(text))),
+            Node::Bool(truth) => Ok(Operand::Scalar(ScalarRef::Bool(*truth))),
+            Node::Null => Ok(Operand::Scalar(ScalarRef::Null)),
+            Node::Name(name) => Ok(self.named(name.as_str())?),
+            Node::Member(operand, member) => {
+                let value = self.operand(operand.get())?;
+                Ok(self.member(operand.get(), &value, member.as_str())?)
+            }
+            Node::Method(receiver, method, arguments) => match arguments.as_slice() {
+                [Argument::Value(argument)] => {
+                    let text = self.operand(receiver.get())?;
+                    let text = text.scalar()?;
+                    let needle = self.operand(argument)?;
+                    Ok(Operand::Scalar(search(method.as_str(), text, needle.scalar()?)?))
+                }
+                _ => self.without_argument(receiver.get()),
+            },
+            Node::Unary(Unary::Minus, operand) => {
+                let value = self.operand(operand.get())?;
+                Ok(Operand::Scalar(negate(value.scalar()?)?))
+            }
+            Node::Unary(Unary::Not, operand) => {
+                let value = self.operand(operand.get())?;
+                Ok(Operand::Scalar(ScalarRef::Bool(!value.truth()?)))
+            }
+            Node::Binary(sign, left, right) if is_equality(*sign) => {
+                let left = self.operand(left.get())?;
+                let right = self.operand(right.get())?;
+                Ok(Operand::Scalar(ScalarRef::Bool(told(*sign, left.part(), right.part())?)))
+            }
+            Node::Binary(sign, left, right) => {
+                let x = self.operand(left.get())?;
+                let x = x.scalar()?;
+                let y = self.operand(right.get())?;
+                self.operated(*sign, left.get(), right.get(), x, y.scalar()?)
+            }
+            Node::And(left, right) => match self.operand(left.get())?.truth()? {
+                true => self.operand(right.get()),
+                false => Ok(Operand::Scalar(ScalarRef::Bool(false))),
+            },
+            Node::Or(left, right) => match self.operand(left.get())?.truth()? {
+                true => Ok(Operand::Scalar(ScalarRef::Bool(true))),
+                false => self.operand(right.get()),
+            },
+            Node::Coalesce(left, right) => {
+                let value = self.operand(left.get())?;
+                match value.is_null()? {
+                    true => self.operand(right.get()),
+                    false => Ok(value),
+                }
+            }
+            Node::Conditional(condition, left, right) => {
+                match self.operand(condition.get())?.truth()? {
+                    true => self.operand(left.get()),
+                    false => self.operand(right.get()),
+                }
+            }
+            Node::Host(_, _) | Node::New(_) => Err(ScalarError::Fault(Fault::NullReference)),
+        }
+    }
+
+    /// What an expression whose operand isn't typed with it gives: the operand's fault, or that of
+    /// an expression without a meaning.
+    #[cycle(operands)]
+    #[tactic(auto, using(crate::proofs::ShapeLemmas::shapes))]
+    fn without_argument(&self, receiver: &'a Expr) -> Result<Operand<'a>, ScalarError>
+        ensures { IsOperand (N.scope self.now.names.now) (on_ok (on_ok (shape_of (N.world self.now.names.now) (N.scope self.now.names.now) receiver.now) scalar_in) (λ s. Err fault.NullReference)) result }
+    {
+        let value = self.operand(receiver)?;
+        value.scalar()?;
+        Err(ScalarError::Fault(Fault::NullReference))
+    }
+}
