@@ -6,7 +6,7 @@ use Rattle.lq_value.specs.declared.ty.Ty.TheVariants as ty
 use Rattle.lq_value.specs.declared.value.Fault.{Fault}
 use Rattle.lq_value.specs.declared.value.Value.{Value, out-Value}
 use Rattle.lq_value.specs.declared.value.Value.TheVariants as value
-use Rattle.lq_model.specs.Meaning.{Meaning, Meant, Scope, World, binding_of, is_null, meaning, meaning_step, member_value, name_value, names_at, as_value, on_scalar, on_truth, operated_meaning, operation_at, same_values, told, truth_value}
+use Rattle.lq_model.specs.Meaning.{Meaning, Meant, Scope, World, binding_of, compared_meaning, is_null, meaning, meaning_step, member_value, name_value, names_at, as_value, on_scalar, on_truth, operated_meaning, truth_value}
 use Rattle.lq_model.specs.Members.{is_search, search_named, sole_argument}
 use Rattle.lq_model.specs.Operations.{negated, of_search, on_ok}
 use Rattle.lq_model.specs.Typing.{Names, binary_type, choice_type, coalesced, if_number, is_bool_type, is_equality, is_text_type, local_type, member_type, name_type, of_operands, truth_type, type_of, type_step}
@@ -76,8 +76,8 @@ module _ {R : Type 0} (world : World R) where
 
   pub meaning_binary : (op : Binary) (a b : Expr) (scope : Scope R)
       → meaning world (expr.Node (node.Binary op a b)) scope
-      ≡ (if is_equality op then on_ok (meaning world a scope) (λ v. on_ok (meaning world b scope) (λ w. on_ok (same_values world (out-Value R v) (out-Value R w)) (λ same. Ok (truth_value (told op same)))))
-        else operated_meaning world (operation_at op (type_of a (names_at world scope)) (type_of b (names_at world scope))) (meaning world a scope) (meaning world b scope))
+      ≡ (if is_equality op then compared_meaning world op (meaning world a scope) (meaning world b scope)
+        else operated_meaning world op (type_of a (names_at world scope)) (type_of b (names_at world scope)) (meaning world a scope) (meaning world b scope))
   meaning_binary op a b scope = node_is (node.Binary op a b) scope
 
   pub meaning_coalesce : (a b : Expr) (scope : Scope R)

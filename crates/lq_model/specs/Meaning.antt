@@ -91,10 +91,12 @@ abbrev pub is_row_type : Option Ty → Bool
 is_row_type None = false
 is_row_type (Some t) = is_some (row_table (out-Ty t))
 
--- what a sign does between operands of these types: `+` joins texts
-abbrev pub operation_at : Binary → Option Ty → Option Ty → Op
-operation_at binary.Add s t = if is_text_type s || is_text_type t then op.Concat else op.Add
-operation_at sign s t = operation_of sign
+-- What a sign does between two scalars. `+` joins texts: where an operand is one, and of two nulls where one has the type of texts.
+abbrev pub operation_on : Binary → Option Ty → Option Ty → Scalar → Scalar → Op
+operation_on binary.Add s t (scalar.Text x) b = op.Concat
+operation_on binary.Add s t a (scalar.Text y) = op.Concat
+operation_on binary.Add s t scalar.Null scalar.Null = if is_text_type s || is_text_type t then op.Concat else op.Add
+operation_on sign s t a b = operation_of sign
 
 -- what `==` or `!=` tells of operands that are the same, or aren't
 abbrev pub told : Binary → Bool → Bool
@@ -131,7 +133,16 @@ module _ {R : Type 0} (world : World R) where
   member_value t m (Value-F.Scalar s) = as_value (of_member world.unknown (member_named m) s)
   member_value t m layer = Err world.unknown
 
-  -- whether two operands are the same: scalars by their contents, and a row isn't null
+  -- an operand that `==` compares: a scalar, or a row, which isn't null
+  abbrev pub comparand : Value-F R (Value R) → Result (Value-F R (Value R)) Fault
+  comparand (Value-F.Scalar s) = Ok (Value-F.Scalar s)
+  comparand (Value-F.Row r) = Ok (Value-F.Row r)
+  comparand layer = Err world.unknown
+
+  abbrev pub on_comparand : {B : Type 0} → Result (Value R) Fault → (Value-F R (Value R) → Result B Fault) → Result B Fault
+  on_comparand operand next = on_ok (on_ok operand (λ v. comparand (out-Value R v))) next
+
+  -- whether two operands are the same: scalars by their contents
   abbrev pub same_values : Value-F R (Value R) → Value-F R (Value R) → Result Bool Fault
   same_values (Value-F.Scalar s) (Value-F.Scalar t) = same_content world.unknown s t
   same_values (Value-F.Scalar scalar.Null) (Value-F.Row r) = Ok false
@@ -215,9 +226,13 @@ module _ {R : Type 0} (world : World R) where
   meaning_at scope None = Err world.unknown
   meaning_at scope (Some a) = a.1 scope
 
-  -- an operator that evaluates two scalars
-  abbrev pub operated_meaning : Op → Result (Value R) Fault → Result (Value R) Fault → Result (Value R) Fault
-  operated_meaning operation a b = on_scalar world a (λ s. on_scalar world b (λ t. as_value (of_two world.unknown operation s t)))
+  -- an operator that evaluates two scalars, which stand where expressions of these types do
+  abbrev pub operated_meaning : Binary → Option Ty → Option Ty → Result (Value R) Fault → Result (Value R) Fault → Result (Value R) Fault
+  operated_meaning sign t u a b = on_scalar world a (λ x. on_scalar world b (λ y. as_value (of_two world.unknown (operation_on sign t u x y) x y)))
+
+  -- `==` and `!=`
+  abbrev pub compared_meaning : Binary → Result (Value R) Fault → Result (Value R) Fault → Result (Value R) Fault
+  compared_meaning sign a b = on_comparand world a (λ v. on_comparand world b (λ w. on_ok (same_values world v w) (λ same. Ok (truth_value (told sign same)))))
 
   -- the meaning of a node, over the meanings of what it holds
   abbrev pub node_meaning : Node (Meant R) → Meaning R
@@ -229,8 +244,8 @@ module _ {R : Type 0} (world : World R) where
   node_meaning (node.Method a m arguments) scope =
       on_scalar world (a.1 scope) (λ s. on_scalar world (meaning_at scope (sole_argument arguments)) (λ t. as_value (of_search world.unknown (search_named m) s t)))
   node_meaning (node.Binary op a b) scope =
-      if is_equality op then on_ok (a.1 scope) (λ v. on_ok (b.1 scope) (λ w. on_ok (same_values world (out-Value R v) (out-Value R w)) (λ same. Ok (truth_value (told op same)))))
-      else operated_meaning (operation_at op (type_of a.0 (names_at world scope)) (type_of b.0 (names_at world scope))) (a.1 scope) (b.1 scope)
+      if is_equality op then compared_meaning op (a.1 scope) (b.1 scope)
+      else operated_meaning op (type_of a.0 (names_at world scope)) (type_of b.0 (names_at world scope)) (a.1 scope) (b.1 scope)
   node_meaning (node.Unary unary.Minus a) scope = on_scalar world (a.1 scope) (λ s. as_value (negated world.unknown s))
   node_meaning (node.Bool b) scope = Ok (truth_value b)
   node_meaning (node.Unary unary.Not a) scope = on_truth world (a.1 scope) (λ t. Ok (truth_value (not t)))
