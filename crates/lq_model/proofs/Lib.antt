@@ -7,6 +7,7 @@ pub mod Forwards
 pub mod LexingLemmas
 pub mod LiteralLemmas
 pub mod MeaningLemmas
+pub mod MemberLemmas
 pub mod Opens
 pub mod OperationLemmas
 pub mod OutputLemmas
@@ -24,6 +25,7 @@ pub mod ReadStatements
 pub mod ScriptLemmas
 pub mod SessionLemmas
 pub mod Soundness
+pub mod SourceTypes
 pub mod Trees
 pub mod TotalityLemmas
 pub mod TypingLemmas
