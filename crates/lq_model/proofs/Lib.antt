@@ -1,5 +1,6 @@
 pub mod Backwards
 pub mod Completeness
+pub mod EveryItem
 pub mod ExpressionSoundness
 pub mod FirstTokens
 pub mod Following
@@ -7,6 +8,7 @@ pub mod Forwards
 pub mod LexingLemmas
 pub mod LiteralLemmas
 pub mod MeaningLemmas
+pub mod MemberLemmas
 pub mod Opens
 pub mod OperationLemmas
 pub mod OutputLemmas
@@ -21,9 +23,12 @@ pub mod ReadParts
 pub mod ReadPrimaries
 pub mod ReadQueries
 pub mod ReadStatements
+pub mod ScalarResults
 pub mod ScriptLemmas
 pub mod SessionLemmas
 pub mod Soundness
+pub mod SourceTypes
 pub mod Trees
 pub mod TotalityLemmas
+pub mod TypedValues
 pub mod TypingLemmas

@@ -1,9 +1,7 @@
 -- What is typed means the same in two worlds that differ only in the fault that stands where there is no meaning.
-use Rattle.std.proofs.Common.{◌≡◌, ◌+◌, ◌∷◌, if◌then◌else◌, List, [], map, filter, ℕ, zero, suc, ℤ, Bool, true, false, not, Option, Some, None, Result, Ok, Err, ap, ap₂, ◌∙◌, arith, sym, refl, subst, slice_get, option_and_then, option_map, bytes_eq, int_lt, int_le, true≢false, add-zero, zero-add}
+use Rattle.std.proofs.Common.{◌≡◌, ◌+◌, ◌∷◌, if◌then◌else◌, List, [], map, filter, ℕ, zero, suc, ℤ, Bool, true, false, not, Option, Some, None, Result, Ok, Err, ap, ap₂, ◌∙◌, arith, sym, refl, subst, slice_get, codes, option_and_then, option_map, bytes_eq, add-zero, zero-add}
 use Rattle.std.proofs.lemmas.Option.{none-some, same_Some, slice_get-map}
-use Rattle.std.specs.Prelude.{pos, neg_ℤ, ◌+ℤ◌, ◌-ℤ◌, ◌*ℤ◌, int_div, int_rem}
-use Rattle.std.specs.List.{position_from}
-use Rattle.std.specs.Ordering.{int_eq}
+use Rattle.std.specs.Prelude.{is_some}
 use Rattle.lq_value.specs.Tables.{Table}
 use Rattle.lq_value.specs.declared.scalar.Scalar.{Scalar}
 use Rattle.lq_value.specs.declared.scalar.Scalar.TheVariants as scalar
@@ -14,26 +12,27 @@ use Rattle.lq_value.specs.declared.table.Schema.{Schema}
 use Rattle.lq_value.specs.declared.ty.Ty.{Ty, out-Ty}
 use Rattle.lq_value.specs.declared.ty.Ty.TheOpen.{Ty-F}
 use Rattle.lq_value.specs.declared.ty.Ty.TheVariants as ty
-use Rattle.lq_value.specs.declared.ty.Ty.TheVariants.{outs-Bool, outs-Int, outs-IntN, outs-Row, outs-Seq, outs-Str}
-use Rattle.lq_value.specs.declared.value.End.{End}
+use Rattle.lq_value.specs.declared.ty.Ty.TheVariants.{outs-Bool, outs-Int, outs-IntN, outs-Null, outs-Row, outs-Seq, outs-Str}
 use Rattle.lq_value.specs.declared.value.End.TheVariants as end
 use Rattle.lq_value.specs.declared.value.Fault.{Fault}
 use Rattle.lq_value.specs.declared.value.Fault.TheVariants as fault
 use Rattle.lq_value.specs.declared.value.Value.{Value, out-Value}
+use Rattle.lq_value.specs.declared.value.Value.TheOpen.{Value-F}
 use Rattle.lq_value.specs.declared.value.Value.TheVariants as value
 use Rattle.lq_value.specs.declared.value.Value.TheVariants.{outs-Row as outs-value-Row, outs-Scalar, outs-Seq as outs-value-Seq}
-use Rattle.lq_model.specs.Machine.{State, columns_in, run_reply, schemas_of, seen_by_role, served, world_by}
-use Rattle.lq_model.specs.Meaning.{Binding, Scope, World, binding_of, bound, bound_stream, cell_value, clause_meaning, clauses_meaning, condition_at, continued, item_type_at, items_of, last_meaning, meaning, member_value, name_value, names_at, as_value, on_scalar, or_null, query_meaning, scalar_of, source_scopes, stream_meaning, stream_of, table_value, truth_value, typed_locals}
-use Rattle.lq_model.specs.OperationLaws.{IsNumber}
-use Rattle.lq_model.specs.Operations.{arithmetic, checked, compared, computed, divided, is_int, left_over, negated, of_two, on_ok, operation_of, ordered_by, same_content, truth, truth_of}
-use Rattle.lq_model.specs.MeaningLaws.{Every, HasCells, HasMeaning, HasStream, HaveTypes, HoldsRows, SelectsScalars, IsOf, is_scalar as is_scalar_value, is_row, is_sequence, IsOfScope, IsScalarOf, IsTypedTable, ServesMeanings, assuming}
-use Rattle.lq_model.specs.Served.{stream_data}
-use Rattle.lq_model.specs.Stream.{Stream, each, kept, one, select_by, then_stream, where_by}
-use Rattle.lq_model.specs.Typing.{Names, Claim, TypeOf, Leads, LeadAll, Selects, GivesItems, IsTyped, of_integer, of_local, of_table, of_column, of_comparison, of_arithmetic, of_minus, of_choice, of_truth, of_not, of_both, of_either, by_where, by_none, by_first, by_select, by_query, HasType, column_named, column_type, chosen, is_comparison, number_type, is_number, is_scalar, item_of, item_type, local_type, row_table, table_number, type_of, type_of_column, with_local}
+use Rattle.lq_model.specs.Machine.{State, columns_in, run_reply, schemas_of, seen_by_role, served, served_value, value_reply, world_by}
+use Rattle.lq_model.specs.Meaning.{Scope, World, binding_of, bound, bound_stream, cell_value, clause_meaning, clauses_meaning, comparand, compared_meaning, condition_at, continued, is_null, item_type_at, items_of, last_meaning, meaning, member_value, name_value, names_at, null_member, operated_meaning, same_values, told, as_value, on_scalar, or_null, query_meaning, scalar_of, source_scopes, stream_meaning, stream_of, table_value, truth_value}
+use Rattle.lq_model.specs.Operations.{negated, of_member, of_one, on_ok, truth_of}
+use Rattle.lq_model.specs.Members.{IsSearch, member_named}
+use Rattle.lq_model.specs.MeaningLaws.{Every, HasCells, HasMeaning, HasStream, HaveTypes, HoldsRows, SelectsScalars, ServesValues, IsOf, is_scalar as is_scalar_value, is_row, is_sequence, IsOfScope, IsScalarOf, IsTypedTable, ServesMeanings, assuming}
+use Rattle.lq_model.specs.Served.{stream_data, value_data}
+use Rattle.lq_model.specs.Stream.{Stream, kept, one}
+use Rattle.lq_model.specs.Typing.{Names, Claim, TypeOf, Leads, LeadAll, Selects, GivesItems, IsTyped, of_integer, of_local, of_table, of_column, of_text, of_null, of_has_value, of_value, of_length, of_search, of_ordering, of_equality, of_arithmetic, of_joined, of_coalesced, of_minus, of_choice, of_truth, of_not, of_both, of_either, by_where, by_none, by_first, by_select, by_query, HasType, column_named, column_type, are_comparable, are_joined, chosen, coalesced, if_scalar, is_comparison, is_equality, is_ordering, number_type, is_number, is_scalar, item_of, item_type, local_type, row_table, table_number, type_of, type_of_column, with_local}
 use Rattle.lq_model.specs.Visible.{TableRow, cell_named, seen_from, seen_rows, tables_as_seen, visible_to}
 use Rattle.lq_model.specs.declared.operation.Op.{Op}
 use Rattle.lq_model.specs.declared.operation.Op.TheVariants as operation
 use Rattle.lq_model.specs.declared.policy.PolicyParts.{PolicyParts}
+use Rattle.lq_model.specs.declared.syntax.Argument.TheVariants as argument
 use Rattle.lq_model.specs.declared.syntax.Binary.{Binary}
 use Rattle.lq_model.specs.declared.syntax.Binary.TheVariants as binary
 use Rattle.lq_model.specs.declared.syntax.Clause.{Clause}
@@ -46,347 +45,11 @@ use Rattle.lq_model.specs.declared.syntax.Last.TheVariants as last
 use Rattle.lq_model.specs.declared.syntax.Node.TheVariants as node
 use Rattle.lq_model.specs.declared.syntax.Query.{Query}
 use Rattle.lq_model.specs.declared.syntax.Unary.TheVariants as unary
-use Rattle.lq_model.proofs.Opens.{meaning_binary, meaning_both, meaning_choice, meaning_either, meaning_integer, meaning_member, meaning_minus, meaning_name, meaning_not, meaning_truth}
-use Rattle.lq_model.proofs.TypingLemmas.{item_type_sound, type_complete}
-
--- ---- lists
-
-every_none : {A : Type 0} (P : A → Type 0) → Every P []
-every_none P k x h = absurd (none-some x h)
-
-every_more : {A : Type 0} (P : A → Type 0) (x : A) (xs : List A) → P x → Every P xs → Every P (x ∷ xs)
-every_more P x xs p ps zero y h = subst P (same_Some x y h) p
-every_more P x xs p ps (suc k) y h = ps k y h
-
-first_of : {A : Type 0} (P : A → Type 0) (x : A) (xs : List A) → Every P (x ∷ xs) → P x
-first_of P x xs ps = ps zero x refl
-
-others_of : {A : Type 0} (P : A → Type 0) (x : A) (xs : List A) → Every P (x ∷ xs) → Every P xs
-others_of P x xs ps k y h = ps (suc k) y h
-
-every_map : {A B : Type 0} (P : A → Type 0) (Q : B → Type 0) (f : A → B) → ((x : A) → P x → Q (f x)) → (xs : List A) → Every P xs → Every Q (map f xs)
-every_map P Q f g [] ps = every_none Q
-every_map P Q f g (x ∷ xs) ps = every_more Q (f x) (map f xs) (g x (first_of P x xs ps)) (every_map P Q f g xs (others_of P x xs ps))
-
-filtered : {A : Type 0} (P : A → Type 0) (x : A) (rest : List A) → P x → Every P rest → (b : Bool) → Every P (if b then x ∷ rest else rest)
-filtered P x rest p ps true = every_more P x rest p ps
-filtered P x rest p ps false = ps
-
-every_filter : {A : Type 0} (P : A → Type 0) (test : A → Bool) (xs : List A) → Every P xs → Every P (filter test xs)
-every_filter P test [] ps = every_none P
-every_filter P test (x ∷ xs) ps = filtered P x (filter test xs) (first_of P x xs ps) (every_filter P test xs (others_of P x xs ps)) (test x)
-
--- ---- streams
-
-each_same : {A B : Type 0} (P : A → Type 0) (h k : A → Stream B) → ((x : A) → P x → h x ≡ k x) → (xs : List A) (e : End) → Every P xs → each h xs e ≡ each k xs e
-each_same P h k same [] e ps = refl
-each_same P h k same (x ∷ xs) e ps = ap₂ then_stream (same x (first_of P x xs ps)) (each_same P h k same xs e (others_of P x xs ps))
-
-one_kept : {A : Type 0} (P : A → Type 0) (x : A) (rest : Stream A) → P x → Every P rest.0 → (o : Result Bool Fault) → Every P (then_stream (kept o x) rest).0
-one_kept P x rest p ps (Ok true) = every_more P x rest.0 p ps
-one_kept P x rest p ps (Ok false) = ps
-one_kept P x rest p ps (Err f) = every_none P
-
-every_kept : {A : Type 0} (P : A → Type 0) (c : A → Result Bool Fault) (xs : List A) (e : End) → Every P xs → Every P (where_by c xs e).0
-every_kept P c [] e ps = every_none P
-every_kept P c (x ∷ xs) e ps = one_kept P x (where_by c xs e) (first_of P x xs ps) (every_kept P c xs e (others_of P x xs ps)) (c x)
-
-one_selected : {A : Type 0} (Q : A → Type 0) (rest : Stream A) → Every Q rest.0 → (o : Result A Fault) → ((v : A) → o ≡ Ok v → Q v) → Every Q (then_stream (one o) rest).0
-one_selected Q rest qs (Ok v) q = every_more Q v rest.0 (q v refl) qs
-one_selected Q rest qs (Err f) q = every_none Q
-
-every_selected : {A B : Type 0} (P : A → Type 0) (Q : B → Type 0) (m : A → Result B Fault) → ((x : A) → P x → (v : B) → m x ≡ Ok v → Q v) → (xs : List A) (e : End)
-    → Every P xs → Every Q (select_by m xs e).0
-every_selected P Q m q [] e ps = every_none Q
-every_selected P Q m q (x ∷ xs) e ps =
-    one_selected Q (select_by m xs e) (every_selected P Q m q xs e (others_of P x xs ps)) (m x) (q x (first_of P x xs ps))
-
--- ---- what is found by its name
-
--- the thing at the number that was found
-abbrev ThereAt : {A : Type 0} → List A → ℕ → ℕ → Type 0
-ThereAt {A} xs start n = (k : ℕ) × (n ≡ start + k) × ((x : A) × (slice_get xs k ≡ Some x))
-
-later_there : {A : Type 0} (x : A) (xs : List A) (start n : ℕ) → ThereAt xs (start + 1) n → ThereAt (x ∷ xs) start n
-later_there x xs start n there = (suc there.0, omega (arith, there.1), there.2)
-
-there_by : {A : Type 0} (x : A) (xs : List A) (start n : ℕ) (later : Option ℕ) → (later ≡ Some n → ThereAt xs (start + 1) n) → (b : Bool) → (if b then Some start else later) ≡ Some n
-    → ThereAt (x ∷ xs) start n
-there_by x xs start n later rest true h = (zero, omega (arith, same_Some start n h), (x, refl))
-there_by x xs start n later rest false h = later_there x xs start n (rest h)
-
-there : {A : Type 0} (test : A → Bool) (xs : List A) (start n : ℕ) → position_from test start xs ≡ Some n → ThereAt xs start n
-there test [] start n h = absurd (none-some n h)
-there test (x ∷ xs) start n h = there_by x xs start n (position_from test (start + 1) xs) (there test xs (start + 1) n) (test x) h
-
--- a table that a name stands for is there
-table_there : (x : List ℕ) (schemas : List Schema) (n : ℕ) → table_number x schemas ≡ Some n → (schema : Schema) × (slice_get schemas n ≡ Some schema)
-table_there x schemas n h = let found = there (λ schema. bytes_eq schema.name x) schemas 0 n h in (found.2.0, ap (slice_get schemas) (found.1 ∙ zero-add found.0) ∙ found.2.1)
-
-module _ {R : Type 0} (world : World R) where
-  abbrev HasBinding : List ℕ → Scope R → Ty → Type 0
-  HasBinding x scope t = (b : Binding R) × (binding_of x scope ≡ Some b) × IsOf world t b.value
-
-  binding_by : (x : List ℕ) (b : Binding R) (bs : List (Binding R)) (t : Ty) → IsOf world b.ty b.value → (later : Option Ty) → (later ≡ Some t → HasBinding x bs t) → (c : Bool)
-      → (if c then Some b.ty else later) ≡ Some t → (d : Binding R) × ((if c then Some b else binding_of x bs) ≡ Some d) × IsOf world t d.value
-  binding_by x b bs t fits later rest true h = (b, refl, subst (λ (u : Ty). IsOf world u b.value) (same_Some b.ty t h) fits)
-  binding_by x b bs t fits later rest false h = rest h
-
-  -- a typed local name has a value of its type
-  has_binding : (x : List ℕ) (scope : Scope R) (t : Ty) → IsOfScope world scope → local_type x (typed_locals scope) ≡ Some t → HasBinding x scope t
-  has_binding x [] t fits h = absurd (none-some t h)
-  has_binding x (b ∷ bs) t fits h =
-      binding_by x b bs t (first_of (λ d. IsOf world d.ty d.value) b bs fits) (local_type x (typed_locals bs))
-      (has_binding x bs t (others_of (λ d. IsOf world d.ty d.value) b bs fits)) (bytes_eq b.name x) h
-
-no_binding_by : {R : Type 0} (x : List ℕ) (b : Binding R) (bs : List (Binding R)) (later : Option Ty) → (later ≡ None → binding_of x bs ≡ None) → (c : Bool)
-    → (if c then Some b.ty else later) ≡ None → (if c then Some b else binding_of x bs) ≡ None
-no_binding_by x b bs later rest true h = absurd (none-some b.ty (sym h))
-no_binding_by x b bs later rest false h = rest h
-
-no_binding : {R : Type 0} (x : List ℕ) (scope : Scope R) → local_type x (typed_locals scope) ≡ None → binding_of x scope ≡ None
-no_binding x [] h = refl
-no_binding x (b ∷ bs) h = no_binding_by x b bs (local_type x (typed_locals bs)) (no_binding x bs) (bytes_eq b.name x) h
-
--- ---- scalars that operators take
-
-number_layer : (layer : Ty-F Ty) (s : Scalar) → IsScalarOf layer s → is_number layer ≡ true → IsNumber s
-number_layer Ty-F.Int (scalar.Int n) fits h = tt
-number_layer Ty-F.Int s fits h = absurd fits
-number_layer Ty-F.IntN (scalar.Int n) fits h = tt
-number_layer Ty-F.IntN scalar.Null fits h = tt
-number_layer Ty-F.IntN s fits h = absurd fits
-number_layer layer s fits h = absurd (true≢false (sym h))
-
--- what two numbers compare as, whatever stands where there is no meaning
-abbrev Decides : (Fault → Result Bool Fault) → Type 0
-Decides o = (b : Bool) × ((unknown : Fault) → o unknown ≡ Ok b)
-
-numbers_ordered : (test : ℤ → ℤ → Bool) (s t : Scalar) → IsNumber s → IsNumber t → Decides (λ unknown. ordered_by unknown test s t)
-numbers_ordered test (scalar.Int m) (scalar.Int n) a b = (test m n, λ unknown. refl)
-numbers_ordered test (scalar.Int m) scalar.Null a b = (false, λ unknown. refl)
-numbers_ordered test (scalar.Int m) t a b = absurd b
-numbers_ordered test scalar.Null t a b = (false, λ unknown. refl)
-numbers_ordered test s t a b = absurd a
-
-numbers_same : (s t : Scalar) → IsNumber s → IsNumber t → Decides (λ unknown. same_content unknown s t)
-numbers_same scalar.Null scalar.Null a b = (true, λ unknown. refl)
-numbers_same scalar.Null (scalar.Int n) a b = (false, λ unknown. refl)
-numbers_same scalar.Null t a b = absurd b
-numbers_same (scalar.Int m) (scalar.Int n) a b = (int_eq m n, λ unknown. refl)
-numbers_same (scalar.Int m) scalar.Null a b = (false, λ unknown. refl)
-numbers_same (scalar.Int m) t a b = absurd b
-numbers_same s t a b = absurd a
-
-numbers_differ : (o : Fault → Result Bool Fault) → Decides o → Decides (λ unknown. on_ok (o unknown) (λ same. Ok (not same)))
-numbers_differ o same = (not same.0, λ unknown. ap (λ (r : Result Bool Fault). on_ok r (λ b. Ok (not b))) (same.1 unknown))
-
-numbers_compared : (op : Binary) → is_comparison op ≡ true → (s t : Scalar) → IsNumber s → IsNumber t → Decides (λ unknown. compared unknown op s t)
-numbers_compared binary.Less compares s t a b = numbers_ordered int_lt s t a b
-numbers_compared binary.Greater compares s t a b = numbers_ordered int_lt t s b a
-numbers_compared binary.LessOrEqual compares s t a b = numbers_ordered int_le s t a b
-numbers_compared binary.GreaterOrEqual compares s t a b = numbers_ordered int_le t s b a
-numbers_compared binary.Equal compares s t a b = numbers_same s t a b
-numbers_compared binary.NotEqual compares s t a b = numbers_differ (λ unknown. same_content unknown s t) (numbers_same s t a b)
-numbers_compared op compares s t a b = absurd (true≢false (sym compares))
-
--- what an operator gives to scalars, whatever stands where there is no meaning: a scalar of this layer, or a fault
-pub data Gives (layer : Ty-F Ty) (o : Fault → Result Scalar Fault) : Type 0 where
-  gives : (s : Scalar) → IsScalarOf layer s → ((unknown : Fault) → o unknown ≡ Ok s) → Gives layer o
-  faults : (x : Fault) → ((unknown : Fault) → o unknown ≡ Err x) → Gives layer o
-
-abbrev operated : Binary → Scalar → Scalar → Fault → Result Scalar Fault
-operated op s t unknown = of_two unknown (operation_of op) s t
-
-truth_given : (o : Fault → Result Bool Fault) → Decides o → Gives Ty-F.Bool (λ unknown. truth unknown (o unknown))
-truth_given o decided = gives (scalar.Bool decided.0) tt (λ unknown. ap (truth unknown) (decided.1 unknown))
-
-comparison_given : (op : Binary) → is_comparison op ≡ true → (s t : Scalar) → IsNumber s → IsNumber t → Gives Ty-F.Bool (operated op s t)
-comparison_given binary.Less compares s t a b = truth_given _ (numbers_compared binary.Less refl s t a b)
-comparison_given binary.Greater compares s t a b = truth_given _ (numbers_compared binary.Greater refl s t a b)
-comparison_given binary.LessOrEqual compares s t a b = truth_given _ (numbers_compared binary.LessOrEqual refl s t a b)
-comparison_given binary.GreaterOrEqual compares s t a b = truth_given _ (numbers_compared binary.GreaterOrEqual refl s t a b)
-comparison_given binary.Equal compares s t a b = truth_given _ (numbers_compared binary.Equal refl s t a b)
-comparison_given binary.NotEqual compares s t a b = truth_given _ (numbers_compared binary.NotEqual refl s t a b)
-comparison_given op compares s t a b = absurd (true≢false (sym compares))
-
-checked_given : (z : ℤ) → Gives Ty-F.Int (λ unknown. checked z)
-checked_given z = by (is_int z) where
-  by : (b : Bool) → Gives Ty-F.Int (λ unknown. if b then Ok (scalar.Int z) else Err fault.Overflow)
-  by true = gives (scalar.Int z) tt (λ unknown. refl)
-  by false = faults fault.Overflow (λ unknown. refl)
-
-divided_given : (m n : ℤ) → Gives Ty-F.Int (λ unknown. divided m n)
-divided_given m n = by (int_eq n (pos 0)) where
-  by : (b : Bool) → Gives Ty-F.Int (λ unknown. if b then Err fault.DivideByZero else checked (int_div m n))
-  by true = faults fault.DivideByZero (λ unknown. refl)
-  by false = checked_given (int_div m n)
-
-left_over_given : (m n : ℤ) → Gives Ty-F.Int (λ unknown. left_over m n)
-left_over_given m n = by (int_eq n (pos 0)) (is_int (int_div m n)) where
-  by : (b c : Bool)
-      → Gives Ty-F.Int (λ unknown. if b then Err fault.DivideByZero else on_ok (if c then Ok (scalar.Int (int_div m n)) else Err fault.Overflow) (λ quotient. Ok (scalar.Int (int_rem m n))))
-  by true c = faults fault.DivideByZero (λ unknown. refl)
-  by false true = gives (scalar.Int (int_rem m n)) tt (λ unknown. refl)
-  by false false = faults fault.Overflow (λ unknown. refl)
-
--- an int may stand for an int?
-widened : (o : Fault → Result Scalar Fault) → Gives Ty-F.Int o → Gives Ty-F.IntN o
-widened o (gives (scalar.Int n) fits is) = gives (scalar.Int n) tt is
-widened o (gives s fits is) = absurd fits
-widened o (faults x is) = faults x is
-
-of_int? : (o : Fault → Result Scalar Fault) → Gives Ty-F.IntN o → Gives (out-Ty ty.IntN) o
-of_int? o given = subst (λ (layer : Ty-F Ty). Gives layer o) (sym outs-IntN) given
-
-null_given : (o : Fault → Result Scalar Fault) → ((unknown : Fault) → o unknown ≡ Ok scalar.Null) → Gives (out-Ty ty.IntN) o
-null_given o is = of_int? o (gives scalar.Null tt is)
-
-module _ (o : Op) (given : (m n : ℤ) → Gives Ty-F.Int (λ unknown. computed unknown o m n)) where
-  arithmetic_given : (k l : Ty-F Ty) → is_number k ≡ true → is_number l ≡ true → (s t : Scalar) → IsScalarOf k s → IsScalarOf l t
-      → Gives (out-Ty (number_type k l)) (λ unknown. arithmetic unknown o s t)
-  arithmetic_given Ty-F.Int Ty-F.Int a b (scalar.Int m) (scalar.Int n) f g = subst (λ (layer : Ty-F Ty). Gives layer (λ unknown. computed unknown o m n)) (sym outs-Int) (given m n)
-  arithmetic_given Ty-F.Int Ty-F.Int a b (scalar.Int m) t f g = absurd g
-  arithmetic_given Ty-F.Int Ty-F.Int a b s t f g = absurd f
-  arithmetic_given Ty-F.Int Ty-F.IntN a b (scalar.Int m) (scalar.Int n) f g = of_int? _ (widened _ (given m n))
-  arithmetic_given Ty-F.Int Ty-F.IntN a b (scalar.Int m) scalar.Null f g = null_given _ (λ unknown. refl)
-  arithmetic_given Ty-F.Int Ty-F.IntN a b (scalar.Int m) t f g = absurd g
-  arithmetic_given Ty-F.Int Ty-F.IntN a b s t f g = absurd f
-  arithmetic_given Ty-F.Int l a b s t f g = absurd (true≢false (sym b))
-  arithmetic_given Ty-F.IntN Ty-F.Int a b (scalar.Int m) (scalar.Int n) f g = of_int? _ (widened _ (given m n))
-  arithmetic_given Ty-F.IntN Ty-F.Int a b scalar.Null (scalar.Int n) f g = null_given _ (λ unknown. refl)
-  arithmetic_given Ty-F.IntN Ty-F.Int a b (scalar.Int m) t f g = absurd g
-  arithmetic_given Ty-F.IntN Ty-F.Int a b scalar.Null t f g = absurd g
-  arithmetic_given Ty-F.IntN Ty-F.Int a b s t f g = absurd f
-  arithmetic_given Ty-F.IntN Ty-F.IntN a b (scalar.Int m) (scalar.Int n) f g = of_int? _ (widened _ (given m n))
-  arithmetic_given Ty-F.IntN Ty-F.IntN a b (scalar.Int m) scalar.Null f g = null_given _ (λ unknown. refl)
-  arithmetic_given Ty-F.IntN Ty-F.IntN a b scalar.Null (scalar.Int n) f g = null_given _ (λ unknown. refl)
-  arithmetic_given Ty-F.IntN Ty-F.IntN a b scalar.Null scalar.Null f g = null_given _ (λ unknown. refl)
-  arithmetic_given Ty-F.IntN Ty-F.IntN a b (scalar.Int m) t f g = absurd g
-  arithmetic_given Ty-F.IntN Ty-F.IntN a b scalar.Null t f g = absurd g
-  arithmetic_given Ty-F.IntN Ty-F.IntN a b s t f g = absurd f
-  arithmetic_given Ty-F.IntN l a b s t f g = absurd (true≢false (sym b))
-  arithmetic_given k l a b s t f g = absurd (true≢false (sym a))
-
-computed_given : (op : Binary) → is_comparison op ≡ false → (k l : Ty-F Ty) → is_number k ≡ true → is_number l ≡ true → (s t : Scalar) → IsScalarOf k s → IsScalarOf l t
-    → Gives (out-Ty (number_type k l)) (operated op s t)
-computed_given binary.Multiply computes k l a b s t f g = arithmetic_given operation.Multiply (λ m n. checked_given (m *ℤ n)) k l a b s t f g
-computed_given binary.Divide computes k l a b s t f g = arithmetic_given operation.Divide divided_given k l a b s t f g
-computed_given binary.Remainder computes k l a b s t f g = arithmetic_given operation.Remainder left_over_given k l a b s t f g
-computed_given binary.Add computes k l a b s t f g = arithmetic_given operation.Add (λ m n. checked_given (m +ℤ n)) k l a b s t f g
-computed_given binary.Subtract computes k l a b s t f g = arithmetic_given operation.Subtract (λ m n. checked_given (m -ℤ n)) k l a b s t f g
-computed_given op computes k l a b s t f g = absurd (true≢false computes)
-
-minus_given : (layer : Ty-F Ty) → is_number layer ≡ true → (s : Scalar) → IsScalarOf layer s → Gives layer (λ unknown. negated unknown s)
-minus_given Ty-F.Int number (scalar.Int n) fits = checked_given (neg_ℤ n)
-minus_given Ty-F.Int number s fits = absurd fits
-minus_given Ty-F.IntN number (scalar.Int n) fits = widened _ (checked_given (neg_ℤ n))
-minus_given Ty-F.IntN number scalar.Null fits = gives scalar.Null tt (λ unknown. refl)
-minus_given Ty-F.IntN number s fits = absurd fits
-minus_given layer number s fits = absurd (true≢false (sym number))
-
-bool_layer : (s : Scalar) → IsScalarOf Ty-F.Bool s → (b : Bool) × (s ≡ scalar.Bool b)
-bool_layer (scalar.Bool b) fits = (b, refl)
-bool_layer s fits = absurd fits
-
-null_layer : (n : ℕ) (s : Scalar) → IsScalarOf (Ty-F.Row n) s → s ≡ scalar.Null
-null_layer n scalar.Null fits = refl
-null_layer n s fits = absurd fits
-
-row_is_no_number : (layer : Ty-F Ty) (n : ℕ) → row_table layer ≡ Some n → is_number layer ≡ true → ⊥
-row_is_no_number (Ty-F.Row m) n h k = true≢false (sym k)
-row_is_no_number layer n h k = none-some n h
-
-sequence_is_no_number : (layer : Ty-F Ty) (item : Ty) → item_of layer ≡ Some item → is_number layer ≡ true → ⊥
-sequence_is_no_number (Ty-F.Seq t) item h k = true≢false (sym k)
-sequence_is_no_number layer item h k = none-some item h
-
-row_is_no_scalar : (layer : Ty-F Ty) (n : ℕ) → row_table layer ≡ Some n → is_scalar layer ≡ true → ⊥
-row_is_no_scalar (Ty-F.Row m) n h k = true≢false (sym k)
-row_is_no_scalar layer n h k = none-some n h
-
-sequence_is_no_scalar : (layer : Ty-F Ty) (item : Ty) → item_of layer ≡ Some item → is_scalar layer ≡ true → ⊥
-sequence_is_no_scalar (Ty-F.Seq t) item h k = true≢false (sym k)
-sequence_is_no_scalar layer item h k = none-some item h
-
--- what may be chosen is a scalar, and of the type of the choice
-choice_fits : (k l : Ty-F Ty) (r : Ty) → chosen k l ≡ Some r → (s : Scalar) → IsScalarOf k s → IsScalarOf (out-Ty r) s
-choice_fits k l r h s fits = subst (λ (t : Ty). IsScalarOf (out-Ty t) s) (same_Some (choice k l) r (found k l h)) (by k l h s fits) where
-  choice : Ty-F Ty → Ty-F Ty → Ty
-  choice k l = or_null (chosen k l)
-
-  found : (k l : Ty-F Ty) → chosen k l ≡ Some r → Some (choice k l) ≡ Some r
-  found k l h = ap (λ (o : Option Ty). Some (or_null o)) h
-
-  by : (k l : Ty-F Ty) → chosen k l ≡ Some r → (s : Scalar) → IsScalarOf k s → IsScalarOf (out-Ty (choice k l)) s
-  by Ty-F.Int Ty-F.Int h s fits = subst (λ (layer : Ty-F Ty). IsScalarOf layer s) (sym outs-Int) fits
-  by Ty-F.Int Ty-F.IntN h (scalar.Int n) fits = subst (λ (layer : Ty-F Ty). IsScalarOf layer (scalar.Int n)) (sym outs-IntN) tt
-  by Ty-F.Int Ty-F.IntN h s fits = absurd fits
-  by Ty-F.IntN Ty-F.Int h s fits = subst (λ (layer : Ty-F Ty). IsScalarOf layer s) (sym outs-IntN) fits
-  by Ty-F.IntN Ty-F.IntN h s fits = subst (λ (layer : Ty-F Ty). IsScalarOf layer s) (sym outs-IntN) fits
-  by Ty-F.Bool Ty-F.Bool h s fits = subst (λ (layer : Ty-F Ty). IsScalarOf layer s) (sym outs-Bool) fits
-  by Ty-F.Str Ty-F.Str h s fits = subst (λ (layer : Ty-F Ty). IsScalarOf layer s) (sym outs-Str) fits
-  by k l h s fits = absurd (none-some r h)
-
--- either may stand first
-chosen_turned : (k l : Ty-F Ty) (r : Ty) → chosen k l ≡ Some r → chosen l k ≡ Some r
-chosen_turned Ty-F.Int Ty-F.Int r h = h
-chosen_turned Ty-F.Int Ty-F.IntN r h = h
-chosen_turned Ty-F.IntN Ty-F.Int r h = h
-chosen_turned Ty-F.IntN Ty-F.IntN r h = h
-chosen_turned Ty-F.Bool Ty-F.Bool r h = h
-chosen_turned Ty-F.Str Ty-F.Str r h = h
-chosen_turned k l r h = absurd (none-some r h)
-
-chosen_scalar : (k l : Ty-F Ty) (r : Ty) → chosen k l ≡ Some r → is_scalar k ≡ true
-chosen_scalar Ty-F.Int l r h = refl
-chosen_scalar Ty-F.IntN l r h = refl
-chosen_scalar Ty-F.Bool l r h = refl
-chosen_scalar Ty-F.Str l r h = refl
-chosen_scalar k l r h = absurd (none-some r h)
-
--- ---- values that operators take, by their types
-
-module _ {R : Type 0} (world : World R) where
-  -- a value of a number's type is a number
-  number_value : (t : Ty) (v : Value R) → IsOf world t v → is_number (out-Ty t) ≡ true → (s : Scalar) × (v ≡ value.Scalar s) × IsScalarOf (out-Ty t) s
-  number_value t _ (is_scalar_value _ s fits) number = (s, refl, fits)
-  number_value t _ (is_row _ n r is cells) number = absurd (row_is_no_number (out-Ty t) n is number)
-  number_value t _ (is_sequence _ item xs e is items) number = absurd (sequence_is_no_number (out-Ty t) item is number)
-
-  -- a value that is chosen is of the type of the choice
-  chosen_value : (t u r : Ty) (v : Value R) → IsOf world t v → chosen (out-Ty t) (out-Ty u) ≡ Some r → IsOf world r v
-  chosen_value t u r _ (is_scalar_value _ s fits) chooses = is_scalar_value r s (choice_fits (out-Ty t) (out-Ty u) r chooses s fits)
-  chosen_value t u r _ (is_row _ n row is cells) chooses = absurd (row_is_no_scalar (out-Ty t) n is (chosen_scalar (out-Ty t) (out-Ty u) r chooses))
-  chosen_value t u r _ (is_sequence _ item xs e is items) chooses = absurd (sequence_is_no_scalar (out-Ty t) item is (chosen_scalar (out-Ty t) (out-Ty u) r chooses))
-
-  -- a value of the type of truth values is one
-  bool_value : (t : Ty) (v : Value R) → out-Ty t ≡ Ty-F.Bool → IsOf world t v → (b : Bool) × (v ≡ value.Scalar (scalar.Bool b))
-  bool_value t _ layer (is_scalar_value _ s fits) =
-      let found = bool_layer s (subst (λ (u : Ty-F Ty). IsScalarOf u s) layer fits) in (found.0, ap value.Scalar found.1)
-  bool_value t _ layer (is_row _ n r is cells) = absurd (none-some n (ap row_table (sym layer) ∙ is))
-  bool_value t _ layer (is_sequence _ item xs e is items) = absurd (none-some item (ap item_of (sym layer) ∙ is))
-
-  -- a value of a row's type is a row with its cells, or null
-  pub data IsRowOrNull (n : ℕ) (v : Value R) : Type 0 where
-    a_row : (r : R) → HasCells world n r → v ≡ value.Row r → IsRowOrNull n v
-    no_row : v ≡ value.Scalar scalar.Null → IsRowOrNull n v
-
-  row_value : (t : Ty) (n : ℕ) (v : Value R) → out-Ty t ≡ Ty-F.Row n → IsOf world t v → IsRowOrNull n v
-  row_value t n _ layer (is_scalar_value _ s fits) = no_row (ap value.Scalar (null_layer n s (subst (λ (u : Ty-F Ty). IsScalarOf u s) layer fits)))
-  row_value t n _ layer (is_row _ m r is cells) =
-      a_row r (subst (λ (k : ℕ). HasCells world k r) (same_Some m n (sym is ∙ ap row_table layer)) cells) refl
-  row_value t n _ layer (is_sequence _ item xs e is items) = absurd (none-some item (ap item_of (sym layer) ∙ is))
-
-  -- a value of a sequence's type is one of items of their type
-  pub data IsSequence (item : Ty) (v : Value R) : Type 0 where
-    a_sequence : (xs : List (Value R)) (e : End) → Every (IsOf world item) xs → v ≡ value.Seq xs e → IsSequence item v
-
-  sequence_value : (t item : Ty) (v : Value R) → out-Ty t ≡ Ty-F.Seq item → IsOf world t v → IsSequence item v
-  sequence_value t item _ layer (is_scalar_value _ s fits) = absurd (subst (λ (u : Ty-F Ty). IsScalarOf u s) layer fits)
-  sequence_value t item _ layer (is_row _ n r is cells) = absurd (none-some n (ap row_table (sym layer) ∙ is))
-  sequence_value t item _ layer (is_sequence _ found xs e is items) =
-      a_sequence xs e (subst (λ (u : Ty). Every (IsOf world u) xs) (same_Some found item (sym is ∙ ap item_of layer)) items) refl
+use Rattle.lq_model.proofs.EveryItem.{each_same, every_filter, every_kept, every_map, every_more, every_none, every_selected, has_binding, no_binding, table_there}
+use Rattle.lq_model.proofs.Opens.{meaning_binary, meaning_both, meaning_coalesce, meaning_method, meaning_null, meaning_text, meaning_choice, meaning_either, meaning_integer, meaning_member, meaning_minus, meaning_name, meaning_not, meaning_truth}
+use Rattle.lq_model.proofs.ScalarResults.{arithmetic_of, Coalesces, Gives, HasScalars, Widens, chosen_widens, coalesced_fits, faults, given_of, gives, has_value_given, joined_given, joined_scalars, length_given, looked_for, minus_given, no_items_before, no_items_behind, number_scalars, ordering_given, row_is_no_scalar, search_given, sequence_is_no_scalar, signed, value_given}
+use Rattle.lq_model.proofs.TypedValues.{IsRowOrNull, IsSequence, a_row, a_sequence, bool_value, comparand_there, decides_same, member_of_scalar, no_row, row_value, scalar_there, sequence_value, widened_value}
+use Rattle.lq_model.proofs.TypingLemmas.{item_type_sound, type_complete, type_sound}
 
 -- ---- outcomes that are the same in both worlds
 
@@ -417,14 +80,14 @@ module _ {R : Type 0} (world : World R) (holds : HoldsRows world) (f g : Fault) 
   of_its_type t m n (same_value w fits h k) v is = let same : w ≡ v = cc in subst (IsOf world t) same fits
   of_its_type t m n (same_fault x h k) v is = absurd cc
 
-  number_outcome : (t : Ty) (m n : Result (Value R) Fault) → IsSame world t m n → is_number (out-Ty t) ≡ true
+  scalar_outcome : (t : Ty) (m n : Result (Value R) Fault) → IsSame world t m n → HasScalars (out-Ty t)
       → AreScalars t (on_ok m (λ v. scalar_of left (out-Value R v))) (on_ok n (λ v. scalar_of right (out-Value R v)))
-  number_outcome t m n (same_value v fits h k) number =
-      let found = number_value world t v fits number in
+  scalar_outcome t m n (same_value v fits h k) none =
+      let found = scalar_there world t v none fits in
       same_scalar found.0 found.2
       (ap (λ (o : Result (Value R) Fault). on_ok o (λ w. scalar_of left (out-Value R w))) (h ∙ ap Ok found.1) ∙ ap (scalar_of left) (outs-Scalar found.0))
       (ap (λ (o : Result (Value R) Fault). on_ok o (λ w. scalar_of right (out-Value R w))) (k ∙ ap Ok found.1) ∙ ap (scalar_of right) (outs-Scalar found.0))
-  number_outcome t m n (same_fault x h k) number =
+  scalar_outcome t m n (same_fault x h k) none =
       same_scalar_fault x (ap (λ (o : Result (Value R) Fault). on_ok o (λ w. scalar_of left (out-Value R w))) h)
       (ap (λ (o : Result (Value R) Fault). on_ok o (λ w. scalar_of right (out-Value R w))) k)
 
@@ -439,24 +102,57 @@ module _ {R : Type 0} (world : World R) (holds : HoldsRows world) (f g : Fault) 
   same_outcomes : (t : Ty) (m n k l : Result (Value R) Fault) → m ≡ k → n ≡ l → IsSame world t k l → IsSame world t m n
   same_outcomes t m n k l h i same = subst (λ (o : Result (Value R) Fault). IsSame world t o n) (sym h) (subst (λ (o : Result (Value R) Fault). IsSame world t k o) (sym i) same)
 
-  -- an operator on what its operands come to
-  abbrev of_operands : Fault → Binary → Result Scalar Fault → Result Scalar Fault → Result (Value R) Fault
-  of_operands unknown op a b = on_ok a (λ s. on_ok b (λ t. as_value (operated op s t unknown)))
+  -- what follows a scalar, by what it is
+  after_scalar : (r t : Ty) (a b : Result Scalar Fault) → AreScalars t a b → (next more : Scalar → Result (Value R) Fault)
+      → ((s : Scalar) → IsScalarOf (out-Ty t) s → IsSame world r (next s) (more s)) → IsSame world r (on_ok a next) (on_ok b more)
+  after_scalar r t a b (same_scalar s fits h k) next more same =
+      same_outcomes r _ _ _ _ (ap (λ (o : Result Scalar Fault). on_ok o next) h) (ap (λ (o : Result Scalar Fault). on_ok o more) k) (same s fits)
+  after_scalar r t a b (same_scalar_fault x h k) next more same =
+      same_fault x (ap (λ (o : Result Scalar Fault). on_ok o next) h) (ap (λ (o : Result Scalar Fault). on_ok o more) k)
 
-  operands_outcome : (op : Binary) (r s t : Ty) → ((x y : Scalar) → IsScalarOf (out-Ty s) x → IsScalarOf (out-Ty t) y → Gives (out-Ty r) (operated op x y))
-      → (a b c d : Result Scalar Fault) → AreScalars s a c → AreScalars t b d → IsSame world r (of_operands f op a b) (of_operands g op c d)
-  operands_outcome op r s t given a b c d (same_scalar x x_fits ha hc) (same_scalar y y_fits hb hd) =
-      same_outcomes r _ _ _ _ (ap₂ (of_operands f op) ha hb) (ap₂ (of_operands g op) hc hd) (given_outcome r (operated op x y) (given x y x_fits y_fits))
-  operands_outcome op r s t given a b c d (same_scalar x x_fits ha hc) (same_scalar_fault y hb hd) = same_fault y (ap₂ (of_operands f op) ha hb) (ap₂ (of_operands g op) hc hd)
-  operands_outcome op r s t given a b c d (same_scalar_fault x ha hc) others = same_fault x (ap (λ (o : Result Scalar Fault). of_operands f op o b) ha) (ap (λ (o : Result Scalar Fault). of_operands g op o d) hc)
+  -- an operator on what its operands come to
+  operands_outcome : (o : Scalar → Scalar → Fault → Result Scalar Fault) (r s t : Ty) → ((x y : Scalar) → IsScalarOf (out-Ty s) x → IsScalarOf (out-Ty t) y → Gives (out-Ty r) (o x y))
+      → (a b c d : Result Scalar Fault) → AreScalars s a c → AreScalars t b d
+      → IsSame world r (on_ok a (λ x. on_ok b (λ y. as_value (o x y f)))) (on_ok c (λ x. on_ok d (λ y. as_value (o x y g))))
+  operands_outcome o r s t given a b c d first second =
+      after_scalar r s a c first (λ x. on_ok b (λ y. as_value (o x y f))) (λ x. on_ok d (λ y. as_value (o x y g)))
+      (λ x x_fits. after_scalar r t b d second (λ y. as_value (o x y f)) (λ y. as_value (o x y g)) (λ y y_fits. given_outcome r (o x y) (given x y x_fits y_fits)))
 
   negative_outcome : (t : Ty) → is_number (out-Ty t) ≡ true → (a c : Result Scalar Fault) → AreScalars t a c
       → IsSame world t (on_ok a (λ s. as_value (negated f s))) (on_ok c (λ s. as_value (negated g s)))
-  negative_outcome t number a c (same_scalar s fits ha hc) =
-      same_outcomes t _ _ _ _ (ap (λ (o : Result Scalar Fault). on_ok o (λ x. as_value (negated f x))) ha) (ap (λ (o : Result Scalar Fault). on_ok o (λ x. as_value (negated g x))) hc)
-      (given_outcome t (λ unknown. negated unknown s) (minus_given (out-Ty t) number s fits))
-  negative_outcome t number a c (same_scalar_fault x ha hc) =
-      same_fault x (ap (λ (o : Result Scalar Fault). on_ok o (λ s. as_value (negated f s))) ha) (ap (λ (o : Result Scalar Fault). on_ok o (λ s. as_value (negated g s))) hc)
+  negative_outcome t number a c same =
+      after_scalar t t a c same (λ s. as_value (negated f s)) (λ s. as_value (negated g s))
+      (λ s fits. given_outcome t (λ unknown. negated unknown s) (minus_given (out-Ty t) number s fits))
+
+  -- what `==` compares, as it is of a value or a fault
+  abbrev comparand_of : World R → Result (Value R) Fault → Result (Value-F R (Value R)) Fault
+  comparand_of w m = on_ok m (λ v. comparand w (out-Value R v))
+
+  pub data AreComparands (t : Ty) (m n : Result (Value-F R (Value R)) Fault) : Type 0 where
+    same_comparand : (v : Value R) → IsOf world t v → m ≡ Ok (out-Value R v) → n ≡ Ok (out-Value R v) → AreComparands t m n
+    same_comparand_fault : (x : Fault) → m ≡ Err x → n ≡ Err x → AreComparands t m n
+
+  comparand_outcome : (t : Ty) (m n : Result (Value R) Fault) → ((item : Ty) → item_of (out-Ty t) ≡ Some item → ⊥) → IsSame world t m n
+      → AreComparands t (comparand_of left m) (comparand_of right n)
+  comparand_outcome t m n none (same_value v fits h k) =
+      same_comparand v fits (ap (comparand_of left) h ∙ comparand_there world f t v none fits) (ap (comparand_of right) k ∙ comparand_there world g t v none fits)
+  comparand_outcome t m n none (same_fault x h k) = same_comparand_fault x (ap (comparand_of left) h) (ap (comparand_of right) k)
+
+  -- `==` on what its operands come to
+  abbrev equality_of : World R → Binary → Result (Value-F R (Value R)) Fault → Result (Value-F R (Value R)) Fault → Result (Value R) Fault
+  equality_of w op m k = on_ok m (λ v. on_ok k (λ x. on_ok (same_values w v x) (λ same. Ok (truth_value (told op same)))))
+
+  equality_outcome : (op : Binary) (s t : Ty) → are_comparable (out-Ty s) (out-Ty t) ≡ true → (m n k l : Result (Value-F R (Value R)) Fault) → AreComparands s m n → AreComparands t k l
+      → IsSame world ty.Bool (equality_of left op m k) (equality_of right op n l)
+  equality_outcome op s t compares m n k l (same_comparand v fits h i) (same_comparand w more j p) =
+      let decided = decides_same world s t v w compares fits more in
+      same_value (truth_value (told op decided.0)) (truth_is_of (told op decided.0)) (ap₂ (equality_of left op) h j ∙ ap telling (decided.1 f)) (ap₂ (equality_of right op) i p ∙ ap telling (decided.1 g))
+    where
+      telling : Result Bool Fault → Result (Value R) Fault
+      telling o = on_ok o (λ same. Ok (truth_value (told op same)))
+  equality_outcome op s t compares m n k l (same_comparand v fits h i) (same_comparand_fault x j p) = same_fault x (ap₂ (equality_of left op) h j) (ap₂ (equality_of right op) i p)
+  equality_outcome op s t compares m n k l (same_comparand_fault x h i) others =
+      same_fault x (ap (λ (o : Result (Value-F R (Value R)) Fault). equality_of left op o k) h) (ap (λ (o : Result (Value-F R (Value R)) Fault). equality_of right op o l) i)
 
   condition_outcome : (m n : Result (Value R) Fault) → IsSame world ty.Bool m n → on_scalar left m (truth_of f) ≡ on_scalar right n (truth_of g)
   condition_outcome m n (same_value v fits h k) =
@@ -485,31 +181,51 @@ module _ {R : Type 0} (world : World R) (holds : HoldsRows world) (f g : Fault) 
   after_truth t a b (same_truth_fault x h k) next more same =
       same_fault x (ap (λ (o : Result Bool Fault). on_ok o next) h) (ap (λ (o : Result Bool Fault). on_ok o more) k)
 
-  chosen_outcome : (t u r : Ty) (m n : Result (Value R) Fault) → IsSame world t m n → chosen (out-Ty t) (out-Ty u) ≡ Some r → IsSame world r m n
-  chosen_outcome t u r m n (same_value v fits h k) chooses = same_value v (chosen_value world t u r v fits chooses) h k
-  chosen_outcome t u r m n (same_fault x h k) chooses = same_fault x h k
+  widened_outcome : (t r : Ty) (m n : Result (Value R) Fault) → IsSame world t m n → Widens (out-Ty t) (out-Ty r) → IsSame world r m n
+  widened_outcome t r m n (same_value v fits h k) widens = same_value v (widened_value world t r v widens fits) h k
+  widened_outcome t r m n (same_fault x h k) widens = same_fault x h k
 
   truth_is_same : (b : Bool) → IsSame world ty.Bool (Ok (truth_value b)) (Ok (truth_value b))
   truth_is_same b = same_value (truth_value b) (truth_is_of b) refl refl
 
-  -- a column of a row that is one, or is null
-  abbrev column_of : World R → List ℕ → Result (Value R) Fault → Result (Value R) Fault
-  column_of w c m = on_ok m (λ v. member_value w c (out-Value R v))
+  -- a member of what an expression of this type comes to
+  abbrev member_of : World R → Ty → List ℕ → Result (Value R) Fault → Result (Value R) Fault
+  member_of w t m o = on_ok o (λ v. member_value w (Some t) m (out-Value R v))
 
-  member_outcome : (n : ℕ) (c : List ℕ) (t : Ty) → column_type world.schemas n c ≡ Some t → (m k : Result (Value R) Fault) → IsSame world (ty.Row n) m k
-      → IsSame world t (column_of left c m) (column_of right c k)
-  member_outcome n c t column m k (same_fault x h l) = same_fault x (ap (column_of left c) h) (ap (column_of right c) l)
-  member_outcome n c t column m k (same_value v fits h l) = by (row_value world (ty.Row n) n v (outs-Row n) fits) where
-    by : IsRowOrNull world n v → IsSame world t (column_of left c m) (column_of right c k)
+  -- a column of a row that is one, or is null
+  column_outcome : (n : ℕ) (c : List ℕ) (t : Ty) → column_type world.schemas n c ≡ Some t → (m k : Result (Value R) Fault) → IsSame world (ty.Row n) m k
+      → IsSame world t (member_of left (ty.Row n) c m) (member_of right (ty.Row n) c k)
+  column_outcome n c t column m k (same_fault x h l) = same_fault x (ap (member_of left (ty.Row n) c) h) (ap (member_of right (ty.Row n) c) l)
+  column_outcome n c t column m k (same_value v fits h l) = by (row_value world (ty.Row n) n v (outs-Row n) fits) where
+    row : Ty
+    row = ty.Row n
+
+    null_faults : (w : World R) → as_value {R = R} (null_member w (Some row) c) ≡ Err fault.NullReference
+    null_faults w = ap (λ layer. as_value {R = R} (if is_some (row_table layer) then Err fault.NullReference else of_member w.unknown (member_named c) scalar.Null)) (outs-Row n)
+
+    by : IsRowOrNull world n v → IsSame world t (member_of left row c m) (member_of right row c k)
     by (a_row r cells is) =
         let cell = cells c t column in
         same_value (value.Scalar cell.0) (is_scalar_value t cell.0 cell.2)
-        (ap (column_of left c) (h ∙ ap Ok is) ∙ ap (member_value left c) (outs-value-Row r) ∙ ap (cell_value left) cell.1)
-        (ap (column_of right c) (l ∙ ap Ok is) ∙ ap (member_value right c) (outs-value-Row r) ∙ ap (cell_value right) cell.1)
+        (ap (member_of left row c) (h ∙ ap Ok is) ∙ ap (member_value left (Some row) c) (outs-value-Row r) ∙ ap (cell_value left) cell.1)
+        (ap (member_of right row c) (l ∙ ap Ok is) ∙ ap (member_value right (Some row) c) (outs-value-Row r) ∙ ap (cell_value right) cell.1)
     by (no_row is) =
         same_fault fault.NullReference
-        (ap (column_of left c) (h ∙ ap Ok is) ∙ ap (member_value left c) (outs-Scalar scalar.Null))
-        (ap (column_of right c) (l ∙ ap Ok is) ∙ ap (member_value right c) (outs-Scalar scalar.Null))
+        (ap (member_of left row c) (h ∙ ap Ok is) ∙ ap (member_value left (Some row) c) (outs-Scalar scalar.Null) ∙ null_faults left)
+        (ap (member_of right row c) (l ∙ ap Ok is) ∙ ap (member_value right (Some row) c) (outs-Scalar scalar.Null) ∙ null_faults right)
+
+  -- a member of a scalar
+  member_outcome : (t r : Ty) (m : List ℕ) (o : Op) → HasScalars (out-Ty t) → member_named m ≡ Some o
+      → ((s : Scalar) → IsScalarOf (out-Ty t) s → Gives (out-Ty r) (λ unknown. of_one unknown o s)) → (k l : Result (Value R) Fault) → IsSame world t k l
+      → IsSame world r (member_of left t m k) (member_of right t m l)
+  member_outcome t r m o none named given k l (same_fault x h i) = same_fault x (ap (member_of left t m) h) (ap (member_of right t m) i)
+  member_outcome t r m o none named given k l (same_value v fits h i) =
+      let s = scalar_there world t v none fits in
+      same_outcomes r _ _ _ _ (come left s.0 k (h ∙ ap Ok s.1)) (come right s.0 l (i ∙ ap Ok s.1)) (given_outcome r (λ unknown. of_one unknown o s.0) (given s.0 s.2))
+    where
+      come : (w : World R) (s : Scalar) (k : Result (Value R) Fault) → k ≡ Ok (value.Scalar s) → member_of w t m k ≡ as_value (of_one w.unknown o s)
+      come w s k is =
+          ap (member_of w t m) is ∙ ap (member_value w (Some t) m) (outs-Scalar s) ∙ member_of_scalar world w t m s none ∙ ap (λ (p : Option Op). as_value (of_member w.unknown p s)) named
 
   table_outcome : (n : ℕ) (schema : Schema) → slice_get world.schemas n ≡ Some schema
       → IsSame world (ty.Seq (ty.Row n)) (table_value left (slice_get world.rows n)) (table_value right (slice_get world.rows n))
@@ -571,9 +287,6 @@ module _ {R : Type 0} (world : World R) (holds : HoldsRows world) (f g : Fault) 
   Means (Selects names l t) = (scopes : Stream (Scope R)) → Every (At names) scopes.0 → AreSameItems t (last_in left l scopes) (last_in right l scopes)
   Means (GivesItems names q t) = (scope : Scope R) → At names scope → AreSameItems t (stream_meaning left q scope) (stream_meaning right q scope)
 
-  by_outcomes : (t : Ty) (m n k l : Result (Value R) Fault) → m ≡ k → n ≡ l → IsSame world t k l → IsSame world t m n
-  by_outcomes t m n k l h i same = subst (λ (o : Result (Value R) Fault). IsSame world t o n) (sym h) (subst (λ (o : Result (Value R) Fault). IsSame world t k o) (sym i) same)
-
   -- an expression that is this one
   same_as : (names : Names) (e d : Expr) (t : Ty) → e ≡ d → Means (TypeOf names d t) → Means (TypeOf names e t)
   same_as names e d t is means = subst (λ (x : Expr). Means (TypeOf names x t)) (sym is) means
@@ -594,51 +307,144 @@ module _ {R : Type 0} (world : World R) (holds : HoldsRows world) (f g : Fault) 
       let number : table_number x world.schemas ≡ Some n = ap (λ (m : Names). table_number x m.tables) (sym at.0) ∙ found in
       let none : binding_of x scope ≡ None = no_binding x scope (ap (λ (m : Names). local_type x m.locals) (sym at.0) ∙ hidden) in
       let table = table_there x world.schemas n number in
-      by_outcomes (ty.Seq (ty.Row n)) _ _ _ _ (named left none number) (named right none number) (table_outcome n table.0 table.1)
+      same_outcomes (ty.Seq (ty.Row n)) _ _ _ _ (named left none number) (named right none number) (table_outcome n table.0 table.1)
     where
       named : (w : World R) → binding_of x scope ≡ None → table_number x w.schemas ≡ Some n → meaning w (expr.Node (node.Name x)) scope ≡ table_value w (slice_get w.rows n)
       named w none number =
           meaning_name w x scope ∙ ap (name_value w x) none ∙ ap (λ (o : Option ℕ). table_value w (option_and_then (λ m. slice_get w.rows m) o)) number
 
-  means_column : (names : Names) (row : Expr) (c : List ℕ) (n : ℕ) (t : Ty) → column_type names.tables n c ≡ Some t → Means (TypeOf names row (ty.Row n))
-      → Means (TypeOf names (expr.Node (node.Member row c)) t)
-  means_column names row c n t found means scope at =
-      by_outcomes t _ _ _ _ (meaning_member left row c scope) (meaning_member right row c scope)
-      (member_outcome n c t (ap (λ (m : Names). column_type m.tables n c) (sym at.0) ∙ found) _ _ (means scope at))
+  means_text : (names : Names) (x : List ℕ) → Means (TypeOf names (expr.Node (node.Text x)) ty.Str)
+  means_text names x scope at =
+      same_value (value.Scalar (scalar.Text x)) (is_scalar_value ty.Str (scalar.Text x) (subst (λ (u : Ty-F Ty). IsScalarOf u (scalar.Text x)) (sym outs-Str) tt))
+      (meaning_text left x scope) (meaning_text right x scope)
 
-  means_binary : (names : Names) (a b : Expr) (op : Binary) (r s t : Ty) → is_number (out-Ty s) ≡ true → is_number (out-Ty t) ≡ true
-      → ((x y : Scalar) → IsScalarOf (out-Ty s) x → IsScalarOf (out-Ty t) y → Gives (out-Ty r) (operated op x y))
-      → Means (TypeOf names a s) → Means (TypeOf names b t) → Means (TypeOf names (expr.Node (node.Binary op a b)) r)
-  means_binary names a b op r s t s_number t_number given a_means b_means scope at =
-      by_outcomes r _ _ _ _ (meaning_binary left op a b scope) (meaning_binary right op a b scope)
-      (operands_outcome op r s t given _ _ _ _ (number_outcome s _ _ (a_means scope at) s_number) (number_outcome t _ _ (b_means scope at) t_number))
+  means_null : (names : Names) → Means (TypeOf names (expr.Node node.Null) ty.Null)
+  means_null names scope at =
+      same_value (value.Scalar scalar.Null) (is_scalar_value ty.Null scalar.Null (subst (λ (u : Ty-F Ty). IsScalarOf u scalar.Null) (sym outs-Null) tt))
+      (meaning_null left scope) (meaning_null right scope)
 
-  means_comparison : (names : Names) (a b : Expr) (op : Binary) (s t : Ty) → is_comparison op ≡ true → is_number (out-Ty s) ≡ true → is_number (out-Ty t) ≡ true
-      → Means (TypeOf names a s) → Means (TypeOf names b t) → Means (TypeOf names (expr.Node (node.Binary op a b)) ty.Bool)
-  means_comparison names a b op s t compares s_number t_number =
-      means_binary names a b op ty.Bool s t s_number t_number (λ x y x_fits y_fits. subst (λ (layer : Ty-F Ty). Gives layer (operated op x y)) (sym outs-Bool)
-      (comparison_given op compares x y (number_layer (out-Ty s) x x_fits s_number) (number_layer (out-Ty t) y y_fits t_number)))
+  -- the type that an expression has under the names of a scope
+  type_there : (names : Names) (e : Expr) (t : Ty) (scope : Scope R) → At names scope → type_of e names ≡ Some t → type_of e (names_at world scope) ≡ Some t
+  type_there names e t scope at typed = ap (type_of e) (sym at.0) ∙ typed
+
+  -- a member of an operand of this type
+  member_there : (w : World R) (names : Names) (a : Expr) (m : List ℕ) (t : Ty) (scope : Scope R) → type_of a (names_at w scope) ≡ Some t
+      → meaning w (expr.Node (node.Member a m)) scope ≡ member_of w t m (meaning w a scope)
+  member_there w names a m t scope typed =
+      meaning_member w a m scope ∙ ap (λ (o : Option Ty). on_ok (meaning w a scope) (λ v. member_value w o m (out-Value R v))) typed
+
+  means_column : (names : Names) (row : Expr) (c : List ℕ) (n : ℕ) (t : Ty) → column_type names.tables n c ≡ Some t → type_of row names ≡ Some (ty.Row n)
+      → Means (TypeOf names row (ty.Row n)) → Means (TypeOf names (expr.Node (node.Member row c)) t)
+  means_column names row c n t found typed means scope at =
+      let is = type_there names row (ty.Row n) scope at typed in
+      same_outcomes t _ _ _ _ (member_there left names row c (ty.Row n) scope is) (member_there right names row c (ty.Row n) scope is)
+      (column_outcome n c t (ap (λ (m : Names). column_type m.tables n c) (sym at.0) ∙ found) _ _ (means scope at))
+
+  means_member : (names : Names) (a : Expr) (m : List ℕ) (o : Op) (t r : Ty) → HasScalars (out-Ty t) → member_named m ≡ Some o
+      → ((s : Scalar) → IsScalarOf (out-Ty t) s → Gives (out-Ty r) (λ unknown. of_one unknown o s)) → type_of a names ≡ Some t → Means (TypeOf names a t)
+      → Means (TypeOf names (expr.Node (node.Member a m)) r)
+  means_member names a m o t r none named given typed means scope at =
+      let is = type_there names a t scope at typed in
+      same_outcomes r _ _ _ _ (member_there left names a m t scope is) (member_there right names a m t scope is) (member_outcome t r m o none named given _ _ (means scope at))
+
+  -- a member of an operand whose type has this layer, and which gives values of that layer
+  means_named : (names : Names) (a : Expr) (m : List ℕ) (o : Op) (t r : Ty) (k l : Ty-F Ty) → out-Ty t ≡ k → out-Ty r ≡ l → HasScalars k → member_named m ≡ Some o
+      → ((s : Scalar) → IsScalarOf k s → Gives l (λ unknown. of_one unknown o s)) → type_of a names ≡ Some t → Means (TypeOf names a t)
+      → Means (TypeOf names (expr.Node (node.Member a m)) r)
+  means_named names a m o t r k l is result none named given =
+      means_member names a m o t r (subst (λ (layer : Ty-F Ty). HasScalars layer) (sym is) none) named
+      (λ s fits. given_of r l (λ unknown. of_one unknown o s) result (given s (subst (λ (layer : Ty-F Ty). IsScalarOf layer s) is fits)))
+
+  means_search : (names : Names) (a b : Expr) (m : List ℕ) → IsSearch m → Means (TypeOf names a ty.Str) → Means (TypeOf names b ty.Str)
+      → Means (TypeOf names (expr.Node (node.Method a m (argument.Value b ∷ []))) ty.Bool)
+  means_search names a b m searches a_means b_means scope at =
+      same_outcomes ty.Bool _ _ _ _ (meaning_method left a m (argument.Value b ∷ []) scope) (meaning_method right a m (argument.Value b ∷ []) scope)
+      (operands_outcome (looked_for m) ty.Bool ty.Str ty.Str given _ _ _ _ (scalar_outcome ty.Str _ _ (a_means scope at) texts) (scalar_outcome ty.Str _ _ (b_means scope at) texts))
+    where
+      texts : HasScalars (out-Ty ty.Str)
+      texts = subst (λ (layer : Ty-F Ty). HasScalars layer) (sym outs-Str) (refl, refl)
+
+      given : (x y : Scalar) → IsScalarOf (out-Ty ty.Str) x → IsScalarOf (out-Ty ty.Str) y → Gives (out-Ty ty.Bool) (looked_for m x y)
+      given x y x_fits y_fits =
+          given_of ty.Bool Ty-F.Bool (looked_for m x y) outs-Bool
+          (search_given m searches x y (subst (λ (layer : Ty-F Ty). IsScalarOf layer x) outs-Str x_fits) (subst (λ (layer : Ty-F Ty). IsScalarOf layer y) outs-Str y_fits))
+
+  -- a sign between two operands, by whether it is `==` or `!=`
+  sign_there : (w : World R) (op : Binary) (a b : Expr) (scope : Scope R) (equal : Bool) → is_equality op ≡ equal
+      → meaning w (expr.Node (node.Binary op a b)) scope
+      ≡ (if equal then compared_meaning w op (meaning w a scope) (meaning w b scope)
+      else operated_meaning w op (type_of a (names_at w scope)) (type_of b (names_at w scope)) (meaning w a scope) (meaning w b scope))
+  sign_there w op a b scope equal is =
+      meaning_binary w op a b scope
+      ∙ ap (λ (e : Bool). if e then compared_meaning w op (meaning w a scope) (meaning w b scope)
+      else operated_meaning w op (type_of a (names_at w scope)) (type_of b (names_at w scope)) (meaning w a scope) (meaning w b scope)) is
+
+  -- one that evaluates two scalars, by their types
+  means_signed : (names : Names) (a b : Expr) (op : Binary) (r s t : Ty) → is_equality op ≡ false → HasScalars (out-Ty s) → HasScalars (out-Ty t)
+      → ((x y : Scalar) → IsScalarOf (out-Ty s) x → IsScalarOf (out-Ty t) y → Gives (out-Ty r) (signed op s t x y))
+      → type_of a names ≡ Some s → type_of b names ≡ Some t → Means (TypeOf names a s) → Means (TypeOf names b t) → Means (TypeOf names (expr.Node (node.Binary op a b)) r)
+  means_signed names a b op r s t no_equality s_none t_none given a_typed b_typed a_means b_means scope at =
+      same_outcomes r _ _ _ _ (sign_there left op a b scope false no_equality ∙ typed left) (sign_there right op a b scope false no_equality ∙ typed right)
+      (operands_outcome (signed op s t) r s t given _ _ _ _ (scalar_outcome s _ _ (a_means scope at) s_none) (scalar_outcome t _ _ (b_means scope at) t_none))
+    where
+      typed : (w : World R)
+          → operated_meaning w op (type_of a (names_at world scope)) (type_of b (names_at world scope)) (meaning w a scope) (meaning w b scope)
+          ≡ operated_meaning w op (Some s) (Some t) (meaning w a scope) (meaning w b scope)
+      typed w =
+          ap₂ (λ (o p : Option Ty). operated_meaning w op o p (meaning w a scope) (meaning w b scope)) (type_there names a s scope at a_typed) (type_there names b t scope at b_typed)
+
+  means_ordering : (names : Names) (a b : Expr) (op : Binary) (s t : Ty) → is_ordering op ≡ true → is_number (out-Ty s) ≡ true → is_number (out-Ty t) ≡ true
+      → type_of a names ≡ Some s → type_of b names ≡ Some t → Means (TypeOf names a s) → Means (TypeOf names b t) → Means (TypeOf names (expr.Node (node.Binary op a b)) ty.Bool)
+  means_ordering names a b op s t orders s_number t_number =
+      means_signed names a b op ty.Bool s t (no_equality op orders) (number_scalars (out-Ty s) s_number) (number_scalars (out-Ty t) t_number)
+      (λ x y x_fits y_fits. given_of ty.Bool Ty-F.Bool (signed op s t x y) outs-Bool (ordering_given op s t orders s_number t_number x y x_fits y_fits))
+    where
+      no_equality : (op : Binary) → is_ordering op ≡ true → is_equality op ≡ false
+      no_equality binary.Equal orders = sym orders
+      no_equality binary.NotEqual orders = sym orders
+      no_equality op orders = refl
 
   means_arithmetic : (names : Names) (a b : Expr) (op : Binary) (s t : Ty) → is_comparison op ≡ false → is_number (out-Ty s) ≡ true → is_number (out-Ty t) ≡ true
-      → Means (TypeOf names a s) → Means (TypeOf names b t) → Means (TypeOf names (expr.Node (node.Binary op a b)) (number_type (out-Ty s) (out-Ty t)))
+      → type_of a names ≡ Some s → type_of b names ≡ Some t → Means (TypeOf names a s) → Means (TypeOf names b t)
+      → Means (TypeOf names (expr.Node (node.Binary op a b)) (number_type (out-Ty s) (out-Ty t)))
   means_arithmetic names a b op s t computes s_number t_number =
-      means_binary names a b op (number_type (out-Ty s) (out-Ty t)) s t s_number t_number (λ x y x_fits y_fits. computed_given op computes (out-Ty s) (out-Ty t) s_number t_number x y x_fits y_fits)
+      means_signed names a b op (number_type (out-Ty s) (out-Ty t)) s t (no_equality op computes) (number_scalars (out-Ty s) s_number) (number_scalars (out-Ty t) t_number)
+      (λ x y x_fits y_fits. arithmetic_of op s t computes s_number t_number x y x_fits y_fits)
+    where
+      no_equality : (op : Binary) → is_comparison op ≡ false → is_equality op ≡ false
+      no_equality binary.Equal computes = computes
+      no_equality binary.NotEqual computes = computes
+      no_equality op computes = refl
+
+  means_joined : (names : Names) (a b : Expr) (s t : Ty) → are_joined (out-Ty s) (out-Ty t) ≡ true → type_of a names ≡ Some s → type_of b names ≡ Some t
+      → Means (TypeOf names a s) → Means (TypeOf names b t) → Means (TypeOf names (expr.Node (node.Binary binary.Add a b)) ty.Str)
+  means_joined names a b s t joins =
+      let scalars = joined_scalars (out-Ty s) (out-Ty t) joins in
+      means_signed names a b binary.Add ty.Str s t refl scalars.0 scalars.1
+      (λ x y x_fits y_fits. given_of ty.Str Ty-F.Str (signed binary.Add s t x y) outs-Str (joined_given s t joins x y x_fits y_fits))
+
+  means_equality : (names : Names) (a b : Expr) (op : Binary) (s t : Ty) → is_equality op ≡ true → are_comparable (out-Ty s) (out-Ty t) ≡ true
+      → Means (TypeOf names a s) → Means (TypeOf names b t) → Means (TypeOf names (expr.Node (node.Binary op a b)) ty.Bool)
+  means_equality names a b op s t equality compares a_means b_means scope at =
+      same_outcomes ty.Bool _ _ _ _ (sign_there left op a b scope true equality) (sign_there right op a b scope true equality)
+      (equality_outcome op s t compares _ _ _ _ (comparand_outcome s _ _ (λ item. no_items_before (out-Ty s) (out-Ty t) item compares) (a_means scope at))
+      (comparand_outcome t _ _ (λ item. no_items_behind (out-Ty s) (out-Ty t) item compares) (b_means scope at)))
 
   means_minus : (names : Names) (a : Expr) (t : Ty) → is_number (out-Ty t) ≡ true → Means (TypeOf names a t) → Means (TypeOf names (expr.Node (node.Unary unary.Minus a)) t)
   means_minus names a t number means scope at =
-      by_outcomes t _ _ _ _ (meaning_minus left a scope) (meaning_minus right a scope) (negative_outcome t number _ _ (number_outcome t _ _ (means scope at) number))
+      same_outcomes t _ _ _ _ (meaning_minus left a scope) (meaning_minus right a scope) (negative_outcome t number _ _ (scalar_outcome t _ _ (means scope at) (number_scalars (out-Ty t) number)))
 
   means_truth : (names : Names) (b : Bool) → Means (TypeOf names (expr.Node (node.Bool b)) ty.Bool)
   means_truth names b scope at = same_value (truth_value b) (truth_is_of b) (meaning_truth left b scope) (meaning_truth right b scope)
 
   means_not : (names : Names) (a : Expr) → Means (TypeOf names a ty.Bool) → Means (TypeOf names (expr.Node (node.Unary unary.Not a)) ty.Bool)
   means_not names a means scope at =
-      by_outcomes ty.Bool _ _ _ _ (meaning_not left a scope) (meaning_not right a scope)
+      same_outcomes ty.Bool _ _ _ _ (meaning_not left a scope) (meaning_not right a scope)
       (after_truth ty.Bool _ _ (truth_outcome _ _ (means scope at)) (λ t. Ok (truth_value (not t))) (λ t. Ok (truth_value (not t))) (λ t. truth_is_same (not t)))
 
   means_both : (names : Names) (a b : Expr) → Means (TypeOf names a ty.Bool) → Means (TypeOf names b ty.Bool) → Means (TypeOf names (expr.Node (node.And a b)) ty.Bool)
   means_both names a b a_means b_means scope at =
-      by_outcomes ty.Bool _ _ _ _ (meaning_both left a b scope) (meaning_both right a b scope)
+      same_outcomes ty.Bool _ _ _ _ (meaning_both left a b scope) (meaning_both right a b scope)
       (after_truth ty.Bool _ _ (truth_outcome _ _ (a_means scope at)) _ _ second)
     where
       second : (t : Bool) → IsSame world ty.Bool (if t then meaning left b scope else Ok (truth_value false)) (if t then meaning right b scope else Ok (truth_value false))
@@ -647,7 +453,7 @@ module _ {R : Type 0} (world : World R) (holds : HoldsRows world) (f g : Fault) 
 
   means_either : (names : Names) (a b : Expr) → Means (TypeOf names a ty.Bool) → Means (TypeOf names b ty.Bool) → Means (TypeOf names (expr.Node (node.Or a b)) ty.Bool)
   means_either names a b a_means b_means scope at =
-      by_outcomes ty.Bool _ _ _ _ (meaning_either left a b scope) (meaning_either right a b scope)
+      same_outcomes ty.Bool _ _ _ _ (meaning_either left a b scope) (meaning_either right a b scope)
       (after_truth ty.Bool _ _ (truth_outcome _ _ (a_means scope at)) _ _ second)
     where
       second : (t : Bool) → IsSame world ty.Bool (if t then Ok (truth_value true) else meaning left b scope) (if t then Ok (truth_value true) else meaning right b scope)
@@ -657,12 +463,26 @@ module _ {R : Type 0} (world : World R) (holds : HoldsRows world) (f g : Fault) 
   means_choice : (names : Names) (c a b : Expr) (s t r : Ty) → chosen (out-Ty s) (out-Ty t) ≡ Some r → Means (TypeOf names c ty.Bool) → Means (TypeOf names a s) → Means (TypeOf names b t)
       → Means (TypeOf names (expr.Node (node.Conditional c a b)) r)
   means_choice names c a b s t r chooses c_means a_means b_means scope at =
-      by_outcomes r _ _ _ _ (meaning_choice left c a b scope) (meaning_choice right c a b scope)
+      same_outcomes r _ _ _ _ (meaning_choice left c a b scope) (meaning_choice right c a b scope)
       (after_truth r _ _ (truth_outcome _ _ (c_means scope at)) _ _ one_of)
     where
       one_of : (x : Bool) → IsSame world r (if x then meaning left a scope else meaning left b scope) (if x then meaning right a scope else meaning right b scope)
-      one_of true = chosen_outcome s t r _ _ (a_means scope at) chooses
-      one_of false = chosen_outcome t s r _ _ (b_means scope at) (chosen_turned (out-Ty s) (out-Ty t) r chooses)
+      one_of true = widened_outcome s r _ _ (a_means scope at) (chosen_widens (out-Ty s) (out-Ty t) r chooses).0
+      one_of false = widened_outcome t r _ _ (b_means scope at) (chosen_widens (out-Ty s) (out-Ty t) r chooses).1
+
+  means_coalesced : (names : Names) (a b : Expr) (s t r : Ty) → coalesced (out-Ty s) (out-Ty t) ≡ Some r → Means (TypeOf names a s) → Means (TypeOf names b t)
+      → Means (TypeOf names (expr.Node (node.Coalesce a b)) r)
+  means_coalesced names a b s t r coalesces a_means b_means scope at =
+      same_outcomes r _ _ _ _ (meaning_coalesce left a b scope) (meaning_coalesce right a b scope)
+      (after_scalar r s _ _ (scalar_outcome s _ _ (a_means scope at) fitting.0) _ _ (λ x fits. one_of x fits (is_null x) refl))
+    where
+      fitting : Coalesces (out-Ty s) (out-Ty t) r
+      fitting = coalesced_fits (out-Ty s) (out-Ty t) r coalesces
+
+      one_of : (x : Scalar) → IsScalarOf (out-Ty s) x → (n : Bool) → is_null x ≡ n
+          → IsSame world r (if n then meaning left b scope else Ok (value.Scalar x)) (if n then meaning right b scope else Ok (value.Scalar x))
+      one_of x fits true is = widened_outcome t r _ _ (b_means scope at) fitting.1.1
+      one_of x fits false is = same_value (value.Scalar x) (is_scalar_value r x (fitting.1.0 x fits is)) refl refl
 
   means_where : (outer names : Names) (x : Expr) → Means (TypeOf names x ty.Bool) → Means (Leads outer (clause.Where x) names names)
   means_where outer names x means place scopes all = record {
@@ -729,11 +549,33 @@ module _ {R : Type 0} (world : World R) (holds : HoldsRows world) (f g : Fault) 
   means (of_integer names e n is) = same_as names e (expr.Node (node.Integer n)) ty.Int is (means_integer names n)
   means (of_local names e x t is found) = same_as names e (expr.Node (node.Name x)) t is (means_local names x t found)
   means (of_table names e x n is hidden found) = same_as names e (expr.Node (node.Name x)) (ty.Seq (ty.Row n)) is (means_table names x n hidden found)
-  means (of_column names e row c n t is typed found) = same_as names e (expr.Node (node.Member row c)) t is (means_column names row c n t found (means typed))
-  means (of_comparison names e a b op s t is compares a_typed s_number b_typed t_number) =
-      same_as names e (expr.Node (node.Binary op a b)) ty.Bool is (means_comparison names a b op s t compares s_number t_number (means a_typed) (means b_typed))
+  means (of_column names e row c n t is typed found) = same_as names e (expr.Node (node.Member row c)) t is (means_column names row c n t found (type_complete names typed) (means typed))
+  means (of_text names e x is) = same_as names e (expr.Node (node.Text x)) ty.Str is (means_text names x)
+  means (of_null names e is) = same_as names e (expr.Node node.Null) ty.Null is (means_null names)
+  means (of_has_value names e a is typed) =
+      same_as names e (expr.Node (node.Member a (codes "HasValue"))) ty.Bool is
+      (means_named names a (codes "HasValue") operation.HasValue ty.IntN ty.Bool Ty-F.IntN Ty-F.Bool outs-IntN outs-Bool (refl, refl) refl has_value_given (type_complete names typed) (means typed))
+  means (of_value names e a is typed) =
+      same_as names e (expr.Node (node.Member a (codes "Value"))) ty.Int is
+      (means_named names a (codes "Value") operation.Value ty.IntN ty.Int Ty-F.IntN Ty-F.Int outs-IntN outs-Int (refl, refl) refl value_given (type_complete names typed) (means typed))
+  means (of_length names e a is typed) =
+      same_as names e (expr.Node (node.Member a (codes "Length"))) ty.Int is
+      (means_named names a (codes "Length") operation.Length ty.Str ty.Int Ty-F.Str Ty-F.Int outs-Str outs-Int (refl, refl) refl length_given (type_complete names typed) (means typed))
+  means (of_search names e a b m is searches a_typed b_typed) =
+      same_as names e (expr.Node (node.Method a m (argument.Value b ∷ []))) ty.Bool is (means_search names a b m searches (means a_typed) (means b_typed))
+  means (of_ordering names e a b op s t is orders a_typed s_number b_typed t_number) =
+      same_as names e (expr.Node (node.Binary op a b)) ty.Bool is
+      (means_ordering names a b op s t orders s_number t_number (type_complete names a_typed) (type_complete names b_typed) (means a_typed) (means b_typed))
+  means (of_equality names e a b op s t is equality a_typed b_typed compares) =
+      same_as names e (expr.Node (node.Binary op a b)) ty.Bool is (means_equality names a b op s t equality compares (means a_typed) (means b_typed))
   means (of_arithmetic names e a b op s t is computes a_typed s_number b_typed t_number) =
-      same_as names e (expr.Node (node.Binary op a b)) (number_type (out-Ty s) (out-Ty t)) is (means_arithmetic names a b op s t computes s_number t_number (means a_typed) (means b_typed))
+      same_as names e (expr.Node (node.Binary op a b)) (number_type (out-Ty s) (out-Ty t)) is
+      (means_arithmetic names a b op s t computes s_number t_number (type_complete names a_typed) (type_complete names b_typed) (means a_typed) (means b_typed))
+  means (of_joined names e a b s t is a_typed b_typed joins) =
+      same_as names e (expr.Node (node.Binary binary.Add a b)) ty.Str is
+      (means_joined names a b s t joins (type_complete names a_typed) (type_complete names b_typed) (means a_typed) (means b_typed))
+  means (of_coalesced names e a b s t r is a_typed b_typed coalesces) =
+      same_as names e (expr.Node (node.Coalesce a b)) r is (means_coalesced names a b s t r coalesces (means a_typed) (means b_typed))
   means (of_minus names e a t is typed number) = same_as names e (expr.Node (node.Unary unary.Minus a)) t is (means_minus names a t number (means typed))
   means (of_choice names e c a b s t r is c_typed a_typed b_typed chooses) =
       same_as names e (expr.Node (node.Conditional c a b)) r is (means_choice names c a b s t r chooses (means c_typed) (means a_typed) (means b_typed))
@@ -775,8 +617,17 @@ scalar_claim (of_integer names e n is) = tt
 scalar_claim (of_local names e x t is found) = tt
 scalar_claim (of_table names e x n is hidden found) = tt
 scalar_claim (of_column names e row c n t is typed found) = tt
-scalar_claim (of_comparison names e a b op s t is compares a_typed s_number b_typed t_number) = tt
+scalar_claim (of_text names e x is) = tt
+scalar_claim (of_null names e is) = tt
+scalar_claim (of_has_value names e a is typed) = tt
+scalar_claim (of_value names e a is typed) = tt
+scalar_claim (of_length names e a is typed) = tt
+scalar_claim (of_search names e a b m is searches a_typed b_typed) = tt
+scalar_claim (of_ordering names e a b op s t is orders a_typed s_number b_typed t_number) = tt
+scalar_claim (of_equality names e a b op s t is equality a_typed b_typed compares) = tt
 scalar_claim (of_arithmetic names e a b op s t is computes a_typed s_number b_typed t_number) = tt
+scalar_claim (of_joined names e a b s t is a_typed b_typed joins) = tt
+scalar_claim (of_coalesced names e a b s t r is a_typed b_typed coalesces) = tt
 scalar_claim (of_minus names e a t is typed number) = tt
 scalar_claim (of_choice names e c a b s t r is c_typed a_typed b_typed chooses) = tt
 scalar_claim (of_truth names e b is) = tt
@@ -874,3 +725,23 @@ serves_meanings s typed q unknown = by (item_type type_of q names) refl where
   by None is = refl
   by (Some t) is =
       ap stream_data (has_stream world (holds_seen s typed fault.NullReference) [] (every_none (λ b. IsOf world b.ty b.value)) q t (item_type_sound names q t is) fault.NullReference unknown).0
+
+-- what has the type of a scalar has a type
+typed_scalar : (o : Option Ty) (t : Ty) → if_scalar o ≡ Some t → (u : Ty) × (o ≡ Some u)
+typed_scalar None t h = absurd (none-some t h)
+typed_scalar (Some u) t h = (u, refl)
+
+pub serves_values : ServesValues
+unfolding value_reply
+serves_values s typed e unknown = by (if_scalar (type_of e names)) refl where
+  names : Names
+  names = record { tables = schemas_of s.tables; locals = [] }
+
+  world : World TableRow
+  world = world_by fault.NullReference (schemas_of s.tables) (seen_by_role s)
+
+  by : (o : Option Ty) → if_scalar (type_of e names) ≡ o → served_value world e o ≡ served_value (world_by unknown (schemas_of s.tables) (seen_by_role s)) e o
+  by None is = refl
+  by (Some t) is =
+      let found = typed_scalar (type_of e names) t is in
+      ap value_data (has_meaning world (holds_seen s typed fault.NullReference) [] (every_none (λ b. IsOf world b.ty b.value)) e found.0 (type_sound e names found.0 found.1) fault.NullReference unknown).0

@@ -67,7 +67,7 @@ module _ {R : Type 0} (world : World R) where
   pub meaning_method : (a : Expr) (m : List ℕ) (xs : List (Argument Expr)) (scope : Scope R)
       → meaning world (expr.Node (node.Method a m xs)) scope
       ≡ on_scalar world (meaning world a scope)
-        (λ s. on_scalar world (argument_meaning (sole_argument xs) scope) (λ t. as_value (of_search world.unknown (search_named m) s t)))
+      (λ s. on_scalar world (argument_meaning (sole_argument xs) scope) (λ t. as_value (of_search world.unknown (search_named m) s t)))
   meaning_method a m [] scope = node_is (node.Method a m []) scope
   meaning_method a m (argument.Value b ∷ []) scope = node_is (node.Method a m (argument.Value b ∷ [])) scope
   meaning_method a m (argument.Lambda x b ∷ []) scope = node_is (node.Method a m (argument.Lambda x b ∷ [])) scope
@@ -77,7 +77,7 @@ module _ {R : Type 0} (world : World R) where
   pub meaning_binary : (op : Binary) (a b : Expr) (scope : Scope R)
       → meaning world (expr.Node (node.Binary op a b)) scope
       ≡ (if is_equality op then compared_meaning world op (meaning world a scope) (meaning world b scope)
-        else operated_meaning world op (type_of a (names_at world scope)) (type_of b (names_at world scope)) (meaning world a scope) (meaning world b scope))
+      else operated_meaning world op (type_of a (names_at world scope)) (type_of b (names_at world scope)) (meaning world a scope) (meaning world b scope))
   meaning_binary op a b scope = node_is (node.Binary op a b) scope
 
   pub meaning_coalesce : (a b : Expr) (scope : Scope R)

@@ -4,7 +4,7 @@ use Rattle.serde_json.specs.Data.{Data}
 use Rattle.serde_json.proofs.OnLiterals.{serde_json_on_literals}
 use Rattle.lq_value.specs.declared.table.Schema.{Schema}
 use Rattle.lq_model.specs.HostCalls.{HostCall}
-use Rattle.lq_model.specs.Machine.{State, Reply, memory_line, perform, run_reply, schemas_of, seen_by_role, served_top, step, step_by}
+use Rattle.lq_model.specs.Machine.{State, Reply, memory_line, perform, run_reply, schemas_of, seen_by_role, served_top, step, step_by, value_reply}
 use Rattle.lq_model.specs.Output.{Answers, as_machine, no_memory, stepped}
 use Rattle.lq_model.specs.Reading.{Reading, Nothing, Says, IsNoSyntax, IsTooDeep, reading_of}
 use Rattle.lq_model.specs.Served.{line_of}
@@ -12,6 +12,7 @@ use Rattle.lq_model.specs.SessionLaws.{AnswersAlike, AsksNoHost, IsOutput, IsSil
 use Rattle.lq_model.specs.Visible.{TableRow}
 use Rattle.lq_model.specs.declared.syntax.Expr.{Expr, out-Expr}
 use Rattle.lq_model.specs.declared.syntax.Expr.TheOpen.{Expr-F}
+use Rattle.lq_model.specs.declared.syntax.Expr.TheVariants as expr
 use Rattle.lq_model.specs.declared.syntax.Statement.{Statement}
 use Rattle.lq_model.specs.declared.syntax.Statement.TheVariants as statement
 
@@ -22,7 +23,9 @@ served_alike : (a b : State) → LooksSame a b → (x : Expr-F Expr) → served_
 served_alike a b same (Expr-F.Query q) =
     ap (λ (schemas : List Schema). run_reply schemas (seen_by_role a) q) same.schemas
     ∙ ap (λ (rows : List (List TableRow)). run_reply (schemas_of b.tables) rows q) same.seen
-served_alike a b same (Expr-F.Node n) = refl
+served_alike a b same (Expr-F.Node n) =
+    ap (λ (schemas : List Schema). value_reply schemas (seen_by_role a) (expr.Node n)) same.schemas
+    ∙ ap (λ (rows : List (List TableRow)). value_reply (schemas_of b.tables) rows (expr.Node n)) same.seen
 
 performed_alike : (a b : State) → LooksSame a b → (s : Statement) → ((perform a s).0 ≡ (perform b s).0) × LooksSame (perform a s).1 (perform b s).1
 performed_alike a b same (statement.Run x) = (served_alike a b same (out-Expr x), same)

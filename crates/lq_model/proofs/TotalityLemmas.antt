@@ -2,7 +2,7 @@
 use Rattle.std.proofs.Common.{◌≡◌, ◌∷◌, ◌&&◌, ◌||◌, ◌⊎◌, inl, inr, if◌then◌else◌, List, [], ℕ, suc, zero, ℤ, pos, negsuc, Bool, true, false, codes, bytes_eq, int_le, ap, ◌∙◌, sym, refl, subst, true≢false, arith}
 use Rattle.std.proofs.lemmas.Bool.{and_parts, and_from, le-leb}
 use Rattle.std.proofs.lemmas.Slice.Eq.{bytes_eq-Decides}
-use Rattle.lq_model.specs.Members.{IsSearch, contains, ends, is_search, starts}
+use Rattle.lq_model.specs.Members.{is_search}
 use Rattle.lq_model.specs.Totality.{Claim, Holds, IsSure, IsTotal, Strength, Sure, Told, Total, is_division, is_divisor, is_natural, is_row, is_sure, is_total, strength_of, strength_step, sure_coalesce, sure_conditional, sure_text, sure_user, total_and, total_coalesce, total_column, total_comparison, total_conditional, total_division, total_has_value, total_integer, total_minus, total_not, total_null, total_or, total_search, total_text, total_truth, total_user, total_where}
 use Rattle.lq_model.specs.TotalityLaws.{TellsTotal}
 use Rattle.lq_model.specs.Typing.{is_comparison}
@@ -20,6 +20,7 @@ use Rattle.lq_model.specs.declared.syntax.Node.{Node}
 use Rattle.lq_model.specs.declared.syntax.Node.TheVariants as node
 use Rattle.lq_model.specs.declared.syntax.Query.{Query}
 use Rattle.lq_model.specs.declared.syntax.Unary.TheVariants as unary
+use Rattle.lq_model.proofs.MemberLemmas.{either_true, search_given, search_told}
 
 -- ---- the function, form by form
 
@@ -105,11 +106,6 @@ pub strength_query : (q : Query Expr) → strength_of (expr.Query q) ≡ total_w
 strength_query q = ap strength_of (sym (rolls-Query q)) ∙ rolled_strength (Expr-F.Query q)
 
 -- ---- what the forms give is told
-
-search_told : {m : List ℕ} → IsSearch m → is_search m ≡ true
-search_told (starts is) = ap is_search is
-search_told (ends is) = ap is_search is
-search_told (contains is) = ap is_search is
 
 is_out : {e : Expr} (n : Node Expr) → e ≡ expr.Node n → out-Expr e ≡ Expr-F.Node n
 is_out n is = ap out-Expr is ∙ outs-Node n
@@ -215,19 +211,6 @@ row_name e h = by (out-Expr e) refl h where
   by : (layer : Expr-F Expr) → out-Expr e ≡ layer → is_row layer ≡ true → e ≡ expr.Node (node.Name (codes "row"))
   by (Expr-F.Node (node.Name x)) is h = node_with e (node.Name x) is ∙ ap (λ (k : List ℕ). expr.Node (node.Name k)) ((bytes_eq-Decides x (codes "row")).0 h)
   by layer is h = absurd (true≢false (sym h))
-
-either_true : (a b : Bool) → (a || b) ≡ true → (a ≡ true) ⊎ (b ≡ true)
-either_true true b h = inl refl
-either_true false b h = inr h
-
-search_given : (m : List ℕ) → is_search m ≡ true → IsSearch m
-search_given m h = elim (either_true (bytes_eq m (codes "StartsWith") || bytes_eq m (codes "EndsWith")) _ h) [
-  | inl first ↦ elim (either_true (bytes_eq m (codes "StartsWith")) _ first) [
-    | inl same ↦ starts ((bytes_eq-Decides m (codes "StartsWith")).0 same)
-    | inr same ↦ ends ((bytes_eq-Decides m (codes "EndsWith")).0 same)
-  ]
-  | inr same ↦ contains ((bytes_eq-Decides m (codes "Contains")).0 same)
-]
 
 abbrev IsGiven : Expr → Type 0
 IsGiven e = (is_total e ≡ true → IsTotal e) × (is_sure e ≡ true → IsSure e)

@@ -10,7 +10,6 @@ use Rattle.lq_value.specs.declared.ty.Ty.{Ty, out-Ty}
 use Rattle.lq_value.specs.declared.ty.Ty.TheOpen.{Ty-F}
 use Rattle.lq_value.specs.declared.ty.Ty.TheVariants as ty
 use Rattle.lq_model.specs.Members.{IsSearch, is_search, sole_argument}
-use Rattle.lq_model.specs.declared.syntax.Argument.{Argument}
 use Rattle.lq_model.specs.declared.syntax.Argument.TheVariants as argument
 use Rattle.lq_model.specs.declared.syntax.Clause.{Clause}
 use Rattle.lq_model.specs.declared.syntax.Clause.TheVariants as clause

@@ -1,6 +1,6 @@
 //! Laws of meaning. Each function's contract is the law that it is named for; the functions
 //! themselves do nothing.
-ghost use Rattle.lq_model.specs.MeaningLaws.{HasMeaning, HasStream, SelectsScalars, ServesMeanings};
+ghost use Rattle.lq_model.specs.MeaningLaws.{HasMeaning, HasStream, SelectsScalars, ServesMeanings, ServesValues};
 
 /// Where local names have values of their types and tables have their rows, a typed expression has
 /// a meaning of its own, the same whatever stands where there is none: a value of its type, or a
@@ -12,7 +12,8 @@ pub fn typed_meanings()
 {}
 
 /// Over tables whose cells are of their columns' types, no reply to `run` depends on what stands
-/// where an expression has no meaning.
+/// where an expression has no meaning, neither that of a query nor that of another expression.
 pub fn served_meanings()
-    ensures { ServesMeanings }
+    ensures queries { ServesMeanings }
+    ensures values { ServesValues }
 {}
