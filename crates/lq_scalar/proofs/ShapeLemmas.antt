@@ -121,9 +121,9 @@ module _ {R : Type 0} (world : World R) where
   told_viewed sign (Err f) = refl
 
   same_viewed : (sign : Binary) (v w : Value-F R (Value R)) (x y : Shape R) → same_values (faulting world) v w ≡ same_parts (scalar_part x) (scalar_part y)
-      → viewed (on_ok (same_values (faulting world) v w) (λ same. Ok (truth_value (told sign same)))) ≡ truth_shape (told_shapes sign x y)
+      → viewed {R = R} (on_ok (same_values (faulting world) v w) (λ same. Ok (truth_value (told sign same)))) ≡ truth_shape {R = R} (told_shapes sign x y)
   same_viewed sign v w x y h =
-      told_viewed sign (same_values (faulting world) v w) ∙ ap (λ (o : Result Bool Fault). truth_shape (on_ok o (λ same. Ok (told sign same)))) h
+      told_viewed sign (same_values (faulting world) v w) ∙ ap (λ (o : Result Bool Fault). truth_shape {R = R} (on_ok o (λ same. Ok (told sign same)))) h
 
   scalar_and_row : (s : Scalar) (r : R) → same_values (faulting world) (Value-F.Scalar s) (Value-F.Row r) ≡ same_parts (Some s) None
   scalar_and_row scalar.Null r = refl
@@ -217,8 +217,10 @@ module _ {R : Type 0} (world : World R) (scope : Scope R) where
   pub shape_binary : (sign : Binary) (a b : Expr) → shape_of world scope (expr.Node (node.Binary sign a b)) ≡ (if is_equality sign then compared_shape sign a b else operated_shape sign a b)
   unfolding shape_of
   shape_binary sign a b = ap viewed (meaning_binary (faulting world) sign a b scope) ∙ by (is_equality sign) where
-    m n : Result (Value R) Fault
+    m : Result (Value R) Fault
     m = meaning (faulting world) a scope
+
+    n : Result (Value R) Fault
     n = meaning (faulting world) b scope
 
     by : (c : Bool) → viewed (if c then compared_meaning (faulting world) sign m n else operated_meaning (faulting world) sign (type_of a place) (type_of b place) m n)

@@ -15,6 +15,8 @@ use Rattle.lq_scalar.specs.Named.{Shape, TheRow, TheScalar, cell_in, row_at, sha
 use Rattle.lq_scalar.specs.Operands.{shown_scalar}
 use Rattle.lq_scalar.specs.declared.error.ScalarError.{ScalarError}
 use Rattle.lq_scalar.specs.declared.error.ScalarError.TheVariants as error
+use Rattle.lq_scalar.specs.declared.evaluated.Found.{Found}
+use Rattle.lq_scalar.specs.declared.evaluated.Found.TheVariants as found
 use Rattle.lq_scalar.specs.declared.operand.Operand.{Operand}
 use Rattle.lq_scalar.specs.declared.operand.Operand.TheVariants as operand
 
@@ -109,6 +111,16 @@ abbrev pub IsOperand : {R : Type 0} → Scope R → Result (Shape R) Fault → R
 IsOperand scope meant (Ok found) = meant ≡ Ok (shown_operand scope found)
 IsOperand scope meant (Err (error.Fault f)) = meant ≡ Err f
 IsOperand scope meant (Err error.Memory) = Unit {0}
+
+abbrev pub found_scalar : Found → Scalar
+found_scalar (found.Borrowed s) = shown_scalar s
+found_scalar (found.Made t) = scalar.Text t
+
+-- the same of a scalar
+abbrev pub IsFound : Result Scalar Fault → Result Found ScalarError → Type 0
+IsFound meant (Ok s) = meant ≡ Ok (found_scalar s)
+IsFound meant (Err (error.Fault f)) = meant ≡ Err f
+IsFound meant (Err error.Memory) = Unit {0}
 
 -- the same of a truth value
 abbrev pub IsTruth : Result Bool Fault → Result Bool ScalarError → Type 0

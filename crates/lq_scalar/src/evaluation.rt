@@ -1,8 +1,10 @@
 //! Evaluation of expressions to a row or a scalar, or to their first fault (ECMA-334, expressions).
 ghost use Rattle.std.specs.Prelude.{◌≡◌, option_map, true};
+ghost use Rattle.std.specs.Option.{option_copied};
+ghost use Rattle.lq_model.specs.Members.{sole_argument};
 ghost use Rattle.lq_model.specs.Typing.{is_equality};
 ghost use Rattle.lq_scalar.specs.Operands.{shown_scalar};
-ghost use Rattle.lq_scalar.specs.Shapes.{operated_scalars, told_parts};
+ghost use Rattle.lq_scalar.specs.Shapes.{told_parts};
 
 use crate::comparison::compared;
 use crate::error::ScalarError;
@@ -20,6 +22,16 @@ fn is_equality(sign: Binary) -> bool
     ensures { result ≡ is_equality sign }
 {
     matches!(sign, Binary::Equal | Binary::NotEqual)
+}
+
+/// The argument of a method that has one, and no lambda.
+fn sole_argument<'a>(arguments: &'a [Argument<Expr>]) -> Option<&'a Expr>
+    ensures { option_copied result ≡ sole_argument arguments.now }
+{
+    match arguments {
+        [Argument::Value(argument)] => Some(argument),
+        _ => None,
+    }
 }
 
 /// What `==` or `!=` tells of two operands: scalars by their contents, and a row, None here, isn't
@@ -49,7 +61,7 @@ pub(crate) struct Evaluation<'a, N, T> {
 }
 
 impl<'a, N: Names, T: Joins> Evaluation<'a, N, T> {
-    ghost use Rattle.std.specs.Prelude.{◌≡◌, Err};
+    ghost use Rattle.std.specs.Prelude.{◌≡◌};
     ghost use Rattle.lq_value.specs.declared.value.Fault.TheVariants as fault;
     ghost use Rattle.lq_model.specs.Meaning.{binding_of, names_at};
     ghost use Rattle.lq_model.specs.Operations.{negated, on_ok};
@@ -60,7 +72,7 @@ impl<'a, N: Names, T: Joins> Evaluation<'a, N, T> {
     ghost use Rattle.lq_value.specs.declared.scalar.Scalar.TheVariants as scalar;
     ghost use Rattle.lq_scalar.specs.Named.{cell_in, row_at, shape_at};
     ghost use Rattle.lq_scalar.specs.Operands.{IsAnswer, shown_scalar, shown_scalars};
-    ghost use Rattle.lq_scalar.specs.Shapes.{IsOperand, scalar_or_fault, member_of_null, member_shape, operated_scalars, scalar_shape, scalar_in, shape_of, shown_operand, shown_operands};
+    ghost use Rattle.lq_scalar.specs.Shapes.{IsOperand, scalar_or_fault, member_of_null, member_shape, operated_scalars, scalar_shape, shape_of, shown_operand, shown_operands};
 
     /// What a name stands for.
     fn named(&self, name: &'a str) -> Result<Operand<'a>, Fault>
@@ -185,15 +197,9 @@ impl<'a, N: Names, T: Joins> Evaluation<'a, N, T> {
                 let value = self.operand(operand.get())?;
                 Ok(self.member(operand.get(), &value, member.as_str())?)
             }
-            Node::Method(receiver, method, arguments) => match arguments.as_slice() {
-                [Argument::Value(argument)] => {
-                    let text = self.operand(receiver.get())?;
-                    let text = text.scalar()?;
-                    let needle = self.operand(argument)?;
-                    Ok(Operand::Scalar(search(method.as_str(), text, needle.scalar()?)?))
-                }
-                _ => self.without_argument(receiver.get()),
-            },
+            Node::Method(receiver, method, arguments) => {
+                self.method(receiver.get(), method.as_str(), arguments.as_slice())
+            }
             Node::Unary(Unary::Minus, operand) => {
                 let value = self.operand(operand.get())?;
                 Ok(Operand::Scalar(negate(value.scalar()?)?))
@@ -238,15 +244,24 @@ impl<'a, N: Names, T: Joins> Evaluation<'a, N, T> {
         }
     }
 
-    /// What an expression whose operand isn't typed with it gives: the operand's fault, or that of
-    /// an expression without a meaning.
+    /// What a method gives, or the first fault. With another number of arguments or a lambda, which
+    /// no typed expression has, its receiver alone is evaluated.
     #[cycle(operands)]
     #[tactic(auto, using(crate::proofs::ShapeLemmas::shapes))]
-    fn without_argument(&self, receiver: &'a Expr) -> Result<Operand<'a>, ScalarError>
-        ensures { IsOperand (N.scope self.now.names.now) (on_ok (on_ok (shape_of (N.world self.now.names.now) (N.scope self.now.names.now) receiver.now) scalar_in) (λ s. Err fault.NullReference)) result }
+    fn method(
+        &self,
+        receiver: &'a Expr,
+        method: &str,
+        arguments: &'a [Argument<Expr>],
+    ) -> Result<Operand<'a>, ScalarError>
+        ensures { IsOperand (N.scope self.now.names.now) (shape_of (N.world self.now.names.now) (N.scope self.now.names.now) (expr.Node (node.Method receiver.now method.now arguments.now))) result }
     {
-        let value = self.operand(receiver)?;
-        value.scalar()?;
-        Err(ScalarError::Fault(Fault::NullReference))
+        let text = self.operand(receiver)?;
+        let text = text.scalar()?;
+        let Some(argument) = sole_argument(arguments) else {
+            return Err(ScalarError::Fault(Fault::NullReference));
+        };
+        let needle = self.operand(argument)?;
+        Ok(Operand::Scalar(search(method, text, needle.scalar()?)?))
     }
 }

@@ -4,6 +4,7 @@
 mod arithmetic;
 mod comparison;
 mod error;
+mod evaluated;
 mod evaluation;
 mod members;
 mod names;
@@ -17,6 +18,7 @@ mod types;
 
 pub use comparison::{compared, is_comparison};
 pub use error::ScalarError;
+pub use evaluated::{Found, eval, evaluate, truth};
 pub use lq_model::Op;
 pub use names::{ExprType, Named, Names};
 pub use operations::apply;

@@ -2,6 +2,7 @@
 ghost use Rattle.std.specs.Prelude.{◌≡◌};
 
 use lq_value::{Scalar, Txt};
+use std::alloc::{AllocError, Global};
 
 /// A scalar as an operand, borrowed from the cell or value that it stands in.
 #[derive(Clone, Copy, Drop)]
@@ -17,7 +18,7 @@ pub enum ScalarRef<'a> {
 }
 
 impl<'a> ScalarRef<'a> {
-    ghost use Rattle.std.specs.Prelude.{◌≡◌};
+    ghost use Rattle.std.specs.Prelude.{◌≡◌, IfOk};
     ghost use Rattle.lq_scalar.specs.Operands.{shown_scalar};
 
     /// A scalar, borrowed.
@@ -29,6 +30,18 @@ impl<'a> ScalarRef<'a> {
             Scalar::Int(number) => ScalarRef::Int(*number),
             Scalar::Bool(truth) => ScalarRef::Bool(*truth),
             Scalar::Text(text) => ScalarRef::Text(text),
+        }
+    }
+
+    /// The scalar as a value of its own. Takes memory for a text.
+    pub fn copied(self, alloc: Global) -> Result<Scalar, AllocError>
+        ensures { IfOk result (λ copy. copy ≡ shown_scalar self.entry) }
+    {
+        match self {
+            ScalarRef::Null => Ok(Scalar::Null),
+            ScalarRef::Int(number) => Ok(Scalar::Int(number)),
+            ScalarRef::Bool(truth) => Ok(Scalar::Bool(truth)),
+            ScalarRef::Text(text) => Ok(Scalar::Text(Txt::from_str(alloc, text.as_str())?)),
         }
     }
 }

@@ -1,0 +1,98 @@
+//! The scalar and the truth value that an expression means (ECMA-334, expressions).
+ghost use Rattle.std.specs.Prelude.{◌≡◌};
+ghost use Rattle.lq_scalar.specs.Operands.{IsAnswer};
+ghost use Rattle.lq_scalar.specs.Shapes.{IsFound, IsTruth, scalar_of_expression, truth_of_expression};
+
+use crate::error::ScalarError;
+use crate::evaluation::Evaluation;
+use crate::names::Names;
+use crate::operand::Operand;
+use crate::scalar_ref::ScalarRef;
+use lq_model::Expr;
+use lq_value::{Fault, Scalar, Txt};
+use std::alloc::Global;
+
+/// A scalar as it was evaluated.
+#[derive(Drop)]
+pub enum Found<'a> {
+    /// One that stands in a literal, a name or a cell, or is small.
+    Borrowed(ScalarRef<'a>),
+    /// A text that was made.
+    Made(Txt),
+}
+
+impl Found<'_> {
+    ghost use Rattle.std.specs.Prelude.{◌≡◌};
+    ghost use Rattle.lq_scalar.specs.Operands.{shown_scalar};
+    ghost use Rattle.lq_scalar.specs.Shapes.{found_scalar};
+
+    /// The scalar, borrowed.
+    pub fn scalar(&self) -> ScalarRef<'_>
+        ensures { shown_scalar result ≡ found_scalar self.now }
+    {
+        match self {
+            Found::Borrowed(scalar) => *scalar,
+            Found::Made(text) => ScalarRef::Text(text),
+        }
+    }
+}
+
+/// The scalar that an expression means where these names stand, or its first fault. Copies no text
+/// that is there, and takes memory for a text that `+` makes alone.
+///
+/// An expression without a type, and one of a row or a sequence, gives NullReference where nothing
+/// faults before.
+pub fn evaluate<'a, N: Names>(
+    alloc: Global,
+    names: &'a N,
+    expression: &'a Expr,
+) -> Result<Found<'a>, ScalarError>
+    ensures { IsFound (scalar_of_expression (N.world names.now) (N.scope names.now) expression.now) result }
+{
+    let evaluation = Evaluation {
+        names,
+        texts: alloc,
+    };
+    match evaluation.operand(expression)? {
+        Operand::Row(_) => Err(ScalarError::Fault(Fault::NullReference)),
+        Operand::Scalar(scalar) => Ok(Found::Borrowed(scalar)),
+        Operand::Made(text) => Ok(Found::Made(text)),
+    }
+}
+
+/// The truth value that a condition means where these names stand, or its first fault. Takes memory
+/// for a text that `+` makes alone.
+pub fn truth<N: Names>(
+    alloc: Global,
+    names: &N,
+    condition: &Expr,
+) -> Result<bool, ScalarError>
+    ensures { IsTruth (truth_of_expression (N.world names.now) (N.scope names.now) condition.now) result }
+{
+    let evaluation = Evaluation {
+        names,
+        texts: alloc,
+    };
+    let value = evaluation.operand(condition)?;
+    Ok(value.truth()?)
+}
+
+/// The scalar that an expression means where these names stand, as a value of its own, or its first
+/// fault. Takes memory for a text.
+pub fn eval<N: Names>(
+    alloc: Global,
+    expression: &Expr,
+    names: &N,
+) -> Result<Scalar, ScalarError>
+    ensures { IsAnswer (scalar_of_expression (N.world names.now) (N.scope names.now) expression.now) result }
+{
+    let evaluation = Evaluation {
+        names,
+        texts: alloc,
+    };
+    match evaluation.operand(expression)? {
+        Operand::Row(_) => Err(ScalarError::Fault(Fault::NullReference)),
+        Operand::Scalar(scalar) => Ok(scalar.copied(alloc)?),
+        Operand::Made(text) => Ok(Scalar::Text(text)),
+    }
+}
