@@ -54,10 +54,10 @@ holds_as_meant : (world : World (List Scalar)) (m : Result (Value (List Scalar))
 holds_as_meant world (Ok v) h = ap Ok (is_truth world v h)
 holds_as_meant world (Err f) h = absurd (cc)
 
-pub true_where_it_holds : (asked : Asked) (rule : Expr) → rule_holds asked.columns asked.table rule asked.cells asked.role ≡ true → IsTrueOn asked rule
+pub true_where_it_holds : (asked : Asked) (rule : Expr) → rule_holds asked.columns rule asked.cells asked.role ≡ true → IsTrueOn asked rule
 true_where_it_holds asked rule h = holds_as_meant (rule_world asked.columns) _ h
 
-pub holds_where_it_is_true : (asked : Asked) (rule : Expr) → IsTrueOn asked rule → rule_holds asked.columns asked.table rule asked.cells asked.role ≡ true
+pub holds_where_it_is_true : (asked : Asked) (rule : Expr) → IsTrueOn asked rule → rule_holds asked.columns rule asked.cells asked.role ≡ true
 holds_where_it_is_true asked rule h =
     ap (λ (m : Result (Value (List Scalar)) Fault). is_true (on_ok (on_ok m (λ v. scalar_of (rule_world asked.columns) (out-Value (List Scalar) v))) (truth_of fault.NullReference))) h
     ∙ ap (λ (layer : Value-F (List Scalar) (Value (List Scalar))). is_true (on_ok (scalar_of (rule_world asked.columns) layer) (truth_of fault.NullReference))) (outs-Scalar (scalar.Bool true))
@@ -118,12 +118,12 @@ permits_by_parts asked policy permissive applying true_on =
 allows_parts : (asked : Asked) (policy : Policy) → allows asked policy ≡ true → policy.restrictive ≡ true → Applies asked.role asked.table policy → IsTrueOn asked policy.using
 allows_parts asked policy h restrictive applying =
     let bound : not (policy.restrictive && applies asked.role asked.table policy) ≡ false = rw (restrictive, found_where_it_applies asked.role asked.table policy applying) refl in
-    true_where_it_holds asked policy.using (or_right (not (policy.restrictive && applies asked.role asked.table policy)) (rule_holds asked.columns asked.table policy.using asked.cells asked.role) bound h)
+    true_where_it_holds asked policy.using (or_right (not (policy.restrictive && applies asked.role asked.table policy)) (rule_holds asked.columns policy.using asked.cells asked.role) bound h)
 
 allows_by_parts : (asked : Asked) (policy : Policy) → (policy.restrictive ≡ true → Applies asked.role asked.table policy → IsTrueOn asked policy.using) → allows asked policy ≡ true
 allows_by_parts asked policy rule = by policy.restrictive (applies asked.role asked.table policy) refl refl where
   holds : Bool
-  holds = rule_holds asked.columns asked.table policy.using asked.cells asked.role
+  holds = rule_holds asked.columns policy.using asked.cells asked.role
 
   by : (restrictive applying : Bool) → policy.restrictive ≡ restrictive → applies asked.role asked.table policy ≡ applying → (not (restrictive && applying) || holds) ≡ true
   by false applying is here = refl

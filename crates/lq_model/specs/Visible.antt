@@ -29,18 +29,18 @@ cell_named (column ∷ columns) (cell ∷ cells) name = if bytes_eq column name 
 abbrev pub rule_world : List (List ℕ) → World (List Scalar)
 rule_world columns = record { schemas = []; rows = []; cell = cell_named columns; unknown = fault.NullReference }
 
--- the names of a rule: `row`, and `user`, which is the name of the role
-abbrev pub rule_scope : ℕ → List Scalar → List ℕ → Scope (List Scalar)
-rule_scope table cells user =
-    record { name = codes "row"; ty = ty.Row table; value = value.Row cells } ∷ record { name = codes "user"; ty = ty.Str; value = value.Scalar (scalar.Text user) } ∷ []
+-- the names of a rule: `row`, of the one table that a rule is about, and `user`, which is the name of the role
+abbrev pub rule_scope : List Scalar → List ℕ → Scope (List Scalar)
+rule_scope cells user =
+    record { name = codes "row"; ty = ty.Row 0; value = value.Row cells } ∷ record { name = codes "user"; ty = ty.Str; value = value.Scalar (scalar.Text user) } ∷ []
 
 abbrev pub is_true : Result Bool Fault → Bool
 is_true (Ok b) = b
 is_true (Err f) = false
 
 -- whether a rule is true on a row of a table for a role
-abbrev pub rule_holds : List (List ℕ) → ℕ → Expr → List Scalar → List ℕ → Bool
-rule_holds columns table rule cells user = is_true (truth_at (rule_world columns) rule (rule_scope table cells user))
+abbrev pub rule_holds : List (List ℕ) → Expr → List Scalar → List ℕ → Bool
+rule_holds columns rule cells user = is_true (truth_at (rule_world columns) rule (rule_scope cells user))
 
 -- ---- policies
 
@@ -61,11 +61,11 @@ pub record Asked : Type 0 where
 
 -- a permissive policy that applies and is true on the row
 abbrev pub permits : Asked → Policy → Bool
-permits asked policy = not policy.restrictive && applies asked.role asked.table policy && rule_holds asked.columns asked.table policy.using asked.cells asked.role
+permits asked policy = not policy.restrictive && applies asked.role asked.table policy && rule_holds asked.columns policy.using asked.cells asked.role
 
 -- not a restrictive policy that applies and isn't true on the row
 abbrev pub allows : Asked → Policy → Bool
-allows asked policy = not (policy.restrictive && applies asked.role asked.table policy) || rule_holds asked.columns asked.table policy.using asked.cells asked.role
+allows asked policy = not (policy.restrictive && applies asked.role asked.table policy) || rule_holds asked.columns policy.using asked.cells asked.role
 
 -- some policy permits the row, and each one allows it
 abbrev pub admit : List Policy → Asked → Bool
@@ -99,7 +99,7 @@ pub record HasCell (columns : List (List ℕ)) (cells : List Scalar) (name : Lis
 abbrev pub IsTrueOn : Asked → Expr → Type 0
 IsTrueOn asked rule =
     let world : World (List Scalar) = record { schemas = []; rows = []; cell = cell_named asked.columns; unknown = fault.NullReference } in
-    let row : Binding (List Scalar) = record { name = codes "row"; ty = ty.Row asked.table; value = value.Row asked.cells } in
+    let row : Binding (List Scalar) = record { name = codes "row"; ty = ty.Row 0; value = value.Row asked.cells } in
     let user : Binding (List Scalar) = record { name = codes "user"; ty = ty.Str; value = value.Scalar (scalar.Text asked.role) } in
     let scope : Scope (List Scalar) = row ∷ user ∷ [] in
     meaning world rule scope ≡ Ok (value.Scalar (scalar.Bool true))
