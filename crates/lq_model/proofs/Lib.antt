@@ -23,12 +23,14 @@ pub mod ReadParts
 pub mod ReadPrimaries
 pub mod ReadQueries
 pub mod ReadStatements
+pub mod RuleTypes
 pub mod ScalarResults
 pub mod ScriptLemmas
 pub mod SessionLemmas
 pub mod Soundness
 pub mod SourceTypes
 pub mod Trees
+pub mod TotalRules
 pub mod TotalityLemmas
 pub mod TypedValues
 pub mod TypingLemmas

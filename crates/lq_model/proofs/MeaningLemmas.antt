@@ -654,7 +654,7 @@ cell_by c column rest rest_cell cell t fits others true found h =
 cell_by c column rest rest_cell cell t fits others false found h = others found h
 
 -- the cell under a column that is there
-cell_there : (columns : List Column) (cells : List Scalar) → HaveTypes columns cells → (c : List ℕ) (found : Column) → column_named c columns ≡ Some found
+pub cell_there : (columns : List Column) (cells : List Scalar) → HaveTypes columns cells → (c : List ℕ) (found : Column) → column_named c columns ≡ Some found
     → (s : Scalar) × (cell_named (map (λ column. column.name) columns) cells c ≡ Some s) × IsScalarOf (out-Ty (type_of_column found.ty)) s
 cell_there [] cells fit c found h = absurd (none-some found h)
 cell_there (column ∷ columns) [] fit c found h = absurd fit

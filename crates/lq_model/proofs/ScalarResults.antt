@@ -52,7 +52,7 @@ HasTexts Ty-F.Str = Unit {0}
 HasTexts Ty-F.Null = Unit {0}
 HasTexts layer = ⊥
 
-number_there : (layer : Ty-F Ty) (s : Scalar) → HasNumbers layer → IsScalarOf layer s → IsNumber s
+pub number_there : (layer : Ty-F Ty) (s : Scalar) → HasNumbers layer → IsScalarOf layer s → IsNumber s
 number_there Ty-F.Int (scalar.Int n) h fits = tt
 number_there Ty-F.Int s h fits = absurd fits
 number_there Ty-F.IntN (scalar.Int n) h fits = tt
@@ -77,7 +77,7 @@ text_there Ty-F.Null scalar.Null h fits = tt
 text_there Ty-F.Null s h fits = absurd fits
 text_there layer s h fits = absurd h
 
-number_layer : (layer : Ty-F Ty) → is_number layer ≡ true → HasNumbers layer
+pub number_layer : (layer : Ty-F Ty) → is_number layer ≡ true → HasNumbers layer
 number_layer Ty-F.Int h = tt
 number_layer Ty-F.IntN h = tt
 number_layer layer h = absurd (true≢false (sym h))
@@ -125,7 +125,7 @@ sequence_is_no_scalar layer item h k = none-some item h
 abbrev pub Decides : (Fault → Result Bool Fault) → Type 0
 Decides o = (b : Bool) × ((unknown : Fault) → o unknown ≡ Ok b)
 
-numbers_ordered : (test : ℤ → ℤ → Bool) (s t : Scalar) → IsNumber s → IsNumber t → Decides (λ unknown. ordered_by unknown test s t)
+pub numbers_ordered : (test : ℤ → ℤ → Bool) (s t : Scalar) → IsNumber s → IsNumber t → Decides (λ unknown. ordered_by unknown test s t)
 numbers_ordered test (scalar.Int m) (scalar.Int n) a b = (test m n, λ unknown. refl)
 numbers_ordered test (scalar.Int m) scalar.Null a b = (false, λ unknown. refl)
 numbers_ordered test (scalar.Int m) t a b = absurd b

@@ -78,10 +78,10 @@ text_layer layer h = absurd (true≢false (sym h))
 is_sequence : (t item : Ty) → item_of (out-Ty t) ≡ Some item → t ≡ ty.Seq item
 is_sequence t item h = is_of_layer t ∙ item_layer (out-Ty t) item h
 
-is_truth : (t : Ty) → is_bool (out-Ty t) ≡ true → t ≡ ty.Bool
+pub is_truth : (t : Ty) → is_bool (out-Ty t) ≡ true → t ≡ ty.Bool
 is_truth t h = is_of_layer t ∙ bool_layer (out-Ty t) h
 
-is_text_of : (t : Ty) → is_text (out-Ty t) ≡ true → t ≡ ty.Str
+pub is_text_of : (t : Ty) → is_text (out-Ty t) ≡ true → t ≡ ty.Str
 is_text_of t h = is_of_layer t ∙ text_layer (out-Ty t) h
 
 -- ---- what the rules give is found

@@ -1,9 +1,15 @@
-//! The law of total rules. The function's contract is the law that it is named for; the function
-//! itself does nothing.
-ghost use Rattle.lq_model.specs.TotalityLaws.{TellsTotal};
+//! The laws of total rules. Each function's contract is the law that it is named for; the functions
+//! themselves do nothing.
+ghost use Rattle.lq_model.specs.TotalityLaws.{DecidesRules, TellsTotal};
 
 /// The function that looks whether a rule can fault tells exactly the rules that are total by their
 /// form.
 pub fn total_rules_are_told()
     ensures { TellsTotal }
+{}
+
+/// A total rule that is typed has a truth value on every row of the schema and for every user: it
+/// can't fault.
+pub fn total_rules_decide()
+    ensures { DecidesRules }
 {}
