@@ -70,7 +70,7 @@ module _ {R : Type 0} (world : World R) where
   truth_by (Ok shape) = refl
   truth_by (Err f) = refl
 
-  truth_viewed : (m : Result (Value R) Fault) → on_scalar (faulting world) m (truth_of fault.NullReference) ≡ on_ok (viewed m) truth_in
+  pub truth_viewed : (m : Result (Value R) Fault) → on_scalar (faulting world) m (truth_of fault.NullReference) ≡ on_ok (viewed m) truth_in
   truth_viewed m = ap (λ (x : Result Scalar Fault). on_ok x (truth_of fault.NullReference)) (scalar_viewed m) ∙ truth_by (viewed m)
 
   truth_then : (m : Result (Value R) Fault) (next : Bool → Result (Value R) Fault) (shown : Bool → Result (Shape R) Fault) → ((b : Bool) → viewed (next b) ≡ shown b)

@@ -1,6 +1,6 @@
 -- The text of a reply of items, and the items of a stream that goes over rows.
-use Rattle.std.proofs.Common.{◌≡◌, ◌∷◌, ◌++◌, List, [], ℕ, ℤ, pos, negsuc, Bool, true, false, codes, ap, ◌∙◌, sym, refl, append_assoc}
-use Rattle.serde_json.specs.Data.{Data, number, object}
+use Rattle.std.proofs.Common.{◌≡◌, ◌∷◌, ◌++◌, List, [], ℕ, ℤ, pos, negsuc, Bool, true, false, Ok, codes, ap, ◌∙◌, sym, refl, append_assoc}
+use Rattle.serde_json.specs.Data.{Data, no_members, number, object, put}
 use Rattle.serde_json.specs.Find.{of_integer}
 use Rattle.serde_json.specs.View.{items_of}
 use Rattle.serde_json.specs.Written.{comma_if, compact_text, has_float, items_text}
@@ -10,8 +10,12 @@ use Rattle.lq_value.specs.declared.scalar.Scalar.TheVariants as scalar
 use Rattle.lq_value.specs.declared.value.End.{End}
 use Rattle.lq_value.specs.declared.value.End.TheVariants as end
 use Rattle.lq_value.specs.declared.value.Fault.TheVariants as fault
-use Rattle.lq_model.specs.Served.{error_data, line_of, scalar_data, stream_members}
-use Rattle.lq_session.specs.Items.{listed, opening}
+use Rattle.lq_value.specs.declared.value.Value.{Value}
+use Rattle.lq_value.specs.declared.value.Value.TheOpen.{Value-F}
+use Rattle.lq_value.specs.declared.value.Value.TheVariants.{outs-Scalar}
+use Rattle.lq_model.specs.Visible.{TableRow}
+use Rattle.lq_model.specs.Served.{error_data, layer_data, line_of, scalar_data, stream_members}
+use Rattle.lq_session.specs.Items.{found_members, listed, opening}
 
 -- an array's items are listed before its closing bracket
 pub items_text-listed : (later : Bool) (ds : List Data) → items_text later (items_of ds) ≡ listed later ds ++ 93 ∷ []
@@ -60,3 +64,9 @@ no_float (scalar.Text t) = refl
 
 pub error_no_float : (word : List ℕ) → has_float (error_data word) ≡ false
 error_no_float word = refl
+
+-- the members of a scalar's reply
+pub members_of_scalar : (s : Scalar) → found_members (Ok s) ≡ put (codes "value") (scalar_data s) no_members
+members_of_scalar s = ap (λ (layer : Value-F TableRow (Value TableRow)). put (codes "value") (layer_data layer) no_members) (outs-Scalar s)
+
+pub ruleset values = (no_float, members_of_scalar)

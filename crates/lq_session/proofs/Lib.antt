@@ -1,9 +1,7 @@
-pub mod OneRowLemmas
 pub mod TypingLemmas
 pub mod ItemLemmas
 pub mod QueryLemmas
-pub mod ScalarLemmas
-pub mod SourceLemmas
+pub mod ScalarMeanings
 pub mod ServesLemmas
 pub mod StepLemmas
 pub mod StoredLemmas

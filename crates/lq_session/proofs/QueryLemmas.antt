@@ -6,13 +6,13 @@ use Rattle.serde_json.specs.Data.{Data}
 use Rattle.lq_value.specs.declared.scalar.Scalar.{Scalar}
 use Rattle.lq_value.specs.declared.ty.Ty.{Ty}
 use Rattle.lq_value.specs.declared.ty.Ty.TheVariants as ty
-use Rattle.lq_value.specs.declared.ty.Ty.TheVariants.{outs-Row, outs-Seq}
 use Rattle.lq_value.specs.declared.value.End.{End}
 use Rattle.lq_value.specs.declared.value.End.TheVariants as end
 use Rattle.lq_value.specs.declared.value.Fault.{Fault}
 use Rattle.lq_value.specs.declared.value.Value.{Value}
+use Rattle.lq_value.specs.declared.value.Value.TheVariants as value
 use Rattle.lq_value.specs.declared.value.Value.TheVariants.{outs-Scalar}
-use Rattle.lq_model.specs.Meaning.{Scope, World, clause_meaning, clauses_meaning, last_meaning, meaning, truth_at as value_truth}
+use Rattle.lq_model.specs.Meaning.{Scope, World, as_value, clause_meaning, clauses_meaning, condition_at, last_meaning, meaning}
 use Rattle.lq_model.specs.Operations.{on_ok}
 use Rattle.lq_model.specs.Served.{item_data, layer_data, scalar_data}
 use Rattle.lq_model.specs.Stream.{Stream, each, kept, one, then_ending, then_stream}
@@ -22,10 +22,9 @@ use Rattle.lq_model.specs.declared.syntax.Clause.TheVariants as clause
 use Rattle.lq_model.specs.declared.syntax.Expr.{Expr}
 use Rattle.lq_model.specs.declared.syntax.Last.{Last}
 use Rattle.lq_model.specs.declared.syntax.Last.TheVariants as last
-use Rattle.lq_session.specs.OneRow.{given_at, passes, selected, truth_at}
-use Rattle.lq_session.specs.Given.{clause_is_typed, clauses_are_typed, selects_scalar, top_names}
-use Rattle.lq_session.proofs.OneRowLemmas.{condition_means, faulting, row_scope}
-use Rattle.lq_session.proofs.ScalarLemmas.{as_values, scalar_found}
+use Rattle.lq_scalar.specs.Shapes.{faulting, truth_of_expression}
+use Rattle.lq_session.specs.Given.{clause_is_typed, clauses_are_typed, given_at, passes, selected, selects_scalar, top_names}
+use Rattle.lq_session.proofs.ScalarMeanings.{condition_means, row_names, scalar_means}
 
 -- ---- streams that keep or drop items by a test
 
@@ -78,25 +77,35 @@ clauses_at world cs scopes = clauses_meaning world type_of (meaning world) [] cs
 abbrev pub last_at : {R : Type 0} → World R → Last Expr → Stream (Scope R) → Stream (Value R)
 last_at world l scopes = last_meaning world type_of (meaning world) l scopes
 
+-- the scope of a row
+abbrev pub item_scope : {R : Type 0} → List ℕ → Ty → R → Scope R
+item_scope variable t r = record { name = variable; ty = t; value = value.Row r } ∷ []
+
 module _ {R : Type 0} (world : World R) (variable : List ℕ) (t : Ty) where
+  abbrev at : R → Scope R
+  at r = item_scope variable t r
+
   -- the scopes of the rows that pass a test
   abbrev pub kept_rows : (R → Result Bool Fault) → List R → End → Stream (Scope R)
-  kept_rows test rows e = each (λ r. kept (test r) (row_scope (faulting world) variable t r)) rows e
+  kept_rows test rows e = each (λ r. kept (test r) (at r)) rows e
+
+  abbrev is_met : Expr → Scope R → Result Bool Fault
+  is_met c scope = condition_at (faulting world) type_of (meaning (faulting world)) c scope
 
   where_rows : (c : Expr) (test : R → Result Bool Fault) (rows : List R) (e : End)
-      → clause_at (faulting world) (clause.Where c) (kept_rows test rows e) ≡ kept_rows (λ r. both (test r) (truth_at variable (world.cell r) c)) rows e
+      → clause_at (faulting world) (clause.Where c) (kept_rows test rows e) ≡ kept_rows (λ r. both (test r) (truth_of_expression world (at r) c)) rows e
   where_rows c test rows e =
-      each-kept (row_scope (faulting world) variable t) (λ s. kept (value_truth (faulting world) c s) s) test rows e
-      ∙ (λ i. each (λ r. (gated-kept (test r) (value_truth (faulting world) c (row_scope (faulting world) variable t r)) (row_scope (faulting world) variable t r)
-      ∙ ap (λ (u : Result Bool Fault). kept (both (test r) u) (row_scope (faulting world) variable t r)) (condition_means (faulting world) variable t r c)) i) rows e)
+      each-kept at (λ s. kept (is_met c s) s) test rows e
+      ∙ (λ i. each (λ r. (gated-kept (test r) (is_met c (at r)) (at r)
+      ∙ ap (λ (u : Result Bool Fault). kept (both (test r) u) (at r)) (condition_means world (at r) c)) i) rows e)
 
   pub clauses_rows : (names : Names) (cs : List (Clause Expr)) (test : R → Result Bool Fault) (rows : List R) (e : End) → clauses_are_typed names cs ≡ true
-      → clauses_at (faulting world) cs (kept_rows test rows e) ≡ kept_rows (λ r. both (test r) (passes variable (world.cell r) cs)) rows e
+      → clauses_at (faulting world) cs (kept_rows test rows e) ≡ kept_rows (λ r. both (test r) (passes world (at r) cs)) rows e
   clauses_rows names [] test rows e typed = λ i. kept_rows (λ r. sym (both-true (test r)) i) rows e
   clauses_rows names (clause.Where c ∷ cs) test rows e typed =
       ap (clauses_at (faulting world) cs) (where_rows c test rows e)
-      ∙ clauses_rows names cs (λ r. both (test r) (truth_at variable (world.cell r) c)) rows e (and_parts (clause_is_typed names (clause.Where c)) (clauses_are_typed names cs) typed).1
-      ∙ (λ i. kept_rows (λ r. both-assoc (test r) (truth_at variable (world.cell r) c) (passes variable (world.cell r) cs) i) rows e)
+      ∙ clauses_rows names cs (λ r. both (test r) (truth_of_expression world (at r) c)) rows e (and_parts (clause_is_typed names (clause.Where c)) (clauses_are_typed names cs) typed).1
+      ∙ (λ i. kept_rows (λ r. both-assoc (test r) (truth_of_expression world (at r) c) (passes world (at r) cs) i) rows e)
   clauses_rows names (other ∷ cs) test rows e typed = absurd (true≢false (sym typed))
 
 -- ---- what is selected
@@ -121,7 +130,7 @@ as_data-each f (r ∷ rows) e = as_data-then (f r).0 (f r).1 (each f rows e) ∙
 
 -- what a row gives, by the outcome of its test and of what it selects
 selected_as : (R : Type 0) (test : Result Bool Fault) (found : Result Scalar Fault)
-    → as_data {R = R} (gated test (one (as_values found))) ≡ given_stream (on_ok test (λ b. if b then on_ok found (λ s. Ok (Some s)) else Ok None))
+    → as_data {R = R} (gated test (one (as_value found))) ≡ given_stream (on_ok test (λ b. if b then on_ok found (λ s. Ok (Some s)) else Ok None))
 selected_as R (Ok true) (Ok s) = ap (λ u. (layer_data u ∷ [], end.Done)) (outs-Scalar s)
 selected_as R (Ok true) (Err f) = refl
 selected_as R (Ok false) found = refl
@@ -131,29 +140,32 @@ module _ {R : Type 0} (world : World R) (variable : List ℕ) (number : ℕ) whe
   abbrev item : Ty
   item = ty.Row number
 
+  abbrev row_at : R → Scope R
+  row_at r = item_scope variable item r
+
   -- the names of a query's body
   abbrev body_names : Names
   body_names = with_local (top_names world.schemas) variable item
 
   pub last_rows : (cs : List (Clause Expr)) (l : Last Expr) (test : R → Result Bool Fault) (rows : List R) (e : End) → selects_scalar body_names l ≡ true
-      → as_data (last_at (faulting world) l (kept_rows (faulting world) variable item test rows e))
-      ≡ each (λ r. as_data {R = R} (gated (test r) (one (as_values (selected variable (world.cell r) l))))) rows e
+      → as_data (last_at (faulting world) l (kept_rows world variable item test rows e))
+      ≡ each (λ r. as_data {R = R} (gated (test r) (one (as_value (selected world (row_at r) l))))) rows e
   last_rows cs (last.Select v) test rows e typed =
-      ap as_data (each-kept (row_scope (faulting world) variable item) (λ s. one (meaning (faulting world) v s)) test rows e)
-      ∙ as_data-each (λ r. gated (test r) (one (meaning (faulting world) v (row_scope (faulting world) variable item r)))) rows e
-      ∙ (λ i. each (λ r. as_data (gated (test r) (one (scalar_found (faulting world) world.schemas variable number r v typed i)))) rows e)
+      ap as_data (each-kept row_at (λ s. one (meaning (faulting world) v s)) test rows e)
+      ∙ as_data-each (λ r. gated (test r) (one (meaning (faulting world) v (row_at r)))) rows e
+      ∙ (λ i. each (λ r. as_data (gated (test r) (one (scalar_means world (row_at r) (row_names variable number r) v typed i)))) rows e)
   last_rows cs (last.Group v key) test rows e typed = absurd (true≢false (sym typed))
 
   -- the rows of a query, from its clauses to what it selects
   pub body_rows : (cs : List (Clause Expr)) (l : Last Expr) (rows : List R) → clauses_are_typed body_names cs ≡ true → selects_scalar body_names l ≡ true
-      → as_data (last_at (faulting world) l (clauses_at (faulting world) cs (map (row_scope (faulting world) variable item) rows, end.Done)))
-      ≡ each (λ r. given_stream (given_at variable (world.cell r) cs l)) rows end.Done
+      → as_data (last_at (faulting world) l (clauses_at (faulting world) cs (map row_at rows, end.Done)))
+      ≡ each (λ r. given_stream (given_at world (row_at r) cs l)) rows end.Done
   body_rows cs l rows clauses typed =
       ap (λ (s : Stream (Scope R)). as_data (last_at (faulting world) l (clauses_at (faulting world) cs s))) (all_rows rows)
-      ∙ ap (λ (s : Stream (Scope R)). as_data (last_at (faulting world) l s)) (clauses_rows (faulting world) variable item body_names cs (λ r. Ok true) rows end.Done clauses)
-      ∙ last_rows cs l (λ r. passes variable (world.cell r) cs) rows end.Done typed
-      ∙ (λ i. each (λ r. selected_as R (passes variable (world.cell r) cs) (selected variable (world.cell r) l) i) rows end.Done)
+      ∙ ap (λ (s : Stream (Scope R)). as_data (last_at (faulting world) l s)) (clauses_rows world variable item body_names cs (λ r. Ok true) rows end.Done clauses)
+      ∙ last_rows cs l (λ r. passes world (row_at r) cs) rows end.Done typed
+      ∙ (λ i. each (λ r. selected_as R (passes world (row_at r) cs) (selected world (row_at r) l) i) rows end.Done)
     where
-      all_rows : (rs : List R) → (map (row_scope (faulting world) variable item) rs, end.Done) ≡ kept_rows (faulting world) variable item (λ r. Ok true) rs end.Done
+      all_rows : (rs : List R) → (map row_at rs, end.Done) ≡ kept_rows world variable item (λ r. Ok true) rs end.Done
       all_rows [] = refl
-      all_rows (r ∷ rs) = ap (λ (s : Stream (Scope R)). (row_scope (faulting world) variable item r ∷ s.0, s.1)) (all_rows rs)
+      all_rows (r ∷ rs) = ap (λ (s : Stream (Scope R)). (row_at r ∷ s.0, s.1)) (all_rows rs)

@@ -15,23 +15,24 @@ use Rattle.lq_value.specs.declared.value.Fault.{Fault}
 use Rattle.lq_value.specs.declared.value.Value.{Value}
 use Rattle.lq_value.specs.declared.value.Value.TheVariants as value
 use Rattle.lq_value.specs.declared.value.Value.TheVariants.{outs-Seq as outs-value-Seq}
-use Rattle.lq_model.specs.Machine.{columns_in, run_reply, schemas_of, served, world_of}
+use Rattle.lq_model.specs.Machine.{run_reply, schemas_of, served, served_value, value_reply, world_of}
 use Rattle.lq_model.specs.Meaning.{Scope, World, bound, bound_stream, continued, item_type_at, items_of, meaning, or_null, query_meaning, stream_meaning, stream_of, table_value}
-use Rattle.lq_model.specs.Served.{error_data, stream_data, stream_members}
+use Rattle.lq_model.specs.Served.{error_data, stream_data, stream_members, value_data}
 use Rattle.lq_model.specs.Stream.{Stream, each, then_stream}
-use Rattle.lq_model.specs.Typing.{item_of, item_type, type_of}
-use Rattle.lq_model.specs.Visible.{TableRow, cell_named, seen_rows, tables_as_seen, visible_to}
+use Rattle.lq_model.specs.Typing.{if_scalar, item_of, item_type, type_of}
+use Rattle.lq_model.specs.Visible.{TableRow, seen_rows, tables_as_seen, visible_to}
 use Rattle.lq_model.specs.declared.policy.PolicyParts.{PolicyParts}
 use Rattle.lq_model.specs.declared.syntax.Continuation.{Continuation}
 use Rattle.lq_model.specs.declared.syntax.Expr.{Expr}
 use Rattle.lq_model.specs.declared.syntax.Query.{Query}
 use Rattle.lq_model.proofs.MeaningLemmas.{seen_at}
-use Rattle.lq_session.specs.Given.{IsOver, given_to, top_names}
-use Rattle.lq_session.specs.Items.{before_items, items_given}
-use Rattle.lq_session.specs.OneRow.{given_at}
-use Rattle.lq_session.proofs.OneRowLemmas.{faulting, row_scope}
-use Rattle.lq_session.proofs.QueryLemmas.{as_data, body_rows, clauses_at, given_stream, last_at}
-use Rattle.lq_session.proofs.SourceLemmas.{rows_of_table, table_of_rows, schema_at, source_means}
+use Rattle.lq_model.proofs.Opens.{meaning_name}
+use Rattle.lq_scalar.specs.Shapes.{faulting, scalar_of_expression}
+use Rattle.lq_session.specs.Given.{IsOver, given_at, given_to, top_names, world_seen}
+use Rattle.lq_session.specs.Items.{before_items, found_members, items_given}
+use Rattle.lq_session.proofs.QueryLemmas.{as_data, body_rows, clauses_at, given_stream, item_scope, last_at}
+use Rattle.lq_session.proofs.ScalarMeanings.{no_names, scalar_means}
+use Rattle.lq_session.proofs.TypingLemmas.{some_scalar, source_named}
 
 -- ---- rows, one at a time
 
@@ -60,12 +61,23 @@ abbrev source_type : {R : Type 0} → World R → Expr → Scope R → Ty
 source_type world source scope = item_type_at world type_of (meaning world) source scope
 
 module _ {R : Type 0} (world : World R) (q : Query Expr) (number : ℕ) (rows : List R) where
+  abbrev at : R → Scope R
+  at r = item_scope q.name (ty.Row number) r
+
+  -- a source with the type of a table's rows means these rows
+  source_means : type_of q.source (top_names world.schemas) ≡ Some (ty.Seq (ty.Row number)) → slice_get world.rows number ≡ Some rows
+      → meaning (faulting world) q.source [] ≡ Ok (value.Seq (map value.Row rows) end.Done)
+  source_means typed there =
+      let named = source_named world.schemas q.source number typed in
+      ap (λ (e : Expr). meaning (faulting world) e []) named.1 ∙ meaning_name (faulting world) named.0 []
+      ∙ ap (λ (o : Option ℕ). table_value (faulting world) (option_and_then (λ n. slice_get world.rows n) o)) named.2
+      ∙ ap (table_value (faulting world)) there
+
   -- the source's items, each bound to the range variable
   bound_rows : (over : IsOver world.schemas q number) → slice_get world.rows number ≡ Some rows
-      → bound_stream q.name (source_type (faulting world) q.source []) [] (stream_of (faulting world) (meaning (faulting world) q.source [])) ≡ (map (row_scope (faulting world) q.name (ty.Row number)) rows, end.Done)
-  bound_rows over at =
-      ap (λ (m : Result (Value R) Fault). bound_stream q.name (source_type (faulting world) q.source []) [] (stream_of (faulting world) m))
-      (source_means (faulting world) number q.source (ap table_of_rows over.source ∙ rows_of_table number) ∙ ap (table_value (faulting world)) at)
+      → bound_stream q.name (source_type (faulting world) q.source []) [] (stream_of (faulting world) (meaning (faulting world) q.source [])) ≡ (map at rows, end.Done)
+  bound_rows over there =
+      ap (λ (m : Result (Value R) Fault). bound_stream q.name (source_type (faulting world) q.source []) [] (stream_of (faulting world) m)) (source_means over.source there)
       ∙ ap (λ u. bound_stream q.name (source_type (faulting world) q.source []) [] (items_of (faulting world) u)) (outs-value-Seq (map value.Row rows) end.Done)
       ∙ ap (λ (t : Ty). bound_stream q.name t [] (map value.Row rows, end.Done)) item_is
       ∙ ap (λ (scopes : List (Scope R)). (scopes, end.Done)) (map-map (bound q.name (ty.Row number) []) value.Row rows)
@@ -75,15 +87,15 @@ module _ {R : Type 0} (world : World R) (q : Query Expr) (number : ℕ) (rows : 
 
   -- the stream of the query, as data
   pub query_rows : (over : IsOver world.schemas q number) → slice_get world.rows number ≡ Some rows
-      → as_data (stream_meaning (faulting world) q []) ≡ each (λ r. given_stream (given_at q.name (world.cell r) q.body.clauses q.body.last)) rows end.Done
+      → as_data (stream_meaning (faulting world) q []) ≡ each (λ r. given_stream (given_at world (at r) q.body.clauses q.body.last)) rows end.Done
   unfolding query_meaning
-  query_rows over at =
+  query_rows over there =
       ap (λ (rest : List (Continuation Expr)). as_data (continued (faulting world) type_of (meaning (faulting world)) rest (last_at (faulting world) q.body.last
       (clauses_at (faulting world) q.body.clauses (bound_stream q.name (source_type (faulting world) q.source []) [] (stream_of (faulting world) (meaning (faulting world) q.source []))))))) over.ended
-      ∙ ap (λ (s : Stream (Scope R)). as_data (last_at (faulting world) q.body.last (clauses_at (faulting world) q.body.clauses s))) (bound_rows over at)
-      ∙ body_rows (faulting world) q.name number q.body.clauses q.body.last rows over.clauses over.selected
+      ∙ ap (λ (s : Stream (Scope R)). as_data (last_at (faulting world) q.body.last (clauses_at (faulting world) q.body.clauses s))) (bound_rows over there)
+      ∙ body_rows world q.name number q.body.clauses q.body.last rows over.clauses over.selected
 
--- ---- the reply
+-- ---- the reply of a query
 
 served_typed : (world : World TableRow) (q : Query Expr) (o : Option Ty) → is_some o ≡ true → served world q o ≡ stream_data (stream_meaning world q [])
 served_typed world q None h = absurd (true≢false (sym h))
@@ -94,27 +106,44 @@ unfolding run_reply
 reply_untyped schemas rows q h = ap (served (world_of schemas rows) q) h
 
 -- what a table's rows give to a query under the policies of a role
-abbrev pub items_to : PolicyParts → ℕ → ℕ → Table → Query Expr → List Data × End
-items_to parts role number table q = items_given (given_to parts role number (map (λ column. column.name) table.schema.columns) q) table.rows
+abbrev pub items_to : PolicyParts → ℕ → List Table → ℕ → Query Expr → List Row → List Data × End
+items_to parts role tables number q rows = items_given (given_to parts role tables number q.name q.body) rows
 
 abbrev pub reply_of_items : List Data × End → Data
 reply_of_items items = object (stream_members items.0 items.1)
 
 pub reply_typed : (parts : PolicyParts) (role number : ℕ) (tables : List Table) (table : Table) (q : Query Expr)
     → slice_get tables number ≡ Some table → IsOver (schemas_of tables) q number
-    → run_reply (schemas_of tables) (tables_as_seen parts role tables) q ≡ reply_of_items (items_to parts role number table q)
+    → run_reply (schemas_of tables) (tables_as_seen parts role tables) q ≡ reply_of_items (items_to parts role tables number q table.rows)
 unfolding run_reply tables_as_seen
 reply_typed parts role number tables table q at over =
     served_typed world q (item_type type_of q (top_names (schemas_of tables))) over.typed
     ∙ ap reply_of_items (query_rows world q number (seen_rows parts role number table.rows) over rows_at)
-    ∙ ap reply_of_items (given_visible (λ r. given_at q.name (world.cell r) q.body.clauses q.body.last) (λ row. record { table = number; row = row }) (λ row. visible_to parts role number row.cells) table.rows)
-    ∙ ap (λ (o : Option Schema). reply_of_items (items_given (λ row. if visible_to parts role number row.cells then given_at q.name (cell_named (columns_in o) row.cells) q.body.clauses q.body.last else Ok None) table.rows)) schema_is
+    ∙ ap reply_of_items (given_visible (λ r. given_at world (item_scope q.name (ty.Row number) r) q.body.clauses q.body.last) (λ row. record { table = number; row = row })
+    (λ row. visible_to parts role number row.cells) table.rows)
   where
     world : World TableRow
-    world = world_of (schemas_of tables) (tables_as_seen parts role tables)
+    world = world_seen parts role tables
 
     rows_at : slice_get (tables_as_seen parts role tables) number ≡ Some (seen_rows parts role number table.rows)
     rows_at = seen_at parts role 0 number tables ∙ ap (option_map (λ t. seen_rows parts role (0 + number) t.rows)) at ∙ ap (λ n. Some (seen_rows parts role n table.rows)) (zero-add number)
 
-    schema_is : slice_get (schemas_of tables) number ≡ Some table.schema
-    schema_is = schema_at number tables ∙ ap (option_map (λ t. t.schema)) at
+-- ---- the reply of another expression
+
+pub value_untyped : (schemas : List Schema) (rows : List (List TableRow)) (e : Expr) → if_scalar (type_of e (top_names schemas)) ≡ None → value_reply schemas rows e ≡ error_data (codes "type")
+unfolding value_reply
+value_untyped schemas rows e h = ap (served_value (world_of schemas rows) e) h
+
+served_scalar : (world : World TableRow) (e : Expr) (o : Option Ty) → is_some o ≡ true → served_value world e o ≡ value_data (meaning world e [])
+served_scalar world e None h = absurd (true≢false (sym h))
+served_scalar world e (Some t) h = refl
+
+pub value_typed : (parts : PolicyParts) (role : ℕ) (tables : List Table) (e : Expr) → is_some (if_scalar (type_of e (top_names (schemas_of tables)))) ≡ true
+    → value_reply (schemas_of tables) (tables_as_seen parts role tables) e ≡ object (found_members (scalar_of_expression (world_seen parts role tables) [] e))
+unfolding value_reply
+value_typed parts role tables e typed =
+    served_scalar world e (if_scalar (type_of e (top_names (schemas_of tables)))) typed
+    ∙ ap value_data (scalar_means world [] (no_names TableRow) e (sym (some_scalar (type_of e (top_names (schemas_of tables)))) ∙ typed))
+  where
+    world : World TableRow
+    world = world_seen parts role tables

@@ -1,17 +1,18 @@
 -- From what a statement's calls give to the machine's step.
-use Rattle.std.proofs.Common.{◌≡◌, ◌∷◌, ◌++◌, List, [], map, ℕ, Bool, true, false, if◌then◌else◌, Option, Some, None, IsSome, ap, ap₂, ◌∙◌, sym, refl, codes, option_map, slice_get}
-use Rattle.serde_json.specs.Data.{Data}
+use Rattle.std.proofs.Common.{◌≡◌, ◌∷◌, ◌++◌, List, [], map, ℕ, Bool, true, false, if◌then◌else◌, Option, Some, None, IsSome, ap, ap₂, ◌∙◌, sym, refl, codes, option_map, slice_get, is_some, Result}
+use Rattle.serde_json.specs.Data.{Data, object}
 use Rattle.lq_value.specs.Tables.{Table}
+use Rattle.lq_value.specs.declared.scalar.Scalar.{Scalar}
+use Rattle.lq_value.specs.declared.value.Fault.{Fault}
 use Rattle.lq_value.specs.declared.table.Row.{Row}
-use Rattle.lq_value.specs.declared.table.Schema.{Schema}
 use Rattle.lq_value.specs.declared.value.End.{End}
-use Rattle.lq_model.specs.Machine.{State, perform, run_in, run_reply, served_top, step, step_by}
+use Rattle.lq_model.specs.Machine.{State, perform, run_in, run_reply, served_top, step, step_by, value_in}
 use Rattle.lq_model.specs.Depth.{is_deep}
 use Rattle.lq_model.specs.Reading.{Reading, IsTooDeep, reading_of, reading_of_tokens, says_or_not}
 use Rattle.lq_model.specs.Parsing.{statement_of}
 use Rattle.lq_model.specs.Served.{error_data, line_of}
 use Rattle.lq_model.specs.Tokens.{tokens_of}
-use Rattle.lq_model.specs.Typing.{item_type, type_of}
+use Rattle.lq_model.specs.Typing.{if_scalar, item_type, type_of}
 use Rattle.lq_model.specs.Visible.{tables_as_seen}
 use Rattle.lq_model.specs.declared.policy.PolicyParts.{PolicyParts}
 use Rattle.lq_model.specs.declared.syntax.Expr.{Expr}
@@ -23,10 +24,11 @@ use Rattle.lq_model.specs.declared.syntax.Statement.{Statement}
 use Rattle.lq_model.specs.declared.syntax.Statement.TheVariants as statement
 use Rattle.lq_model.specs.declared.token.Token.{Token}
 use Rattle.lq_model.proofs.SessionLemmas.{step_stays}
-use Rattle.lq_session.specs.Given.{IsOver, given_to, top_names}
-use Rattle.lq_session.specs.Items.{items_given, listed, opening}
+use Rattle.lq_scalar.specs.Shapes.{scalar_of_expression}
+use Rattle.lq_session.specs.Given.{IsOver, top_names, world_seen}
+use Rattle.lq_session.specs.Items.{found_members, listed, opening}
 use Rattle.lq_session.proofs.ItemLemmas.{line-listed}
-use Rattle.lq_session.proofs.ServesLemmas.{items_to, reply_of_items, reply_typed, reply_untyped}
+use Rattle.lq_session.proofs.ServesLemmas.{items_to, reply_of_items, reply_typed, reply_untyped, value_typed, value_untyped}
 
 -- ---- lines with and without a statement
 
@@ -63,11 +65,11 @@ pub step_state : (old : State) (line : List ℕ) (reply : Option (List ℕ)) →
 unfolding step
 step_state old line reply h = ap₂ (λ (r : Option (List ℕ)) (s : State). let both : Option (List ℕ) × State = (r, s) in both) h (sym (step_stays old (reading_of line)))
 
--- a query that is run is served, and any other expression has no type
+-- what is run is served
 pub performed_query : (old : State) (q : Query Expr) → (perform old (statement.Run (expr.Query q))).0 ≡ run_in old q
 performed_query old q = ap (served_top old) (outs-Query q)
 
-pub performed_node : (old : State) (n : Node Expr) → (perform old (statement.Run (expr.Node n))).0 ≡ error_data (codes "type")
+pub performed_node : (old : State) (n : Node Expr) → (perform old (statement.Run (expr.Node n))).0 ≡ value_in old (expr.Node n)
 performed_node old n = ap (served_top old) (outs-Node n)
 
 pub ruleset performed = (performed_query, performed_node)
@@ -84,23 +86,30 @@ module _ (parts : PolicyParts) (role number : ℕ) (tables : List Table) (q : Qu
   run_line = line_of (run_reply (map (λ table. table.schema) tables) (tables_as_seen parts role tables) q)
 
   -- by what the table with the number is
-  pub line_at : (o : Option Table) (schema : Schema) (rows : List Row) → slice_get tables number ≡ o → option_map (λ t. t.schema) o ≡ Some schema → option_map (λ t. t.rows) o ≡ Some rows
+  pub line_at : (o : Option Table) (rows : List Row) → slice_get tables number ≡ o → option_map (λ t. t.rows) o ≡ Some rows
       → IsOver (map (λ table. table.schema) tables) q number → (text : List ℕ) (e : End) (line : List ℕ)
-      → text ≡ listed false (items_given (given_to parts role number (map (λ column. column.name) schema.columns) q) rows).0
-      → e ≡ (items_given (given_to parts role number (map (λ column. column.name) schema.columns) q) rows).1
+      → text ≡ listed false (items_to parts role tables number q rows).0 → e ≡ (items_to parts role tables number q rows).1
       → line ≡ (opening e ++ text) ++ codes "]}\n" → line ≡ run_line
-  line_at None schema rows at has_schema has_rows over text e line h k l = absurd cc
-  line_at (Some t) schema rows at has_schema has_rows over text e line h k l =
-      let same_schema : schema ≡ t.schema = cc in
+  line_at None rows at has_rows over text e line h k l = absurd cc
+  line_at (Some t) rows at has_rows over text e line h k l =
       let same_rows : rows ≡ t.rows = cc in
-      let same : items_given (given_to parts role number (map (λ column. column.name) schema.columns) q) rows ≡ items_to parts role number t q
-      = ap₂ (λ (s : Schema) (rs : List Row). items_given (given_to parts role number (map (λ column. column.name) s.columns) q) rs) same_schema same_rows in
-      listed_line (items_to parts role number t q) text e line (h ∙ ap (λ (items : List Data × End). listed false items.0) same) (k ∙ ap (λ (items : List Data × End). items.1) same) l
+      let same : items_to parts role tables number q rows ≡ items_to parts role tables number q t.rows = ap (items_to parts role tables number q) same_rows in
+      listed_line (items_to parts role tables number q t.rows) text e line (h ∙ ap (λ (items : List Data × End). listed false items.0) same) (k ∙ ap (λ (items : List Data × End). items.1) same) l
       ∙ ap line_of (sym (reply_typed parts role number tables t q at over))
 
 -- the line of a query without a type
 pub untyped_line : (s : State) (q : Query Expr) → item_type type_of q (top_names (map (λ table. table.schema) s.tables)) ≡ None
     → line_of (error_data (codes "type")) ≡ line_of (run_reply (map (λ table. table.schema) s.tables) (tables_as_seen s.policies s.role s.tables) q)
 untyped_line s q h = ap line_of (sym (reply_untyped (map (λ table. table.schema) s.tables) (tables_as_seen s.policies s.role s.tables) q h))
+
+-- the line of another expression, with and without a type
+pub untyped_value : (s : State) (e : Expr) → if_scalar (type_of e (top_names (map (λ table. table.schema) s.tables))) ≡ None
+    → line_of (error_data (codes "type")) ≡ line_of (value_in s e)
+untyped_value s e h = ap line_of (sym (value_untyped (map (λ table. table.schema) s.tables) (tables_as_seen s.policies s.role s.tables) e h))
+
+pub typed_value : (s : State) (e : Expr) → is_some (if_scalar (type_of e (top_names (map (λ table. table.schema) s.tables)))) ≡ true → (found : Result Scalar Fault)
+    → scalar_of_expression (world_seen s.policies s.role s.tables) [] e ≡ found → line_of (object (found_members found)) ≡ line_of (value_in s e)
+typed_value s e typed found is =
+    ap (λ (o : Result Scalar Fault). line_of (object (found_members o))) (sym is) ∙ ap line_of (sym (value_typed s.policies s.role s.tables e typed))
 
 pub ruleset steps = (some_reply, blank_step, read_step, step_state)

@@ -15,8 +15,8 @@ use Rattle.lq_value.specs.declared.ty.Ty.TheVariants.{outs-Bool, outs-Int, outs-
 use Rattle.lq_store.specs.Rules.{IsTable, are_in_ranges, fit_columns, fits_schema, have_types, is_of_type}
 use Rattle.lq_model.specs.MeaningLaws.{Every, HaveTypes, IsScalarOf, IsTypedTable}
 use Rattle.lq_model.specs.Typing.{type_of_column}
-use Rattle.lq_model.proofs.MeaningLemmas.{serves_meanings}
-use Rattle.lq_session.specs.StoredMeanings.{ServesStoredMeanings}
+use Rattle.lq_model.proofs.MeaningLemmas.{serves_meanings, serves_values}
+use Rattle.lq_session.specs.StoredMeanings.{ServesStoredMeanings, ServesStoredValues}
 
 typed_cell : (t : ColumnType) (cell : Scalar) → is_of_type t cell ≡ true → IsScalarOf (out-Ty (type_of_column t)) cell
 typed_cell of.Int (scalar.Int n) h = subst (λ (u : Ty-F Ty). IsScalarOf u (scalar.Int n)) (sym outs-Int) tt
@@ -50,3 +50,6 @@ typed_table table kept k row is = typed_row table.schema.columns row.cells (each
 
 pub serves_stored_meanings : ServesStoredMeanings
 serves_stored_meanings s kept q unknown = serves_meanings s (λ k table is. typed_table table (kept k table is)) q unknown
+
+pub serves_stored_values : ServesStoredValues
+serves_stored_values s kept e unknown = serves_values s (λ k table is. typed_table table (kept k table is)) e unknown

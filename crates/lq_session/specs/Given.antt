@@ -1,29 +1,56 @@
 -- What a row of a table gives to a query, under the policies of a role.
-use Rattle.std.specs.Prelude.{◌≡◌, ◌∷◌, ◌==◌, ◌&&◌, length, if◌then◌else◌, List, [], ℕ, Bool, true, false, Option, Some, None, Result, Ok, is_some}
+use Rattle.std.specs.Prelude.{◌≡◌, ◌∷◌, ◌==◌, ◌&&◌, length, if◌then◌else◌, List, [], ℕ, Bool, true, false, Option, Some, None, Result, Ok, Err, is_some}
+use Rattle.lq_value.specs.Tables.{Table}
 use Rattle.lq_value.specs.declared.scalar.Scalar.{Scalar}
 use Rattle.lq_value.specs.declared.table.Row.{Row}
 use Rattle.lq_value.specs.declared.table.Schema.{Schema}
 use Rattle.lq_value.specs.declared.ty.Ty.{Ty, out-Ty}
 use Rattle.lq_value.specs.declared.ty.Ty.TheVariants as ty
 use Rattle.lq_value.specs.declared.value.Fault.{Fault}
+use Rattle.lq_value.specs.declared.value.Fault.TheVariants as fault
+use Rattle.lq_value.specs.declared.value.Value.TheVariants as value
+use Rattle.lq_model.specs.Machine.{schemas_of, world_of}
+use Rattle.lq_model.specs.Meaning.{Scope, World}
+use Rattle.lq_model.specs.Operations.{on_ok}
 use Rattle.lq_model.specs.Typing.{Names, is_bool_type, is_scalar, item_type, type_of, with_local}
-use Rattle.lq_model.specs.Visible.{cell_named, visible_to}
+use Rattle.lq_model.specs.Visible.{TableRow, tables_as_seen, visible_to}
 use Rattle.lq_model.specs.declared.policy.PolicyParts.{PolicyParts}
+use Rattle.lq_model.specs.declared.syntax.Body.{Body}
 use Rattle.lq_model.specs.declared.syntax.Clause.{Clause}
 use Rattle.lq_model.specs.declared.syntax.Clause.TheVariants as clause
 use Rattle.lq_model.specs.declared.syntax.Expr.{Expr}
 use Rattle.lq_model.specs.declared.syntax.Last.{Last}
 use Rattle.lq_model.specs.declared.syntax.Last.TheVariants as last
 use Rattle.lq_model.specs.declared.syntax.Query.{Query}
-use Rattle.lq_session.specs.OneRow.{given_at}
+use Rattle.lq_scalar.specs.Shapes.{scalar_of_expression, truth_of_expression}
 
--- what a visible row gives: the query's clauses and what it selects, on the row
-abbrev pub given_by : List (List ℕ) → Query Expr → Row → Result (Option Scalar) Fault
-given_by columns q row = given_at q.name (cell_named columns row.cells) q.body.clauses q.body.last
+-- the tables as a role sees them: what the machine serves
+abbrev pub world_seen : PolicyParts → ℕ → List Table → World TableRow
+world_seen policies role tables = world_of (schemas_of tables) (tables_as_seen policies role tables)
 
--- a hidden row gives nothing
-abbrev pub given_to : PolicyParts → ℕ → ℕ → List (List ℕ) → Query Expr → Row → Result (Option Scalar) Fault
-given_to parts role table columns q row = if visible_to parts role table row.cells then given_by columns q row else Ok None
+-- a variable that stands for a row of a table
+abbrev pub row_scope : List ℕ → ℕ → Row → Scope TableRow
+row_scope variable table row = record { name = variable; ty = ty.Row table; value = value.Row (record { table = table; row = row }) } ∷ []
+
+module _ {R : Type 0} (world : World R) (scope : Scope R) where
+  -- whether each clause is true, from the first on; the first fault is the answer
+  abbrev pub passes : List (Clause Expr) → Result Bool Fault
+  passes [] = Ok true
+  passes (clause.Where c ∷ cs) = on_ok (truth_of_expression world scope c) (λ b. if b then passes cs else Ok false)
+  passes (clause ∷ cs) = Err fault.NullReference
+
+  abbrev pub selected : Last Expr → Result Scalar Fault
+  selected (last.Select v) = scalar_of_expression world scope v
+  selected (last.Group v key) = Err fault.NullReference
+
+  -- what the clauses and the end of a query give, None where a clause drops it
+  abbrev pub given_at : List (Clause Expr) → Last Expr → Result (Option Scalar) Fault
+  given_at cs l = on_ok (passes cs) (λ b. if b then on_ok (selected l) (λ s. Ok (Some s)) else Ok None)
+
+-- what a row of a table gives to a query's variable and body: a hidden row gives nothing
+abbrev pub given_to : PolicyParts → ℕ → List Table → ℕ → List ℕ → Body Expr → Row → Result (Option Scalar) Fault
+given_to policies role tables table variable body row =
+    if visible_to policies role table row.cells then given_at (world_seen policies role tables) (row_scope variable table row) body.clauses body.last else Ok None
 
 -- ---- the type check of a query over a table
 

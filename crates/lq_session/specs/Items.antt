@@ -1,6 +1,6 @@
 -- The items of a reply as rows give them, one row at a time, and their text.
 use Rattle.std.specs.Prelude.{◌≡◌, ◌∷◌, ◌++◌, List, [], ℕ, Bool, true, false, Option, Some, None, Result, Ok, Err, codes}
-use Rattle.serde_json.specs.Data.{Data}
+use Rattle.serde_json.specs.Data.{Data, Members}
 use Rattle.serde_json.specs.Written.{comma_if, compact_text}
 use Rattle.lq_value.specs.declared.scalar.Scalar.{Scalar}
 use Rattle.lq_value.specs.declared.table.Row.{Row}
@@ -8,7 +8,9 @@ use Rattle.lq_value.specs.declared.value.End.{End}
 use Rattle.lq_value.specs.declared.value.End.TheVariants as end
 use Rattle.lq_value.specs.declared.value.Fault.{Fault}
 use Rattle.lq_value.specs.declared.value.Fault.TheVariants as fault
-use Rattle.lq_model.specs.Served.{scalar_data}
+use Rattle.lq_model.specs.Meaning.{as_value}
+use Rattle.lq_model.specs.Served.{scalar_data, value_members}
+use Rattle.lq_model.specs.Visible.{TableRow}
 
 -- what a row gives, put before what the rows behind it give
 abbrev pub before_items : Result (Option Scalar) Fault → List Data × End → List Data × End
@@ -41,3 +43,7 @@ fault_opening fault.ArgumentOutOfRange = codes "{\"fault\":\"ArgumentOutOfRange\
 abbrev pub opening : End → List ℕ
 opening end.Done = codes "{\"items\":["
 opening (end.Fault f) = fault_opening f
+
+-- the members of the reply of a scalar, or of the fault in its place
+abbrev pub found_members : Result Scalar Fault → Members
+found_members found = value_members {R = TableRow} (as_value found)

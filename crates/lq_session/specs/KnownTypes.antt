@@ -19,5 +19,8 @@ abbrev pub variable_scope : Option (Bor (List ℕ) × ℕ) → Scope (Unit {0})
 variable_scope None = []
 variable_scope (Some local) = record { name = local.0.now; ty = ty.Row local.1; value = value.Row tt } ∷ []
 
+abbrev pub place_names : List Schema → Option (Bor (List ℕ) × ℕ) → Names
+place_names tables local = names_at (typed_world tables) (variable_scope local)
+
 abbrev pub names_of : KnownNames → Names
-names_of names = names_at (typed_world (schemas_of names.store.now)) (variable_scope names.local)
+names_of names = place_names (schemas_of names.store.now) names.local

@@ -2,8 +2,6 @@ pub mod Given
 pub mod Items
 pub mod KnownTypes
 pub mod Lines
-pub mod OneRow
-pub mod Operands
 pub mod Roles
 pub mod RunGives
 pub mod States

@@ -1,11 +1,11 @@
 //! Sessions: a step for each line of a script, and the row policies that stand in front of every table.
 #![tactic(auto)]
 
-mod evaluate;
 mod line;
 pub mod meaning_laws;
 mod policies;
 mod reply;
+mod row_names;
 mod running;
 mod session;
 mod typing;

@@ -1,11 +1,11 @@
 //! Replies in JSON, as `serde_json` writes them.
-ghost use Rattle.std.specs.Prelude.{◌≡◌, ◌++◌, codes, IfOk, OnOk};
-ghost use Rattle.serde_json.specs.Data.{object};
+ghost use Rattle.std.specs.Prelude.{◌≡◌, ◌++◌, codes, false, IfOk, OnOk};
+ghost use Rattle.serde_json.specs.Data.{no_members, object, put};
 ghost use Rattle.serde_json.specs.View.{view};
-ghost use Rattle.serde_json.specs.Written.{comma_if, compact_text};
-ghost use Rattle.lq_model.specs.Served.{error_data, line_of, scalar_data, stream_members};
-ghost use Rattle.lq_session.specs.Items.{listed, opening};
-ghost use Rattle.lq_scalar.specs.Operands.{shown_scalar};
+ghost use Rattle.serde_json.specs.Written.{comma_if, compact_text, has_float};
+ghost use Rattle.lq_model.specs.Served.{error_data, fault_name, line_of, scalar_data};
+ghost use Rattle.lq_session.specs.Items.{found_members, opening};
+ghost use Rattle.lq_scalar.specs.Operands.{shown_scalar, shown_scalars};
 
 use lq_scalar::ScalarRef;
 use lq_value::{End, Fault};
@@ -73,18 +73,51 @@ pub(crate) fn items_line(alloc: Global, items: &[u8], end: End) -> Result<Vec<u8
     Ok(line)
 }
 
+/// The line of a reply with this one member.
+fn member_line(alloc: Global, name: &str, value: Value) -> Result<Vec<u8>, AllocError>
+    requires { has_float (view value) ≡ false }
+    ensures { IfOk result (λ line. line.items ≡ line_of (object (put name.now (view value) no_members))) }
+{
+    let mut members = Map::new(alloc);
+    serde_json::put(&mut members, alloc, name, value)?;
+    let mut line = Value::Object(members).to_vec(alloc)?;
+    line.push(b'\n')?;
+    Ok(line)
+}
+
 /// The line of a refusal.
 pub(crate) fn error_line(alloc: Global, word: &str) -> Result<Vec<u8>, AllocError>
     ensures { IfOk result (λ line. line.items ≡ line_of (error_data word.now)) }
 {
-    let mut members = Map::new(alloc);
-    serde_json::put(
-        &mut members,
-        alloc,
-        "error",
-        Value::try_from_str(alloc, word)?,
-    )?;
-    let mut line = Value::Object(members).to_vec(alloc)?;
-    line.push(b'\n')?;
-    Ok(line)
+    member_line(alloc, "error", Value::try_from_str(alloc, word)?)
+}
+
+/// The name of a fault.
+fn fault_name(fault: Fault) -> &'static str
+    ensures { result.now ≡ fault_name fault }
+{
+    match fault {
+        Fault::DivideByZero => "DivideByZero",
+        Fault::Overflow => "Overflow",
+        Fault::NullReference => "NullReference",
+        Fault::InvalidOperation => "InvalidOperation",
+        Fault::ArgumentOutOfRange => "ArgumentOutOfRange",
+    }
+}
+
+/// The line of a reply of one value, or of the fault in its place.
+#[tactic(auto, using(crate::proofs::ItemLemmas::values))]
+pub(crate) fn value_line(
+    alloc: Global,
+    found: Result<ScalarRef<'_>, Fault>,
+) -> Result<Vec<u8>, AllocError>
+    ensures { IfOk result (λ line. line.items ≡ line_of (object (found_members (shown_scalars found.entry)))) }
+{
+    match found {
+        Ok(scalar) => member_line(alloc, "value", value_of(alloc, scalar)?),
+        Err(fault) => {
+            let name = Value::try_from_str(alloc, fault_name(fault))?;
+            member_line(alloc, "fault", name)
+        }
+    }
 }

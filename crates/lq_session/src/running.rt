@@ -1,95 +1,103 @@
 //! The run of a query over a table, one visible row at a time.
-ghost use Rattle.std.specs.Prelude.{◌≡◌, map};
-ghost use Rattle.lq_model.specs.Visible.{cell_named};
-ghost use Rattle.lq_session.specs.OneRow.{passes, selected};
-ghost use Rattle.lq_scalar.specs.Operands.{shown_scalars};
+ghost use Rattle.std.specs.Prelude.{◌≡◌};
+ghost use Rattle.lq_scalar.specs.Shapes.{IsFound, IsTruth};
+ghost use Rattle.lq_session.specs.Given.{given_at, given_to, passes, selected};
+ghost use Rattle.lq_session.specs.Roles.{number_of};
+ghost use Rattle.lq_session.specs.RunGives.{IsGiven};
 
-use crate::evaluate::{Named, OneRow};
 use crate::policies::{Action, Policies, RoleId};
 use crate::reply::push_item;
-use lq_model::{Clause, Expr, Last, Query};
-use lq_scalar::ScalarRef;
-use lq_store::{Column, Row};
+use crate::row_names::RowNames;
+use lq_model::{Body, Clause, Expr, Last, Query};
+use lq_scalar::{Found, Names, ScalarError, evaluate, truth};
+use lq_store::{Row, Store};
 use lq_value::{End, Fault};
 use std::alloc::{AllocError, Global};
 
 /// A typed query, the table that it ranges over, and who runs it.
 #[derive(Clone, Copy, Drop)]
 pub(crate) struct Run<'a> {
+    pub(crate) store: &'a Store,
     pub(crate) policies: &'a Policies,
     pub(crate) role: RoleId,
     pub(crate) table: u16,
-    pub(crate) columns: &'a [Column],
     pub(crate) query: &'a Query<Expr>,
 }
 
-/// Whether the row passes the clauses, from the first on, or the first fault.
-fn passes<C: Named>(row: &OneRow<'_, C>, clauses: &[Clause<Expr>]) -> Result<bool, Fault>
-    ensures { result ≡ passes row.now.variable.now (cell_named (map C.named row.now.columns.now) row.now.cells.now) clauses.now }
+/// Whether each clause is true where these names stand, from the first on, or the first fault.
+fn passes<N: Names>(alloc: Global, names: &N, clauses: &[Clause<Expr>]) -> Result<bool, ScalarError>
+    ensures { IsTruth (passes (N.world names.now) (N.scope names.now) clauses.now) result }
 {
     let mut left = clauses;
     while let [clause, others @ ..] = left {
         let Clause::Where(condition) = clause else {
-            return Err(Fault::NullReference);
+            return Err(ScalarError::Fault(Fault::NullReference));
         };
-        match row.truth(condition) {
+        match truth(alloc, names, condition) {
             Ok(true) => left = others,
             Ok(false) => return Ok(false),
-            Err(fault) => return Err(fault),
+            Err(error) => return Err(error),
         }
     }
     Ok(true)
 }
 
-/// What the query selects on the row, or its first fault.
-fn selected<'a, C: Named>(row: &OneRow<'a, C>, last: &Last<Expr>) -> Result<ScalarRef<'a>, Fault>
-    ensures { shown_scalars result ≡ selected row.now.variable.now (cell_named (map C.named row.now.columns.now) row.now.cells.now) last.now }
+/// What a query selects where these names stand, or its first fault.
+fn selected<'a, N: Names>(
+    alloc: Global,
+    names: &'a N,
+    last: &'a Last<Expr>,
+) -> Result<Found<'a>, ScalarError>
+    ensures { IsFound (selected (N.world names.now) (N.scope names.now) last.now) result }
 {
     match last {
-        Last::Select(value) => row.scalar(value),
-        Last::Group(_, _) => Err(Fault::NullReference),
+        Last::Select(value) => evaluate(alloc, names, value),
+        Last::Group(_, _) => Err(ScalarError::Fault(Fault::NullReference)),
+    }
+}
+
+/// What a query's body gives where these names stand: None where a clause drops it.
+fn given_by<'a, N: Names>(
+    alloc: Global,
+    names: &'a N,
+    body: &'a Body<Expr>,
+) -> Result<Option<Found<'a>>, ScalarError>
+    ensures { IsGiven (given_at (N.world names.now) (N.scope names.now) body.now.clauses body.now.last) result }
+{
+    match passes(alloc, names, body.clauses.as_slice()) {
+        Ok(true) => match selected(alloc, names, &body.last) {
+            Ok(found) => Ok(Some(found)),
+            Err(error) => Err(error),
+        },
+        Ok(false) => Ok(None),
+        Err(error) => Err(error),
+    }
+}
+
+/// What a row gives to a query's body: a hidden one gives nothing.
+fn given<'a>(
+    alloc: Global,
+    names: &'a RowNames<'_>,
+    body: &'a Body<Expr>,
+) -> Result<Option<Found<'a>>, ScalarError>
+    ensures { IsGiven (given_to names.now.policies.now (number_of names.now.role) names.now.store.now names.now.table
+        names.now.variable.now body.now names.now.row.now) result }
+{
+    let cells = names.row.cells.as_slice();
+    if names
+        .policies
+        .visible(names.role, Action::Select, names.table, cells)
+    {
+        given_by(alloc, names, body)
+    } else {
+        Ok(None)
     }
 }
 
 impl Run<'_> {
-    ghost use Rattle.std.specs.Prelude.{◌≡◌, false, map, IfOk};
-    ghost use Rattle.lq_session.specs.Given.{given_by};
+    ghost use Rattle.std.specs.Prelude.{◌≡◌, IfOk};
     ghost use Rattle.lq_session.specs.Items.{IsTextOf, items_given};
-    ghost use Rattle.lq_session.specs.RunGives.{given_in, shown_given};
-
-    /// What a visible row gives: None where a clause drops it.
-    fn given_by<'r>(&'r self, row: &'r Row) -> Result<Option<ScalarRef<'r>>, Fault>
-        ensures { shown_given result ≡ given_by (map (λ column. column.name) self.now.columns.now) self.now.query.now row.now }
-    {
-        let row = OneRow {
-            variable: self.query.name.as_bytes(),
-            columns: self.columns,
-            cells: row.cells.as_slice(),
-        };
-        match passes(&row, self.query.body.clauses.as_slice()) {
-            Ok(true) => match selected(&row, &self.query.body.last) {
-                Ok(scalar) => Ok(Some(scalar)),
-                Err(fault) => Err(fault),
-            },
-            Ok(false) => Ok(None),
-            Err(fault) => Err(fault),
-        }
-    }
-
-    /// What a row gives: a hidden one gives nothing.
-    fn given<'r>(&'r self, row: &'r Row) -> Result<Option<ScalarRef<'r>>, Fault>
-        ensures { shown_given result ≡ given_in self.now row.now }
-    {
-        let cells = row.cells.as_slice();
-        if self
-            .policies
-            .visible(self.role, Action::Select, self.table, cells)
-        {
-            self.given_by(row)
-        } else {
-            Ok(None)
-        }
-    }
+    ghost use Rattle.lq_session.specs.RunGives.{given_in};
 
     /// The text of the items that the rows give, and how they end.
     pub(crate) fn items<'r>(
@@ -102,13 +110,22 @@ impl Run<'_> {
         let mut text = Vec::new(alloc);
         let mut later = false;
         for row in rows {
-            match self.given(row) {
+            let names = RowNames {
+                store: self.store,
+                policies: self.policies,
+                role: self.role,
+                table: self.table,
+                variable: self.query.name.as_str(),
+                row,
+            };
+            match given(alloc, &names, &self.query.body) {
                 Ok(None) => {}
-                Ok(Some(scalar)) => {
-                    push_item(alloc, &mut text, later, scalar)?;
+                Ok(Some(found)) => {
+                    push_item(alloc, &mut text, later, found.scalar())?;
                     later = true;
                 }
-                Err(fault) => return Ok((text, End::Fault(fault))),
+                Err(ScalarError::Fault(fault)) => return Ok((text, End::Fault(fault))),
+                Err(ScalarError::Memory) => return Err(AllocError),
             }
         }
         Ok((text, End::Done))

@@ -3,11 +3,13 @@ ghost use Rattle.lq_session.specs.Roles.{number_of};
 
 use crate::line::Line;
 use crate::policies::{Policies, RoleId};
-use crate::reply::{error_line, items_line};
+use crate::reply::{error_line, items_line, value_line};
+use crate::row_names::TopNames;
 use crate::running::Run;
-use crate::typing::table_of;
+use crate::typing::{scalar_type, table_of};
 use lq_lex::is_blank;
 use lq_model::{Expr, Query, Statement};
+use lq_scalar::{ScalarError, evaluate};
 use lq_store::Store;
 use lq_syntax::{SyntaxError, parse_statement};
 use std::alloc::{AllocError, Global};
@@ -23,11 +25,12 @@ pub struct Session {
 }
 
 impl Session {
-    ghost use Rattle.std.specs.Prelude.{◌≡◌, ◌<◌, [], length, IfOk};
-    ghost use Rattle.lq_model.specs.Machine.{perform, run_in, schemas_of, step, step_by};
+    ghost use Rattle.std.specs.Prelude.{◌≡◌, ◌<◌, [], length, is_some, true, IfOk};
+    ghost use Rattle.lq_model.specs.Machine.{perform, run_in, schemas_of, step, step_by, value_in};
     ghost use Rattle.lq_model.specs.Output.{Answers};
     ghost use Rattle.lq_model.specs.Served.{error_data, line_of};
-    ghost use Rattle.lq_session.specs.Given.{IsOver};
+    ghost use Rattle.lq_model.specs.Typing.{if_scalar, type_of};
+    ghost use Rattle.lq_session.specs.Given.{IsOver, top_names};
     ghost use Rattle.lq_syntax.specs.Texts.{said};
     ghost use Rattle.lq_session.specs.States.{state_of};
 
@@ -82,15 +85,42 @@ impl Session {
         }
     }
 
-    /// The line that a statement is answered. Queries that are run are served; all else has no type
-    /// yet.
+    /// The line that a statement is answered. What is run is served; all else has no type yet.
     #[tactic(auto, using(crate::proofs::StepLemmas::performed))]
     fn perform(&self, statement: &Statement) -> Result<Line, AllocError>
         ensures { IfOk result (λ line. line ≡ line_of (perform (state_of self.now) statement.now).0) }
     {
         match statement {
             Statement::Run(Expr::Query(query)) => self.run(query.get()),
+            Statement::Run(expression) => self.value(expression),
             _ => self.refusal("type"),
+        }
+    }
+
+    /// Serves the value of an expression, or refuses one without the type of a scalar.
+    fn value(&self, expression: &Expr) -> Result<Line, AllocError>
+        ensures { IfOk result (λ line. line ≡ line_of (value_in (state_of self.now) expression.now)) }
+    {
+        match scalar_type(&self.store, expression) {
+            Some(_) => Ok(Line::from_bytes(self.typed_value(expression)?)),
+            None => self.refusal("type"),
+        }
+    }
+
+    /// The line of the value of an expression with the type of a scalar.
+    fn typed_value(&self, expression: &Expr) -> Result<Vec<u8>, AllocError>
+        requires { is_some (if_scalar (type_of expression.now (top_names (schemas_of self.now.store)))) ≡ true }
+        ensures { IfOk result (λ line. line.items ≡ line_of (value_in (state_of self.now) expression.now)) }
+    {
+        let names = TopNames {
+            store: &self.store,
+            policies: &self.policies,
+            role: self.role,
+        };
+        match evaluate(self.alloc, &names, expression) {
+            Ok(found) => value_line(self.alloc, Ok(found.scalar())),
+            Err(ScalarError::Fault(fault)) => value_line(self.alloc, Err(fault)),
+            Err(ScalarError::Memory) => Err(AllocError),
         }
     }
 
@@ -118,10 +148,10 @@ impl Session {
         ensures { IfOk result (λ line. line.items ≡ line_of (run_in (state_of self.now) query.now)) }
     {
         let run = Run {
+            store: &self.store,
             policies: &self.policies,
             role: self.role,
             table,
-            columns: self.store.schema(table).columns.as_slice(),
             query,
         };
         let (items, end) = run.items(self.alloc, self.store.rows(table))?;

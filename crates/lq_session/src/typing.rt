@@ -3,9 +3,10 @@ ghost use Rattle.std.specs.Prelude.{◌≡◌, ◌<◌, None, Some, length, opti
 ghost use Rattle.lq_value.specs.declared.ty.Ty.{out-Ty};
 ghost use Rattle.lq_value.specs.declared.ty.Ty.TheVariants as ty;
 ghost use Rattle.lq_model.specs.Machine.{schemas_of};
-ghost use Rattle.lq_model.specs.Typing.{column_named, if_scalar, item_of, item_type, table_number, type_of, type_of_column};
+ghost use Rattle.lq_model.specs.Typing.{column_named, column_type, if_scalar, item_of, item_type, local_type, name_type, table_number, type_of, type_of_column};
 ghost use Rattle.lq_scalar.specs.Named.{shown_type};
 ghost use Rattle.lq_session.specs.Given.{IsOver, top_names};
+ghost use Rattle.lq_session.specs.KnownTypes.{place_names};
 
 use lq_model::{Clause, Expr, Last, Query};
 use lq_scalar::{ExprType, Named, Names, type_of};
@@ -21,7 +22,7 @@ fn table_number(store: &Store, name: &str) -> Option<u16>
 }
 
 /// The type of the column of this name.
-fn column_type(columns: &[Column], name: &str) -> Option<ColumnType>
+fn type_of_named(columns: &[Column], name: &str) -> Option<ColumnType>
     ensures { option_map type_of_column result ≡ option_map (λ column. type_of_column column.ty) (column_named name.now columns.now) }
 {
     let mut columns_left = columns;
@@ -32,6 +33,31 @@ fn column_type(columns: &[Column], name: &str) -> Option<ColumnType>
         columns_left = others;
     }
     None
+}
+
+/// The type of a column of the table with this number.
+pub(crate) fn column_type(store: &Store, table: u16, column: &str) -> Option<ExprType>
+    ensures { option_map shown_type result ≡ column_type (schemas_of store.now) table column.now }
+{
+    if table as usize >= store.len() {
+        return None;
+    }
+    let columns = store.schema(table).columns.as_slice();
+    type_of_named(columns, column).map(ExprType::of_column)
+}
+
+/// The type of a name where the local one, if there is one, stands for a row of the table with
+/// this number: that of the local name, else of the rows of a table.
+pub(crate) fn name_type(store: &Store, local: Option<(&str, u16)>, name: &str) -> Option<ExprType>
+    ensures { option_map shown_type result
+        ≡ name_type (place_names (schemas_of store.now) local.entry) name.now (local_type name.now (place_names (schemas_of store.now) local.entry).locals) }
+{
+    if let Some((variable, table)) = local {
+        if variable == name {
+            return Some(ExprType::Row(table));
+        }
+    }
+    table_number(store, name).map(ExprType::Rows)
 }
 
 /// The names of a place: the tables of a store, and a variable for a row of one of them. What they
@@ -54,21 +80,12 @@ impl Names for KnownNames<'_> {
 
     /// The type of a name: that of the variable, else that of a table.
     fn name_type(&self, name: &str) -> Option<ExprType> {
-        if let Some((variable, table)) = self.local {
-            if variable == name {
-                return Some(ExprType::Row(table));
-            }
-        }
-        table_number(self.store, name).map(ExprType::Rows)
+        name_type(self.store, self.local, name)
     }
 
     /// The type of a column of a table.
     fn column_type(&self, table: u16, column: &str) -> Option<ExprType> {
-        if table as usize >= self.store.len() {
-            return None;
-        }
-        let columns = self.store.schema(table).columns.as_slice();
-        column_type(columns, column).map(ExprType::of_column)
+        column_type(self.store, table, column)
     }
 
     /// The variable is some row.

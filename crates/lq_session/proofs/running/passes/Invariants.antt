@@ -1,13 +1,10 @@
-use Rattle.std.proofs.Common.{◌≡◌, length, map}
-use Rattle.lq_model.specs.Visible.{cell_named}
-use Rattle.lq_session.specs.OneRow.{passes}
+use Rattle.std.proofs.Common.{◌≡◌, length}
+use Rattle.lq_session.specs.Given.{passes}
 use Rattle.lq_session.proofs.running.passes.Given as goal
 
--- the row passes the clauses so far
+-- the clauses so far are true
 abbrev pub invariant-loop-left : goal.invariant-loop-left
-invariant-loop-left g l =
-    passes l.row.variable.now (cell_named (map g.C.Named.named l.row.columns.now) l.row.cells.now) l.left
-    ≡ passes l.row.variable.now (cell_named (map g.C.Named.named l.row.columns.now) l.row.cells.now) l.clauses
+invariant-loop-left g l = passes (g.N.Names.world l.names) (g.N.Names.scope l.names) l.left ≡ passes (g.N.Names.world l.names) (g.N.Names.scope l.names) l.clauses
 
 abbrev pub decreases-loop-left : goal.decreases-loop-left
 decreases-loop-left g l = length l.left

@@ -1,6 +1,6 @@
 use Rattle.std.proofs.Common.{◌≡◌, length}
 use Rattle.lq_model.specs.Typing.{column_named}
-use Rattle.lq_session.proofs.typing.column_type.Given as goal
+use Rattle.lq_session.proofs.typing.type_of_named.Given as goal
 
 -- the column is sought among those that are left
 abbrev pub invariant-loop-columns_left : goal.invariant-loop-columns_left
