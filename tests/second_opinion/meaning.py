@@ -1,32 +1,33 @@
-"""What a line means: the rows that a query selects, and the reply."""
+"""What a line means: the rows that a query selects, and the reply. None stands for null."""
 
 import json
 import operator
+from dataclasses import dataclass
 
 from depth import DepthFault, check_depth
 from grammar import parse
 from lexer import SyntaxFault, tokens_of
-from scopes import TypeFault, check, source_of
+from scopes import TypeFault, check, scope_of, source_of
 
+LITERALS = {"true": True, "false": False}
 COMPARISONS = {
     "<": operator.lt,
     ">": operator.gt,
     "<=": operator.le,
     ">=": operator.ge,
-    "==": operator.eq,
-    "!=": operator.ne,
 }
-
-
-def compare(left, sign, right):
-    """ECMA-334, lifted operators: null equals null alone, and no comparison by size with null is true. None stands for null."""
-    if sign not in ("==", "!=") and (left is None or right is None):
-        return False
-    return COMPARISONS[sign](left, right)
 
 
 class Fault(Exception):
     """An evaluation ends with this fault, which has the name of .NET's exception without its last word."""
+
+
+@dataclass(frozen=True)
+class Names:
+    """What names stand for where an expression is evaluated: the type of each, and its value."""
+
+    scope: dict
+    values: dict
 
 
 def checked(number):
@@ -36,41 +37,52 @@ def checked(number):
     return number
 
 
-def compute(left, sign, right):
-    """ECMA-334, arithmetic operators, lifted: a null operand gives null. Division goes towards zero; the remainder is the rest."""
-    if left is None or right is None:
-        return None
-    if sign in ("/", "%"):
-        if right == 0:
-            raise Fault("DivideByZero")
-        quotient = checked(abs(left) // abs(right) * (1 if (left < 0) == (right < 0) else -1))
-        return quotient if sign == "/" else left - quotient * right
-    return checked({"*": operator.mul, "+": operator.add, "-": operator.sub}[sign](left, right))
+def quotient(left, right):
+    """ECMA-334, integer division: towards zero. The least int divided by -1 is an overflow."""
+    if right == 0:
+        raise Fault("DivideByZero")
+    return checked(abs(left) // abs(right) * (1 if (left < 0) == (right < 0) else -1))
 
 
-def value_of(tree, row):
-    """The value of an expression that has a type, where the range variable stands for the row."""
+# Operators on numbers, none of which is null.
+ARITHMETIC = {
+    "unary -": lambda number: checked(-number),
+    "*": lambda left, right: checked(left * right),
+    "/": quotient,
+    "%": lambda left, right: left - quotient(left, right) * right,
+    "+": lambda left, right: checked(left + right),
+    "-": lambda left, right: checked(left - right),
+}
+
+
+def operate(sign, operands):
+    """ECMA-334, lifted operators: arithmetic with null is null, no comparison by size with null is true, and null equals null alone."""
+    if sign == "unary !":
+        return not operands[0]
+    if sign in ("==", "!="):
+        return (operands[0] == operands[1]) == (sign == "==")
+    if None in operands:
+        return False if sign in COMPARISONS else None
+    return (COMPARISONS | ARITHMETIC)[sign](*operands)
+
+
+def value_of(tree, names):
+    """The value of an expression that has a type. ECMA-334, expressions: operands are evaluated from left to right, and of `&&`,
+    `||` and `?:` only those that are needed."""
     if tree.kind == "integer":
         return tree.parts[0]
-    if tree.kind in ("true", "false"):
-        return tree.kind == "true"
+    if tree.kind in LITERALS:
+        return LITERALS[tree.kind]
     if tree.kind == "name":
-        return row
+        return names.values[tree.parts[0]]
+    first = value_of(tree.parts[0], names)
     if tree.kind == ".":
-        return value_of(tree.parts[0], row)[tree.parts[1]]
-    if tree.kind == "unary !":
-        return not value_of(tree.parts[0], row)
-    if tree.kind == "&&":
-        return value_of(tree.parts[0], row) and value_of(tree.parts[1], row)
-    if tree.kind == "||":
-        return value_of(tree.parts[0], row) or value_of(tree.parts[1], row)
+        return first[tree.parts[1]]
+    if tree.kind in ("&&", "||"):
+        return value_of(tree.parts[1], names) if first == (tree.kind == "&&") else first
     if tree.kind == "?":
-        return value_of(tree.parts[1 if value_of(tree.parts[0], row) else 2], row)
-    if tree.kind == "unary -":
-        operand = value_of(tree.parts[0], row)
-        return None if operand is None else checked(-operand)
-    left, right = (value_of(operand, row) for operand in tree.parts)
-    return compare(left, tree.kind, right) if tree.kind in COMPARISONS else compute(left, tree.kind, right)
+        return value_of(tree.parts[1 if first else 2], names)
+    return operate(tree.kind, [first, *(value_of(operand, names) for operand in tree.parts[1:])])
 
 
 def visible_rows(table):
@@ -82,8 +94,9 @@ def items_of(query, tables):
     """ECMA-334, where and select clauses: one row after the other, and of each on which all conditions are true, the value."""
     clauses, end, _ = query.parts
     for row in visible_rows(source_of(clauses[0], tables)):
-        if all(value_of(clause.parts[0], row) for clause in clauses[1:]):
-            yield value_of(end.parts[0], row)
+        names = Names(scope_of(clauses[0], tables), {clauses[0].parts[0]: row})
+        if all(value_of(clause.parts[0], names) for clause in clauses[1:]):
+            yield value_of(end.parts[0], names)
 
 
 def stream_of(items):

@@ -1,46 +1,70 @@
-"""Types: which statement that the grammar spells is served, over the present tables."""
+"""Types: which statement that the grammar spells is served, over the present tables.
 
-COMPARISONS = ("<", ">", "<=", ">=", "==", "!=")
+A type is a scalar's name, or for a row the dict of its columns' types. A scope has the type of each name in it.
+"""
+
+LITERALS = {"integer": "int", "true": "bool", "false": "bool"}
+NUMBERS = ("int", "int?")
 SCALARS = ("int", "int?", "bool", "string")
-OF_TRUTHS = ("unary !", "&&", "||")
-ARITHMETIC = ("*", "/", "%", "+", "-")
 
 
 class TypeFault(Exception):
     """The statement has no type, or none yet."""
 
 
-def type_of(tree, scope):
-    """An expression's type: a scalar's name, or for a row the types of its columns. The scope has the types of range variables.
+def arithmetic(*operands):
+    """ECMA-334, arithmetic operators, lifted: one operand that may be null makes the result such."""
+    if all(operand in NUMBERS for operand in operands):
+        return "int?" if "int?" in operands else "int"
+    return None
 
-    ECMA-334, scopes, literals, member access, arithmetic, relational, equality and logical operators; only some forms of these
-    are served yet.
-    """
-    if tree.kind == "integer":
-        return "int"
-    if tree.kind in ("true", "false"):
-        return "bool"
-    if tree.kind == "name" and tree.parts[0] in scope:
-        return scope[tree.parts[0]]
-    if tree.kind == ".":
-        columns = type_of(tree.parts[0], scope)
-        if isinstance(columns, dict) and tree.parts[1] in columns:
-            return columns[tree.parts[1]]
-    if tree.kind in COMPARISONS and all(type_of(operand, scope) in ("int", "int?") for operand in tree.parts):
-        return "bool"
-    if tree.kind in OF_TRUTHS and all(type_of(operand, scope) == "bool" for operand in tree.parts):
-        return "bool"
-    if tree.kind == "?" and type_of(tree.parts[0], scope) == "bool":
-        types = [type_of(choice, scope) for choice in tree.parts[1:]]
-        if types[0] == types[1] and types[0] in SCALARS:
-            return types[0]
-        if all(kind in ("int", "int?") for kind in types):
-            return "int?"
-    if tree.kind in ARITHMETIC or tree.kind == "unary -":
-        types = [type_of(operand, scope) for operand in tree.parts]
-        if all(kind in ("int", "int?") for kind in types):
-            return "int?" if "int?" in types else "int"
-    raise TypeFault(f"no type of {tree.kind}")
+
+def comparison(*operands):
+    """ECMA-334, integer comparison operators, lifted."""
+    return "bool" if all(operand in NUMBERS for operand in operands) else None
+
+
+def logical(*operands):
+    """ECMA-334, logical negation and conditional logical operators."""
+    return "bool" if all(operand == "bool" for operand in operands) else None
+
+
+def choice(condition, first, second):
+    """ECMA-334, conditional operator: the type of one value is that of the other, or converts to it."""
+    if condition != "bool":
+        return None
+    if first == second and first in SCALARS:
+        return first
+    return arithmetic(first, second)
+
+
+# Of each operator the function that has its operands' types give the result's, or None where they don't fit.
+OPERATORS = {
+    "unary -": arithmetic, "*": arithmetic, "/": arithmetic, "%": arithmetic, "+": arithmetic, "-": arithmetic,
+    "<": comparison, ">": comparison, "<=": comparison, ">=": comparison, "==": comparison, "!=": comparison,
+    "unary !": logical, "&&": logical, "||": logical, "?": choice,
+}
+
+
+def type_of_member(owner, name):
+    """ECMA-334, member access: a row has a member for each column."""
+    return owner.get(name) if isinstance(owner, dict) else None
+
+
+def type_of(tree, scope):
+    """An expression's type, which all its parts have to have, too."""
+    found = None
+    if tree.kind in LITERALS:
+        found = LITERALS[tree.kind]
+    elif tree.kind == "name":
+        found = scope.get(tree.parts[0])
+    elif tree.kind == ".":
+        found = type_of_member(type_of(tree.parts[0], scope), tree.parts[1])
+    elif tree.kind in OPERATORS:
+        found = OPERATORS[tree.kind](*(type_of(operand, scope) for operand in tree.parts))
+    if found is None:
+        raise TypeFault(f"no type of {tree.kind}")
+    return found
 
 
 def source_of(clause, tables):
@@ -51,10 +75,14 @@ def source_of(clause, tables):
     return tables[source.parts[0]]
 
 
-def check_query(query, tables):
+def scope_of(clause, tables):
     """ECMA-334, from clause: the range variable stands for the source's rows in the clauses behind it, not in the source."""
+    return {clause.parts[0]: source_of(clause, tables).columns}
+
+
+def check_query(query, tables):
     clauses, end, rest = query.parts
-    scope = {clauses[0].parts[0]: source_of(clauses[0], tables).columns}
+    scope = scope_of(clauses[0], tables)
     for clause in clauses[1:]:
         if clause.kind != "where" or type_of(clause.parts[0], scope) != "bool":
             raise TypeFault("a clause that isn't served, or a condition that is none")
