@@ -7,9 +7,9 @@ from dataclasses import dataclass
 from depth import DepthFault, check_depth
 from grammar import parse
 from lexer import SyntaxFault, tokens_of
-from scopes import TypeFault, check, scope_of, source_of
+from scopes import TypeFault, check, scope_of, source_of, type_of
 
-LITERALS = {"true": True, "false": False}
+LITERALS = {"true": True, "false": False, "null": None}
 COMPARISONS = {
     "<": operator.lt,
     ">": operator.gt,
@@ -56,7 +56,7 @@ ARITHMETIC = {
 
 
 def operate(sign, operands):
-    """ECMA-334, lifted operators: arithmetic with null is null, no comparison by size with null is true, and null equals null alone."""
+    """ECMA-334, lifted operators: arithmetic with null is null, no comparison by size with null is true, null equals null alone."""
     if sign == "unary !":
         return not operands[0]
     if sign in ("==", "!="):
@@ -66,10 +66,20 @@ def operate(sign, operands):
     return (COMPARISONS | ARITHMETIC)[sign](*operands)
 
 
+def concatenated(left, right):
+    """ECMA-334, string concatenation: null is as the empty text."""
+    return (left or "") + (right or "")
+
+
+def is_sum_of_null_texts(tree, operands, names):
+    """Of two nulls their types alone tell whether they are texts."""
+    return operands == [None, None] and type_of(tree, names.scope) == "string"
+
+
 def value_of(tree, names):
     """The value of an expression that has a type. ECMA-334, expressions: operands are evaluated from left to right, and of `&&`,
     `||` and `?:` only those that are needed."""
-    if tree.kind == "integer":
+    if tree.kind in ("integer", "text"):
         return tree.parts[0]
     if tree.kind in LITERALS:
         return LITERALS[tree.kind]
@@ -82,7 +92,10 @@ def value_of(tree, names):
         return value_of(tree.parts[1], names) if first == (tree.kind == "&&") else first
     if tree.kind == "?":
         return value_of(tree.parts[1 if first else 2], names)
-    return operate(tree.kind, [first, *(value_of(operand, names) for operand in tree.parts[1:])])
+    operands = [first, *(value_of(operand, names) for operand in tree.parts[1:])]
+    if tree.kind == "+" and (str in map(type, operands) or is_sum_of_null_texts(tree, operands, names)):
+        return concatenated(*operands)
+    return operate(tree.kind, operands)
 
 
 def visible_rows(table):
@@ -111,8 +124,8 @@ def stream_of(items):
 
 
 def compact(value):
-    """The JSON of a value without white space, and a line's end."""
-    return json.dumps(value, separators=(",", ":")) + "\n"
+    """RFC 8259: the JSON of a value without white space, in which only what has to be escaped is, and a line's end."""
+    return json.dumps(value, separators=(",", ":"), ensure_ascii=False) + "\n"
 
 
 def reply_of(line, tables):

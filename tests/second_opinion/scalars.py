@@ -10,12 +10,16 @@ from lexer import continues_name
 FORMS = {
     "int": ["- int", "int TIMES int", "int PLUS int", "bool ? int : int"],
     "int?": [
-        "- int?", "int? TIMES int", "int TIMES int?", "int? PLUS int?", "bool ? int? : int?", "bool ? int : int?", "bool ? int? : int",
+        "- int?", "int? TIMES int", "int TIMES int?", "int? PLUS int?", "bool ? int? : int?", "bool ? int : int?",
+        "bool ? int? : int",
     ],
     "bool": [
         "! bool", "bool && bool", "bool || bool", "int COMPARE int", "int EQUAL int", "int? COMPARE int", "int? EQUAL int?",
-        "bool ? bool : bool",
+        "bool ? bool : bool", "bool EQUAL bool",
+        "string EQUAL string", "string EQUAL null", "null EQUAL string", "null EQUAL null",
+        "int EQUAL null", "null EQUAL int", "int? EQUAL null",
     ],
+    "string": ["string + string", "string + string", "string + null", "null + string", "bool ? string : string"],
 }
 FORMS = {its_type: [form.split() for form in forms] for its_type, forms in FORMS.items()}
 CHOICES = {
@@ -23,7 +27,7 @@ CHOICES = {
 }
 # Of each operator its level, and the least levels of what stands before it and behind it.
 LEVELS = {
-    "?": (0, 1, 0), "||": (2, 2, 3), "&&": (3, 3, 4), "EQUAL": (4, 4, 5), "COMPARE": (5, 5, 6), "PLUS": (6, 6, 7),
+    "?": (0, 1, 0), "||": (2, 2, 3), "&&": (3, 3, 4), "EQUAL": (4, 4, 5), "COMPARE": (5, 5, 6), "PLUS": (6, 6, 7), "+": (6, 6, 7),
     "TIMES": (7, 7, 8), "!": (8, 8, 8), "-": (8, 8, 8),
 }
 PRIMARY, UNARY = 9, 8
@@ -31,6 +35,10 @@ SCALARS = ("int", "int?", "bool", "string")
 LITERALS = {
     "int": ["0", "0", "1", "1", "2", "3", "7", "10", "46341", "2147483647", "007"],
     "bool": ["true", "false"],
+    "string": [
+        '""', '"a"', '"a"', '"b"', '"ab"', '"aba"', '"A"', '"é"', r'"\u00e9"', r'"\u00E9a"', '"e\u0301"', '"😀"', '"a😀b"',
+        '"列"', '"//"', r'"\0\a\b\f\n\r\t\v"', r'"\"\\\'"', '"\u2028\x7f\x01"',
+    ],
 }
 FAULTY = {"int": [(7, "1 / 0"), (7, "7 % 0"), (6, "2147483647 + 1"), (UNARY, "- - 2147483648"), (7, "- 2147483648 / - 1")]}
 STRAY = ["none", "t", "x", "new { }", "new { a = 1 }", "Host . p ( 1 )", "x . none", "1 . c", "true . f ( )", "null", '"a"']

@@ -3,8 +3,9 @@
 A type is a scalar's name, or for a row the dict of its columns' types. A scope has the type of each name in it.
 """
 
-LITERALS = {"integer": "int", "true": "bool", "false": "bool"}
+LITERALS = {"integer": "int", "true": "bool", "false": "bool", "text": "string", "null": "null"}
 NUMBERS = ("int", "int?")
+TEXTS = ("string", "null")
 SCALARS = ("int", "int?", "bool", "string")
 
 
@@ -17,6 +18,24 @@ def arithmetic(*operands):
     if all(operand in NUMBERS for operand in operands):
         return "int?" if "int?" in operands else "int"
     return None
+
+
+def is_row(its_type):
+    return isinstance(its_type, dict)
+
+
+def addition(left, right):
+    """ECMA-334, addition operator: of numbers, or of a text and a text or null."""
+    if "string" in (left, right):
+        return "string" if left in TEXTS and right in TEXTS else None
+    return arithmetic(left, right)
+
+
+def equality(left, right):
+    """ECMA-334, equality operators: of operands of one kind; null is compared with all but a truth value."""
+    if any(left in alike and right in alike for alike in ((*NUMBERS, "null"), ("bool",), TEXTS)):
+        return "bool"
+    return "bool" if is_row(left) and right == "null" or left == "null" and is_row(right) else None
 
 
 def comparison(*operands):
@@ -40,15 +59,15 @@ def choice(condition, first, second):
 
 # Of each operator the function that has its operands' types give the result's, or None where they don't fit.
 OPERATORS = {
-    "unary -": arithmetic, "*": arithmetic, "/": arithmetic, "%": arithmetic, "+": arithmetic, "-": arithmetic,
-    "<": comparison, ">": comparison, "<=": comparison, ">=": comparison, "==": comparison, "!=": comparison,
+    "unary -": arithmetic, "*": arithmetic, "/": arithmetic, "%": arithmetic, "-": arithmetic, "+": addition,
+    "<": comparison, ">": comparison, "<=": comparison, ">=": comparison, "==": equality, "!=": equality,
     "unary !": logical, "&&": logical, "||": logical, "?": choice,
 }
 
 
 def type_of_member(owner, name):
     """ECMA-334, member access: a row has a member for each column."""
-    return owner.get(name) if isinstance(owner, dict) else None
+    return owner.get(name) if is_row(owner) else None
 
 
 def type_of(tree, scope):

@@ -1,0 +1,69 @@
+"""Scalar expressions without names whose values or faults are known beforehand, and such that have no type."""
+
+ACUTE = "\u0301"
+
+VALUES = {
+    # Arithmetic, up to both ends of the ints.
+    "1 - 2 - 3": -4, "1 - (2 - 3)": 2, "100 / 10 / 5": 2, "100 / (10 / 5)": 50, "2 + 3 * 4": 14, "-2 - -3": 1,
+    "-7 / 2": -3, "-7 % 2": -1, "7 / -2": -3, "7 % -2": 1, "-7 / -2": 3, "-7 % -2": -1, "0 / -5": 0, "1 % -2147483648": 1,
+    "2147483646 + 1": 2147483647, "-2147483647 - 1": -2147483648, "-2147483647 + -1": -2147483648,
+    "2147483646 - -1": 2147483647, "-65536 * 32768": -2147483648, "46341 * 46340": 2147441940, "-2147483647 / -1": 2147483647,
+    "-2147483648 / 1": -2147483648, "-2147483647 % -1": 0, "-2147483648 % 1": 0, "- -2147483647": 2147483647,
+    # Truth values; what isn't needed isn't evaluated.
+    "true || 1 / 0 == 0": True, "false && 1 / 0 == 0": False, "true ? 1 : 1 / 0": 1, "false ? 1 / 0 : 2": 2,
+    "true == true": True, "true == false": False, "true != false": True, "1 < 2 == 2 < 3": True, "1 == 1 == true": True,
+    "!true == false": True, "false ? true : false ? true : true": True, "true ? false : false ? true : true": False,
+    # Texts are their characters.
+    '""': "", '"a"': "a", '"😀"': "😀", r'"\u00e9\ud7ff\uE000"': "é\ud7ff\ue000", 
+    r'"\'\"\\\0\a\b\f\n\r\t\v"': "'\"\\\0\a\b\f\n\r\t\v",
+    '"\x01\x7f\u2028//"': "\x01\x7f\u2028//", r'"\\u0041"': "\\u0041",
+    '"a" == "a"': True, '"a" == "A"': False, '"a" != "b"': True, r'"é" == "\u00e9"': True, f'"é" == "e{ACUTE}"': False,
+    '"" == "\\0"': False, 'true ? "a" : "b"': "a",
+    # Null is as the empty text in a sum of texts, and equals nothing else.
+    '"a" + "b"': "ab", '"a" + null': "a", 'null + "a"': "a", r'"a" + null + "\u00e9"': "aé", '"a" + ("b" + "c") + ""': "abc",
+    '"a" + "b" == "ab"': True, '"" == null': False, 'null != "a"': True, 'null + "" == null': False, '"" + null == ""': True,
+    "null == null": True, "null != null": False, "1 == null": False, "null != -1": True, "0 == null": False,
+    "null == null == true": True, '"a" == null || null == "b"': False,
+}
+
+FAULTS = {
+    "DivideByZero": [
+        "1 / 0", "1 % 0", "0 / 0", "0 % 0", "-2147483648 / 0", "1 / (1 - 1)", "1 / 0 == null", "1 / 0 + (2147483647 + 1)",
+        "1 % 0 * (2147483647 * 2)", "1 / 0 == 2147483647 + 1", "false || 1 / 0 == 0", "true && 1 / 0 == 0",
+        "1 / 0 == 0 || true", "1 / 0 == 0 ? 1 : 2", "true ? 1 / 0 : 1", "null == 1 / 0",
+        '(1 / 0 == 0 ? "a" : "b") + (2147483647 + 1 == 0 ? "a" : "b")',
+    ],
+    "Overflow": [
+        "2147483647 + 1", "1 + 2147483647", "-2147483648 + -1", "-2147483648 - 1", "2147483647 - -1", "0 - -2147483648",
+        "65536 * 32768", "-65536 * 32769", "46341 * 46341", "-2147483648 * -2147483648", "- -2147483648", "-(-2147483648)",
+        "-2147483648 / -1", "-2147483648 % -1", "2147483647 + 1 - 1", "2147483647 + 1 + 1 / 0", "2147483647 * 2 < 1 % 0",
+        '(2147483647 + 1 == 0 ? "a" : "b") == (1 / 0 == 0 ? "a" : "b")',
+    ],
+}
+
+ILL_TYPED = [
+    "null", "(null)", "-null", "!null", "null + null", "1 + null", "null + 1", "null - 1", "1 * null", "1 / null", "1 < null",
+    "null >= null", "null && true", "true || null", "null ? 1 : 2", "true == null", "null != false", "null.c",
+    "null == null == null",
+    '-"a"', '!"a"', '"a" - "b"', '"a" * 2', '"a" + 1', '1 + "a"', '"a" + true', '1 + 1 + "a"', '"a" < "b"', '"a" >= null',
+    '"a" == 1', '1 != "a"', '"a" == true', "1 == true", "true < false", "true + true", '"a" && true', '"a" ? 1 : 2', '"a".c',
+    'true ? "a" : 1', "1 == 1 == 1", "1 < 2 < 3", "1 ? 2 : 3", "-true", "!1", "x.c == null + null", "x + null", 'x == "a"',
+    "x == 1",    "x == x", "t == null", 'x + "a"',
+]
+
+# What is selected of the table of nulls, whose rows have n null and 5, s null and "ab", b true and false.
+OF_NULLS = {
+    "x.n": [None, 5], "x.s": [None, "ab"], "-x.n": [None, -5], "x.n + 1": [None, 6], "2 - x.n * x.n": [None, -23],
+    "x.n < 6": [False, True], "x.n >= x.n": [False, True], "!(x.n < 6)": [True, False], "x.n == x.n": [True, True],
+    "x.n == null": [True, False], "null != x.n": [False, True], "x.n == 5": [False, True], "x.n != 5": [True, False],
+    "x.s + x.s": ["", "abab"], "x.s + null": ["", "ab"], 'x.s + "c"': ["c", "abc"], "x.s == null": [True, False],
+    'x.s != "ab"': [True, False], "x.s + null == null": [False, False], "x.b == (x.n == null)": [True, True],
+    "x.b ? 1 : x.n": [1, 5], "x.b ? x.n : 1": [None, 1], "x.n == (x.b ? x.n : 5)": [True, True],
+}
+# What faults on its first row.
+FAULTS_OF_NULLS = {"DivideByZero": ["x.n + 1 / 0", "1 / 0 == x.n"], "Overflow": ["(x.n < 2147483647 + 1)"]}
+FAULT_ON_FIVE = {"x.n / 0": "DivideByZero", "x.n % (x.n - 5)": "DivideByZero", "x.n + 2147483647": "Overflow"}
+UNTYPED_OF_NULLS = [
+    "x.n + null", "x.n < null", "x.n == true", "x.s - x.s", "x.s + x.n", "x.s == x.n", "x.b == null", "x.b + x.b", "x.b < x.b",
+    "x.n ? 1 : 2", "x.b ? x.n : x.s", "x.b ? x.b : x.n",
+]
