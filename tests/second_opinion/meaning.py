@@ -78,7 +78,7 @@ def is_sum_of_null_texts(tree, operands, names):
 
 def value_of(tree, names):
     """The value of an expression that has a type. ECMA-334, expressions: operands are evaluated from left to right, and of `&&`,
-    `||` and `?:` only those that are needed."""
+    `||`, `??` and `?:` only those that are needed."""
     if tree.kind in ("integer", "text"):
         return tree.parts[0]
     if tree.kind in LITERALS:
@@ -90,6 +90,8 @@ def value_of(tree, names):
         return first[tree.parts[1]]
     if tree.kind in ("&&", "||"):
         return value_of(tree.parts[1], names) if first == (tree.kind == "&&") else first
+    if tree.kind == "??":
+        return value_of(tree.parts[1], names) if first is None else first
     if tree.kind == "?":
         return value_of(tree.parts[1 if first else 2], names)
     operands = [first, *(value_of(operand, names) for operand in tree.parts[1:])]

@@ -24,6 +24,10 @@ VALUES = {
     '"a" + "b" == "ab"': True, '"" == null': False, 'null != "a"': True, 'null + "" == null': False, '"" + null == ""': True,
     "null == null": True, "null != null": False, "1 == null": False, "null != -1": True, "0 == null": False,
     "null == null == true": True, '"a" == null || null == "b"': False,
+    # What may be null, and what stands for it.
+    '"a" ?? "b"': "a", '"a" ?? null': "a", '"a" ?? "b" ?? null': "a", '("a" ?? "b") ?? "c"': "a", '"" ?? "b"': "",
+    '("a" ?? "b") == "a"': True, '"a" ?? "b" + "c"': "a", '("a" ?? "b") + "c"': "ac", 'false ? "a" : "b" ?? "c"': "b",
+    '"a" ?? (1 / 0 == 0 ? "b" : "c")': "a",
 }
 
 FAULTS = {
@@ -31,7 +35,7 @@ FAULTS = {
         "1 / 0", "1 % 0", "0 / 0", "0 % 0", "-2147483648 / 0", "1 / (1 - 1)", "1 / 0 == null", "1 / 0 + (2147483647 + 1)",
         "1 % 0 * (2147483647 * 2)", "1 / 0 == 2147483647 + 1", "false || 1 / 0 == 0", "true && 1 / 0 == 0",
         "1 / 0 == 0 || true", "1 / 0 == 0 ? 1 : 2", "true ? 1 / 0 : 1", "null == 1 / 0",
-        '(1 / 0 == 0 ? "a" : "b") + (2147483647 + 1 == 0 ? "a" : "b")',
+        '(1 / 0 == 0 ? "a" : "b") ?? "c"', '(1 / 0 == 0 ? "a" : "b") + (2147483647 + 1 == 0 ? "a" : "b")',
     ],
     "Overflow": [
         "2147483647 + 1", "1 + 2147483647", "-2147483648 + -1", "-2147483648 - 1", "2147483647 - -1", "0 - -2147483648",
@@ -49,6 +53,8 @@ ILL_TYPED = [
     '"a" == 1', '1 != "a"', '"a" == true', "1 == true", "true < false", "true + true", '"a" && true', '"a" ? 1 : 2', '"a".c',
     'true ? "a" : 1', "1 == 1 == 1", "1 < 2 < 3", "1 ? 2 : 3", "-true", "!1", "x.c == null + null", "x + null", 'x == "a"',
     "x == 1",    "x == x", "t == null", 'x + "a"',
+    "1 ?? 2", "1 ?? null", "null ?? 1", 'null ?? "a"', "null ?? null", "true ?? false",
+    '"a" ?? 1', '"a" ?? true', '"a" ?? null ?? "b"', '"a" ?? "b" == "a"', '"a" ?? "b" ? 1 : 2', "x ?? x", "x ?? null", "x.c ?? 1",
 ]
 
 # What is selected of the table of nulls, whose rows have n null and 5, s null and "ab", b true and false.
@@ -59,11 +65,15 @@ OF_NULLS = {
     "x.s + x.s": ["", "abab"], "x.s + null": ["", "ab"], 'x.s + "c"': ["c", "abc"], "x.s == null": [True, False],
     'x.s != "ab"': [True, False], "x.s + null == null": [False, False], "x.b == (x.n == null)": [True, True],
     "x.b ? 1 : x.n": [1, 5], "x.b ? x.n : 1": [None, 1], "x.n == (x.b ? x.n : 5)": [True, True],
+    "x.n ?? 7": [7, 5], "x.n ?? null": [None, 5], "x.n ?? x.n": [None, 5], "x.n ?? x.n ?? 1": [1, 5], "x.n ?? 5 + 1": [6, 5],
+    "(x.n ?? 5) + 1": [6, 6], 'x.s ?? "c"': ["c", "ab"], "x.s ?? null": [None, "ab"], 'x.s ?? x.s ?? "d"': ["d", "ab"],
+    "x.b ? 3 : x.n ?? 1 / 0": [3, 5],
 }
 # What faults on its first row.
-FAULTS_OF_NULLS = {"DivideByZero": ["x.n + 1 / 0", "1 / 0 == x.n"], "Overflow": ["(x.n < 2147483647 + 1)"]}
+FAULTS_OF_NULLS = {"DivideByZero": ["x.n + 1 / 0", "1 / 0 == x.n", "x.n ?? 1 / 0"], "Overflow": ["(x.n < 2147483647 + 1)"]}
 FAULT_ON_FIVE = {"x.n / 0": "DivideByZero", "x.n % (x.n - 5)": "DivideByZero", "x.n + 2147483647": "Overflow"}
 UNTYPED_OF_NULLS = [
     "x.n + null", "x.n < null", "x.n == true", "x.s - x.s", "x.s + x.n", "x.s == x.n", "x.b == null", "x.b + x.b", "x.b < x.b",
     "x.n ? 1 : 2", "x.b ? x.n : x.s", "x.b ? x.b : x.n",
+    "x.n ?? x.s", "x.n ?? true", "x.s ?? 1", "x.b ?? true", "null ?? x.n", "1 ?? x.n", "x.n ?? 1 ?? 2",
 ]

@@ -8,10 +8,10 @@ from lexer import continues_name
 # Of each type the forms that have it. In a form a type's name stands for an expression of this type, in brackets where its
 # operator binds too weakly, and a word in capitals for any sign of its list.
 FORMS = {
-    "int": ["- int", "int TIMES int", "int PLUS int", "bool ? int : int"],
+    "int": ["- int", "int TIMES int", "int PLUS int", "bool ? int : int", "int? ?? int"],
     "int?": [
         "- int?", "int? TIMES int", "int TIMES int?", "int? PLUS int?", "bool ? int? : int?", "bool ? int : int?",
-        "bool ? int? : int",
+        "bool ? int? : int", "int? ?? int?", "int? ?? null",
     ],
     "bool": [
         "! bool", "bool && bool", "bool || bool", "int COMPARE int", "int EQUAL int", "int? COMPARE int", "int? EQUAL int?",
@@ -19,7 +19,10 @@ FORMS = {
         "string EQUAL string", "string EQUAL null", "null EQUAL string", "null EQUAL null",
         "int EQUAL null", "null EQUAL int", "int? EQUAL null",
     ],
-    "string": ["string + string", "string + string", "string + null", "null + string", "bool ? string : string"],
+    "string": [
+        "string + string", "string + string", "string + null", "null + string", "bool ? string : string", "string ?? string",
+        "string ?? null",
+    ],
 }
 FORMS = {its_type: [form.split() for form in forms] for its_type, forms in FORMS.items()}
 CHOICES = {
@@ -27,8 +30,8 @@ CHOICES = {
 }
 # Of each operator its level, and the least levels of what stands before it and behind it.
 LEVELS = {
-    "?": (0, 1, 0), "||": (2, 2, 3), "&&": (3, 3, 4), "EQUAL": (4, 4, 5), "COMPARE": (5, 5, 6), "PLUS": (6, 6, 7), "+": (6, 6, 7),
-    "TIMES": (7, 7, 8), "!": (8, 8, 8), "-": (8, 8, 8),
+    "?": (0, 1, 0), "??": (1, 2, 1), "||": (2, 2, 3), "&&": (3, 3, 4), "EQUAL": (4, 4, 5), "COMPARE": (5, 5, 6),
+    "PLUS": (6, 6, 7), "+": (6, 6, 7), "TIMES": (7, 7, 8), "!": (8, 8, 8), "-": (8, 8, 8),
 }
 PRIMARY, UNARY = 9, 8
 SCALARS = ("int", "int?", "bool", "string")

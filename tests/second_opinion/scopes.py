@@ -57,11 +57,18 @@ def choice(condition, first, second):
     return arithmetic(first, second)
 
 
+def coalescing(first, second):
+    """ECMA-334, null coalescing operator: the first may be null and isn't the literal; the second is of the same kind."""
+    if first == "int?" and second in (*NUMBERS, "null"):
+        return "int" if second == "int" else "int?"
+    return "string" if first == "string" and second in TEXTS else None
+
+
 # Of each operator the function that has its operands' types give the result's, or None where they don't fit.
 OPERATORS = {
     "unary -": arithmetic, "*": arithmetic, "/": arithmetic, "%": arithmetic, "-": arithmetic, "+": addition,
     "<": comparison, ">": comparison, "<=": comparison, ">=": comparison, "==": equality, "!=": equality,
-    "unary !": logical, "&&": logical, "||": logical, "?": choice,
+    "unary !": logical, "&&": logical, "||": logical, "?": choice, "??": coalescing,
 }
 
 
