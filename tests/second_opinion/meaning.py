@@ -71,6 +71,17 @@ def concatenated(left, right):
     return (left or "") + (right or "")
 
 
+def member(owner, name, its_type):
+    """.NET, Nullable<T>.HasValue and Value, String.Length: a text's length is that of its UTF-16. Null has HasValue alone."""
+    if its_type == "int?" and name == "HasValue":
+        return owner is not None
+    if owner is None:
+        raise Fault("InvalidOperation" if its_type == "int?" else "NullReference")
+    if its_type == "int?":
+        return owner
+    return len(owner.encode("utf-16-le")) // 2 if its_type == "string" else owner[name]
+
+
 def is_sum_of_null_texts(tree, operands, names):
     """Of two nulls their types alone tell whether they are texts."""
     return operands == [None, None] and type_of(tree, names.scope) == "string"
@@ -87,7 +98,7 @@ def value_of(tree, names):
         return names.values[tree.parts[0]]
     first = value_of(tree.parts[0], names)
     if tree.kind == ".":
-        return first[tree.parts[1]]
+        return member(first, tree.parts[1], type_of(tree.parts[0], names.scope))
     if tree.kind in ("&&", "||"):
         return value_of(tree.parts[1], names) if first == (tree.kind == "&&") else first
     if tree.kind == "??":

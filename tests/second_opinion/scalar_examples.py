@@ -28,6 +28,13 @@ VALUES = {
     '"a" ?? "b"': "a", '"a" ?? null': "a", '"a" ?? "b" ?? null': "a", '("a" ?? "b") ?? "c"': "a", '"" ?? "b"': "",
     '("a" ?? "b") == "a"': True, '"a" ?? "b" + "c"': "a", '("a" ?? "b") + "c"': "ac", 'false ? "a" : "b" ?? "c"': "b",
     '"a" ?? (1 / 0 == 0 ? "b" : "c")': "a",
+    # A text's length is that of its UTF-16.
+    '"".Length': 0, '"a".Length': 1, '"é".Length': 1, f'"e{ACUTE}".Length': 2, '"列".Length': 1, '"😀".Length': 2,
+    '"a😀b".Length': 4,
+    '"\uffff".Length': 1, '"\U00010000".Length': 2, '"\U0010ffff".Length': 2, r'"\0\u00e9\"".Length': 3, "-\"ab\".Length": -2,
+    '("a" + "bc").Length': 3, '(null + "").Length': 0, '("a" ?? null).Length': 1, '1 + "ab".Length * 2': 5,
+    '"ab".Length == null': False,
+    '("a").Length > 0 ? "b" : "c"': "b",
 }
 
 FAULTS = {
@@ -35,7 +42,8 @@ FAULTS = {
         "1 / 0", "1 % 0", "0 / 0", "0 % 0", "-2147483648 / 0", "1 / (1 - 1)", "1 / 0 == null", "1 / 0 + (2147483647 + 1)",
         "1 % 0 * (2147483647 * 2)", "1 / 0 == 2147483647 + 1", "false || 1 / 0 == 0", "true && 1 / 0 == 0",
         "1 / 0 == 0 || true", "1 / 0 == 0 ? 1 : 2", "true ? 1 / 0 : 1", "null == 1 / 0",
-        '(1 / 0 == 0 ? "a" : "b") ?? "c"', '(1 / 0 == 0 ? "a" : "b") + (2147483647 + 1 == 0 ? "a" : "b")',
+        '(1 / 0 == 0 ? "a" : "b").Length', '(1 / 0 == 0 ? "a" : "b") ?? "c"',
+        '(1 / 0 == 0 ? "a" : "b") + (2147483647 + 1 == 0 ? "a" : "b")',
     ],
     "Overflow": [
         "2147483647 + 1", "1 + 2147483647", "-2147483648 + -1", "-2147483648 - 1", "2147483647 - -1", "0 - -2147483648",
@@ -55,6 +63,9 @@ ILL_TYPED = [
     "x == 1",    "x == x", "t == null", 'x + "a"',
     "1 ?? 2", "1 ?? null", "null ?? 1", 'null ?? "a"', "null ?? null", "true ?? false",
     '"a" ?? 1', '"a" ?? true', '"a" ?? null ?? "b"', '"a" ?? "b" == "a"', '"a" ?? "b" ? 1 : 2', "x ?? x", "x ?? null", "x.c ?? 1",
+    "null.Length", "null.HasValue", "null.Value", "1.Length", "1.Value", "1.HasValue", "true.Length", "true.Value", '"a".Value',
+    '"a".HasValue', '"a".length', '"a".Length()', '"a".Length.Length', '"a" + "b".Length', '-"a".Length.c', "x.Length", "x.Value",
+    "x.c.Length", "x.c.HasValue", "t.Length",
 ]
 
 # What is selected of the table of nulls, whose rows have n null and 5, s null and "ab", b true and false.
@@ -68,12 +79,19 @@ OF_NULLS = {
     "x.n ?? 7": [7, 5], "x.n ?? null": [None, 5], "x.n ?? x.n": [None, 5], "x.n ?? x.n ?? 1": [1, 5], "x.n ?? 5 + 1": [6, 5],
     "(x.n ?? 5) + 1": [6, 6], 'x.s ?? "c"': ["c", "ab"], "x.s ?? null": [None, "ab"], 'x.s ?? x.s ?? "d"': ["d", "ab"],
     "x.b ? 3 : x.n ?? 1 / 0": [3, 5],
+    "x.n.HasValue": [False, True], "x.n.HasValue ? x.n.Value : 0": [0, 5], "(x.n * 2).HasValue": [False, True],
+    "(x.s + null).Length": [0, 2], '(x.s ?? "abc").Length': [3, 2], "x.s == null || x.s.Length == 2": [True, True],
 }
 # What faults on its first row.
-FAULTS_OF_NULLS = {"DivideByZero": ["x.n + 1 / 0", "1 / 0 == x.n", "x.n ?? 1 / 0"], "Overflow": ["(x.n < 2147483647 + 1)"]}
+FAULTS_OF_NULLS = {
+    "DivideByZero": ["x.n + 1 / 0", "1 / 0 == x.n", "x.n ?? 1 / 0", "1 / 0 + x.n.Value"], "Overflow": ["(x.n < 2147483647 + 1)"],
+    "InvalidOperation": ["x.n.Value", "(x.n + 1).Value", "x.n.Value + 1 / 0"], "NullReference": ["x.s.Length",
+    "x.s.Length + 1 / 0"],
+}
 FAULT_ON_FIVE = {"x.n / 0": "DivideByZero", "x.n % (x.n - 5)": "DivideByZero", "x.n + 2147483647": "Overflow"}
 UNTYPED_OF_NULLS = [
     "x.n + null", "x.n < null", "x.n == true", "x.s - x.s", "x.s + x.n", "x.s == x.n", "x.b == null", "x.b + x.b", "x.b < x.b",
     "x.n ? 1 : 2", "x.b ? x.n : x.s", "x.b ? x.b : x.n",
     "x.n ?? x.s", "x.n ?? true", "x.s ?? 1", "x.b ?? true", "null ?? x.n", "1 ?? x.n", "x.n ?? 1 ?? 2",
+    "x.n.Length", "x.s.Value", "x.s.HasValue", "x.b.Value", "x.b.HasValue", "(x.n ?? 1).Value", "x.n.Value.Value", "x.n.value",
 ]

@@ -8,7 +8,7 @@ from lexer import continues_name
 # Of each type the forms that have it. In a form a type's name stands for an expression of this type, in brackets where its
 # operator binds too weakly, and a word in capitals for any sign of its list.
 FORMS = {
-    "int": ["- int", "int TIMES int", "int PLUS int", "bool ? int : int", "int? ?? int"],
+    "int": ["- int", "int TIMES int", "int PLUS int", "bool ? int : int", "int? ?? int", "string . Length", "int? . Value"],
     "int?": [
         "- int?", "int? TIMES int", "int TIMES int?", "int? PLUS int?", "bool ? int? : int?", "bool ? int : int?",
         "bool ? int? : int", "int? ?? int?", "int? ?? null",
@@ -17,7 +17,7 @@ FORMS = {
         "! bool", "bool && bool", "bool || bool", "int COMPARE int", "int EQUAL int", "int? COMPARE int", "int? EQUAL int?",
         "bool ? bool : bool", "bool EQUAL bool",
         "string EQUAL string", "string EQUAL null", "null EQUAL string", "null EQUAL null",
-        "int EQUAL null", "null EQUAL int", "int? EQUAL null",
+        "int EQUAL null", "null EQUAL int", "int? EQUAL null", "int? . HasValue",
     ],
     "string": [
         "string + string", "string + string", "string + null", "null + string", "bool ? string : string", "string ?? string",
@@ -31,7 +31,7 @@ CHOICES = {
 # Of each operator its level, and the least levels of what stands before it and behind it.
 LEVELS = {
     "?": (0, 1, 0), "??": (1, 2, 1), "||": (2, 2, 3), "&&": (3, 3, 4), "EQUAL": (4, 4, 5), "COMPARE": (5, 5, 6),
-    "PLUS": (6, 6, 7), "+": (6, 6, 7), "TIMES": (7, 7, 8), "!": (8, 8, 8), "-": (8, 8, 8),
+    "PLUS": (6, 6, 7), "+": (6, 6, 7), "TIMES": (7, 7, 8), "!": (8, 8, 8), "-": (8, 8, 8), ".": (9, 9, 0),
 }
 PRIMARY, UNARY = 9, 8
 SCALARS = ("int", "int?", "bool", "string")
@@ -44,7 +44,10 @@ LITERALS = {
     ],
 }
 FAULTY = {"int": [(7, "1 / 0"), (7, "7 % 0"), (6, "2147483647 + 1"), (UNARY, "- - 2147483648"), (7, "- 2147483648 / - 1")]}
-STRAY = ["none", "t", "x", "new { }", "new { a = 1 }", "Host . p ( 1 )", "x . none", "1 . c", "true . f ( )", "null", '"a"']
+STRAY = [
+    "none", "t", "x", "new { }", "new { a = 1 }", "Host . p ( 1 )", "x . none", "1 . c", "true . f ( )", "null", '"a"',
+    '"a" . length', '"a" . Length ( )', '"a" . Value', "1 . Value", "1 . HasValue", "null . Length", "x . Length",
+]
 
 
 class Scope:

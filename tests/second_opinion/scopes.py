@@ -7,6 +7,7 @@ LITERALS = {"integer": "int", "true": "bool", "false": "bool", "text": "string",
 NUMBERS = ("int", "int?")
 TEXTS = ("string", "null")
 SCALARS = ("int", "int?", "bool", "string")
+MEMBERS = {("int?", "HasValue"): "bool", ("int?", "Value"): "int", ("string", "Length"): "int"}
 
 
 class TypeFault(Exception):
@@ -73,8 +74,8 @@ OPERATORS = {
 
 
 def type_of_member(owner, name):
-    """ECMA-334, member access: a row has a member for each column."""
-    return owner.get(name) if is_row(owner) else None
+    """ECMA-334, member access: a row has a member for each column; the others are those of .NET's types."""
+    return owner.get(name) if is_row(owner) else MEMBERS.get((owner, name))
 
 
 def type_of(tree, scope):
