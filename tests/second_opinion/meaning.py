@@ -16,6 +16,7 @@ COMPARISONS = {
     "<=": operator.le,
     ">=": operator.ge,
 }
+SEARCHES = {"StartsWith": bytes.startswith, "EndsWith": bytes.endswith, "Contains": bytes.__contains__}
 
 
 class Fault(Exception):
@@ -82,6 +83,13 @@ def member(owner, name, its_type):
     return len(owner.encode("utf-16-le")) // 2 if its_type == "string" else owner[name]
 
 
+def search(text, name, part):
+    """.NET, String.StartsWith, EndsWith and Contains, by bytes; of a null argument, too, the fault is that of a null text."""
+    if text is None or part is None:
+        raise Fault("NullReference")
+    return SEARCHES[name](text.encode(), part.encode())
+
+
 def is_sum_of_null_texts(tree, operands, names):
     """Of two nulls their types alone tell whether they are texts."""
     return operands == [None, None] and type_of(tree, names.scope) == "string"
@@ -96,6 +104,10 @@ def value_of(tree, names):
         return LITERALS[tree.kind]
     if tree.kind == "name":
         return names.values[tree.parts[0]]
+    if tree.kind == "call":
+        method, (argument,) = tree.parts
+        text = value_of(method.parts[0], names)
+        return search(text, method.parts[1], value_of(argument, names))
     first = value_of(tree.parts[0], names)
     if tree.kind == ".":
         return member(first, tree.parts[1], type_of(tree.parts[0], names.scope))

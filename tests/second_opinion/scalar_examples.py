@@ -35,6 +35,22 @@ VALUES = {
     '("a" + "bc").Length': 3, '(null + "").Length': 0, '("a" ?? null).Length': 1, '1 + "ab".Length * 2': 5,
     '"ab".Length == null': False,
     '("a").Length > 0 ? "b" : "c"': "b",
+    # A text is searched for another by their bytes, which finds whole characters.
+    '"abc".StartsWith("ab")': True, '"abc".StartsWith("bc")': False, '"abc".StartsWith("abc")': True,
+    '"abc".StartsWith("abcd")': False,
+    '"abc".EndsWith("bc")': True, '"abc".EndsWith("ab")': False, '"abc".EndsWith("abc")': True, '"abc".EndsWith("zabc")': False,
+    '"abc".Contains("b")': True, '"abc".Contains("ac")': False, '"abc".Contains("abc")': True, '"abc".Contains("abcd")': False,
+    '"ababac".Contains("abac")': True, '"aab".Contains("ab")': True, '"aaa".Contains("aaaa")': False,
+    '"abc".Contains("B")': False,
+    '"".StartsWith("")': True, '"".EndsWith("")': True, '"".Contains("")': True, '"a".StartsWith("")': True,
+    '"a".EndsWith("")': True,
+    '"😀".Contains("")': True, '"".StartsWith("a")': False, '"".EndsWith("a")': False, '"".Contains("\0")': False,
+    r'"a\0b".Contains("\0b")': True, '"a".Contains("\0")': False, '"a😀é".EndsWith("😀é")': True, '"é".Contains("e")': False,
+    f'"e{ACUTE}".StartsWith("e")': True, f'"e{ACUTE}".Contains("é")': False, r'"é列".StartsWith("\u00e9")': True,
+    '"a".Contains("a" + null)': True, '("a" + "b").EndsWith("b")': True, '!"a".Contains("b")': True,
+    '"a".Contains("a") == true': True,
+    '"a" . Contains ( ("a") )': True, '"ab".Contains("b") ? "ab".Length : 0': 2,
+    'false && "a".Contains(1 / 0 == 0 ? "a" : "b")': False,
 }
 
 FAULTS = {
@@ -42,6 +58,7 @@ FAULTS = {
         "1 / 0", "1 % 0", "0 / 0", "0 % 0", "-2147483648 / 0", "1 / (1 - 1)", "1 / 0 == null", "1 / 0 + (2147483647 + 1)",
         "1 % 0 * (2147483647 * 2)", "1 / 0 == 2147483647 + 1", "false || 1 / 0 == 0", "true && 1 / 0 == 0",
         "1 / 0 == 0 || true", "1 / 0 == 0 ? 1 : 2", "true ? 1 / 0 : 1", "null == 1 / 0",
+        '"a".Contains(1 / 0 == 0 ? "a" : "b")', '(1 / 0 == 0 ? "a" : "b").EndsWith(2147483647 + 1 == 0 ? "a" : "b")',
         '(1 / 0 == 0 ? "a" : "b").Length', '(1 / 0 == 0 ? "a" : "b") ?? "c"',
         '(1 / 0 == 0 ? "a" : "b") + (2147483647 + 1 == 0 ? "a" : "b")',
     ],
@@ -66,6 +83,13 @@ ILL_TYPED = [
     "null.Length", "null.HasValue", "null.Value", "1.Length", "1.Value", "1.HasValue", "true.Length", "true.Value", '"a".Value',
     '"a".HasValue', '"a".length', '"a".Length()', '"a".Length.Length', '"a" + "b".Length', '-"a".Length.c', "x.Length", "x.Value",
     "x.c.Length", "x.c.HasValue", "t.Length",
+    '"a".Contains(null)', '"a".StartsWith(null)', '"a".EndsWith(null)', '"a".Contains()', '"a".Contains("a", "b")',
+    '"a".Contains(1)',
+    '"a".Contains(true)', '"a".Contains(y => "a")', '"a".contains("a")', '"a".Contains', '"a".IndexOf("a")', '"a".ToString()',
+    'null.Contains("a")', '1.Contains("1")', "1.Contains(1)", 'true.EndsWith("e")', 't.Contains("a")', 'x.Contains("a")',
+    'x.c.Contains("1")', '"a".Contains("a").Contains("a")', '"a".Contains("a").Length', '"a" + "a".Contains("a")',
+    '-"a".Contains("a")', '"a".Contains(null ?? "a")', '"a".Contains(x)', '"a".Contains(x.c)',
+    '"a".Contains((from y in t select "a"))',
 ]
 
 # What is selected of the table of nulls, whose rows have n null and 5, s null and "ab", b true and false.
@@ -81,12 +105,18 @@ OF_NULLS = {
     "x.b ? 3 : x.n ?? 1 / 0": [3, 5],
     "x.n.HasValue": [False, True], "x.n.HasValue ? x.n.Value : 0": [0, 5], "(x.n * 2).HasValue": [False, True],
     "(x.s + null).Length": [0, 2], '(x.s ?? "abc").Length': [3, 2], "x.s == null || x.s.Length == 2": [True, True],
+    '(x.s ?? "b").StartsWith("b")': [True, False], '"ab".Contains(x.s + null)': [True, True],
+    'x.s != null && x.s.EndsWith("b")': [False, True],
 }
 # What faults on its first row.
 FAULTS_OF_NULLS = {
-    "DivideByZero": ["x.n + 1 / 0", "1 / 0 == x.n", "x.n ?? 1 / 0", "1 / 0 + x.n.Value"], "Overflow": ["(x.n < 2147483647 + 1)"],
-    "InvalidOperation": ["x.n.Value", "(x.n + 1).Value", "x.n.Value + 1 / 0"], "NullReference": ["x.s.Length",
-    "x.s.Length + 1 / 0"],
+    "DivideByZero": ["x.n + 1 / 0", "1 / 0 == x.n", "x.n ?? 1 / 0", "1 / 0 + x.n.Value", 'x.s.Contains(1 / 0 == 0 ? "a" : "b")'],
+    "Overflow": ["(x.n < 2147483647 + 1)"],
+    "InvalidOperation": ["x.n.Value", "(x.n + 1).Value", "x.n.Value + 1 / 0"],
+    "NullReference": [
+        "x.s.Length", "x.s.Length + 1 / 0", 'x.s.StartsWith("a")', 'x.s.EndsWith("")', 'x.s.Contains(x.s)', '"a".StartsWith(x.s)',
+        '"".EndsWith(x.s)', '"a".Contains(x.s)', 'x.s.Contains("a") || 1 / 0 == 0',
+    ],
 }
 FAULT_ON_FIVE = {"x.n / 0": "DivideByZero", "x.n % (x.n - 5)": "DivideByZero", "x.n + 2147483647": "Overflow"}
 UNTYPED_OF_NULLS = [
@@ -94,4 +124,5 @@ UNTYPED_OF_NULLS = [
     "x.n ? 1 : 2", "x.b ? x.n : x.s", "x.b ? x.b : x.n",
     "x.n ?? x.s", "x.n ?? true", "x.s ?? 1", "x.b ?? true", "null ?? x.n", "1 ?? x.n", "x.n ?? 1 ?? 2",
     "x.n.Length", "x.s.Value", "x.s.HasValue", "x.b.Value", "x.b.HasValue", "(x.n ?? 1).Value", "x.n.Value.Value", "x.n.value",
+    "x.s.Contains(x.n)", "x.n.Contains(x.s)", "x.s.Contains(null)", "x.b.Contains(x.b)",
 ]

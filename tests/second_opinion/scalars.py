@@ -18,6 +18,7 @@ FORMS = {
         "bool ? bool : bool", "bool EQUAL bool",
         "string EQUAL string", "string EQUAL null", "null EQUAL string", "null EQUAL null",
         "int EQUAL null", "null EQUAL int", "int? EQUAL null", "int? . HasValue",
+        "string . SEARCH ( string )", "string . SEARCH ( string )",
     ],
     "string": [
         "string + string", "string + string", "string + null", "null + string", "bool ? string : string", "string ?? string",
@@ -27,6 +28,7 @@ FORMS = {
 FORMS = {its_type: [form.split() for form in forms] for its_type, forms in FORMS.items()}
 CHOICES = {
     "TIMES": ["*", "/", "%"], "PLUS": ["+", "-"], "COMPARE": ["<", ">", "<=", ">="], "EQUAL": ["==", "!="],
+    "SEARCH": ["StartsWith", "EndsWith", "Contains"],
 }
 # Of each operator its level, and the least levels of what stands before it and behind it.
 LEVELS = {
@@ -47,6 +49,8 @@ FAULTY = {"int": [(7, "1 / 0"), (7, "7 % 0"), (6, "2147483647 + 1"), (UNARY, "- 
 STRAY = [
     "none", "t", "x", "new { }", "new { a = 1 }", "Host . p ( 1 )", "x . none", "1 . c", "true . f ( )", "null", '"a"',
     '"a" . length', '"a" . Length ( )', '"a" . Value', "1 . Value", "1 . HasValue", "null . Length", "x . Length",
+    '"a" . Contains ( null )', '"a" . Contains ( )', '"a" . Contains ( "a" , "b" )', '"a" . Contains ( y => "a" )',
+    '"a" . contains ( "a" )', '"a" . Contains', 'null . Contains ( "a" )', "t . Contains ( 1 )", '1 . EndsWith ( "1" )',
 ]
 
 

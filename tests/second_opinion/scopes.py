@@ -8,6 +8,7 @@ NUMBERS = ("int", "int?")
 TEXTS = ("string", "null")
 SCALARS = ("int", "int?", "bool", "string")
 MEMBERS = {("int?", "HasValue"): "bool", ("int?", "Value"): "int", ("string", "Length"): "int"}
+SEARCHES = ("StartsWith", "EndsWith", "Contains")
 
 
 class TypeFault(Exception):
@@ -78,6 +79,14 @@ def type_of_member(owner, name):
     return owner.get(name) if is_row(owner) else MEMBERS.get((owner, name))
 
 
+def type_of_call(call, scope):
+    """.NET, the methods of String that search one text in another. Null, which has no type, is no argument."""
+    method, arguments = call.parts
+    owner, name = method.parts
+    types = [type_of(part, scope) for part in (owner, *arguments)]
+    return "bool" if name in SEARCHES and types == ["string", "string"] else None
+
+
 def type_of(tree, scope):
     """An expression's type, which all its parts have to have, too."""
     found = None
@@ -87,6 +96,8 @@ def type_of(tree, scope):
         found = scope.get(tree.parts[0])
     elif tree.kind == ".":
         found = type_of_member(type_of(tree.parts[0], scope), tree.parts[1])
+    elif tree.kind == "call":
+        found = type_of_call(tree, scope)
     elif tree.kind in OPERATORS:
         found = OPERATORS[tree.kind](*(type_of(operand, scope) for operand in tree.parts))
     if found is None:
