@@ -60,6 +60,13 @@ ITEMS = {
     "run from x in t select x.c == null;": [False, False],
     "run from x in t where x.c != null select x.c;": [1, 2],
     'run from x in t select x.c == 1 ? "one" : "more" + null;': ["one", "more"],
+    'run from x in t select x.c == 1 ? null : "more";': [None, "more"],
+    "run from x in t where x == null select x.c;": [],
+    "run from x in t select x != null;": [True, True],
+    "run from x in t select (x.c > 1 ? x : null) == null;": [True, False],
+    "run from x in t where x.c > 1 select (x.c > 1 ? x : null).c;": [2],
+    "run from x in t select (x.c > 1 ? x : x).c;": [1, 2],
+    "run from x in t select (x.c > 1 ? x : null) == null ? 0 : (x.c > 1 ? x : null).c;": [0, 2],
 }
 
 LEXICAL = ["1_", "1x", "1٣", "٣", "2147483649", "&", '"', r'"\q"', r'"\uDABC"', "\u00a0", "\ufeff", "é²"]

@@ -28,6 +28,13 @@ VALUES = {
     '"a" ?? "b"': "a", '"a" ?? null': "a", '"a" ?? "b" ?? null': "a", '("a" ?? "b") ?? "c"': "a", '"" ?? "b"': "",
     '("a" ?? "b") == "a"': True, '"a" ?? "b" + "c"': "a", '("a" ?? "b") + "c"': "ac", 'false ? "a" : "b" ?? "c"': "b",
     '"a" ?? (1 / 0 == 0 ? "b" : "c")': "a",
+    # A choice of a text and null may be null.
+    'true ? "a" : null': "a", 'false ? "a" : null': None, 'true ? null : "a"': None, 'false ? null : "a"': "a",
+    '(false ? "a" : null) == null': True, 'null != (false ? "a" : null)': False, '(false ? "a" : null) == ""': False,
+    '(true ? null : "a") == (false ? "b" : null)': True, '(false ? "a" : null) + "b"': "b", '(false ? "a" : null) + null': "",
+    '(false ? "a" : null) + (false ? "a" : null) == ""': True, '(false ? "a" : null) ?? "b"': "b",
+    '(false ? "a" : null) ?? null': None, '(false ? "a" : null) ?? (true ? null : "b") ?? "c"': "c",
+    '((false ? "a" : null) ?? "bc").Length': 2, 'true ? "a" : false ? "b" : null': "a", 'false ? "a" : true ? null : "b"': None,
     # A text's length is that of its UTF-16.
     '"".Length': 0, '"a".Length': 1, '"é".Length': 1, f'"e{ACUTE}".Length': 2, '"列".Length': 1, '"😀".Length': 2,
     '"a😀b".Length': 4,
@@ -59,8 +66,17 @@ FAULTS = {
         "1 % 0 * (2147483647 * 2)", "1 / 0 == 2147483647 + 1", "false || 1 / 0 == 0", "true && 1 / 0 == 0",
         "1 / 0 == 0 || true", "1 / 0 == 0 ? 1 : 2", "true ? 1 / 0 : 1", "null == 1 / 0",
         '"a".Contains(1 / 0 == 0 ? "a" : "b")', '(1 / 0 == 0 ? "a" : "b").EndsWith(2147483647 + 1 == 0 ? "a" : "b")',
+        '(false ? "a" : null).Contains(1 / 0 == 0 ? "a" : "b")', "1 / 0 + (false ? \"a\" : null).Length",
+        '(1 / 0 == 0 ? "a" : null) == null', '(false ? "a" : null) ?? (1 / 0 == 0 ? "a" : "b")',
         '(1 / 0 == 0 ? "a" : "b").Length', '(1 / 0 == 0 ? "a" : "b") ?? "c"',
         '(1 / 0 == 0 ? "a" : "b") + (2147483647 + 1 == 0 ? "a" : "b")',
+    ],
+    "NullReference": [
+        '(false ? "a" : null).Length', '(true ? null : "a").Length + 1 / 0', '(false ? "a" : null).StartsWith("a")',
+        '(false ? "a" : null).EndsWith("")', '(true ? null : "").Contains("")', '"a".StartsWith(false ? "a" : null)',
+        '"".EndsWith(true ? null : "a")', '"a".Contains((false ? "a" : null) ?? null)',
+        '(false ? "a" : null).Contains(true ? null : "a")', '(false ? "a" : null).Length == 1 / 0',
+        '"a".Contains(true ? null : "a") || true',
     ],
     "Overflow": [
         "2147483647 + 1", "1 + 2147483647", "-2147483648 + -1", "-2147483648 - 1", "2147483647 - -1", "0 - -2147483648",
@@ -80,7 +96,13 @@ ILL_TYPED = [
     "x == 1",    "x == x", "t == null", 'x + "a"',
     "1 ?? 2", "1 ?? null", "null ?? 1", 'null ?? "a"', "null ?? null", "true ?? false",
     '"a" ?? 1', '"a" ?? true', '"a" ?? null ?? "b"', '"a" ?? "b" == "a"', '"a" ?? "b" ? 1 : 2', "x ?? x", "x ?? null", "x.c ?? 1",
-    "null.Length", "null.HasValue", "null.Value", "1.Length", "1.Value", "1.HasValue", "true.Length", "true.Value", '"a".Value',
+    "true ? 1 : null", "false ? null : 1", "true ? null : null", "true ? true : null", "false ? null : false", "true ? x : 1",
+    "true ? x : x.c", "true ? t : null", "true ? null : t", "true ? x : x", "false ? x : null", "true ? null : x", "x",
+    "x ? 1 : 2",
+    "(true ? x : null) + null", "(true ? x : null) == x", "(true ? x : null) == 1", "(true ? x : null).d",
+    "(true ? null : null).c",
+    "(true ? x : null) ?? x", "(x == null) == null", "x == null == null", "x < null", "!(x ?? null)", "null.Length",
+    "null.HasValue", "null.Value", "1.Length", "1.Value", "1.HasValue", "true.Length", "true.Value", '"a".Value',
     '"a".HasValue', '"a".length', '"a".Length()', '"a".Length.Length', '"a" + "b".Length', '-"a".Length.c', "x.Length", "x.Value",
     "x.c.Length", "x.c.HasValue", "t.Length",
     '"a".Contains(null)', '"a".StartsWith(null)', '"a".EndsWith(null)', '"a".Contains()', '"a".Contains("a", "b")',
@@ -107,14 +129,22 @@ OF_NULLS = {
     "(x.s + null).Length": [0, 2], '(x.s ?? "abc").Length': [3, 2], "x.s == null || x.s.Length == 2": [True, True],
     '(x.s ?? "b").StartsWith("b")': [True, False], '"ab".Contains(x.s + null)': [True, True],
     'x.s != null && x.s.EndsWith("b")': [False, True],
+    "x.b ? x.n : null": [None, None], "x.b ? null : x.n": [None, 5], "x.b ? 1 : x.b ? null : x.n": [1, 5],
+    "x.b ? null : x.s": [None, "ab"],
+    "(x.b ? null : x.n).HasValue": [False, True], "(x.b ? x.n : null) + 1": [None, None], "(x.b ? null : x) == null": [True,
+    False],
+    "(x.b ? x : null) != null": [True, False], "x == null": [False, False], "null != x": [True, True], "(x.b ? x : x).s": [None,
+    "ab"],
+    "(x.b ? x : null) == null ? 1 : (x.b ? x : null).n": [None, 1],
 }
 # What faults on its first row.
 FAULTS_OF_NULLS = {
     "DivideByZero": ["x.n + 1 / 0", "1 / 0 == x.n", "x.n ?? 1 / 0", "1 / 0 + x.n.Value", 'x.s.Contains(1 / 0 == 0 ? "a" : "b")'],
     "Overflow": ["(x.n < 2147483647 + 1)"],
-    "InvalidOperation": ["x.n.Value", "(x.n + 1).Value", "x.n.Value + 1 / 0"],
+    "InvalidOperation": ["(x.b ? null : x.n).Value", "x.n.Value", "(x.n + 1).Value", "x.n.Value + 1 / 0"],
     "NullReference": [
-        "x.s.Length", "x.s.Length + 1 / 0", 'x.s.StartsWith("a")', 'x.s.EndsWith("")', 'x.s.Contains(x.s)', '"a".StartsWith(x.s)',
+        "(x.b ? null : x).n", "(x.b ? null : x).s.Length", "x.s.Length", "x.s.Length + 1 / 0", 'x.s.StartsWith("a")',
+        'x.s.EndsWith("")', 'x.s.Contains(x.s)', '"a".StartsWith(x.s)',
         '"".EndsWith(x.s)', '"a".Contains(x.s)', 'x.s.Contains("a") || 1 / 0 == 0',
     ],
 }
@@ -125,4 +155,6 @@ UNTYPED_OF_NULLS = [
     "x.n ?? x.s", "x.n ?? true", "x.s ?? 1", "x.b ?? true", "null ?? x.n", "1 ?? x.n", "x.n ?? 1 ?? 2",
     "x.n.Length", "x.s.Value", "x.s.HasValue", "x.b.Value", "x.b.HasValue", "(x.n ?? 1).Value", "x.n.Value.Value", "x.n.value",
     "x.s.Contains(x.n)", "x.n.Contains(x.s)", "x.s.Contains(null)", "x.b.Contains(x.b)",
+    "x.b ? x.b : null", "x.b ? null : x.n == 5", "x.b ? x : x.n", "x.b ? x : null", "(x.b ? x : null).none", "x ?? null",
+    "x.b == null",
 ]

@@ -6,24 +6,26 @@
 from lexer import continues_name
 
 # Of each type the forms that have it. In a form a type's name stands for an expression of this type, in brackets where its
-# operator binds too weakly, and a word in capitals for any sign of its list.
+# operator binds too weakly, a word in capitals for any sign of its list, and `COLUMN` for the name of a column of a type.
 FORMS = {
-    "int": ["- int", "int TIMES int", "int PLUS int", "bool ? int : int", "int? ?? int", "string . Length", "int? . Value"],
+    "int": ["- int", "int TIMES int", "int PLUS int", "bool ? int : int", "int? ?? int", "string . Length", "int? . Value",
+    "row . COLUMN:int"],
     "int?": [
         "- int?", "int? TIMES int", "int TIMES int?", "int? PLUS int?", "bool ? int? : int?", "bool ? int : int?",
-        "bool ? int? : int", "int? ?? int?", "int? ?? null",
+        "bool ? int? : int", "int? ?? int?", "int? ?? null", "bool ? int? : null", "bool ? null : int?", "row . COLUMN:int?",
     ],
     "bool": [
         "! bool", "bool && bool", "bool || bool", "int COMPARE int", "int EQUAL int", "int? COMPARE int", "int? EQUAL int?",
         "bool ? bool : bool", "bool EQUAL bool",
         "string EQUAL string", "string EQUAL null", "null EQUAL string", "null EQUAL null",
         "int EQUAL null", "null EQUAL int", "int? EQUAL null", "int? . HasValue",
-        "string . SEARCH ( string )", "string . SEARCH ( string )",
+        "string . SEARCH ( string )", "string . SEARCH ( string )", "row EQUAL null", "null EQUAL row", "row . COLUMN:bool",
     ],
     "string": [
         "string + string", "string + string", "string + null", "null + string", "bool ? string : string", "string ?? string",
-        "string ?? null",
+        "string ?? null", "bool ? string : null", "bool ? null : string", "row . COLUMN:string",
     ],
+    "row": ["bool ? row : row", "bool ? row : null", "bool ? null : row"],
 }
 FORMS = {its_type: [form.split() for form in forms] for its_type, forms in FORMS.items()}
 CHOICES = {
@@ -45,7 +47,15 @@ LITERALS = {
         '"列"', '"//"', r'"\0\a\b\f\n\r\t\v"', r'"\"\\\'"', '"\u2028\x7f\x01"',
     ],
 }
-FAULTY = {"int": [(7, "1 / 0"), (7, "7 % 0"), (6, "2147483647 + 1"), (UNARY, "- - 2147483648"), (7, "- 2147483648 / - 1")]}
+# Leaves that fault, and a text that is null.
+RARE = {
+    "int": [
+        (7, "1 / 0"), (7, "7 % 0"), (6, "2147483647 + 1"), (UNARY, "- - 2147483648"), (7, "- 2147483648 / - 1"),
+        (PRIMARY, '( false ? "a" : null ) . Length'),
+    ],
+    "bool": [(PRIMARY, '"a" . Contains ( true ? null : "a" )'), (PRIMARY, '( true ? null : "a" ) . EndsWith ( "a" )')],
+    "string": [(PRIMARY, '( false ? "a" : null )'), (PRIMARY, '( true ? null : "a" )')],
+}
 STRAY = [
     "none", "t", "x", "new { }", "new { a = 1 }", "Host . p ( 1 )", "x . none", "1 . c", "true . f ( )", "null", '"a"',
     '"a" . length', '"a" . Length ( )', '"a" . Value', "1 . Value", "1 . HasValue", "null . Length", "x . Length",
@@ -59,14 +69,20 @@ class Scope:
 
     def __init__(self, variable=None, table=None):
         self.leaves = {its_type: [[word] for word in words] for its_type, words in LITERALS.items()}
+        self.choices = dict(CHOICES)
         if table is not None:
+            self.leaves["row"] = [[variable]]
             for column, its_type in table.columns.items():
+                self.choices.setdefault("COLUMN:" + its_type, []).append(column)
                 self.leaves.setdefault(its_type, []).extend([[variable, ".", column]] * 4)
                 self.leaves[its_type] += [spelled_cell(row[column]) for row in table.rows if row[column] is not None]
         self.forms = {
-            its_type: [form for form in forms if all(word in self.leaves for word in form if word in FORMS)]
-            for its_type, forms in FORMS.items()
+            its_type: [form for form in forms if all(map(self.has, form))] for its_type, forms in FORMS.items()
         }
+
+    def has(self, word):
+        """Whether something stands here for a form's word: not for all types, and not for all types' columns."""
+        return word in self.leaves if word in FORMS else word in self.choices or not word.startswith("COLUMN")
 
     def of_any_type(self, dice):
         return dice.choice(list(self.leaves))
@@ -82,9 +98,9 @@ def level_of(words):
 
 
 def leaf(dice, its_type, scope):
-    """An expression without parts of its own; now and then one that faults."""
-    if its_type in FAULTY and dice.random() < 0.06:
-        level, words = dice.choice(FAULTY[its_type])
+    """An expression without parts of its own."""
+    if its_type in RARE and dice.random() < 0.06:
+        level, words = dice.choice(RARE[its_type])
         return level, words.split()
     words = dice.choice(scope.leaves[its_type])
     return level_of(words), words
@@ -104,7 +120,7 @@ def in_brackets(dice, part, least):
     return ["(", *words, ")"] if brackets else words
 
 
-def filled(dice, form, part_of):
+def filled(dice, form, scope, part_of):
     """The form with an expression in each type's place, which `part_of` gives of its place and its type."""
     operator = next(word for word in form if word in LEVELS)
     own, least, behind = LEVELS[operator]
@@ -113,7 +129,7 @@ def filled(dice, form, part_of):
         if word in FORMS:
             words += in_brackets(dice, part_of(place, word), least)
         else:
-            words.append(dice.choice(CHOICES.get(word, [word])))
+            words.append(dice.choice(scope.choices.get(word, [word])))
         least = behind if word == operator else least
     return own, words
 
@@ -125,7 +141,7 @@ def expression(dice, its_type, scope, fuel, strays=0):
     forms = scope.forms.get(its_type)
     if fuel == 0 or not forms or dice.random() < 0.15:
         return leaf(dice, its_type, scope)
-    return filled(dice, dice.choice(forms), lambda _, inner: expression(dice, inner, scope, fuel - 1, strays))
+    return filled(dice, dice.choice(forms), scope, lambda _, inner: expression(dice, inner, scope, fuel - 1, strays))
 
 
 def wrapped(dice, its_type, part, scope):
@@ -135,7 +151,7 @@ def wrapped(dice, its_type, part, scope):
         for place, word in enumerate(form) if word == its_type
     ]
     outer, form, hole = dice.choice(around)
-    return outer, filled(dice, form, lambda place, inner: part if place == hole else leaf(dice, inner, scope))
+    return outer, filled(dice, form, scope, lambda place, inner: part if place == hole else leaf(dice, inner, scope))
 
 
 def deep(dice, scope):

@@ -51,11 +51,14 @@ def logical(*operands):
 
 
 def choice(condition, first, second):
-    """ECMA-334, conditional operator: the type of one value is that of the other, or converts to it."""
+    """ECMA-334, conditional operator: both are of one type, or one converts to that of the other; null to what may be null."""
     if condition != "bool":
         return None
-    if first == second and first in SCALARS:
+    if first == second and (first in SCALARS or is_row(first)):
         return first
+    if "null" in (first, second):
+        other = second if first == "null" else first
+        return other if other in ("int?", "string") or is_row(other) else None
     return arithmetic(first, second)
 
 
