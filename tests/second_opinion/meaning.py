@@ -148,6 +148,16 @@ def stream_of(items):
     return {"items": served}
 
 
+def served(top, tables):
+    """The members of the reply to `run`: the items of a query, and the value or the fault of an expression."""
+    if top.kind == "query":
+        return stream_of(items_of(top, tables))
+    try:
+        return {"value": value_of(top, Names({}, {}))}
+    except Fault as fault:
+        return {"fault": str(fault)}
+
+
 def compact(value):
     """RFC 8259: the JSON of a value without white space, in which only what has to be escaped is, and a line's end."""
     return json.dumps(value, separators=(",", ":"), ensure_ascii=False) + "\n"
@@ -162,7 +172,7 @@ def reply_of(line, tables):
         check_depth(tokens)
         statement = parse(tokens)
         check(statement, tables)
-        return compact(stream_of(items_of(statement.parts[0], tables)))
+        return compact(served(statement.parts[0], tables))
     except SyntaxFault:
         return compact({"error": "syntax"})
     except DepthFault:

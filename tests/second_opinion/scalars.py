@@ -190,7 +190,9 @@ def spaced(words):
 
 
 def line(dice, tables):
-    """A query over one of the tables, whose condition or value is such an expression."""
+    """Such an expression alone, or as the condition or the value of a query over one of the tables."""
+    if dice.random() < 0.5:
+        return spaced(["run", *scalar(dice, Scope()), ";"])
     name, table = dice.choice(list(tables.items()))
     variable = dice.choice(["x", "y", name])
     scope = Scope(variable, table)

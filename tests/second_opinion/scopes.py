@@ -132,7 +132,11 @@ def check_query(query, tables):
 
 
 def check(statement, tables):
-    """Only `run` of a query is served yet."""
-    if statement.kind != "run" or statement.parts[0].kind != "query":
-        raise TypeFault("no run of a query")
-    check_query(statement.parts[0], tables)
+    """Only `run` is served yet: of a query, and of a scalar expression, in which no name has a type."""
+    if statement.kind != "run":
+        raise TypeFault("no run")
+    top = statement.parts[0]
+    if top.kind == "query":
+        check_query(top, tables)
+    elif type_of(top, {}) not in SCALARS:
+        raise TypeFault("what is run is no scalar")

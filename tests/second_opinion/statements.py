@@ -132,6 +132,11 @@ def served(dice, tables):
     return spell(dice, statement(dice, tables))
 
 
+def scalar(dice, tables):
+    """A scalar expression alone."""
+    return spell(dice, ["run", *scalars.scalar(dice, scalars.Scope()), ";"])
+
+
 def other_tokens(dice, tables):
     """Some tokens are missing, doubled, or moved to the front of others; one is put in or replaced; or the line ends early."""
     words = statement(dice, tables)
@@ -204,7 +209,8 @@ def two(dice, tables):
 
 
 KINDS = {
-    served: 62,
+    served: 58,
+    scalar: 4,
     other_tokens: 11,
     other_characters: 8,
     other_names: 9,
