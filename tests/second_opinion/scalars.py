@@ -75,7 +75,8 @@ class Scope:
             for column, its_type in table.columns.items():
                 self.choices.setdefault("COLUMN:" + its_type, []).append(column)
                 self.leaves.setdefault(its_type, []).extend([[variable, ".", column]] * 4)
-                self.leaves[its_type] += [spelled_cell(row[column]) for row in table.rows if row[column] is not None]
+                if its_type in ("int", "int?"):
+                    self.leaves["int"] += [spelled_int(row[column]) for row in table.rows if row[column] is not None]
         self.forms = {
             its_type: [form for form in forms if all(map(self.has, form))] for its_type, forms in FORMS.items()
         }
@@ -88,9 +89,9 @@ class Scope:
         return dice.choice(list(self.leaves))
 
 
-def spelled_cell(cell):
-    """The literal of a cell's value."""
-    return ["-", str(-cell)] if cell < 0 else [str(cell)]
+def spelled_int(value):
+    """The tokens of a number."""
+    return ["-", str(-value)] if value < 0 else [str(value)]
 
 
 def level_of(words):
