@@ -57,7 +57,7 @@ ARITHMETIC = {
 
 
 def operate(sign, operands):
-    """ECMA-334, lifted operators: arithmetic with null is null, no comparison by size with null is true, null equals null alone."""
+    """ECMA-334, lifted operators: arithmetic with null is null, by size null compares false, and null equals null alone."""
     if sign == "unary !":
         return not operands[0]
     if sign in ("==", "!="):
