@@ -19,6 +19,7 @@ SYNTAX = '{"error":"syntax"}'
 TYPE = '{"error":"type"}'
 TOO_DEEP = '{"error":"too-deep"}'
 SERVED = '{"items":[1,2]}'
+ONE = '{"value":1}'
 
 
 def repeated(head, text, tail):
@@ -65,7 +66,16 @@ def served_name(size):
     return f"run from {name} in t select {name}.c;"
 
 
-# What the lines are made of, how a line of a size is made, and its reply.
+def sum_of_ones(line):
+    return f'{{"value":{line.count("1")}}}'
+
+
+def the_text(line):
+    """The reply to a text in which only line ends and `é` are escaped."""
+    return line.replace("run ", '{"value":').replace(";", "}").replace("\\u00e9", "é")
+
+
+# What the lines are made of, how a line of a size is made, and its reply, or what gives that of the line.
 KINDS = [
     ("a chain of operators", repeated("run 1", "+1", ";"), TOO_DEEP),
     ("a chain of members", repeated("run a", ".b", ";"), TOO_DEEP),
@@ -76,11 +86,11 @@ KINDS = [
     ("semicolons", repeated("", ";", ";"), SYNTAX),
     ("names", repeated("run a", " a", ";"), SYNTAX),
     ("empty texts", repeated("run ", '""', ";"), SYNTAX),
-    ("operators in groups", groups("(1", "+1", ")", "+"), TYPE),
+    ("operators in groups", groups("(1", "+1", ")", "+"), sum_of_ones),
     ("operators in groups, and a fault", groups("(1", "+1", ")", "+", "+;"), SYNTAX),
     ("all levels in groups", groups("(1", "*1+1<1==1&&1||1", ")", "??"), TYPE),
     ("choices in groups", groups("(a", "?a:a", ")", "+"), TYPE),
-    ("minus signs in groups", groups("(", "-", "1)", "*"), TYPE),
+    ("minus signs in groups", groups("(", "-", "1)", "*"), ONE),
     ("lists of arguments", groups("a.b(c", ",c", ")", "-"), TYPE),
     ("functions in groups", groups("a.b(c", ",d=>c", ")", "||"), TYPE),
     ("members in groups", groups("new{a", ",a.b", "}", "+"), TYPE),
@@ -90,11 +100,11 @@ KINDS = [
     ("a deep tree of members", to_the_left(".abc"), TYPE),
     ("conditions of long integers", conditions, SERVED),
     ("cells of long integers", cells, TYPE),
-    ("a long text", repeated('run "', "a", '";'), TYPE),
-    ("a long text of other scripts", repeated('run "', "😀é列", '";'), TYPE),
-    ("a long text of escapes", repeated('run "', "\\n\\u00e9", '";'), TYPE),
+    ("a long text", repeated('run "', "a", '";'), the_text),
+    ("a long text of other scripts", repeated('run "', "😀é列", '";'), the_text),
+    ("a long text of escapes", repeated('run "', "\\n\\u00e9", '";'), the_text),
     ("a text that isn't closed", repeated('run "', "a", ";"), SYNTAX),
-    ("a long integer", repeated("run ", "0", "1;"), TYPE),
+    ("a long integer", repeated("run ", "0", "1;"), ONE),
     ("a long integer that is none", repeated("run ", "9", ";"), SYNTAX),
     ("a long name", repeated("run ", "a", ";"), TYPE),
     ("a long name of another script", repeated("run ", "列é", ";"), TYPE),
@@ -120,7 +130,7 @@ class Script:
         with open(self.name + ".script", "wb") as script:
             script.write((text.encode() + b" " * blanks + b"\n") * count)
         with open(self.name + ".reply", "w") as replies:
-            replies.write((reply + "\n") * count)
+            replies.write(((reply(text) if callable(reply) else reply) + "\n") * count)
 
     def measure(self, program):
         time, _ = measuring.run(program, "t.csv", self.name + ".script", self.name + ".reply")

@@ -5,12 +5,14 @@ from dataclasses import dataclass, field
 
 import examples
 import files
+import scalars
 import sentences
 import statements
 from tables import MARK
 
 FIRST_OF_SENTENCES = 4000
-CASES = 4300
+FIRST_OF_SCALARS = 4300
+CASES = 4420
 NO_UTF8 = [
     b"\x80", b"\xff", b"\xc3", b"\xc0\x80", b"\xe2\x82", b"\xed\xa0\x80", b"\xf4\x90\x80\x80", b"\xf0\x9f\x98", b"\xef\xbb",
     b"\xf8\x88\x80\x80\x80",
@@ -185,11 +187,11 @@ def refused_case(dice):
     return case
 
 
-def sentences_case(dice):
-    """A script of lines of the whole grammar."""
+def lines_case(dice, line):
+    """A script of many lines of one kind."""
     tables = chosen_tables(dice)
     data = {f"{name}.csv": files.spelled_file(dice, files.records(dice, table)) for name, table in tables.items()}
-    return Case([path.encode() for path in data], data, script_of(dice, tables, sentences.line, 60))
+    return Case([path.encode() for path in data], data, script_of(dice, tables, line, 60))
 
 
 def case_of(number, fixed):
@@ -198,5 +200,5 @@ def case_of(number, fixed):
         return fixed[number]
     dice = random.Random(number)
     if number >= FIRST_OF_SENTENCES:
-        return sentences_case(dice)
+        return lines_case(dice, sentences.line if number < FIRST_OF_SCALARS else scalars.line)
     return refused_case(dice) if dice.random() < 0.2 else served_case(dice)

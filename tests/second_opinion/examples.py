@@ -3,6 +3,9 @@
 They hold for this reading as well as for the program: a reading that answers one of them otherwise compares nothing.
 """
 
+from scalar_examples import FAULT_ON_FIVE, FAULTS, FAULTS_OF_NULLS, ILL_TYPED, OF_NULLS, UNTYPED_OF_NULLS, VALUES
+from tables import Table
+
 NESTED = "run from x in t select {}{}{};"
 ACUTE = "\u0301"
 
@@ -53,7 +56,33 @@ ITEMS = {
     "run from x in t where x.c - 1 < 1 && -x.c > -2 select x.c;": [1],
     NESTED.format("(" * 64, "x.c", ")" * 64): [1, 2],
     "run from x in t" + " where x.c > 0" * 82 + " where 1 == 1 where 1 == 1 select 1;": [1, 1],
+    "run from x in t select (x.c < 1) == (x.c < 2);": [False, True],
+    "run from x in t select x.c == null;": [False, False],
+    "run from x in t where x.c != null select x.c;": [1, 2],
+    'run from x in t select x.c == 1 ? "one" : "more" + null;': ["one", "more"],
+    'run from x in t select x.c == 1 ? null : "more";': [None, "more"],
+    "run from x in t where x == null select x.c;": [],
+    "run from x in t select x != null;": [True, True],
+    "run from x in t select (x.c > 1 ? x : null) == null;": [True, False],
+    "run from x in t where x.c > 1 select (x.c > 1 ? x : null).c;": [2],
+    "run from x in t select (x.c > 1 ? x : x).c;": [1, 2],
+    "run from x in t select (x.c > 1 ? x : null) == null ? 0 : (x.c > 1 ? x : null).c;": [0, 2],
 }
+
+# The value of each expression that is served alone, and those that fault.
+RUN = {
+    "run 1;": 1, "run -1;": -1, "run (1);": 1, "run((1));": 1, "run 1 - - 1;": 2, "run 4/2;": 2, "run 1<2;": True,
+    "run true;": True,
+    'run "";': "", 'run "a // b";': "a // b", 'run "\r\x00\t\u2028é";': "\r\0\t\u2028é",
+    r'run "\'\"\\\0\a\b\f\n\r\t\v";': "'\"\\\0\a\b\f\n\r\t\v", r'run "\u0000\uFFFF\ud7FF\ue000";': "\0\uffff\ud7ff\ue000",
+    'run "".Length;': 0, "run 1" + "+1" * 254 + ";": 255, "run true" + "&&true" * 254 + ";": True, "run " + "-" * 254 + "1;": 1,
+    "run " + "(" * 64 + "1" + ")" * 64 + ";": 1, "run " + "(" * 64 + "-" * 190 + "1" + ")" * 64 + ";": 1,
+    "run " + "(1+" * 63 + "(1)" + ")" * 63 + "+1" * 254 + ";": 318,
+    'run "a"' + '+"a"' * 254 + ";": "a" * 255, 'run "a"' + '??"b"' * 254 + ";": "a",
+    "run " + "true?" * 127 + "1" + ":2" * 127 + ";": 1,
+    "run " + "(" * 63 + '(true?null:"a")' + '??"b")' * 63 + ";": "b", "run null" + "==null" + "==true" * 253 + ";": True,
+}
+OVERFLOW = ["run - -2147483648;", "run --2147483648;", "run 1--2147483648;", "run " + "(1+1)*" * 252 + "(1+1);"]
 
 LEXICAL = ["1_", "1x", "1٣", "٣", "2147483649", "&", '"', r'"\q"', r'"\uDABC"', "\u00a0", "\ufeff", "é²"]
 # Lexical faults come before depth, and faults of the grammar behind it.
@@ -102,12 +131,10 @@ TOO_DEEP = [
 ]
 
 TYPE = [
-    "run 1;", "run -1;", "run - -2147483648;", "run --2147483648;", "run 1--2147483648;", "run (-2147483648).Foo;", "run 1.c;",
-    "run t;", "run x;", "run null;", "run true;", 'run "";', 'run "a // b";', 'run "\r\x00\t\u2028é";',
-    r'run "\'\"\\\0\a\b\f\n\r\t\v";', r'run "\u0000\uFFFF\ud7FF\ue000";', "run (1);", "run((1));", "run 1<2;",
+    "run (-2147483648).Foo;", "run 1.c;", "run t;", "run x;", "run null;",
     "run a ? b : c ? d : e;", "run a ? b ? c : d : e;", "run a ?? b ?? c;", "run a || b && c == d < e + f * -!g;",
-    "run 1 - - 1;", "run !!a;", "run !-a;", "run -a.b;", "run 4/2;", "run t.Select(x => x);",
-    "run t.Select(x => a ? b : c, y);", "run t.Count();", "run t . Count ( ) . x ;", "run 1.Foo();", 'run "".Length;',
+    "run !!a;", "run !-a;", "run -a.b;", "run t.Select(x => x);",
+    "run t.Select(x => a ? b : c, y);", "run t.Count();", "run t . Count ( ) . x ;", "run 1.Foo();",
     "run t.Select(x => t.Select(y => x));", "run (t).Select(x => (from y in t select y));", "run Host.f(x.c);",
     "run Host.f((x.c));", "run Host.f(1).g;", "run Host.f(t.Select(x => x));", "run new {};", "run new { };",
     "run new { a = 1, };", "run new { a, b.c, (d).e, f.g().h };", "run new { (a.b).c };", "run new { \"\".a };",
@@ -123,21 +150,20 @@ TYPE = [
     "run from x in t select new { x.c };", "run from x in t where x.c select x.c;", "run from x in t where 1 select x.c;",
     "run from x in t select -x;", "run from x in t select -(x.c > 1);", "run from x in t select x + 1;",
     "run from x in t select !x.c;", "run from x in t where x.c < 1 < 2 select 1;",
-    "run from x in t select (x.c < 1) == (x.c < 2);", "run from x in t where true && 1 select 1;", "run from x in t select null;",
-    'run from x in t select "a";', "run from x in t select x.c == null;", "run from x in u select 1;",
+    "run from x in t where true && 1 select 1;", "run from x in u select 1;",
     "run from x in x select 1;", "run from x in t.c select 1;", "run from x in t select y.c;", "run from x in t select x.d;",
     "run from x in t select t.c;", "run from x in t where t.c > 1 select x.c;", "run from x in t select x.c.c;",
     "run from x in t select x.C;", f"run from é in t select e{ACUTE}.c;", f"run from e{ACUTE} in t select é.c;",
     "run from ﬁ in t select fi.c;", "run from ª in t select a.c;", "var x = 1;", "var x = from y in t select y;", "var t = t;",
     "_ = 1;", "x = from y in t select y.c;", "x = (1);", "as nobody;", "as reader;", "insert t (1);",
     "insert t (-2147483648);", "insert t (- 1, \"a\", true, false, null);", "insert none (1, 2);", "delete t x => x.c > 1;",
-    "delete t x => a ? b : c;", "delete none x => 1;", "run from x in t select Host.f(x.c);", "run 1" + "+1" * 254 + ";",
-    "run true" + "&&true" * 254 + ";", "run a" + ".a" * 254 + ";", "run " + "-" * 254 + "1;", "run " + "!" * 254 + "a;",
-    "run a" + "??a" * 254 + ";", "run a" + "?a:a" * 127 + ";", "run " + "(" * 64 + "1" + ")" * 64 + ";",
-    "run t.f(" + "1," * 252 + "1);", "run " + "(" * 64 + "-" * 190 + "1" + ")" * 64 + ";", "run t" + ".f()" * 253 + ";",
-    "run t" + ".f(1,1,1)" * 200 + ";", "run t.f(1+1).f(1+1);", "run " + "(1+" * 63 + "(1)" + ")" * 63 + "+1" * 254 + ";",
+    "delete t x => a ? b : c;", "delete none x => 1;", "run from x in t select Host.f(x.c);",
+    "run a" + ".a" * 254 + ";", "run " + "!" * 254 + "a;",
+    "run a" + "??a" * 254 + ";", "run a" + "?a:a" * 127 + ";",
+    "run t.f(" + "1," * 252 + "1);", "run t" + ".f()" * 253 + ";",
+    "run t" + ".f(1,1,1)" * 200 + ";", "run t.f(1+1).f(1+1);",
     "insert t (" + "1," * 253 + "1);", "run " + "new{a=" * 63 + "(1" + "+1" * 64 + ")" + "}" * 63 + ";", "run xำ;", "run x‿y;",
-    "insert t (" + "-2147483648," * 126 + "-2147483648);", "run " + "(1+1)*" * 252 + "(1+1);",
+    "insert t (" + "-2147483648," * 126 + "-2147483648);",
 ]
 
 NOTHING = [
@@ -145,9 +171,41 @@ NOTHING = [
 ]
 
 
+# A table with nulls, which no table file gives yet: its lines hold this reading alone to what is known.
+NULLS = Table(
+    {"n": "int?", "s": "string", "b": "bool"},
+    [{"n": None, "s": None, "b": True}, {"n": 5, "s": "ab", "b": False}],
+)
+
+
+def query(table, selected):
+    return f"run from x in {table} select {selected};"
+
+
+def scalar_lines():
+    """The scalar expressions with known values, with known faults and without types: alone, and selected of two rows."""
+    known = [(f"run {scalar};", {"value": value}) for scalar, value in VALUES.items()]
+    known += [(f"run {scalar};", {"fault": fault}) for fault, scalars in FAULTS.items() for scalar in scalars]
+    known += [(f"run {scalar};", {"error": "type"}) for scalar in ILL_TYPED]
+    known += [(query("t", scalar), {"items": [value, value]}) for scalar, value in VALUES.items()]
+    known += [(query("t", scalar), {"fault": fault, "items": []}) for fault, scalars in FAULTS.items() for scalar in scalars]
+    return known + [(query("t", scalar), {"error": "type"}) for scalar in ILL_TYPED]
+
+
+def lines_of_nulls():
+    """The same over the table of nulls: with known items, a fault on its first row, and one on its second behind a null."""
+    known = [(query("nulls", scalar), {"items": items}) for scalar, items in OF_NULLS.items()]
+    for fault, scalars in FAULTS_OF_NULLS.items():
+        known += [(query("nulls", scalar), {"fault": fault, "items": []}) for scalar in scalars]
+    known += [(query("nulls", scalar), {"fault": fault, "items": [None]}) for scalar, fault in FAULT_ON_FIVE.items()]
+    return known + [(query("nulls", scalar), {"error": "type"}) for scalar in UNTYPED_OF_NULLS]
+
+
 def known_lines():
     """Each line with its reply's value; None where there is none."""
     known = [(line, {"items": items}) for line, items in ITEMS.items()]
+    known += [(line, {"value": value}) for line, value in RUN.items()]
+    known += [(line, {"fault": "Overflow"}) for line in OVERFLOW]
     for word, lines in {"syntax": SYNTAX, "too-deep": TOO_DEEP, "type": TYPE}.items():
         known += [(line, {"error": word}) for line in lines]
-    return known + [(line, None) for line in NOTHING]
+    return known + scalar_lines() + [(line, None) for line in NOTHING]

@@ -17,6 +17,8 @@ DIGITS = re.compile(r"[0-9]+")
 TEXT = re.compile(r"""
     "(?: [^"\\\n] | \\['"\\0abfnrtv] | \\u(?![Dd][89A-Fa-f])[0-9A-Fa-f]{4} )*"
 """, re.VERBOSE)
+ESCAPE = re.compile(r"\\(?:u([0-9A-Fa-f]{4})|(.))")
+ESCAPED = {"0": "\0", "a": "\a", "b": "\b", "f": "\f", "n": "\n", "r": "\r", "t": "\t", "v": "\v"}
 SIGN = re.compile("|".join(map(re.escape, SIGNS)))
 
 
@@ -57,6 +59,11 @@ def integer_of(digits):
     return Token("least") if int(digits) > LARGEST_INT else Token("integer", int(digits))
 
 
+def text_of(spelled):
+    """The characters that a text's spelling between its quotes stands for: those of its escapes, and all others themselves."""
+    return ESCAPE.sub(lambda found: chr(int(found[1], 16)) if found[1] else ESCAPED.get(found[2], found[2]), spelled)
+
+
 def token_at(line, place):
     """The longest token that starts at the place, and where it ends."""
     if line[place].isidentifier():
@@ -68,7 +75,7 @@ def token_at(line, place):
             raise SyntaxFault("an integer directly before a name's character")
         return integer_of(found.group()), found.end()
     if found := TEXT.match(line, place):
-        return Token("text"), found.end()
+        return Token("text", text_of(found.group()[1:-1])), found.end()
     if found := SIGN.match(line, place):
         return Token(found.group()), found.end()
     raise SyntaxFault(f"no token at {place}")

@@ -1,46 +1,111 @@
-"""Types: which statement that the grammar spells is served, over the present tables."""
+"""Types: which statement that the grammar spells is served, over the present tables.
 
-COMPARISONS = ("<", ">", "<=", ">=", "==", "!=")
+A type is a scalar's name, or for a row the dict of its columns' types. A scope has the type of each name in it.
+"""
+
+LITERALS = {"integer": "int", "true": "bool", "false": "bool", "text": "string", "null": "null"}
+NUMBERS = ("int", "int?")
+TEXTS = ("string", "null")
 SCALARS = ("int", "int?", "bool", "string")
-OF_TRUTHS = ("unary !", "&&", "||")
-ARITHMETIC = ("*", "/", "%", "+", "-")
+MEMBERS = {("int?", "HasValue"): "bool", ("int?", "Value"): "int", ("string", "Length"): "int"}
+SEARCHES = ("StartsWith", "EndsWith", "Contains")
 
 
 class TypeFault(Exception):
     """The statement has no type, or none yet."""
 
 
-def type_of(tree, scope):
-    """An expression's type: a scalar's name, or for a row the types of its columns. The scope has the types of range variables.
+def arithmetic(*operands):
+    """ECMA-334, arithmetic operators, lifted: one operand that may be null makes the result such."""
+    if all(operand in NUMBERS for operand in operands):
+        return "int?" if "int?" in operands else "int"
+    return None
 
-    ECMA-334, scopes, literals, member access, arithmetic, relational, equality and logical operators; only some forms of these
-    are served yet.
-    """
-    if tree.kind == "integer":
-        return "int"
-    if tree.kind in ("true", "false"):
+
+def is_row(its_type):
+    return isinstance(its_type, dict)
+
+
+def addition(left, right):
+    """ECMA-334, addition operator: of numbers, or of a text and a text or null."""
+    if "string" in (left, right):
+        return "string" if left in TEXTS and right in TEXTS else None
+    return arithmetic(left, right)
+
+
+def equality(left, right):
+    """ECMA-334, equality operators: of operands of one kind; null is compared with all but a truth value."""
+    if any(left in alike and right in alike for alike in ((*NUMBERS, "null"), ("bool",), TEXTS)):
         return "bool"
-    if tree.kind == "name" and tree.parts[0] in scope:
-        return scope[tree.parts[0]]
-    if tree.kind == ".":
-        columns = type_of(tree.parts[0], scope)
-        if isinstance(columns, dict) and tree.parts[1] in columns:
-            return columns[tree.parts[1]]
-    if tree.kind in COMPARISONS and all(type_of(operand, scope) in ("int", "int?") for operand in tree.parts):
-        return "bool"
-    if tree.kind in OF_TRUTHS and all(type_of(operand, scope) == "bool" for operand in tree.parts):
-        return "bool"
-    if tree.kind == "?" and type_of(tree.parts[0], scope) == "bool":
-        types = [type_of(choice, scope) for choice in tree.parts[1:]]
-        if types[0] == types[1] and types[0] in SCALARS:
-            return types[0]
-        if all(kind in ("int", "int?") for kind in types):
-            return "int?"
-    if tree.kind in ARITHMETIC or tree.kind == "unary -":
-        types = [type_of(operand, scope) for operand in tree.parts]
-        if all(kind in ("int", "int?") for kind in types):
-            return "int?" if "int?" in types else "int"
-    raise TypeFault(f"no type of {tree.kind}")
+    return "bool" if is_row(left) and right == "null" or left == "null" and is_row(right) else None
+
+
+def comparison(*operands):
+    """ECMA-334, integer comparison operators, lifted."""
+    return "bool" if all(operand in NUMBERS for operand in operands) else None
+
+
+def logical(*operands):
+    """ECMA-334, logical negation and conditional logical operators."""
+    return "bool" if all(operand == "bool" for operand in operands) else None
+
+
+def choice(condition, first, second):
+    """ECMA-334, conditional operator: both are of one type, or one converts to that of the other; null to what may be null."""
+    if condition != "bool":
+        return None
+    if first == second and (first in SCALARS or is_row(first)):
+        return first
+    if "null" in (first, second):
+        other = second if first == "null" else first
+        return other if other in ("int?", "string") or is_row(other) else None
+    return arithmetic(first, second)
+
+
+def coalescing(first, second):
+    """ECMA-334, null coalescing operator: the first may be null and isn't the literal; the second is of the same kind."""
+    if first == "int?" and second in (*NUMBERS, "null"):
+        return "int" if second == "int" else "int?"
+    return "string" if first == "string" and second in TEXTS else None
+
+
+# Of each operator the function that has its operands' types give the result's, or None where they don't fit.
+OPERATORS = {
+    "unary -": arithmetic, "*": arithmetic, "/": arithmetic, "%": arithmetic, "-": arithmetic, "+": addition,
+    "<": comparison, ">": comparison, "<=": comparison, ">=": comparison, "==": equality, "!=": equality,
+    "unary !": logical, "&&": logical, "||": logical, "?": choice, "??": coalescing,
+}
+
+
+def type_of_member(owner, name):
+    """ECMA-334, member access: a row has a member for each column; the others are those of .NET's types."""
+    return owner.get(name) if is_row(owner) else MEMBERS.get((owner, name))
+
+
+def type_of_call(call, scope):
+    """.NET, the methods of String that search one text in another. Null, which has no type, is no argument."""
+    method, arguments = call.parts
+    owner, name = method.parts
+    types = [type_of(part, scope) for part in (owner, *arguments)]
+    return "bool" if name in SEARCHES and types == ["string", "string"] else None
+
+
+def type_of(tree, scope):
+    """An expression's type, which all its parts have to have, too."""
+    found = None
+    if tree.kind in LITERALS:
+        found = LITERALS[tree.kind]
+    elif tree.kind == "name":
+        found = scope.get(tree.parts[0])
+    elif tree.kind == ".":
+        found = type_of_member(type_of(tree.parts[0], scope), tree.parts[1])
+    elif tree.kind == "call":
+        found = type_of_call(tree, scope)
+    elif tree.kind in OPERATORS:
+        found = OPERATORS[tree.kind](*(type_of(operand, scope) for operand in tree.parts))
+    if found is None:
+        raise TypeFault(f"no type of {tree.kind}")
+    return found
 
 
 def source_of(clause, tables):
@@ -51,10 +116,14 @@ def source_of(clause, tables):
     return tables[source.parts[0]]
 
 
-def check_query(query, tables):
+def scope_of(clause, tables):
     """ECMA-334, from clause: the range variable stands for the source's rows in the clauses behind it, not in the source."""
+    return {clause.parts[0]: source_of(clause, tables).columns}
+
+
+def check_query(query, tables):
     clauses, end, rest = query.parts
-    scope = {clauses[0].parts[0]: source_of(clauses[0], tables).columns}
+    scope = scope_of(clauses[0], tables)
     for clause in clauses[1:]:
         if clause.kind != "where" or type_of(clause.parts[0], scope) != "bool":
             raise TypeFault("a clause that isn't served, or a condition that is none")
@@ -63,7 +132,11 @@ def check_query(query, tables):
 
 
 def check(statement, tables):
-    """Only `run` of a query is served yet."""
-    if statement.kind != "run" or statement.parts[0].kind != "query":
-        raise TypeFault("no run of a query")
-    check_query(statement.parts[0], tables)
+    """Only `run` is served yet: of a query, and of a scalar expression, in which no name has a type."""
+    if statement.kind != "run":
+        raise TypeFault("no run")
+    top = statement.parts[0]
+    if top.kind == "query":
+        check_query(top, tables)
+    elif type_of(top, {}) not in SCALARS:
+        raise TypeFault("what is run is no scalar")

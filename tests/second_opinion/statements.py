@@ -1,5 +1,6 @@
 """Lines of a script by chance: statements that are served, nearly right ones, and lines of nothing. `dice` is a random.Random."""
 
+import scalars
 from lexer import continues_name, is_name
 
 VARIABLES = [
@@ -90,63 +91,25 @@ def number_near(dice, table, column):
     return dice.choice(["", "", "", "0", "00", "0" * 40]) + str(value)
 
 
-def number(dice, variable, table, depth):
-    """A column, a literal near its cells, or arithmetic on such; some of it divides by 0 or leaves the ints."""
-    kind = dice.choice(["column", "literal", "minus", "sum", "sum", "product", "quotient"]) if depth else dice.choice(["column", "literal"])
-    column = dice.choice(list(table.columns))
-    if kind == "column":
-        return [variable, ".", column]
-    if kind == "literal":
-        return [number_near(dice, table, column)]
-    if kind == "minus":
-        return ["-", "(", *number(dice, variable, table, depth - 1), ")"]
-    left, right = (number(dice, variable, table, depth - 1) for _ in range(2))
-    sign = dice.choice({"sum": ["+", "-"], "product": ["*"], "quotient": ["/", "%"]}[kind])
-    return [*in_brackets(dice, left), sign, *in_brackets(dice, right)]
-
-
 def comparison(dice, variable, table):
-    """A comparison of a column with a number, or now and then of two columns, or of what arithmetic gives."""
+    """A comparison of a column with a number that tells something about it, or now and then with another column."""
     columns = list(table.columns)
     column = dice.choice(columns)
-    if dice.random() < 0.15:
-        return [*number(dice, variable, table, 2), dice.choice(SIGNS), *number(dice, variable, table, 2)]
     other = [variable, ".", dice.choice(columns)] if dice.random() < 0.1 else [number_near(dice, table, column)]
     return [variable, ".", column, dice.choice(SIGNS), *other]
-
-
-def condition(dice, variable, table, depth):
-    """Comparisons and truth values under `!`, `&&` and `||`, in brackets where the grammar wants them and by chance elsewhere."""
-    kind = dice.choice(["comparison"] * 5 + ["literal", "not", "&&", "&&", "||", "||"]) if depth else "comparison"
-    if kind == "comparison":
-        return comparison(dice, variable, table)
-    if kind == "literal":
-        return [dice.choice(["true", "false"])]
-    if kind == "not":
-        return ["!"] * dice.choice([1, 1, 2]) + ["(", *condition(dice, variable, table, depth - 1), ")"]
-    left, right = (condition(dice, variable, table, depth - 1) for _ in range(2))
-    return [*(in_brackets(dice, left)), kind, *(in_brackets(dice, right))]
-
-
-def in_brackets(dice, words):
-    """What stands beside an operator, in brackets by chance: without them the operators' order groups it anew."""
-    return ["(", *words, ")"] if dice.random() < 0.4 else words
 
 
 def statement(dice, tables):
     """The spelled tokens of a statement that is served, over one of the tables."""
     name, table = dice.choice(list(tables.items()))
-    columns = list(table.columns)
     variable = dice.choice(VARIABLES + [name])
+    scope = scalars.Scope(variable, table)
     words = ["run", "from", variable, "in", name]
-    if dice.random() < 0.6:
-        words += ["where", *condition(dice, variable, table, dice.choice([0, 0, 1, 2, 4]))]
-    if dice.random() < 0.1:
-        choices = (number(dice, variable, table, 1) for _ in range(2))
-        return words + ["select", *condition(dice, variable, table, 1), "?", *next(choices), ":", *next(choices), ";"]
+    for _ in range(dice.choice([0, 0, 1, 1, 1, 2])):
+        words += ["where", *(comparison(dice, variable, table) if dice.random() < 0.7 else scalars.condition(dice, scope, 2))]
     if dice.random() < 0.3:
-        return words + ["select", *number(dice, variable, table, dice.choice([1, 2, 3])), ";"]
-    return words + ["select", variable, ".", dice.choice(columns), ";"]
+        return words + ["select", *scalars.scalar(dice, scope), ";"]
+    return words + ["select", variable, ".", dice.choice(list(table.columns)), ";"]
 
 
 def joins(line, word):
@@ -167,6 +130,11 @@ def spell(dice, words):
 
 def served(dice, tables):
     return spell(dice, statement(dice, tables))
+
+
+def scalar(dice, tables):
+    """A scalar expression alone."""
+    return spell(dice, ["run", *scalars.scalar(dice, scalars.Scope()), ";"])
 
 
 def other_tokens(dice, tables):
@@ -241,7 +209,8 @@ def two(dice, tables):
 
 
 KINDS = {
-    served: 62,
+    served: 58,
+    scalar: 4,
     other_tokens: 11,
     other_characters: 8,
     other_names: 9,

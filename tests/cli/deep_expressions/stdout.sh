@@ -1,21 +1,36 @@
 python3 - <<'END'
-# The deepest line, one sign more, one bracket more, and a good line. A deepest line has a type where it selects a number; an
-# odd number of minus signs stands before the 1 in its innermost bracket.
-TYPE, FAULT = '{"error":"type"}', '{"fault":"DivideByZero","items":[]}'
+# The deepest line, one sign more, one bracket more, and a good line: first of an expression alone, then of what a query selects.
+# A deepest line has a type where it is a number; in its innermost bracket an even number of minus signs stands before the 1,
+# or an odd number where a query selects it.
+TYPE, FAULT = '{"error":"type"}', "DivideByZero"
 # By each operator: 1 and the bracket, and the bracket and 1, 64 times each.
-NUMBERS = {"*": (-1, -1), "/": (-1, -1), "%": (FAULT, 0), "+": (63, 63), "-": (-1, -65)}
+ALONE = {"*": (1, 1), "/": (1, 1), "%": (FAULT, 0), "+": (65, 65), "-": (1, -63)}
+SELECTED = {"*": (-1, -1), "/": (-1, -1), "%": (FAULT, 0), "+": (63, 63), "-": (-1, -65)}
 OTHERS = 19
 
 
-def block(first):
-    deepest = first if isinstance(first, str) else '{"items":[%d,%d]}' % (first, first)
+def block(deepest):
     print(deepest, '{"error":"too-deep"}', '{"error":"too-deep"}', '{"items":[1,2]}', sep="\n")
 
 
-selected = [-1, -1, TYPE, TYPE]
+def show(alone, selected):
+    block('{"fault":"%s"}' % alone if alone == FAULT else '{"value":%d}' % alone)
+    block('{"fault":"%s","items":[]}' % selected if selected == FAULT else '{"items":[%d,%d]}' % (selected, selected))
+
+
+def show_untyped(count):
+    for _ in range(2 * count):
+        block(TYPE)
+
+
+show(1, -1)
+show(1, -1)
+show_untyped(2)
 for operator in "* / % + - < > <= >= == != && || ??".split():
-    selected += NUMBERS.get(operator, (TYPE, TYPE))
-for first in selected + [TYPE] * OTHERS:
-    block(TYPE)
-    block(first)
+    if operator in ALONE:
+        for alone, selected in zip(ALONE[operator], SELECTED[operator]):
+            show(alone, selected)
+    else:
+        show_untyped(2)
+show_untyped(OTHERS)
 END
