@@ -1,5 +1,5 @@
 //! Serving over devices that fail, and loading.
-use lq_serve::{Device, MemoryFiles, ServeError, finish, load, serve};
+use lq_serve::{Device, MemoryFiles, ServeError, Summary, finish, load, serve};
 use lq_session::Session;
 use std::alloc::{AllocError, Global};
 use std::io;
@@ -142,30 +142,86 @@ pub(crate) fn taking(alloc: Global, bad: u64, fault: Fault) -> Taker {
     }
 }
 
+// What is left of serving a script: the outcome, and what the devices tell. The functions that make it stand apart from the
+// tests: what costs most to prove of a test is that it lets go of a session.
+#[derive(Drop)]
+struct Served {
+    outcome: Result<Summary, ServeError>,
+    reads: u64,
+    read_failed: bool,
+    write_failed: bool,
+    sink: Taker,
+}
+
+fn serve_script<R: Read + Drop>(alloc: Global, script: R, mut sink: Taker) -> Result<Served, Fail> {
+    let mut session = session(alloc)?;
+    let mut reader = Device::new(script);
+    let mut writer = Device::new(&mut sink);
+    let outcome = serve(alloc, &mut reader, &mut writer, &mut session);
+    let write_failed = writer.failed();
+    Ok(Served {
+        outcome,
+        reads: reader.reads(),
+        read_failed: reader.failed(),
+        write_failed,
+        sink,
+    })
+}
+
+// Whether nothing was stepped and nothing written after the read that failed, which was the last.
+fn is_unread(run: &Served, bad: u64) -> bool {
+    matches!(run.outcome, Err(ServeError::Read))
+        && run.read_failed
+        && !run.write_failed
+        && run.reads == bad
+        && run.sink.calls == 0
+}
+
+// Whether the output is whole and handed on.
+fn is_whole(run: &Served) -> bool {
+    match &run.outcome {
+        Ok(summary) => {
+            summary.lines == LINES
+                && summary.replies == REPLIES
+                && !run.write_failed
+                && run.sink.taken.as_slice() == OUTPUT
+                && run.sink.flushed
+        }
+        Err(_) => false,
+    }
+}
+
+// Whether a front of the output was taken, and no call made after the one that failed.
+fn is_cut_off(run: &Served, bad: u64) -> bool {
+    matches!(run.outcome, Err(ServeError::Write))
+        && run.write_failed
+        && OUTPUT.starts_with(&run.sink.taken)
+        && run.sink.calls == bad
+}
+
+// Whether this many lines were served, or, with none, the script was refused as too long and nothing written.
+fn has_lines(run: &Served, lines: Option<u64>) -> bool {
+    match (&run.outcome, lines) {
+        (Ok(summary), Some(lines)) => summary.lines == lines,
+        (Err(ServeError::TooLong), None) => run.sink.calls == 0,
+        _ => false,
+    }
+}
+
 #[test]
 fn a_failed_read_steps_and_writes_nothing(rt: HostRuntime) -> Result<(), Fail> {
-    for kind in KINDS {
+    for kind in &KINDS {
         // Seven reads of at most 16 bytes, and the read that gives none.
         for bad in 1..9 {
-            let mut reader = Device::new(Pieces {
+            let script = Pieces {
                 text: SCRIPT,
                 piece: 16,
                 reads: 0,
                 bad,
-                kind,
-            });
-            let mut sink = taking(rt.alloc(), 0, Fault::Never);
-            let mut writer = Device::new(&mut sink);
-            let mut session = session(rt.alloc())?;
-            let outcome = serve(rt.alloc(), &mut reader, &mut writer, &mut session);
-            assert!(rt;
-                matches!(outcome, Err(ServeError::Read)),
-                "{kind:?} at read {bad}"
-            );
-            assert!(rt; reader.failed());
-            assert!(rt; !writer.failed());
-            assert_eq!(rt; reader.reads(), bad);
-            assert_eq!(rt; sink.calls, 0, "{kind:?} at read {bad}");
+                kind: *kind,
+            };
+            let run = serve_script(rt.alloc(), script, taking(rt.alloc(), 0, Fault::Never))?;
+            assert!(rt; is_unread(&run, bad), "{kind:?} at read {bad}");
         }
     }
     Ok(())
@@ -174,178 +230,182 @@ fn a_failed_read_steps_and_writes_nothing(rt: HostRuntime) -> Result<(), Fail> {
 // The calls of the writer fail in turn, until there is none left to fail.
 fn fail_each_call(rt: &impl Abort, alloc: Global, fault: Fault) -> Result<u64, Fail> {
     for bad in 1..1000 {
-        let mut reader = Device::new(whole(SCRIPT));
-        let mut sink = taking(alloc, bad, fault);
-        let mut writer = Device::new(&mut sink);
-        let mut session = session(alloc)?;
-        let outcome = serve(alloc, &mut reader, &mut writer, &mut session);
-        assert_eq!(rt; writer.failed(), outcome.is_err(), "at call {bad}");
-        match outcome {
-            Ok(summary) => {
-                assert_eq!(rt; summary.lines, LINES);
-                assert_eq!(rt; summary.replies, REPLIES);
-                assert!(rt; sink.taken.as_slice() == OUTPUT);
-                assert!(rt; sink.flushed);
-                return Ok(bad);
-            }
-            Err(fault) => assert!(rt; matches!(fault, ServeError::Write), "at call {bad}"),
+        let run = serve_script(alloc, whole(SCRIPT), taking(alloc, bad, fault))?;
+        if is_whole(&run) {
+            return Ok(bad);
         }
-        assert!(rt; OUTPUT.starts_with(&sink.taken), "at call {bad}");
-        assert_eq!(rt; sink.calls, bad);
+        assert!(rt; is_cut_off(&run, bad), "at call {bad}");
     }
     Ok(0)
 }
 
 #[test]
 fn a_failed_write_leaves_a_front_of_the_output(rt: HostRuntime) -> Result<(), Fail> {
-    for kind in KINDS {
-        assert!(rt; 1 < fail_each_call(&rt, rt.alloc(), Fault::Errs(kind))?);
+    for kind in &KINDS {
+        assert!(rt; 1 < fail_each_call(&rt, rt.alloc(), Fault::Errs(*kind))?);
     }
     assert!(rt; 0 < fail_each_call(&rt, rt.alloc(), Fault::Stalls)?);
     Ok(())
 }
 
-#[test]
-fn a_device_marks_itself_at_each_failed_write(rt: HostRuntime) -> Result<(), Fail> {
-    let bytes = b"one\ntwo\nthree\n";
-    for fault in [Fault::Errs(ErrorKind::Interrupted), Fault::Stalls] {
-        for bad in 1..4 {
-            let mut sink = taking(rt.alloc(), bad, fault);
-            let mut writer = Device::new(&mut sink);
-            assert!(rt; writer.write_all(bytes).is_err(), "at write {bad}");
-            assert!(rt; writer.failed());
-            let whole = (bad as usize - 1) * 5;
-            assert!(rt; bytes.starts_with(&sink.taken));
-            assert_eq!(rt; sink.taken.len(), whole);
-        }
-        let mut sink = taking(rt.alloc(), 4, fault);
-        let mut writer = Device::new(&mut sink);
-        assert!(rt; writer.write_all(bytes).is_ok());
-        assert!(rt; !writer.failed());
-        assert!(rt; sink.taken.as_slice() == bytes.as_slice());
-    }
-    Ok(())
+const BYTES: &[u8] = b"one\ntwo\nthree\n";
+
+// Whether a device over a writer of whose calls the one numbered `bad` fails is marked then, with so many bytes taken.
+fn is_marked(alloc: Global, bad: u64, fault: Fault, taken: usize) -> bool {
+    let mut sink = taking(alloc, bad, fault);
+    let mut writer = Device::new(&mut sink);
+    let is_refused = writer.write_all(BYTES).is_err() && writer.failed();
+    is_refused && BYTES.starts_with(&sink.taken) && sink.taken.len() == taken
+}
+
+fn is_taken_whole(alloc: Global, fault: Fault) -> bool {
+    let mut sink = taking(alloc, 4, fault);
+    let mut writer = Device::new(&mut sink);
+    let is_taken = writer.write_all(BYTES).is_ok() && !writer.failed();
+    is_taken && sink.taken.as_slice() == BYTES
 }
 
 #[test]
-fn sizes_are_refused_from_one_byte_too_many(rt: HostRuntime) -> Result<(), Fail> {
-    let sizes = [
-        (b'\n', 1_048_576, Some(1_048_576)),
-        (b'\n', 1_048_577, None),
-        (b' ', 65_536, Some(1)),
-        (b' ', 65_537, None),
-    ];
-    for (byte, left, lines) in sizes {
-        let mut reader = Device::new(Repeated {
-            byte,
-            left,
-            piece: 4096,
-        });
-        let mut sink = taking(rt.alloc(), 0, Fault::Never);
-        let mut writer = Device::new(&mut sink);
-        let mut session = session(rt.alloc())?;
-        let outcome = serve(rt.alloc(), &mut reader, &mut writer, &mut session);
-        match (outcome, lines) {
-            (Ok(summary), Some(lines)) => assert_eq!(rt; summary.lines, lines),
-            (Err(ServeError::TooLong), None) => assert_eq!(rt; sink.calls, 0),
-            _ => assert!(rt; false, "{left} times {byte}"),
+fn a_device_marks_itself_at_each_failed_write(rt: HostRuntime) {
+    for fault in &[Fault::Errs(ErrorKind::Interrupted), Fault::Stalls] {
+        for (bad, taken) in &[(1, 0), (2, 5), (3, 10)] {
+            assert!(rt;
+                is_marked(rt.alloc(), *bad, *fault, *taken),
+                "at write {bad}"
+            );
         }
+        assert!(rt; is_taken_whole(rt.alloc(), *fault));
+    }
+}
+
+// A byte, how many times it is given, and the lines of such a script (none: it is too long).
+const SIZES: [(u8, usize, Option<u64>); 4] = [
+    (b'\n', 1_048_576, Some(1_048_576)),
+    (b'\n', 1_048_577, None),
+    (b' ', 65_536, Some(1)),
+    (b' ', 65_537, None),
+];
+
+#[test]
+fn sizes_are_refused_from_one_byte_too_many(rt: HostRuntime) -> Result<(), Fail> {
+    for (byte, left, lines) in &SIZES {
+        let script = Repeated {
+            byte: *byte,
+            left: *left,
+            piece: 4096,
+        };
+        let run = serve_script(rt.alloc(), script, taking(rt.alloc(), 0, Fault::Never))?;
+        assert!(rt; has_lines(&run, *lines), "{left} times {byte}");
     }
     Ok(())
 }
 
 #[test]
 fn an_endless_reader_is_left_after_one_byte_too_many(rt: HostRuntime) -> Result<(), Fail> {
-    let mut reader = Device::new(Repeated {
+    let script = Repeated {
         byte: b'\n',
         left: usize::MAX,
         piece: 1,
-    });
-    let mut sink = taking(rt.alloc(), 0, Fault::Never);
-    let mut writer = Device::new(&mut sink);
-    let mut session = session(rt.alloc())?;
-    let outcome = serve(rt.alloc(), &mut reader, &mut writer, &mut session);
-    assert!(rt; matches!(outcome, Err(ServeError::TooLong)));
-    assert_eq!(rt; reader.reads(), 1_048_577);
-    assert_eq!(rt; sink.calls, 0);
+    };
+    let run = serve_script(rt.alloc(), script, taking(rt.alloc(), 0, Fault::Never))?;
+    assert!(rt; has_lines(&run, None) && run.reads == 1_048_577);
     Ok(())
 }
 
+// Scripts, each with the number of its lines.
+const COUNTED: [(&[u8], u64); 5] = [
+    (b"", 0),
+    (b"\xEF\xBB\xBF\xEF\xBB\xBF", 0),
+    (b"\xEF\xBB\xBFa", 1),
+    (b"a\r\n\xEF\xBB\xBFb\n", 2),
+    (b"\n\n ", 3),
+];
+
 #[test]
 fn lines_are_counted_behind_the_marks(rt: HostRuntime) -> Result<(), Fail> {
-    let scripts: [(&'static [u8], u64); 5] = [
-        (b"", 0),
-        (b"\xEF\xBB\xBF\xEF\xBB\xBF", 0),
-        (b"\xEF\xBB\xBFa", 1),
-        (b"a\r\n\xEF\xBB\xBFb\n", 2),
-        (b"\n\n ", 3),
-    ];
-    for (script, lines) in scripts {
-        let mut reader = Device::new(whole(script));
-        let mut sink = taking(rt.alloc(), 0, Fault::Never);
-        let mut writer = Device::new(&mut sink);
-        let mut session = session(rt.alloc())?;
-        let summary = serve(rt.alloc(), &mut reader, &mut writer, &mut session)?;
-        assert_eq!(rt; summary.lines, lines, "{script:?}");
+    for (script, lines) in &COUNTED {
+        let run = serve_script(
+            rt.alloc(),
+            whole(script),
+            taking(rt.alloc(), 0, Fault::Never),
+        )?;
+        assert!(rt; has_lines(&run, Some(*lines)), "{script:?}");
     }
     Ok(())
 }
 
+// What is left of a run to its end: the status, whether the device of errors is marked, and what the two writers took.
+#[derive(Drop)]
+struct Ended {
+    status: u8,
+    is_marked: bool,
+    told: Taker,
+    sink: Taker,
+}
+
+fn end_script<R: Read + Drop>(
+    alloc: Global,
+    script: R,
+    mut sink: Taker,
+    mut told: Taker,
+) -> Result<Ended, Fail> {
+    let mut session = session(alloc)?;
+    let mut reader = Device::new(script);
+    let mut writer = Device::new(&mut sink);
+    let mut errors = Device::new(&mut told);
+    let status = finish(alloc, &mut reader, &mut writer, &mut errors, &mut session);
+    let is_marked = errors.failed();
+    Ok(Ended {
+        status,
+        is_marked,
+        told,
+        sink,
+    })
+}
+
+// Scripts, the read and the call of the writer that fail (0: none), and the status and the line that follow.
+const ENDINGS: [(&[u8], u64, u64, u8, &[u8]); 4] = [
+    (SCRIPT, 0, 0, 0, b""),
+    (SCRIPT, 1, 0, 4, b"lq: script: read\n"),
+    (b"", 0, 1, 4, b"lq: script: write\n"),
+    (b"one\n\xFF\n", 0, 0, 4, b"lq: script: utf8\n"),
+];
+
+fn ends_so(end: &Ended, status: u8, line: &[u8]) -> bool {
+    end.status == status
+        && !end.is_marked
+        && end.told.taken.as_slice() == line
+        && (status != 0 || end.sink.taken.as_slice() == OUTPUT)
+}
+
 #[test]
 fn a_fault_ends_with_its_status_and_its_line(rt: HostRuntime) -> Result<(), Fail> {
-    let cases: [(&'static [u8], u64, u64, u8, &'static [u8]); 4] = [
-        (SCRIPT, 0, 0, 0, b""),
-        (SCRIPT, 1, 0, 4, b"lq: script: read\n"),
-        (b"", 0, 1, 4, b"lq: script: write\n"),
-        (b"one\n\xFF\n", 0, 0, 4, b"lq: script: utf8\n"),
-    ];
-    for (text, bad_read, bad_call, status, line) in cases {
-        let mut pieces = whole(text);
-        pieces.bad = bad_read;
-        let mut sink = taking(rt.alloc(), bad_call, Fault::Errs(ErrorKind::Other));
-        let mut told = taking(rt.alloc(), 0, Fault::Never);
-        let mut reader = Device::new(pieces);
-        let mut writer = Device::new(&mut sink);
-        let mut errors = Device::new(&mut told);
-        let mut session = session(rt.alloc())?;
-        let ended = finish(
-            rt.alloc(),
-            &mut reader,
-            &mut writer,
-            &mut errors,
-            &mut session,
-        );
-        assert_eq!(rt; ended, status, "{text:?}");
-        assert!(rt; !errors.failed(), "{text:?}");
-        assert!(rt; told.taken.as_slice() == line, "{text:?}");
-        if status == 0 {
-            assert!(rt; sink.taken.as_slice() == OUTPUT);
-        }
+    for (text, bad_read, bad_call, status, line) in &ENDINGS {
+        let mut script = whole(text);
+        script.bad = *bad_read;
+        let sink = taking(rt.alloc(), *bad_call, Fault::Errs(ErrorKind::Other));
+        let told = taking(rt.alloc(), 0, Fault::Never);
+        let end = end_script(rt.alloc(), script, sink, told)?;
+        assert!(rt; ends_so(&end, *status, line), "{text:?}");
     }
     Ok(())
 }
 
 #[test]
 fn a_fault_that_nobody_can_be_told_of_keeps_its_status(rt: HostRuntime) -> Result<(), Fail> {
-    let mut reader = Device::new(Repeated {
+    let script = Repeated {
         byte: b'a',
         left: 65_537,
         piece: 100,
-    });
-    let mut sink = taking(rt.alloc(), 0, Fault::Never);
-    let mut told = taking(rt.alloc(), 3, Fault::Stalls);
-    let mut writer = Device::new(&mut sink);
-    let mut errors = Device::new(&mut told);
-    let mut session = session(rt.alloc())?;
-    let ended = finish(
+    };
+    let sink = taking(rt.alloc(), 0, Fault::Never);
+    let end = end_script(
         rt.alloc(),
-        &mut reader,
-        &mut writer,
-        &mut errors,
-        &mut session,
-    );
-    assert_eq!(rt; ended, 4);
-    assert!(rt; errors.failed());
-    assert!(rt; told.taken.as_slice() == b"lq: script".as_slice());
+        script,
+        sink,
+        taking(rt.alloc(), 3, Fault::Stalls),
+    )?;
+    assert!(rt; end.status == 4 && end.is_marked);
+    assert!(rt; end.told.taken.as_slice() == b"lq: script".as_slice());
     Ok(())
 }

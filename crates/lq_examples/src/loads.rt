@@ -51,7 +51,7 @@ fn tables_load_by_their_names(rt: HostRuntime) -> Result<(), Fail> {
     let alloc = rt.alloc();
     let names = names_of(alloc, &["t.csv", "data/old/u.csv", "v"])?;
     let mut session = load(alloc, names.as_slice(), &mut folder(alloc))?;
-    for (line, reply) in [
+    for (line, reply) in &[
         ("run from x in t select x.c;", "{\"items\":[1,2]}\n"),
         ("run from x in u select x.b;", "{\"items\":[7]}\n"),
         ("run from x in v select x.c;", "{\"items\":[]}\n"),
@@ -83,10 +83,10 @@ fn named_files_are_read_once_up_to_the_first_fault(rt: HostRuntime) -> Result<()
     assert_refused(&rt, alloc, &mut files, &words, "lq: old/w.csv: read")?;
     assert_refused(&rt, alloc, &mut files, &["1.csv"], "lq: 1.csv: name")?;
     assert_eq!(rt; files.readings().len(), 3);
-    for (reading, word) in files.readings().iter().zip(words) {
-        assert!(rt; reading.file.as_str() == word);
+    for (reading, word) in files.readings().iter().zip(&words) {
+        assert!(rt; reading.file.as_str() == *word);
         assert_eq!(rt; reading.limit, 16_777_217);
-        assert_eq!(rt; reading.gave.is_none(), word == "old/w.csv");
+        assert_eq!(rt; reading.gave.is_none(), *word == "old/w.csv");
     }
     Ok(())
 }
@@ -94,13 +94,13 @@ fn named_files_are_read_once_up_to_the_first_fault(rt: HostRuntime) -> Result<()
 #[test]
 fn the_first_bytes_of_a_file_are_read(rt: HostRuntime) -> Result<(), Fail> {
     let mut files = folder(rt.alloc());
-    for (limit, bytes) in [
+    for (limit, bytes) in &[
         (0, ""),
         (4, "c:in"),
         (10, "c:int\n1\n2\n"),
         (u64::MAX, "c:int\n1\n2\n"),
     ] {
-        assert!(rt; files.read("t.csv", limit)?.as_slice() == bytes.as_bytes());
+        assert!(rt; files.read("t.csv", *limit)?.as_slice() == bytes.as_bytes());
     }
     assert!(rt; files.read("t", 1).err() == Some(FileError::Read));
     assert_eq!(rt; files.readings().len(), 5);
@@ -124,7 +124,7 @@ fn the_first_fault_is_told(rt: HostRuntime) -> Result<(), Fail> {
         (&["u.csv", "1.csv"], "lq: u.csv: read"),
         (&["1.csv", "u.csv"], "lq: 1.csv: name"),
     ];
-    for (words, line) in cases {
+    for (words, line) in &cases {
         assert_refused(&rt, rt.alloc(), &mut files, words, line)?;
     }
     Ok(())
@@ -173,15 +173,15 @@ fn tables_are_at_most_64(rt: HostRuntime) -> Result<(), Fail> {
 fn a_refusal_ends_with_its_status_and_its_line(rt: HostRuntime) -> Result<(), Fail> {
     let alloc = rt.alloc();
     let refused = StartError::Refused(Txt::from_str(alloc, "lq: a: read")?);
-    for (error, bad, status, line) in [
+    for (error, bad, status, line) in &[
         (&refused, 0, 3, "lq: a: read\n"),
         (&StartError::Memory, 0, 5, "lq: memory\n"),
         (&refused, 2, 3, "lq: a"),
     ] {
-        let mut told = taking(alloc, bad, Fault::Stalls);
+        let mut told = taking(alloc, *bad, Fault::Stalls);
         let mut errors = Device::new(&mut told);
-        assert_eq!(rt; refuse(error, &mut errors), status);
-        assert_eq!(rt; errors.failed(), bad > 0);
+        assert_eq!(rt; refuse(error, &mut errors), *status);
+        assert_eq!(rt; errors.failed(), *bad > 0);
         assert!(rt; told.taken.as_slice() == line.as_bytes());
     }
     Ok(())

@@ -33,7 +33,7 @@ fn policy(alloc: Global, rule: &Rule) -> Result<Policy, Fail> {
 
 fn parts(alloc: Global, secured: bool, rules: &[Rule]) -> Result<PolicyParts, Fail> {
     let mut roles = List::new(alloc);
-    for name in ["a", "b"] {
+    for name in &["a", "b"] {
         roles.push(Role {
             name: text(alloc, name)?,
         })?;

@@ -28,7 +28,7 @@ fn assert_refused(rt: &impl Abort, alloc: Global, text: &str, error: LoadError) 
 #[test]
 fn faults_are_told_where_they_stand(rt: HostRuntime) {
     let alloc = rt.alloc();
-    for (text, error) in [
+    for (text, error) in &[
         ("", LoadError::Header),
         ("\n\r\n", LoadError::Header),
         ("id", LoadError::Header),
@@ -56,7 +56,7 @@ fn faults_are_told_where_they_stand(rt: HostRuntime) {
         ("a:int,b:int\nx,2\n1\n", LoadError::Cell(2, 1)),
         ("a:int,b:int\n1\nx,2\n", LoadError::Csv),
     ] {
-        assert_refused(&rt, alloc, text, error);
+        assert_refused(&rt, alloc, text, *error);
     }
 }
 

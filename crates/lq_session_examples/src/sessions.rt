@@ -1,4 +1,5 @@
-//! Replies to lines over a table of three rows, under policies and without, and what policies decide.
+//! Replies to lines over a table of three rows, under policies, and what policies decide. Replies where every row is visible
+//! are shown by the built program (tests/cli).
 ghost use Rattle.std.specs.Prelude.{◌≡◌, true, IfOk};
 ghost use Rattle.lq_store.specs.Rules.{keeps_rules};
 
@@ -19,10 +20,6 @@ const ALL: &str = "{\"items\":[1,2,3]}\n";
 const NONE: &str = "{\"items\":[]}\n";
 
 const TWO: &str = "{\"items\":[2]}\n";
-
-const SYNTAX: &str = "{\"error\":\"syntax\"}\n";
-
-const TYPE: &str = "{\"error\":\"type\"}\n";
 
 fn one<T: Drop>(alloc: Global, item: T) -> Result<List<T>, AllocError> {
     let mut list = List::new(alloc);
@@ -76,6 +73,31 @@ fn two_policies(alloc: Global) -> Result<List<Policy>, Fail> {
     Ok(policies)
 }
 
+fn two_roles(alloc: Global) -> Result<List<Role>, AllocError> {
+    let mut roles = List::new(alloc);
+    for name in &["a", "b"] {
+        roles.push(Role {
+            name: Txt::from_str(alloc, name)?,
+        })?;
+    }
+    Ok(roles)
+}
+
+// A table with a column c.
+fn table_part(alloc: Global, secured: bool) -> Result<TablePart, AllocError> {
+    Ok(TablePart {
+        columns: one(alloc, Txt::from_str(alloc, "c")?)?,
+        secured,
+    })
+}
+
+fn built(rt: &impl Abort, parts: PolicyParts) -> Policies {
+    match Policies::build(parts) {
+        Ok(policies) => policies,
+        Err(_) => panic!(rt; "the policies were refused"),
+    }
+}
+
 // The roles a and b, and one table with a column c.
 fn policies_of(
     rt: &impl Abort,
@@ -83,25 +105,12 @@ fn policies_of(
     secured: bool,
     policies: List<Policy>,
 ) -> Result<Policies, AllocError> {
-    let mut roles = List::new(alloc);
-    for name in ["a", "b"] {
-        roles.push(Role {
-            name: Txt::from_str(alloc, name)?,
-        })?;
-    }
-    let part = TablePart {
-        columns: one(alloc, Txt::from_str(alloc, "c")?)?,
-        secured,
-    };
-    let built = Policies::build(PolicyParts {
-        roles,
-        tables: one(alloc, part)?,
+    let parts = PolicyParts {
+        roles: two_roles(alloc)?,
+        tables: one(alloc, table_part(alloc, secured)?)?,
         policies,
-    });
-    match built {
-        Ok(policies) => Ok(policies),
-        Err(_) => panic!(rt; "the policies were refused"),
-    }
+    };
+    Ok(built(rt, parts))
 }
 
 // A session over that store under the role of this name.
@@ -117,12 +126,6 @@ fn session_as(
     }
 }
 
-// A session in which every row is visible.
-fn open_session(rt: &impl Abort, alloc: Global) -> Result<Session, AllocError> {
-    let open = policies_of(rt, alloc, false, List::new(alloc))?;
-    session_as(rt, alloc, open, "a")
-}
-
 fn assert_reply(rt: &impl Abort, session: &mut Session, line: &str, reply: &str) {
     match session.step(line) {
         Some(given) => assert!(rt; given.bytes() == reply.as_bytes(), "to {line}"),
@@ -134,7 +137,7 @@ fn assert_reply(rt: &impl Abort, session: &mut Session, line: &str, reply: &str)
 fn rows_are_shown_by_policies(rt: HostRuntime) -> Result<(), Fail> {
     let alloc = rt.alloc();
     let above = "run from x in t where x.c > 2 select x.c;";
-    for (role, every_row) in [("a", TWO), ("b", NONE)] {
+    for (role, every_row) in &[("a", TWO), ("b", NONE)] {
         let secured = policies_of(&rt, alloc, true, two_policies(alloc)?)?;
         let mut session = session_as(&rt, alloc, secured, role)?;
         assert_reply(&rt, &mut session, EVERY_ROW, every_row);
@@ -161,103 +164,62 @@ fn without_row_security_every_row_is_shown(rt: HostRuntime) -> Result<(), Fail> 
     Ok(())
 }
 
+fn spaces(alloc: Global, number: usize) -> Result<String, AllocError> {
+    let mut line = String::new(alloc);
+    for _ in 0..number {
+        line.push(' ')?;
+    }
+    Ok(line)
+}
+
+// The built program can't show this: it refuses a script with such a line.
+#[test]
+fn a_line_too_long_leaves_the_session(rt: HostRuntime) -> Result<(), Fail> {
+    let line = spaces(rt.alloc(), 65537)?;
+    let open = policies_of(&rt, rt.alloc(), false, List::new(rt.alloc()))?;
+    let mut session = session_as(&rt, rt.alloc(), open, "a")?;
+    assert_reply(&rt, &mut session, &line, "{\"error\":\"syntax\"}\n");
+    assert_reply(&rt, &mut session, EVERY_ROW, ALL);
+    Ok(())
+}
+
 // Policies that have no roles and show the rows of the first table to all; the second has no row security.
 fn policies_for_all(rt: &impl Abort, alloc: Global) -> Result<Policies, Fail> {
-    let mut tables = List::new(alloc);
-    for secured in [true, false] {
-        let columns = one(alloc, Txt::from_str(alloc, "c")?)?;
-        tables.push(TablePart { columns, secured })?;
-    }
-    let built = Policies::build(PolicyParts {
+    let mut tables = one(alloc, table_part(alloc, true)?)?;
+    tables.push(table_part(alloc, false)?)?;
+    let parts = PolicyParts {
         roles: List::new(alloc),
         tables,
         policies: one(alloc, policy(alloc, false, "public", "row.c >= 0")?)?,
-    });
-    match built {
-        Ok(policies) => Ok(policies),
-        Err(_) => panic!(rt; "the policies were refused"),
-    }
+    };
+    Ok(built(rt, parts))
+}
+
+// Whether a row with this cell is visible to the role of this name, which `owner` has (none: it has no such role).
+fn sees(owner: &Policies, name: &str, policies: &Policies, table: u16, cell: i32) -> Option<bool> {
+    let role = owner.role(name)?;
+    Some(policies.visible(role, Action::Select, table, &[Scalar::Int(cell)]))
 }
 
 #[test]
 fn a_role_of_other_policies_sees_nothing(rt: HostRuntime) -> Result<(), Fail> {
-    let alloc = rt.alloc();
-    let others = policies_of(&rt, alloc, true, List::new(alloc))?;
-    let policies = policies_for_all(&rt, alloc)?;
-    let Some(stranger) = others.role("a") else {
-        panic!(rt; "the role is missing");
-    };
-    let cells = [Scalar::Int(1)];
-    assert!(rt; !policies.visible(stranger, Action::Select, 0, &cells));
-    assert!(rt; policies.visible(stranger, Action::Select, 1, &cells));
+    let others = policies_of(&rt, rt.alloc(), true, List::new(rt.alloc()))?;
+    let policies = policies_for_all(&rt, rt.alloc())?;
+    assert!(rt; sees(&others, "a", &policies, 0, 1) == Some(false));
+    assert!(rt; sees(&others, "a", &policies, 1, 1) == Some(true));
     Ok(())
 }
 
 #[test]
 fn policies_decide_by_role_table_and_cells(rt: HostRuntime) -> Result<(), Fail> {
-    let alloc = rt.alloc();
-    let policies = policies_of(&rt, alloc, true, two_policies(alloc)?)?;
-    let (Some(a), Some(b)) = (policies.role("a"), policies.role("b")) else {
-        panic!(rt; "a role is missing");
-    };
-    for (number, is_shown) in [(1, false), (2, true), (3, false)] {
-        let cells = [Scalar::Int(number)];
-        assert!(rt; policies.visible(a, Action::Select, 0, &cells) == is_shown);
-        assert!(rt; !policies.visible(b, Action::Select, 0, &cells));
-        assert!(rt; !policies.visible(a, Action::Select, 1, &cells));
+    let policies = policies_of(&rt, rt.alloc(), true, two_policies(rt.alloc())?)?;
+    for (number, is_shown) in &[(1, false), (2, true), (3, false)] {
+        assert!(rt; sees(&policies, "a", &policies, 0, *number) == Some(*is_shown));
+        assert!(rt; sees(&policies, "b", &policies, 0, *number) == Some(false));
+        assert!(rt; sees(&policies, "a", &policies, 1, *number) == Some(false));
     }
-    for unknown in ["c", "public", ""] {
+    for unknown in &["c", "public", ""] {
         assert!(rt; policies.role(unknown).is_none());
-    }
-    Ok(())
-}
-
-#[test]
-fn rows_are_compared(rt: HostRuntime) -> Result<(), Fail> {
-    let alloc = rt.alloc();
-    let mut session = open_session(&rt, alloc)?;
-    let replies = [
-        ("x.c < 2", "{\"items\":[1]}\n"),
-        ("x.c > 2", "{\"items\":[3]}\n"),
-        ("x.c <= 2", "{\"items\":[1,2]}\n"),
-        ("x.c >= 2", "{\"items\":[2,3]}\n"),
-        ("x.c == 2", TWO),
-        ("x.c != 2", "{\"items\":[1,3]}\n"),
-    ];
-    for (condition, reply) in replies {
-        let line = format!(in alloc; "run from x in t where {condition} select x.c;")?;
-        assert_reply(&rt, &mut session, &line, reply);
-    }
-    Ok(())
-}
-
-#[test]
-fn refused_lines_leave_the_session(rt: HostRuntime) -> Result<(), Fail> {
-    let alloc = rt.alloc();
-    let mut session = open_session(&rt, alloc)?;
-    let mut spaces = String::new(alloc);
-    for _ in 0..65537 {
-        spaces.push(' ')?;
-    }
-    let refusals = [
-        ("run from;", SYNTAX),
-        (spaces.as_str(), SYNTAX),
-        ("run from x in u select x.c;", TYPE),
-        ("run from x in t select x.d;", TYPE),
-        ("run from x in t select y.c;", TYPE),
-    ];
-    for (line, refusal) in refusals {
-        assert_reply(&rt, &mut session, line, refusal);
-        assert_reply(&rt, &mut session, EVERY_ROW, ALL);
-    }
-    Ok(())
-}
-
-#[test]
-fn lines_without_a_token_have_no_reply(rt: HostRuntime) -> Result<(), Fail> {
-    let mut session = open_session(&rt, rt.alloc())?;
-    for line in ["", " \t", "// run from x in t select x.c;"] {
-        assert!(rt; session.step(line).is_none());
     }
     Ok(())
 }

@@ -56,11 +56,22 @@ fn sequence<'a>(alloc: Global) -> Result<Value<Cells<'a>>, AllocError> {
     Ok(Value::Seq(items, End::Fault(Fault::Overflow)))
 }
 
+// Puts a member of this name behind the others.
+fn add_member<'a>(
+    alloc: Global,
+    members: &mut List<(Txt, Value<Cells<'a>>)>,
+    name: &str,
+    value: Value<Cells<'a>>,
+) -> Result<(), AllocError> {
+    members.push((Txt::from_str(alloc, name)?, value))?;
+    Ok(())
+}
+
 // A record of that group and that sequence.
 fn record<'a>(alloc: Global, row: Cells<'a>) -> Result<Value<Cells<'a>>, AllocError> {
     let mut members = List::new(alloc);
-    members.push((Txt::from_str(alloc, "Group")?, group(alloc, row)?))?;
-    members.push((Txt::from_str(alloc, "Items")?, sequence(alloc)?))?;
+    add_member(alloc, &mut members, "Group", group(alloc, row)?)?;
+    add_member(alloc, &mut members, "Items", sequence(alloc)?)?;
     Ok(Value::Rec(members))
 }
 
@@ -99,26 +110,37 @@ fn is_record(value: &Value<Cells<'_>>, cell: i32) -> bool {
     }
 }
 
+// Whether a copy of that record is that record again, and has left its source as it was.
+fn is_copied(alloc: Global, row: Cells<'_>) -> Result<bool, AllocError> {
+    let value = record(alloc, row)?;
+    let copied = copy(alloc, &value)?;
+    Ok(is_record(&copied, 7) && is_record(&value, 7))
+}
+
 #[test]
 fn a_nested_value_is_copied(rt: HostRuntime) -> Result<(), Fail> {
     let cells = [Scalar::Int(7)];
-    let value = record(rt.alloc(), Cells { cells: &cells })?;
-    let copied = copy(rt.alloc(), &value)?;
-    assert!(rt; is_record(&copied, 7));
-    assert!(rt; is_record(&value, 7));
+    assert!(rt; is_copied(rt.alloc(), Cells { cells: &cells })?);
     Ok(())
+}
+
+// Whether a copy of the scalar has its kind and its content.
+fn is_copied_scalar(alloc: Global, scalar: &Scalar) -> Result<bool, AllocError> {
+    let copied = copy_scalar(alloc, scalar)?;
+    Ok(match (&copied, scalar) {
+        (Scalar::Null, Scalar::Null) => true,
+        (Scalar::Bool(found), Scalar::Bool(truth)) => *found == *truth,
+        (Scalar::Int(found), Scalar::Int(number)) => *found == *number,
+        (Scalar::Text(found), Scalar::Text(text)) => found.as_bytes() == text.as_bytes(),
+        _ => false,
+    })
 }
 
 #[test]
 fn each_scalar_is_copied(rt: HostRuntime) -> Result<(), Fail> {
-    let alloc = rt.alloc();
-    let text = Scalar::Text(Txt::from_str(alloc, "caf\u{e9}")?);
-    assert!(rt; matches!(copy_scalar(alloc, &Scalar::Null)?, Scalar::Null));
-    assert!(rt; matches!(copy_scalar(alloc, &Scalar::Bool(true))?, Scalar::Bool(true)));
-    assert!(rt; matches!(copy_scalar(alloc, &Scalar::Int(-7))?, Scalar::Int(-7)));
-    match copy_scalar(alloc, &text)? {
-        Scalar::Text(copied) => assert!(rt; copied.as_bytes() == "caf\u{e9}".as_bytes()),
-        _ => panic!(rt; "the copy is no text"),
+    let text = Scalar::Text(Txt::from_str(rt.alloc(), "caf\u{e9}")?);
+    for scalar in &[Scalar::Null, Scalar::Bool(true), Scalar::Int(-7), text] {
+        assert!(rt; is_copied_scalar(rt.alloc(), scalar)?);
     }
     Ok(())
 }
@@ -182,7 +204,7 @@ const RECORDS: [(Spelled<'static>, Spelled<'static>, bool); 8] = [
     (&[("K", "1"), ("V", "2")], &[("V", "2"), ("K", "1")], false),
 ];
 
-fn spelled(alloc: Global, word: &str) -> Result<Scalar, AllocError> {
+pub(crate) fn spelled(alloc: Global, word: &str) -> Result<Scalar, AllocError> {
     if let Some(text) = word.strip_prefix('\'') {
         let text = text.strip_suffix('\'').unwrap_or(text);
         return Ok(Scalar::Text(Txt::from_str(alloc, text)?));
@@ -200,8 +222,12 @@ fn spelled_record<'a>(
 ) -> Result<Value<Cells<'a>>, AllocError> {
     let mut members = List::new(alloc);
     for (name, word) in spelling {
-        let value = Value::Scalar(spelled(alloc, word)?);
-        members.push((Txt::from_str(alloc, name)?, value))?;
+        add_member(
+            alloc,
+            &mut members,
+            name,
+            Value::Scalar(spelled(alloc, word)?),
+        )?;
     }
     Ok(Value::Rec(members))
 }
@@ -209,48 +235,93 @@ fn spelled_record<'a>(
 // A record whose only member, K, is this record.
 fn around<'a>(alloc: Global, spelling: &[(&str, &str)]) -> Result<Value<Cells<'a>>, AllocError> {
     let mut members = List::new(alloc);
-    let inner = spelled_record(alloc, spelling)?;
-    members.push((Txt::from_str(alloc, "K")?, inner))?;
+    add_member(alloc, &mut members, "K", spelled_record(alloc, spelling)?)?;
     Ok(Value::Rec(members))
+}
+
+fn order_of(alloc: Global, first: &str, second: &str) -> Result<Ordering, AllocError> {
+    Ok(order(&spelled(alloc, first)?, &spelled(alloc, second)?))
 }
 
 #[test]
 fn scalars_stand_in_order(rt: HostRuntime) -> Result<(), Fail> {
-    for (first, second, expected) in ORDERS {
-        let left = spelled(rt.alloc(), first)?;
-        let right = spelled(rt.alloc(), second)?;
-        assert!(rt; order(&left, &right) == expected, "{first} {second}");
+    for (first, second, expected) in &ORDERS {
         assert!(rt;
-            order(&right, &left) == expected.reverse(),
+            order_of(rt.alloc(), first, second)? == *expected,
+            "{first} {second}"
+        );
+        assert!(rt;
+            order_of(rt.alloc(), second, first)? == expected.reverse(),
             "{second} {first}"
         );
     }
     Ok(())
 }
 
+// Whether the two are the same, as they are let go of here.
+fn is_same<'a>(left: Value<Cells<'a>>, right: Value<Cells<'a>>) -> bool {
+    same(&left, &right)
+}
+
+fn are_same_scalars(alloc: Global, first: &str, second: &str) -> Result<bool, AllocError> {
+    let left = spelled(alloc, first)?;
+    Ok(is_same(Value::Scalar(left), Value::Scalar(spelled(alloc, second)?)))
+}
+
 #[test]
 fn scalars_are_the_same_by_content(rt: HostRuntime) -> Result<(), Fail> {
-    for (first, second, expected) in ORDERS {
-        let left: Value<Cells<'_>> = Value::Scalar(spelled(rt.alloc(), first)?);
-        let right = Value::Scalar(spelled(rt.alloc(), second)?);
-        let level = expected == Ordering::Equal;
-        assert!(rt; same(&left, &right) == level, "{first} {second}");
+    for (first, second, expected) in &ORDERS {
+        let level = *expected == Ordering::Equal;
+        assert!(rt;
+            are_same_scalars(rt.alloc(), first, second)? == level,
+            "{first} {second}"
+        );
     }
     Ok(())
 }
 
+fn are_same(
+    alloc: Global,
+    first: &[(&str, &str)],
+    second: &[(&str, &str)],
+) -> Result<bool, AllocError> {
+    let left = spelled_record(alloc, first)?;
+    Ok(is_same(left, spelled_record(alloc, second)?))
+}
+
+fn are_same_nested(
+    alloc: Global,
+    first: &[(&str, &str)],
+    second: &[(&str, &str)],
+) -> Result<bool, AllocError> {
+    let left = around(alloc, first)?;
+    Ok(is_same(left, around(alloc, second)?))
+}
+
 #[test]
 fn records_are_the_same_by_all_members(rt: HostRuntime) -> Result<(), Fail> {
-    for (number, (first, second, expected)) in RECORDS.into_iter().enumerate() {
-        let left = spelled_record(rt.alloc(), first)?;
-        let right = spelled_record(rt.alloc(), second)?;
-        assert!(rt; same(&left, &right) == expected, "records {number}");
-        assert!(rt; same(&right, &left) == expected, "records {number}, turned");
-        let left = around(rt.alloc(), first)?;
-        let right = around(rt.alloc(), second)?;
-        assert!(rt; same(&left, &right) == expected, "records {number}, nested");
+    let alloc = rt.alloc();
+    for (number, (first, second, expected)) in RECORDS.iter().enumerate() {
+        assert!(rt;
+            are_same(alloc, first, second)? == *expected,
+            "records {number}"
+        );
+        assert!(rt;
+            are_same(alloc, second, first)? == *expected,
+            "records {number}, turned"
+        );
+        assert!(rt;
+            are_same_nested(alloc, first, second)? == *expected,
+            "records {number}, nested"
+        );
     }
     Ok(())
+}
+
+// Whether the value is neither the same as itself nor as null.
+fn is_the_same_as_nothing(value: Value<Cells<'_>>) -> bool {
+    let null = Value::Scalar(Scalar::Null);
+    !same(&value, &value) && !same(&null, &value) && !same(&value, &null)
 }
 
 #[test]
@@ -258,16 +329,9 @@ fn rows_and_sequences_are_the_same_as_nothing(rt: HostRuntime) -> Result<(), Fai
     let alloc = rt.alloc();
     let cells = [Scalar::Int(7)];
     let row = Cells { cells: &cells };
-    let values = [
-        Value::Row(row),
-        group(alloc, row)?,
-        sequence(alloc)?,
-        record(alloc, row)?,
-    ];
-    let null = Value::Scalar(Scalar::Null);
-    for value in &values {
-        assert!(rt; !same(value, value));
-        assert!(rt; !same(&null, value) && !same(value, &null));
-    }
+    assert!(rt; is_the_same_as_nothing(Value::Row(row)));
+    assert!(rt; is_the_same_as_nothing(group(alloc, row)?));
+    assert!(rt; is_the_same_as_nothing(sequence(alloc)?));
+    assert!(rt; is_the_same_as_nothing(record(alloc, row)?));
     Ok(())
 }

@@ -117,71 +117,40 @@ const FAULTS: [&str; 49] = [
     "a // b\n #",
 ];
 
-/// Lines with their tokens: each with its kind, its start and its end, in bytes.
-const LINES: [(&str, &[(Kind, usize, usize)]); 28] = [
-    ("?? ?", &[(Kind::Coalesce, 0, 2), (Kind::Question, 3, 4)]),
-    ("???", &[(Kind::Coalesce, 0, 2), (Kind::Question, 2, 3)]),
-    ("? ?", &[(Kind::Question, 0, 1), (Kind::Question, 2, 3)]),
-    ("=>=", &[(Kind::Arrow, 0, 2), (Kind::Assign, 2, 3)]),
-    (">==", &[(Kind::GreaterOrEqual, 0, 2), (Kind::Assign, 2, 3)]),
-    ("===", &[(Kind::Equal, 0, 2), (Kind::Assign, 2, 3)]),
-    ("==>", &[(Kind::Equal, 0, 2), (Kind::Greater, 2, 3)]),
-    ("= =", &[(Kind::Assign, 0, 1), (Kind::Assign, 2, 3)]),
-    ("!!=", &[(Kind::Not, 0, 1), (Kind::NotEqual, 1, 3)]),
-    ("<=<", &[(Kind::LessOrEqual, 0, 2), (Kind::Less, 2, 3)]),
-    ("&&||", &[(Kind::And, 0, 2), (Kind::Or, 2, 4)]),
+/// Lines with their tokens, in words: each by its kind, its start and its end, in bytes.
+const LINES: [(&str, &str); 28] = [
+    ("?? ?", "Coalesce 0 2, Question 3 4"),
+    ("???", "Coalesce 0 2, Question 2 3"),
+    ("? ?", "Question 0 1, Question 2 3"),
+    ("=>=", "Arrow 0 2, Assign 2 3"),
+    (">==", "GreaterOrEqual 0 2, Assign 2 3"),
+    ("===", "Equal 0 2, Assign 2 3"),
+    ("==>", "Equal 0 2, Greater 2 3"),
+    ("= =", "Assign 0 1, Assign 2 3"),
+    ("!!=", "Not 0 1, NotEqual 1 3"),
+    ("<=<", "LessOrEqual 0 2, Less 2 3"),
+    ("&&||", "And 0 2, Or 2 4"),
     // The two spellings of one letter are two names, of two and of three bytes.
-    ("\u{e9} e\u{301}", &[(Kind::Name, 0, 2), (Kind::Name, 3, 6)]),
-    (
-        "frox in ins",
-        &[(Kind::Name, 0, 4), (Kind::In, 5, 7), (Kind::Name, 8, 11)],
-    ),
-    ("0", &[(Kind::Integer, 0, 1)]),
-    ("00002147483648", &[(Kind::Integer, 0, 14)]),
-    (
-        "-2147483648",
-        &[(Kind::Minus, 0, 1), (Kind::Integer, 1, 11)],
-    ),
-    (
-        "1.e",
-        &[(Kind::Integer, 0, 1), (Kind::Dot, 1, 2), (Kind::Name, 2, 3)],
-    ),
-    ("4//2", &[(Kind::Integer, 0, 1)]),
-    (
-        "4/ /2",
-        &[
-            (Kind::Integer, 0, 1),
-            (Kind::Slash, 1, 2),
-            (Kind::Slash, 3, 4),
-            (Kind::Integer, 4, 5),
-        ],
-    ),
-    (
-        "4/2",
-        &[
-            (Kind::Integer, 0, 1),
-            (Kind::Slash, 1, 2),
-            (Kind::Integer, 2, 3),
-        ],
-    ),
-    (
-        "a // \" \u{e9} # \\\nb",
-        &[(Kind::Name, 0, 1), (Kind::Name, 14, 15)],
-    ),
-    ("\"//\" c", &[(Kind::Text, 0, 4), (Kind::Name, 5, 6)]),
-    ("//\r a", &[]),
-    ("\r", &[]),
-    ("\"\\n\"\"\\t\"", &[(Kind::Text, 0, 4), (Kind::Text, 4, 8)]),
-    ("\"\"", &[(Kind::Text, 0, 2)]),
-    ("\"\\u0041\"", &[(Kind::Text, 0, 8)]),
+    // The two spellings of one letter are two names, of two and of three bytes.
+    ("\u{e9} e\u{301}", "Name 0 2, Name 3 6"),
+    ("frox in ins", "Name 0 4, In 5 7, Name 8 11"),
+    ("0", "Integer 0 1"),
+    ("00002147483648", "Integer 0 14"),
+    ("-2147483648", "Minus 0 1, Integer 1 11"),
+    ("1.e", "Integer 0 1, Dot 1 2, Name 2 3"),
+    ("4//2", "Integer 0 1"),
+    ("4/ /2", "Integer 0 1, Slash 1 2, Slash 3 4, Integer 4 5"),
+    ("4/2", "Integer 0 1, Slash 1 2, Integer 2 3"),
+    ("a // \" \u{e9} # \\\nb", "Name 0 1, Name 14 15"),
+    ("\"//\" c", "Text 0 4, Name 5 6"),
+    ("//\r a", ""),
+    ("\r", ""),
+    ("\"\\n\"\"\\t\"", "Text 0 4, Text 4 8"),
+    ("\"\"", "Text 0 2"),
+    ("\"\\u0041\"", "Text 0 8"),
     (
         "\t\u{e9}\u{4e2d} =\"\u{1d4d0}\"// \u{e9}\n;",
-        &[
-            (Kind::Name, 1, 6),
-            (Kind::Assign, 7, 8),
-            (Kind::Text, 8, 14),
-            (Kind::Semicolon, 20, 21),
-        ],
+        "Name 1 6, Assign 7 8, Text 8 14, Semicolon 20 21",
     ),
 ];
 
@@ -253,7 +222,6 @@ const BLANK: [&str; 7] = ["", " ", " \t\r\n", "//", "///", "// #\n\t// \"", "\r"
 const NOT_BLANK: [&str; 8] = ["/", "/ /", "a", "//\na", "#", "\u{a0}", "\u{c}", "\u{feff}"];
 
 /// What a line that is one text many times over is.
-#[derive(Clone, Copy, PartialEq, Eq)]
 enum Found {
     /// This many tokens.
     Tokens(usize),
@@ -274,23 +242,24 @@ const LENGTHS: [(&str, usize, Found); 8] = [
     (" ", 65537, Found::TooLong),
 ];
 
-/// Whether the line has exactly these tokens.
-fn has(alloc: Global, line: &str, expected: &[(Kind, usize, usize)]) -> Result<bool, LexError> {
-    let found = tokens(alloc, line)?;
-    if found.len() != expected.len() {
-        return Ok(false);
-    }
-    for (token, (kind, start, end)) in found.iter().zip(expected) {
-        if token.kind != *kind || token.start != *start || token.end != *end {
-            return Ok(false);
+/// The line's tokens in the words of the rows.
+fn shown(alloc: Global, line: &str) -> Result<String, Fail> {
+    let mut words = String::new(alloc);
+    for token in tokens(alloc, line)?.iter() {
+        if !words.is_empty() {
+            words.push_str(", ")?;
         }
+        write!(words, "{:?} {} {}", token.kind, token.start, token.end)?;
     }
-    Ok(true)
+    Ok(words)
 }
 
 /// Whether the line is one token of this kind.
 fn is_one(alloc: Global, line: &str, kind: Kind) -> Result<bool, LexError> {
-    has(alloc, line, &[(kind, 0, line.len())])
+    match tokens(alloc, line)?.as_slice() {
+        [token] => Ok(token.kind == kind && token.start == 0 && token.end == line.len()),
+        _ => Ok(false),
+    }
 }
 
 fn is_fault(alloc: Global, line: &str) -> bool {
@@ -310,19 +279,19 @@ fn repeated(alloc: Global, text: &str, times: usize) -> Result<String, Fail> {
     Ok(all)
 }
 
-fn found_in(alloc: Global, line: &str) -> Result<Found, LexError> {
-    match tokens(alloc, line) {
-        Ok(found) => Ok(Found::Tokens(found.len())),
-        Err(LexError::Lexical) => Ok(Found::Faulty),
-        Err(LexError::TooLong) => Ok(Found::TooLong),
-        Err(LexError::Memory) => Err(LexError::Memory),
+fn is_found(alloc: Global, line: &str, expected: &Found) -> bool {
+    match (tokens(alloc, line), expected) {
+        (Ok(found), Found::Tokens(number)) => found.len() == *number,
+        (Err(LexError::Lexical), Found::Faulty) => true,
+        (Err(LexError::TooLong), Found::TooLong) => true,
+        _ => false,
     }
 }
 
 #[test]
 fn each_sign_is_a_token(rt: HostRuntime) -> Result<(), Fail> {
-    for (text, kind) in SIGNS {
-        assert!(rt; is_one(rt.alloc(), text, kind)? && !is_blank(text));
+    for (text, kind) in &SIGNS {
+        assert!(rt; is_one(rt.alloc(), text, *kind)? && !is_blank(text));
     }
     Ok(())
 }
@@ -335,26 +304,26 @@ fn is_reserved(alloc: Global, word: &str, kind: Kind) -> Result<bool, Fail> {
 
 #[test]
 fn each_reserved_word_is_a_token(rt: HostRuntime) -> Result<(), Fail> {
-    for (word, kind) in WORDS {
-        assert!(rt; is_reserved(rt.alloc(), word, kind)?);
+    for (word, kind) in &WORDS {
+        assert!(rt; is_reserved(rt.alloc(), word, *kind)?);
     }
     Ok(())
 }
 
 #[test]
 fn lines_have_their_tokens(rt: HostRuntime) -> Result<(), Fail> {
-    for (line, expected) in LINES {
-        assert!(rt; has(rt.alloc(), line, expected)?, "{line}");
+    for (line, expected) in &LINES {
+        assert!(rt; shown(rt.alloc(), line)?.as_str() == *expected, "{line}");
     }
     Ok(())
 }
 
 #[test]
 fn names_are_told_from_words(rt: HostRuntime) -> Result<(), Fail> {
-    for name in NAMES {
+    for name in &NAMES {
         assert!(rt; is_name(name) && is_one(rt.alloc(), name, Kind::Name)?);
     }
-    for other in NO_NAMES {
+    for other in &NO_NAMES {
         assert!(rt; !is_name(other));
     }
     Ok(())
@@ -362,17 +331,17 @@ fn names_are_told_from_words(rt: HostRuntime) -> Result<(), Fail> {
 
 #[test]
 fn integers_have_a_greatest_value(rt: HostRuntime) {
-    for (digits, value) in NUMBERS {
-        assert!(rt; int_value(digits) == value);
+    for (digits, value) in &NUMBERS {
+        assert!(rt; int_value(digits) == *value);
     }
 }
 
 #[test]
 fn blank_lines_have_no_token(rt: HostRuntime) -> Result<(), Fail> {
-    for line in BLANK {
-        assert!(rt; has(rt.alloc(), line, &[])? && is_blank(line));
+    for line in &BLANK {
+        assert!(rt; tokens(rt.alloc(), line)?.is_empty() && is_blank(line));
     }
-    for line in NOT_BLANK {
+    for line in &NOT_BLANK {
         assert!(rt; !is_blank(line));
     }
     Ok(())
@@ -380,7 +349,7 @@ fn blank_lines_have_no_token(rt: HostRuntime) -> Result<(), Fail> {
 
 #[test]
 fn texts_have_their_values(rt: HostRuntime) -> Result<(), Fail> {
-    for (literal, value) in TEXTS {
+    for (literal, value) in &TEXTS {
         assert!(rt; spells(rt.alloc(), literal, value)?, "{literal}");
     }
     Ok(())
@@ -388,7 +357,7 @@ fn texts_have_their_values(rt: HostRuntime) -> Result<(), Fail> {
 
 #[test]
 fn other_characters_are_faults(rt: HostRuntime) {
-    for line in FAULTS {
+    for line in &FAULTS {
         assert!(rt; is_fault(rt.alloc(), line) && !is_blank(line));
     }
 }
@@ -396,13 +365,10 @@ fn other_characters_are_faults(rt: HostRuntime) {
 #[test]
 fn a_line_has_a_greatest_length(rt: HostRuntime) -> Result<(), Fail> {
     assert!(rt; LINE_LIMIT == 65536);
-    for (text, times, found) in LENGTHS {
-        let line = repeated(rt.alloc(), text, times)?;
-        assert!(rt;
-            found_in(rt.alloc(), &line)? == found,
-            "{times} times {text}"
-        );
-        assert!(rt; is_blank(&line) == (found == Found::Tokens(0)));
+    for (text, times, found) in &LENGTHS {
+        let line = repeated(rt.alloc(), text, *times)?;
+        assert!(rt; is_found(rt.alloc(), &line, found), "{times} times {text}");
+        assert!(rt; is_blank(&line) == matches!(found, Found::Tokens(0)));
     }
     Ok(())
 }
