@@ -1,7 +1,7 @@
 //! Sessions over tables that are written out here.
 use lq_model::{Policy, PolicyParts, Role, TablePart};
 use lq_serve::{Device, serve, table_from_csv};
-use lq_session::{Policies, Session};
+use lq_session::{Policies, Session, rules_are_total};
 use lq_store::Store;
 use lq_syntax::parse_rule;
 use lq_value::{List, Txt};
@@ -65,6 +65,9 @@ pub(crate) fn replies(
     let table = table_from_csv(alloc, text(alloc, "t")?, table.as_bytes())?;
     if store.add(table).is_err() {
         return Err(Fail::from("the table was not taken"));
+    }
+    if !rules_are_total(&parts) {
+        return Err(Fail::from("a rule may fault"));
     }
     let Ok(policies) = Policies::build(parts) else {
         return Err(Fail::from("the policies were not built"));

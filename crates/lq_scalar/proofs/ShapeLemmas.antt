@@ -27,7 +27,7 @@ use Rattle.lq_model.proofs.Opens.{argument_meaning, meaning_binary, meaning_both
 use Rattle.lq_scalar.specs.declared.operand.Operand.{Operand}
 use Rattle.lq_scalar.specs.declared.operand.Operand.TheVariants as operand
 use Rattle.lq_scalar.specs.Named.{Shape, TheRow, TheScalar, cell_in, shape_at, shape_in}
-use Rattle.lq_scalar.specs.Shapes.{faulting, member_of_null, member_shape, named_member, operand_part, operand_scalar, operated_scalars, same_parts, scalar_part, shown_operand, scalar_in, scalar_or_fault, scalar_shape, shape_of, told_shapes, truth_in, truth_shape}
+use Rattle.lq_scalar.specs.Shapes.{faulting, member_of_null, member_shape, named_member, operand_part, operand_scalar, operated_scalars, same_parts, scalar_part, shown_operand, scalar_in, scalar_or_fault, scalar_shape, shape_of, shape_of_argument, told_shapes, truth_in, truth_shape}
 
 -- the row or scalar that a value is, or the fault in its place
 abbrev pub viewed : {R : Type 0} → Result (Value R) Fault → Result (Shape R) Fault
@@ -53,7 +53,7 @@ module _ {R : Type 0} where
 
 module _ {R : Type 0} (world : World R) where
   -- a scalar is asked of both alike
-  scalar_viewed : (m : Result (Value R) Fault) → on_ok m (λ v. scalar_of (faulting world) (out-Value R v)) ≡ on_ok (viewed m) scalar_in
+  pub scalar_viewed : (m : Result (Value R) Fault) → on_ok m (λ v. scalar_of (faulting world) (out-Value R v)) ≡ on_ok (viewed m) scalar_in
   scalar_viewed (Err f) = refl
   scalar_viewed (Ok v) = by (out-Value R v) where
     by : (layer : Value-F R (Value R)) → scalar_of (faulting world) layer ≡ on_ok (shape_in layer) scalar_in
@@ -186,18 +186,14 @@ module _ {R : Type 0} (world : World R) (scope : Scope R) where
   shape_member a m = ap viewed (meaning_member (faulting world) a m scope) ∙ member_viewed world (type_of a place) m (meaning (faulting world) a scope)
 
   -- an argument that is there
-  abbrev pub shape_of_argument : Option Expr → Result (Shape R) Fault
-  shape_of_argument None = Err fault.NullReference
-  shape_of_argument (Some e) = shape_of world scope e
-
-  argument_viewed : (o : Option Expr) → viewed (argument_meaning (faulting world) o scope) ≡ shape_of_argument o
+  argument_viewed : (o : Option Expr) → viewed (argument_meaning (faulting world) o scope) ≡ shape_of_argument world scope o
   unfolding shape_of
   argument_viewed None = refl
   argument_viewed (Some e) = refl
 
   pub shape_method : (a : Expr) (m : List ℕ) (xs : List (Argument Expr)) → shape_of world scope (expr.Node (node.Method a m xs))
       ≡ on_ok (on_ok (shape_of world scope a) scalar_in)
-        (λ s. on_ok (on_ok (shape_of_argument (sole_argument xs)) scalar_in) (λ t. scalar_shape (of_search fault.NullReference (search_named m) s t)))
+        (λ s. on_ok (on_ok (shape_of_argument world scope (sole_argument xs)) scalar_in) (λ t. scalar_shape (of_search fault.NullReference (search_named m) s t)))
   unfolding shape_of
   shape_method a m xs =
       ap viewed (meaning_method (faulting world) a m xs scope)
@@ -293,3 +289,5 @@ scalar_shown scope (operand.Made t) = refl
 
 -- the equations, and how operands are read
 pub ruleset shapes = (shape_integer, shape_text, shape_truth, shape_null, shape_name, shape_member, shape_method, shape_binary, shape_minus, shape_not, shape_both, shape_either, shape_coalesce, shape_choice, shape_host, shape_record, shape_query, part_shown, scalar_shown)
+
+pub ruleset operands = (part_shown, scalar_shown)

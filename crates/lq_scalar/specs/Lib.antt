@@ -1,3 +1,4 @@
 pub mod Named
 pub mod Operands
 pub mod Shapes
+pub mod Sums

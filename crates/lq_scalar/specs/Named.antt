@@ -9,6 +9,7 @@ use Rattle.lq_value.specs.declared.value.Fault.TheVariants as fault
 use Rattle.lq_value.specs.declared.value.Value.{Value, out-Value}
 use Rattle.lq_value.specs.declared.value.Value.TheOpen.{Value-F}
 use Rattle.lq_model.specs.Meaning.{Binding, World}
+use Rattle.lq_scalar.specs.Operands.{shown_scalar}
 use Rattle.lq_scalar.specs.declared.names.ExprType.{ExprType}
 use Rattle.lq_scalar.specs.declared.names.ExprType.TheVariants as kind
 use Rattle.lq_scalar.specs.declared.names.Named.{Named}
@@ -70,4 +71,4 @@ shape_at {R} (Some b) = shape_in (out-Value R b.value)
 abbrev pub shown_named : {R : Type 0} → Option R → Option Named → Result (Shape R) Fault
 shown_named row None = Err fault.NullReference
 shown_named row (Some named.Row) = Ok (TheRow row)
-shown_named row (Some (named.Scalar s)) = Ok (TheScalar s.now)
+shown_named row (Some (named.Scalar s)) = Ok (TheScalar (shown_scalar s))

@@ -1,5 +1,5 @@
 -- What an expression is where it is evaluated, a row or a scalar, and what forms make of operands that are.
-use Rattle.std.specs.Prelude.{◌≡◌, if◌then◌else◌, not, List, ℕ, Bool, true, false, Option, Some, None, Result, Ok, Err}
+use Rattle.std.specs.Prelude.{◌≡◌, ◌<◌, if◌then◌else◌, not, List, ℕ, Bool, true, false, Option, Some, None, Result, Ok, Err}
 use Rattle.lq_value.specs.declared.scalar.Scalar.{Scalar}
 use Rattle.lq_value.specs.declared.scalar.Scalar.TheVariants as scalar
 use Rattle.lq_value.specs.declared.ty.Ty.{Ty}
@@ -91,6 +91,11 @@ operated_scalars sign t u x y = of_two fault.NullReference (operation_on sign t 
 unfoldable pub shape_of : {R : Type 0} → World R → Scope R → Expr → Result (Shape R) Fault
 shape_of {R} world scope e = on_ok (meaning (faulting world) e scope) (λ v. shape_in (out-Value R v))
 
+-- what an argument is that is there
+abbrev pub shape_of_argument : {R : Type 0} → World R → Scope R → Option Expr → Result (Shape R) Fault
+shape_of_argument world scope None = Err fault.NullReference
+shape_of_argument world scope (Some e) = shape_of world scope e
+
 -- the scalar and the truth value that an expression is
 abbrev pub scalar_of_expression : {R : Type 0} → World R → Scope R → Expr → Result Scalar Fault
 scalar_of_expression world scope e = on_ok (shape_of world scope e) scalar_in
@@ -106,27 +111,27 @@ shown_operand scope (operand.Row x) = TheRow (row_at (binding_of x.now scope))
 shown_operand scope (operand.Scalar s) = TheScalar (shown_scalar s)
 shown_operand scope (operand.Made t) = TheScalar (scalar.Text t)
 
--- The answer is the row or scalar that is meant, or its fault; or memory was refused.
-abbrev pub IsOperand : {R : Type 0} → Scope R → Result (Shape R) Fault → Result Operand ScalarError → Type 0
-IsOperand scope meant (Ok found) = meant ≡ Ok (shown_operand scope found)
-IsOperand scope meant (Err (error.Fault f)) = meant ≡ Err f
-IsOperand scope meant (Err error.Memory) = Unit {0}
+-- The answer is the row or scalar that is meant, or its fault; or memory was refused for a text, where so many `+` stand.
+abbrev pub IsOperand : {R : Type 0} → Scope R → ℕ → Result (Shape R) Fault → Result Operand ScalarError → Type 0
+IsOperand scope sums meant (Ok found) = meant ≡ Ok (shown_operand scope found)
+IsOperand scope sums meant (Err (error.Fault f)) = meant ≡ Err f
+IsOperand scope sums meant (Err error.Memory) = 0 < sums
 
 abbrev pub found_scalar : Found → Scalar
 found_scalar (found.Borrowed s) = shown_scalar s
 found_scalar (found.Made t) = scalar.Text t
 
 -- the same of a scalar
-abbrev pub IsFound : Result Scalar Fault → Result Found ScalarError → Type 0
-IsFound meant (Ok s) = meant ≡ Ok (found_scalar s)
-IsFound meant (Err (error.Fault f)) = meant ≡ Err f
-IsFound meant (Err error.Memory) = Unit {0}
+abbrev pub IsFound : ℕ → Result Scalar Fault → Result Found ScalarError → Type 0
+IsFound sums meant (Ok s) = meant ≡ Ok (found_scalar s)
+IsFound sums meant (Err (error.Fault f)) = meant ≡ Err f
+IsFound sums meant (Err error.Memory) = 0 < sums
 
 -- the same of a truth value
-abbrev pub IsTruth : Result Bool Fault → Result Bool ScalarError → Type 0
-IsTruth meant (Ok b) = meant ≡ Ok b
-IsTruth meant (Err (error.Fault f)) = meant ≡ Err f
-IsTruth meant (Err error.Memory) = Unit {0}
+abbrev pub IsTruth : ℕ → Result Bool Fault → Result Bool ScalarError → Type 0
+IsTruth sums meant (Ok b) = meant ≡ Ok b
+IsTruth sums meant (Err (error.Fault f)) = meant ≡ Err f
+IsTruth sums meant (Err error.Memory) = 0 < sums
 
 -- an operand that is no fault
 abbrev pub shown_operands : {R : Type 0} → Scope R → Result Operand Fault → Result (Shape R) Fault

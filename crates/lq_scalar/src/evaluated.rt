@@ -1,6 +1,7 @@
 //! The scalar and the truth value that an expression means (ECMA-334, expressions).
 ghost use Rattle.std.specs.Prelude.{◌≡◌};
 ghost use Rattle.lq_scalar.specs.Operands.{IsAnswer};
+ghost use Rattle.lq_scalar.specs.Sums.{sums_in};
 ghost use Rattle.lq_scalar.specs.Shapes.{IsFound, IsTruth, scalar_of_expression, truth_of_expression};
 
 use crate::error::ScalarError;
@@ -32,13 +33,13 @@ impl Found<'_> {
     {
         match self {
             Found::Borrowed(scalar) => *scalar,
-            Found::Made(text) => ScalarRef::Text(text),
+            Found::Made(text) => ScalarRef::Text(text.as_str()),
         }
     }
 }
 
 /// The scalar that an expression means where these names stand, or its first fault. Copies no text
-/// that is there, and takes memory for a text that `+` makes alone.
+/// that is there, and takes memory for texts that `+` makes and for nothing else.
 ///
 /// An expression without a type, and one of a row or a sequence, gives NullReference where nothing
 /// faults before.
@@ -47,7 +48,7 @@ pub fn evaluate<'a, N: Names>(
     names: &'a N,
     expression: &'a Expr,
 ) -> Result<Found<'a>, ScalarError>
-    ensures { IsFound (scalar_of_expression (N.world names.now) (N.scope names.now) expression.now) result }
+    ensures { IsFound (sums_in expression.now) (scalar_of_expression (N.world names.now) (N.scope names.now) expression.now) result }
 {
     let evaluation = Evaluation {
         names,
@@ -61,20 +62,19 @@ pub fn evaluate<'a, N: Names>(
 }
 
 /// The truth value that a condition means where these names stand, or its first fault. Takes memory
-/// for a text that `+` makes alone.
+/// for texts that `+` makes and for nothing else.
 pub fn truth<N: Names>(
     alloc: Global,
     names: &N,
     condition: &Expr,
 ) -> Result<bool, ScalarError>
-    ensures { IsTruth (truth_of_expression (N.world names.now) (N.scope names.now) condition.now) result }
+    ensures { IsTruth (sums_in condition.now) (truth_of_expression (N.world names.now) (N.scope names.now) condition.now) result }
 {
     let evaluation = Evaluation {
         names,
         texts: alloc,
     };
-    let value = evaluation.operand(condition)?;
-    Ok(value.truth()?)
+    evaluation.truth(condition)
 }
 
 /// The scalar that an expression means where these names stand, as a value of its own, or its first

@@ -1,10 +1,11 @@
 //! Evaluation of expressions to a row or a scalar, or to their first fault (ECMA-334, expressions).
 ghost use Rattle.std.specs.Prelude.{◌≡◌, option_map, true};
-ghost use Rattle.std.specs.Option.{option_copied};
-ghost use Rattle.lq_model.specs.Members.{sole_argument};
+ghost use Rattle.lq_value.specs.declared.value.Fault.TheVariants as fault;
+ghost use Rattle.lq_model.specs.Members.{search_named};
+ghost use Rattle.lq_model.specs.Operations.{negated, of_search, on_ok, truth};
 ghost use Rattle.lq_model.specs.Typing.{is_equality};
-ghost use Rattle.lq_scalar.specs.Operands.{shown_scalar};
-ghost use Rattle.lq_scalar.specs.Shapes.{told_parts};
+ghost use Rattle.lq_scalar.specs.Operands.{shown_scalar, shown_scalars};
+ghost use Rattle.lq_scalar.specs.Shapes.{operand_part, operand_scalar, told_parts};
 
 use crate::comparison::compared;
 use crate::error::ScalarError;
@@ -24,19 +25,9 @@ fn is_equality(sign: Binary) -> bool
     matches!(sign, Binary::Equal | Binary::NotEqual)
 }
 
-/// The argument of a method that has one, and no lambda.
-fn sole_argument<'a>(arguments: &'a [Argument<Expr>]) -> Option<&'a Expr>
-    ensures { option_copied result ≡ sole_argument arguments.now }
-{
-    match arguments {
-        [Argument::Value(argument)] => Some(argument),
-        _ => None,
-    }
-}
-
-/// What `==` or `!=` tells of two operands: scalars by their contents, and a row, None here, isn't
-/// null.
-fn told(
+/// What `==` or `!=` tells of two operands, where None stands for a row: scalars by their contents,
+/// and a row isn't null.
+fn told_parts(
     sign: Binary,
     left: Option<ScalarRef<'_>>,
     right: Option<ScalarRef<'_>>,
@@ -53,6 +44,38 @@ fn told(
     }
 }
 
+// What follows takes operands by value, so that a text that was made is let go in one place.
+
+/// What `==` or `!=` tells of two operands.
+fn told<'a>(sign: Binary, left: Operand<'_>, right: Operand<'_>) -> Result<ScalarRef<'a>, Fault>
+    requires { is_equality sign ≡ true }
+    ensures { shown_scalars result ≡ truth fault.NullReference (told_parts sign (operand_part left.entry) (operand_part right.entry)) }
+{
+    let told = told_parts(sign, left.part(), right.part())?;
+    Ok(ScalarRef::Bool(told))
+}
+
+/// The number with the other sign.
+fn minus<'a>(operand: Operand<'_>) -> Result<ScalarRef<'a>, Fault>
+    ensures { shown_scalars result ≡ on_ok (operand_scalar operand.entry) (negated fault.NullReference) }
+{
+    negate(operand.scalar()?)
+}
+
+/// What a method of this name finds in a text.
+fn searched<'a>(
+    method: &str,
+    text: Operand<'_>,
+    needle: Operand<'_>,
+) -> Result<ScalarRef<'a>, Fault>
+    ensures {
+        shown_scalars result
+        ≡ on_ok (operand_scalar text.entry) (λ s. on_ok (operand_scalar needle.entry) (λ t. of_search fault.NullReference (search_named method.now) s t))
+    }
+{
+    search(method, text.scalar()?, needle.scalar()?)
+}
+
 /// Where expressions are evaluated: what their names stand for, and what makes their texts.
 #[derive(Drop)]
 pub(crate) struct Evaluation<'a, N, T> {
@@ -61,10 +84,10 @@ pub(crate) struct Evaluation<'a, N, T> {
 }
 
 impl<'a, N: Names, T: Joins> Evaluation<'a, N, T> {
-    ghost use Rattle.std.specs.Prelude.{◌≡◌};
-    ghost use Rattle.lq_value.specs.declared.value.Fault.TheVariants as fault;
+    ghost use Rattle.std.specs.Prelude.{◌≡◌, ◌+◌};
+    ghost use Rattle.lq_model.specs.Operations.{on_ok};
+    ghost use Rattle.lq_scalar.specs.Shapes.{operand_scalar};
     ghost use Rattle.lq_model.specs.Meaning.{binding_of, names_at};
-    ghost use Rattle.lq_model.specs.Operations.{negated, on_ok};
     ghost use Rattle.lq_model.specs.Typing.{is_text_type, type_of};
     ghost use Rattle.lq_model.specs.declared.syntax.Expr.TheVariants as expr;
     ghost use Rattle.lq_model.specs.declared.syntax.Node.TheVariants as node;
@@ -72,7 +95,9 @@ impl<'a, N: Names, T: Joins> Evaluation<'a, N, T> {
     ghost use Rattle.lq_value.specs.declared.scalar.Scalar.TheVariants as scalar;
     ghost use Rattle.lq_scalar.specs.Named.{cell_in, row_at, shape_at};
     ghost use Rattle.lq_scalar.specs.Operands.{IsAnswer, shown_scalar, shown_scalars};
-    ghost use Rattle.lq_scalar.specs.Shapes.{IsOperand, scalar_or_fault, member_of_null, member_shape, operated_scalars, scalar_shape, shape_of, shown_operand, shown_operands};
+    ghost use Rattle.lq_model.specs.Members.{sole_argument};
+    ghost use Rattle.lq_scalar.specs.Sums.{sum_sign, sums_in, sums_of_argument};
+    ghost use Rattle.lq_scalar.specs.Shapes.{IsOperand, IsTruth, shape_of_argument, truth_of_expression, scalar_or_fault, member_of_null, member_shape, operated_scalars, scalar_shape, shape_of, shown_operand, shown_operands};
 
     /// What a name stands for.
     fn named(&self, name: &'a str) -> Result<Operand<'a>, Fault>
@@ -80,7 +105,7 @@ impl<'a, N: Names, T: Joins> Evaluation<'a, N, T> {
     {
         match self.names.named(name) {
             Some(Named::Row) => Ok(Operand::Row(name)),
-            Some(Named::Scalar(scalar)) => Ok(Operand::Scalar(ScalarRef::of(scalar))),
+            Some(Named::Scalar(scalar)) => Ok(Operand::Scalar(scalar)),
             None => Err(Fault::NullReference),
         }
     }
@@ -106,20 +131,23 @@ impl<'a, N: Names, T: Joins> Evaluation<'a, N, T> {
     }
 
     /// A member of what an operand was evaluated to.
-    fn member(&self, operand: &Expr, value: &Operand<'_>, member: &str) -> Result<Operand<'a>, Fault>
+    fn member(
+        &self,
+        operand: &Expr,
+        value: Operand<'_>,
+        member: &str,
+    ) -> Result<ScalarRef<'a>, Fault>
         ensures {
-            shown_operands (N.scope self.now.names.now) result
+            scalar_shape (shown_scalars result)
             ≡ member_shape (N.world self.now.names.now) (type_of operand.now (names_at (N.world self.now.names.now) (N.scope self.now.names.now))) member.now
-              (shown_operand (N.scope self.now.names.now) value.now)
+              (shown_operand (N.scope self.now.names.now) value.entry)
         }
     {
         match value {
-            Operand::Row(row) => Ok(Operand::Scalar(self.cell(row, member)?)),
-            Operand::Scalar(ScalarRef::Null) => {
-                Ok(Operand::Scalar(self.member_of_null(operand, member)?))
-            }
-            Operand::Scalar(scalar) => Ok(Operand::Scalar(member_of(*scalar, member)?)),
-            Operand::Made(text) => Ok(Operand::Scalar(member_of(ScalarRef::Text(text), member)?)),
+            Operand::Row(row) => self.cell(row, member),
+            Operand::Scalar(ScalarRef::Null) => self.member_of_null(operand, member),
+            Operand::Scalar(scalar) => member_of(scalar, member),
+            Operand::Made(text) => member_of(ScalarRef::Text(text.as_str()), member),
         }
     }
 
@@ -133,7 +161,7 @@ impl<'a, N: Names, T: Joins> Evaluation<'a, N, T> {
     /// The sum of two nulls: the empty text where one has the type of texts, and else null.
     fn sum_of_nulls(&self, left: &Expr, right: &Expr) -> Result<Operand<'a>, ScalarError>
         ensures {
-            IsOperand (N.scope self.now.names.now)
+            IsOperand (N.scope self.now.names.now) 1
             (scalar_shape (operated_scalars binary.Add (type_of left.now (names_at (N.world self.now.names.now) (N.scope self.now.names.now)))
             (type_of right.now (names_at (N.world self.now.names.now) (N.scope self.now.names.now))) scalar.Null scalar.Null)) result
         }
@@ -146,7 +174,7 @@ impl<'a, N: Names, T: Joins> Evaluation<'a, N, T> {
     }
 
     /// What a sign other than `==` and `!=` gives to two scalars: `+` joins texts.
-    fn operated(
+    fn operated_scalars(
         &self,
         sign: Binary,
         left: &Expr,
@@ -155,7 +183,7 @@ impl<'a, N: Names, T: Joins> Evaluation<'a, N, T> {
         y: ScalarRef<'_>,
     ) -> Result<Operand<'a>, ScalarError>
         ensures {
-            IsOperand (N.scope self.now.names.now)
+            IsOperand (N.scope self.now.names.now) (sum_sign sign)
             (scalar_shape (operated_scalars sign (type_of left.now (names_at (N.world self.now.names.now) (N.scope self.now.names.now)))
             (type_of right.now (names_at (N.world self.now.names.now) (N.scope self.now.names.now))) (shown_scalar x.entry) (shown_scalar y.entry))) result
         }
@@ -169,11 +197,30 @@ impl<'a, N: Names, T: Joins> Evaluation<'a, N, T> {
         }
     }
 
+    /// What such a sign gives to two operands.
+    fn operated(
+        &self,
+        sign: Binary,
+        left: &Expr,
+        right: &Expr,
+        x: Operand<'_>,
+        y: Operand<'_>,
+    ) -> Result<Operand<'a>, ScalarError>
+        ensures {
+            IsOperand (N.scope self.now.names.now) (sum_sign sign)
+            (on_ok (operand_scalar x.entry) (λ s. on_ok (operand_scalar y.entry)
+            (λ t. scalar_shape (operated_scalars sign (type_of left.now (names_at (N.world self.now.names.now) (N.scope self.now.names.now)))
+            (type_of right.now (names_at (N.world self.now.names.now) (N.scope self.now.names.now))) s t)))) result
+        }
+    {
+        self.operated_scalars(sign, left, right, x.scalar()?, y.scalar()?)
+    }
+
     /// What the expression is, or its first fault.
     #[cycle(operands)]
-    #[tactic(auto, using(crate::proofs::ShapeLemmas::shapes))]
+    #[tactic(auto, using(crate::proofs::ShapeLemmas::shapes, crate::proofs::SumLemmas::sums))]
     pub(crate) fn operand(&self, expression: &'a Expr) -> Result<Operand<'a>, ScalarError>
-        ensures { IsOperand (N.scope self.now.names.now) (shape_of (N.world self.now.names.now) (N.scope self.now.names.now) expression.now) result }
+        ensures { IsOperand (N.scope self.now.names.now) (sums_in expression.now) (shape_of (N.world self.now.names.now) (N.scope self.now.names.now) expression.now) result }
     {
         match expression {
             Expr::Node(node) => self.node(node),
@@ -183,41 +230,43 @@ impl<'a, N: Names, T: Joins> Evaluation<'a, N, T> {
 
     /// What the expression of this node is, or its first fault.
     #[cycle(operands)]
-    #[tactic(auto, using(crate::proofs::ShapeLemmas::shapes))]
+    #[tactic(auto, using(crate::proofs::ShapeLemmas::shapes, crate::proofs::SumLemmas::sums))]
     fn node(&self, node: &'a Node<Expr>) -> Result<Operand<'a>, ScalarError>
-        ensures { IsOperand (N.scope self.now.names.now) (shape_of (N.world self.now.names.now) (N.scope self.now.names.now) (expr.Node node.now)) result }
+        ensures { IsOperand (N.scope self.now.names.now) (sums_in (expr.Node node.now)) (shape_of (N.world self.now.names.now) (N.scope self.now.names.now) (expr.Node node.now)) result }
     {
         match node {
             Node::Integer(number) => Ok(Operand::Scalar(ScalarRef::Int(*number))),
-            Node::Text(text) => Ok(Operand::Scalar(ScalarRef::Text(text))),
+            Node::Text(text) => Ok(Operand::Scalar(ScalarRef::Text(text.as_str()))),
             Node::Bool(truth) => Ok(Operand::Scalar(ScalarRef::Bool(*truth))),
             Node::Null => Ok(Operand::Scalar(ScalarRef::Null)),
             Node::Name(name) => Ok(self.named(name.as_str())?),
             Node::Member(operand, member) => {
                 let value = self.operand(operand.get())?;
-                Ok(self.member(operand.get(), &value, member.as_str())?)
+                Ok(Operand::Scalar(self.member(operand.get(), value, member.as_str())?))
             }
             Node::Method(receiver, method, arguments) => {
-                self.method(receiver.get(), method.as_str(), arguments.as_slice())
+                let text = self.operand(receiver.get())?;
+                text.scalar()?;
+                let needle = self.argument(arguments.as_slice())?;
+                Ok(Operand::Scalar(searched(method.as_str(), text, needle)?))
             }
             Node::Unary(Unary::Minus, operand) => {
-                let value = self.operand(operand.get())?;
-                Ok(Operand::Scalar(negate(value.scalar()?)?))
+                Ok(Operand::Scalar(minus(self.operand(operand.get())?)?))
             }
             Node::Unary(Unary::Not, operand) => {
-                let value = self.operand(operand.get())?;
-                Ok(Operand::Scalar(ScalarRef::Bool(!value.truth()?)))
+                let truth = self.operand(operand.get())?.truth()?;
+                Ok(Operand::Scalar(ScalarRef::Bool(!truth)))
             }
             Node::Binary(sign, left, right) if is_equality(*sign) => {
-                let left = self.operand(left.get())?;
-                let right = self.operand(right.get())?;
-                Ok(Operand::Scalar(ScalarRef::Bool(told(*sign, left.part(), right.part())?)))
+                let x = self.operand(left.get())?;
+                let y = self.operand(right.get())?;
+                Ok(Operand::Scalar(told(*sign, x, y)?))
             }
             Node::Binary(sign, left, right) => {
                 let x = self.operand(left.get())?;
-                let x = x.scalar()?;
+                x.scalar()?;
                 let y = self.operand(right.get())?;
-                self.operated(*sign, left.get(), right.get(), x, y.scalar()?)
+                self.operated(*sign, left.get(), right.get(), x, y)
             }
             Node::And(left, right) => match self.operand(left.get())?.truth()? {
                 true => self.operand(right.get()),
@@ -244,24 +293,28 @@ impl<'a, N: Names, T: Joins> Evaluation<'a, N, T> {
         }
     }
 
-    /// What a method gives, or the first fault. With another number of arguments or a lambda, which
-    /// no typed expression has, its receiver alone is evaluated.
+    /// What the one argument of a method is. No typed expression has another number of them, or a
+    /// lambda.
     #[cycle(operands)]
-    #[tactic(auto, using(crate::proofs::ShapeLemmas::shapes))]
-    fn method(
-        &self,
-        receiver: &'a Expr,
-        method: &str,
-        arguments: &'a [Argument<Expr>],
-    ) -> Result<Operand<'a>, ScalarError>
-        ensures { IsOperand (N.scope self.now.names.now) (shape_of (N.world self.now.names.now) (N.scope self.now.names.now) (expr.Node (node.Method receiver.now method.now arguments.now))) result }
+    #[tactic(auto, using(crate::proofs::ShapeLemmas::operands))]
+    fn argument(&self, arguments: &'a [Argument<Expr>]) -> Result<Operand<'a>, ScalarError>
+        ensures {
+            IsOperand (N.scope self.now.names.now) (sums_of_argument (sole_argument arguments.now))
+            (shape_of_argument (N.world self.now.names.now) (N.scope self.now.names.now) (sole_argument arguments.now)) result
+        }
     {
-        let text = self.operand(receiver)?;
-        let text = text.scalar()?;
-        let Some(argument) = sole_argument(arguments) else {
-            return Err(ScalarError::Fault(Fault::NullReference));
-        };
-        let needle = self.operand(argument)?;
-        Ok(Operand::Scalar(search(method, text, needle.scalar()?)?))
+        match arguments {
+            [Argument::Value(argument)] => self.operand(argument),
+            _ => Err(ScalarError::Fault(Fault::NullReference)),
+        }
+    }
+
+    /// The truth value that a condition is, or its first fault.
+    #[tactic(auto, using(crate::proofs::ShapeLemmas::operands))]
+    pub(crate) fn truth(&self, condition: &'a Expr) -> Result<bool, ScalarError>
+        ensures { IsTruth (sums_in condition.now) (truth_of_expression (N.world self.now.names.now) (N.scope self.now.names.now) condition.now) result }
+    {
+        let value = self.operand(condition)?;
+        Ok(value.truth()?)
     }
 }

@@ -3,6 +3,7 @@ ghost use Rattle.std.specs.Prelude.{◌≡◌};
 ghost use Rattle.lq_model.specs.Typing.{is_scalar, type_of_column};
 ghost use Rattle.lq_scalar.specs.Named.{layer_of, shown_type};
 
+use crate::scalar_ref::ScalarRef;
 use lq_value::{ColumnType, Scalar};
 
 /// The type of an expression that is evaluated to a row or a scalar, or of a table (ECMA-334, types).
@@ -54,7 +55,7 @@ pub enum Named<'a> {
     /// A row.
     Row,
     /// A scalar.
-    Scalar(&'a Scalar),
+    Scalar(ScalarRef<'a>),
 }
 
 /// The names of a place: the types that they have, the scalars and rows that they stand for, and

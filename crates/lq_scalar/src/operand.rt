@@ -28,7 +28,7 @@ impl Operand<'_> {
         match self {
             Operand::Row(_) => None,
             Operand::Scalar(scalar) => Some(*scalar),
-            Operand::Made(text) => Some(ScalarRef::Text(text)),
+            Operand::Made(text) => Some(ScalarRef::Text(text.as_str())),
         }
     }
 
@@ -41,11 +41,11 @@ impl Operand<'_> {
     }
 
     /// The truth value that it is.
-    pub(crate) fn truth(&self) -> Result<bool, Fault>
-        ensures { result ≡ on_ok (operand_scalar self.now) (truth_of fault.NullReference) }
+    pub(crate) fn truth(self) -> Result<bool, Fault>
+        ensures { result ≡ on_ok (operand_scalar self.entry) (truth_of fault.NullReference) }
     {
         match self {
-            Operand::Scalar(ScalarRef::Bool(truth)) => Ok(*truth),
+            Operand::Scalar(ScalarRef::Bool(truth)) => Ok(truth),
             _ => Err(Fault::NullReference),
         }
     }

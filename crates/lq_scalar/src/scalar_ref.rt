@@ -14,7 +14,7 @@ pub enum ScalarRef<'a> {
     /// A truth value.
     Bool(bool),
     /// A text.
-    Text(&'a Txt),
+    Text(&'a str),
 }
 
 impl<'a> ScalarRef<'a> {
@@ -29,7 +29,7 @@ impl<'a> ScalarRef<'a> {
             Scalar::Null => ScalarRef::Null,
             Scalar::Int(number) => ScalarRef::Int(*number),
             Scalar::Bool(truth) => ScalarRef::Bool(*truth),
-            Scalar::Text(text) => ScalarRef::Text(text),
+            Scalar::Text(text) => ScalarRef::Text(text.as_str()),
         }
     }
 
@@ -41,7 +41,7 @@ impl<'a> ScalarRef<'a> {
             ScalarRef::Null => Ok(Scalar::Null),
             ScalarRef::Int(number) => Ok(Scalar::Int(number)),
             ScalarRef::Bool(truth) => Ok(Scalar::Bool(truth)),
-            ScalarRef::Text(text) => Ok(Scalar::Text(Txt::from_str(alloc, text.as_str())?)),
+            ScalarRef::Text(text) => Ok(Scalar::Text(Txt::from_str(alloc, text)?)),
         }
     }
 }

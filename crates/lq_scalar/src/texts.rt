@@ -30,6 +30,16 @@ impl Joins for Global {
     }
 }
 
+/// What makes no text: for expressions in which no `+` stands.
+#[derive(Clone, Copy, Drop)]
+pub(crate) struct NoTexts;
+
+impl Joins for NoTexts {
+    fn concatenated(self, _left: &str, _right: &str) -> Result<Txt, AllocError> {
+        Err(AllocError)
+    }
+}
+
 /// Two texts, one behind the other; null is taken as empty.
 pub(crate) fn joined<T: Joins>(
     texts: T,
@@ -40,10 +50,10 @@ pub(crate) fn joined<T: Joins>(
 {
     match (left, right) {
         (ScalarRef::Text(left), ScalarRef::Text(right)) => {
-            Ok(texts.concatenated(left.as_str(), right.as_str())?)
+            Ok(texts.concatenated(left, right)?)
         }
-        (ScalarRef::Text(text), ScalarRef::Null) => Ok(texts.concatenated(text.as_str(), "")?),
-        (ScalarRef::Null, ScalarRef::Text(text)) => Ok(texts.concatenated("", text.as_str())?),
+        (ScalarRef::Text(text), ScalarRef::Null) => Ok(texts.concatenated(text, "")?),
+        (ScalarRef::Null, ScalarRef::Text(text)) => Ok(texts.concatenated("", text)?),
         (ScalarRef::Null, ScalarRef::Null) => Ok(texts.concatenated("", "")?),
         _ => Err(ScalarError::Fault(Fault::NullReference)),
     }
@@ -54,7 +64,7 @@ pub(crate) fn length_of(operand: ScalarRef<'_>) -> Result<i32, Fault>
     ensures { ints_in result ≡ length_of fault.NullReference (shown_scalar operand.entry) }
 {
     match operand {
-        ScalarRef::Text(text) => int_or_overflow(utf16_units(text.as_str())),
+        ScalarRef::Text(text) => int_or_overflow(utf16_units(text)),
         ScalarRef::Null | ScalarRef::Int(_) | ScalarRef::Bool(_) => Err(Fault::NullReference),
     }
 }
@@ -84,7 +94,7 @@ pub(crate) fn searched(
     let (ScalarRef::Text(text), ScalarRef::Text(needle)) = (text, needle) else {
         return Err(Fault::NullReference);
     };
-    found(op, text.as_str(), needle.as_str())
+    found(op, text, needle)
 }
 
 #[tactic(auto, using(crate::proofs::TextLemmas::searches))]

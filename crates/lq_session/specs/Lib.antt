@@ -3,6 +3,7 @@ pub mod Items
 pub mod KnownTypes
 pub mod Lines
 pub mod Roles
+pub mod Rules
 pub mod RunGives
 pub mod States
 pub mod StoredMeanings

@@ -11,5 +11,5 @@ mod session;
 mod typing;
 
 pub use line::Line;
-pub use policies::{Action, Policies, PolicyError, RoleId};
+pub use policies::{Action, Policies, PolicyError, RoleId, rules_are_total};
 pub use session::Session;

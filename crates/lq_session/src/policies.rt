@@ -1,9 +1,10 @@
 //! Row policies, and which rows a role may see (PostgreSQL, CREATE POLICY).
-ghost use Rattle.std.specs.Prelude.{◌≡◌, ℕ};
-ghost use Rattle.lq_model.specs.Visible.{applies, is_listed, rule_holds};
+ghost use Rattle.std.specs.Prelude.{◌≡◌};
+ghost use Rattle.lq_model.specs.Visible.{applies, is_listed};
+ghost use Rattle.lq_session.specs.Rules.{rules_are_total};
 
-use crate::evaluate::OneRow;
-use lq_model::{Expr, Policy, PolicyParts, TablePart};
+use lq_model::{Policy, PolicyParts, TablePart};
+use lq_scalar::{Cells, holds, is_total};
 use lq_value::{Scalar, Txt};
 use std::marker::Model;
 use thiserror::Error;
@@ -29,7 +30,7 @@ pub struct RoleId {
     number: usize,
 }
 
-/// Roles, tables and row policies, which decide on each row.
+/// Roles, tables and row policies, which decide on each row. No rule of theirs can fault.
 #[derive(Drop)]
 pub struct Policies {
     parts: PolicyParts,
@@ -46,89 +47,120 @@ impl Model for Policies {
     ghost coded = { Prim.hlevel (codes, expr.the_row.coded) };
 
     ghost view = { λ p. p.parts };
+
+    ghost use Rattle.std.specs.Prelude.{◌≡◌, true};
+    ghost use Rattle.lq_session.specs.Rules.{rules_are_total};
+
+    ghost invariant = { λ p. rules_are_total p.parts.policies ≡ true };
+}
+
+/// Whether each rule of the policies is total: one that can't fault on any row.
+pub fn rules_are_total(parts: &PolicyParts) -> bool
+    ensures { result ≡ rules_are_total parts.now.policies }
+{
+    parts.policies.as_slice().iter().all(|policy| is_total(&policy.using))
 }
 
 /// Whether `to` lists the role or `public`.
-fn is_listed(role: &[u8], to: &[Txt]) -> bool
+fn is_listed(role: &str, to: &[Txt]) -> bool
     ensures { result ≡ is_listed role.now to.now }
 {
-    to.iter().any(|name| name.as_bytes() == role || name.as_bytes() == b"public".as_slice())
+    to.iter().any(|name| name.as_str() == role || name.as_str() == "public")
 }
 
 /// Whether the policy bears on what the role reads of the table.
-fn applies(policy: &Policy, role: &[u8], table: u16) -> bool
+fn applies(policy: &Policy, role: &str, table: u16) -> bool
     ensures { result ≡ applies role.now table policy.now }
 {
     policy.table == table && is_listed(role, policy.to.as_slice())
 }
 
-/// Whether the rule is true on a row of any table with these columns and cells.
-fn rule_holds(columns: &[Txt], rule: &Expr, cells: &[Scalar]) -> bool
-    ensures { (table : ℕ) → result ≡ rule_holds columns.now table rule.now cells.now }
-{
-    let row = OneRow {
-        variable: b"row",
-        columns,
-        cells,
-    };
-    row.truth(rule).unwrap_or(false)
-}
-
 /// A row of a table, as policies see it, and the role that asks for it.
 #[derive(Clone, Copy, Drop)]
 struct Asked<'a> {
-    role: &'a [u8],
+    role: &'a str,
     table: u16,
     columns: &'a [Txt],
     cells: &'a [Scalar],
 }
 
 impl Asked<'_> {
-    ghost use Rattle.std.specs.Prelude.{◌≡◌};
+    ghost use Rattle.std.specs.Prelude.{◌≡◌, true};
     ghost use Rattle.std.specs.List.{list_all, list_any};
-    ghost use Rattle.lq_model.specs.Visible.{allows, permits};
+    ghost use Rattle.lq_model.specs.Totality.{is_total};
+    ghost use Rattle.lq_model.specs.Visible.{allows, permits, rule_holds};
     ghost use Rattle.lq_session.specs.Roles.{asked_of};
+    ghost use Rattle.lq_session.specs.Rules.{rules_are_total};
+
+    /// Whether the policy's rule is true on the row.
+    fn satisfies(self, policy: &Policy) -> bool
+        requires { is_total policy.now.using ≡ true }
+        ensures { result ≡ rule_holds self.entry.columns.now policy.now.using self.entry.cells.now self.entry.role.now }
+    {
+        let row = Cells {
+            columns: self.columns,
+            cells: self.cells,
+        };
+        holds(&policy.using, row, self.role)
+    }
 
     /// Whether the policy is permissive, applies, and is true on the row.
     fn is_permitted_by(self, policy: &Policy) -> bool
+        requires { is_total policy.now.using ≡ true }
         ensures { result ≡ permits (asked_of self.entry) policy.now }
     {
-        !policy.restrictive
-            && applies(policy, self.role, self.table)
-            && rule_holds(self.columns, &policy.using, self.cells)
+        !policy.restrictive && applies(policy, self.role, self.table) && self.satisfies(policy)
     }
 
     /// Whether the policy is permissive, doesn't apply, or is true on the row.
     fn is_allowed_by(self, policy: &Policy) -> bool
+        requires { is_total policy.now.using ≡ true }
         ensures { result ≡ allows (asked_of self.entry) policy.now }
     {
-        !(policy.restrictive && applies(policy, self.role, self.table))
-            || rule_holds(self.columns, &policy.using, self.cells)
+        !(policy.restrictive && applies(policy, self.role, self.table)) || self.satisfies(policy)
     }
 
     /// Whether some policy permits the row.
     fn is_permitted(self, policies: &[Policy]) -> bool
+        requires { rules_are_total policies.now ≡ true }
         ensures { result ≡ list_any (permits (asked_of self.entry)) policies.now }
     {
-        policies.iter().any(|policy| self.is_permitted_by(policy))
+        let mut left = policies;
+        while let [policy, others @ ..] = left {
+            if self.is_permitted_by(policy) {
+                return true;
+            }
+            left = others;
+        }
+        false
     }
 
     /// Whether each policy allows the row.
     fn is_allowed(self, policies: &[Policy]) -> bool
+        requires { rules_are_total policies.now ≡ true }
         ensures { result ≡ list_all (allows (asked_of self.entry)) policies.now }
     {
-        policies.iter().all(|policy| self.is_allowed_by(policy))
+        let mut left = policies;
+        while let [policy, others @ ..] = left {
+            if !self.is_allowed_by(policy) {
+                return false;
+            }
+            left = others;
+        }
+        true
     }
 }
 
 impl Policies {
-    ghost use Rattle.std.specs.Prelude.{◌≡◌, option_map, slice_get, IfOk, IfErr};
+    ghost use Rattle.std.specs.Prelude.{◌≡◌, option_map, slice_get, true, IfOk, IfErr};
+    ghost use Rattle.lq_session.specs.Rules.{rules_are_total};
     ghost use Rattle.lq_model.specs.Visible.{admitted_to, visible_to};
     ghost use Rattle.lq_session.specs.Roles.{number_of, role_number};
 
     /// Policies of these parts, which they keep. Where there is no memory the parts are handed
-    /// back as they were.
+    /// back as they were. Each rule is total, as `rules_are_total` tells.
     pub fn build(parts: PolicyParts) -> Result<Policies, (PolicyError, PolicyParts)>
+        requires { rules_are_total parts.policies ≡ true }
         ensures ok { IfOk result (λ policies. policies ≡ parts) }
         ensures err { IfErr result (λ refused. refused.1 ≡ parts) }
     {
@@ -170,7 +202,7 @@ impl Policies {
             return false;
         };
         let asked = Asked {
-            role: role.name.as_bytes(),
+            role: role.name.as_str(),
             table,
             columns: part.columns.as_slice(),
             cells,

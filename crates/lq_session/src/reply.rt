@@ -20,7 +20,7 @@ fn value_of(alloc: Global, scalar: ScalarRef<'_>) -> Result<Value, AllocError>
         ScalarRef::Null => Ok(Value::Null),
         ScalarRef::Int(number) => Ok(Value::from(number)),
         ScalarRef::Bool(truth) => Ok(Value::Bool(truth)),
-        ScalarRef::Text(text) => Value::try_from_str(alloc, text.as_str()),
+        ScalarRef::Text(text) => Value::try_from_str(alloc, text),
     }
 }
 

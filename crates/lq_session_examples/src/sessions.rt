@@ -4,7 +4,7 @@ ghost use Rattle.std.specs.Prelude.{◌≡◌, true, IfOk};
 ghost use Rattle.lq_store.specs.Rules.{keeps_rules};
 
 use lq_model::{Policy, PolicyParts, Role, TablePart};
-use lq_session::{Action, Line, Policies, Session};
+use lq_session::{Action, Line, Policies, Session, rules_are_total};
 use lq_store::{Column, ColumnType, Schema, Store, Table};
 use lq_syntax::parse_rule;
 use lq_value::{List, Scalar, Txt};
@@ -92,6 +92,9 @@ fn table_part(alloc: Global, secured: bool) -> Result<TablePart, AllocError> {
 }
 
 fn built(rt: &impl Abort, parts: PolicyParts) -> Policies {
+    if !rules_are_total(&parts) {
+        panic!(rt; "a rule may fault");
+    }
     match Policies::build(parts) {
         Ok(policies) => policies,
         Err(_) => panic!(rt; "the policies were refused"),

@@ -1,0 +1,31 @@
+-- What a rule is on a row, by its evaluation; a total one makes no text.
+use Rattle.std.proofs.Common.{◌≡◌, ◌<◌, List, ℕ, Bool, true, false, Result, Ok, Err, ap, ◌∙◌, sym, arith}
+use Rattle.std.specs.Result.{result_unwrap_or}
+use Rattle.lq_value.specs.declared.scalar.Scalar.{Scalar}
+use Rattle.lq_value.specs.declared.value.Value.TheVariants.{outs-Row, outs-Scalar}
+use Rattle.lq_model.specs.Meaning.{meaning, truth_at}
+use Rattle.lq_model.specs.Totality.{is_total}
+use Rattle.lq_model.specs.Visible.{is_true, rule_holds, rule_scope, rule_world}
+use Rattle.lq_model.specs.declared.syntax.Expr.{Expr}
+use Rattle.lq_model.proofs.TotalityLemmas.{tells_total}
+use Rattle.lq_scalar.specs.Shapes.{IsTruth, faulting, shape_of, truth_of_expression}
+use Rattle.lq_scalar.specs.Sums.{sums_in}
+use Rattle.lq_scalar.specs.declared.error.ScalarError.{ScalarError}
+use Rattle.lq_scalar.specs.declared.error.ScalarError.TheVariants as error
+use Rattle.lq_scalar.proofs.ShapeLemmas.{truth_viewed}
+use Rattle.lq_scalar.proofs.SumLemmas.{total_has_no_sum}
+
+pub ruleset values = (outs-Row, outs-Scalar)
+
+rule_is : (columns : List (List ℕ)) (cells : List Scalar) (user : List ℕ) (rule : Expr)
+    → truth_at (rule_world columns) rule (rule_scope cells user) ≡ truth_of_expression (rule_world columns) (rule_scope cells user) rule
+unfolding shape_of
+rule_is columns cells user rule = truth_viewed (rule_world columns) (meaning (faulting (rule_world columns)) rule (rule_scope cells user))
+
+-- what a total rule is found to be is whether it holds
+pub rule_decides : (columns : List (List ℕ)) (cells : List Scalar) (user : List ℕ) (rule : Expr) → is_total rule ≡ true → (found : Result Bool ScalarError)
+    → IsTruth (sums_in rule) (truth_of_expression (rule_world columns) (rule_scope cells user) rule) found → result_unwrap_or found false ≡ rule_holds columns rule cells user
+rule_decides columns cells user rule total (Ok b) h = sym (ap is_true (rule_is columns cells user rule ∙ h))
+rule_decides columns cells user rule total (Err (error.Fault f)) h = sym (ap is_true (rule_is columns cells user rule ∙ h))
+rule_decides columns cells user rule total (Err error.Memory) h =
+    absurd (let none : sums_in rule ≡ 0 = total_has_no_sum rule ((tells_total rule).0 total) in omega (arith, none, h))
