@@ -17,7 +17,7 @@ use crate::signs::{negate, operate};
 use crate::texts::{Joins, joined};
 use crate::types::{is_row, is_text, type_of};
 use lq_model::{Argument, Binary, Expr, Node, Unary};
-use lq_value::Fault;
+use lq_value::{Fault, List};
 
 fn is_equality(sign: Binary) -> bool
     ensures { result ≡ is_equality sign }
@@ -247,7 +247,7 @@ impl<'a, N: Names, T: Joins> Evaluation<'a, N, T> {
             Node::Method(receiver, method, arguments) => {
                 let text = self.operand(receiver.get())?;
                 text.scalar()?;
-                let needle = self.argument(arguments.as_slice())?;
+                let needle = self.argument(arguments)?;
                 Ok(Operand::Scalar(searched(method.as_str(), text, needle)?))
             }
             Node::Unary(Unary::Minus, operand) => {
@@ -297,13 +297,13 @@ impl<'a, N: Names, T: Joins> Evaluation<'a, N, T> {
     /// lambda.
     #[cycle(operands)]
     #[tactic(auto, using(crate::proofs::ShapeLemmas::operands))]
-    fn argument(&self, arguments: &'a [Argument<Expr>]) -> Result<Operand<'a>, ScalarError>
+    fn argument(&self, arguments: &'a List<Argument<Expr>>) -> Result<Operand<'a>, ScalarError>
         ensures {
             IsOperand (N.scope self.now.names.now) (sums_of_argument (sole_argument arguments.now))
             (shape_of_argument (N.world self.now.names.now) (N.scope self.now.names.now) (sole_argument arguments.now)) result
         }
     {
-        match arguments {
+        match arguments.as_slice() {
             [Argument::Value(argument)] => self.operand(argument),
             _ => Err(ScalarError::Fault(Fault::NullReference)),
         }
