@@ -8,7 +8,7 @@ use Rattle.lq_model.specs.Totality.{is_total}
 use Rattle.lq_model.specs.Visible.{is_true, rule_holds, rule_scope, rule_world}
 use Rattle.lq_model.specs.declared.syntax.Expr.{Expr}
 use Rattle.lq_model.proofs.TotalityLemmas.{tells_total}
-use Rattle.lq_scalar.specs.Shapes.{IsTruth, faulting, shape_of, truth_of_expression}
+use Rattle.lq_scalar.specs.Shapes.{IsSparing, IsTruth, faulting, shape_of, truth_of_expression}
 use Rattle.lq_scalar.specs.Sums.{sums_in}
 use Rattle.lq_scalar.specs.declared.error.ScalarError.{ScalarError}
 use Rattle.lq_scalar.specs.declared.error.ScalarError.TheVariants as error
@@ -24,8 +24,8 @@ rule_is columns cells user rule = truth_viewed (rule_world columns) (meaning (fa
 
 -- what a total rule is found to be is whether it holds
 pub rule_decides : (columns : List (List ℕ)) (cells : List Scalar) (user : List ℕ) (rule : Expr) → is_total rule ≡ true → (found : Result Bool ScalarError)
-    → IsTruth (sums_in rule) (truth_of_expression (rule_world columns) (rule_scope cells user) rule) found → result_unwrap_or found false ≡ rule_holds columns rule cells user
-rule_decides columns cells user rule total (Ok b) h = sym (ap is_true (rule_is columns cells user rule ∙ h))
-rule_decides columns cells user rule total (Err (error.Fault f)) h = sym (ap is_true (rule_is columns cells user rule ∙ h))
-rule_decides columns cells user rule total (Err error.Memory) h =
-    absurd (let none : sums_in rule ≡ 0 = total_has_no_sum rule ((tells_total rule).0 total) in omega (arith, none, h))
+    → IsTruth (truth_of_expression (rule_world columns) (rule_scope cells user) rule) found → IsSparing (sums_in rule) found → result_unwrap_or found false ≡ rule_holds columns rule cells user
+rule_decides columns cells user rule total (Ok b) h spares = sym (ap is_true (rule_is columns cells user rule ∙ h))
+rule_decides columns cells user rule total (Err (error.Fault f)) h spares = sym (ap is_true (rule_is columns cells user rule ∙ h))
+rule_decides columns cells user rule total (Err error.Memory) h spares =
+    absurd (let none : sums_in rule ≡ 0 = total_has_no_sum rule ((tells_total rule).0 total) in omega (arith, none, spares))

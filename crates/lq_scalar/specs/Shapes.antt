@@ -122,16 +122,21 @@ found_scalar (found.Borrowed s) = shown_scalar s
 found_scalar (found.Made t) = scalar.Text t
 
 -- the same of a scalar
-abbrev pub IsFound : ℕ → Result Scalar Fault → Result Found ScalarError → Type 0
-IsFound sums meant (Ok s) = meant ≡ Ok (found_scalar s)
-IsFound sums meant (Err (error.Fault f)) = meant ≡ Err f
-IsFound sums meant (Err error.Memory) = 0 < sums
+abbrev pub IsFound : Result Scalar Fault → Result Found ScalarError → Type 0
+IsFound meant (Ok s) = meant ≡ Ok (found_scalar s)
+IsFound meant (Err (error.Fault f)) = meant ≡ Err f
+IsFound meant (Err error.Memory) = Unit {0}
 
 -- the same of a truth value
-abbrev pub IsTruth : ℕ → Result Bool Fault → Result Bool ScalarError → Type 0
-IsTruth sums meant (Ok b) = meant ≡ Ok b
-IsTruth sums meant (Err (error.Fault f)) = meant ≡ Err f
-IsTruth sums meant (Err error.Memory) = 0 < sums
+abbrev pub IsTruth : Result Bool Fault → Result Bool ScalarError → Type 0
+IsTruth meant (Ok b) = meant ≡ Ok b
+IsTruth meant (Err (error.Fault f)) = meant ≡ Err f
+IsTruth meant (Err error.Memory) = Unit {0}
+
+-- Memory was refused only where so many `+` stand, if any.
+abbrev pub IsSparing : {A : Type 0} → ℕ → Result A ScalarError → Type 0
+IsSparing sums (Err error.Memory) = 0 < sums
+IsSparing sums answer = Unit {0}
 
 -- an operand that is no fault
 abbrev pub shown_operands : {R : Type 0} → Scope R → Result Operand Fault → Result (Shape R) Fault

@@ -2,7 +2,7 @@
 ghost use Rattle.std.specs.Prelude.{◌≡◌};
 ghost use Rattle.lq_scalar.specs.Operands.{IsAnswer};
 ghost use Rattle.lq_scalar.specs.Sums.{sums_in};
-ghost use Rattle.lq_scalar.specs.Shapes.{IsFound, IsTruth, scalar_of_expression, truth_of_expression};
+ghost use Rattle.lq_scalar.specs.Shapes.{IsFound, IsSparing, IsTruth, scalar_of_expression, truth_of_expression};
 
 use crate::error::ScalarError;
 use crate::evaluation::Evaluation;
@@ -48,7 +48,8 @@ pub fn evaluate<'a, N: Names>(
     names: &'a N,
     expression: &'a Expr,
 ) -> Result<Found<'a>, ScalarError>
-    ensures { IsFound (sums_in expression.now) (scalar_of_expression (N.world names.now) (N.scope names.now) expression.now) result }
+    ensures meant { IsFound (scalar_of_expression (N.world names.now) (N.scope names.now) expression.now) result }
+    ensures sparing { IsSparing (sums_in expression.now) result }
 {
     let evaluation = Evaluation {
         names,
@@ -68,7 +69,8 @@ pub fn truth<N: Names>(
     names: &N,
     condition: &Expr,
 ) -> Result<bool, ScalarError>
-    ensures { IsTruth (sums_in condition.now) (truth_of_expression (N.world names.now) (N.scope names.now) condition.now) result }
+    ensures meant { IsTruth (truth_of_expression (N.world names.now) (N.scope names.now) condition.now) result }
+    ensures sparing { IsSparing (sums_in condition.now) result }
 {
     let evaluation = Evaluation {
         names,

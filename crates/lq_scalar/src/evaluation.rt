@@ -97,7 +97,7 @@ impl<'a, N: Names, T: Joins> Evaluation<'a, N, T> {
     ghost use Rattle.lq_scalar.specs.Operands.{IsAnswer, shown_scalar, shown_scalars};
     ghost use Rattle.lq_model.specs.Members.{sole_argument};
     ghost use Rattle.lq_scalar.specs.Sums.{sum_sign, sums_in, sums_of_argument};
-    ghost use Rattle.lq_scalar.specs.Shapes.{IsOperand, IsTruth, shape_of_argument, truth_of_expression, scalar_or_fault, member_of_null, member_shape, operated_scalars, scalar_shape, shape_of, shown_operand, shown_operands};
+    ghost use Rattle.lq_scalar.specs.Shapes.{IsOperand, IsSparing, IsTruth, shape_of_argument, truth_of_expression, scalar_or_fault, member_of_null, member_shape, operated_scalars, scalar_shape, shape_of, shown_operand, shown_operands};
 
     /// What a name stands for.
     fn named(&self, name: &'a str) -> Result<Operand<'a>, Fault>
@@ -312,7 +312,8 @@ impl<'a, N: Names, T: Joins> Evaluation<'a, N, T> {
     /// The truth value that a condition is, or its first fault.
     #[tactic(auto, using(crate::proofs::ShapeLemmas::operands))]
     pub(crate) fn truth(&self, condition: &'a Expr) -> Result<bool, ScalarError>
-        ensures { IsTruth (sums_in condition.now) (truth_of_expression (N.world self.now.names.now) (N.scope self.now.names.now) condition.now) result }
+        ensures meant { IsTruth (truth_of_expression (N.world self.now.names.now) (N.scope self.now.names.now) condition.now) result }
+        ensures sparing { IsSparing (sums_in condition.now) result }
     {
         let value = self.operand(condition)?;
         Ok(value.truth()?)
