@@ -33,11 +33,10 @@ fn passes<N: Names>(alloc: Global, names: &N, clauses: &[Clause<Expr>]) -> Resul
         let Clause::Where(condition) = clause else {
             return Err(ScalarError::Fault(Fault::NullReference));
         };
-        match truth(alloc, names, condition) {
-            Ok(true) => left = others,
-            Ok(false) => return Ok(false),
-            Err(error) => return Err(error),
+        if !truth(alloc, names, condition)? {
+            return Ok(false);
         }
+        left = others;
     }
     Ok(true)
 }
@@ -64,14 +63,10 @@ fn given_by<'a, N: Names>(
 ) -> Result<Option<Found<'a>>, ScalarError>
     ensures { IsGiven (given_at (N.world names.now) (N.scope names.now) body.now.clauses body.now.last) result }
 {
-    match passes(alloc, names, body.clauses.as_slice()) {
-        Ok(true) => match selected(alloc, names, &body.last) {
-            Ok(found) => Ok(Some(found)),
-            Err(error) => Err(error),
-        },
-        Ok(false) => Ok(None),
-        Err(error) => Err(error),
+    if !passes(alloc, names, body.clauses.as_slice())? {
+        return Ok(None);
     }
+    Ok(Some(selected(alloc, names, &body.last)?))
 }
 
 /// What a row gives to a query's body: a hidden one gives nothing.
