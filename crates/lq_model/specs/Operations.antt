@@ -125,7 +125,7 @@ module _ (unknown : Fault) where
   same_content a scalar.Null = Ok false
   same_content a b = Err unknown
 
-  -- what an operator that compares gives; others give nothing yet
+  -- what an operator that compares gives; others don't compare
   abbrev pub compared : Binary → Scalar → Scalar → Result Bool Fault
   compared binary.Less a b = ordered_by int_lt a b
   compared binary.Greater a b = ordered_by int_lt b a

@@ -1,4 +1,4 @@
--- Which rules of row policies can't fault, form by form, and the same as a function. A rule's names are `row`, with its columns, and `user`.
+-- Which rules of row policies are total, form by form, and the same as a function: where one is typed, it can't fault (TotalityLaws). A rule's names are `row`, with its columns, and `user`.
 use Rattle.std.specs.Prelude.{◌≡◌, ◌∷◌, ◌&&◌, ◌||◌, if◌then◌else◌, List, [], ℕ, suc, ℤ, pos, Bool, true, false, codes, int_le}
 use Rattle.std.specs.Str.{bytes_eq}
 use Rattle.lq_model.specs.Members.{IsSearch, is_search}

@@ -29,7 +29,7 @@ pub struct Policy {
     pub restrictive: bool,
     /// The names of the roles that it applies to; `public` stands for all.
     pub to: List<Txt>,
-    /// Its rule, over `row`.
+    /// Its rule, over `row`, and `user`, the role's name.
     pub using: Expr,
 }
 

@@ -25,8 +25,8 @@ pub fn is_comparison(operator: Binary) -> bool
 }
 
 /// What two scalars compare as: `<` and the like of numbers, `==` and `!=` of scalars of one kind
-/// or null. Takes no memory, and copies no text. Any other operator and any other operands, which
-/// no typed expression has, give NullReference.
+/// or null. Takes no memory, and copies no text. Any other operator gives NullReference, and so do
+/// operands of other kinds, which no typed expression has, where none is null.
 pub fn compared(operator: Binary, left: ScalarRef<'_>, right: ScalarRef<'_>) -> Result<bool, Fault>
     ensures { result ≡ compared fault.NullReference operator (shown_scalar left.entry) (shown_scalar right.entry) }
 {

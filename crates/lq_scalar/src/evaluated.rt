@@ -41,8 +41,7 @@ impl Found<'_> {
 /// The scalar that an expression means where these names stand, or its first fault. Copies no text
 /// that is there, and takes memory for texts that `+` makes and for nothing else.
 ///
-/// An expression without a type, and one of a row or a sequence, gives NullReference where nothing
-/// faults before.
+/// An expression that is a row or a sequence gives NullReference.
 pub fn evaluate<'a, N: Names>(
     alloc: Global,
     names: &'a N,

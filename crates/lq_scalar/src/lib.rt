@@ -1,4 +1,5 @@
-//! What operators and members give to the values of their operands.
+//! Scalars: what operators and members give to the values of their operands, the types of
+//! expressions and their evaluation, and rules read on a row.
 #![tactic(auto)]
 
 mod arithmetic;

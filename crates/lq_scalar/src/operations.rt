@@ -17,8 +17,8 @@ use std::alloc::Global;
 /// What an operator or member gives to the values of its operands, in their order: its result or
 /// its fault. `+` of texts alone takes memory.
 ///
-/// Values of another number or of other kinds than the operator takes, which no typed expression
-/// has, give NullReference.
+/// Values of another number than the operator takes give NullReference, and so do values of other
+/// kinds where none is null; no typed expression has such.
 pub fn apply(alloc: Global, op: Op, values: &[Scalar]) -> Result<Scalar, ScalarError>
     ensures { IsAnswer (applied fault.NullReference op values.now) result }
 {

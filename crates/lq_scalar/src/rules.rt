@@ -58,7 +58,7 @@ impl Names for RuleNames<'_> {
 
     ghost scope = { λ names. rule_scope names.row.cells.now names.user.now };
 
-    // The one table that a rule is about has the number 0. Its columns' types aren't asked for: no
+    // The one table that a rule is about has the number 0. Its columns' types aren't known: no
     // meaning of a total rule depends on them.
     fn name_type(&self, name: &str) -> Option<ExprType> {
         if "row" == name {
@@ -97,7 +97,7 @@ impl Names for RuleNames<'_> {
 /// Whether the rule, which is total, is true on a row of any table for the user. Takes no memory.
 pub fn holds(rule: &Expr, row: Cells<'_>, user: &str) -> bool
     requires { is_total rule.now ≡ true }
-    ensures { result ≡ rule_holds row.columns.now rule.now row.cells.now user.now }
+    ensures { result ≡ rule_holds row.entry.columns.now rule.now row.entry.cells.now user.now }
 {
     let names = RuleNames { row, user };
     let evaluation = Evaluation {

@@ -12,8 +12,8 @@ use lq_model::{Binary, Op};
 use lq_value::Fault;
 
 /// What a sign between two numbers gives: what they compare as, or their sum and the like. Takes no
-/// memory. Operands that are no numbers, which no typed expression has here, give NullReference,
-/// but `==` and `!=` compare any two of one kind.
+/// memory. `==` and `!=` compare any two of one kind; other operands that are no numbers, which no
+/// typed expression has here, give NullReference where none is null.
 pub fn operate<'a>(
     operator: Binary,
     left: ScalarRef<'_>,

@@ -1,4 +1,4 @@
-//! Which rules of row policies can't fault, by their form.
+//! Which rules of row policies are total: by their form they can't fault where they are typed as truth values.
 ghost use Rattle.std.specs.Prelude.{◌≡◌, ◌&&◌, if◌then◌else◌, false};
 ghost use Rattle.lq_model.specs.Members.{is_search};
 ghost use Rattle.lq_model.specs.Totality.{is_division, is_divisor, is_natural, is_row, is_sure, is_total};
@@ -13,13 +13,14 @@ use lq_model::{Argument, Binary, Expr, Node, Unary};
 /// is looked at twice.
 #[derive(Clone, Copy, Drop)]
 struct Strength {
-    /// It can't fault.
+    /// It can't fault where it is typed.
     total: bool,
-    /// It can't fault, and is a text other than null.
+    /// That, and it is a text other than null.
     sure: bool,
 }
 
-/// Whether the rule can't fault on any row, by its form. Its names are `row`, with its columns, and
+/// Whether the rule is total by its form: where it is typed as a truth value, it can't fault on any
+/// row. Its names are `row`, with its columns, and
 /// `user`.
 pub fn is_total(rule: &Expr) -> bool
     ensures { result ≡ is_total rule.now }

@@ -30,7 +30,7 @@ pub struct RoleId {
     number: usize,
 }
 
-/// Roles, tables and row policies, which decide on each row. No rule of theirs can fault.
+/// Roles, tables and row policies, which decide on each row. Each rule of theirs is total.
 #[derive(Drop)]
 pub struct Policies {
     parts: PolicyParts,
@@ -54,7 +54,7 @@ impl Model for Policies {
     ghost invariant = { λ p. rules_are_total p.parts.policies ≡ true };
 }
 
-/// Whether each rule of the policies is total: one that can't fault on any row.
+/// Whether each rule of the policies is total by its form.
 pub fn rules_are_total(parts: &PolicyParts) -> bool
     ensures { result ≡ rules_are_total parts.now.policies }
 {

@@ -3,6 +3,8 @@
 #![tactic(auto)]
 
 #[cfg(test)]
+mod evaluations;
+#[cfg(test)]
 mod operations;
 #[cfg(test)]
 mod sessions;
