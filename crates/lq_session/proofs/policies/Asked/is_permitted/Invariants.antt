@@ -7,7 +7,7 @@ use Rattle.lq_session.proofs.policies.Asked.is_permitted.Given as goal
 
 -- the policies that are left decide, and their rules are total
 abbrev pub invariant-loop-left : goal.invariant-loop-left
-invariant-loop-left g l = (list_any (permits (asked_of l.self)) l.left ≡ list_any (permits (asked_of l.self)) l.policies) × (rules_are_total l.left ≡ true)
+invariant-loop-left l = (list_any (permits (asked_of l.self)) l.left ≡ list_any (permits (asked_of l.self)) l.policies) × (rules_are_total l.left ≡ true)
 
 abbrev pub decreases-loop-left : goal.decreases-loop-left
-decreases-loop-left g l = length l.left
+decreases-loop-left l = length l.left
