@@ -1,5 +1,5 @@
 -- What a rule is on a row, by its evaluation; a total one makes no text.
-use Rattle.std.proofs.Common.{◌≡◌, ◌<◌, List, ℕ, Bool, true, false, Result, Ok, Err, ap, ◌∙◌, sym, arith}
+use Rattle.std.proofs.Common.{◌≡◌, List, ℕ, Bool, true, false, Result, Ok, Err, ap, ◌∙◌, sym, arith}
 use Rattle.std.specs.Result.{result_unwrap_or}
 use Rattle.lq_value.specs.declared.scalar.Scalar.{Scalar}
 use Rattle.lq_value.specs.declared.value.Value.TheVariants.{outs-Row, outs-Scalar}

@@ -1,5 +1,5 @@
 -- What an expression is, form by form, from what its operands are.
-use Rattle.std.proofs.Common.{◌≡◌, ◌∷◌, if◌then◌else◌, not, List, [], map, ℕ, ℤ, Bool, true, false, Option, Some, None, Result, Ok, Err, ap, ◌∙◌, sym, refl, slice_get, option_and_then}
+use Rattle.std.proofs.Common.{◌≡◌, if◌then◌else◌, not, List, map, ℕ, ℤ, Bool, true, false, Option, Some, None, Result, Ok, Err, ap, ◌∙◌, refl, slice_get, option_and_then}
 use Rattle.lq_value.specs.declared.scalar.Scalar.{Scalar}
 use Rattle.lq_value.specs.declared.scalar.Scalar.TheVariants as scalar
 use Rattle.lq_value.specs.declared.ty.Ty.{Ty}
@@ -10,10 +10,9 @@ use Rattle.lq_value.specs.declared.value.Value.{Value, out-Value}
 use Rattle.lq_value.specs.declared.value.Value.TheOpen.{Value-F}
 use Rattle.lq_value.specs.declared.value.Value.TheVariants.{outs-Scalar, outs-Seq}
 use Rattle.lq_value.specs.declared.value.Value.TheVariants as value
-use Rattle.lq_model.specs.Meaning.{Binding, Scope, World, as_value, binding_of, cell_value, comparand, compared_meaning, is_null, meaning, member_value, name_value, names_at, null_member, on_comparand, on_scalar, on_truth, operated_meaning, operation_on, same_values, scalar_of, table_value, told, truth_value}
+use Rattle.lq_model.specs.Meaning.{Binding, Scope, World, as_value, binding_of, cell_value, comparand, compared_meaning, is_null, meaning, member_value, name_value, names_at, on_comparand, on_scalar, on_truth, operated_meaning, same_values, scalar_of, table_value, told, truth_value}
 use Rattle.lq_model.specs.Members.{search_named, sole_argument}
-use Rattle.lq_model.specs.Operations.{negated, of_search, of_two, on_ok, same_content, truth_of}
-use Rattle.lq_model.specs.Stream.{Stream}
+use Rattle.lq_model.specs.Operations.{negated, of_search, on_ok, truth_of}
 use Rattle.lq_model.specs.Typing.{Names, is_equality, table_number, type_of}
 use Rattle.lq_model.specs.declared.syntax.Argument.{Argument}
 use Rattle.lq_model.specs.declared.syntax.Binary.{Binary}
@@ -26,7 +25,7 @@ use Rattle.lq_model.specs.declared.syntax.Unary.TheVariants as unary
 use Rattle.lq_model.proofs.Opens.{argument_meaning, meaning_binary, meaning_both, meaning_choice, meaning_coalesce, meaning_either, meaning_host, meaning_integer, meaning_member, meaning_method, meaning_minus, meaning_name, meaning_not, meaning_null, meaning_query, meaning_record, meaning_text, meaning_truth}
 use Rattle.lq_scalar.specs.declared.operand.Operand.{Operand}
 use Rattle.lq_scalar.specs.declared.operand.Operand.TheVariants as operand
-use Rattle.lq_scalar.specs.Named.{Shape, TheRow, TheScalar, cell_in, shape_at, shape_in}
+use Rattle.lq_scalar.specs.Named.{Shape, TheRow, TheScalar, shape_at, shape_in}
 use Rattle.lq_scalar.specs.Shapes.{faulting, member_of_null, member_shape, named_member, operand_part, operand_scalar, operated_scalars, same_parts, scalar_part, shown_operand, scalar_in, scalar_or_fault, scalar_shape, shape_of, shape_of_argument, told_shapes, truth_in, truth_shape}
 
 -- the row or scalar that a value is, or the fault in its place
@@ -193,13 +192,13 @@ module _ {R : Type 0} (world : World R) (scope : Scope R) where
 
   pub shape_method : (a : Expr) (m : List ℕ) (xs : List (Argument Expr)) → shape_of world scope (expr.Node (node.Method a m xs))
       ≡ on_ok (on_ok (shape_of world scope a) scalar_in)
-        (λ s. on_ok (on_ok (shape_of_argument world scope (sole_argument xs)) scalar_in) (λ t. scalar_shape (of_search fault.NullReference (search_named m) s t)))
+      (λ s. on_ok (on_ok (shape_of_argument world scope (sole_argument xs)) scalar_in) (λ t. scalar_shape (of_search fault.NullReference (search_named m) s t)))
   unfolding shape_of
   shape_method a m xs =
       ap viewed (meaning_method (faulting world) a m xs scope)
       ∙ scalar_then world (meaning (faulting world) a scope) _ _
-        (λ s. scalar_then world (argument_meaning (faulting world) (sole_argument xs) scope) _ _ (λ t. viewed_as_value (of_search fault.NullReference (search_named m) s t))
-        ∙ ap (λ (o : Result (Shape R) Fault). on_ok (on_ok o scalar_in) (λ t. scalar_shape (of_search fault.NullReference (search_named m) s t))) (argument_viewed (sole_argument xs)))
+      (λ s. scalar_then world (argument_meaning (faulting world) (sole_argument xs) scope) _ _ (λ t. viewed_as_value (of_search fault.NullReference (search_named m) s t))
+      ∙ ap (λ (o : Result (Shape R) Fault). on_ok (on_ok o scalar_in) (λ t. scalar_shape (of_search fault.NullReference (search_named m) s t))) (argument_viewed (sole_argument xs)))
 
   -- `==` and `!=`, and the signs of which both operands are scalars
   abbrev pub compared_shape : Binary → Expr → Expr → Result (Shape R) Fault

@@ -1,5 +1,5 @@
 -- How many `+` stand in an expression, form by form; in a rule that is total stands none.
-use Rattle.std.proofs.Common.{◌≡◌, ◌+◌, ◌∷◌, List, [], ℕ, ℤ, Bool, true, Option, Some, None, ap, ap₂, ◌∙◌, sym, refl}
+use Rattle.std.proofs.Common.{◌≡◌, ◌+◌, ◌∷◌, List, [], ℕ, ℤ, Bool, true, ap, ap₂, ◌∙◌, refl}
 use Rattle.lq_model.specs.Members.{sole_argument}
 use Rattle.lq_model.specs.Totality.{Claim, Holds, IsTotal, Sure, Total, is_division, sure_coalesce, sure_conditional, sure_text, sure_user, total_and, total_coalesce, total_column, total_comparison, total_conditional, total_division, total_has_value, total_integer, total_minus, total_not, total_null, total_or, total_search, total_text, total_truth, total_user}
 use Rattle.lq_model.specs.Typing.{is_comparison}
@@ -15,7 +15,7 @@ use Rattle.lq_model.specs.declared.syntax.Node.{Node}
 use Rattle.lq_model.specs.declared.syntax.Node.TheVariants as node
 use Rattle.lq_model.specs.declared.syntax.Unary.{Unary}
 use Rattle.lq_model.specs.declared.syntax.Unary.TheVariants as unary
-use Rattle.lq_scalar.specs.Sums.{node_sums, sum_sign, sums_in, sums_of_argument, sums_step}
+use Rattle.lq_scalar.specs.Sums.{sum_sign, sums_in, sums_of_argument, sums_step}
 
 abbrev layer_sums : Expr-F Expr → ℕ
 layer_sums layer = sums_step (map-Expr Expr ℕ sums_in layer)

@@ -1,5 +1,5 @@
 -- What names stand for, as an evaluation finds it.
-use Rattle.std.specs.Prelude.{◌≡◌, List, ℕ, Option, Some, None, Result, Ok, Err}
+use Rattle.std.specs.Prelude.{List, ℕ, Option, Some, None, Result, Ok, Err}
 use Rattle.lq_value.specs.declared.scalar.Scalar.{Scalar}
 use Rattle.lq_value.specs.declared.ty.Ty.{Ty}
 use Rattle.lq_value.specs.declared.ty.Ty.TheOpen.{Ty-F}

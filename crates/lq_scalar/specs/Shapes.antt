@@ -1,14 +1,14 @@
 -- What an expression is where it is evaluated, a row or a scalar, and what forms make of operands that are.
-use Rattle.std.specs.Prelude.{◌≡◌, ◌<◌, if◌then◌else◌, not, List, ℕ, Bool, true, false, Option, Some, None, Result, Ok, Err}
+use Rattle.std.specs.Prelude.{◌≡◌, ◌<◌, if◌then◌else◌, List, ℕ, Bool, false, Option, Some, None, Result, Ok, Err}
 use Rattle.lq_value.specs.declared.scalar.Scalar.{Scalar}
 use Rattle.lq_value.specs.declared.scalar.Scalar.TheVariants as scalar
 use Rattle.lq_value.specs.declared.ty.Ty.{Ty}
 use Rattle.lq_value.specs.declared.value.Fault.{Fault}
 use Rattle.lq_value.specs.declared.value.Fault.TheVariants as fault
-use Rattle.lq_value.specs.declared.value.Value.{Value, out-Value}
+use Rattle.lq_value.specs.declared.value.Value.{out-Value}
 use Rattle.lq_model.specs.Meaning.{Scope, World, binding_of, is_row_type, meaning, operation_on, told}
-use Rattle.lq_model.specs.Members.{member_named, search_named}
-use Rattle.lq_model.specs.Operations.{negated, of_member, of_search, of_two, on_ok, same_content, truth_of}
+use Rattle.lq_model.specs.Members.{member_named}
+use Rattle.lq_model.specs.Operations.{of_member, of_two, on_ok, same_content, truth_of}
 use Rattle.lq_model.specs.declared.syntax.Binary.{Binary}
 use Rattle.lq_model.specs.declared.syntax.Expr.{Expr}
 use Rattle.lq_scalar.specs.Named.{Shape, TheRow, TheScalar, cell_in, row_at, shape_in}

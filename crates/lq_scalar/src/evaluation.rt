@@ -68,10 +68,8 @@ fn searched<'a>(
     text: Operand<'_>,
     needle: Operand<'_>,
 ) -> Result<ScalarRef<'a>, Fault>
-    ensures {
-        shown_scalars result
-        ≡ on_ok (operand_scalar text.entry) (λ s. on_ok (operand_scalar needle.entry) (λ t. of_search fault.NullReference (search_named method.now) s t))
-    }
+    ensures { shown_scalars result
+        ≡ on_ok (operand_scalar text.entry) (λ s. on_ok (operand_scalar needle.entry) (λ t. of_search fault.NullReference (search_named method.now) s t)) }
 {
     search(method, text.scalar()?, needle.scalar()?)
 }
@@ -137,11 +135,9 @@ impl<'a, N: Names, T: Joins> Evaluation<'a, N, T> {
         value: Operand<'_>,
         member: &str,
     ) -> Result<ScalarRef<'a>, Fault>
-        ensures {
-            scalar_shape (shown_scalars result)
+        ensures { scalar_shape (shown_scalars result)
             ≡ member_shape (N.world self.now.names.now) (type_of operand.now (names_at (N.world self.now.names.now) (N.scope self.now.names.now))) member.now
-              (shown_operand (N.scope self.now.names.now) value.entry)
-        }
+            (shown_operand (N.scope self.now.names.now) value.entry) }
     {
         match value {
             Operand::Row(row) => self.cell(row, member),
@@ -160,11 +156,9 @@ impl<'a, N: Names, T: Joins> Evaluation<'a, N, T> {
 
     /// The sum of two nulls: the empty text where one has the type of texts, and else null.
     fn sum_of_nulls(&self, left: &Expr, right: &Expr) -> Result<Operand<'a>, ScalarError>
-        ensures {
-            IsOperand (N.scope self.now.names.now) 1
+        ensures { IsOperand (N.scope self.now.names.now) 1
             (scalar_shape (operated_scalars binary.Add (type_of left.now (names_at (N.world self.now.names.now) (N.scope self.now.names.now)))
-            (type_of right.now (names_at (N.world self.now.names.now) (N.scope self.now.names.now))) scalar.Null scalar.Null)) result
-        }
+            (type_of right.now (names_at (N.world self.now.names.now) (N.scope self.now.names.now))) scalar.Null scalar.Null)) result }
     {
         if self.is_text(left) || self.is_text(right) {
             Ok(Operand::Made(joined(self.texts, ScalarRef::Null, ScalarRef::Null)?))
@@ -182,11 +176,9 @@ impl<'a, N: Names, T: Joins> Evaluation<'a, N, T> {
         x: ScalarRef<'_>,
         y: ScalarRef<'_>,
     ) -> Result<Operand<'a>, ScalarError>
-        ensures {
-            IsOperand (N.scope self.now.names.now) (sum_sign sign)
+        ensures { IsOperand (N.scope self.now.names.now) (sum_sign sign)
             (scalar_shape (operated_scalars sign (type_of left.now (names_at (N.world self.now.names.now) (N.scope self.now.names.now)))
-            (type_of right.now (names_at (N.world self.now.names.now) (N.scope self.now.names.now))) (shown_scalar x.entry) (shown_scalar y.entry))) result
-        }
+            (type_of right.now (names_at (N.world self.now.names.now) (N.scope self.now.names.now))) (shown_scalar x.entry) (shown_scalar y.entry))) result }
     {
         match (sign, x, y) {
             (Binary::Add, ScalarRef::Text(_), _) | (Binary::Add, _, ScalarRef::Text(_)) => {
@@ -206,12 +198,10 @@ impl<'a, N: Names, T: Joins> Evaluation<'a, N, T> {
         x: Operand<'_>,
         y: Operand<'_>,
     ) -> Result<Operand<'a>, ScalarError>
-        ensures {
-            IsOperand (N.scope self.now.names.now) (sum_sign sign)
+        ensures { IsOperand (N.scope self.now.names.now) (sum_sign sign)
             (on_ok (operand_scalar x.entry) (λ s. on_ok (operand_scalar y.entry)
             (λ t. scalar_shape (operated_scalars sign (type_of left.now (names_at (N.world self.now.names.now) (N.scope self.now.names.now)))
-            (type_of right.now (names_at (N.world self.now.names.now) (N.scope self.now.names.now))) s t)))) result
-        }
+            (type_of right.now (names_at (N.world self.now.names.now) (N.scope self.now.names.now))) s t)))) result }
     {
         self.operated_scalars(sign, left, right, x.scalar()?, y.scalar()?)
     }
@@ -298,10 +288,8 @@ impl<'a, N: Names, T: Joins> Evaluation<'a, N, T> {
     #[cycle(operands)]
     #[tactic(auto, using(crate::proofs::ShapeLemmas::operands))]
     fn argument(&self, arguments: &'a List<Argument<Expr>>) -> Result<Operand<'a>, ScalarError>
-        ensures {
-            IsOperand (N.scope self.now.names.now) (sums_of_argument (sole_argument arguments.now))
-            (shape_of_argument (N.world self.now.names.now) (N.scope self.now.names.now) (sole_argument arguments.now)) result
-        }
+        ensures { IsOperand (N.scope self.now.names.now) (sums_of_argument (sole_argument arguments.now))
+            (shape_of_argument (N.world self.now.names.now) (N.scope self.now.names.now) (sole_argument arguments.now)) result }
     {
         match arguments.as_slice() {
             [Argument::Value(argument)] => self.operand(argument),

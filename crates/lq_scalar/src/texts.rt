@@ -49,9 +49,7 @@ pub(crate) fn joined<T: Joins>(
     ensures { IsText (joined fault.NullReference (shown_scalar left.entry) (shown_scalar right.entry)) result }
 {
     match (left, right) {
-        (ScalarRef::Text(left), ScalarRef::Text(right)) => {
-            Ok(texts.concatenated(left, right)?)
-        }
+        (ScalarRef::Text(left), ScalarRef::Text(right)) => { Ok(texts.concatenated(left, right)?) }
         (ScalarRef::Text(text), ScalarRef::Null) => Ok(texts.concatenated(text, "")?),
         (ScalarRef::Null, ScalarRef::Text(text)) => Ok(texts.concatenated("", text)?),
         (ScalarRef::Null, ScalarRef::Null) => Ok(texts.concatenated("", "")?),
@@ -84,11 +82,7 @@ fn utf16_units(text: &str) -> Option<i32>
 }
 
 /// Whether a text has another in it. A null text or argument faults.
-pub(crate) fn searched(
-    op: Op,
-    text: ScalarRef<'_>,
-    needle: ScalarRef<'_>,
-) -> Result<bool, Fault>
+pub(crate) fn searched(op: Op, text: ScalarRef<'_>, needle: ScalarRef<'_>) -> Result<bool, Fault>
     ensures { result ≡ searched fault.NullReference op (shown_scalar text.entry) (shown_scalar needle.entry) }
 {
     let (ScalarRef::Text(text), ScalarRef::Text(needle)) = (text, needle) else {

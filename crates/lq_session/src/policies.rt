@@ -58,14 +58,19 @@ impl Model for Policies {
 pub fn rules_are_total(parts: &PolicyParts) -> bool
     ensures { result ≡ rules_are_total parts.now.policies }
 {
-    parts.policies.as_slice().iter().all(|policy| is_total(&policy.using))
+    parts
+        .policies
+        .as_slice()
+        .iter()
+        .all(|policy| is_total(&policy.using))
 }
 
 /// Whether `to` lists the role or `public`.
 fn is_listed(role: &str, to: &[Txt]) -> bool
     ensures { result ≡ is_listed role.now to.now }
 {
-    to.iter().any(|name| name.as_str() == role || name.as_str() == "public")
+    to.iter()
+        .any(|name| name.as_str() == role || name.as_str() == "public")
 }
 
 /// Whether the policy bears on what the role reads of the table.

@@ -48,7 +48,10 @@ const EXPRESSIONS: [(&str, &str); 40] = [
     ("\"\".Contains(\"\")", "true"),
     ("(false ? \"a\" : null).Contains(\"a\")", "NullReference"),
     ("\"a\".Contains(false ? \"a\" : null)", "NullReference"),
-    ("(false ? \"a\" : null).Contains(1 / 0 == 0 ? \"a\" : \"b\")", "DivideByZero"),
+    (
+        "(false ? \"a\" : null).Contains(1 / 0 == 0 ? \"a\" : \"b\")",
+        "DivideByZero",
+    ),
 ];
 
 /// Total rules on a row whose columns are named `name` and `boss`, for the user ann: the cells, the rule, and whether it holds.
@@ -60,7 +63,12 @@ const RULES: [(&str, &str, &str, bool); 9] = [
     ("'ann'", "null", "row.boss.HasValue", false),
     ("'ann'", "3", "row.boss.HasValue && row.boss < 4", true),
     ("'ann'", "null", "(row.boss ?? 7) / 2 == 3", true),
-    ("'ann'", "3", "user.StartsWith(\"a\") && (row.name ?? \"\").EndsWith(\"nn\")", true),
+    (
+        "'ann'",
+        "3",
+        "user.StartsWith(\"a\") && (row.name ?? \"\").EndsWith(\"nn\")",
+        true,
+    ),
     ("'ann'", "3", "row.salary > 0", false),
 ];
 

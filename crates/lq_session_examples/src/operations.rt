@@ -104,7 +104,10 @@ fn scalars(alloc: Global, words: &str) -> Result<Vec<Scalar>, AllocError> {
 }
 
 // The result as a row spells it.
-pub(crate) fn word_of(alloc: Global, found: &Result<Scalar, ScalarError>) -> Result<String, AllocError> {
+pub(crate) fn word_of(
+    alloc: Global,
+    found: &Result<Scalar, ScalarError>,
+) -> Result<String, AllocError> {
     match found {
         Ok(Scalar::Null) => String::from_str(alloc, "null"),
         Ok(Scalar::Int(number)) => format!(in alloc; "{number}"),
