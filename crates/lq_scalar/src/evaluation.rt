@@ -89,6 +89,7 @@ impl<'a, N: Names, T: Joins> Evaluation<'a, N, T> {
     ghost use Rattle.lq_model.specs.Typing.{is_text_type, type_of};
     ghost use Rattle.lq_model.specs.declared.syntax.Expr.TheVariants as expr;
     ghost use Rattle.lq_model.specs.declared.syntax.Node.TheVariants as node;
+    ghost use Rattle.lq_model.specs.declared.syntax.Unary.TheVariants as unary;
     ghost use Rattle.lq_model.specs.declared.syntax.Binary.TheVariants as binary;
     ghost use Rattle.lq_value.specs.declared.scalar.Scalar.TheVariants as scalar;
     ghost use Rattle.lq_scalar.specs.Named.{cell_in, row_at, shape_at};
@@ -129,7 +130,7 @@ impl<'a, N: Names, T: Joins> Evaluation<'a, N, T> {
     }
 
     /// A member of what an operand was evaluated to.
-    fn member(
+    fn member_of(
         &self,
         operand: &Expr,
         value: Operand<'_>,
@@ -218,7 +219,8 @@ impl<'a, N: Names, T: Joins> Evaluation<'a, N, T> {
         }
     }
 
-    /// What the expression of this node is, or its first fault.
+    /// What the expression of this node is, or its first fault. Each form that evaluates operands has a
+    /// function of its own, so that deep expressions take little of the stack.
     #[cycle(operands)]
     #[tactic(auto, using(crate::proofs::ShapeLemmas::shapes, crate::proofs::SumLemmas::sums))]
     fn node(&self, node: &'a Node<Expr>) -> Result<Operand<'a>, ScalarError>
@@ -230,56 +232,150 @@ impl<'a, N: Names, T: Joins> Evaluation<'a, N, T> {
             Node::Bool(truth) => Ok(Operand::Scalar(ScalarRef::Bool(*truth))),
             Node::Null => Ok(Operand::Scalar(ScalarRef::Null)),
             Node::Name(name) => Ok(self.named(name.as_str())?),
-            Node::Member(operand, member) => {
-                let value = self.operand(operand.get())?;
-                Ok(Operand::Scalar(self.member(operand.get(), value, member.as_str())?))
-            }
+            Node::Member(operand, member) => self.member(operand.get(), member.as_str()),
             Node::Method(receiver, method, arguments) => {
-                let text = self.operand(receiver.get())?;
-                text.scalar()?;
-                let needle = self.argument(arguments)?;
-                Ok(Operand::Scalar(searched(method.as_str(), text, needle)?))
+                self.method(arguments, receiver.get(), method.as_str())
             }
-            Node::Unary(Unary::Minus, operand) => {
-                Ok(Operand::Scalar(minus(self.operand(operand.get())?)?))
-            }
-            Node::Unary(Unary::Not, operand) => {
-                let truth = self.operand(operand.get())?.truth()?;
-                Ok(Operand::Scalar(ScalarRef::Bool(!truth)))
-            }
-            Node::Binary(sign, left, right) if is_equality(*sign) => {
-                let x = self.operand(left.get())?;
-                let y = self.operand(right.get())?;
-                Ok(Operand::Scalar(told(*sign, x, y)?))
-            }
-            Node::Binary(sign, left, right) => {
-                let x = self.operand(left.get())?;
-                x.scalar()?;
-                let y = self.operand(right.get())?;
-                self.operated(*sign, left.get(), right.get(), x, y)
-            }
-            Node::And(left, right) => match self.operand(left.get())?.truth()? {
-                true => self.operand(right.get()),
-                false => Ok(Operand::Scalar(ScalarRef::Bool(false))),
-            },
-            Node::Or(left, right) => match self.operand(left.get())?.truth()? {
-                true => Ok(Operand::Scalar(ScalarRef::Bool(true))),
-                false => self.operand(right.get()),
-            },
-            Node::Coalesce(left, right) => {
-                let value = self.operand(left.get())?;
-                match value.is_null()? {
-                    true => self.operand(right.get()),
-                    false => Ok(value),
-                }
-            }
+            Node::Unary(Unary::Minus, operand) => self.minus(operand.get()),
+            Node::Unary(Unary::Not, operand) => self.not(operand.get()),
+            Node::Binary(sign, left, right) => self.binary(*sign, left.get(), right.get()),
+            Node::And(left, right) => self.both(left.get(), right.get()),
+            Node::Or(left, right) => self.either(left.get(), right.get()),
+            Node::Coalesce(left, right) => self.coalesced(left.get(), right.get()),
             Node::Conditional(condition, left, right) => {
-                match self.operand(condition.get())?.truth()? {
-                    true => self.operand(left.get()),
-                    false => self.operand(right.get()),
-                }
+                self.chosen(condition.get(), left.get(), right.get())
             }
             Node::Host(_, _) | Node::New(_) => Err(ScalarError::Fault(Fault::NullReference)),
+        }
+    }
+
+    /// A member of an operand.
+    #[cycle(operands)]
+    #[inline(never)]
+    #[tactic(auto, using(crate::proofs::ShapeLemmas::operands, crate::proofs::ShapeLemmas::shape_member, crate::proofs::SumLemmas::sums_member))]
+    fn member(&self, operand: &'a Expr, member: &str) -> Result<Operand<'a>, ScalarError>
+        ensures { IsOperand (N.scope self.now.names.now) (sums_in (expr.Node (node.Member operand.now member.now))) (shape_of (N.world self.now.names.now) (N.scope self.now.names.now) (expr.Node (node.Member operand.now member.now))) result }
+    {
+        let value = self.operand(operand)?;
+        Ok(Operand::Scalar(self.member_of(operand, value, member)?))
+    }
+
+    /// What a method finds in a text.
+    #[cycle(operands)]
+    #[inline(never)]
+    #[tactic(auto, using(crate::proofs::ShapeLemmas::operands, crate::proofs::ShapeLemmas::shape_method, crate::proofs::SumLemmas::sums_method))]
+    fn method(
+        &self,
+        arguments: &'a List<Argument<Expr>>,
+        receiver: &'a Expr,
+        method: &str,
+    ) -> Result<Operand<'a>, ScalarError>
+        ensures { IsOperand (N.scope self.now.names.now) (sums_in (expr.Node (node.Method receiver.now method.now arguments.now))) (shape_of (N.world self.now.names.now) (N.scope self.now.names.now) (expr.Node (node.Method receiver.now method.now arguments.now))) result }
+    {
+        let text = self.operand(receiver)?;
+        text.scalar()?;
+        let needle = self.argument(arguments)?;
+        Ok(Operand::Scalar(searched(method, text, needle)?))
+    }
+
+    /// The number with the other sign.
+    #[cycle(operands)]
+    #[inline(never)]
+    #[tactic(auto, using(crate::proofs::ShapeLemmas::operands, crate::proofs::ShapeLemmas::shape_minus, crate::proofs::SumLemmas::sums_unary))]
+    fn minus(&self, operand: &'a Expr) -> Result<Operand<'a>, ScalarError>
+        ensures { IsOperand (N.scope self.now.names.now) (sums_in (expr.Node (node.Unary unary.Minus operand.now))) (shape_of (N.world self.now.names.now) (N.scope self.now.names.now) (expr.Node (node.Unary unary.Minus operand.now))) result }
+    {
+        Ok(Operand::Scalar(minus(self.operand(operand)?)?))
+    }
+
+    /// The other truth value.
+    #[cycle(operands)]
+    #[inline(never)]
+    #[tactic(auto, using(crate::proofs::ShapeLemmas::operands, crate::proofs::ShapeLemmas::shape_not, crate::proofs::SumLemmas::sums_unary))]
+    fn not(&self, operand: &'a Expr) -> Result<Operand<'a>, ScalarError>
+        ensures { IsOperand (N.scope self.now.names.now) (sums_in (expr.Node (node.Unary unary.Not operand.now))) (shape_of (N.world self.now.names.now) (N.scope self.now.names.now) (expr.Node (node.Unary unary.Not operand.now))) result }
+    {
+        let truth = self.operand(operand)?.truth()?;
+        Ok(Operand::Scalar(ScalarRef::Bool(!truth)))
+    }
+
+    /// What a sign between two operands gives.
+    #[cycle(operands)]
+    #[inline(never)]
+    #[tactic(auto, using(crate::proofs::ShapeLemmas::operands, crate::proofs::ShapeLemmas::shape_binary, crate::proofs::SumLemmas::sums_binary))]
+    fn binary(
+        &self,
+        sign: Binary,
+        left: &'a Expr,
+        right: &'a Expr,
+    ) -> Result<Operand<'a>, ScalarError>
+        ensures { IsOperand (N.scope self.now.names.now) (sums_in (expr.Node (node.Binary sign left.now right.now))) (shape_of (N.world self.now.names.now) (N.scope self.now.names.now) (expr.Node (node.Binary sign left.now right.now))) result }
+    {
+        let x = self.operand(left)?;
+        if is_equality(sign) {
+            let y = self.operand(right)?;
+            return Ok(Operand::Scalar(told(sign, x, y)?));
+        }
+        x.scalar()?;
+        let y = self.operand(right)?;
+        self.operated(sign, left, right, x, y)
+    }
+
+    /// Whether both are true; the second is evaluated only where the first is.
+    #[cycle(operands)]
+    #[inline(never)]
+    #[tactic(auto, using(crate::proofs::ShapeLemmas::operands, crate::proofs::ShapeLemmas::shape_both, crate::proofs::SumLemmas::sums_both))]
+    fn both(&self, left: &'a Expr, right: &'a Expr) -> Result<Operand<'a>, ScalarError>
+        ensures { IsOperand (N.scope self.now.names.now) (sums_in (expr.Node (node.And left.now right.now))) (shape_of (N.world self.now.names.now) (N.scope self.now.names.now) (expr.Node (node.And left.now right.now))) result }
+    {
+        match self.operand(left)?.truth()? {
+            true => self.operand(right),
+            false => Ok(Operand::Scalar(ScalarRef::Bool(false))),
+        }
+    }
+
+    /// Whether one is true; the second is evaluated only where the first isn't.
+    #[cycle(operands)]
+    #[inline(never)]
+    #[tactic(auto, using(crate::proofs::ShapeLemmas::operands, crate::proofs::ShapeLemmas::shape_either, crate::proofs::SumLemmas::sums_either))]
+    fn either(&self, left: &'a Expr, right: &'a Expr) -> Result<Operand<'a>, ScalarError>
+        ensures { IsOperand (N.scope self.now.names.now) (sums_in (expr.Node (node.Or left.now right.now))) (shape_of (N.world self.now.names.now) (N.scope self.now.names.now) (expr.Node (node.Or left.now right.now))) result }
+    {
+        match self.operand(left)?.truth()? {
+            true => Ok(Operand::Scalar(ScalarRef::Bool(true))),
+            false => self.operand(right),
+        }
+    }
+
+    /// The first, or the second in place of null.
+    #[cycle(operands)]
+    #[inline(never)]
+    #[tactic(auto, using(crate::proofs::ShapeLemmas::operands, crate::proofs::ShapeLemmas::shape_coalesce, crate::proofs::SumLemmas::sums_coalesce))]
+    fn coalesced(&self, left: &'a Expr, right: &'a Expr) -> Result<Operand<'a>, ScalarError>
+        ensures { IsOperand (N.scope self.now.names.now) (sums_in (expr.Node (node.Coalesce left.now right.now))) (shape_of (N.world self.now.names.now) (N.scope self.now.names.now) (expr.Node (node.Coalesce left.now right.now))) result }
+    {
+        let value = self.operand(left)?;
+        match value.is_null()? {
+            true => self.operand(right),
+            false => Ok(value),
+        }
+    }
+
+    /// The one that the condition chooses; the other is not evaluated.
+    #[cycle(operands)]
+    #[inline(never)]
+    #[tactic(auto, using(crate::proofs::ShapeLemmas::operands, crate::proofs::ShapeLemmas::shape_choice, crate::proofs::SumLemmas::sums_choice))]
+    fn chosen(
+        &self,
+        condition: &'a Expr,
+        left: &'a Expr,
+        right: &'a Expr,
+    ) -> Result<Operand<'a>, ScalarError>
+        ensures { IsOperand (N.scope self.now.names.now) (sums_in (expr.Node (node.Conditional condition.now left.now right.now))) (shape_of (N.world self.now.names.now) (N.scope self.now.names.now) (expr.Node (node.Conditional condition.now left.now right.now))) result }
+    {
+        match self.operand(condition)?.truth()? {
+            true => self.operand(left),
+            false => self.operand(right),
         }
     }
 

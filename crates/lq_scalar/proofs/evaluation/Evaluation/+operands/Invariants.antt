@@ -1,12 +1,41 @@
--- What each function of the evaluation goes down by: the depth of its expression, and at one depth the node, its arguments, an operand.
-use Rattle.std.proofs.Common.{◌+◌, ◌*◌}
+-- What each function of the evaluation goes down by: the depth of what it evaluates, and at one depth the node, its form, the arguments of a
+-- method, an operand.
+use Rattle.std.proofs.Common.{◌+◌, ◌*◌, max}
+use Rattle.lq_model.proofs.syntax.Expr.TheLaws.{the_size}
 use Rattle.lq_scalar.proofs.evaluation.Evaluation.+operands.Given as goal
 
 abbrev pub decreases-operand : goal.decreases-operand
-decreases-operand g l = 3 * goal.size-operand g l
+decreases-operand g l = 4 * goal.size-operand g l
 
 abbrev pub decreases-argument : goal.decreases-argument
-decreases-argument g l = 3 * goal.size-argument g l + 1
+decreases-argument g l = 4 * goal.size-argument g l + 1
+
+abbrev pub decreases-member : goal.decreases-member
+decreases-member g l = 4 * goal.size-member g l + 2
+
+abbrev pub decreases-method : goal.decreases-method
+decreases-method g l = 4 * max (goal.size-method g l) (the_size l.receiver.now) + 2
+
+abbrev pub decreases-minus : goal.decreases-minus
+decreases-minus g l = 4 * goal.size-minus g l + 2
+
+abbrev pub decreases-not : goal.decreases-not
+decreases-not g l = 4 * goal.size-not g l + 2
+
+abbrev pub decreases-binary : goal.decreases-binary
+decreases-binary g l = 4 * max (the_size l.left.now) (the_size l.right.now) + 2
+
+abbrev pub decreases-both : goal.decreases-both
+decreases-both g l = 4 * max (the_size l.left.now) (the_size l.right.now) + 2
+
+abbrev pub decreases-either : goal.decreases-either
+decreases-either g l = 4 * max (the_size l.left.now) (the_size l.right.now) + 2
+
+abbrev pub decreases-coalesced : goal.decreases-coalesced
+decreases-coalesced g l = 4 * max (the_size l.left.now) (the_size l.right.now) + 2
+
+abbrev pub decreases-chosen : goal.decreases-chosen
+decreases-chosen g l = 4 * max (the_size l.condition.now) (max (the_size l.left.now) (the_size l.right.now)) + 2
 
 abbrev pub decreases-node : goal.decreases-node
-decreases-node g l = 3 * goal.size-node g l + 2
+decreases-node g l = 4 * goal.size-node g l + 3
