@@ -13,6 +13,7 @@ use Rattle.lq_model.specs.declared.syntax.Binary.{Binary}
 use Rattle.lq_model.specs.declared.syntax.Expr.{Expr}
 use Rattle.lq_scalar.specs.Named.{Shape, TheRow, TheScalar, cell_in, row_at, shape_in}
 use Rattle.lq_scalar.specs.Operands.{shown_scalar}
+use Rattle.lq_scalar.specs.Sums.{sums_in}
 use Rattle.lq_scalar.specs.declared.error.ScalarError.{ScalarError}
 use Rattle.lq_scalar.specs.declared.error.ScalarError.TheVariants as error
 use Rattle.lq_scalar.specs.declared.evaluated.Found.{Found}
@@ -137,6 +138,10 @@ IsTruth meant (Err error.Memory) = Unit {0}
 abbrev pub IsSparing : {A : Type 0} → ℕ → Result A ScalarError → Type 0
 IsSparing sums (Err error.Memory) = 0 < sums
 IsSparing sums answer = Unit {0}
+
+-- What was evaluated is what the expression means.
+abbrev pub IsEvaluated : {R : Type 0} → World R → Scope R → Expr → Result Operand ScalarError → Type 0
+IsEvaluated world scope e found = IsOperand scope (sums_in e) (shape_of world scope e) found
 
 -- an operand that is no fault
 abbrev pub shown_operands : {R : Type 0} → Scope R → Result Operand Fault → Result (Shape R) Fault

@@ -47,6 +47,7 @@ fn told_parts(
 // What follows takes operands by value, so that a text that was made is let go in one place.
 
 /// What `==` or `!=` tells of two operands.
+#[inline(never)]
 fn told<'a>(sign: Binary, left: Operand<'_>, right: Operand<'_>) -> Result<ScalarRef<'a>, Fault>
     requires { is_equality sign ≡ true }
     ensures { shown_scalars result ≡ truth fault.NullReference (told_parts sign (operand_part left.entry) (operand_part right.entry)) }
@@ -96,7 +97,7 @@ impl<'a, N: Names, T: Joins> Evaluation<'a, N, T> {
     ghost use Rattle.lq_scalar.specs.Operands.{IsAnswer, shown_scalar, shown_scalars};
     ghost use Rattle.lq_model.specs.Members.{sole_argument};
     ghost use Rattle.lq_scalar.specs.Sums.{sum_sign, sums_in, sums_of_argument};
-    ghost use Rattle.lq_scalar.specs.Shapes.{IsOperand, IsSparing, IsTruth, shape_of_argument, truth_of_expression, scalar_or_fault, member_of_null, member_shape, operated_scalars, scalar_shape, shape_of, shown_operand, shown_operands};
+    ghost use Rattle.lq_scalar.specs.Shapes.{IsEvaluated, IsOperand, IsSparing, IsTruth, shape_of_argument, truth_of_expression, scalar_or_fault, member_of_null, member_shape, operated_scalars, scalar_shape, shape_of, shown_operand, shown_operands};
 
     /// What a name stands for.
     fn named(&self, name: &'a str) -> Result<Operand<'a>, Fault>
@@ -190,7 +191,8 @@ impl<'a, N: Names, T: Joins> Evaluation<'a, N, T> {
         }
     }
 
-    /// What such a sign gives to two operands.
+    /// What such a sign gives to two operands. Where it is evaluated, little of the stack is taken.
+    #[inline(never)]
     fn operated(
         &self,
         sign: Binary,
@@ -211,7 +213,7 @@ impl<'a, N: Names, T: Joins> Evaluation<'a, N, T> {
     #[cycle(operands)]
     #[tactic(auto, using(crate::proofs::ShapeLemmas::shapes, crate::proofs::SumLemmas::sums))]
     pub(crate) fn operand(&self, expression: &'a Expr) -> Result<Operand<'a>, ScalarError>
-        ensures { IsOperand (N.scope self.now.names.now) (sums_in expression.now) (shape_of (N.world self.now.names.now) (N.scope self.now.names.now) expression.now) result }
+        ensures { IsEvaluated (N.world self.now.names.now) (N.scope self.now.names.now) expression.now result }
     {
         match expression {
             Expr::Node(node) => self.node(node),
@@ -224,7 +226,7 @@ impl<'a, N: Names, T: Joins> Evaluation<'a, N, T> {
     #[cycle(operands)]
     #[tactic(auto, using(crate::proofs::ShapeLemmas::shapes, crate::proofs::SumLemmas::sums))]
     fn node(&self, node: &'a Node<Expr>) -> Result<Operand<'a>, ScalarError>
-        ensures { IsOperand (N.scope self.now.names.now) (sums_in (expr.Node node.now)) (shape_of (N.world self.now.names.now) (N.scope self.now.names.now) (expr.Node node.now)) result }
+        ensures { IsEvaluated (N.world self.now.names.now) (N.scope self.now.names.now) (expr.Node node.now) result }
     {
         match node {
             Node::Integer(number) => Ok(Operand::Scalar(ScalarRef::Int(*number))),
@@ -254,7 +256,7 @@ impl<'a, N: Names, T: Joins> Evaluation<'a, N, T> {
     #[inline(never)]
     #[tactic(auto, using(crate::proofs::ShapeLemmas::operands, crate::proofs::ShapeLemmas::shape_member, crate::proofs::SumLemmas::sums_member))]
     fn member(&self, operand: &'a Expr, member: &str) -> Result<Operand<'a>, ScalarError>
-        ensures { IsOperand (N.scope self.now.names.now) (sums_in (expr.Node (node.Member operand.now member.now))) (shape_of (N.world self.now.names.now) (N.scope self.now.names.now) (expr.Node (node.Member operand.now member.now))) result }
+        ensures { IsEvaluated (N.world self.now.names.now) (N.scope self.now.names.now) (expr.Node (node.Member operand.now member.now)) result }
     {
         let value = self.operand(operand)?;
         Ok(Operand::Scalar(self.member_of(operand, value, member)?))
@@ -270,7 +272,7 @@ impl<'a, N: Names, T: Joins> Evaluation<'a, N, T> {
         receiver: &'a Expr,
         method: &str,
     ) -> Result<Operand<'a>, ScalarError>
-        ensures { IsOperand (N.scope self.now.names.now) (sums_in (expr.Node (node.Method receiver.now method.now arguments.now))) (shape_of (N.world self.now.names.now) (N.scope self.now.names.now) (expr.Node (node.Method receiver.now method.now arguments.now))) result }
+        ensures { IsEvaluated (N.world self.now.names.now) (N.scope self.now.names.now) (expr.Node (node.Method receiver.now method.now arguments.now)) result }
     {
         let text = self.operand(receiver)?;
         text.scalar()?;
@@ -283,7 +285,7 @@ impl<'a, N: Names, T: Joins> Evaluation<'a, N, T> {
     #[inline(never)]
     #[tactic(auto, using(crate::proofs::ShapeLemmas::operands, crate::proofs::ShapeLemmas::shape_minus, crate::proofs::SumLemmas::sums_unary))]
     fn minus(&self, operand: &'a Expr) -> Result<Operand<'a>, ScalarError>
-        ensures { IsOperand (N.scope self.now.names.now) (sums_in (expr.Node (node.Unary unary.Minus operand.now))) (shape_of (N.world self.now.names.now) (N.scope self.now.names.now) (expr.Node (node.Unary unary.Minus operand.now))) result }
+        ensures { IsEvaluated (N.world self.now.names.now) (N.scope self.now.names.now) (expr.Node (node.Unary unary.Minus operand.now)) result }
     {
         Ok(Operand::Scalar(minus(self.operand(operand)?)?))
     }
@@ -293,7 +295,7 @@ impl<'a, N: Names, T: Joins> Evaluation<'a, N, T> {
     #[inline(never)]
     #[tactic(auto, using(crate::proofs::ShapeLemmas::operands, crate::proofs::ShapeLemmas::shape_not, crate::proofs::SumLemmas::sums_unary))]
     fn not(&self, operand: &'a Expr) -> Result<Operand<'a>, ScalarError>
-        ensures { IsOperand (N.scope self.now.names.now) (sums_in (expr.Node (node.Unary unary.Not operand.now))) (shape_of (N.world self.now.names.now) (N.scope self.now.names.now) (expr.Node (node.Unary unary.Not operand.now))) result }
+        ensures { IsEvaluated (N.world self.now.names.now) (N.scope self.now.names.now) (expr.Node (node.Unary unary.Not operand.now)) result }
     {
         let truth = self.operand(operand)?.truth()?;
         Ok(Operand::Scalar(ScalarRef::Bool(!truth)))
@@ -309,7 +311,7 @@ impl<'a, N: Names, T: Joins> Evaluation<'a, N, T> {
         left: &'a Expr,
         right: &'a Expr,
     ) -> Result<Operand<'a>, ScalarError>
-        ensures { IsOperand (N.scope self.now.names.now) (sums_in (expr.Node (node.Binary sign left.now right.now))) (shape_of (N.world self.now.names.now) (N.scope self.now.names.now) (expr.Node (node.Binary sign left.now right.now))) result }
+        ensures { IsEvaluated (N.world self.now.names.now) (N.scope self.now.names.now) (expr.Node (node.Binary sign left.now right.now)) result }
     {
         let x = self.operand(left)?;
         if is_equality(sign) {
@@ -326,7 +328,7 @@ impl<'a, N: Names, T: Joins> Evaluation<'a, N, T> {
     #[inline(never)]
     #[tactic(auto, using(crate::proofs::ShapeLemmas::operands, crate::proofs::ShapeLemmas::shape_both, crate::proofs::SumLemmas::sums_both))]
     fn both(&self, left: &'a Expr, right: &'a Expr) -> Result<Operand<'a>, ScalarError>
-        ensures { IsOperand (N.scope self.now.names.now) (sums_in (expr.Node (node.And left.now right.now))) (shape_of (N.world self.now.names.now) (N.scope self.now.names.now) (expr.Node (node.And left.now right.now))) result }
+        ensures { IsEvaluated (N.world self.now.names.now) (N.scope self.now.names.now) (expr.Node (node.And left.now right.now)) result }
     {
         match self.operand(left)?.truth()? {
             true => self.operand(right),
@@ -339,7 +341,7 @@ impl<'a, N: Names, T: Joins> Evaluation<'a, N, T> {
     #[inline(never)]
     #[tactic(auto, using(crate::proofs::ShapeLemmas::operands, crate::proofs::ShapeLemmas::shape_either, crate::proofs::SumLemmas::sums_either))]
     fn either(&self, left: &'a Expr, right: &'a Expr) -> Result<Operand<'a>, ScalarError>
-        ensures { IsOperand (N.scope self.now.names.now) (sums_in (expr.Node (node.Or left.now right.now))) (shape_of (N.world self.now.names.now) (N.scope self.now.names.now) (expr.Node (node.Or left.now right.now))) result }
+        ensures { IsEvaluated (N.world self.now.names.now) (N.scope self.now.names.now) (expr.Node (node.Or left.now right.now)) result }
     {
         match self.operand(left)?.truth()? {
             true => Ok(Operand::Scalar(ScalarRef::Bool(true))),
@@ -352,7 +354,7 @@ impl<'a, N: Names, T: Joins> Evaluation<'a, N, T> {
     #[inline(never)]
     #[tactic(auto, using(crate::proofs::ShapeLemmas::operands, crate::proofs::ShapeLemmas::shape_coalesce, crate::proofs::SumLemmas::sums_coalesce))]
     fn coalesced(&self, left: &'a Expr, right: &'a Expr) -> Result<Operand<'a>, ScalarError>
-        ensures { IsOperand (N.scope self.now.names.now) (sums_in (expr.Node (node.Coalesce left.now right.now))) (shape_of (N.world self.now.names.now) (N.scope self.now.names.now) (expr.Node (node.Coalesce left.now right.now))) result }
+        ensures { IsEvaluated (N.world self.now.names.now) (N.scope self.now.names.now) (expr.Node (node.Coalesce left.now right.now)) result }
     {
         let value = self.operand(left)?;
         match value.is_null()? {
@@ -371,7 +373,7 @@ impl<'a, N: Names, T: Joins> Evaluation<'a, N, T> {
         left: &'a Expr,
         right: &'a Expr,
     ) -> Result<Operand<'a>, ScalarError>
-        ensures { IsOperand (N.scope self.now.names.now) (sums_in (expr.Node (node.Conditional condition.now left.now right.now))) (shape_of (N.world self.now.names.now) (N.scope self.now.names.now) (expr.Node (node.Conditional condition.now left.now right.now))) result }
+        ensures { IsEvaluated (N.world self.now.names.now) (N.scope self.now.names.now) (expr.Node (node.Conditional condition.now left.now right.now)) result }
     {
         match self.operand(condition)?.truth()? {
             true => self.operand(left),
