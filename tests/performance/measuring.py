@@ -5,17 +5,25 @@ import os
 import subprocess
 
 SECONDS = 60
+# The policy file, in which no table has row security.
+POLICY = "p.toml"
+
+
+def write_policy():
+    with open(POLICY, "w") as file:
+        file.write('role = [{name = "reader"}]\n')
 
 
 class Failure(Exception):
     """The program did something else than it has to."""
 
 
-def run(program, table, script, reply):
-    """A run over the table file `table`, with the script and the whole expected standard output in files: its processor
+def run(program, table, script, reply, policy=POLICY):
+    """A run over the table file `table`, with the script, the whole expected standard output and the policies in files: its processor
     time in seconds and its peak of memory in bytes. It has to end with status 0 and with nothing on standard error."""
     with open(script, "rb") as stdin, open("out", "wb") as out, open("err", "wb") as err:
-        process = subprocess.Popen(["timeout", str(SECONDS), program, table], stdin=stdin, stdout=out, stderr=err)
+        words = ["timeout", str(SECONDS), program, "--role", "reader", "--policy", policy, table]
+        process = subprocess.Popen(words, stdin=stdin, stdout=out, stderr=err)
         _, status, used = os.wait4(process.pid, 0)
         process.returncode = os.waitstatus_to_exitcode(status)
     if process.returncode != 0:

@@ -3,57 +3,82 @@
 import random
 from dataclasses import dataclass, field
 
+import commandlines
 import examples
 import files
+import policy_examples
+import policy_files
 import scalars
 import sentences
 import statements
 from tables import MARK
 
-FIRST_OF_SENTENCES = 4000
-FIRST_OF_SCALARS = 4300
-CASES = 4420
+FIRST_OF_SENTENCES = 4300
+FIRST_OF_SCALARS = 4600
+FIRST_OF_POLICIES = 4720
+CASES = 6020
 NO_UTF8 = [
     b"\x80", b"\xff", b"\xc3", b"\xc0\x80", b"\xe2\x82", b"\xed\xa0\x80", b"\xf4\x90\x80\x80", b"\xf0\x9f\x98", b"\xef\xbb",
     b"\xf8\x88\x80\x80\x80",
 ]
 RUN = b"run from x in t select x.c;\n"
 TABLE_OF_SCRIPT = b"c:int\n1\n2\n"
+# The options of most fixed cases, and their policy file.
+OPTIONS = [b"--role", b"reader", b"--policy", b"p.toml"]
+POLICY = {"p.toml": b'role = [{name = "reader"}]\n'}
+POLICY_PATHS = ["p.toml", "p.toml", "./p.toml", "sub/p", "policy .toml", "é"]
+# What stands on standard input where the script is a file.
+NOT_READ = b"run 7;\n"
 
 
 @dataclass
 class Case:
-    """What the program is run on. The words name files of the folder that it runs in; the folder `sub` is always there."""
+    """What the program is run on. The words name files of the folder that it runs in; the folder `sub` is always there. The
+    script is standard input, or where `script_file` names it, that file."""
 
     words: list
     files: dict = field(default_factory=dict)
     script: bytes = RUN
     can_read: bool = True
     can_write: bool = True
+    script_file: str = None
+
+    def input(self):
+        return NOT_READ if self.script_file else self.script
+
+    def all_files(self):
+        return self.files | ({self.script_file: self.script} if self.script_file else {})
 
 
 def of_script(script, **more):
     """A case of a script over one small table."""
-    return Case([b"t.csv"], {"t.csv": TABLE_OF_SCRIPT}, script, **more)
+    return Case([*OPTIONS, b"t.csv"], POLICY | {"t.csv": TABLE_OF_SCRIPT}, script, **more)
 
 
-def of_file(data):
+def of_file(data, script=RUN + b"run from x in t where x.c > 1 select x.c;\n"):
     """A case of one table file."""
-    return Case([b"t.csv"], {"t.csv": data}, RUN + b"run from x in t where x.c > 1 select x.c;\n")
+    return Case([*OPTIONS, b"t.csv"], POLICY | {"t.csv": data}, script)
 
 
 def of_words(*words):
     """A case of words over the same few files."""
-    data = {"t.csv": b"c:int\n1\n", "u.csv": b"c:int\n2\n", "sub/t.csv": b"c:int\n3\n"}
-    data |= {"bad.csv": b"c\n", "sub/bad/t.csv": b"c\n", "from.csv": b"c:int\n"}
-    return Case(list(words), data, RUN + b"run from x in u select x.c;\n")
+    data = {"t.csv": b"c:int\n1\n", "u.csv": b"c:int\n2\n", "sub/t.csv": b"c:int\n3\n", "s.lq": b"run 4;\n"}
+    data |= {"bad.csv": b"c\n", "sub/bad/t.csv": b"c\n", "from.csv": b"c:int\n", "bad.toml": b"x = 1\n"}
+    return Case(list(words), POLICY | data, RUN + b"run from x in u select x.c;\n")
+
+
+def of_company(policies, role="dan", script=b"run from e in employees select e.name;\nrun from d in depts select d.id;\n"):
+    """A case of a policy file over the tables of the small company."""
+    words = ["--role", role, "--policy", "policy.toml", *policy_examples.FILES]
+    return Case([word.encode() for word in words], policy_examples.FILES | {"policy.toml": policies}, script)
 
 
 def of_many_tables(count, *more):
     """A case of so many tables, and more words behind them."""
     data = {f"t{number}.csv": f"c:int\n{number}\n".encode() for number in range(count)}
     script = b"".join(b"run from x in t%d select x.c;\n" % number for number in range(count + 1))
-    return Case([*(name.encode() for name in data), *more], data | {"bad.csv": b"c\n", "sub/t0.csv": b"c:int\n"}, script)
+    words = [*OPTIONS, *(name.encode() for name in data), *more]
+    return Case(words, POLICY | data | {"bad.csv": b"c\n", "sub/t0.csv": b"c:int\n"}, script)
 
 
 def columns(count, kind=b":int"):
@@ -67,9 +92,10 @@ def padded(data, size):
 
 
 def word_cases():
-    """Words of the command line: files that are there or not, names, doubled names, and the number of tables."""
+    """Words of the command line: options, files that are there or not, names, doubled names, and the number of tables."""
+    calls = [*commandlines.CALLS, *commandlines.NO_COMMANDS, *commandlines.HELP]
     words = [
-        [], [b"t.csv"], [b"\xff.csv"], [b"t.csv", b"\xff"], [b"bad.csv", b"\xff"], [b""], [b"t.csv", b""], [b"t.csv", b"t.csv"],
+        [b"t.csv"], [b"\xff.csv"], [b"t.csv", b"\xff"], [b"bad.csv", b"\xff"], [b""], [b"t.csv", b""], [b"t.csv", b"t.csv"],
         [b"t.csv", b"sub/t"], [b"t.csv", b"bad.csv", b"none.csv"], [b"none.csv", b"bad.csv"], [b"t.csv", b"sub/bad/t.csv"],
         [b"from.csv"], [b"from.csv", b"bad.csv"], [b"--", b"t.csv"], [b"--version"], [b"t.csv/"],
         [b"t.csv/t"], [b"sub"], [b"sub/"], [b"\n"], ["é".encode()], [b"x" * 300], [b"u.csv", b"t.csv"], [b"u.csv", b"./sub/t.csv"],
@@ -80,7 +106,8 @@ def word_cases():
         of_many_tables(64, b"sub/t0.csv"), of_many_tables(64, b"none.csv"), of_many_tables(64, b"bad.csv"),
         of_many_tables(64, b"from.csv"), of_many_tables(65, b"bad.csv"),
     ]
-    return [of_words(*some) for some in words] + many
+    called = [of_words(*(word.encode() for word in call)) for call in calls]
+    return called + [of_words(*OPTIONS, *some) for some in words] + many
 
 
 def table_cases():
@@ -95,6 +122,17 @@ def table_cases():
         large, large + b"\n", MARK + large, MARK + large.replace(b"000", b"", 1), columns(101) + b"x" * 16_777_216,
         b"c\n" + b"\xff" * 16_777_215, b"\n" * 16_777_217, b"c:int\n" + b"-12\n" * 30_000,
     ]]
+
+
+def company_cases():
+    """Table files and policy files with known answers."""
+    known = [of_company(text.encode(), role) for text, role, _ in policy_examples.SEEN]
+    known += [of_company(policy_examples.bytes_of(text)) for texts in policy_examples.WORDS.values() for text in texts]
+    # An accepted file may have other roles.
+    known += [of_company(text.encode(), role) for text in policy_examples.ACCEPTED for role in ("dan", "reader")]
+    files_of = policy_examples.TABLE_WORDS | policy_examples.TABLE_CELLS
+    script = RUN + b"run from x in t select x.c == null;\nrun from x in t where x.c select 1;\nrun from x in t select x.c.Length;\n"
+    return known + [of_file(data, script) for data in files_of]
 
 
 def size_cases():
@@ -135,12 +173,13 @@ def device_cases():
         of_script(RUN, can_read=False), of_script(RUN, can_read=False, can_write=False), of_script(RUN, can_write=False),
         of_script(b"", can_write=False), of_script(b"//\n", can_write=False), of_script(b";", can_write=False),
         of_script(b"\xff", can_write=False), of_script(RUN * 40_000, can_write=False),
+        Case([*OPTIONS, b"--script", b"s.lq", b"t.csv"], POLICY | {"t.csv": TABLE_OF_SCRIPT}, can_read=False, script_file="s.lq"),
     ]
 
 
 def fixed_cases():
     """Cases that chance would hardly give."""
-    return word_cases() + table_cases() + size_cases() + text_cases() + device_cases()
+    return word_cases() + table_cases() + company_cases() + size_cases() + text_cases() + device_cases()
 
 
 def chosen_tables(dice):
@@ -160,12 +199,30 @@ def script_of(dice, tables, line=statements.line, count=15):
     return script
 
 
-def served_case(dice):
-    """Right table files in all spellings, and a script over them."""
-    tables = chosen_tables(dice)
+def chosen_role(dice, roles):
+    """A role of the policy file, or now and then one that isn't there."""
+    return dice.choice(roles) if dice.random() < 0.97 else dice.choice(["zed", "public", "", "Dan", "dan ", "-"])
+
+
+def call(dice, tables, policies, role, script):
+    """A call over table files, a policy file and a script, which is standard input or a file."""
     words = {name: files.word(dice, name) for name in tables}
     data = {words[name]: files.spelled_file(dice, files.records(dice, table)) for name, table in tables.items()}
-    return Case([word.encode() for word in words.values()], data, script_of(dice, tables))
+    path = dice.choice(POLICY_PATHS)
+    values = {"--role": role, "--policy": path}
+    script_file = dice.choice(["s.lq", "./s", "sub/s.lq"]) if dice.random() < 0.15 else None
+    if script_file:
+        values["--script"] = script_file
+    line = commandlines.command_line(dice, values, list(words.values()))
+    return Case([word.encode() for word in line], data | {path: policies}, script, script_file=script_file)
+
+
+def served_case(dice):
+    """Right table files in all spellings, a right policy file over them, and a script."""
+    tables = chosen_tables(dice)
+    file = policy_files.right_file(dice, tables)
+    role = chosen_role(dice, [entry["name"] for entry in file["role"]])
+    return call(dice, tables, policy_files.spelled_file(dice, file).encode(), role, script_of(dice, tables))
 
 
 def refused_case(dice):
@@ -177,7 +234,7 @@ def refused_case(dice):
     elif kind < 0.15:
         word = dice.choice(files.NO_FILES)
     elif kind < 0.2:
-        word = "sub/" + dice.choice(case.words).decode().rsplit("/", 1)[-1]
+        word = "sub/" + dice.choice([path for path in case.files if path not in POLICY_PATHS]).rsplit("/", 1)[-1]
         case.files.setdefault(word, b"c:int\n1\n")
     else:
         word = "more.csv"
@@ -187,11 +244,18 @@ def refused_case(dice):
     return case
 
 
+def policy_case(dice):
+    """A case of a policy file with a fault or two."""
+    tables = chosen_tables(dice)
+    data, _ = policy_files.faulty_file(dice, tables)
+    return call(dice, tables, data, dice.choice(policy_files.ROLE_NAMES), script_of(dice, tables, count=4))
+
+
 def lines_case(dice, line):
     """A script of many lines of one kind."""
     tables = chosen_tables(dice)
     data = {f"{name}.csv": files.spelled_file(dice, files.records(dice, table)) for name, table in tables.items()}
-    return Case([path.encode() for path in data], data, script_of(dice, tables, line, 60))
+    return Case([*OPTIONS, *(path.encode() for path in data)], POLICY | data, script_of(dice, tables, line, 60))
 
 
 def case_of(number, fixed):
@@ -199,6 +263,8 @@ def case_of(number, fixed):
     if number < len(fixed):
         return fixed[number]
     dice = random.Random(number)
+    if number >= FIRST_OF_POLICIES:
+        return policy_case(dice)
     if number >= FIRST_OF_SENTENCES:
         return lines_case(dice, sentences.line if number < FIRST_OF_SCALARS else scalars.line)
     return refused_case(dice) if dice.random() < 0.2 else served_case(dice)

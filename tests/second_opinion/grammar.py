@@ -46,13 +46,23 @@ class Tokens:
         return True
 
 
+def whole(tokens, part):
+    """The tree of a part that all the tokens spell."""
+    reader = Tokens(tokens)
+    tree = part(reader)
+    if reader.place < len(tokens):
+        raise SyntaxFault("tokens behind it")
+    return tree
+
+
 def parse(tokens):
     """The statement that all tokens of a line spell."""
-    reader = Tokens(tokens)
-    tree = statement(reader)
-    if reader.place < len(tokens):
-        raise SyntaxFault("tokens behind the statement")
-    return tree
+    return whole(tokens, statement)
+
+
+def parse_condition(tokens):
+    """The expression that all tokens of a rule spell."""
+    return whole(tokens, expression)
 
 
 def listed(reader, part):

@@ -123,15 +123,11 @@ def value_of(tree, names):
     return operate(tree.kind, operands)
 
 
-def visible_rows(table):
-    """PostgreSQL, row security policies: where row security is off, each row is visible. The program has it off everywhere."""
-    return table.rows
-
-
 def items_of(query, tables):
-    """ECMA-334, where and select clauses: one row after the other, and of each on which all conditions are true, the value."""
+    """ECMA-334, where and select clauses: one row after the other, and of each on which all conditions are true, the value. The
+    tables are those that the role sees."""
     clauses, end, _ = query.parts
-    for row in visible_rows(source_of(clauses[0], tables)):
+    for row in source_of(clauses[0], tables).rows:
         names = Names(scope_of(clauses[0], tables), {clauses[0].parts[0]: row})
         if all(value_of(clause.parts[0], names) for clause in clauses[1:]):
             yield value_of(end.parts[0], names)

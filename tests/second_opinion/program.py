@@ -1,13 +1,15 @@
 """The whole program by this reading: words and a script give standard output, standard error and a status.
 
-It can be used in the place of `lq`, slowly: `python3 -B tests/second_opinion/program.py T.csv .. <script.lq`
+It can be used in the place of `lq`, slowly: `python3 -B tests/second_opinion/program.py --role R --policy P T.csv .. <SCRIPT`
 """
 
 import os
 import sys
 from dataclasses import dataclass
 
+from commands import HelpWanted, UsageFault, options_of
 from meaning import reply_of
+from policies import PolicyFault, as_seen, read_policies
 from tables import TableFault, read_table, without_marks
 
 MOST_SCRIPT_BYTES = 1_048_576
@@ -24,32 +26,71 @@ class Fault(Exception):
 
 
 WRITE_FAULT = Fault("lq: script: write", 4)
+SOME_TEXT = None
 
 
 @dataclass(frozen=True)
 class Answer:
-    """The program's status, and what it wrote to standard output and to standard error."""
+    """The program's status, and what it wrote to standard output and to standard error. SOME_TEXT stands for any text, but
+    not for none: that of the library that reads the command line."""
 
     status: int
     output: bytes
     errors: bytes
+    # What the role has to do with the rows: words for whoever counts cases.
+    views: frozenset = frozenset()
+
+    def is_met_by(self, other):
+        texts = ((self.output, other.output), (self.errors, other.errors))
+        return self.status == other.status and all(want == found or want is SOME_TEXT and found for want, found in texts)
 
 
 def tables_of(words):
-    """The tables of the words in order; the first fault ends the program. Words are bytes, and have to be text."""
-    try:
-        texts = [word.decode("utf-8") for word in words]
-    except UnicodeDecodeError:
-        texts = []
-    if not texts:
-        raise Fault("usage: lq T.csv ..", 2)
+    """The tables of the words in order; the first fault ends the program."""
     tables = {}
-    for text in texts:
+    for word in words:
         try:
-            read_table(text, tables)
+            read_table(word, tables)
         except TableFault as fault:
-            raise Fault(f"lq: {text}: {fault}", 3) from None
+            raise Fault(f"lq: {word}: {fault}", 3) from None
     return tables
+
+
+def seen_tables(options):
+    """The tables as the role sees them, and words for what it sees. The tables are read before the policies, and these before
+    the role is sought."""
+    tables = tables_of(options.tables)
+    word, user = options.values["--policy"], options.values["--role"]
+    try:
+        policies = read_policies(word, tables)
+    except PolicyFault as fault:
+        raise Fault(f"lq: {word}: {fault}", 3) from None
+    if user not in policies.roles:
+        raise Fault(f"lq: {user}: role", 3)
+    seen = as_seen(policies, tables, user)
+    return seen, views_of(policies, tables, seen, user)
+
+
+def views_of(policies, tables, seen, user):
+    """Whether the tables with row security are seen in part, not at all or whole, and what is said of the role."""
+    pairs = [(len(seen[name].rows), len(tables[name].rows)) for name in policies.secured if tables[name].rows]
+    if not pairs:
+        return frozenset()
+    count, rows = map(sum, zip(*pairs))
+    words = ["none" if count == 0 else "whole" if count == rows else "part"]
+    role = policies.roles[user]
+    return frozenset(words + ["bypass"] * role.bypass + ["member"] * (len(role.within) > 1))
+
+
+def script_of(options, read_script):
+    """The bytes of the script: the file that is named, or standard input."""
+    try:
+        if "--script" not in options.values:
+            return read_script()
+        with open(options.values["--script"], "rb") as file:
+            return file.read(MOST_SCRIPT_BYTES + 1)
+    except OSError:
+        raise Fault("lq: script: read", 4) from None
 
 
 def lines_of(script):
@@ -63,13 +104,11 @@ def lines_of(script):
 
 
 def replies_of(words, read_script):
-    """The tables are read before the script, and the whole script before its first line is answered."""
-    tables = tables_of(words)
-    try:
-        script = read_script()
-    except OSError:
-        raise Fault("lq: script: read", 4) from None
-    return "".join(reply_of(line, tables) for line in lines_of(script)).encode()
+    """Tables, policies and the role come before the script, and the whole script before its first line is answered."""
+    options = options_of(words)
+    tables, views = seen_tables(options)
+    script = script_of(options, read_script)
+    return "".join(reply_of(line, tables) for line in lines_of(script)).encode(), views
 
 
 def ended_by(fault):
@@ -80,12 +119,16 @@ def ended_by(fault):
 def answer(words, read_script, can_write=True):
     """The answer to words and a script; `can_write` is whether standard output takes bytes."""
     try:
-        output = replies_of(words, read_script)
+        output, views = replies_of(words, read_script)
         if output and not can_write:
             raise WRITE_FAULT
-        return Answer(0, output, b"")
+        return Answer(0, output, b"", views)
     except Fault as fault:
         return ended_by(fault)
+    except UsageFault:
+        return Answer(2, b"", SOME_TEXT)
+    except HelpWanted:
+        return Answer(0, SOME_TEXT, b"")
 
 
 def main():
@@ -94,10 +137,10 @@ def main():
     given = answer(words, lambda: open(0, "rb").read())
     try:
         with open(1, "wb", closefd=False) as output:
-            output.write(given.output)
+            output.write(b"help\n" if given.output is SOME_TEXT else given.output)
     except OSError:
         given = ended_by(WRITE_FAULT)
-    sys.stderr.buffer.write(given.errors)
+    sys.stderr.buffer.write(b"usage\n" if given.errors is SOME_TEXT else given.errors)
     sys.exit(given.status)
 
 

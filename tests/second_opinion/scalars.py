@@ -35,7 +35,7 @@ CHOICES = {
 # Of each operator its level, and the least levels of what stands before it and behind it.
 LEVELS = {
     "?": (0, 1, 0), "??": (1, 2, 1), "||": (2, 2, 3), "&&": (3, 3, 4), "EQUAL": (4, 4, 5), "COMPARE": (5, 5, 6),
-    "PLUS": (6, 6, 7), "+": (6, 6, 7), "TIMES": (7, 7, 8), "!": (8, 8, 8), "-": (8, 8, 8), ".": (9, 9, 0),
+    "PLUS": (6, 6, 7), "+": (6, 6, 7), "TIMES": (7, 7, 8), "DIVIDE": (7, 7, 8), "!": (8, 8, 8), "-": (8, 8, 8), ".": (9, 9, 0),
 }
 PRIMARY, UNARY = 9, 8
 SCALARS = ("int", "int?", "bool", "string")
@@ -67,9 +67,14 @@ STRAY = [
 class Scope:
     """What has a type at a place: literals, and where there is a table, its range variable and its columns."""
 
-    def __init__(self, variable=None, table=None):
+    # How often brackets that are needed are left out.
+    slips = 0.02
+
+    def __init__(self, variable=None, table=None, forms=FORMS):
         self.leaves = {its_type: [[word] for word in words] for its_type, words in LITERALS.items()}
         self.choices = dict(CHOICES)
+        self.types = set(forms)
+        self.places = {}
         if table is not None:
             self.leaves["row"] = [[variable]]
             for column, its_type in table.columns.items():
@@ -77,13 +82,24 @@ class Scope:
                 self.leaves.setdefault(its_type, []).extend([[variable, ".", column]] * 4)
                 if its_type in ("int", "int?"):
                     self.leaves["int"] += [spelled_int(row[column]) for row in table.rows if row[column] is not None]
-        self.forms = {
-            its_type: [form for form in forms if all(map(self.has, form))] for its_type, forms in FORMS.items()
-        }
+        self.add_leaves()
+        self.forms = {its_type: [form for form in some if all(map(self.has, form))] for its_type, some in forms.items()}
+
+    def add_leaves(self):
+        """What else has a type, in other kinds of scopes."""
 
     def has(self, word):
         """Whether something stands here for a form's word: not for all types, and not for all types' columns."""
-        return word in self.leaves if word in FORMS else word in self.choices or not word.startswith("COLUMN")
+        return word in self.leaves if word in self.types else word in self.choices or not word.startswith("COLUMN")
+
+    def around(self, its_type):
+        """The places of a type in forms: the type and the form that it is in, and where it stands there."""
+        if its_type not in self.places:
+            self.places[its_type] = [
+                (outer, form, place) for outer, forms in self.forms.items() for form in forms
+                for place, word in enumerate(form) if word == its_type
+            ]
+        return self.places[its_type]
 
     def of_any_type(self, dice):
         return dice.choice(list(self.leaves))
@@ -114,10 +130,10 @@ def stray(dice, scope):
     return UNARY, dice.choice(STRAY).split()
 
 
-def in_brackets(dice, part, least):
+def in_brackets(dice, part, least, slips):
     """What stands beside an operator, in brackets where they are needed, and by chance; now and then they are left out."""
     level, words = part
-    brackets = dice.random() > 0.02 if level < least else dice.random() < 0.1
+    brackets = dice.random() >= slips if level < least else dice.random() < 0.1
     return ["(", *words, ")"] if brackets else words
 
 
@@ -127,8 +143,8 @@ def filled(dice, form, scope, part_of):
     own, least, behind = LEVELS[operator]
     words = []
     for place, word in enumerate(form):
-        if word in FORMS:
-            words += in_brackets(dice, part_of(place, word), least)
+        if word in scope.types:
+            words += in_brackets(dice, part_of(place, word), least, scope.slips)
         else:
             words.append(dice.choice(scope.choices.get(word, [word])))
         least = behind if word == operator else least
@@ -147,11 +163,7 @@ def expression(dice, its_type, scope, fuel, strays=0):
 
 def wrapped(dice, its_type, part, scope):
     """A form that has the expression in it, with leaves in its other places, and the form's type."""
-    around = [
-        (outer, form, place) for outer, forms in scope.forms.items() for form in forms
-        for place, word in enumerate(form) if word == its_type
-    ]
-    outer, form, hole = dice.choice(around)
+    outer, form, hole = dice.choice(scope.around(its_type))
     return outer, filled(dice, form, scope, lambda place, inner: part if place == hole else leaf(dice, inner, scope))
 
 

@@ -5,7 +5,7 @@ A sentence is the list of its tokens' spellings. `fuel` bounds how far a sentenc
 
 from depth import MOST_BRACKETS, MOST_WEIGHT, depth_of
 from lexer import RESERVED, SIGNS, tokens_of
-from statements import spell
+from statements import number_columns, spell
 
 NAMES = [
     "x", "x", "x", "y", "t", "t", "c", "c", "_", "row", "First", "Select", "é", "e\u0301", "变量", "имя", "ª", "x٣", "ﬁ", "_1",
@@ -188,7 +188,7 @@ def bracketed(dice, words):
 
 def number(dice, variable, table):
     """An operand of a comparison that is served."""
-    column = dice.choice(list(table.columns))
+    column = dice.choice(number_columns(table))
     near = [str(row[column]) for row in table.rows if row[column] >= 0] or ["1"]
     return bracketed(dice, dice.choice([
         [*bracketed(dice, [variable]), ".", column], [dice.choice(near)], [dice.choice(INTEGERS)], ["-", "2147483648"],
@@ -328,7 +328,7 @@ def deep_served(dice, tables):
     """What is selected stands in so many brackets as may be, or in one or two more."""
     its_name, table = dice.choice(list(tables.items()))
     brackets = MOST_BRACKETS + dice.choice([-1, 0, 0, 1, 2])
-    column = ["x", ".", dice.choice(list(table.columns))]
+    column = ["x", ".", dice.choice(number_columns(table))]
     selected = ["("] * brackets + column + [")"] * brackets
     wheres = ["where", *column, dice.choice(COMPARISONS), "1"] * dice.choice([0, 0, 1, 2, 3])
     return ["run", "from", "x", "in", its_name, *wheres, "select", *selected, ";"]
@@ -337,7 +337,7 @@ def deep_served(dice, tables):
 def long_served(dice, tables):
     """Many conditions, up to the weight's limit and past it."""
     its_name, table = dice.choice(list(tables.items()))
-    column = ["x", ".", dice.choice(list(table.columns))]
+    column = ["x", ".", dice.choice(number_columns(table))]
     always = dice.choice([[*column, "<=", "2147483647"], ["-", "2147483648", "<=", *column], [*column, "==", *column]])
     least = dice.choice([["where", "1", "!=", "2"], ["where", *column, "!=", "-", "2147483648"]])
     first = ["run", "from", "x", "in", its_name, *least * dice.choice([0, 1, 1, 2])]

@@ -86,14 +86,19 @@ def number_near(dice, table, column):
     """A number that a comparison with the column's cells tells something about; one in ten is any number of the pool."""
     if dice.random() < 0.1:
         return dice.choice(NUMBERS)
-    cells = [row[column] for row in table.rows if row[column] >= 0] or [0]
+    cells = [row[column] for row in table.rows if row[column] is not None and row[column] >= 0] or [0]
     value = min(max(dice.choice(cells) + dice.choice([-1, 0, 0, 0, 1]), 0), 2147483647)
     return dice.choice(["", "", "", "0", "00", "0" * 40]) + str(value)
 
 
+def number_columns(table):
+    """The columns of integers, of which each table has one."""
+    return [column for column, its_type in table.columns.items() if its_type == "int"]
+
+
 def comparison(dice, variable, table):
     """A comparison of a column with a number that tells something about it, or now and then with another column."""
-    columns = list(table.columns)
+    columns = [column for column, its_type in table.columns.items() if its_type in ("int", "int?")]
     column = dice.choice(columns)
     other = [variable, ".", dice.choice(columns)] if dice.random() < 0.1 else [number_near(dice, table, column)]
     return [variable, ".", column, dice.choice(SIGNS), *other]
@@ -190,7 +195,7 @@ def reserved_names(dice, tables):
 def other_numbers(dice, tables):
     """A condition with a number at a limit, or with what is no number."""
     name, table = dice.choice(list(tables.items()))
-    column = dice.choice(list(table.columns))
+    column = dice.choice(number_columns(table))
     number = dice.choice(["", "", "0", "0" * 100]) + dice.choice(NUMBERS + NO_NUMBERS)
     words = ["run", "from", "x", "in", name, "where", "x", ".", column, dice.choice(SIGNS), number]
     return spell(dice, [*words, "select", "x", ".", column, ";"])

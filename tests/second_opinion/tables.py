@@ -1,4 +1,4 @@
-"""Table files: CSV with a header `NAME:int`, and the first fault of a file."""
+"""Table files: CSV with a header `NAME:TYPE`, and the first fault of a file."""
 
 import re
 from dataclasses import dataclass
@@ -11,7 +11,10 @@ MOST_TABLES = 64
 MARK = b"\xef\xbb\xbf"
 
 LEAST_INT, LARGEST_INT = -2147483648, 2147483647
-INT_CELL = re.compile(rb"(-?)([0-9]+)")
+INT_CELL = re.compile(r"(-?)([0-9]+)")
+RANGE = re.compile(r"int\[([^.\]]*)\.\.([^\]]*)\]")
+TRUTH_CELLS = {"true": True, "True": True, "TRUE": True, "t": True, "false": False, "False": False, "FALSE": False, "f": False}
+NULL = "\\N"
 CELL = re.compile(rb'(?:"((?:[^"]+|"")*)(?:"|\Z))?([^,\r\n]*)')
 
 
@@ -19,9 +22,22 @@ class TableFault(Exception):
     """The table is refused, for the reason that stands on standard error."""
 
 
+class NoCell(Exception):
+    """A text is no cell of a column."""
+
+
+@dataclass(frozen=True)
+class Column:
+    """A column's type, and for its integers the least and the largest that it takes."""
+
+    type: str
+    least: int = LEAST_INT
+    largest: int = LARGEST_INT
+
+
 @dataclass
 class Table:
-    """`columns` is a dict of each column's name to its type; a row is a dict of each column's name to its cell."""
+    """`columns` is a dict of each column's name to its type; a row is a dict of each column's name to its cell, None for null."""
 
     columns: dict
     rows: list
@@ -29,9 +45,10 @@ class Table:
 
 def without_marks(data):
     """The bytes without the byte order marks at their head."""
-    while data.startswith(MARK):
-        data = data[len(MARK):]
-    return data
+    place = 0
+    while data.startswith(MARK, place):
+        place += len(MARK)
+    return data[place:]
 
 
 def record_at(data, place):
@@ -63,37 +80,72 @@ def records_of(data):
         yield record
 
 
+def int_of(text):
+    """The int that a text spells, an optional `-` and digits, however many zeros lead."""
+    found = INT_CELL.fullmatch(text)
+    if found is None:
+        raise NoCell
+    sign, digits = found.groups()
+    digits = digits.lstrip("0") or "0"
+    value = int(sign + digits) if len(digits) <= 10 else LARGEST_INT + 1
+    if not LEAST_INT <= value <= LARGEST_INT:
+        raise NoCell
+    return value
+
+
+def column_of_type(spelled):
+    """The column of a TYPE. The bounds of a range are spelled as cells are, and the first isn't above the second."""
+    if spelled in ("int", "int?", "bool", "string"):
+        return Column(spelled)
+    found = RANGE.fullmatch(spelled)
+    if found is None:
+        raise NoCell
+    least, largest = map(int_of, found.groups())
+    if least > largest:
+        raise NoCell
+    return Column("int", least, largest)
+
+
 def column_of(cell):
-    """The column's name and type that a cell `NAME:int` of the header gives."""
+    """The column's name and the column that a cell `NAME:TYPE` of the header gives."""
     try:
         name, colon, spelled = cell.decode("utf-8").partition(":")
-    except UnicodeDecodeError:
+        if not is_name(name) or not colon:
+            raise NoCell
+        return name, column_of_type(spelled)
+    except (UnicodeDecodeError, NoCell):
         raise TableFault("header") from None
-    if not is_name(name) or colon + spelled != ":int":
-        raise TableFault("header")
-    return name, "int"
 
 
 def columns_of(header):
     """The header's cells in order: a cell's form comes before whether its name was there already."""
     columns = {}
     for cell in header:
-        name, its_type = column_of(cell)
+        name, column = column_of(cell)
         if name in columns:
             raise TableFault("duplicate-name")
-        columns[name] = its_type
+        columns[name] = column
     return columns
 
 
-def int_of(cell):
-    """The int that a cell spells, an optional `-` and digits; None where it is none."""
-    found = INT_CELL.fullmatch(cell)
-    if found is None:
+def value_of_cell(cell, column):
+    """What a cell of the column holds. A cell that is no UTF-8 holds nothing, whatever the column's type."""
+    try:
+        text = cell.decode("utf-8")
+    except UnicodeDecodeError:
+        raise NoCell from None
+    if text == NULL and column.type in ("int?", "string") or text == "" and column.type == "int?":
         return None
-    sign, digits = found.groups()
-    digits = digits.lstrip(b"0") or b"0"
-    value = int(sign + digits) if len(digits) <= 10 else LARGEST_INT + 1
-    return value if LEAST_INT <= value <= LARGEST_INT else None
+    if column.type == "string":
+        return text
+    if column.type == "bool":
+        if text not in TRUTH_CELLS:
+            raise NoCell
+        return TRUTH_CELLS[text]
+    value = int_of(text)
+    if not column.least <= value <= column.largest:
+        raise NoCell
+    return value
 
 
 def row_of(record, columns, number):
@@ -101,10 +153,11 @@ def row_of(record, columns, number):
     if len(record) != len(columns):
         raise TableFault("csv")
     row = {}
-    for place, (name, cell) in enumerate(zip(columns, record), 1):
-        row[name] = int_of(cell)
-        if row[name] is None:
-            raise TableFault(f"cell {number} {place}")
+    for place, ((name, column), cell) in enumerate(zip(columns.items(), record), 1):
+        try:
+            row[name] = value_of_cell(cell, column)
+        except NoCell:
+            raise TableFault(f"cell {number} {place}") from None
     return row
 
 
@@ -119,7 +172,8 @@ def table_of(data):
     if len(header) > MOST_COLUMNS:
         raise TableFault("too-large")
     columns = columns_of(header)
-    return Table(columns, [row_of(record, columns, number) for number, record in enumerate(records, 2)])
+    rows = [row_of(record, columns, number) for number, record in enumerate(records, 2)]
+    return Table({name: column.type for name, column in columns.items()}, rows)
 
 
 def name_of(word):
@@ -135,7 +189,7 @@ def read_table(word, tables):
     name = name_of(word)
     try:
         with open(word, "rb") as file:
-            data = file.read()
+            data = file.read(MOST_BYTES + 1)
     except OSError:
         raise TableFault("read") from None
     table = table_of(data)

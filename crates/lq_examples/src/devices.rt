@@ -1,4 +1,5 @@
 //! Serving over devices that fail, and loading.
+use crate::loads::options_of;
 use lq_serve::{Device, MemoryFiles, ServeError, Summary, finish, load, serve};
 use lq_session::Session;
 use std::alloc::{AllocError, Global};
@@ -18,10 +19,15 @@ const OUTPUT: &[u8] =
 
 const REPLIES: u64 = 4;
 
+const FILES: [(&str, &[u8]); 2] = [
+    ("t.csv", b"c:int\n1\n2\n"),
+    ("p", b"role = [{name = \"a\"}]"),
+];
+
 fn session(alloc: Global) -> Result<Session, Fail> {
-    let names = names_of(alloc, &["t.csv"])?;
-    let mut files = MemoryFiles::new(alloc, &[("t.csv", b"c:int\n1\n2\n")]);
-    Ok(load(alloc, names.as_slice(), &mut files)?)
+    let options = options_of(alloc, "a", "p", &["t.csv"])?;
+    let mut files = MemoryFiles::new(alloc, &FILES);
+    Ok(load(alloc, &options, &mut files)?)
 }
 
 pub(crate) fn names_of(alloc: Global, words: &[&str]) -> Result<Vec<String>, AllocError> {

@@ -1,5 +1,6 @@
-//! Loading tables, and the lines of what is refused.
+//! Starting: tables, policies and the role, and the lines of what is refused.
 use crate::devices::{Fault, names_of, taking};
+use lq_options::Options;
 use lq_serve::{Device, FileError, Files, MemoryFiles, StartError, load, refuse};
 use lq_session::Session;
 use lq_value::Txt;
@@ -7,7 +8,24 @@ use std::alloc::Global;
 use std::process::Abort;
 use std::test::Fail;
 
-const FILES: [(&str, &[u8]); 8] = [
+const FILES: [(&str, &[u8]); 16] = [
+    ("p.toml", POLICIES),
+    ("no.toml", b"role = ["),
+    ("shape.toml", b"roles = []"),
+    (
+        "name.toml",
+        b"table = [{name = \"w\", row_security = true}]",
+    ),
+    ("twice.toml", b"role = [{name = \"a\"}, {name = \"a\"}]"),
+    (
+        "type.toml",
+        b"policy = [{name = \"a\", table = \"t\", using = \"row.c\"}]",
+    ),
+    (
+        "fault.toml",
+        b"policy = [{name = \"a\", table = \"t\", using = \"row.c + 1 > 0\"}]",
+    ),
+    ("none.toml", b""),
     ("t.csv", b"c:int\n1\n2\n"),
     ("data/old/u.csv", b"a:int,b:int\n-1,7\n"),
     ("v", b"c:int\n"),
@@ -17,6 +35,12 @@ const FILES: [(&str, &[u8]); 8] = [
     ("cell.csv", b"a:int\nx\n"),
     ("csv/.csv", b"a:int\n"),
 ];
+
+// Row security on `t`: `low` sees the first row, a member of it as well, and `all` every row.
+const POLICIES: &[u8] = b"\
+role = [{name = \"low\"}, {name = \"sub\", member_of = [\"low\"]}, {name = \"all\", bypass = true}]\n\
+table = [{name = \"t\", row_security = true}]\n\
+[[policy]]\nname = \"one\"\ntable = \"t\"\nto = [\"low\"]\nusing = \"row.c < 2\"\n";
 
 fn folder(alloc: Global) -> MemoryFiles<'static> {
     MemoryFiles::new(alloc, &FILES)
@@ -29,6 +53,21 @@ fn assert_reply(rt: &impl Abort, session: &mut Session, line: &str, reply: &str)
     }
 }
 
+// What the command line asks for: a role, a policy file and table files.
+pub(crate) fn options_of(
+    alloc: Global,
+    role: &str,
+    policy: &str,
+    tables: &[&str],
+) -> Result<Options, Fail> {
+    Ok(Options {
+        role: String::from_str(alloc, role)?,
+        policy: String::from_str(alloc, policy)?,
+        script: None,
+        tables: names_of(alloc, tables)?,
+    })
+}
+
 fn assert_refused(
     rt: &impl Abort,
     alloc: Global,
@@ -36,8 +75,18 @@ fn assert_refused(
     words: &[&str],
     line: &str,
 ) -> Result<(), Fail> {
-    let names = names_of(alloc, words)?;
-    match load(alloc, names.as_slice(), files) {
+    let options = options_of(alloc, "low", "no.toml", words)?;
+    assert_refused_by(rt, alloc, files, &options, line)
+}
+
+fn assert_refused_by(
+    rt: &impl Abort,
+    alloc: Global,
+    files: &mut MemoryFiles<'_>,
+    options: &Options,
+    line: &str,
+) -> Result<(), Fail> {
+    match load(alloc, options, files) {
         Err(StartError::Refused(told)) => {
             assert!(rt; told.as_str() == line, "{line} and not {told:?}");
         }
@@ -49,8 +98,8 @@ fn assert_refused(
 #[test]
 fn tables_load_by_their_names(rt: HostRuntime) -> Result<(), Fail> {
     let alloc = rt.alloc();
-    let names = names_of(alloc, &["t.csv", "data/old/u.csv", "v"])?;
-    let mut session = load(alloc, names.as_slice(), &mut folder(alloc))?;
+    let options = options_of(alloc, "all", "p.toml", &["t.csv", "data/old/u.csv", "v"])?;
+    let mut session = load(alloc, &options, &mut folder(alloc))?;
     for (line, reply) in &[
         ("run from x in t select x.c;", "{\"items\":[1,2]}\n"),
         ("run from x in u select x.b;", "{\"items\":[7]}\n"),
@@ -63,15 +112,42 @@ fn tables_load_by_their_names(rt: HostRuntime) -> Result<(), Fail> {
 }
 
 #[test]
-fn no_names_give_no_tables(rt: HostRuntime) -> Result<(), Fail> {
+fn roles_see_what_the_policies_show(rt: HostRuntime) -> Result<(), Fail> {
     let alloc = rt.alloc();
-    let mut session = load(alloc, &[], &mut folder(alloc))?;
-    assert_reply(
-        &rt,
-        &mut session,
-        "run from x in t select x.c;",
-        "{\"error\":\"type\"}\n",
-    );
+    for (role, policy, reply) in &[
+        ("low", "p.toml", "{\"items\":[1]}\n"),
+        ("sub", "p.toml", "{\"items\":[1]}\n"),
+        ("all", "p.toml", "{\"items\":[1,2]}\n"),
+    ] {
+        let options = options_of(alloc, role, policy, &["t.csv"])?;
+        let mut session = load(alloc, &options, &mut folder(alloc))?;
+        assert_reply(&rt, &mut session, "run from x in t select x.c;", reply);
+    }
+    Ok(())
+}
+
+#[test]
+fn policies_and_the_role_are_refused_behind_the_tables(rt: HostRuntime) -> Result<(), Fail> {
+    let alloc = rt.alloc();
+    for (role, policy, line) in &[
+        ("low", "old.toml", "lq: old.toml: read"),
+        ("low", "no.toml", "lq: no.toml: toml"),
+        ("low", "shape.toml", "lq: shape.toml: shape"),
+        ("low", "name.toml", "lq: name.toml: unknown-name"),
+        ("low", "twice.toml", "lq: twice.toml: duplicate"),
+        ("low", "type.toml", "lq: type.toml: rule-type"),
+        ("low", "fault.toml", "lq: fault.toml: rule-not-total"),
+        ("low", "none.toml", "lq: low: role"),
+        ("zed", "p.toml", "lq: zed: role"),
+    ] {
+        let mut files = folder(alloc);
+        let options = options_of(alloc, role, policy, &["t.csv"])?;
+        assert_refused_by(&rt, alloc, &mut files, &options, line)?;
+        assert_eq!(rt; files.readings().len(), 2);
+        for (reading, limit) in files.readings().iter().zip(&[16_777_217, 1_048_577]) {
+            assert_eq!(rt; reading.limit, *limit);
+        }
+    }
     Ok(())
 }
 
@@ -148,25 +224,29 @@ fn columns_are_counted(rt: HostRuntime) -> Result<(), Fail> {
     )
 }
 
+// The names of so many tables.
+fn numbered(alloc: Global, tables: u32) -> Result<Vec<String>, Fail> {
+    let mut names = Vec::new(alloc);
+    for table in 0..tables {
+        names.push(format!(in alloc; "t{table}")?)?;
+    }
+    Ok(names)
+}
+
 #[test]
 fn tables_are_at_most_64(rt: HostRuntime) -> Result<(), Fail> {
     let alloc = rt.alloc();
-    let mut names = Vec::new(alloc);
-    for table in 0..65u32 {
-        names.push(format!(in alloc; "t{table}")?)?;
-    }
+    let names = numbered(alloc, 65)?;
     let mut headers: Vec<(&str, &[u8])> = Vec::new(alloc);
     for name in &names {
         headers.push((name.as_str(), b"c:int"))?;
     }
     let mut files = MemoryFiles::new(alloc, headers.as_slice());
-    match load(alloc, names.as_slice(), &mut files) {
-        Err(StartError::Refused(told)) => assert!(rt; told.as_str() == "lq: t64: too-many"),
-        _ => panic!(rt; "65 tables were loaded"),
-    }
-    let (_, fewer) = names.as_slice().split_last().ok_or("no names")?;
-    assert!(rt; load(alloc, fewer, &mut files).is_ok());
-    Ok(())
+    let mut options = options_of(alloc, "low", "p", &[])?;
+    options.tables = numbered(alloc, 65)?;
+    assert_refused_by(&rt, alloc, &mut files, &options, "lq: t64: too-many")?;
+    options.tables = numbered(alloc, 64)?;
+    assert_refused_by(&rt, alloc, &mut files, &options, "lq: p: read")
 }
 
 #[test]

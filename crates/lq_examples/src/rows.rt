@@ -1,7 +1,9 @@
 //! Sessions over tables that are written out here.
+use lq_load::table_from_csv;
 use lq_model::{Policy, PolicyParts, Role, TablePart};
-use lq_serve::{Device, serve, table_from_csv};
-use lq_session::{Policies, Session, rules_are_total};
+use lq_policy::{Action, Policies, rules_are_total};
+use lq_serve::{Device, serve};
+use lq_session::Session;
 use lq_store::Store;
 use lq_syntax::parse_rule;
 use lq_value::{List, Txt};
@@ -26,8 +28,11 @@ fn policy(alloc: Global, rule: &Rule) -> Result<Policy, Fail> {
         name: text(alloc, rule.rule)?,
         table: 0,
         restrictive: rule.restrictive,
+        for_all: true,
+        action: Action::Select,
         to,
-        using: parse_rule(alloc, rule.rule)?,
+        using: Some(parse_rule(alloc, rule.rule)?),
+        check: None,
     })
 }
 
@@ -36,6 +41,8 @@ fn parts(alloc: Global, secured: bool, rules: &[Rule]) -> Result<PolicyParts, Fa
     for name in &["a", "b"] {
         roles.push(Role {
             name: text(alloc, name)?,
+            member_of: List::new(alloc),
+            bypass: false,
         })?;
     }
     let mut columns = List::new(alloc);
@@ -69,7 +76,7 @@ pub(crate) fn replies(
     if !rules_are_total(&parts) {
         return Err(Fail::from("a rule may fault"));
     }
-    let Ok(policies) = Policies::build(parts) else {
+    let Ok(policies) = Policies::build(alloc, parts) else {
         return Err(Fail::from("the policies were not built"));
     };
     let role = policies.role(role).ok_or("no such role")?;

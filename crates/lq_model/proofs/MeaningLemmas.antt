@@ -20,15 +20,17 @@ use Rattle.lq_value.specs.declared.value.Value.{Value, out-Value}
 use Rattle.lq_value.specs.declared.value.Value.TheOpen.{Value-F}
 use Rattle.lq_value.specs.declared.value.Value.TheVariants as value
 use Rattle.lq_value.specs.declared.value.Value.TheVariants.{outs-Row as outs-value-Row, outs-Scalar, outs-Seq as outs-value-Seq}
-use Rattle.lq_model.specs.Machine.{State, columns_in, run_reply, schemas_of, seen_by_role, served, served_value, value_reply, world_by}
-use Rattle.lq_model.specs.Meaning.{Scope, World, binding_of, bound, bound_stream, cell_value, clause_meaning, clauses_meaning, comparand, compared_meaning, condition_at, continued, is_null, item_type_at, items_of, last_meaning, meaning, member_value, name_value, names_at, null_member, operated_meaning, same_values, told, as_value, on_scalar, or_null, query_meaning, scalar_of, source_scopes, stream_meaning, stream_of, table_value, truth_value}
+use Rattle.lq_model.specs.ClauseTyping.{element_type, expression_type, source_type}
+use Rattle.lq_model.specs.Machine.{State, cells_of, run_reply, schemas_of, seen_by_role, served, served_value, value_reply, world_by}
+use Rattle.lq_model.specs.Meaning.{Scope, World, binding_of, body_type_at, bound, bound_stream, cell_value, clause_meaning, clauses_meaning, comparand, compared_meaning, condition_at, continued, is_null, item_type_at, items_of, last_meaning, meaning, member_value, name_value, names_at, null_member, operated_meaning, same_values, told, as_value, on_scalar, or_null, query_meaning, scalar_of, source_scopes, stream_meaning, stream_of, table_value, truth_value}
 use Rattle.lq_model.specs.Operations.{negated, of_member, of_one, on_ok, truth_of}
 use Rattle.lq_model.specs.Members.{IsSearch, member_named}
 use Rattle.lq_model.specs.MeaningLaws.{Every, HasCells, HasMeaning, HasStream, HaveTypes, HoldsRows, SelectsScalars, ServesValues, IsOf, is_scalar as is_scalar_value, is_row, is_sequence, IsOfScope, IsScalarOf, IsTypedTable, ServesMeanings, assuming}
-use Rattle.lq_model.specs.Served.{stream_data, value_data}
+use Rattle.lq_model.specs.Served.{columns_in, stream_data, value_data}
 use Rattle.lq_model.specs.Stream.{Stream, kept, one}
 use Rattle.lq_model.specs.Typing.{Names, Claim, TypeOf, Leads, LeadAll, Selects, GivesItems, IsTyped, of_integer, of_local, of_table, of_column, of_text, of_null, of_has_value, of_value, of_length, of_search, of_ordering, of_equality, of_arithmetic, of_joined, of_coalesced, of_minus, of_choice, of_truth, of_not, of_both, of_either, by_where, by_none, by_first, by_select, by_query, HasType, column_named, column_type, are_comparable, are_joined, chosen, coalesced, if_scalar, is_comparison, is_equality, is_ordering, number_type, is_number, is_scalar, item_of, item_type, local_type, row_table, table_number, type_of, type_of_column, with_local}
 use Rattle.lq_model.specs.Visible.{TableRow, cell_named, seen_from, seen_rows, tables_as_seen, visible_to}
+use Rattle.lq_model.specs.declared.policy.Action.TheVariants as action
 use Rattle.lq_model.specs.declared.operation.Op.{Op}
 use Rattle.lq_model.specs.declared.operation.Op.TheVariants as operation
 use Rattle.lq_model.specs.declared.policy.PolicyParts.{PolicyParts}
@@ -49,6 +51,7 @@ use Rattle.lq_model.proofs.EveryItem.{each_same, every_filter, every_kept, every
 use Rattle.lq_model.proofs.Opens.{meaning_binary, meaning_both, meaning_coalesce, meaning_method, meaning_null, meaning_text, meaning_choice, meaning_either, meaning_integer, meaning_member, meaning_minus, meaning_name, meaning_not, meaning_truth}
 use Rattle.lq_model.proofs.ScalarResults.{arithmetic_of, Coalesces, Gives, HasScalars, Widens, chosen_widens, coalesced_fits, faults, given_of, gives, has_value_given, joined_given, joined_scalars, length_given, looked_for, minus_given, no_items_before, no_items_behind, number_scalars, ordering_given, row_is_no_scalar, search_given, sequence_is_no_scalar, signed, value_given}
 use Rattle.lq_model.proofs.TypedValues.{IsRowOrNull, IsSequence, a_row, a_sequence, bool_value, comparand_there, decides_same, member_of_scalar, no_row, row_value, scalar_there, sequence_value, widened_value}
+use Rattle.lq_model.proofs.WholeTypes.{whole_type}
 use Rattle.lq_model.proofs.TypingLemmas.{item_type_sound, type_complete, type_sound}
 
 -- ---- outcomes that are the same in both worlds
@@ -266,16 +269,16 @@ module _ {R : Type 0} (world : World R) (holds : HoldsRows world) (f g : Fault) 
     pub named : Every (At names) xs.0
 
   abbrev clause_in : World R → Scope R → Clause Expr → Stream (Scope R) → Stream (Scope R)
-  clause_in w place c scopes = clause_meaning w type_of (meaning w) place c scopes
+  clause_in w place c scopes = clause_meaning w expression_type (meaning w) place c scopes
 
   abbrev clauses_in : World R → Scope R → List (Clause Expr) → Stream (Scope R) → Stream (Scope R)
-  clauses_in w place cs scopes = clauses_meaning w type_of (meaning w) place cs scopes
+  clauses_in w place cs scopes = clauses_meaning w expression_type (meaning w) place cs scopes
 
   abbrev last_in : World R → Last Expr → Stream (Scope R) → Stream (Value R)
-  last_in w l scopes = last_meaning w type_of (meaning w) l scopes
+  last_in w l scopes = last_meaning w expression_type (meaning w) l scopes
 
   abbrev sources_in : World R → Query Expr → Scope R → Stream (Scope R)
-  sources_in w q place = source_scopes w type_of (meaning w) q place
+  sources_in w q place = source_scopes w expression_type (meaning w) q place
 
   -- what a claim says of meanings in both worlds
   abbrev Means : Claim → Type 0
@@ -486,9 +489,9 @@ module _ {R : Type 0} (world : World R) (holds : HoldsRows world) (f g : Fault) 
 
   means_where : (outer names : Names) (x : Expr) → Means (TypeOf names x ty.Bool) → Means (Leads outer (clause.Where x) names names)
   means_where outer names x means place scopes all = record {
-    alike = each_same (At names) (λ s. kept (condition_at left type_of (meaning left) x s) s) (λ s. kept (condition_at right type_of (meaning right) x s) s)
+    alike = each_same (At names) (λ s. kept (condition_at left expression_type (meaning left) x s) s) (λ s. kept (condition_at right expression_type (meaning right) x s) s)
         (λ s at. ap (λ (o : Result Bool Fault). kept o s) (condition_outcome _ _ (means s at))) scopes.0 scopes.1 all;
-    named = every_kept (At names) (condition_at left type_of (meaning left) x) scopes.0 scopes.1 all;
+    named = every_kept (At names) (condition_at left expression_type (meaning left) x) scopes.0 scopes.1 all;
   }
 
   means_all : (outer before between behind : Names) (c : Clause Expr) (cs : List (Clause Expr)) → Means (Leads outer c before between) → Means (LeadAll outer cs between behind)
@@ -515,13 +518,13 @@ module _ {R : Type 0} (world : World R) (holds : HoldsRows world) (f g : Fault) 
       }
     where
       found : Ty
-      found = item_type_at left type_of (meaning left) q.source scope
+      found = item_type_at left expression_type (meaning left) q.source scope
 
       is_item : found ≡ item
       is_item =
-          ap (λ (m : Names). or_null (option_and_then (λ t. item_of (out-Ty t)) (type_of q.source m))) (sym at.0)
-          ∙ ap (λ (o : Option Ty). or_null (option_and_then (λ t. item_of (out-Ty t)) o)) (type_complete names typed)
-          ∙ ap (λ layer. or_null (item_of layer)) (outs-Seq item)
+          ap (λ (m : Names). or_null (source_type expression_type q.source m)) (sym at.0)
+          ∙ ap (λ (o : Option Ty). or_null (option_and_then (λ t. element_type (out-Ty t)) o)) (whole_type names q.source (ty.Seq item) typed)
+          ∙ ap (λ layer. or_null (element_type layer)) (outs-Seq item)
 
       binds : (v : Value R) → IsOf world item v → At (with_local names q.name item) (bound q.name found scope v)
       binds v fits = (
@@ -543,7 +546,10 @@ module _ {R : Type 0} (world : World R) (holds : HoldsRows world) (f g : Fault) 
       }
     where
       without_rest : (w : World R) → q.rest ≡ [] → stream_meaning w q scope ≡ last_in w q.body.last (clauses_in w scope q.body.clauses (sources_in w q scope))
-      without_rest w ended = ap (λ (rest : List (Continuation Expr)). continued w type_of (meaning w) rest (last_in w q.body.last (clauses_in w scope q.body.clauses (sources_in w q scope)))) ended
+      without_rest w ended =
+          ap (λ (rest : List (Continuation Expr)). continued w expression_type (meaning w) scope rest
+          (body_type_at w expression_type (meaning w) scope q.body q.name (item_type_at w expression_type (meaning w) q.source scope))
+          (last_in w q.body.last (clauses_in w scope q.body.clauses (sources_in w q scope)))) ended
 
   means : {claim : Claim} → IsTyped claim → Means claim
   means (of_integer names e n is) = same_as names e (expr.Node (node.Integer n)) ty.Int is (means_integer names n)
@@ -588,6 +594,11 @@ module _ {R : Type 0} (world : World R) (holds : HoldsRows world) (f g : Fault) 
   means (by_first outer before between behind c cs first others) = means_all outer before between behind c cs (means first) (means others)
   means (by_select names l v t is typed scalar) = subst (λ (k : Last Expr). Means (Selects names k t)) (sym is) (means_select names v t (means typed))
   means (by_query names behind q item t source fresh clauses selected ended) = means_query names behind q item t source (means source) (means clauses) (means selected) ended
+
+-- what a typed expression means, if it is a value, is one of its type
+pub value_of_type : {R : Type 0} (world : World R) → HoldsRows world → (f : Fault) (names : Names) (e : Expr) (t : Ty) → HasType names e t → (scope : Scope R) → names ≡ names_at world scope
+    → IsOfScope world scope → (v : Value R) → meaning (assuming f world) e scope ≡ Ok v → IsOf world t v
+value_of_type world holds f names e t typed scope at fits = of_its_type world holds f f t _ _ (means world holds f f typed scope (at, fits))
 
 -- ---- the laws
 
@@ -708,8 +719,8 @@ module _ (s : State) (typed : Every IsTypedTable s.tables) (unknown : Fault) whe
         seen_at s.policies s.role 0 n s.tables ∙ ap (option_map (λ t. seen_rows s.policies s.role (0 + n) t.rows)) found.1
             ∙ ap (λ m. Some (seen_rows s.policies s.role m found.0.rows)) (zero-add n),
         every_map (λ row. HaveTypes found.0.schema.columns row.cells) (HasCells seen_world n) (λ row. record { table = n; row = row }) (λ row fit. column_by n found.0 row at fit)
-            (filter (λ row. visible_to s.policies s.role n row.cells) found.0.rows)
-            (every_filter (λ row. HaveTypes found.0.schema.columns row.cells) (λ row. visible_to s.policies s.role n row.cells) found.0.rows (typed n found.0 found.1)),
+            (filter (λ row. visible_to s.policies s.role action.Select n row.cells) found.0.rows)
+            (every_filter (λ row. HaveTypes found.0.schema.columns row.cells) (λ row. visible_to s.policies s.role action.Select n row.cells) found.0.rows (typed n found.0 found.1)),
       )
 
 pub serves_meanings : ServesMeanings
@@ -724,7 +735,7 @@ serves_meanings s typed q unknown = by (item_type type_of q names) refl where
   by : (o : Option Ty) → item_type type_of q names ≡ o → served world q o ≡ served (world_by unknown (schemas_of s.tables) (seen_by_role s)) q o
   by None is = refl
   by (Some t) is =
-      ap stream_data (has_stream world (holds_seen s typed fault.NullReference) [] (every_none (λ b. IsOf world b.ty b.value)) q t (item_type_sound names q t is) fault.NullReference unknown).0
+      ap (stream_data world.schemas cells_of t) (has_stream world (holds_seen s typed fault.NullReference) [] (every_none (λ b. IsOf world b.ty b.value)) q t (item_type_sound names q t is) fault.NullReference unknown).0
 
 -- what has the type of a scalar has a type
 typed_scalar : (o : Option Ty) (t : Ty) → if_scalar o ≡ Some t → (u : Ty) × (o ≡ Some u)
@@ -744,4 +755,4 @@ serves_values s typed e unknown = by (if_scalar (type_of e names)) refl where
   by None is = refl
   by (Some t) is =
       let found = typed_scalar (type_of e names) t is in
-      ap value_data (has_meaning world (holds_seen s typed fault.NullReference) [] (every_none (λ b. IsOf world b.ty b.value)) e found.0 (type_sound e names found.0 found.1) fault.NullReference unknown).0
+      ap (value_data world.schemas cells_of t) (has_meaning world (holds_seen s typed fault.NullReference) [] (every_none (λ b. IsOf world b.ty b.value)) e found.0 (type_sound e names found.0 found.1) fault.NullReference unknown).0

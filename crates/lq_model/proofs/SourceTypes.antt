@@ -18,38 +18,38 @@ use Rattle.lq_model.specs.declared.syntax.Node.TheVariants as node
 abbrev pub HasNoItems : Ty → Type 0
 HasNoItems t = item_of (out-Ty t) ≡ None
 
-no_items_Int : HasNoItems ty.Int
+pub no_items_Int : HasNoItems ty.Int
 no_items_Int = ap item_of outs-Int
 
-no_items_IntN : HasNoItems ty.IntN
+pub no_items_IntN : HasNoItems ty.IntN
 no_items_IntN = ap item_of outs-IntN
 
-no_items_Bool : HasNoItems ty.Bool
+pub no_items_Bool : HasNoItems ty.Bool
 no_items_Bool = ap item_of outs-Bool
 
-no_items_Str : HasNoItems ty.Str
+pub no_items_Str : HasNoItems ty.Str
 no_items_Str = ap item_of outs-Str
 
-no_items_Null : HasNoItems ty.Null
+pub no_items_Null : HasNoItems ty.Null
 no_items_Null = ap item_of outs-Null
 
-no_items_Row : (n : ℕ) → HasNoItems (ty.Row n)
+pub no_items_Row : (n : ℕ) → HasNoItems (ty.Row n)
 no_items_Row n = ap item_of (outs-Row n)
 
 -- a type that is found has no items where the one that it is has none
-has_none : (s t : Ty) → HasNoItems s → Some s ≡ Some t → HasNoItems t
+pub has_none : (s t : Ty) → HasNoItems s → Some s ≡ Some t → HasNoItems t
 has_none s t none h = subst HasNoItems (same_Some s t h) none
 
-numbers_have_none : (layer : Ty-F Ty) → is_number layer ≡ true → item_of layer ≡ None
+pub numbers_have_none : (layer : Ty-F Ty) → is_number layer ≡ true → item_of layer ≡ None
 numbers_have_none Ty-F.Int h = refl
 numbers_have_none Ty-F.IntN h = refl
 numbers_have_none layer h = absurd (true≢false (sym h))
 
-number_has_none : (s t : Ty-F Ty) → HasNoItems (number_type s t)
+pub number_has_none : (s t : Ty-F Ty) → HasNoItems (number_type s t)
 number_has_none Ty-F.Int Ty-F.Int = no_items_Int
 number_has_none s t = no_items_IntN
 
-coalesced_has_none : (s t : Ty-F Ty) (r : Ty) → coalesced s t ≡ Some r → HasNoItems r
+pub coalesced_has_none : (s t : Ty-F Ty) (r : Ty) → coalesced s t ≡ Some r → HasNoItems r
 coalesced_has_none Ty-F.IntN Ty-F.Int r h = has_none ty.Int r no_items_Int h
 coalesced_has_none Ty-F.IntN Ty-F.IntN r h = has_none ty.IntN r no_items_IntN h
 coalesced_has_none Ty-F.IntN Ty-F.Null r h = has_none ty.IntN r no_items_IntN h
@@ -61,7 +61,7 @@ row_has_none : (m : ℕ) (r : Ty) (b : Bool) → (if b then Some (ty.Row m) else
 row_has_none m r true h = has_none (ty.Row m) r (no_items_Row m) h
 row_has_none m r false h = absurd (none-some r h)
 
-chosen_has_none : (s t : Ty-F Ty) (r : Ty) → chosen s t ≡ Some r → HasNoItems r
+pub chosen_has_none : (s t : Ty-F Ty) (r : Ty) → chosen s t ≡ Some r → HasNoItems r
 chosen_has_none Ty-F.Int Ty-F.Int r h = has_none ty.Int r no_items_Int h
 chosen_has_none Ty-F.Int Ty-F.IntN r h = has_none ty.IntN r no_items_IntN h
 chosen_has_none Ty-F.IntN Ty-F.Int r h = has_none ty.IntN r no_items_IntN h

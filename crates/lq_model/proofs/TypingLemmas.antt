@@ -32,7 +32,7 @@ use Rattle.lq_model.proofs.Opens.{argument_type, layer_type, rolled_type, type_b
 
 -- ---- a type, by its layer
 
-abbrev type_with : Ty-F Ty → Ty
+abbrev pub type_with : Ty-F Ty → Ty
 type_with Ty-F.Int = ty.Int
 type_with Ty-F.IntN = ty.IntN
 type_with Ty-F.Bool = ty.Bool
@@ -60,7 +60,7 @@ of_layer (Ty-F.Rec members) y h = subst IsOfLayer (sym (rolls-Rec members)) (sym
 of_layer (Ty-F.Seq t) y h = subst IsOfLayer (sym (rolls-Seq t)) (sym (ap type_with (outs-Seq t)))
 of_layer (Ty-F.Group k t) y h = subst IsOfLayer (sym (rolls-Group k t)) (sym (ap type_with (outs-Group k t)))
 
-is_of_layer : (t : Ty) → t ≡ type_with (out-Ty t)
+pub is_of_layer : (t : Ty) → t ≡ type_with (out-Ty t)
 is_of_layer t = ind-Ty IsOfLayer of_layer t
 
 item_layer : (layer : Ty-F Ty) (item : Ty) → item_of layer ≡ Some item → type_with layer ≡ ty.Seq item
@@ -88,12 +88,12 @@ is_text_of t h = is_of_layer t ∙ text_layer (out-Ty t) h
 
 -- an operator asks for the order of its operands, or whether they are the same, or computes
 
-orders_alone : (op : Binary) → is_ordering op ≡ true → is_equality op ≡ false
+pub orders_alone : (op : Binary) → is_ordering op ≡ true → is_equality op ≡ false
 orders_alone binary.Equal h = absurd (true≢false (sym h))
 orders_alone binary.NotEqual h = absurd (true≢false (sym h))
 orders_alone op h = refl
 
-computes_alone : (op : Binary) → is_comparison op ≡ false → (is_equality op ≡ false) × (is_ordering op ≡ false)
+pub computes_alone : (op : Binary) → is_comparison op ≡ false → (is_equality op ≡ false) × (is_ordering op ≡ false)
 computes_alone binary.Equal h = absurd (true≢false h)
 computes_alone binary.NotEqual h = absurd (true≢false h)
 computes_alone binary.Less h = absurd (true≢false h)
@@ -102,7 +102,7 @@ computes_alone binary.LessOrEqual h = absurd (true≢false h)
 computes_alone binary.GreaterOrEqual h = absurd (true≢false h)
 computes_alone op h = (refl, refl)
 
-compares_not : (op : Binary) → is_equality op ≡ false → is_ordering op ≡ false → is_comparison op ≡ false
+pub compares_not : (op : Binary) → is_equality op ≡ false → is_ordering op ≡ false → is_comparison op ≡ false
 compares_not binary.Equal same orders = same
 compares_not binary.NotEqual same orders = same
 compares_not binary.Less same orders = orders
@@ -111,10 +111,10 @@ compares_not binary.LessOrEqual same orders = orders
 compares_not binary.GreaterOrEqual same orders = orders
 compares_not op same orders = refl
 
-numbers_compute : (op : Binary) (s t : Ty-F Ty) → is_equality op ≡ false → is_number s ≡ true → is_number t ≡ true → operated_type op s t ≡ Some (result_type op s t)
+pub numbers_compute : (op : Binary) (s t : Ty-F Ty) → is_equality op ≡ false → is_number s ≡ true → is_number t ≡ true → operated_type op s t ≡ Some (result_type op s t)
 numbers_compute op s t other s_number t_number = rw (other, s_number, t_number) refl
 
-joined_found : (s t : Ty-F Ty) → are_joined s t ≡ true → operated_type binary.Add s t ≡ Some ty.Str
+pub joined_found : (s t : Ty-F Ty) → are_joined s t ≡ true → operated_type binary.Add s t ≡ Some ty.Str
 joined_found Ty-F.Str Ty-F.Str h = refl
 joined_found Ty-F.Str Ty-F.Null h = refl
 joined_found Ty-F.Null Ty-F.Str h = refl

@@ -2,13 +2,14 @@
 use Rattle.std.specs.Prelude.{◌∷◌, ◌++◌, List, [], map, ℕ, Option, Some, None, codes, slice_get}
 use Rattle.serde_json.specs.Data.{Data}
 use Rattle.lq_value.specs.Tables.{Table}
+use Rattle.lq_value.specs.declared.scalar.Scalar.{Scalar}
 use Rattle.lq_value.specs.declared.table.Schema.{Schema}
 use Rattle.lq_value.specs.declared.ty.Ty.{Ty}
 use Rattle.lq_value.specs.declared.value.Fault.{Fault}
 use Rattle.lq_value.specs.declared.value.Fault.TheVariants as fault
 use Rattle.lq_model.specs.Meaning.{World, meaning, stream_meaning}
 use Rattle.lq_model.specs.Reading.{Reading, Nothing, Says, IsNoSyntax, IsTooDeep, reading_of}
-use Rattle.lq_model.specs.Served.{error_data, line_of, stream_data, value_data}
+use Rattle.lq_model.specs.Served.{columns_in, error_data, line_of, stream_data, value_data}
 use Rattle.lq_model.specs.Typing.{if_scalar, item_type, type_of}
 use Rattle.lq_model.specs.Visible.{TableRow, cell_named, tables_as_seen}
 use Rattle.lq_model.specs.declared.policy.PolicyParts.{PolicyParts}
@@ -40,9 +41,9 @@ schemas_of tables = map (λ table. table.schema) tables
 abbrev pub seen_by_role : State → List (List TableRow)
 seen_by_role s = tables_as_seen s.policies s.role s.tables
 
-abbrev pub columns_in : Option Schema → List (List ℕ)
-columns_in None = []
-columns_in (Some schema) = map (λ column. column.name) schema.columns
+-- what stands in a row, in the order of its table's columns
+abbrev pub cells_of : TableRow → List Scalar
+cells_of r = r.row.cells
 
 -- what queries read: these schemas, and these rows alone; the fault stands where an expression has no meaning
 abbrev pub world_by : Fault → List Schema → List (List TableRow) → World TableRow
@@ -56,7 +57,7 @@ world_of = world_by fault.NullReference
 -- a query without a type is refused, any other serves its stream
 abbrev pub served : World TableRow → Query Expr → Option Ty → Data
 served world q None = error_data (codes "type")
-served world q (Some t) = stream_data (stream_meaning world q [])
+served world q (Some t) = stream_data world.schemas cells_of t (stream_meaning world q [])
 
 -- the reply of `run` over these schemas and rows
 unfoldable pub run_reply : List Schema → List (List TableRow) → Query Expr → Data
@@ -69,7 +70,7 @@ run_in s q = run_reply (schemas_of s.tables) (seen_by_role s) q
 -- an expression without the type of a scalar is refused, any other serves its value
 abbrev pub served_value : World TableRow → Expr → Option Ty → Data
 served_value world e None = error_data (codes "type")
-served_value world e (Some t) = value_data (meaning world e [])
+served_value world e (Some t) = value_data world.schemas cells_of t (meaning world e [])
 
 -- the reply of `run` of an expression over these schemas and rows
 unfoldable pub value_reply : List Schema → List (List TableRow) → Expr → Data

@@ -14,8 +14,11 @@ use Rattle.lq_value.specs.declared.value.Value.TheOpen.{Value-F}
 use Rattle.lq_value.specs.declared.value.Value.TheVariants as value
 use Rattle.lq_model.specs.Members.{member_named, search_named, sole_argument}
 use Rattle.lq_model.specs.Operations.{negated, of_member, of_search, of_two, on_ok, operation_of, same_content, truth_of}
-use Rattle.lq_model.specs.Stream.{Stream, select_by, where_by}
-use Rattle.lq_model.specs.Typing.{Names, is_equality, is_text_type, item_of, row_table, table_number, type_of}
+use Rattle.lq_model.specs.Arrangement.{order_by}
+use Rattle.lq_model.specs.ClauseTyping.{body_items, expression_type, joined_name, source_type}
+use Rattle.lq_model.specs.Stream.{Stream, elements_of, expand_by, group_by, join_by, select_by, where_by, with_keys}
+use Rattle.lq_model.specs.Typing.{Names, is_equality, is_text_type, row_table, table_number, type_of, with_local}
+use Rattle.lq_value.specs.SameAndOrder.{same_values as same_keys}
 use Rattle.lq_model.specs.declared.operation.Op.{Op}
 use Rattle.lq_model.specs.declared.operation.Op.TheVariants as op
 use Rattle.lq_model.specs.declared.syntax.Binary.{Binary}
@@ -26,11 +29,13 @@ use Rattle.lq_model.specs.declared.syntax.Body.{Body}
 use Rattle.lq_model.specs.declared.syntax.Continuation.{Continuation}
 use Rattle.lq_model.specs.declared.syntax.Expr.{Expr, para-Expr}
 use Rattle.lq_model.specs.declared.syntax.Expr.TheOpen.{Expr-F}
+use Rattle.lq_model.specs.declared.syntax.Join.{Join}
 use Rattle.lq_model.specs.declared.syntax.Last.{Last}
 use Rattle.lq_model.specs.declared.syntax.Last.TheVariants as last
 use Rattle.lq_model.specs.declared.syntax.Node.{Node}
 use Rattle.lq_model.specs.declared.syntax.Node.TheVariants as node
 use Rattle.lq_model.specs.declared.syntax.Query.{Query}
+use Rattle.lq_model.specs.declared.syntax.SortKey.{SortKey}
 use Rattle.lq_model.specs.declared.syntax.Unary.TheVariants as unary
 
 -- a local name with its type and its value
@@ -164,11 +169,26 @@ module _ {R : Type 0} (world : World R) where
   -- the stream that a value is enumerated as; a fault met in making it is its ending
   abbrev pub items_of : Value-F R (Value R) → Stream (Value R)
   items_of (Value-F.Seq xs e) = (xs, e)
+  items_of (Value-F.Group key xs) = (xs, end.Done)
   items_of layer = ([], end.Fault world.unknown)
 
   abbrev pub stream_of : Result (Value R) Fault → Stream (Value R)
   stream_of (Ok v) = items_of (out-Value R v)
   stream_of (Err f) = ([], end.Fault f)
+
+-- ---- keys
+
+module _ {R : Type 0} where
+  abbrev pub is_null_layer : Value-F R (Value R) → Bool
+  is_null_layer (Value-F.Scalar scalar.Null) = true
+  is_null_layer layer = false
+
+  -- the items whose keys are the same as this one, in their order; a key that is itself null is the same as none
+  abbrev pub matches : Value R → List (Value R × Value R) → List (Value R)
+  matches key qs = if is_null_layer (out-Value R key) then [] else elements_of same_keys key qs
+
+  abbrev pub as_group : Value R × List (Value R) → Value R
+  as_group group = value.Group group.0 group.1
 
 -- ---- clauses, whatever their expressions are: `typed` tells the type that one has under names, `meant` what it means
 
@@ -177,38 +197,73 @@ module _ {R X : Type 0} (world : World R) (typed : X → Names → Option Ty) (m
   abbrev pub condition_at : X → Scope R → Result Bool Fault
   condition_at c scope = on_scalar world (meant c scope) (truth_of world.unknown)
 
+  -- the type of a source's items
+  abbrev pub item_type_at : X → Scope R → Ty
+  item_type_at source scope = or_null (source_type typed source (names_at world scope))
+
+  -- a scope with one more range variable
+  abbrev pub extended : List ℕ → Ty → Scope R → Value R → Result (Scope R) Fault
+  extended name t scope v = Ok (bound name t scope v)
+
+  -- the inner items of a `join` with their keys, which see no range variable but their own
+  abbrev pub inner_items : Scope R → Join X → Stream (Value R × Value R)
+  inner_items outer j = with_keys (λ v. meant j.inner_key (bound j.name (item_type_at j.source outer) outer v)) (stream_of world (meant j.source outer))
+
+  -- the inner items that a key matches, in their order; or all of them as one sequence
+  abbrev pub joined_values : Option (List ℕ) → Value R → List (Value R × Value R) → List (Value R)
+  joined_values None key qs = matches key qs
+  joined_values (Some g) key qs = value.Seq (matches key qs) end.Done ∷ []
+
+  -- the type of the name that a `join` leaves behind
+  abbrev pub joined_type : Option (List ℕ) → Ty → Ty
+  joined_type None t = t
+  joined_type (Some g) t = ty.Seq t
+
+  abbrev pub sort_key_at : SortKey X → Scope R → Result Scalar Fault
+  sort_key_at k scope = on_scalar world (meant k.value scope) (λ s. Ok s)
+
   -- a clause of a query at the place of the first scope maps a stream of scopes to a stream of scopes
   abbrev pub clause_meaning : Scope R → Clause X → Stream (Scope R) → Stream (Scope R)
+  clause_meaning outer (clause.From n f) scopes =
+      expand_by (λ s. stream_of world (meant f s)) (λ s. extended n (item_type_at f s) s) scopes.0 scopes.1
+  clause_meaning outer (clause.Let n f) scopes =
+      select_by (λ s. on_ok (meant f s) (extended n (or_null (typed f (names_at world s))) s)) scopes.0 scopes.1
   clause_meaning outer (clause.Where c) scopes = where_by (condition_at c) scopes.0 scopes.1
-  clause_meaning outer clause scopes = ([], end.Fault world.unknown)
+  clause_meaning outer (clause.Join j) scopes =
+      join_by (inner_items outer j) (meant j.outer_key) (joined_values j.into)
+      (extended (joined_name j) (joined_type j.into (item_type_at j.source outer))) scopes.0 scopes.1
+  clause_meaning outer (clause.OrderBy ks) scopes = order_by (λ k. k.descending) sort_key_at ks scopes.0 scopes.1
 
   abbrev pub clauses_meaning : Scope R → List (Clause X) → Stream (Scope R) → Stream (Scope R)
   clauses_meaning outer [] scopes = scopes
   clauses_meaning outer (c ∷ cs) scopes = clauses_meaning outer cs (clause_meaning outer c scopes)
 
+  -- `select` gives a value for each scope; `group` the keys in order of their first appearance, each with its elements
   abbrev pub last_meaning : Last X → Stream (Scope R) → Stream (Value R)
   last_meaning (last.Select v) scopes = select_by (meant v) scopes.0 scopes.1
-  last_meaning (last.Group v key) scopes = ([], end.Fault world.unknown)
+  last_meaning (last.Group v key) scopes = group_by same_keys (meant key) (meant v) as_group scopes.0 scopes.1
 
   abbrev pub body_meaning : Scope R → Body X → Stream (Scope R) → Stream (Value R)
   body_meaning outer body scopes = last_meaning body.last (clauses_meaning outer body.clauses scopes)
-
-  -- the type of a source's items
-  abbrev pub item_type_at : X → Scope R → Ty
-  item_type_at source scope = or_null (option_and_then (λ t. item_of (out-Ty t)) (typed source (names_at world scope)))
 
   -- the scopes of a query's first clause
   abbrev pub source_scopes : Query X → Scope R → Stream (Scope R)
   source_scopes q outer = bound_stream q.name (item_type_at q.source outer) outer (stream_of world (meant q.source outer))
 
-  -- what follows by `into` goes on with the items; none of it is typed yet
-  abbrev pub continued : List (Continuation X) → Stream (Value R) → Stream (Value R)
-  continued [] items = items
-  continued (next ∷ rest) items = ([], end.Fault world.unknown)
+  -- the type of what a body gives, whose range variable has this type
+  abbrev pub body_type_at : Scope R → Body X → List ℕ → Ty → Ty
+  body_type_at outer body name t = or_null (body_items typed (names_at world outer) body (with_local (names_at world outer) name t))
+
+  -- what follows by `into` goes on with the items, of this type, by its range variable alone
+  abbrev pub continued : Scope R → List (Continuation X) → Ty → Stream (Value R) → Stream (Value R)
+  continued outer [] t items = items
+  continued outer (next ∷ rest) t items =
+      continued outer rest (body_type_at outer next.body next.name t) (body_meaning outer next.body (bound_stream next.name t outer items))
 
   -- «Clause meaning»: the stream of a query at the place of this scope
   unfoldable pub query_meaning : Query X → Scope R → Stream (Value R)
-  query_meaning q outer = continued q.rest (body_meaning outer q.body (source_scopes q outer))
+  query_meaning q outer =
+      continued outer q.rest (body_type_at outer q.body q.name (item_type_at q.source outer)) (body_meaning outer q.body (source_scopes q outer))
 
 -- ---- expressions
 
@@ -222,7 +277,7 @@ sequence items = value.Seq items.0 items.1
 
 module _ {R : Type 0} (world : World R) where
   -- the meaning of an argument that is there
-  abbrev pub meaning_at : Scope R → Option (Meant R) → Result (Value R) Fault
+  abbrev pub meaning_at : {E : Type 0} → Scope R → Option (E × Meaning R) → Result (Value R) Fault
   meaning_at scope None = Err world.unknown
   meaning_at scope (Some a) = a.1 scope
 
@@ -234,18 +289,20 @@ module _ {R : Type 0} (world : World R) where
   abbrev pub compared_meaning : Binary → Result (Value R) Fault → Result (Value R) Fault → Result (Value R) Fault
   compared_meaning sign a b = on_comparand world a (λ v. on_comparand world b (λ w. on_ok (same_values world v w) (λ same. Ok (truth_value (told sign same)))))
 
+-- An operand beside its meaning: `operand_type` tells its type where it is a scalar or a row, which is all that a node's meaning asks for.
+module _ {R E : Type 0} (world : World R) (operand_type : E → Names → Option Ty) where
   -- the meaning of a node, over the meanings of what it holds
-  abbrev pub node_meaning : Node (Meant R) → Meaning R
+  abbrev pub node_meaning : Node (E × Meaning R) → Meaning R
   node_meaning (node.Integer n) scope = Ok (value.Scalar (scalar.Int n))
   node_meaning (node.Name x) scope = name_value world x (binding_of x scope)
   node_meaning (node.Text t) scope = Ok (value.Scalar (scalar.Text t))
   node_meaning node.Null scope = Ok (value.Scalar scalar.Null)
-  node_meaning (node.Member a m) scope = on_ok (a.1 scope) (λ v. member_value world (type_of a.0 (names_at world scope)) m (out-Value R v))
+  node_meaning (node.Member a m) scope = on_ok (a.1 scope) (λ v. member_value world (operand_type a.0 (names_at world scope)) m (out-Value R v))
   node_meaning (node.Method a m arguments) scope =
-      on_scalar world (a.1 scope) (λ s. on_scalar world (meaning_at scope (sole_argument arguments)) (λ t. as_value (of_search world.unknown (search_named m) s t)))
+      on_scalar world (a.1 scope) (λ s. on_scalar world (meaning_at world scope (sole_argument arguments)) (λ t. as_value (of_search world.unknown (search_named m) s t)))
   node_meaning (node.Binary op a b) scope =
-      if is_equality op then compared_meaning op (a.1 scope) (b.1 scope)
-      else operated_meaning op (type_of a.0 (names_at world scope)) (type_of b.0 (names_at world scope)) (a.1 scope) (b.1 scope)
+      if is_equality op then compared_meaning world op (a.1 scope) (b.1 scope)
+      else operated_meaning world op (operand_type a.0 (names_at world scope)) (operand_type b.0 (names_at world scope)) (a.1 scope) (b.1 scope)
   node_meaning (node.Unary unary.Minus a) scope = on_scalar world (a.1 scope) (λ s. as_value (negated world.unknown s))
   node_meaning (node.Bool b) scope = Ok (truth_value b)
   node_meaning (node.Unary unary.Not a) scope = on_truth world (a.1 scope) (λ t. Ok (truth_value (not t)))
@@ -257,9 +314,10 @@ module _ {R : Type 0} (world : World R) where
   node_meaning (node.Conditional c a b) scope = on_truth world (c.1 scope) (λ t. if t then a.1 scope else b.1 scope)
   node_meaning node scope = Err world.unknown
 
+module _ {R : Type 0} (world : World R) where
   abbrev pub meaning_step : Expr-F (Meant R) → Meaning R
-  meaning_step (Expr-F.Node n) scope = node_meaning n scope
-  meaning_step (Expr-F.Query q) scope = Ok (sequence (query_meaning world (λ x. type_of x.0) (λ x. x.1) q scope))
+  meaning_step (Expr-F.Node n) scope = node_meaning world type_of n scope
+  meaning_step (Expr-F.Query q) scope = Ok (sequence (query_meaning world (λ x. expression_type x.0) (λ x. x.1) q scope))
 
   -- «Scalar meaning»: the value of an expression, or its first fault
   unfoldable pub meaning : Expr → Meaning R
@@ -267,7 +325,7 @@ module _ {R : Type 0} (world : World R) where
 
   -- «Clause meaning» of a query whose expressions mean this
   abbrev pub stream_meaning : Query Expr → Scope R → Stream (Value R)
-  stream_meaning q scope = query_meaning world type_of meaning q scope
+  stream_meaning q scope = query_meaning world expression_type meaning q scope
 
   -- whether an expression is true
   abbrev pub truth_at : Expr → Scope R → Result Bool Fault

@@ -1,20 +1,28 @@
 -- Laws of the policies: which rows are visible, in the words of CREATE POLICY.
-use Rattle.std.specs.Prelude.{◌≡◌, ◌↔◌, ◌∷◌, ◌++◌, List, [], ℕ, map, length, true, false, Some, slice_get}
+use Rattle.std.specs.Prelude.{◌≡◌, ◌↔◌, ◌∷◌, ◌++◌, List, [], ℕ, map, length, true, false, Some, None, slice_get}
 use Rattle.std.specs.List.{Contains}
 use Rattle.lq_value.specs.Tables.{Table}
 use Rattle.lq_value.specs.declared.scalar.Scalar.{Scalar}
 use Rattle.lq_value.specs.declared.table.Row.{Row}
-use Rattle.lq_model.specs.Visible.{Applies, HasCell, IsVisible, TableRow, cell_named, tables_as_seen, visible_to}
+use Rattle.lq_model.specs.Visible.{Applies, GoesBy, HasCell, IsRefusedBy, IsVisible, TableRow, cell_named, goes_by, refuser_of, tables_as_seen, visible_to}
+use Rattle.lq_model.specs.declared.policy.Action.{Action}
+use Rattle.lq_model.specs.declared.policy.Action.TheVariants as action
 use Rattle.lq_model.specs.declared.policy.Policy.{Policy}
 use Rattle.lq_model.specs.declared.policy.PolicyParts.{PolicyParts}
 use Rattle.lq_model.specs.declared.policy.Role.{Role}
 use Rattle.lq_model.specs.declared.policy.TablePart.{TablePart}
 
+-- ---- roles
+
+-- the function tells exactly the roles that a role goes by
+abbrev pub TellsMemberships : Type 0
+TellsMemberships = (roles : List Role) (role other : ℕ) → Contains (goes_by roles role) other ↔ GoesBy roles role other
+
 -- ---- visible rows
 
 -- the function tells exactly the rows that are visible
 abbrev pub TellsVisible : Type 0
-TellsVisible = (parts : PolicyParts) (role table : ℕ) (cells : List Scalar) → (visible_to parts role table cells ≡ true) ↔ IsVisible parts role table cells
+TellsVisible = (parts : PolicyParts) (role : ℕ) (act : Action) (table : ℕ) (cells : List Scalar) → (visible_to parts role act table cells ≡ true) ↔ IsVisible parts role act table cells
 
 -- a rule reads the cell under the first column of a name
 abbrev pub FindsCells : Type 0
@@ -30,7 +38,7 @@ pub data Filters {A : Type 0} (Fact : A → Type 0) : List A → List A → Type
 pub record SeesVisible (parts : PolicyParts) (role number : ℕ) (table : Table) (seen : List TableRow) : Type 0 where
   pub rows : List Row
   pub numbered : seen ≡ map (λ row. record { table = number; row = row }) rows
-  pub visible : Filters (λ row. IsVisible parts role number row.cells) table.rows rows
+  pub visible : Filters (λ row. IsVisible parts role action.Select number row.cells) table.rows rows
 
 -- the tables as seen have the visible rows of each table, and there are as many
 abbrev pub SeesVisibleRows : Type 0
@@ -41,30 +49,73 @@ SeesVisibleRows =
 abbrev pub SeesEachTable : Type 0
 SeesEachTable = (parts : PolicyParts) (role : ℕ) (tables : List Table) → length (tables_as_seen parts role tables) ≡ length tables
 
+-- ---- new rows
+
+-- a new row has no refuser exactly where the role may put it in
+abbrev pub AcceptsVisible : Type 0
+AcceptsVisible = (parts : PolicyParts) (role table : ℕ) (cells : List Scalar) → (refuser_of parts role table cells ≡ None) ↔ IsVisible parts role action.Insert table cells
+
+-- where row security is on and the role doesn't bypass it, a new row is refused under exactly the name that the policies give
+abbrev pub TellsRefuser : Type 0
+TellsRefuser =
+    (parts : PolicyParts) (role table : ℕ) (part : TablePart) (asking : Role) → slice_get parts.tables table ≡ Some part → part.secured ≡ true
+    → slice_get parts.roles role ≡ Some asking → asking.bypass ≡ false → (cells : List Scalar) (name : List ℕ)
+    → (refuser_of parts role table cells ≡ Some name) ↔ IsRefusedBy parts role table (record { user = asking.name; columns = part.columns; cells = cells }) name
+
 -- ---- what follows for whoever writes policies
 
--- no permissive policy applies to this role's reading of the table
-abbrev pub LacksPermission : List ℕ → ℕ → List Policy → Type 0
-LacksPermission role table policies = (policy : Policy) → Contains policies policy → policy.restrictive ≡ false → Applies role table policy → ⊥
+-- no permissive policy applies to this role's action on the table
+abbrev pub LacksPermission : PolicyParts → ℕ → Action → ℕ → Type 0
+LacksPermission parts role act table =
+    (policy : Policy) → Contains parts.policies policy → policy.restrictive ≡ false → Applies parts.roles role act table policy → ⊥
 
--- where row security is on, a role sees no row of a table without a permissive policy that applies
+-- where row security is on, a role that doesn't bypass it may act on no row of a table without a permissive policy that applies
 abbrev pub IsDeniedByDefault : Type 0
 IsDeniedByDefault =
-    (parts : PolicyParts) (role table : ℕ) (part : TablePart) (asking : Role) → slice_get parts.tables table ≡ Some part → part.secured ≡ true
-    → slice_get parts.roles role ≡ Some asking → LacksPermission asking.name table parts.policies → (cells : List Scalar) → visible_to parts role table cells ≡ false
+    (parts : PolicyParts) (role : ℕ) (act : Action) (table : ℕ) (part : TablePart) (asking : Role) → slice_get parts.tables table ≡ Some part → part.secured ≡ true
+    → slice_get parts.roles role ≡ Some asking → asking.bypass ≡ false → LacksPermission parts role act table
+    → (cells : List Scalar) → visible_to parts role act table cells ≡ false
 
--- where row security is on, a role that the policies don't have sees no row
+-- where row security is on, a role that the policies don't have may act on no row
 abbrev pub IsDeniedToStrangers : Type 0
 IsDeniedToStrangers =
-    (parts : PolicyParts) (role table : ℕ) (part : TablePart) → slice_get parts.tables table ≡ Some part → part.secured ≡ true
-    → ((asking : Role) → slice_get parts.roles role ≡ Some asking → ⊥) → (cells : List Scalar) → visible_to parts role table cells ≡ false
+    (parts : PolicyParts) (role : ℕ) (act : Action) (table : ℕ) (part : TablePart) → slice_get parts.tables table ≡ Some part → part.secured ≡ true
+    → ((asking : Role) → slice_get parts.roles role ≡ Some asking → ⊥) → (cells : List Scalar) → visible_to parts role act table cells ≡ false
 
--- these policies, and one more behind them
-abbrev pub with_policy : PolicyParts → Policy → PolicyParts
-with_policy parts policy = record parts { policies = parts.policies ++ policy ∷ [] }
+-- where row security is off, everyone may act on every row
+abbrev pub IsOpenWithoutSecurity : Type 0
+IsOpenWithoutSecurity =
+    (parts : PolicyParts) (role : ℕ) (act : Action) (table : ℕ) (part : TablePart) → slice_get parts.tables table ≡ Some part → part.secured ≡ false
+    → (cells : List Scalar) → visible_to parts role act table cells ≡ true
+
+-- a role that bypasses row security may act on every row
+abbrev pub IsOpenToBypass : Type 0
+IsOpenToBypass =
+    (parts : PolicyParts) (role : ℕ) (act : Action) (table : ℕ) (part : TablePart) (asking : Role) → slice_get parts.tables table ≡ Some part
+    → slice_get parts.roles role ≡ Some asking → asking.bypass ≡ true → (cells : List Scalar) → visible_to parts role act table cells ≡ true
+
+-- a row that may be removed may be read
+abbrev pub ReadsWhatItRemoves : Type 0
+ReadsWhatItRemoves =
+    (parts : PolicyParts) (role table : ℕ) (cells : List Scalar) → visible_to parts role action.Delete table cells ≡ true → visible_to parts role action.Select table cells ≡ true
+
+-- The second has one policy more than the first, somewhere among the others.
+pub record HasOneMore (fewer more : PolicyParts) (policy : Policy) : Type 0 where
+  pub front : List Policy
+  pub rest : List Policy
+  pub roles : more.roles ≡ fewer.roles
+  pub tables : more.tables ≡ fewer.tables
+  pub without : fewer.policies ≡ front ++ rest
+  pub within : more.policies ≡ front ++ policy ∷ rest
 
 -- a row that is visible under one more restrictive policy is visible without it
 abbrev pub NarrowsByRestriction : Type 0
 NarrowsByRestriction =
-    (parts : PolicyParts) (policy : Policy) (role table : ℕ) (cells : List Scalar) → policy.restrictive ≡ true
-    → visible_to (with_policy parts policy) role table cells ≡ true → visible_to parts role table cells ≡ true
+    (fewer more : PolicyParts) (policy : Policy) → HasOneMore fewer more policy → policy.restrictive ≡ true → (role : ℕ) (act : Action) (table : ℕ) (cells : List Scalar)
+    → visible_to more role act table cells ≡ true → visible_to fewer role act table cells ≡ true
+
+-- a row that is visible stays visible under one more permissive policy
+abbrev pub WidensByPermission : Type 0
+WidensByPermission =
+    (fewer more : PolicyParts) (policy : Policy) → HasOneMore fewer more policy → policy.restrictive ≡ false → (role : ℕ) (act : Action) (table : ℕ) (cells : List Scalar)
+    → visible_to fewer role act table cells ≡ true → visible_to more role act table cells ≡ true

@@ -1,6 +1,7 @@
 -- Laws of typing: there is one type at most, and the functions find the type that the rules give.
 use Rattle.std.specs.Prelude.{◌≡◌, ◌↔◌, Some}
 use Rattle.lq_value.specs.declared.ty.Ty.{Ty}
+use Rattle.lq_model.specs.ClauseTyping.{expression_type, query_items}
 use Rattle.lq_model.specs.Typing.{Names, HasType, HasItemType, type_of, item_type}
 use Rattle.lq_model.specs.declared.syntax.Expr.{Expr}
 use Rattle.lq_model.specs.declared.syntax.Query.{Query}
@@ -20,3 +21,11 @@ FindsTypes = (names : Names) (e : Expr) (t : Ty) → (type_of e names ≡ Some t
 -- the function finds a type for a query's items exactly where the rules give it
 abbrev pub FindsItemTypes : Type 0
 FindsItemTypes = (names : Names) (q : Query Expr) (t : Ty) → (item_type type_of q names ≡ Some t) ↔ HasItemType names q t
+
+-- what typing serves is a part of the types of whole expressions
+abbrev pub KeepsTypes : Type 0
+KeepsTypes = (names : Names) (e : Expr) (t : Ty) → type_of e names ≡ Some t → expression_type e names ≡ Some t
+
+-- and so is what it serves of queries
+abbrev pub KeepsItemTypes : Type 0
+KeepsItemTypes = (names : Names) (q : Query Expr) (t : Ty) → item_type type_of q names ≡ Some t → query_items expression_type q names ≡ Some t

@@ -1,6 +1,6 @@
 -- «Visible» and «Tables as seen»: which rows a role may see (PostgreSQL, CREATE POLICY).
-use Rattle.std.specs.Prelude.{◌≡◌, ◌+◌, ◌∷◌, ◌==◌, ◌&&◌, ◌||◌, ◌⊎◌, not, if◌then◌else◌, ◌≤◌, List, [], map, filter, ℕ, Bool, true, false, Option, Some, None, Result, Ok, Err, codes, slice_get}
-use Rattle.std.specs.List.{Contains, list_any, list_all}
+use Rattle.std.specs.Prelude.{◌≡◌, ◌+◌, ◌∷◌, ◌==◌, ◌&&◌, ◌||◌, not, if◌then◌else◌, ◌≤◌, ◌<◌, ◌≢◌, ◌++◌, length, flat_map, List, [], map, filter, ℕ, Bool, true, false, Option, Some, None, Result, Ok, Err, codes, slice_get}
+use Rattle.std.specs.List.{Contains, list_any, list_all, slice_index_or}
 use Rattle.std.specs.Str.{bytes_eq}
 use Rattle.lq_value.specs.Tables.{Table}
 use Rattle.lq_value.specs.declared.scalar.Scalar.{Scalar}
@@ -11,6 +11,8 @@ use Rattle.lq_value.specs.declared.value.Value.TheVariants as value
 use Rattle.lq_value.specs.declared.value.Fault.{Fault}
 use Rattle.lq_value.specs.declared.value.Fault.TheVariants as fault
 use Rattle.lq_model.specs.Meaning.{Binding, Scope, World, meaning, truth_at}
+use Rattle.lq_model.specs.declared.policy.Action.{Action}
+use Rattle.lq_model.specs.declared.policy.Action.TheVariants as action
 use Rattle.lq_model.specs.declared.policy.Policy.{Policy}
 use Rattle.lq_model.specs.declared.policy.PolicyParts.{PolicyParts}
 use Rattle.lq_model.specs.declared.policy.Role.{Role}
@@ -42,51 +44,125 @@ is_true (Err f) = false
 abbrev pub rule_holds : List (List ℕ) → Expr → List Scalar → List ℕ → Bool
 rule_holds columns rule cells user = is_true (truth_at (rule_world columns) rule (rule_scope cells user))
 
+-- ---- roles
+
+-- The roles that a role goes by, by their numbers: itself, and those that it is a member of, by any chain. Each is a member of
+-- roles that stand before it; `earlier` holds what those go by.
+abbrev pub goes_by_after : List (List ℕ) → Role → List ℕ
+goes_by_after earlier role = length earlier ∷ flat_map (λ other. slice_index_or earlier other []) role.member_of
+
+abbrev pub memberships_after : List (List ℕ) → List Role → List (List ℕ)
+memberships_after earlier [] = earlier
+memberships_after earlier (role ∷ roles) = memberships_after (earlier ++ goes_by_after earlier role ∷ []) roles
+
+unfoldable pub goes_by : List Role → ℕ → List ℕ
+goes_by roles role = slice_index_or (memberships_after [] roles) role []
+
+abbrev pub is_named : List ℕ → Option Role → Bool
+is_named name None = false
+is_named name (Some role) = bytes_eq role.name name
+
+-- a list has `public`, or the name of a role that the role goes by
+abbrev pub is_listed : List Role → ℕ → List (List ℕ) → Bool
+is_listed roles role to = list_any (λ name. bytes_eq name (codes "public") || list_any (λ n. is_named name (slice_get roles n)) (goes_by roles role)) to
+
 -- ---- policies
 
--- a policy is for a role that it lists, or for every role where it lists `public`
-abbrev pub is_listed : List ℕ → List (List ℕ) → Bool
-is_listed role to = list_any (λ name. bytes_eq name role || bytes_eq name (codes "public")) to
+abbrev pub is_same_action : Action → Action → Bool
+is_same_action action.Select action.Select = true
+is_same_action action.Insert action.Insert = true
+is_same_action action.Delete action.Delete = true
+is_same_action a b = false
 
--- a policy applies to a role's reading of a table
-abbrev pub applies : List ℕ → ℕ → Policy → Bool
-applies role table policy = (policy.table == table) && is_listed role policy.to
+-- a policy applies to a role's action on a table
+abbrev pub applies : List Role → ℕ → Action → ℕ → Policy → Bool
+applies roles role act table policy =
+    (policy.table == table) && (policy.for_all || is_same_action policy.action act) && is_listed roles role policy.to
 
--- a row of a table, as policies see it, and the role that asks for it
+-- the policies that apply, in their order
+abbrev pub applying : PolicyParts → ℕ → Action → ℕ → List Policy
+applying parts role act table = filter (applies parts.roles role act table) parts.policies
+
+-- a policy's rule for an action: a new row is checked, by the same rule as others where there is none of its own
+abbrev pub check_or_using : Option Expr → Option Expr → Option Expr
+check_or_using None using = using
+check_or_using (Some check) using = Some check
+
+abbrev pub rule_for : Action → Policy → Option Expr
+rule_for action.Insert policy = check_or_using policy.check policy.using
+rule_for act policy = policy.using
+
+-- a row of a table as rules read it, and the name of the role that asks for it
 pub record Asked : Type 0 where
-  pub role : List ℕ
-  pub table : ℕ
+  pub user : List ℕ
   pub columns : List (List ℕ)
   pub cells : List Scalar
 
--- a permissive policy that applies and is true on the row
-abbrev pub permits : Asked → Policy → Bool
-permits asked policy = not policy.restrictive && applies asked.role asked.table policy && rule_holds asked.columns policy.using asked.cells asked.role
+-- no rule is no rule that holds
+abbrev pub holds_on : Asked → Option Expr → Bool
+holds_on asked None = false
+holds_on asked (Some rule) = rule_holds asked.columns rule asked.cells asked.user
 
--- not a restrictive policy that applies and isn't true on the row
-abbrev pub allows : Asked → Policy → Bool
-allows asked policy = not (policy.restrictive && applies asked.role asked.table policy) || rule_holds asked.columns policy.using asked.cells asked.role
+-- a permissive policy whose rule is true on the row
+abbrev pub permits : Action → Asked → Policy → Bool
+permits act asked policy = not policy.restrictive && holds_on asked (rule_for act policy)
 
--- some policy permits the row, and each one allows it
-abbrev pub admit : List Policy → Asked → Bool
-admit policies asked = list_any (permits asked) policies && list_all (allows asked) policies
+-- not a restrictive policy whose rule isn't true on the row
+abbrev pub allows : Action → Asked → Policy → Bool
+allows act asked policy = not policy.restrictive || holds_on asked (rule_for act policy)
 
--- a role that the policies don't have sees nothing of a table with row security
-abbrev pub admitted_to : PolicyParts → ℕ → List (List ℕ) → List Scalar → Option Role → Bool
-admitted_to parts table columns cells None = false
-admitted_to parts table columns cells (Some role) = admit parts.policies (record { role = role.name; table = table; columns = columns; cells = cells })
+-- of the policies that apply, some one permits the row, and each one allows it
+abbrev pub admit : Action → List Policy → Asked → Bool
+admit act policies asked = list_any (permits act asked) policies && list_all (allows act asked) policies
 
--- a row of a table with row security is visible where a permissive policy permits it and each restrictive one allows it;
--- without a permissive policy nothing is visible, and nothing is of a table that the policies don't know
-abbrev pub is_admitted : PolicyParts → ℕ → ℕ → List Scalar → Option TablePart → Bool
-is_admitted parts role table cells None = false
-is_admitted parts role table cells (Some part) = not part.secured || admitted_to parts table part.columns cells (slice_get parts.roles role)
+abbrev pub admitted_by : PolicyParts → ℕ → ℕ → Asked → Action → Bool
+admitted_by parts role table asked act = admit act (applying parts role act table) asked
 
--- «Visible»: whether a role may see the row of a table that has these cells
-unfoldable pub visible_to : PolicyParts → ℕ → ℕ → List Scalar → Bool
-visible_to parts role table cells = is_admitted parts role table cells (slice_get parts.tables table)
+-- who removes a row has to be able to read it, too
+abbrev pub admitted_for : PolicyParts → ℕ → Action → ℕ → Asked → Bool
+admitted_for parts role action.Delete table asked = admitted_by parts role table asked action.Select && admitted_by parts role table asked action.Delete
+admitted_for parts role act table asked = admitted_by parts role table asked act
 
--- ---- the same as a relation, in the words of CREATE POLICY
+-- a role that bypasses row security is admitted to every row, and one that the policies don't have to none
+abbrev pub admitted_to : PolicyParts → ℕ → Action → ℕ → List (List ℕ) → List Scalar → Option Role → Bool
+admitted_to parts role act table columns cells None = false
+admitted_to parts role act table columns cells (Some asking) =
+    asking.bypass || admitted_for parts role act table (record { user = asking.name; columns = columns; cells = cells })
+
+-- every row of a table without row security is visible, and none of a table that the policies don't know
+abbrev pub is_admitted : PolicyParts → ℕ → Action → ℕ → List Scalar → Option TablePart → Bool
+is_admitted parts role act table cells None = false
+is_admitted parts role act table cells (Some part) = not part.secured || admitted_to parts role act table part.columns cells (slice_get parts.roles role)
+
+-- «Visible»: whether a role may do this with the row of a table that has these cells
+unfoldable pub visible_to : PolicyParts → ℕ → Action → ℕ → List Scalar → Bool
+visible_to parts role act table cells = is_admitted parts role act table cells (slice_get parts.tables table)
+
+-- ---- the name of the rule that refuses a new row
+
+-- the first policy that doesn't allow the row
+abbrev pub first_refusing : Asked → List Policy → Option (List ℕ)
+first_refusing asked [] = None
+first_refusing asked (policy ∷ policies) = if allows action.Insert asked policy then first_refusing asked policies else Some policy.name
+
+-- where no policy permits the row, it is refused by default
+abbrev pub refuser_among : List Policy → Asked → Option (List ℕ)
+refuser_among policies asked = if list_any (permits action.Insert asked) policies then first_refusing asked policies else Some (codes "default-deny")
+
+abbrev pub refuser_for : PolicyParts → ℕ → ℕ → List (List ℕ) → List Scalar → Option Role → Option (List ℕ)
+refuser_for parts role table columns cells None = Some (codes "default-deny")
+refuser_for parts role table columns cells (Some asking) =
+    if asking.bypass then None else refuser_among (applying parts role action.Insert table) (record { user = asking.name; columns = columns; cells = cells })
+
+abbrev pub refuser_in : PolicyParts → ℕ → ℕ → List Scalar → Option TablePart → Option (List ℕ)
+refuser_in parts role table cells None = Some (codes "default-deny")
+refuser_in parts role table cells (Some part) = if part.secured then refuser_for parts role table part.columns cells (slice_get parts.roles role) else None
+
+-- the name of the rule that refuses a new row with these cells; None where the row may be put in
+unfoldable pub refuser_of : PolicyParts → ℕ → ℕ → List Scalar → Option (List ℕ)
+refuser_of parts role table cells = refuser_in parts role table cells (slice_get parts.tables table)
+
+-- ---- the same as relations, in the words of CREATE POLICY
 
 -- The first column of this name has this cell under it.
 pub record HasCell (columns : List (List ℕ)) (cells : List Scalar) (name : List ℕ) (cell : Scalar) : Type 0 where
@@ -100,30 +176,95 @@ abbrev pub IsTrueOn : Asked → Expr → Type 0
 IsTrueOn asked rule =
     let world : World (List Scalar) = record { schemas = []; rows = []; cell = cell_named asked.columns; unknown = fault.NullReference } in
     let row : Binding (List Scalar) = record { name = codes "row"; ty = ty.Row 0; value = value.Row asked.cells } in
-    let user : Binding (List Scalar) = record { name = codes "user"; ty = ty.Str; value = value.Scalar (scalar.Text asked.role) } in
+    let user : Binding (List Scalar) = record { name = codes "user"; ty = ty.Str; value = value.Scalar (scalar.Text asked.user) } in
     let scope : Scope (List Scalar) = row ∷ user ∷ [] in
     meaning world rule scope ≡ Ok (value.Scalar (scalar.Bool true))
 
--- A policy applies to a role's reading of a table: it is a policy of the table, and lists the role or `public`.
-pub record Applies (role : List ℕ) (table : ℕ) (policy : Policy) : Type 0 where
+-- A role goes by itself, and by whatever a role that it is a member of goes by. It is a member of roles that stand before it.
+pub data GoesBy (roles : List Role) : ℕ → ℕ → Type 0 where
+  itself : {role : ℕ} → role < length roles → GoesBy roles role role
+  member : {role group other : ℕ} (its : Role) → slice_get roles role ≡ Some its → Contains its.member_of group → group < role
+      → GoesBy roles group other → GoesBy roles role other
+
+-- A list has `public`, or the name of a role that the role goes by.
+pub data IsListed (roles : List Role) (role : ℕ) (to : List (List ℕ)) : Type 0 where
+  all : Contains to (codes "public") → IsListed roles role to
+  named : (number : ℕ) (other : Role) → GoesBy roles role number → slice_get roles number ≡ Some other → Contains to other.name → IsListed roles role to
+
+-- A policy is for an action: for every one, or for this.
+pub data IsFor (act : Action) (policy : Policy) : Type 0 where
+  every : policy.for_all ≡ true → IsFor act policy
+  this : policy.action ≡ act → IsFor act policy
+
+-- A policy applies to a role's action on a table.
+pub record Applies (roles : List Role) (role : ℕ) (act : Action) (table : ℕ) (policy : Policy) : Type 0 where
   pub on_table : policy.table ≡ table
-  pub to_role : Contains policy.to role ⊎ Contains policy.to (codes "public")
+  pub for_action : IsFor act policy
+  pub to_role : IsListed roles role policy.to
+
+-- A policy's rule for an action: USING for rows that are there, CHECK for a row that is put in, and USING for that, too, where
+-- there is no CHECK.
+pub data HasRule (act : Action) (policy : Policy) (rule : Expr) : Type 0 where
+  using : act ≢ action.Insert → policy.using ≡ Some rule → HasRule act policy rule
+  check : act ≡ action.Insert → policy.check ≡ Some rule → HasRule act policy rule
+  using_for_check : act ≡ action.Insert → policy.check ≡ None → policy.using ≡ Some rule → HasRule act policy rule
+
+-- A policy's rule for an action is true on a row.
+pub record IsSatisfied (act : Action) (asked : Asked) (policy : Policy) : Type 0 where
+  pub rule : Expr
+  pub has : HasRule act policy rule
+  pub true_on : IsTrueOn asked rule
 
 -- Some permissive policy that applies is true on the row, and every restrictive one that applies is.
-pub record IsAdmitted (policies : List Policy) (asked : Asked) : Type 0 where
+pub record IsAdmitted (parts : PolicyParts) (role : ℕ) (act : Action) (table : ℕ) (asked : Asked) : Type 0 where
   pub permitting : Policy
-  pub among : Contains policies permitting
+  pub among : Contains parts.policies permitting
   pub permissive : permitting.restrictive ≡ false
-  pub applying : Applies asked.role asked.table permitting
-  pub permitted : IsTrueOn asked permitting.using
-  pub unrestricted : (policy : Policy) → Contains policies policy → policy.restrictive ≡ true → Applies asked.role asked.table policy → IsTrueOn asked policy.using
+  pub applying : Applies parts.roles role act table permitting
+  pub permitted : IsSatisfied act asked permitting
+  pub unrestricted : (policy : Policy) → Contains parts.policies policy → policy.restrictive ≡ true → Applies parts.roles role act table policy
+      → IsSatisfied act asked policy
 
--- A row is visible where its table's row security is off; or where the policies have the role and admit the row to it.
-pub data IsVisible (parts : PolicyParts) (role table : ℕ) (cells : List Scalar) : Type 0 where
-  unsecured : (part : TablePart) → slice_get parts.tables table ≡ Some part → part.secured ≡ false → IsVisible parts role table cells
+-- The policies admit a role to an action on a row. A row that is removed has to be one that may be read, too.
+pub data Admits (parts : PolicyParts) (role : ℕ) (table : ℕ) (asked : Asked) : Action → Type 0 where
+  read : IsAdmitted parts role action.Select table asked → Admits parts role table asked action.Select
+  put_in : IsAdmitted parts role action.Insert table asked → Admits parts role table asked action.Insert
+  removed : IsAdmitted parts role action.Select table asked → IsAdmitted parts role action.Delete table asked → Admits parts role table asked action.Delete
+
+-- A role may act on a row where the table's row security is off; where the role bypasses row security; or where the policies
+-- admit it.
+pub data IsVisible (parts : PolicyParts) (role : ℕ) (act : Action) (table : ℕ) (cells : List Scalar) : Type 0 where
+  unsecured : (part : TablePart) → slice_get parts.tables table ≡ Some part → part.secured ≡ false → IsVisible parts role act table cells
+  bypassing : (part : TablePart) (asking : Role) → slice_get parts.tables table ≡ Some part → slice_get parts.roles role ≡ Some asking
+      → asking.bypass ≡ true → IsVisible parts role act table cells
   admitted : (part : TablePart) (asking : Role) → slice_get parts.tables table ≡ Some part → slice_get parts.roles role ≡ Some asking
-      → IsAdmitted parts.policies (record { role = asking.name; table = table; columns = part.columns; cells = cells })
-      → IsVisible parts role table cells
+      → Admits parts role table (record { user = asking.name; columns = part.columns; cells = cells }) act
+      → IsVisible parts role act table cells
+
+-- No permissive policy that applies to putting in a row is true on it.
+abbrev pub IsUnpermitted : PolicyParts → ℕ → ℕ → Asked → Type 0
+IsUnpermitted parts role table asked =
+    (policy : Policy) → Contains parts.policies policy → policy.restrictive ≡ false → Applies parts.roles role action.Insert table policy
+    → IsSatisfied action.Insert asked policy → ⊥
+
+-- A restrictive policy that applies to putting in a row isn't true on it, and is the first such policy.
+pub record IsFirstRefusing (parts : PolicyParts) (role : ℕ) (table : ℕ) (asked : Asked) (refusing : Policy) : Type 0 where
+  pub front : List Policy
+  pub rest : List Policy
+  pub split : parts.policies ≡ front ++ refusing ∷ rest
+  pub restrictive : refusing.restrictive ≡ true
+  pub applying : Applies parts.roles role action.Insert table refusing
+  pub unsatisfied : IsSatisfied action.Insert asked refusing → ⊥
+  pub first : (policy : Policy) → Contains front policy → policy.restrictive ≡ true → Applies parts.roles role action.Insert table policy
+      → IsSatisfied action.Insert asked policy
+
+-- A new row is refused under this name: by default, where no permissive policy is true on it; else by the first restrictive one
+-- that isn't.
+pub data IsRefusedBy (parts : PolicyParts) (role : ℕ) (table : ℕ) (asked : Asked) : List ℕ → Type 0 where
+  default : IsUnpermitted parts role table asked → IsRefusedBy parts role table asked (codes "default-deny")
+  restriction : (permitting : Policy) → Contains parts.policies permitting → permitting.restrictive ≡ false
+      → Applies parts.roles role action.Insert table permitting → IsSatisfied action.Insert asked permitting
+      → (refusing : Policy) → IsFirstRefusing parts role table asked refusing → IsRefusedBy parts role table asked refusing.name
 
 -- ---- tables
 
@@ -134,7 +275,7 @@ pub record TableRow : Type 0 where
 
 -- the rows of a table that a role may see, in order of number
 abbrev pub seen_rows : PolicyParts → ℕ → ℕ → List Row → List TableRow
-seen_rows parts role table rows = map (λ row. record { table = table; row = row }) (filter (λ row. visible_to parts role table row.cells) rows)
+seen_rows parts role table rows = map (λ row. record { table = table; row = row }) (filter (λ row. visible_to parts role action.Select table row.cells) rows)
 
 abbrev pub seen_from : PolicyParts → ℕ → ℕ → List Table → List (List TableRow)
 seen_from parts role number [] = []

@@ -1,8 +1,8 @@
 //! The operator calls that a query stands for (ECMA-334, query expression translation). They are
 //! generic in the expressions that they hold, like the clauses that they come from. No lambda
 //! keeps its parameter: that follows from the operators before it.
-use crate::syntax::{Join, SortKey};
-use lq_value::{List, Txt};
+use crate::syntax::{Join, Node, SortKey};
+use lq_value::{Held, List, Txt};
 
 /// What a call that pairs items makes of each pair.
 #[derive(Drop)]
@@ -52,4 +52,13 @@ pub struct Call<X> {
     pub operators: List<Operator<X>>,
     /// What follows by `into`.
     pub rest: List<Part<X>>,
+}
+
+/// An expression in which each query is the calls that it stands for.
+#[derive(Drop)]
+pub enum Term {
+    /// An expression other than a query.
+    Node(Node<Term>),
+    /// The calls of a query.
+    Call(Held<Call<Term>>),
 }

@@ -1,6 +1,8 @@
 //! Laws of meaning. Each function's contract is the law that it is named for; the functions
 //! themselves do nothing.
+ghost use Rattle.lq_model.specs.ArrangementLaws.{ArrangesByKeys, KeepsTies};
 ghost use Rattle.lq_model.specs.MeaningLaws.{HasMeaning, HasStream, SelectsScalars, ServesMeanings, ServesValues};
+ghost use Rattle.lq_model.specs.WholeMeaningLaws.{HasWholeMeaning, HasWholeStream, KeepsMeanings, KeepsStreams, NeverFaults};
 
 /// Where local names have values of their types and tables have their rows, a typed expression has
 /// a meaning of its own, the same whatever stands where there is none: a value of its type, or a
@@ -16,4 +18,32 @@ pub fn typed_meanings()
 pub fn served_meanings()
     ensures queries { ServesMeanings }
     ensures values { ServesValues }
+{}
+
+/// `orderby` leaves the items sorted by their keys: none stands behind one that its keys put after
+/// it. And of items with the same keys each is there as often as before, in the order that they had.
+pub fn arranged_items<A>()
+    ensures sorted { ArrangesByKeys A }
+    ensures ties { KeepsTies A }
+{}
+
+/// The same of the whole language, over rows of any kind: a typed expression, with records, groups and
+/// methods of sequences in it, has a meaning of its own, the same whatever stands where there is none:
+/// a value of its type, or a fault. So has a typed query: its stream, of items of their type.
+pub fn whole_meanings<R>()
+    ensures expression { HasWholeMeaning R }
+    ensures query { HasWholeStream R }
+{}
+
+/// What is served means in the whole language what it means as it is served, where local names have
+/// values of their types and tables have their rows: expressions, and the streams of queries.
+pub fn kept_meanings<R>()
+    ensures expression { KeepsMeanings R }
+    ensures query { KeepsStreams R }
+{}
+
+/// An expression whose type is that of a sequence never faults: a fault that is met in making it is the
+/// ending of its stream.
+pub fn sequences_never_fault<R>()
+    ensures { NeverFaults R }
 {}

@@ -1,4 +1,4 @@
-//! Roles and row policies as plain data (PostgreSQL, CREATE POLICY).
+//! Roles and row policies as plain data (PostgreSQL, CREATE POLICY and role membership).
 use crate::syntax::Expr;
 use lq_value::{List, Txt};
 
@@ -7,6 +7,10 @@ use lq_value::{List, Txt};
 pub struct Role {
     /// Its name, unlike that of any other role; never `public`.
     pub name: Txt,
+    /// The roles that it is a member of, by their numbers, each of which stands before it.
+    pub member_of: List<usize>,
+    /// Whether row policies don't bear on it. Members of the role don't have this from it.
+    pub bypass: bool,
 }
 
 /// What policies know of a table.
@@ -18,7 +22,18 @@ pub struct TablePart {
     pub secured: bool,
 }
 
-/// A row policy for reading.
+/// What a role does with a row.
+#[derive(Clone, Copy, Debug, Drop, Eq, PartialEq)]
+pub enum Action {
+    /// It reads the row.
+    Select,
+    /// It puts the row into a table.
+    Insert,
+    /// It removes the row.
+    Delete,
+}
+
+/// A row policy.
 #[derive(Drop)]
 pub struct Policy {
     /// Its name.
@@ -27,10 +42,16 @@ pub struct Policy {
     pub table: u16,
     /// Whether it is restrictive; else it is permissive.
     pub restrictive: bool,
-    /// The names of the roles that it applies to; `public` stands for all.
+    /// Whether it is for every action.
+    pub for_all: bool,
+    /// The action that it is for, where it isn't for every one.
+    pub action: Action,
+    /// The names of the roles that it applies to, and to whose members; `public` stands for all.
     pub to: List<Txt>,
-    /// Its rule, over `row`, and `user`, the role's name.
-    pub using: Expr,
+    /// Its rule for rows that are there, over `row`, and `user`, the role's name.
+    pub using: Option<Expr>,
+    /// Its rule for rows that are put in. Where it has none, `using` is.
+    pub check: Option<Expr>,
 }
 
 /// Roles, tables by their number in the store, and policies in file order.

@@ -1,10 +1,18 @@
 //! Laws of row policies (PostgreSQL, CREATE POLICY). Each function's contract is the law that it is
 //! named for; the functions themselves do nothing.
-ghost use Rattle.lq_model.specs.PolicyLaws.{TellsVisible, FindsCells, SeesVisibleRows, SeesEachTable, IsDeniedByDefault, IsDeniedToStrangers, NarrowsByRestriction};
+ghost use Rattle.lq_model.specs.PolicyLaws.{TellsMemberships, TellsVisible, FindsCells, SeesVisibleRows, SeesEachTable, AcceptsVisible, TellsRefuser};
+ghost use Rattle.lq_model.specs.PolicyLaws.{IsDeniedByDefault, IsDeniedToStrangers, IsOpenWithoutSecurity, IsOpenToBypass};
+ghost use Rattle.lq_model.specs.PolicyLaws.{ReadsWhatItRemoves, NarrowsByRestriction, WidensByPermission};
+
+/// The function that works out memberships tells exactly the roles that a role goes by: itself, and
+/// those that it is a member of, by any chain.
+pub fn memberships()
+    ensures { TellsMemberships }
+{}
 
 /// The function that decides on a row tells exactly the visible rows: those of a table without row
-/// security, and those on which some permissive policy that applies is true and every restrictive
-/// one that applies is.
+/// security, those that a role sees that bypasses it, and those on which some permissive policy that
+/// applies is true and every restrictive one that applies is.
 pub fn visible_rows()
     ensures { TellsVisible }
 {}
@@ -20,6 +28,13 @@ pub fn seen_rows()
     ensures tables { SeesEachTable }
 {}
 
+/// A new row is accepted exactly where the role may put it in; else it is refused by default, where no
+/// permissive policy is true on it, or by the first restrictive one that isn't.
+pub fn refused_rows()
+    ensures accepted { AcceptsVisible }
+    ensures refused { TellsRefuser }
+{}
+
 /// A table whose row security is on shows no row to a role for which it has no permissive policy,
 /// and none to a role that the policies don't have.
 pub fn default_deny()
@@ -27,7 +42,24 @@ pub fn default_deny()
     ensures stranger { IsDeniedToStrangers }
 {}
 
+/// A table whose row security is off shows every row to everyone, and every table does to a role that
+/// bypasses row security.
+pub fn open_rows()
+    ensures unsecured { IsOpenWithoutSecurity }
+    ensures bypass { IsOpenToBypass }
+{}
+
+/// Who may remove a row may read it.
+pub fn removed_rows_are_seen()
+    ensures { ReadsWhatItRemoves }
+{}
+
 /// One more restrictive policy never shows a row that was hidden.
 pub fn restrictive_narrows()
     ensures { NarrowsByRestriction }
+{}
+
+/// One more permissive policy never hides a row that was visible.
+pub fn permissive_widens()
+    ensures { WidensByPermission }
 {}

@@ -10,7 +10,7 @@ use lq_model::Binary;
 use lq_value::Fault;
 
 /// Whether the operator compares its operands.
-pub fn is_comparison(operator: Binary) -> bool
+pub(crate) fn is_comparison(operator: Binary) -> bool
     ensures { result ≡ is_comparison operator }
 {
     matches!(
@@ -27,7 +27,11 @@ pub fn is_comparison(operator: Binary) -> bool
 /// What two scalars compare as: `<` and the like of numbers, `==` and `!=` of scalars of one kind
 /// or null. Takes no memory, and copies no text. Any other operator gives NullReference, and so do
 /// operands of other kinds, which no typed expression has, where none is null.
-pub fn compared(operator: Binary, left: ScalarRef<'_>, right: ScalarRef<'_>) -> Result<bool, Fault>
+pub(crate) fn compared(
+    operator: Binary,
+    left: ScalarRef<'_>,
+    right: ScalarRef<'_>,
+) -> Result<bool, Fault>
     ensures { result ≡ compared fault.NullReference operator (shown_scalar left.entry) (shown_scalar right.entry) }
 {
     match operator {

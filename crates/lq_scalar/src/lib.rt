@@ -3,6 +3,7 @@
 #![tactic(auto)]
 
 mod arithmetic;
+mod cell;
 mod comparison;
 mod error;
 mod evaluated;
@@ -18,14 +19,16 @@ mod texts;
 mod totality;
 mod types;
 
-pub use comparison::{compared, is_comparison};
+pub use cell::{ColumnName, cell_named};
 pub use error::ScalarError;
 pub use evaluated::{Found, eval, evaluate, truth};
 pub use lq_model::Op;
+pub use members::has_value;
 pub use names::{ExprType, Named, Names};
 pub use operations::apply;
 pub use rules::{Cells, holds};
 pub use scalar_ref::ScalarRef;
-pub use signs::{negate, operate};
+pub use signs::operate;
+pub use texts::searched;
 pub use totality::is_total;
 pub use types::type_of;

@@ -12,8 +12,9 @@ use crate::texts::{length_of, searched};
 use lq_model::Op;
 use lq_value::Fault;
 
-/// Whether an `int?` has a value.
-pub(crate) fn has_value(operand: ScalarRef<'_>) -> Result<bool, Fault>
+/// Whether an `int?` has a value (.NET, `Nullable<int>.HasValue`). Truth values and texts, which no
+/// typed expression has here, give NullReference.
+pub fn has_value(operand: ScalarRef<'_>) -> Result<bool, Fault>
     ensures { result ≡ has_value fault.NullReference (shown_scalar operand.entry) }
 {
     match operand {

@@ -1,10 +1,10 @@
 //! Rules of row policies, read on a row (PostgreSQL, CREATE POLICY). A rule's names are `row`, with
 //! its columns, and `user`, the name of the role.
-ghost use Rattle.std.specs.Prelude.{◌≡◌, map, true};
-ghost use Rattle.std.specs.Option.{option_copied};
+ghost use Rattle.std.specs.Prelude.{◌≡◌, true};
 ghost use Rattle.lq_model.specs.Totality.{is_total};
-ghost use Rattle.lq_model.specs.Visible.{cell_named, rule_holds};
+ghost use Rattle.lq_model.specs.Visible.{rule_holds};
 
+use crate::cell::cell_named;
 use crate::evaluation::Evaluation;
 use crate::names::{ExprType, Named, Names};
 use crate::scalar_ref::ScalarRef;
@@ -26,25 +26,6 @@ pub struct Cells<'a> {
 struct RuleNames<'a> {
     row: Cells<'a>,
     user: &'a str,
-}
-
-/// The cell under the column of this name.
-fn cell_named<'a>(columns: &[Txt], cells: &'a [Scalar], name: &str) -> Option<&'a Scalar>
-    ensures { option_copied result ≡ cell_named columns.now cells.now name.now }
-{
-    let mut columns_left = columns;
-    let mut cells_left = cells;
-    while let [column, other_columns @ ..] = columns_left {
-        let [cell, other_cells @ ..] = cells_left else {
-            return None;
-        };
-        if column.as_str() == name {
-            return Some(cell);
-        }
-        columns_left = other_columns;
-        cells_left = other_cells;
-    }
-    None
 }
 
 impl Names for RuleNames<'_> {
@@ -85,7 +66,7 @@ impl Names for RuleNames<'_> {
         None
     }
 
-    #[tactic(auto, using(crate::proofs::RuleLemmas::values))]
+    #[tactic(auto, using(crate::proofs::RuleLemmas::values, crate::proofs::RuleLemmas::names_themselves))]
     fn cell(&self, row: &str, column: &str) -> Option<&Scalar> {
         if "row" == row {
             return cell_named(self.row.columns, self.row.cells, column);

@@ -37,7 +37,7 @@ pub fn operate<'a>(
 }
 
 /// The number with the other sign; of null, null. Takes no memory.
-pub fn negate<'a>(operand: ScalarRef<'_>) -> Result<ScalarRef<'a>, Fault>
+pub(crate) fn negate<'a>(operand: ScalarRef<'_>) -> Result<ScalarRef<'a>, Fault>
     ensures { shown_scalars result ≡ negated fault.NullReference (shown_scalar operand.entry) }
 {
     Ok(number(negated(operand)?))

@@ -81,8 +81,10 @@ fn utf16_units(text: &str) -> Option<i32>
     i32::try_from(units).ok()
 }
 
-/// Whether a text has another in it. A null text or argument faults.
-pub(crate) fn searched(op: Op, text: ScalarRef<'_>, needle: ScalarRef<'_>) -> Result<bool, Fault>
+/// Whether a text begins with another, ends with it or has it somewhere, as the operator says (.NET,
+/// `String.StartsWith` and the like, by the bytes of UTF-8). Takes no memory. NullReference where one of
+/// them is no text, and for any other operator.
+pub fn searched(op: Op, text: ScalarRef<'_>, needle: ScalarRef<'_>) -> Result<bool, Fault>
     ensures { result ≡ searched fault.NullReference op (shown_scalar text.entry) (shown_scalar needle.entry) }
 {
     let (ScalarRef::Text(text), ScalarRef::Text(needle)) = (text, needle) else {

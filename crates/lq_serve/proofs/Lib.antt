@@ -1,8 +1,5 @@
-mod CsvReading
 mod DeviceLemmas
 mod LoadingLemmas
-mod MarkLemmas
-mod NameFacts
 mod NamingLemmas
 mod ScriptRunLemmas
-mod TableFileLemmas
+mod StartingLemmas

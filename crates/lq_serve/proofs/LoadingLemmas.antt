@@ -1,22 +1,18 @@
 -- Tables that come one file after another.
 use Rattle.std.proofs.Common.{◌≡◌, ◌≢◌, ℕ, List, [], ◌∷◌, ◌++◌, Option, Some, None, Result, Ok, Err, IfSome, length, take, map, refl, sym, ◌∙◌, ap, subst, append_assoc, append-nil, arith, get_or}
 use Rattle.std.proofs.Common.{◌<◌, suc, zero, drop, true, false, slice_get}
-use Rattle.std.specs.Prelude.{option_map}
 use Rattle.lq_value.specs.Tables.{Table}
-use Rattle.lq_value.specs.declared.table.Schema.{Schema}
 use Rattle.lq_store.specs.Calls.{addition_refusal_of, unless_memory}
 use Rattle.lq_store.specs.declared.error.StoreError.{StoreError}
 use Rattle.lq_store.specs.declared.error.StoreError.TheVariants as store
 use Rattle.lq_model.specs.Tokens.{is_name}
-use Rattle.lq_model.specs.Machine.{State}
-use Rattle.lq_model.specs.declared.policy.TablePart.{TablePart}
 use Rattle.lq_serve.specs.declared.file_fault.FileFault.{FileFault}
 use Rattle.lq_serve.specs.declared.file_fault.FileFault.TheVariants as fault
 use Rattle.lq_serve.specs.declared.files.Reading.{Reading}
-use Rattle.lq_serve.specs.declared.loading.StartError.{StartError}
-use Rattle.lq_serve.specs.declared.loading.StartError.TheVariants as start
+use Rattle.lq_serve.specs.declared.start_error.StartError.{StartError}
+use Rattle.lq_serve.specs.declared.start_error.StartError.TheVariants as start
 use Rattle.lq_serve.specs.Files.{Adds, AddsFront, first_bytes}
-use Rattle.lq_serve.specs.Loading.{Abandoned, Agrees, AllAgree, Answered, Refused, RefusedBy, Started, TellsOf, Visit, fault_line, fault_of_store, first_state, next_or_line, open_part, read_limit, readings_of, readings_of_one, table_in, table_name, table_read, with_files, with_table}
+use Rattle.lq_serve.specs.Loading.{Abandoned, Agrees, AllAgree, Answered, Loaded, Refused, RefusedBy, TellsOf, Visit, fault_line, fault_of_store, next_or_line, read_limit, readings_of, readings_of_one, table_in, table_name, table_read, with_files, with_table}
 
 -- ---- reads that were answered
 
@@ -24,7 +20,7 @@ pub Adds-nil : (known : Option (List Reading)) → Adds known known []
 Adds-nil None = tt
 Adds-nil (Some known) = sym (append-nil known)
 
-Adds-behind : (before between after : Option (List Reading)) (first more : List Reading) → Adds before between first → Adds between after more
+pub Adds-behind : (before between after : Option (List Reading)) (first more : List Reading) → Adds before between first → Adds between after more
     → Adds before after (first ++ more)
 Adds-behind None between after first more a b = tt
 Adds-behind (Some known) None after first more a b = absurd a
@@ -37,7 +33,7 @@ AddsFront-all before after more added = record { front = more; left = []; split 
 pub AddsFront-none : (before after : Option (List Reading)) (more : List Reading) → Adds before after [] → AddsFront before after more
 AddsFront-none before after more added = record { front = []; left = more; split = refl; added = added }
 
-AddsFront-behind : (before between after : Option (List Reading)) (first more : List Reading) → Adds before between first → AddsFront between after more
+pub AddsFront-behind : (before between after : Option (List Reading)) (first more : List Reading) → Adds before between first → AddsFront between after more
     → AddsFront before after (first ++ more)
 AddsFront-behind before between after first more a b = record {
   front = first ++ b.front;
@@ -63,16 +59,8 @@ Answered-fault {A} {B} found before after more answered =
 
 -- ---- files that were fine
 
--- the files of these names were visited and fine, and these are their tables
-pub record Far (holds : List ℕ → Option (Option (List ℕ))) (before now : Option (List Reading)) (files : List (List ℕ)) (tables : List Table) : Type 0 where
-  pub visits : List Visit
-  pub named : map (λ (visit : Visit). visit.file) visits ≡ files
-  pub agree : AllAgree holds visits
-  pub read : Adds before now (readings_of visits)
-  pub loaded : with_files visits [] ≡ Ok tables
-
-pub Far-none : (holds : List ℕ → Option (Option (List ℕ))) (known : Option (List Reading)) → Far holds known known [] []
-Far-none holds known = record { visits = []; named = refl; agree = tt; read = Adds-nil known; loaded = refl }
+pub Loaded-none : (holds : List ℕ → Option (Option (List ℕ))) (known : Option (List Reading)) → Loaded holds known known [] []
+Loaded-none holds known = record { visits = []; named = refl; agree = tt; read = Adds-nil known; loaded = refl }
 
 all_agree-more : (holds : List ℕ → Option (Option (List ℕ))) (visits : List Visit) (visit : Visit) → AllAgree holds visits → Agrees holds visit
     → AllAgree holds (visits ++ visit ∷ [])
@@ -156,31 +144,24 @@ pub Agrees-same : (known now : List ℕ → Option (Option (List ℕ))) (file : 
 Agrees-same known now file gave e h = rw e at h
 
 -- what the reading of a file would give where it is known
-pub known_bytes : Option (Option (List ℕ)) → Option (List ℕ)
-known_bytes None = None
-known_bytes (Some there) = first_bytes read_limit there
+pub known_bytes : ℕ → Option (Option (List ℕ)) → Option (List ℕ)
+known_bytes limit None = None
+known_bytes limit (Some there) = first_bytes limit there
 
-known_is : (o : Option (Option (List ℕ))) → IfSome o (λ there. known_bytes o ≡ first_bytes read_limit there)
+pub known_is : (limit : ℕ) (o : Option (Option (List ℕ))) → IfSome o (λ there. known_bytes limit o ≡ first_bytes limit there)
 unfolding known_bytes
-known_is None = tt
-known_is (Some there) = refl
+known_is limit None = tt
+known_is limit (Some there) = refl
 
-pub Agrees-known : (holds : List ℕ → Option (Option (List ℕ))) (file : List ℕ) → Agrees holds (record { file = file; gave = known_bytes (holds file) })
-Agrees-known holds file = known_is (holds file)
+pub unreadable_is : (limit : ℕ) (o : Option (Option (List ℕ))) → IfSome o (λ there. there ≡ None) → IfSome o (λ there. None ≡ first_bytes limit there)
+unreadable_is limit None h = tt
+unreadable_is limit (Some there) h = rw h refl
 
-unreadable_is : (o : Option (Option (List ℕ))) → IfSome o (λ there. there ≡ None) → IfSome o (λ there. None ≡ first_bytes read_limit there)
-unreadable_is None h = tt
-unreadable_is (Some there) h = rw h refl
-
-pub Agrees-unreadable : (holds : List ℕ → Option (Option (List ℕ))) (file : List ℕ) → IfSome (holds file) (λ there. there ≡ None)
-    → Agrees holds (record { file = file; gave = None })
-Agrees-unreadable holds file h = unreadable_is (holds file) h
-
-pub Far-more : (holds : List ℕ → Option (Option (List ℕ))) (before now after : Option (List Reading)) (files : List (List ℕ)) (tables next : List Table)
-    (file : List ℕ) (gave : Option (List ℕ)) → Far holds before now files tables → Agrees holds (record { file = file; gave = gave })
+pub Loaded-more : (holds : List ℕ → Option (Option (List ℕ))) (before now after : Option (List Reading)) (files : List (List ℕ)) (tables next : List Table)
+    (file : List ℕ) (gave : Option (List ℕ)) → Loaded holds before now files tables → Agrees holds (record { file = file; gave = gave })
     → Adds now after (readings_of_one (record { file = file; gave = gave })) → with_table tables (table_in (record { file = file; gave = gave })) ≡ Ok next
-    → Far holds before after (files ++ file ∷ []) next
-Far-more holds before now after files tables next file gave far agrees adds is =
+    → Loaded holds before after (files ++ file ∷ []) next
+Loaded-more holds before now after files tables next file gave far agrees adds is =
     let visit : Visit = record { file = file; gave = gave } in
     record {
       visits = far.visits ++ visit ∷ [];
@@ -197,11 +178,11 @@ named-among files rest all visits visit named split =
     split ∙ sym (append_assoc files (visit.file ∷ []) rest) ∙ ap (λ (l : List (List ℕ)). (l ++ visit.file ∷ []) ++ rest) (sym named)
     ∙ ap (λ (l : List (List ℕ)). l ++ rest) (sym (named-more visits visit))
 
-Far-refused : (holds : List ℕ → Option (Option (List ℕ))) (before now after : Option (List Reading)) (files rest all : List (List ℕ)) (tables : List Table)
-    (file : List ℕ) (gave : Option (List ℕ)) (found : FileFault) → Far holds before now files tables → Agrees holds (record { file = file; gave = gave })
+Loaded-refused : (holds : List ℕ → Option (Option (List ℕ))) (before now after : Option (List Reading)) (files rest all : List (List ℕ)) (tables : List Table)
+    (file : List ℕ) (gave : Option (List ℕ)) (found : FileFault) → Loaded holds before now files tables → Agrees holds (record { file = file; gave = gave })
     → Adds now after (readings_of_one (record { file = file; gave = gave })) → with_table tables (table_in (record { file = file; gave = gave })) ≡ Err found
     → all ≡ files ++ file ∷ rest → Refused holds before after all (fault_line file found)
-Far-refused holds before now after files rest all tables file gave found far agrees adds is split =
+Loaded-refused holds before now after files rest all tables file gave found far agrees adds is split =
     let visit : Visit = record { file = file; gave = gave } in
     record {
       visits = far.visits ++ visit ∷ [];
@@ -212,10 +193,10 @@ Far-refused holds before now after files rest all tables file gave found far agr
       told = with_files-more far.visits visit [] tables far.loaded ∙ ap (λ (r : Result (List Table) FileFault). next_or_line (λ l. Ok l) file r) is;
     }
 
-Far-abandoned : (holds : List ℕ → Option (Option (List ℕ))) (before now after : Option (List Reading)) (files rest all : List (List ℕ)) (tables : List Table)
-    (file : List ℕ) (gave : Option (List ℕ)) → Far holds before now files tables → Agrees holds (record { file = file; gave = gave })
+Loaded-abandoned : (holds : List ℕ → Option (Option (List ℕ))) (before now after : Option (List Reading)) (files rest all : List (List ℕ)) (tables : List Table)
+    (file : List ℕ) (gave : Option (List ℕ)) → Loaded holds before now files tables → Agrees holds (record { file = file; gave = gave })
     → AddsFront now after (readings_of_one (record { file = file; gave = gave })) → all ≡ files ++ file ∷ rest → Abandoned holds before after all
-Far-abandoned holds before now after files rest all tables file gave far agrees adds split =
+Loaded-abandoned holds before now after files rest all tables file gave far agrees adds split =
     let visit : Visit = record { file = file; gave = gave } in
     record {
       visits = far.visits ++ visit ∷ [];
@@ -227,39 +208,16 @@ Far-abandoned holds before now after files rest all tables file gave far agrees 
 
 pub RefusedBy-fault : (holds : List ℕ → Option (Option (List ℕ))) (before now after : Option (List Reading)) (files rest all : List (List ℕ))
     (tables : List Table) (file : List ℕ) (gave : Option (List ℕ)) (found : FileFault) (error : StartError)
-    → Far holds before now files tables → Agrees holds (record { file = file; gave = gave })
+    → Loaded holds before now files tables → Agrees holds (record { file = file; gave = gave })
     → Answered {A = Unit {0}} (Err found) now after (readings_of_one (record { file = file; gave = gave }))
     → (found ≢ fault.Memory → with_table tables (table_in (record { file = file; gave = gave })) ≡ Err found)
     → all ≡ files ++ file ∷ rest → TellsOf file found error → RefusedBy holds before after all error
 RefusedBy-fault holds before now after files rest all tables file gave found start.Memory far agrees answered is split tells =
-    Far-abandoned holds before now after files rest all tables file gave far agrees answered.some split
+    Loaded-abandoned holds before now after files rest all tables file gave far agrees answered.some split
 RefusedBy-fault holds before now after files rest all tables file gave found (start.Refused line) far agrees answered is split tells =
     let adds = answered.all (λ e. let same : found ≡ fault.Memory = cc e in tells.0 same) in
     subst (λ (l : List ℕ). Refused holds before after all l) (sym tells.1)
-    (Far-refused holds before now after files rest all tables file gave found far agrees adds (is tells.0) split)
-
-pub Started-far : (holds : List ℕ → Option (Option (List ℕ))) (before after : Option (List Reading)) (files : List (List ℕ)) (tables : List Table) (state : State)
-    → Far holds before after files tables → state ≡ first_state tables → Started holds before after files state
-Started-far holds before after files tables state far first = record {
-  visits = far.visits;
-  named = far.named;
-  agree = far.agree;
-  read = far.read;
-  tables = tables;
-  loaded = far.loaded;
-  first = first;
-}
-
--- all files were fine, and the session found no memory
-pub Abandoned-far : (holds : List ℕ → Option (Option (List ℕ))) (before after : Option (List Reading)) (files : List (List ℕ)) (tables : List Table)
-    → Far holds before after files tables → Abandoned holds before after files
-Abandoned-far holds before after files tables far = record {
-  visits = far.visits;
-  unseen = [];
-  named = sym far.named ∙ sym (append-nil _);
-  agree = far.agree;
-  read = AddsFront-all before after _ far.read;
-}
+    (Loaded-refused holds before now after files rest all tables file gave found far agrees adds (is tells.0) split)
 
 -- ---- the items of a list up to one of them
 
@@ -274,13 +232,3 @@ pub map-split : {A B : Type 0} (f : A → B) (items : List A) (place : ℕ) (ite
 map-split f [] place item below = absurd (omega (arith, below))
 map-split f (x ∷ xs) zero item below = refl
 map-split {A} {B} f (x ∷ xs) (suc n) item below = ap (λ (l : List B). f x ∷ l) (map-split f xs n item (omega (arith, below)))
-
--- the part of one more table
-pub open_parts-more : (tables : List Table) (place : ℕ) (schema : Schema) (part : TablePart) → option_map (λ (table : Table). table.schema) (slice_get tables place) ≡ Some schema
-    → part ≡ record { columns = map (λ column. column.name) schema.columns; secured = false }
-    → map open_part (take (suc place) tables) ≡ map open_part (take place tables) ++ part ∷ []
-open_parts-more [] place schema part is e = cc
-open_parts-more (table ∷ rest) zero schema part is e =
-    let same : table.schema ≡ schema = cc in
-    rw (e, ← same) refl
-open_parts-more (table ∷ rest) (suc n) schema part is e = ap (λ (l : List TablePart). open_part table ∷ l) (open_parts-more rest n schema part is e)

@@ -3,8 +3,8 @@ use Rattle.std.specs.Prelude.{◌≡◌, ◌∷◌, ◌++◌, ℕ, Bool, true, f
 use Rattle.lq_model.specs.Machine.{State}
 use Rattle.lq_serve.specs.Devices.{Writes}
 use Rattle.lq_serve.specs.ScriptRun.{IsNoText, IsTooLong, ServedInPart, ServedWhole}
-use Rattle.lq_serve.specs.declared.loading.StartError.{StartError}
-use Rattle.lq_serve.specs.declared.loading.StartError.TheVariants as start
+use Rattle.lq_serve.specs.declared.start_error.StartError.{StartError}
+use Rattle.lq_serve.specs.declared.start_error.StartError.TheVariants as start
 use Rattle.lq_serve.specs.declared.script_run.Summary.{Summary}
 
 -- a text as a line

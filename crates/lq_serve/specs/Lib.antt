@@ -1,8 +1,7 @@
-pub mod CsvRecords
 pub mod Devices
 pub mod Ending
 pub mod Files
 pub mod Loading
 pub mod MemoryFiles
 pub mod ScriptRun
-pub mod TableFile
+pub mod Starting

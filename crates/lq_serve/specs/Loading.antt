@@ -1,4 +1,4 @@
--- The session that the program starts with: over the tables of some files, or the line of the first fault among them.
+-- The tables of the files that the program is told to load, or the line of the first fault among them.
 use Rattle.std.specs.Prelude.{◌≡◌, ◌≢◌, ◌+◌, ◌-◌, ◌==◌, ◌∷◌, ◌++◌, if◌then◌else◌, List, [], ℕ, Bool, false, length, map, nat_eq, take, codes, Option, Some, None, IfSome, Result, Ok, Err, Vec, ⊤}
 use Rattle.std.specs.declared.alloc.Global.{Global}
 use Rattle.std.specs.Fmt.{decimal}
@@ -7,19 +7,16 @@ use Rattle.lq_value.specs.Tables.{Table}
 use Rattle.lq_store.specs.Calls.{addition_refusal_of}
 use Rattle.lq_store.specs.declared.error.StoreError.{StoreError}
 use Rattle.lq_store.specs.declared.error.StoreError.TheVariants as store
-use Rattle.lq_model.specs.Machine.{State}
 use Rattle.lq_model.specs.Tokens.{is_name}
-use Rattle.lq_model.specs.declared.policy.PolicyParts.{PolicyParts}
-use Rattle.lq_model.specs.declared.policy.TablePart.{TablePart}
 use Rattle.lq_serve.specs.Files.{Adds, AddsFront, first_bytes}
-use Rattle.lq_serve.specs.TableFile.{table_limit, table_of}
+use Rattle.lq_load.specs.TableFile.{table_limit, table_of}
 use Rattle.lq_serve.specs.declared.file_fault.FileFault.{FileFault}
 use Rattle.lq_serve.specs.declared.file_fault.FileFault.TheVariants as fault
 use Rattle.lq_serve.specs.declared.files.Reading.{Reading}
-use Rattle.lq_serve.specs.declared.loading.StartError.{StartError}
-use Rattle.lq_serve.specs.declared.loading.StartError.TheVariants as start
-use Rattle.lq_serve.specs.declared.table_file.LoadError.{LoadError}
-use Rattle.lq_serve.specs.declared.table_file.LoadError.TheVariants as load
+use Rattle.lq_serve.specs.declared.start_error.StartError.{StartError}
+use Rattle.lq_serve.specs.declared.start_error.StartError.TheVariants as start
+use Rattle.lq_load.specs.declared.load_error.LoadError.{LoadError}
+use Rattle.lq_load.specs.declared.load_error.LoadError.TheVariants as load
 
 -- ---- names
 
@@ -66,8 +63,15 @@ fault_text (fault.Cell record_place column_place) = codes "cell " ++ (decimal re
 fault_text fault.TooLarge = codes "too-large"
 fault_text fault.DuplicateTable = codes "duplicate-table"
 fault_text fault.TooMany = codes "too-many"
+fault_text fault.Toml = codes "toml"
+fault_text fault.Shape = codes "shape"
+fault_text fault.UnknownName = codes "unknown-name"
+fault_text fault.Duplicate = codes "duplicate"
+fault_text fault.RuleType = codes "rule-type"
+fault_text fault.RuleNotTotal = codes "rule-not-total"
+fault_text fault.Role = codes "role"
 
--- the line that tells of a file's fault, without a line feed
+-- the line that tells of a fault of a file or of the role, without a line feed
 unfoldable pub fault_line : List ℕ → FileFault → List ℕ
 fault_line file found = codes "lq: " ++ (file ++ (codes ": " ++ fault_text found))
 
@@ -132,29 +136,15 @@ abbrev pub with_files : List Visit → List Table → Result (List Table) (List 
 with_files [] tables = Ok tables
 with_files (visit ∷ rest) tables = next_or_line (with_files rest) visit.file (with_table tables (table_in visit))
 
--- ---- sessions
+-- ---- what comes of the files
 
--- what policies know of a table without row security
-abbrev pub open_part : Table → TablePart
-open_part table = record { columns = map (λ column. column.name) table.schema.columns; secured = false }
-
--- one role, and no row security
-abbrev pub open_policies : List Table → PolicyParts
-open_policies tables = record { roles = record { name = codes "reader" } ∷ []; tables = map open_part tables; policies = [] }
-
--- the first state of a session over some tables
-abbrev pub first_state : List Table → State
-first_state tables = record { tables = tables; policies = open_policies tables; role = 0 }
-
--- Every file was visited and fine, these were the reads, and the session is in its first state over the tables.
-pub record Started (holds : List ℕ → Option (Option (List ℕ))) (before after : Option (List Reading)) (files : List (List ℕ)) (state : State) : Type 0 where
+-- Every file was visited and fine, these were the reads, and these are the tables.
+pub record Loaded (holds : List ℕ → Option (Option (List ℕ))) (before after : Option (List Reading)) (files : List (List ℕ)) (tables : List Table) : Type 0 where
   pub visits : List Visit
   pub named : map (λ visit. visit.file) visits ≡ files
   pub agree : AllAgree holds visits
   pub read : Adds before after (readings_of visits)
-  pub tables : List Table
   pub loaded : with_files visits [] ≡ Ok tables
-  pub first : state ≡ first_state tables
 
 -- Some first files were visited, these were the reads, and the line tells of the first fault among them.
 pub record Refused (holds : List ℕ → Option (Option (List ℕ))) (before after : Option (List Reading)) (files : List (List ℕ)) (line : List ℕ) : Type 0 where
@@ -173,7 +163,7 @@ pub record Abandoned (holds : List ℕ → Option (Option (List ℕ))) (before a
   pub agree : AllAgree holds visits
   pub read : AddsFront before after (readings_of visits)
 
--- why there is no session
+-- why there are no tables
 abbrev pub RefusedBy : (List ℕ → Option (Option (List ℕ))) → Option (List Reading) → Option (List Reading) → List (List ℕ) → StartError → Type 0
 RefusedBy holds before after files start.Memory = Abandoned holds before after files
 RefusedBy holds before after files (start.Refused line) = Refused holds before after files line

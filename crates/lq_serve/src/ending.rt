@@ -5,14 +5,14 @@ ghost use Rattle.lq_serve.specs.Devices.{inner_of, is_failed, is_ended, Writes};
 ghost use Rattle.lq_serve.specs.Ending.{as_line, status_of, told_of, Finished};
 
 use crate::device::Device;
-use crate::loading::StartError;
 use crate::script_run::serve;
 use crate::serve_error::ServeError;
+use crate::start_error::StartError;
 use lq_session::Session;
 use std::alloc::Global;
 use std::io::{Read, Write};
 
-// The status for a file that was refused.
+// The status for a table, policies or a role that was refused.
 const FILE_FAULT: u8 = 3;
 
 // The status for a fault of the script or of a device.
@@ -67,7 +67,7 @@ pub fn finish<R: Read, W: Write, E: Write>(
 }
 
 /// Tells of the error by one line to `errors`, and answers the program's status: 5 for want of
-/// memory, and 3 for a file that was refused.
+/// memory, and 3 for a table, policies or a role that was refused.
 ///
 /// The line is written whole, unless `errors` fails: it is then marked, and holds a front of the line.
 pub fn refuse<E: Write>(error: &StartError, errors: &mut Device<E>) -> u8

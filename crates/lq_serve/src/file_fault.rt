@@ -1,12 +1,13 @@
-//! What may be wrong with the file of a table, and the line that tells of it.
+//! What may be wrong with what the command line names, a file or the role, and the line that tells of it.
 ghost use Rattle.std.specs.Prelude.{◌≡◌, IfOk, string_bytes};
 ghost use Rattle.lq_serve.specs.Loading.{fault_line, fault_of_load, fault_of_store, fault_text};
 
-use crate::table_file::LoadError;
+use lq_load::LoadError;
+use lq_policyfile::PolicyFileError;
 use lq_store::StoreError;
 use std::alloc::{AllocError, Global};
 
-// Why a file gave no further table.
+// Why a table's file, the policy file or the role was refused.
 #[derive(Clone, Copy, Debug, Drop, Eq, PartialEq)]
 pub(crate) enum FileFault {
     // There was no memory.
@@ -29,6 +30,21 @@ pub(crate) enum FileFault {
     DuplicateTable,
     // There are as many tables as a session has.
     TooMany,
+    // The policy file is no TOML.
+    Toml,
+    // The policy file has another key, another kind of value, or too many bytes, lacks a key, or has
+    // a rule that doesn't parse.
+    Shape,
+    // The policy file names a table, column or role that isn't there.
+    UnknownName,
+    // The policy file has a role, a table or the name of a rule twice.
+    Duplicate,
+    // A rule of the policy file is no truth value.
+    RuleType,
+    // A rule of the policy file may fault.
+    RuleNotTotal,
+    // The policies don't have the role.
+    Role,
 }
 
 impl From<LoadError> for FileFault {
@@ -75,7 +91,26 @@ impl From<StoreError> for FileFault {
     }
 }
 
-// The line that tells of a file's fault, without a line feed.
+impl From<PolicyFileError> for FileFault {
+    ghost use Rattle.std.specs.Prelude.{◌≡◌};
+    ghost use Rattle.lq_serve.specs.Starting.{fault_of_policy};
+
+    ghost from_gives = { λ error fault. fault ≡ fault_of_policy error };
+
+    fn from(error: PolicyFileError) -> FileFault {
+        match error {
+            PolicyFileError::Memory => FileFault::Memory,
+            PolicyFileError::Toml => FileFault::Toml,
+            PolicyFileError::Shape => FileFault::Shape,
+            PolicyFileError::UnknownName => FileFault::UnknownName,
+            PolicyFileError::Duplicate => FileFault::Duplicate,
+            PolicyFileError::RuleType => FileFault::RuleType,
+            PolicyFileError::RuleNotTotal => FileFault::RuleNotTotal,
+        }
+    }
+}
+
+// The line that tells of a fault, without a line feed.
 pub(crate) fn fault_line(alloc: Global, file: &str, fault: FileFault) -> Result<String, AllocError>
     ensures { IfOk result (λ line. string_bytes line ≡ fault_line file.now fault) }
 {
@@ -99,5 +134,12 @@ fn fault_text(alloc: Global, fault: FileFault) -> Result<String, AllocError>
         FileFault::TooLarge => String::from_str(alloc, "too-large"),
         FileFault::DuplicateTable => String::from_str(alloc, "duplicate-table"),
         FileFault::TooMany => String::from_str(alloc, "too-many"),
+        FileFault::Toml => String::from_str(alloc, "toml"),
+        FileFault::Shape => String::from_str(alloc, "shape"),
+        FileFault::UnknownName => String::from_str(alloc, "unknown-name"),
+        FileFault::Duplicate => String::from_str(alloc, "duplicate"),
+        FileFault::RuleType => String::from_str(alloc, "rule-type"),
+        FileFault::RuleNotTotal => String::from_str(alloc, "rule-not-total"),
+        FileFault::Role => String::from_str(alloc, "role"),
     }
 }

@@ -1,28 +1,28 @@
-//! The server over its files and devices: tables are loaded, a script is read whole, its lines are stepped in order,
-//! and the replies are written.
+//! The server over its files and devices: tables and policies are loaded, a script is read whole, its lines are stepped
+//! in order, and the replies are written.
 #![tactic(auto)]
 
 mod device;
 mod ending;
 mod file_fault;
 mod files;
-mod first_session;
 mod loading;
-mod marks;
 mod memory_files;
 mod naming;
 mod output;
+mod reading;
 mod script_bytes;
 mod script_lines;
 mod script_run;
 mod serve_error;
-mod table_file;
+mod start_error;
+mod starting;
 
 pub use device::Device;
 pub use ending::{finish, refuse};
 pub use files::{FileError, Files, Reading};
-pub use loading::{StartError, load};
 pub use memory_files::MemoryFiles;
 pub use script_run::{Summary, serve};
 pub use serve_error::{ReadFailed, ServeError, WriteFailed};
-pub use table_file::{LoadError, table_from_csv};
+pub use start_error::StartError;
+pub use starting::load;

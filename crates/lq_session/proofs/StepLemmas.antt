@@ -1,11 +1,10 @@
 -- From what a statement's calls give to the machine's step.
-use Rattle.std.proofs.Common.{◌≡◌, ◌∷◌, ◌++◌, List, [], map, ℕ, Bool, true, false, if◌then◌else◌, Option, Some, None, IsSome, ap, ap₂, ◌∙◌, sym, refl, codes, option_map, slice_get, is_some, Result}
+use Rattle.std.proofs.Common.{◌≡◌, ◌∷◌, List, [], map, ℕ, Bool, true, false, if◌then◌else◌, Option, Some, None, IsSome, ap, ap₂, ◌∙◌, sym, refl, codes, option_map, slice_get, is_some, Result}
 use Rattle.serde_json.specs.Data.{Data, object}
 use Rattle.lq_value.specs.Tables.{Table}
 use Rattle.lq_value.specs.declared.scalar.Scalar.{Scalar}
 use Rattle.lq_value.specs.declared.value.Fault.{Fault}
 use Rattle.lq_value.specs.declared.table.Row.{Row}
-use Rattle.lq_value.specs.declared.value.End.{End}
 use Rattle.lq_model.specs.Machine.{State, perform, run_in, run_reply, served_top, step, step_by, value_in}
 use Rattle.lq_model.specs.Depth.{is_deep}
 use Rattle.lq_model.specs.Reading.{Reading, IsTooDeep, reading_of, reading_of_tokens, says_or_not}
@@ -26,8 +25,7 @@ use Rattle.lq_model.specs.declared.token.Token.{Token}
 use Rattle.lq_model.proofs.SessionLemmas.{step_stays}
 use Rattle.lq_scalar.specs.Shapes.{scalar_of_expression}
 use Rattle.lq_session.specs.Given.{IsOver, top_names, world_seen}
-use Rattle.lq_session.specs.Items.{found_members, listed, opening}
-use Rattle.lq_session.proofs.ItemLemmas.{line-listed}
+use Rattle.lq_session.specs.Items.{found_members}
 use Rattle.lq_session.proofs.ServesLemmas.{items_to, reply_of_items, reply_typed, reply_untyped, value_typed, value_untyped}
 
 -- ---- lines with and without a statement
@@ -76,26 +74,17 @@ pub ruleset performed = (performed_query, performed_node)
 
 -- ---- the line of a run
 
-listed_line : (items : List Data × End) (text : List ℕ) (e : End) (line : List ℕ) → text ≡ listed false items.0 → e ≡ items.1 → line ≡ (opening e ++ text) ++ codes "]}\n"
-    → line ≡ line_of (reply_of_items items)
-listed_line items text e line h k l =
-    l ∙ ap₂ (λ (x : End) (y : List ℕ). (opening x ++ y) ++ codes "]}\n") k h ∙ sym (line-listed items.0 items.1)
-
 module _ (parts : PolicyParts) (role number : ℕ) (tables : List Table) (q : Query Expr) where
-  abbrev run_line : List ℕ
-  run_line = line_of (run_reply (map (λ table. table.schema) tables) (tables_as_seen parts role tables) q)
+  abbrev run_data : Data
+  run_data = run_reply (map (λ table. table.schema) tables) (tables_as_seen parts role tables) q
 
   -- by what the table with the number is
-  pub line_at : (o : Option Table) (rows : List Row) → slice_get tables number ≡ o → option_map (λ t. t.rows) o ≡ Some rows
-      → IsOver (map (λ table. table.schema) tables) q number → (text : List ℕ) (e : End) (line : List ℕ)
-      → text ≡ listed false (items_to parts role tables number q rows).0 → e ≡ (items_to parts role tables number q rows).1
-      → line ≡ (opening e ++ text) ++ codes "]}\n" → line ≡ run_line
-  line_at None rows at has_rows over text e line h k l = absurd cc
-  line_at (Some t) rows at has_rows over text e line h k l =
+  pub reply_at : (o : Option Table) (rows : List Row) → slice_get tables number ≡ o → option_map (λ t. t.rows) o ≡ Some rows
+      → IsOver (map (λ table. table.schema) tables) q number → reply_of_items (items_to parts role tables number q rows) ≡ run_data
+  reply_at None rows at has_rows over = absurd cc
+  reply_at (Some t) rows at has_rows over =
       let same_rows : rows ≡ t.rows = cc in
-      let same : items_to parts role tables number q rows ≡ items_to parts role tables number q t.rows = ap (items_to parts role tables number q) same_rows in
-      listed_line (items_to parts role tables number q t.rows) text e line (h ∙ ap (λ (items : List Data × End). listed false items.0) same) (k ∙ ap (λ (items : List Data × End). items.1) same) l
-      ∙ ap line_of (sym (reply_typed parts role number tables t q at over))
+      ap (λ (given : List Row). reply_of_items (items_to parts role tables number q given)) same_rows ∙ sym (reply_typed parts role number tables t q at over)
 
 -- the line of a query without a type
 pub untyped_line : (s : State) (q : Query Expr) → item_type type_of q (top_names (map (λ table. table.schema) s.tables)) ≡ None

@@ -14,6 +14,7 @@ use Rattle.lq_model.specs.Meaning.{Scope, World}
 use Rattle.lq_model.specs.Operations.{on_ok}
 use Rattle.lq_model.specs.Typing.{Names, is_bool_type, is_scalar, item_type, type_of, with_local}
 use Rattle.lq_model.specs.Visible.{TableRow, tables_as_seen, visible_to}
+use Rattle.lq_model.specs.declared.policy.Action.TheVariants as action
 use Rattle.lq_model.specs.declared.policy.PolicyParts.{PolicyParts}
 use Rattle.lq_model.specs.declared.syntax.Body.{Body}
 use Rattle.lq_model.specs.declared.syntax.Clause.{Clause}
@@ -50,7 +51,7 @@ module _ {R : Type 0} (world : World R) (scope : Scope R) where
 -- what a row of a table gives to a query's variable and body: a hidden row gives nothing
 abbrev pub given_to : PolicyParts → ℕ → List Table → ℕ → List ℕ → Body Expr → Row → Result (Option Scalar) Fault
 given_to policies role tables table variable body row =
-    if visible_to policies role table row.cells then given_at (world_seen policies role tables) (row_scope variable table row) body.clauses body.last else Ok None
+    if visible_to policies role action.Select table row.cells then given_at (world_seen policies role tables) (row_scope variable table row) body.clauses body.last else Ok None
 
 -- ---- the type check of a query over a table
 

@@ -1,9 +1,6 @@
 pub mod Given
 pub mod Items
 pub mod KnownTypes
-pub mod Lines
-pub mod Roles
-pub mod Rules
 pub mod RunGives
 pub mod States
 pub mod StoredMeanings

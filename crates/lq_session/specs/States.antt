@@ -1,6 +1,6 @@
 -- The state of the machine that a session is in.
 use Rattle.lq_model.specs.Machine.{State}
-use Rattle.lq_session.specs.Roles.{number_of}
+use Rattle.lq_policy.specs.Roles.{number_of}
 use Rattle.lq_session.specs.declared.session.Session.{Session}
 
 abbrev pub state_of : Session → State

@@ -1,13 +1,14 @@
 //! What names stand for in a run: the tables as the role sees them, and the row that the query is at.
-ghost use Rattle.std.specs.Prelude.{◌≡◌, map, slice_get};
+ghost use Rattle.std.specs.Prelude.{◌≡◌, slice_get};
 ghost use Rattle.std.specs.Option.{option_copied};
-ghost use Rattle.lq_model.specs.Machine.{columns_in, schemas_of};
+ghost use Rattle.lq_model.specs.Machine.{schemas_of};
+ghost use Rattle.lq_model.specs.Served.{columns_in};
 ghost use Rattle.lq_model.specs.Visible.{cell_named};
 
-use crate::policies::{Policies, RoleId};
 use crate::typing::{column_type, name_type};
-use lq_scalar::{ExprType, Named, Names};
-use lq_store::{Column, Row, Store};
+use lq_policy::{Policies, RoleId};
+use lq_scalar::{ExprType, Named, Names, cell_named};
+use lq_store::{Row, Store};
 use lq_value::Scalar;
 
 /// The names of a query at one row of a table: its variable, which stands for the row, and the
@@ -30,25 +31,6 @@ pub(crate) struct TopNames<'a> {
     pub(crate) role: RoleId,
 }
 
-/// The cell under the column of this name.
-fn cell_named<'a>(columns: &[Column], cells: &'a [Scalar], name: &str) -> Option<&'a Scalar>
-    ensures { option_copied result ≡ cell_named (map (λ column. column.name) columns.now) cells.now name.now }
-{
-    let mut columns_left = columns;
-    let mut cells_left = cells;
-    while let [column, other_columns @ ..] = columns_left {
-        let [cell, other_cells @ ..] = cells_left else {
-            return None;
-        };
-        if column.name.as_str() == name {
-            return Some(cell);
-        }
-        columns_left = other_columns;
-        cells_left = other_cells;
-    }
-    None
-}
-
 /// The cell of a row of the table with this number, under the column of this name.
 fn cell_of<'a>(store: &Store, table: u16, row: &'a Row, column: &str) -> Option<&'a Scalar>
     ensures { option_copied result ≡ cell_named (columns_in (slice_get (schemas_of store.now) table)) row.now.cells column.now }
@@ -63,7 +45,7 @@ fn cell_of<'a>(store: &Store, table: u16, row: &'a Row, column: &str) -> Option<
 impl Names for RowNames<'_> {
     ghost use Rattle.lq_model.specs.Visible.{TableRow};
     ghost use Rattle.lq_session.specs.Given.{row_scope, world_seen};
-    ghost use Rattle.lq_session.specs.Roles.{number_of};
+    ghost use Rattle.lq_policy.specs.Roles.{number_of};
 
     ghost Row = { TableRow };
 
@@ -102,7 +84,7 @@ impl Names for TopNames<'_> {
     ghost use Rattle.std.specs.Prelude.{[]};
     ghost use Rattle.lq_model.specs.Visible.{TableRow};
     ghost use Rattle.lq_session.specs.Given.{world_seen};
-    ghost use Rattle.lq_session.specs.Roles.{number_of};
+    ghost use Rattle.lq_policy.specs.Roles.{number_of};
 
     ghost Row = { TableRow };
 

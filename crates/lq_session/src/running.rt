@@ -2,13 +2,14 @@
 ghost use Rattle.std.specs.Prelude.{◌≡◌};
 ghost use Rattle.lq_scalar.specs.Shapes.{IsFound, IsTruth};
 ghost use Rattle.lq_session.specs.Given.{given_at, given_to, passes, selected};
-ghost use Rattle.lq_session.specs.Roles.{number_of};
-ghost use Rattle.lq_session.specs.RunGives.{IsGiven};
+ghost use Rattle.lq_policy.specs.Roles.{number_of};
+ghost use Rattle.lq_session.specs.RunGives.{AdmitVisible, IsGiven};
 
-use crate::policies::{Action, Policies, RoleId};
-use crate::reply::push_item;
+use crate::reply::push_scalar;
 use crate::row_names::RowNames;
+use lq_json::ItemsLine;
 use lq_model::{Body, Clause, Expr, Last, Query};
+use lq_policy::{Policies, RoleId, RowRules};
 use lq_scalar::{Found, Names, ScalarError, evaluate, truth};
 use lq_store::{Row, Store};
 use lq_value::{End, Fault};
@@ -72,17 +73,15 @@ fn given_by<'a, N: Names>(
 /// What a row gives to a query's body: a hidden one gives nothing.
 fn given<'a>(
     alloc: Global,
+    rules: &RowRules<'_>,
     names: &'a RowNames<'_>,
     body: &'a Body<Expr>,
 ) -> Result<Option<Found<'a>>, ScalarError>
+    requires { AdmitVisible names.now.policies.now (number_of names.now.role) names.now.table rules.now }
     ensures { IsGiven (given_to names.now.policies.now (number_of names.now.role) names.now.store.now names.now.table
         names.now.variable.now body.now names.now.row.now) result }
 {
-    let cells = names.row.cells.as_slice();
-    if names
-        .policies
-        .visible(names.role, Action::Select, names.table, cells)
-    {
+    if rules.admit(names.row.cells.as_slice()) {
         given_by(alloc, names, body)
     } else {
         Ok(None)
@@ -91,19 +90,22 @@ fn given<'a>(
 
 impl Run<'_> {
     ghost use Rattle.std.specs.Prelude.{◌≡◌, IfOk};
-    ghost use Rattle.lq_session.specs.Items.{IsTextOf, items_given};
-    ghost use Rattle.lq_session.specs.RunGives.{given_in};
+    ghost use Rattle.lq_json.specs.Items.{Holds};
+    ghost use Rattle.lq_session.specs.Items.{items_given};
+    ghost use Rattle.lq_session.specs.RunGives.{AdmitVisible, given_in};
 
-    /// The text of the items that the rows give, and how they end.
+    /// The line with the items that the rows give, by the rules for reading the table, and how
+    /// they end.
     pub(crate) fn items<'r>(
         &'r self,
         alloc: Global,
+        rules: &RowRules<'_>,
         rows: &'r [Row],
-    ) -> Result<(Vec<u8>, End), AllocError>
-        ensures { IfOk result (λ made. IsTextOf (items_given (given_in self.now) rows.now) made.0.items made.1) }
+    ) -> Result<(ItemsLine, End), AllocError>
+        requires { AdmitVisible self.now.policies.now (number_of self.now.role) self.now.table rules.now }
+        ensures { IfOk result (λ made. Holds made.0 (items_given (given_in self.now) rows.now).0 × (made.1 ≡ (items_given (given_in self.now) rows.now).1)) }
     {
-        let mut text = Vec::new(alloc);
-        let mut later = false;
+        let mut line = ItemsLine::new(alloc)?;
         for row in rows {
             let names = RowNames {
                 store: self.store,
@@ -113,16 +115,13 @@ impl Run<'_> {
                 variable: self.query.name.as_str(),
                 row,
             };
-            match given(alloc, &names, &self.query.body) {
+            match given(alloc, rules, &names, &self.query.body) {
                 Ok(None) => {}
-                Ok(Some(found)) => {
-                    push_item(alloc, &mut text, later, found.scalar())?;
-                    later = true;
-                }
-                Err(ScalarError::Fault(fault)) => return Ok((text, End::Fault(fault))),
+                Ok(Some(found)) => push_scalar(&mut line, found.scalar())?,
+                Err(ScalarError::Fault(fault)) => return Ok((line, End::Fault(fault))),
                 Err(ScalarError::Memory) => return Err(AllocError),
             }
         }
-        Ok((text, End::Done))
+        Ok((line, End::Done))
     }
 }

@@ -1,14 +1,14 @@
 //! The session and its step.
-ghost use Rattle.lq_session.specs.Roles.{number_of};
+ghost use Rattle.lq_policy.specs.Roles.{number_of};
 
-use crate::line::Line;
-use crate::policies::{Policies, RoleId};
-use crate::reply::{error_line, items_line, value_line};
+use crate::reply::{error_line, value_line};
 use crate::row_names::TopNames;
 use crate::running::Run;
 use crate::typing::{scalar_type, table_of};
+use lq_json::Line;
 use lq_lex::is_blank;
 use lq_model::{Expr, Query, Statement};
+use lq_policy::{Action, Policies, RoleId};
 use lq_scalar::{ScalarError, evaluate};
 use lq_store::Store;
 use lq_syntax::{SyntaxError, parse_statement};
@@ -102,15 +102,15 @@ impl Session {
         ensures { IfOk result (λ line. line ≡ line_of (value_in (state_of self.now) expression.now)) }
     {
         match scalar_type(&self.store, expression) {
-            Some(_) => Ok(Line::from_bytes(self.typed_value(expression)?)),
+            Some(_) => self.typed_value(expression),
             None => self.refusal("type"),
         }
     }
 
     /// The line of the value of an expression with the type of a scalar.
-    fn typed_value(&self, expression: &Expr) -> Result<Vec<u8>, AllocError>
+    fn typed_value(&self, expression: &Expr) -> Result<Line, AllocError>
         requires { is_some (if_scalar (type_of expression.now (top_names (schemas_of self.now.store)))) ≡ true }
-        ensures { IfOk result (λ line. line.items ≡ line_of (value_in (state_of self.now) expression.now)) }
+        ensures { IfOk result (λ line. line ≡ line_of (value_in (state_of self.now) expression.now)) }
     {
         let names = TopNames {
             store: &self.store,
@@ -118,8 +118,8 @@ impl Session {
             role: self.role,
         };
         match evaluate(self.alloc, &names, expression) {
-            Ok(found) => value_line(self.alloc, Ok(found.scalar())),
-            Err(ScalarError::Fault(fault)) => value_line(self.alloc, Err(fault)),
+            Ok(found) => value_line(self.alloc, &self.store, Ok(found.scalar())),
+            Err(ScalarError::Fault(fault)) => value_line(self.alloc, &self.store, Err(fault)),
             Err(ScalarError::Memory) => Err(AllocError),
         }
     }
@@ -129,7 +129,7 @@ impl Session {
         ensures { IfOk result (λ line. line ≡ line_of (run_in (state_of self.now) query.now)) }
     {
         match table_of(&self.store, query) {
-            Some(table) => Ok(Line::from_bytes(self.run_over(table, query)?)),
+            Some(table) => self.run_over(table, query),
             None => self.refusal("type"),
         }
     }
@@ -138,15 +138,18 @@ impl Session {
     fn refusal(&self, word: &str) -> Result<Line, AllocError>
         ensures { IfOk result (λ line. line ≡ line_of (error_data word.now)) }
     {
-        Ok(Line::from_bytes(error_line(self.alloc, word)?))
+        error_line(self.alloc, word)
     }
 
     /// The line of a typed query over the table with this number.
-    fn run_over(&self, table: u16, query: &Query<Expr>) -> Result<Vec<u8>, AllocError>
+    fn run_over(&self, table: u16, query: &Query<Expr>) -> Result<Line, AllocError>
         requires within { table < length self.now.store }
         requires over { IsOver (schemas_of self.now.store) query.now table }
-        ensures { IfOk result (λ line. line.items ≡ line_of (run_in (state_of self.now) query.now)) }
+        ensures { IfOk result (λ line. line ≡ line_of (run_in (state_of self.now) query.now)) }
     {
+        let rules = self
+            .policies
+            .rules_for(self.alloc, self.role, Action::Select, table)?;
         let run = Run {
             store: &self.store,
             policies: &self.policies,
@@ -154,7 +157,7 @@ impl Session {
             table,
             query,
         };
-        let (items, end) = run.items(self.alloc, self.store.rows(table))?;
-        items_line(self.alloc, items.as_slice(), end)
+        let (items, end) = run.items(self.alloc, &rules, self.store.rows(table))?;
+        items.finish(end)
     }
 }

@@ -7,6 +7,8 @@ mod evaluations;
 #[cfg(test)]
 mod operations;
 #[cfg(test)]
+mod policies;
+#[cfg(test)]
 mod sessions;
 #[cfg(test)]
 mod tables;

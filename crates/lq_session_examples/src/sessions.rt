@@ -4,7 +4,8 @@ ghost use Rattle.std.specs.Prelude.{◌≡◌, true, IfOk};
 ghost use Rattle.lq_store.specs.Rules.{keeps_rules};
 
 use lq_model::{Policy, PolicyParts, Role, TablePart};
-use lq_session::{Action, Line, Policies, Session, rules_are_total};
+use lq_policy::{Action, Policies, rules_are_total};
+use lq_session::{Line, Session};
 use lq_store::{Column, ColumnType, Schema, Store, Table};
 use lq_syntax::parse_rule;
 use lq_value::{List, Scalar, Txt};
@@ -60,8 +61,11 @@ fn policy(alloc: Global, restrictive: bool, to: &str, rule: &str) -> Result<Poli
         name: Txt::from_str(alloc, rule)?,
         table: 0,
         restrictive,
+        for_all: true,
+        action: Action::Select,
         to: one(alloc, Txt::from_str(alloc, to)?)?,
-        using: parse_rule(alloc, rule)?,
+        using: Some(parse_rule(alloc, rule)?),
+        check: None,
     })
 }
 
@@ -78,6 +82,8 @@ fn two_roles(alloc: Global) -> Result<List<Role>, AllocError> {
     for name in &["a", "b"] {
         roles.push(Role {
             name: Txt::from_str(alloc, name)?,
+            member_of: List::new(alloc),
+            bypass: false,
         })?;
     }
     Ok(roles)
@@ -91,11 +97,11 @@ fn table_part(alloc: Global, secured: bool) -> Result<TablePart, AllocError> {
     })
 }
 
-fn built(rt: &impl Abort, parts: PolicyParts) -> Policies {
+fn built(rt: &impl Abort, alloc: Global, parts: PolicyParts) -> Policies {
     if !rules_are_total(&parts) {
         panic!(rt; "a rule may fault");
     }
-    match Policies::build(parts) {
+    match Policies::build(alloc, parts) {
         Ok(policies) => policies,
         Err(_) => panic!(rt; "the policies were refused"),
     }
@@ -113,7 +119,7 @@ fn policies_of(
         tables: one(alloc, table_part(alloc, secured)?)?,
         policies,
     };
-    Ok(built(rt, parts))
+    Ok(built(rt, alloc, parts))
 }
 
 // A session over that store under the role of this name.
@@ -195,7 +201,7 @@ fn policies_for_all(rt: &impl Abort, alloc: Global) -> Result<Policies, Fail> {
         tables,
         policies: one(alloc, policy(alloc, false, "public", "row.c >= 0")?)?,
     };
-    Ok(built(rt, parts))
+    Ok(built(rt, alloc, parts))
 }
 
 // Whether a row with this cell is visible to the role of this name, which `owner` has (none: it has no such role).

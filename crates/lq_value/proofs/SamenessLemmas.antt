@@ -1,14 +1,12 @@
 -- Two values are the same exactly where they are one key.
 use Rattle.std.proofs.Common.{◌≡◌, ◌∷◌, ◌&&◌, List, [], map, ℕ, zero, suc, Bool, true, false, Some, ap, ◌∙◌, sym, refl, subst, bytes_eq, slice_get}
-use Rattle.std.specs.Bool.{Decides}
-use Rattle.std.specs.Cmp.{booleans_Decides, first_so, second_so}
+use Rattle.std.specs.Cmp.{first_so, second_so}
 use Rattle.std.specs.Cmp.Lexicographic.{pointwise}
-use Rattle.std.proofs.lemmas.Bool.Decides.{Decides-int_eq}
 use Rattle.std.proofs.lemmas.Option.{none-some, same_Some}
 use Rattle.std.proofs.lemmas.Slice.Eq.{bytes_eq-Decides}
+use Rattle.lq_value.specs.KeyTests.{scalars_decide}
 use Rattle.lq_value.specs.SameAndOrder.{IsKey, TellsKeys, by_record, by_scalar, same_layers, same_member, same_scalars, same_step, same_values, tested_member}
 use Rattle.lq_value.specs.declared.scalar.Scalar.{Scalar}
-use Rattle.lq_value.specs.declared.scalar.Scalar.TheVariants as scalar
 use Rattle.lq_value.specs.declared.value.Value.{Value, fold_out-Value, ind-Value, map-Value, out-Value, roll-Value}
 use Rattle.lq_value.specs.declared.value.Value.TheOpen.{Value-F}
 use Rattle.lq_value.specs.declared.value.Value.TheVariants as value
@@ -18,7 +16,7 @@ use Rattle.lq_value.specs.declared.value.Value.TheViews.{out-roll-Value, roll-ou
 -- ---- the equations of sameness
 
 module _ (R : Type 0) where
-  abbrev Members : Type 0
+  abbrev pub Members : Type 0
   Members = List (List ℕ × Value R)
 
   -- a layer, with each value in it turned into the test of what is the same
@@ -29,7 +27,7 @@ module _ (R : Type 0) where
   unfolding same_values
   same_out v w = ap (λ (test : Value R → Bool). test w) (fold_out-Value R (Value R → Bool) same_step v)
 
-  same_at : (v w : Value R) (x y : Value-F R (Value R)) → out-Value R v ≡ x → out-Value R w ≡ y → same_values v w ≡ same_layers (tests x) y
+  pub same_at : (v w : Value R) (x y : Value-F R (Value R)) → out-Value R v ≡ x → out-Value R w ≡ y → same_values v w ≡ same_layers (tests x) y
   same_at v w x y e f = same_out v w ∙ (λ i. same_layers (tests (e i)) (f i))
 
   made : (v : Value R) (x : Value-F R (Value R)) → out-Value R v ≡ x → v ≡ roll-Value R x
@@ -83,13 +81,6 @@ pub ruleset sameness = (scalar_scalar, records_by, scalar_other, record_other, n
 
 -- ---- two values are the same exactly where they are one key
 
-same_content : (s t : Scalar) → Decides (same_scalars s t) (s ≡ t)
-same_content scalar.Null scalar.Null = (λ h. refl, λ e. refl)
-same_content (scalar.Int m) (scalar.Int n) = (λ h. ap scalar.Int ((Decides-int_eq m n).0 h), λ e. (Decides-int_eq m n).1 (cc e))
-same_content (scalar.Bool b) (scalar.Bool c) = (λ h. ap scalar.Bool ((booleans_Decides b c).0 h), λ e. (booleans_Decides b c).1 (cc e))
-same_content (scalar.Text t) (scalar.Text u) = (λ h. ap scalar.Text ((bytes_eq-Decides t u).0 h), λ e. (bytes_eq-Decides t u).1 (cc e))
-same_content s t = (λ h. absurd (cc h), λ e. absurd (cc e))
-
 module _ (R : Type 0) where
   -- each member's value is a key
   abbrev AreKeys : Members R → Type 0
@@ -126,7 +117,7 @@ module _ (R : Type 0) where
   layers_tell : (y : Value-F R Telling) (w : Value R) (z : Value-F R (Value R)) → out-Value R w ≡ z → same_layers (tests R (plain y)) z ≡ true
       → IsKey (roll-Value R (plain y)) × (roll-Value R (plain y) ≡ w)
   layers_tell (Value-F.Scalar s) w (Value-F.Scalar t) h e =
-      (by_scalar _ s (rolls-Scalar s), ap (λ (u : Scalar). roll-Value R (Value-F.Scalar u)) ((same_content s t).0 e) ∙ sym (made R w _ h))
+      (by_scalar _ s (rolls-Scalar s), ap (λ (u : Scalar). roll-Value R (Value-F.Scalar u)) ((scalars_decide s t).0 e) ∙ sym (made R w _ h))
   layers_tell (Value-F.Rec ms) w (Value-F.Rec ns) h e =
       let members = members_tell ms ns (sym (paired R (bare ms) ns) ∙ e) in
       (by_record _ (bare ms) (rolls-Rec (bare ms)) members.0, ap (λ (os : Members R). roll-Value R (Value-F.Rec os)) members.1 ∙ sym (made R w _ h))
@@ -147,7 +138,7 @@ module _ (R : Type 0) where
   members_themselves (m ∷ ms) h = λ i. ((bytes_eq-Decides m.0 m.0).1 refl i && h 0 m refl i) && members_themselves ms (λ k n e. h (suc k) n e) i
 
   itself : {v : Value R} → IsKey v → same_values v v ≡ true
-  itself (by_scalar v s is) = ap (λ (u : Value R). same_values u u) is ∙ scalar_scalar R s s ∙ (same_content s s).1 refl
+  itself (by_scalar v s is) = ap (λ (u : Value R). same_values u u) is ∙ scalar_scalar R s s ∙ (scalars_decide s s).1 refl
   itself (by_record v ms is keys) =
       ap (λ (u : Value R). same_values u u) is ∙ record_record R ms ms ∙ members_themselves ms (λ i m e. itself (keys i m e))
 

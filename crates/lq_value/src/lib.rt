@@ -3,6 +3,7 @@
 
 mod copies;
 mod held;
+mod key;
 pub mod key_laws;
 mod list;
 mod ordering;
@@ -15,6 +16,7 @@ mod value;
 
 pub use copies::{copy, copy_scalar};
 pub use held::Held;
+pub use key::{Atom, Key, copy_key, key_of};
 pub use list::List;
 pub use ordering::order;
 pub use sameness::same;

@@ -23,7 +23,7 @@ pub fn same<R: RowRef>(left: &Value<R>, right: &Value<R>) -> bool
     }
 }
 
-fn same_contents(left: &Scalar, right: &Scalar) -> bool
+pub(crate) fn same_contents(left: &Scalar, right: &Scalar) -> bool
     ensures { result ≡ same_scalars left.now right.now }
 {
     match (left, right) {

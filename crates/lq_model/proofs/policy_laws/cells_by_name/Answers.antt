@@ -1,4 +1,4 @@
-use Rattle.lq_model.proofs.PolicyLemmas.{finds_cells}
+use Rattle.lq_model.proofs.SeenRowLemmas.{finds_cells}
 use Rattle.lq_model.proofs.policy_laws.cells_by_name.Goals as goal
 
 pub returns : goal.returns

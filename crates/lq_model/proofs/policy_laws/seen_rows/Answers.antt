@@ -1,4 +1,4 @@
-use Rattle.lq_model.proofs.PolicyLemmas.{sees_visible_rows, sees_each_table}
+use Rattle.lq_model.proofs.SeenRowLemmas.{sees_visible_rows, sees_each_table}
 use Rattle.lq_model.proofs.policy_laws.seen_rows.Goals as goal
 
 pub returns-clause-rows : goal.returns-clause-rows

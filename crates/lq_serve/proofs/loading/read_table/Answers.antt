@@ -1,14 +1,14 @@
 use Rattle.std.proofs.Common.{rules, ◌≡◌, true, false, Err, subst}
 use Rattle.lq_model.specs.Tokens.{is_name}
-use Rattle.lq_serve.specs.Loading.{Answered, table_name}
-use Rattle.lq_serve.proofs.LoadingLemmas.{Adds-nil, Agrees-known, Answered-all, Answered-fault, Answered-then, known_bytes, read-failed, read-whole, readings_of_one-named, readings_of_one-unnamed, table_in-unnamed}
+use Rattle.lq_serve.specs.Loading.{Answered, read_limit, table_name}
+use Rattle.lq_serve.proofs.LoadingLemmas.{Adds-nil, Answered-all, Answered-fault, Answered-then, known_bytes, known_is, read-failed, read-whole, readings_of_one-named, readings_of_one-unnamed, table_in-unnamed}
 use Rattle.lq_serve.proofs.loading.read_table.Goals as goal
 
 pub returns-then-not-is_name-clause-table : goal.returns-then-not-is_name-clause-table
 returns-then-not-is_name-clause-table g c =
     let no : is_name (table_name c.args.file.now) ≡ false = search rules in (
-      known_bytes (g.F.Files.holds c.args.files.now c.args.file.now),
-      Agrees-known (g.F.Files.holds c.args.files.now) c.args.file.now,
+      known_bytes read_limit (g.F.Files.holds c.args.files.now c.args.file.now),
+      known_is read_limit (g.F.Files.holds c.args.files.now c.args.file.now),
       subst (Answered _ _ _) (readings_of_one-unnamed c.args.file.now _ no) (Answered-all _ _ _ _ (Adds-nil _)),
       (λ ne. table_in-unnamed c.args.file.now _ no),
     )

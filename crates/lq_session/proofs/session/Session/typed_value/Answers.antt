@@ -9,7 +9,7 @@ use Rattle.lq_session.proofs.session.Session.typed_value.Goals as goal
 
 pub returns-in-Ok : goal.returns-in-Ok
 returns-in-Ok c =
-    subst (λ (x : List ℕ). IfOk c.value_line.result (λ line. line.items ≡ x))
+    subst (λ (x : List ℕ). IfOk c.value_line.result (λ line. line ≡ x))
     (typed_value (state_of c.args.self.now) c.args.expression.now c.requires (Ok (shown_scalar c.scalar.result))
     (c.in-Ok.ensures.meant ∙ ap (λ (s : Scalar). let found : Result Scalar Fault = Ok s in found) (sym c.scalar.ensures)))
     c.value_line.ensures
@@ -17,5 +17,5 @@ returns-in-Ok c =
 pub returns-in-Err-Fault : goal.returns-in-Err-Fault
 returns-in-Err-Fault c =
     let found = rw c.in-Err-Fault.field-0-is at c.in-Err-Fault.ensures in
-    subst (λ (x : List ℕ). IfOk c.value_line-in-Err-Fault.result (λ line. line.items ≡ x))
+    subst (λ (x : List ℕ). IfOk c.value_line-in-Err-Fault.result (λ line. line ≡ x))
     (typed_value (state_of c.args.self.now) c.args.expression.now c.requires (Err c.in-Err-Fault.fault) found.meant) c.value_line-in-Err-Fault.ensures

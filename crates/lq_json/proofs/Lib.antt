@@ -1,0 +1,4 @@
+pub mod FormLemmas
+pub mod Opens
+pub mod OrderLemmas
+pub mod Tokens

@@ -1,0 +1,38 @@
+-- Replies as data.
+use Rattle.std.specs.Prelude.{◌≡◌, ◌++◌, List, Ok}
+use Rattle.serde_json.specs.Data.{Data, object}
+use Rattle.lq_value.specs.declared.scalar.Scalar.{Scalar}
+use Rattle.lq_value.specs.declared.value.End.{End}
+use Rattle.lq_value.specs.declared.value.Value.{Value}
+use Rattle.lq_model.specs.Machine.{schemas_of}
+use Rattle.lq_model.specs.Served.{error_data, fault_data, nested_fault, stream_data, stream_members, unless_fault, value_data}
+use Rattle.lq_model.specs.Stream.{Stream, made}
+use Rattle.lq_json.specs.Forms.{data_by}
+use Rattle.lq_json.specs.Items.{bytes_before, tokens_in}
+use Rattle.lq_json.specs.Texts.{flat}
+use Rattle.lq_json.specs.declared.form.Form.{Form}
+use Rattle.lq_json.specs.declared.items.ItemsLine.{ItemsLine}
+use Rattle.lq_json.specs.declared.reply.Reply.{Reply}
+use Rattle.lq_json.specs.declared.reply.Reply.TheVariants as reply
+
+-- a stream of items in JSON
+abbrev pub stream_reply : Stream Data → Data
+stream_reply s = object (stream_members s.0 s.1)
+
+module _ {R : Type 0} (cells_of : R → List Scalar) where
+  -- a reply in JSON
+  abbrev pub reply_data : Reply R → Data
+  reply_data (reply.Items store t items end) = stream_data (schemas_of store.now) cells_of t.now (items.now, end)
+  reply_data (reply.Value store t v) = value_data (schemas_of store.now) cells_of t.now (Ok v.now)
+  reply_data (reply.Fault f) = fault_data f
+  reply_data (reply.Error word) = error_data word.now
+
+  -- a stream of values as a form writes them, up to the first that holds a fault
+  abbrev pub served_by : Form → Stream (Value R) → Stream Data
+  served_by form s = made (λ v. unless_fault (nested_fault v) (data_by cells_of form v)) s
+
+  -- All items are written behind the others that are served, and they end as these do.
+  pub record ServesAll (form : Form) (items : List (Value R)) (end : End) (old new : ItemsLine) (ended : End) : Type 0 where
+    pub tokens : tokens_in new ≡ tokens_in old ++ flat (served_by form (items, end)).0
+    pub before : bytes_before new ≡ bytes_before old
+    pub ending : ended ≡ (served_by form (items, end)).1

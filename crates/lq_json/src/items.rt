@@ -1,0 +1,149 @@
+//! The line of a reply of items, written item by item into one buffer.
+ghost use Rattle.std.specs.Prelude.{◌≡◌, ◌∷◌, ◌++◌, [], drop, IfOk, List, OnOk};
+ghost use Rattle.json.specs.Token.{end_array, end_object};
+ghost use Rattle.serde_json.specs.Data.{Data, boolean, null, number, object, string};
+ghost use Rattle.serde_json.specs.Find.{of_integer};
+ghost use Rattle.serde_json.specs.Written.{compact_text};
+ghost use Rattle.lq_value.specs.declared.value.End.TheVariants as end;
+ghost use Rattle.lq_model.specs.Served.{line_of, stream_members};
+ghost use Rattle.lq_json.specs.Forms.{data_by};
+ghost use Rattle.lq_json.specs.Items.{Holds, Pushes, fault_front};
+
+use crate::form::Form;
+use crate::line::Line;
+use crate::write::write;
+use json::Writer;
+use lq_value::{End, Fault, RowRef, Value};
+use std::alloc::{AllocError, Global};
+
+/// The line of a reply of items, of which some are written. Items are put behind one another, with no
+/// copy of those before. Once memory was refused it is of no more use.
+#[derive(Drop)]
+pub struct ItemsLine {
+    alloc: Global,
+    out: Writer,
+}
+
+/// What a reply begins with that ends in this fault.
+fn fault_front(fault: Fault) -> &'static [u8]
+    ensures { result.now ≡ fault_front fault }
+{
+    match fault {
+        Fault::DivideByZero => b"{\"fault\":\"DivideByZero\",",
+        Fault::Overflow => b"{\"fault\":\"Overflow\",",
+        Fault::NullReference => b"{\"fault\":\"NullReference\",",
+        Fault::InvalidOperation => b"{\"fault\":\"InvalidOperation\",",
+        Fault::ArgumentOutOfRange => b"{\"fault\":\"ArgumentOutOfRange\",",
+    }
+}
+
+/// The line of this text.
+fn line_of_text(mut text: Vec<u8>) -> Result<Line, AllocError>
+    ensures { IfOk result (λ line. line ≡ text.items ++ 10 ∷ []) }
+{
+    text.push(b'\n')?;
+    Ok(Line::from_bytes(text))
+}
+
+/// The text without its first byte.
+fn behind_first(text: &[u8]) -> &[u8]
+    ensures { result.now ≡ drop 1 text.now }
+{
+    match text {
+        [_, rest @ ..] => rest,
+        [] => text,
+    }
+}
+
+/// The text of a reply that ends in this fault, from the text of the one that ends well.
+fn faulted(alloc: Global, fault: Fault, text: &[u8]) -> Result<Vec<u8>, AllocError>
+    ensures { IfOk result (λ made. made.items ≡ fault_front fault ++ drop 1 text.now) }
+{
+    let mut made = Vec::new(alloc);
+    made.extend_from_slice(fault_front(fault))?;
+    made.extend_from_slice(behind_first(text))?;
+    Ok(made)
+}
+
+/// Ends the items and the reply.
+fn close(out: &mut Writer) -> Result<(), AllocError>
+    ensures tokens { OnOk result (out.new.tokens ≡ out.old.tokens ++ end_array ∷ (end_object ∷ [])) }
+    ensures before { out.new.before ≡ out.old.before }
+{
+    out.end_array()?;
+    out.end_object()
+}
+
+impl ItemsLine {
+    /// The line with no item yet.
+    pub fn new(alloc: Global) -> Result<ItemsLine, AllocError>
+        ensures { IfOk result (λ items. Holds items []) }
+    {
+        let mut out = Writer::new(Vec::new(alloc));
+        out.begin_object()?;
+        out.key("items")?;
+        out.begin_array()?;
+        Ok(ItemsLine { alloc, out })
+    }
+
+    /// Writes a null behind the other items.
+    pub fn push_null(&mut self) -> Result<(), AllocError>
+        ensures { OnOk result (Pushes self.old self.new null) }
+    {
+        self.out.null()
+    }
+
+    /// Writes an int behind the other items.
+    #[tactic(auto, using(crate::proofs::Tokens::integer_text))]
+    pub fn push_int(&mut self, int: i32) -> Result<(), AllocError>
+        ensures { OnOk result (Pushes self.old self.new (number (of_integer int))) }
+    {
+        self.out.i64(int as i64)
+    }
+
+    /// Writes a truth value behind the other items.
+    pub fn push_bool(&mut self, truth: bool) -> Result<(), AllocError>
+        ensures { OnOk result (Pushes self.old self.new (boolean truth)) }
+    {
+        self.out.boolean(truth)
+    }
+
+    /// Writes a text behind the other items.
+    pub fn push_text(&mut self, text: &str) -> Result<(), AllocError>
+        ensures { OnOk result (Pushes self.old self.new (string text.now)) }
+    {
+        self.out.string(text)
+    }
+
+    /// Writes a value of this form behind the other items.
+    pub(crate) fn push<R: RowRef>(
+        &mut self,
+        form: &Form,
+        value: &Value<R>,
+    ) -> Result<(), AllocError>
+        ensures { OnOk result (Pushes self.old self.new (data_by R.shown form.now value.now)) }
+    {
+        write(form, value, &mut self.out)
+    }
+
+    /// The line's text, where the items end well.
+    fn text(self) -> Result<Vec<u8>, AllocError>
+        ensures { IfOk result (λ text. (ds : List Data) → Holds self ds → text.items ≡ compact_text (object (stream_members ds end.Done))) }
+    {
+        let ItemsLine { mut out, .. } = self;
+        close(&mut out)?;
+        Ok(out.into_inner())
+    }
+
+    /// The whole line, of the items written and how they end.
+    pub fn finish(self, end: End) -> Result<Line, AllocError>
+        ensures { IfOk result (λ line. (ds : List Data) → Holds self ds → line ≡ line_of (object (stream_members ds end))) }
+    {
+        let alloc = self.alloc;
+        let text = self.text()?;
+        match end {
+            End::Done => line_of_text(text),
+            End::Fault(fault) => line_of_text(faulted(alloc, fault, text.as_slice())?),
+        }
+    }
+}

@@ -1,0 +1,173 @@
+//! Replies and their lines.
+ghost use Rattle.std.specs.Prelude.{◌≡◌, ◌++◌, codes, IfOk, Ok, OnOk};
+ghost use Rattle.serde_json.specs.Data.{no_members, object, put, string};
+ghost use Rattle.serde_json.specs.Written.{compact_text};
+ghost use Rattle.lq_model.specs.Machine.{schemas_of};
+ghost use Rattle.lq_model.specs.Served.{line_of, stream_data, value_data};
+ghost use Rattle.lq_json.specs.Forms.{data_by};
+ghost use Rattle.lq_json.specs.Replies.{ServesAll, reply_data, served_by, stream_reply};
+ghost use Rattle.lq_json.specs.Texts.{tokens_of};
+
+use crate::fault::{fault_name, nested_fault};
+use crate::form::{Form, form_of};
+use crate::items::ItemsLine;
+use crate::line::Line;
+use crate::write::write;
+use json::Writer;
+use lq_store::Store;
+use lq_value::{End, Fault, RowRef, Ty, Value};
+use serde_json::Map;
+use std::alloc::{AllocError, Global};
+
+/// What a statement is answered. A value stands in it with its type, and with the store whose
+/// tables name the columns of rows.
+#[derive(Clone, Copy, Drop)]
+pub enum Reply<'a, R> {
+    /// The items of a sequence, each of this type, and how it ends. A sequence inside of an item
+    /// that ends in a fault ends the reply before that item, with that fault.
+    Items {
+        store: &'a Store,
+        ty: &'a Ty,
+        items: &'a [Value<R>],
+        end: End,
+    },
+    /// A value of this type. A sequence inside of it that ends in a fault stands in its place.
+    Value {
+        store: &'a Store,
+        ty: &'a Ty,
+        value: &'a Value<R>,
+    },
+    /// The fault in place of a value.
+    Fault(Fault),
+    /// The word of a refusal.
+    Error(&'a str),
+}
+
+/// The line of a reply: its JSON, with the members of each object in the order of their names'
+/// bytes, and a line feed. Refused where memory is.
+pub fn reply_line<R: RowRef>(alloc: Global, reply: &Reply<'_, R>) -> Result<Line, AllocError>
+    ensures { IfOk result (λ line. line ≡ line_of (reply_data R.shown reply.now)) }
+{
+    match reply {
+        Reply::Items {
+            store,
+            ty,
+            items,
+            end,
+        } => items_line(alloc, store, ty, items, *end),
+        Reply::Value { store, ty, value } => value_line(alloc, store, ty, value),
+        Reply::Fault(fault) => word_line(alloc, "fault", fault_name(*fault)),
+        Reply::Error(word) => word_line(alloc, "error", word),
+    }
+}
+
+/// The line of a reply with one member, a text.
+fn word_line(alloc: Global, name: &str, word: &str) -> Result<Line, AllocError>
+    ensures { IfOk result (λ line. line ≡ line_of (object (put name.now (string word.now) no_members))) }
+{
+    let mut members = Map::new(alloc);
+    let word = serde_json::Value::try_from_str(alloc, word)?;
+    serde_json::put(&mut members, alloc, name, word)?;
+    let mut line = serde_json::Value::Object(members).to_vec(alloc)?;
+    line.push(b'\n')?;
+    Ok(Line::from_bytes(line))
+}
+
+/// Writes items of a form behind others, up to the first that holds a fault, and tells how they end.
+fn push_all<R: RowRef>(
+    form: &Form,
+    items: &[Value<R>],
+    end: End,
+    line: &mut ItemsLine,
+) -> Result<End, AllocError>
+    ensures { IfOk result (λ ended. ServesAll R.shown form.now items.now end line.old line.new ended) }
+{
+    for item in items {
+        if let Some(fault) = nested_fault(item) {
+            return Ok(End::Fault(fault));
+        }
+        line.push(form, item)?;
+    }
+    Ok(end)
+}
+
+/// The line of a reply of items of a form.
+fn formed_items_line<R: RowRef>(
+    alloc: Global,
+    form: &Form,
+    items: &[Value<R>],
+    end: End,
+) -> Result<Line, AllocError>
+    ensures { IfOk result (λ line. line ≡ line_of (stream_reply (served_by R.shown form.now (items.now, end)))) }
+{
+    let mut line = ItemsLine::new(alloc)?;
+    let end = push_all(form, items, end, &mut line)?;
+    line.finish(end)
+}
+
+/// The line of a reply of items.
+fn items_line<R: RowRef>(
+    alloc: Global,
+    store: &Store,
+    ty: &Ty,
+    items: &[Value<R>],
+    end: End,
+) -> Result<Line, AllocError>
+    ensures { IfOk result (λ line. line ≡ line_of (stream_data (schemas_of store.now) R.shown ty.now (items.now, end))) }
+{
+    let form = form_of(alloc, store, ty)?;
+    formed_items_line(alloc, &form, items, end)
+}
+
+/// Writes a reply with a value of a form.
+fn write_value<R: RowRef>(form: &Form, value: &Value<R>, out: &mut Writer) -> Result<(), AllocError>
+    ensures tokens { OnOk result (out.new.tokens ≡ out.old.tokens ++ tokens_of (object (put (codes "value") (data_by R.shown form.now value.now) no_members))) }
+    ensures before { out.new.before ≡ out.old.before }
+{
+    out.begin_object()?;
+    out.key("value")?;
+    write(form, value, out)?;
+    out.end_object()
+}
+
+/// The text of a reply with a value of a form.
+fn value_text<R: RowRef>(
+    alloc: Global,
+    form: &Form,
+    value: &Value<R>,
+) -> Result<Vec<u8>, AllocError>
+    ensures { IfOk result (λ text. text.items ≡ compact_text (object (put (codes "value") (data_by R.shown form.now value.now) no_members))) }
+{
+    let mut out = Writer::new(Vec::new(alloc));
+    write_value(form, value, &mut out)?;
+    Ok(out.into_inner())
+}
+
+/// The line of a reply with a value of a form.
+fn formed_value_line<R: RowRef>(
+    alloc: Global,
+    form: &Form,
+    value: &Value<R>,
+) -> Result<Line, AllocError>
+    ensures { IfOk result (λ line. line ≡ line_of (object (put (codes "value") (data_by R.shown form.now value.now) no_members))) }
+{
+    let mut line = value_text(alloc, form, value)?;
+    line.push(b'\n')?;
+    Ok(Line::from_bytes(line))
+}
+
+/// The line of a reply of a value.
+fn value_line<R: RowRef>(
+    alloc: Global,
+    store: &Store,
+    ty: &Ty,
+    value: &Value<R>,
+) -> Result<Line, AllocError>
+    ensures { IfOk result (λ line. line ≡ line_of (value_data (schemas_of store.now) R.shown ty.now (Ok value.now))) }
+{
+    if let Some(fault) = nested_fault(value) {
+        return word_line(alloc, "fault", fault_name(fault));
+    }
+    let form = form_of(alloc, store, ty)?;
+    formed_value_line(alloc, &form, value)
+}

@@ -1,0 +1,136 @@
+//! Values, written by their forms as JSON tokens.
+ghost use Rattle.std.specs.Prelude.{◌≡◌, ◌++◌, map, slice_get, OnOk};
+ghost use Rattle.serde_json.specs.Data.{array, object};
+ghost use Rattle.serde_json.specs.View.{items_of};
+ghost use Rattle.lq_model.specs.Served.{scalar_data};
+ghost use Rattle.lq_json.specs.Forms.{cell_data, cells_in, data_by, fields_by, member_data};
+ghost use Rattle.lq_json.specs.Texts.{tokens_of};
+
+use crate::form::Form;
+use json::Writer;
+use lq_value::{RowRef, Scalar, Txt, Value};
+use std::alloc::AllocError;
+
+#[tactic(auto, using(crate::proofs::Tokens::integer_text))]
+pub(crate) fn write_scalar(scalar: &Scalar, out: &mut Writer) -> Result<(), AllocError>
+    ensures tokens { OnOk result (out.new.tokens ≡ out.old.tokens ++ tokens_of (scalar_data scalar.now)) }
+    ensures before { out.new.before ≡ out.old.before }
+{
+    match scalar {
+        Scalar::Null => out.null(),
+        Scalar::Int(number) => out.i64(*number as i64),
+        Scalar::Bool(truth) => out.boolean(*truth),
+        Scalar::Text(text) => out.string(text.as_str()),
+    }
+}
+
+/// A cell of a row; null where it has none there.
+fn write_cell(cells: &[Scalar], place: usize, out: &mut Writer) -> Result<(), AllocError>
+    ensures tokens { OnOk result (out.new.tokens ≡ out.old.tokens ++ tokens_of (cell_data (slice_get cells.now place))) }
+    ensures before { out.new.before ≡ out.old.before }
+{
+    match cells.get(place) {
+        Some(cell) => write_scalar(cell, out),
+        None => out.null(),
+    }
+}
+
+/// A row with these columns.
+fn write_row(columns: &[(Txt, usize)], cells: &[Scalar], out: &mut Writer) -> Result<(), AllocError>
+    ensures tokens { OnOk result (out.new.tokens ≡ out.old.tokens ++ tokens_of (object (cells_in columns.now cells.now))) }
+    ensures before { out.new.before ≡ out.old.before }
+{
+    out.begin_object()?;
+    for (name, place) in columns {
+        out.key(name.as_str())?;
+        write_cell(cells, *place, out)?;
+    }
+    out.end_object()
+}
+
+/// A value of this form; one of another form is written as null.
+#[cycle(writing)]
+#[tactic(auto, using(crate::proofs::Opens::writing, crate::proofs::Tokens::group_joined))]
+pub(crate) fn write<R: RowRef>(
+    form: &Form,
+    value: &Value<R>,
+    out: &mut Writer,
+) -> Result<(), AllocError>
+    ensures tokens { OnOk result (out.new.tokens ≡ out.old.tokens ++ tokens_of (data_by R.shown form.now value.now)) }
+    ensures before { out.new.before ≡ out.old.before }
+{
+    match (form, value) {
+        (_, Value::Scalar(scalar)) => write_scalar(scalar, out),
+        (Form::Row(columns), Value::Row(row)) => write_row(columns.as_slice(), row.cells(), out),
+        (Form::Rec(fields), Value::Rec(members)) => {
+            write_record(fields.as_slice(), members.as_slice(), out)
+        }
+        (Form::Group(key_form, item_form), Value::Group(key, items)) => {
+            out.begin_object()?;
+            out.key("Key")?;
+            write(key_form.get(), key.get(), out)?;
+            out.key("items")?;
+            write_items(item_form.get(), items.as_slice(), out)?;
+            out.end_object()
+        }
+        (Form::Seq(item_form), Value::Seq(items, _)) => {
+            write_items(item_form.get(), items.as_slice(), out)
+        }
+        _ => out.null(),
+    }
+}
+
+/// Values of this form, as an array.
+#[cycle(writing)]
+#[tactic(auto, using(crate::proofs::Opens::writing))]
+fn write_items<R: RowRef>(
+    form: &Form,
+    items: &[Value<R>],
+    out: &mut Writer,
+) -> Result<(), AllocError>
+    ensures tokens { OnOk result (out.new.tokens ≡ out.old.tokens ++ tokens_of (array (items_of (map (data_by R.shown form.now) items.now)))) }
+    ensures before { out.new.before ≡ out.old.before }
+{
+    out.begin_array()?;
+    for item in items {
+        write(form, item, out)?;
+    }
+    out.end_array()
+}
+
+/// A member of this form; null where the record has none there.
+#[cycle(writing)]
+#[tactic(auto, using(crate::proofs::Opens::writing))]
+fn write_member<R: RowRef>(
+    form: &Form,
+    members: &[(Txt, Value<R>)],
+    place: usize,
+    out: &mut Writer,
+) -> Result<(), AllocError>
+    ensures tokens { OnOk result (out.new.tokens ≡ out.old.tokens ++ tokens_of (member_data (data_by R.shown form.now) (slice_get members.now place))) }
+    ensures before { out.new.before ≡ out.old.before }
+{
+    match members.get(place) {
+        Some((_, value)) => write(form, value, out),
+        None => out.null(),
+    }
+}
+
+/// A record with these members.
+#[cycle(writing)]
+#[tactic(auto, using(crate::proofs::Opens::writing))]
+fn write_record<R: RowRef>(
+    fields: &[(Txt, (usize, Form))],
+    members: &[(Txt, Value<R>)],
+    out: &mut Writer,
+) -> Result<(), AllocError>
+    ensures tokens { OnOk result (out.new.tokens ≡ out.old.tokens ++ tokens_of (object (fields_by (data_by R.shown) fields.now members.now))) }
+    ensures before { out.new.before ≡ out.old.before }
+{
+    out.begin_object()?;
+    for (name, (place, form)) in fields {
+        out.key(name.as_str())?;
+        write_member(form, members, *place, out)?;
+    }
+    out.end_object()
+}

@@ -1,0 +1,11 @@
+//! Tests of reply lines, by public calls. They stand here and not in the crate that they test: a crate without tests is proved once.
+#![tactic(auto)]
+
+#[cfg(test)]
+mod building;
+#[cfg(test)]
+mod items;
+#[cfg(test)]
+mod replies;
+#[cfg(test)]
+mod rows;

@@ -1,0 +1,4 @@
+pub mod Cells
+pub mod CsvRecords
+pub mod Headers
+pub mod TableFile

@@ -1,0 +1,17 @@
+//! Tables from files of comma-separated values: what a file's header, records and cells mean, or the first fault among
+//! them. The records are those of the crate `csv`.
+#![tactic(auto)]
+
+mod cell;
+mod cells;
+mod header;
+mod kind;
+mod load_error;
+mod marks;
+mod number;
+mod reading;
+mod table_file;
+
+pub use load_error::LoadError;
+pub use marks::without_marks;
+pub use table_file::{MOST_BYTES, table_from_csv};

@@ -1,0 +1,7 @@
+pub mod ArrangementLemmas
+pub mod BlockLemmas
+pub mod ChainLemmas
+pub mod ColumnLemmas
+pub mod FirstLemmas
+pub mod NumberLemmas
+pub mod PassLemmas

@@ -1,0 +1,27 @@
+-- The laws of the typing and meaning of the whole language.
+use Rattle.std.proofs.Common.{◌∙◌, sym}
+use Rattle.std.proofs.lemmas.Option.{same_Some}
+use Rattle.lq_model.specs.WholeMeaningLaws.{HasWholeMeaning, HasWholeStream}
+use Rattle.lq_model.specs.WholeTypingLaws.{FindsQueryItems, FindsWholeTypes, GivesOneType, HasOneWholeType}
+use Rattle.lq_model.specs.Meaning.{names_at}
+use Rattle.lq_model.proofs.WholeCompleteness.{items_complete, whole_complete}
+use Rattle.lq_model.proofs.WholeMeans.{expression_means, query_agrees}
+use Rattle.lq_model.proofs.WholeSoundness.{items_sound, whole_sound}
+
+pub one_whole_type : HasOneWholeType
+one_whole_type names e s t left right = same_Some s t (sym (whole_complete names e s left) ∙ whole_complete names e t right)
+
+pub gives_one_type : GivesOneType
+gives_one_type names q s t left right = same_Some s t (sym (items_complete names q s left) ∙ items_complete names q t right)
+
+pub finds_whole_types : FindsWholeTypes
+finds_whole_types names e t = (whole_sound e names t, whole_complete names e t)
+
+pub finds_query_items : FindsQueryItems
+finds_query_items names q t = (items_sound names q t, items_complete names q t)
+
+pub has_whole_meaning : {R : Type 0} → HasWholeMeaning R
+has_whole_meaning world holds scope fits e t typed f g = expression_means world holds f g e t scope fits (whole_sound e (names_at world scope) t typed)
+
+pub has_whole_stream : {R : Type 0} → HasWholeStream R
+has_whole_stream world holds scope fits q t typed f g = query_agrees world holds f g q t scope fits (items_sound (names_at world scope) q t typed)

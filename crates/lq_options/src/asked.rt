@@ -1,0 +1,14 @@
+//! What the words of a command line ask for.
+
+/// The options of the program, each as it stands among the words.
+#[derive(Debug, Drop)]
+pub struct Options {
+    /// The role whose rows are served first.
+    pub role: String,
+    /// The file of roles and policies.
+    pub policy: String,
+    /// The file of the script, or `None` where it comes from standard input.
+    pub script: Option<String>,
+    /// The table files, in the order of the words.
+    pub tables: Vec<String>,
+}

@@ -1,0 +1,107 @@
+//! The command `lq` as `clap` knows it, with its help.
+ghost use Rattle.std.specs.Prelude.{◌≡◌, IfOk, false, map};
+ghost use Rattle.std.specs.String.{string_bytes};
+ghost use Rattle.clap.specs.Words.{FailsBy, app_of, fault_of, found_of, rows_of, rule_of};
+ghost use Rattle.lq_options.specs.CommandLine.{lq_app, lq_rows, policy_rule, role_rule, script_rule, tables_rule};
+
+use clap::{Arg, ArgAction, ArgMatches, Command, Error};
+use std::alloc::{AllocError, Global};
+
+const ABOUT: &str = "\
+Answers C# query expressions over CSV tables, behind row security policies.
+
+The tables are read, then each statement of the script is answered by a line of JSON on standard
+output. A role is served those rows alone that the policies show it.";
+
+const MORE: &str = "\
+Example:
+  people.csv is a table, and policy.toml shows the role dan two of its three rows:
+
+    id:int,name:string,dept:int      role = [{name = \"dan\"}]
+    1,ann,10                         table = [{name = \"people\", row_security = true}]
+    2,bob,10                         [[policy]]
+    3,cyd,20                         name = \"dept10\"
+                                     table = \"people\"
+                                     using = \"row.dept == 10\"
+
+  This prints {\"items\":[\"ann\",\"bob\"]}:
+
+    echo 'run from p in people select p.name;' | lq --role dan --policy policy.toml people.csv
+
+Replies:
+  {\"items\":[..]} or {\"value\":V}; {\"fault\":F} at a fault of the query; {\"error\":W} at a refusal
+
+Statuses:
+  0  the script has ended, whatever its replies are
+  2  the command line is wrong
+  3  a table, the policies or the role was refused
+  4  the script could not be read, its replies could not be written, or it is too long or no UTF-8
+  5  there was no memory for the tables or the script";
+
+fn role<'a>(alloc: Global) -> Arg<'a>
+    ensures rule { rule_of result ≡ role_rule }
+    ensures local { result.global ≡ false }
+{
+    Arg::new(alloc, "role")
+        .long("role")
+        .value_name("R")
+        .help("The role that the script begins with, one of the policy file's")
+        .required(true)
+}
+
+fn policy<'a>(alloc: Global) -> Arg<'a>
+    ensures rule { rule_of result ≡ policy_rule }
+    ensures local { result.global ≡ false }
+{
+    Arg::new(alloc, "policy")
+        .long("policy")
+        .value_name("P")
+        .help("The policy file: roles, tables and policies, in TOML")
+        .required(true)
+}
+
+fn script<'a>(alloc: Global) -> Arg<'a>
+    ensures rule { rule_of result ≡ script_rule }
+    ensures local { result.global ≡ false }
+{
+    Arg::new(alloc, "script")
+        .long("script")
+        .value_name("S")
+        .help("The script, one statement a line [default: standard input]")
+}
+
+fn tables<'a>(alloc: Global) -> Arg<'a>
+    ensures rule { rule_of result ≡ tables_rule }
+    ensures local { result.global ≡ false }
+{
+    Arg::new(alloc, "tables")
+        .value_name("T.csv")
+        .help("The tables, each named as its file is without folders and .csv")
+        .required(true)
+        .action(ArgAction::Append)
+}
+
+fn command<'a>(alloc: Global) -> Result<Command<'a>, AllocError>
+    ensures { IfOk result (λ command. app_of command ≡ lq_app) }
+{
+    // The usage says `lq`, whatever the file of the program is called.
+    Command::new(alloc, "lq")
+        .bin_name("lq")?
+        .about(ABOUT)
+        .after_help(MORE)
+        .arg(role(alloc))?
+        .arg(policy(alloc))?
+        .arg(script(alloc))?
+        .arg(tables(alloc))
+}
+
+/// What `clap` finds among the words of the command line.
+pub(crate) fn matches_of_words<'a>(
+    alloc: Global,
+    words: &'a [String],
+) -> Result<ArgMatches<'a>, Error>
+    ensures rows { IfOk result (λ matches. rows_of (found_of matches) ≡ lq_rows (map string_bytes words.entry.now)) }
+    ensures refused { FailsBy (fault_of lq_app (map string_bytes words.entry.now)) result }
+{
+    command(alloc)?.try_get_matches_from(words)
+}

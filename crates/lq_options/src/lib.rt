@@ -1,0 +1,46 @@
+//! The command line of the program `lq`, read by `clap`: its words are taken apart into the options that they name.
+#![tactic(auto)]
+
+ghost use Rattle.std.specs.Prelude.{◌≡◌, ◌≢◌, [], Some, IfOk, codes, map, option_map};
+ghost use Rattle.std.specs.String.{string_bytes};
+ghost use Rattle.clap.specs.Words.{FailsBy, all_of, fault_of, first_of};
+ghost use Rattle.lq_options.specs.CommandLine.{lq_app, lq_rows};
+
+mod asked;
+mod command;
+mod values;
+
+pub use asked::Options;
+use clap::Error;
+use command::matches_of_words;
+use std::alloc::Global;
+use values::{given_text, given_texts, text_of};
+
+/// The options that `words` name; the first word is the program's name, as in `std::env::args`.
+///
+/// A refusal is `clap`'s: a mistake in the words, a wish for help, or want of memory. Its `print` writes help to
+/// standard output and anything else to standard error, and its `exit_code` is 0 after help and 2 else.
+pub fn options(alloc: Global, words: &[String]) -> Result<Options, Error>
+    ensures role { IfOk result (λ options. first_of (codes "role") (lq_rows (map string_bytes words.entry.now))
+        ≡ Some (string_bytes options.role)) }
+    ensures policy { IfOk result (λ options. first_of (codes "policy") (lq_rows (map string_bytes words.entry.now))
+        ≡ Some (string_bytes options.policy)) }
+    ensures script { IfOk result (λ options. first_of (codes "script") (lq_rows (map string_bytes words.entry.now))
+        ≡ option_map string_bytes options.script) }
+    ensures tables { IfOk result (λ options. all_of (codes "tables") (lq_rows (map string_bytes words.entry.now))
+        ≡ Some (map string_bytes options.tables.items)) }
+    ensures some_table { IfOk result (λ options. options.tables.items ≢ []) }
+    ensures refused { FailsBy (fault_of lq_app (map string_bytes words.entry.now)) result }
+{
+    let matches = matches_of_words(alloc, words)?;
+    let role = given_text(alloc, &matches, "role")?;
+    let policy = given_text(alloc, &matches, "policy")?;
+    let script = text_of(alloc, &matches, "script")?;
+    let tables = given_texts(alloc, &matches, "tables")?;
+    Ok(Options {
+        role,
+        policy,
+        script,
+        tables,
+    })
+}

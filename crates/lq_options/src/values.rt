@@ -1,0 +1,79 @@
+//! The values that the words gave to an argument, copied.
+ghost use Rattle.std.specs.Prelude.{◌≡◌, ◌≢◌, [], Some, IfOk, map, option_map};
+ghost use Rattle.std.specs.String.{string_bytes};
+ghost use Rattle.clap.specs.Words.{all_of, first_of, found_of, rows_of};
+
+use clap::ArgMatches;
+use std::alloc::{AllocError, Global};
+
+// The first value of an argument.
+fn first_text<'a>(matches: &ArgMatches<'a>, id: &str) -> Option<&'a str>
+    ensures { option_map (λ text. text.now) result ≡ first_of id.now (rows_of (found_of matches.now)) }
+{
+    matches.get_str(id)
+}
+
+// All values of an argument.
+fn all_texts<'m, 'a>(matches: &'m ArgMatches<'a>, id: &str) -> Option<&'m [&'a str]>
+    ensures { option_map (λ texts. map (λ text. text.now) texts.now) result
+        ≡ all_of id.now (rows_of (found_of matches.now)) }
+{
+    matches.get_strs(id)
+}
+
+// A copy of each text.
+fn copies(alloc: Global, texts: &[&str]) -> Result<Vec<String>, AllocError>
+    ensures { IfOk result (λ copies. map string_bytes copies.items ≡ map (λ text. text.now) texts.now) }
+{
+    let mut copies = Vec::new(alloc);
+    for text in texts {
+        copies.push(String::from_str(alloc, text)?)?;
+    }
+    Ok(copies)
+}
+
+/// The first value of an argument that may be left out.
+pub(crate) fn text_of(
+    alloc: Global,
+    matches: &ArgMatches<'_>,
+    id: &str,
+) -> Result<Option<String>, AllocError>
+    ensures { IfOk result (λ text. first_of id.now (rows_of (found_of matches.now))
+        ≡ option_map string_bytes text) }
+{
+    match first_text(matches, id) {
+        Some(text) => Ok(Some(String::from_str(alloc, text)?)),
+        None => Ok(None),
+    }
+}
+
+/// The first value of an argument that `clap` requires.
+pub(crate) fn given_text(
+    alloc: Global,
+    matches: &ArgMatches<'_>,
+    id: &str,
+) -> Result<String, AllocError>
+    ensures { IfOk result (λ text. first_of id.now (rows_of (found_of matches.now))
+        ≡ Some (string_bytes text)) }
+{
+    match first_text(matches, id) {
+        Some(text) => String::from_str(alloc, text),
+        None => Err(AllocError),
+    }
+}
+
+/// The values of an argument that `clap` requires.
+pub(crate) fn given_texts(
+    alloc: Global,
+    matches: &ArgMatches<'_>,
+    id: &str,
+) -> Result<Vec<String>, AllocError>
+    ensures values { IfOk result (λ texts. all_of id.now (rows_of (found_of matches.now))
+        ≡ Some (map string_bytes texts.items)) }
+    ensures some { IfOk result (λ texts. texts.items ≢ []) }
+{
+    match all_texts(matches, id) {
+        Some([]) | None => Err(AllocError),
+        Some(texts) => copies(alloc, texts),
+    }
+}

@@ -1,0 +1,5 @@
+pub mod AdmissionLemmas
+pub mod GuardLemmas
+pub mod MembershipLemmas
+pub mod NameLemmas
+pub mod WordLemmas

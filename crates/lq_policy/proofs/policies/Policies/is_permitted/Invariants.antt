@@ -1,0 +1,11 @@
+use Rattle.std.proofs.Common.{◌≡◌, drop, filter}
+use Rattle.std.specs.List.{list_any}
+use Rattle.lq_model.specs.Visible.{permits}
+use Rattle.lq_policy.specs.Asking.{asked_of, bears_on}
+use Rattle.lq_policy.proofs.policies.Policies.is_permitted.Given as goal
+
+-- the policies that are left decide
+abbrev pub invariant-loop-number : goal.invariant-loop-number
+invariant-loop-number l =
+    list_any (permits l.access.action (asked_of l.self l.access l.asked)) (filter (bears_on l.self.roles l.access) (drop l.number l.policies))
+    ≡ list_any (permits l.access.action (asked_of l.self l.access l.asked)) (filter (bears_on l.self.roles l.access) l.policies)

@@ -1,0 +1,6 @@
+pub mod Asking
+pub mod Guards
+pub mod Memberships
+pub mod Roles
+pub mod RowRules
+pub mod Rules

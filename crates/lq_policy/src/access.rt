@@ -1,0 +1,30 @@
+//! Who does what with the rows of which table.
+use lq_model::Action;
+
+/// A role, by its number among the roles of its policies.
+#[derive(Clone, Copy, Debug, Drop, Eq, PartialEq)]
+pub struct RoleId {
+    pub(crate) number: usize,
+}
+
+/// What a role does with the rows of a table.
+#[derive(Clone, Copy, Drop)]
+pub(crate) struct Access {
+    pub(crate) role: RoleId,
+    pub(crate) action: Action,
+    pub(crate) table: u16,
+}
+
+impl Access {
+    ghost use Rattle.std.specs.Prelude.{◌≡◌};
+
+    /// The reading of the same table by the same role.
+    pub(crate) fn reading(self) -> Access
+        ensures { result ≡ record self { action = Action.Select } }
+    {
+        Access {
+            action: Action::Select,
+            ..self
+        }
+    }
+}

@@ -1,0 +1,65 @@
+//! What bears on a role's action on a table, worked out once and asked for each row.
+ghost use Rattle.std.specs.Prelude.{◌≡◌};
+
+use crate::admission::Admission;
+use crate::asked::Asked;
+use lq_value::Scalar;
+
+/// The rules for a role that policies bear on.
+#[derive(Drop)]
+pub(crate) struct Ruled<'a> {
+    /// The name of the role.
+    pub(crate) user: &'a str,
+    /// Each of these has to admit a row.
+    pub(crate) admissions: Vec<Admission<'a>>,
+}
+
+/// Which rows of a table a role's action is admitted to.
+#[derive(Drop)]
+pub(crate) enum Verdict<'a> {
+    /// To each row.
+    Every,
+    /// To no row.
+    None,
+    /// To those that the rules admit.
+    Ruled(Ruled<'a>),
+}
+
+/// What bears on a role's action on a table, as `Policies::rules_for` works it out.
+#[derive(Drop)]
+pub struct RowRules<'a> {
+    pub(crate) verdict: Verdict<'a>,
+}
+
+impl Ruled<'_> {
+    ghost use Rattle.std.specs.Prelude.{◌≡◌};
+    ghost use Rattle.lq_policy.specs.RowRules.{rules_admit};
+
+    /// Whether the rules admit the row.
+    fn admit(&self, cells: &[Scalar]) -> bool
+        ensures { result ≡ rules_admit self.now cells.now }
+    {
+        let asked = Asked {
+            user: self.user,
+            cells,
+        };
+        self.admissions.iter().all(|rules| rules.admits(asked))
+    }
+}
+
+impl RowRules<'_> {
+    ghost use Rattle.std.specs.Prelude.{◌≡◌};
+    ghost use Rattle.lq_policy.specs.RowRules.{admits};
+
+    /// Whether the role's action is admitted to the row of the table that has these cells. Takes
+    /// no memory.
+    pub fn admit(&self, cells: &[Scalar]) -> bool
+        ensures { result ≡ admits self.now cells.now }
+    {
+        match &self.verdict {
+            Verdict::Every => true,
+            Verdict::None => false,
+            Verdict::Ruled(rules) => rules.admit(cells),
+        }
+    }
+}

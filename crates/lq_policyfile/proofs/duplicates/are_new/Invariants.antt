@@ -1,0 +1,10 @@
+use Rattle.std.proofs.Common.{◌≡◌, [], length, map}
+use Rattle.lq_policyfile.specs.Duplicates.{are_new}
+use Rattle.lq_policyfile.proofs.duplicates.are_new.Given as goal
+
+-- the names that are left decide
+abbrev pub invariant-loop-left : goal.invariant-loop-left
+invariant-loop-left g l = are_new l.earlier (map g.T.Named.name l.left) ≡ are_new [] (map g.T.Named.name l.entries)
+
+abbrev pub decreases-loop-left : goal.decreases-loop-left
+decreases-loop-left g l = length l.left

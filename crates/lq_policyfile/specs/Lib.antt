@@ -1,0 +1,10 @@
+pub mod Duplicates
+pub mod File
+pub mod NameSets
+pub mod Names
+pub mod Outcome
+pub mod Reading
+pub mod RuleChecks
+pub mod RuleNames
+pub mod Shape
+pub mod TypedNames

@@ -1,0 +1,69 @@
+-- Which entries name only what is there.
+use Rattle.std.specs.Prelude.{◌∷◌, ◌++◌, ◌&&◌, ◌||◌, List, [], map, ℕ, Bool, true, false, Option, Some, None, codes, is_some, slice_get}
+use Rattle.std.specs.List.{list_all, list_any}
+use Rattle.std.specs.Str.{bytes_eq}
+use Rattle.lq_value.specs.Tables.{Table, first_named}
+use Rattle.lq_value.specs.declared.table.Column.{Column}
+use Rattle.lq_store.specs.Rules.{name_of}
+use Rattle.lq_model.specs.declared.syntax.Expr.{Expr}
+use Rattle.lq_policyfile.specs.RuleNames.{knows}
+use Rattle.lq_policyfile.specs.declared.entry.FileEntries.{FileEntries}
+use Rattle.lq_policyfile.specs.declared.entry.PolicyEntry.{PolicyEntry}
+use Rattle.lq_policyfile.specs.declared.entry.RoleEntry.{RoleEntry}
+use Rattle.lq_policyfile.specs.declared.entry.Rules.{Rules}
+use Rattle.lq_policyfile.specs.declared.entry.TableEntry.{TableEntry}
+
+-- a name is one of these
+abbrev pub is_among : List (List ℕ) → List ℕ → Bool
+is_among names name = list_any (bytes_eq name) names
+
+abbrev pub role_names : List RoleEntry → List (List ℕ)
+role_names roles = map (λ role. role.name) roles
+
+-- each role is a member of roles that stand before it
+abbrev pub memberships_are_known : List (List ℕ) → List RoleEntry → Bool
+memberships_are_known earlier [] = true
+memberships_are_known earlier (role ∷ roles) = list_all (is_among earlier) role.member_of && memberships_are_known (earlier ++ role.name ∷ []) roles
+
+-- ---- tables
+
+abbrev pub is_table : List Table → List ℕ → Bool
+is_table tables name = is_some (first_named name_of name tables)
+
+abbrev pub columns_in : Option Table → List Column
+columns_in None = []
+columns_in (Some table) = table.schema.columns
+
+abbrev pub columns_at : List Table → Option ℕ → List Column
+columns_at tables None = []
+columns_at tables (Some number) = columns_in (slice_get tables number)
+
+-- the columns of the table of this name, none where it isn't there
+abbrev pub columns_of : List Table → List ℕ → List Column
+columns_of tables name = columns_at tables (first_named name_of name tables)
+
+abbrev pub table_is_known : List Table → TableEntry → Bool
+table_is_known tables entry = is_table tables entry.name
+
+-- ---- policies
+
+-- a rule that is there passes a test, and so do all
+abbrev pub passes : (Expr → Bool) → Option Expr → Bool
+passes test None = true
+passes test (Some rule) = test rule
+
+abbrev pub all_pass : (Expr → Bool) → Rules → Bool
+all_pass test rules = passes test rules.using && passes test rules.check
+
+-- a policy may apply to all roles
+abbrev pub is_addressee : List (List ℕ) → List ℕ → Bool
+is_addressee roles name = bytes_eq name (codes "public") || is_among roles name
+
+-- the table of a policy, the roles that it applies to, and what its rules name
+abbrev pub policy_is_known : List Table → List (List ℕ) → PolicyEntry → Bool
+policy_is_known tables roles entry =
+    is_table tables entry.table && list_all (is_addressee roles) entry.to && all_pass (λ rule. knows (columns_of tables entry.table) rule false) entry.rules
+
+unfoldable pub names_are_known : List Table → FileEntries → Bool
+names_are_known tables file =
+    memberships_are_known [] file.roles && list_all (table_is_known tables) file.tables && list_all (policy_is_known tables (role_names file.roles)) file.policies

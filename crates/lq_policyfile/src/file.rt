@@ -1,0 +1,119 @@
+//! Policy files.
+ghost use Rattle.std.specs.Prelude.{◌≡◌, [], option_map, true, IfOk, OnOk};
+ghost use Rattle.toml.specs.View.{table_view};
+ghost use Rattle.lq_policy.specs.Rules as totals;
+ghost use Rattle.lq_policyfile.specs.Duplicates.{are_new};
+ghost use Rattle.lq_policyfile.specs.File.{document_of, of_document, parts_in, policies_in, refusal_of};
+ghost use Rattle.lq_policyfile.specs.Names.{role_names};
+ghost use Rattle.lq_policyfile.specs.Outcome.{Answers, Refuses};
+ghost use Rattle.lq_policyfile.specs.RuleChecks as rules;
+
+use crate::duplicates::has_no_duplicates;
+use crate::entry::FileEntries;
+use crate::error::PolicyFileError;
+use crate::names::names_are_known;
+use crate::parts::parts_of;
+use crate::rule_checks::{rules_are_total, rules_are_typed};
+use crate::shape::entries_of;
+use lq_model::PolicyParts;
+use lq_policy::{Policies, PolicyError};
+use lq_store::Store;
+use std::alloc::{AllocError, Global};
+use toml::Table;
+
+/// The most bytes that a policy file has.
+pub const MOST_BYTES: usize = 1_048_576;
+
+/// Refuses entries with the least refusal that applies.
+#[tactic(auto, unfolding(crate::specs::File::refusal_of))]
+fn check(alloc: Global, store: &Store, file: &FileEntries) -> Result<(), PolicyFileError>
+    ensures refusal { Refuses (refusal_of store.now file.now) result }
+    ensures distinct { OnOk result (are_new [] (role_names file.now.roles) ≡ true) }
+    ensures total { OnOk result (rules.rules_are_total file.now.policies ≡ true) }
+{
+    if !names_are_known(alloc, store, file)? {
+        return Err(PolicyFileError::UnknownName);
+    }
+    if !has_no_duplicates(alloc, file)? {
+        return Err(PolicyFileError::Duplicate);
+    }
+    if !rules_are_typed(store, file.policies.as_slice()) {
+        return Err(PolicyFileError::RuleType);
+    }
+    if !rules_are_total(file.policies.as_slice()) {
+        return Err(PolicyFileError::RuleNotTotal);
+    }
+    Ok(())
+}
+
+/// What the entries of a file come to.
+#[tactic(auto, using(crate::proofs::FileLemmas::total_parts))]
+fn parts_in(alloc: Global, store: &Store, file: FileEntries) -> Result<PolicyParts, PolicyFileError>
+    ensures parts { Answers (parts_in store.now file) result }
+    ensures total { IfOk result (λ parts. totals.rules_are_total parts.policies ≡ true) }
+{
+    check(alloc, store, &file)?;
+    Ok(parts_of(alloc, store, file)?)
+}
+
+/// The tree of a TOML document in UTF-8; None where the bytes are no such document.
+#[tactic(auto, using(crate::proofs::FileLemmas::documents))]
+fn document(alloc: Global, bytes: &[u8]) -> Result<Option<Table>, AllocError>
+    ensures { IfOk result (λ found. option_map table_view found ≡ document_of bytes.now) }
+{
+    let Ok(text) = std::str::from_utf8(bytes) else {
+        return Ok(None);
+    };
+    match toml::table_from_str(alloc, text) {
+        Ok(table) => Ok(Some(table)),
+        Err(error) if error.is_memory() => Err(AllocError),
+        Err(_) => Ok(None),
+    }
+}
+
+/// What the bytes of a file within its limit come to.
+fn parts_of_bytes(
+    alloc: Global,
+    bytes: &[u8],
+    store: &Store,
+) -> Result<PolicyParts, PolicyFileError>
+    ensures parts { Answers (of_document store.now (document_of bytes.now)) result }
+    ensures total { IfOk result (λ parts. totals.rules_are_total parts.policies ≡ true) }
+{
+    let Some(tree) = document(alloc, bytes)? else {
+        return Err(PolicyFileError::Toml);
+    };
+    let file = entries_of(alloc, &tree)?;
+    parts_in(alloc, store, file)
+}
+
+/// The parts of the policies that the bytes of a file come to.
+#[tactic(auto, unfolding(crate::specs::File::policies_in))]
+fn policy_parts(alloc: Global, bytes: &[u8], store: &Store) -> Result<PolicyParts, PolicyFileError>
+    ensures parts { Answers (policies_in store.now bytes.now) result }
+    ensures total { IfOk result (λ parts. totals.rules_are_total parts.policies ≡ true) }
+{
+    if bytes.len() > MOST_BYTES {
+        return Err(PolicyFileError::Shape);
+    }
+    parts_of_bytes(alloc, bytes, store)
+}
+
+/// The policies that the bytes of a policy file mean for the tables of a store.
+///
+/// A file of more than 1,048,576 bytes is refused with `Shape`. Of any other the least refusal that
+/// applies is given, whatever stands first in the file: `Toml`, `Shape`, `UnknownName`, `Duplicate`,
+/// `RuleType` and then `RuleNotTotal`. `Memory` may stand for any other answer.
+pub fn policies_from_toml(
+    alloc: Global,
+    bytes: &[u8],
+    store: &Store,
+) -> Result<Policies, PolicyFileError>
+    ensures { Answers (policies_in store.now bytes.now) result }
+{
+    let parts = policy_parts(alloc, bytes, store)?;
+    match Policies::build(alloc, parts) {
+        Ok(policies) => Ok(policies),
+        Err((PolicyError::Memory, _parts)) => Err(PolicyFileError::Memory),
+    }
+}

@@ -1,0 +1,18 @@
+//! Policy files in TOML: roles, tables with row security, and row policies (PostgreSQL, CREATE
+//! POLICY). What a file says, and the least refusal that applies to it, is defined in `specs/`.
+#![tactic(auto)]
+
+mod duplicates;
+mod entry;
+mod error;
+mod file;
+mod name_set;
+mod named;
+mod names;
+mod parts;
+mod rule_checks;
+mod rule_names;
+mod shape;
+
+pub use error::PolicyFileError;
+pub use file::{MOST_BYTES, policies_from_toml};

@@ -1,0 +1,38 @@
+//! Entries that have names.
+use crate::entry::{PolicyEntry, RoleEntry, TableEntry};
+
+/// What has a name.
+pub(crate) trait Named {
+    ghost use Rattle.std.specs.Prelude.{◌≡◌, List, ℕ};
+
+    /// The name as a contract sees it.
+    ghost name: { Self → List ℕ };
+
+    /// The name.
+    fn name(&self) -> &str
+        ensures { result.now ≡ name self.now };
+}
+
+impl Named for RoleEntry {
+    ghost name = { λ role. role.name };
+
+    fn name(&self) -> &str {
+        self.name.as_str()
+    }
+}
+
+impl Named for TableEntry {
+    ghost name = { λ table. table.name };
+
+    fn name(&self) -> &str {
+        self.name.as_str()
+    }
+}
+
+impl Named for PolicyEntry {
+    ghost name = { λ policy. policy.name };
+
+    fn name(&self) -> &str {
+        self.name.as_str()
+    }
+}

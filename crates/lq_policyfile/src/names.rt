@@ -1,0 +1,123 @@
+//! Names of entries that aren't there.
+ghost use Rattle.std.specs.Prelude.{◌≡◌, [], false, IfOk, OnOk};
+ghost use Rattle.std.specs.List.{list_all};
+ghost use Rattle.lq_policyfile.specs.NameSets.{with_name};
+ghost use Rattle.lq_policyfile.specs.Names.{all_pass, columns_of, is_addressee, is_among, is_table, memberships_are_known, names_are_known, passes, policy_is_known, table_is_known};
+ghost use Rattle.lq_policyfile.specs.RuleNames.{knows};
+
+use crate::duplicates::names_of;
+use crate::entry::{FileEntries, PolicyEntry, RoleEntry, Rules, TableEntry};
+use crate::name_set::NameSet;
+use crate::rule_names::knows;
+use lq_model::Expr;
+use lq_store::{Column, Store};
+use lq_value::Txt;
+use std::alloc::{AllocError, Global};
+
+/// Whether a role is a member of earlier roles alone; it is one of them from now on.
+fn is_known<'a>(earlier: &mut NameSet<'a>, role: &'a RoleEntry) -> Result<bool, AllocError>
+    ensures known { IfOk result (λ known. known ≡ list_all (is_among earlier.old) role.now.member_of) }
+    ensures names { OnOk result (earlier.new ≡ with_name earlier.old role.now.name) }
+{
+    let known = earlier.has_all(role.member_of.as_slice());
+    earlier.add(role.name.as_str())?;
+    Ok(known)
+}
+
+/// Whether each role is a member of roles that stand before it.
+fn memberships_are_known(alloc: Global, roles: &[RoleEntry]) -> Result<bool, AllocError>
+    ensures { IfOk result (λ known. known ≡ memberships_are_known [] roles.now) }
+{
+    let mut earlier = NameSet::new(alloc);
+    for role in roles {
+        if !is_known(&mut earlier, role)? {
+            return Ok(false);
+        }
+    }
+    Ok(true)
+}
+
+/// Whether there is a table of this name.
+fn is_table(store: &Store, name: &str) -> bool
+    ensures { result ≡ is_table store.now name.now }
+{
+    store.find(name).is_some()
+}
+
+/// Whether each table that is spoken of is there.
+fn tables_are_known(store: &Store, tables: &[TableEntry]) -> bool
+    ensures { result ≡ list_all (table_is_known store.now) tables.now }
+{
+    tables
+        .iter()
+        .all(|table| is_table(store, table.name.as_str()))
+}
+
+/// The columns of the table of this name, none where it isn't there.
+pub(crate) fn columns_of<'a>(store: &'a Store, table: &str) -> &'a [Column]
+    ensures { result.now ≡ columns_of store.now table.now }
+{
+    match store.find(table) {
+        Some(number) => store.schema(number).columns.as_slice(),
+        None => &[],
+    }
+}
+
+/// Whether a rule that is there names only what is there.
+fn knows_rule(columns: &[Column], rule: &Option<Expr>) -> bool
+    ensures { result ≡ passes (λ found. knows columns.now found false) rule.now }
+{
+    match rule {
+        Some(rule) => knows(columns, rule, false),
+        None => true,
+    }
+}
+
+/// Whether the rules name only what is there.
+fn knows_rules(columns: &[Column], rules: &Rules) -> bool
+    ensures { result ≡ all_pass (λ found. knows columns.now found false) rules.now }
+{
+    knows_rule(columns, &rules.using) && knows_rule(columns, &rules.check)
+}
+
+/// Whether each name is that of a role or `public`.
+fn are_addressees(roles: &NameSet<'_>, names: &[Txt]) -> bool
+    ensures { result ≡ list_all (is_addressee roles.now) names.now }
+{
+    names.iter().all(|name| name.as_str() == "public" || roles.has(name.as_str()))
+}
+
+/// Whether a policy names only what is there.
+fn policy_is_known(store: &Store, roles: &NameSet<'_>, policy: &PolicyEntry) -> bool
+    ensures { result ≡ policy_is_known store.now roles.now policy.now }
+{
+    is_table(store, policy.table.as_str())
+        && are_addressees(roles, policy.to.as_slice())
+        && knows_rules(columns_of(store, policy.table.as_str()), &policy.rules)
+}
+
+/// Whether each policy names only what is there.
+fn policies_are_known(store: &Store, roles: &NameSet<'_>, policies: &[PolicyEntry]) -> bool
+    ensures { result ≡ list_all (policy_is_known store.now roles.now) policies.now }
+{
+    policies
+        .iter()
+        .all(|policy| policy_is_known(store, roles, policy))
+}
+
+/// Whether the file names only what is there.
+#[tactic(auto, using(crate::proofs::NameLemmas::policies_by_set), unfolding(crate::specs::Names::names_are_known))]
+pub(crate) fn names_are_known(
+    alloc: Global,
+    store: &Store,
+    file: &FileEntries,
+) -> Result<bool, AllocError>
+    ensures { IfOk result (λ known. known ≡ names_are_known store.now file.now) }
+{
+    let roles = names_of(alloc, file.roles.as_slice())?;
+    Ok(
+        memberships_are_known(alloc, file.roles.as_slice())?
+            && tables_are_known(store, file.tables.as_slice())
+            && policies_are_known(store, &roles, file.policies.as_slice()),
+    )
+}

@@ -1,0 +1,136 @@
+//! The types of rules, and which of them can't fault.
+ghost use Rattle.std.specs.Prelude.{◌≡◌, option_map};
+ghost use Rattle.lq_model.specs.Totality.{is_total};
+ghost use Rattle.lq_model.specs.Typing.{column_named, type_of_column};
+ghost use Rattle.lq_policyfile.specs.Names.{all_pass, passes};
+ghost use Rattle.lq_policyfile.specs.RuleChecks.{is_typed, policy_is_typed, rules_are_total, rules_are_typed};
+
+use crate::entry::{PolicyEntry, Rules};
+use crate::names::columns_of;
+use lq_model::Expr;
+use lq_scalar::{ExprType, Named, Names, ScalarRef, is_total, type_of};
+use lq_store::{Column, ColumnType, Store};
+use lq_value::Scalar;
+
+/// The type of the column of this name.
+fn type_of_named(columns: &[Column], name: &str) -> Option<ColumnType>
+    ensures { option_map type_of_column result ≡ option_map (λ column. type_of_column column.ty) (column_named name.now columns.now) }
+{
+    let mut left = columns;
+    while let [column, others @ ..] = left {
+        if column.name.as_str() == name {
+            return Some(column.ty);
+        }
+        left = others;
+    }
+    None
+}
+
+/// The names of a rule: `row`, a row of the table with these columns, and `user`. No type depends on
+/// what they stand for.
+#[derive(Drop)]
+struct RuleNames<'a> {
+    columns: &'a [Column],
+}
+
+impl Names for RuleNames<'_> {
+    ghost use Rattle.lq_policyfile.specs.TypedNames.{typed_scope, typed_world};
+
+    ghost Row = { Unit {0} };
+
+    ghost world = { λ names. typed_world names.columns.now };
+
+    ghost scope = { λ names. typed_scope };
+
+    /// The type of a name. The one table has the empty name, which no rule spells.
+    fn name_type(&self, name: &str) -> Option<ExprType> {
+        match name {
+            "row" => Some(ExprType::Row(0)),
+            "user" => Some(ExprType::Str),
+            "" => Some(ExprType::Rows(0)),
+            _ => None,
+        }
+    }
+
+    /// The type of a column of the one table.
+    fn column_type(&self, table: u16, column: &str) -> Option<ExprType> {
+        if table != 0 {
+            return None;
+        }
+        type_of_named(self.columns, column).map(ExprType::of_column)
+    }
+
+    /// `row` is some row, and `user` some text.
+    #[tactic(auto, using(crate::proofs::TypingLemmas::values))]
+    fn named(&self, name: &str) -> Option<Named<'_>> {
+        match name {
+            "row" => Some(Named::Row),
+            "user" => Some(Named::Scalar(ScalarRef::Text(""))),
+            _ => None,
+        }
+    }
+
+    /// No cell is known.
+    #[tactic(auto, using(crate::proofs::TypingLemmas::no_cell))]
+    fn cell(&self, _row: &str, _column: &str) -> Option<&Scalar> {
+        None
+    }
+}
+
+/// Whether a rule is a truth value.
+#[tactic(auto, using(lq_scalar::proofs::TypeLemmas::layer_known))]
+fn is_typed(columns: &[Column], rule: &Expr) -> bool
+    ensures { result ≡ is_typed columns.now rule.now }
+{
+    matches!(type_of(&RuleNames { columns }, rule), Some(ExprType::Bool))
+}
+
+/// The same of a rule that is there.
+fn is_typed_if_there(columns: &[Column], rule: &Option<Expr>) -> bool
+    ensures { result ≡ passes (is_typed columns.now) rule.now }
+{
+    match rule {
+        Some(rule) => is_typed(columns, rule),
+        None => true,
+    }
+}
+
+/// Whether the rules are truth values.
+fn are_typed(columns: &[Column], rules: &Rules) -> bool
+    ensures { result ≡ all_pass (is_typed columns.now) rules.now }
+{
+    is_typed_if_there(columns, &rules.using) && is_typed_if_there(columns, &rules.check)
+}
+
+/// Whether the rules of a policy are truth values.
+fn policy_is_typed(store: &Store, policy: &PolicyEntry) -> bool
+    ensures { result ≡ policy_is_typed store.now policy.now }
+{
+    are_typed(columns_of(store, policy.table.as_str()), &policy.rules)
+}
+
+/// Whether the rules of each policy are truth values.
+pub(crate) fn rules_are_typed(store: &Store, policies: &[PolicyEntry]) -> bool
+    ensures { result ≡ rules_are_typed store.now policies.now }
+{
+    policies.iter().all(|policy| policy_is_typed(store, policy))
+}
+
+/// Whether a rule that is there can't fault.
+fn is_total_if_there(rule: &Option<Expr>) -> bool
+    ensures { result ≡ passes is_total rule.now }
+{
+    match rule {
+        Some(rule) => is_total(rule),
+        None => true,
+    }
+}
+
+/// Whether the rules of each policy can't fault.
+pub(crate) fn rules_are_total(policies: &[PolicyEntry]) -> bool
+    ensures { result ≡ rules_are_total policies.now }
+{
+    policies.iter().all(|policy| {
+        is_total_if_there(&policy.rules.using) && is_total_if_there(&policy.rules.check)
+    })
+}

@@ -1,0 +1,35 @@
+-- A prepared rule decides as the rule that its tree stands for.
+use Rattle.std.proofs.Common.{◌≡◌, List, ℕ, true, Result, Ok, Err, ap, ◌∙◌, sym, refl}
+use Rattle.lq_value.specs.declared.scalar.Scalar.{Scalar}
+use Rattle.lq_value.specs.declared.value.Fault.{Fault}
+use Rattle.lq_value.specs.declared.value.Fault.TheVariants as fault
+use Rattle.lq_model.specs.Meaning.{meaning, truth_at}
+use Rattle.lq_model.specs.Operations.{on_ok, truth_of}
+use Rattle.lq_model.specs.Totality.{is_total}
+use Rattle.lq_model.specs.Visible.{is_true, rule_scope, rule_world}
+use Rattle.lq_model.specs.declared.syntax.Expr.{Expr}
+use Rattle.lq_scalar.specs.Named.{Shape}
+use Rattle.lq_scalar.specs.Shapes.{faulting, scalar_shape, shape_of, truth_in, truth_of_expression}
+use Rattle.lq_scalar.proofs.ShapeLemmas.{truth_viewed}
+use Rattle.lq_rule.specs.Deciding.{DecidesAs, decides}
+use Rattle.lq_rule.specs.Reading.{read}
+use Rattle.lq_rule.specs.Standing.{StandsFor}
+use Rattle.lq_rule.specs.declared.prepared.Prepared.{Prepared}
+
+-- the truth value that a rule is, by what it is evaluated to
+rule_is : (columns : List (List ℕ)) (cells : List Scalar) (user : List ℕ) (rule : Expr)
+    → truth_at (rule_world columns) rule (rule_scope cells user) ≡ truth_of_expression (rule_world columns) (rule_scope cells user) rule
+unfolding shape_of
+rule_is columns cells user rule = truth_viewed (rule_world columns) (meaning (faulting (rule_world columns)) rule (rule_scope cells user))
+
+truth_shown : (r : Result Scalar Fault) → on_ok (scalar_shape {R = List Scalar} r) truth_in ≡ on_ok r (truth_of fault.NullReference)
+truth_shown (Ok s) = refl
+truth_shown (Err f) = refl
+
+pub decides_as : (columns : List (List ℕ)) (rule : Expr) (tree : Prepared) → is_total rule ≡ true → StandsFor columns rule tree
+    → DecidesAs columns rule (record { tree = tree })
+unfolding decides
+decides_as columns rule tree total stands cells user =
+    sym (ap is_true (rule_is columns cells user rule
+    ∙ ap (λ (o : Result (Shape (List Scalar)) Fault). on_ok o truth_in) (stands.same total cells user)
+    ∙ truth_shown (read tree cells user)))

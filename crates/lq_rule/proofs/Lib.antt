@@ -1,0 +1,5 @@
+pub mod CellLemmas
+pub mod DecidingLemmas
+pub mod FormLemmas
+pub mod ReadingLemmas
+pub mod SureLemmas

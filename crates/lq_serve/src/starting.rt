@@ -1,0 +1,78 @@
+//! Starting: the session over the tables, the policies and the role that the command line names, or the line that tells
+//! why there is none.
+ghost use Rattle.std.specs.Prelude.{◌≡◌, ◌∷◌, [], List, ℕ, Option, Some, IfErr, IfOk, IfSome};
+ghost use Rattle.lq_policy.specs.Roles.{number_of, role_number};
+ghost use Rattle.lq_session.specs.States.{state_of};
+ghost use Rattle.lq_serve.specs.Files.{first_bytes};
+ghost use Rattle.lq_serve.specs.Loading.{Answered};
+ghost use Rattle.lq_serve.specs.Starting.{GivesPolicies, NotStarted, Started, asked_by, policies_read, policy_read_limit};
+
+use crate::file_fault::FileFault;
+use crate::files::Files;
+use crate::loading::load_tables;
+use crate::reading::read_file;
+use crate::start_error::{StartError, refusal};
+use lq_options::Options;
+use lq_policy::{Policies, RoleId};
+use lq_policyfile::{MOST_BYTES, policies_from_toml};
+use lq_session::Session;
+use lq_store::Store;
+use std::alloc::Global;
+
+// The most bytes that are read of a policy file: one more than it may have.
+const READ_LIMIT: u64 = MOST_BYTES as u64 + 1;
+
+/// The first session that the options ask for: over the tables of their files, behind the policies of
+/// their policy file, in their role.
+///
+/// A table's name is its file's without folders and without the ending `.csv`. The first fault is
+/// refused: of the tables, file by file (`name` where that is no name, `read` where the file can't be
+/// read, what `table_from_csv` refuses, `duplicate-table` for a second table of one name, `too-many`
+/// for more than 64 tables); then of the policy file (`read`, and what `policies_from_toml` refuses);
+/// then `role`, where the policies don't have the role. The line is `lq: WORD: FAULT`, with the word
+/// of the command line. Each file is read once, up to the first fault, and no other file is; at most
+/// 16,777,217 bytes are asked for of a table's file, and 1,048,577 of the policy file. `Memory` may
+/// stand for any other answer.
+pub fn load<F: Files>(
+    alloc: Global,
+    options: &Options,
+    files: &mut F,
+) -> Result<Session, StartError>
+    ensures ok { IfOk result (λ it. Started (F.holds files.old) (F.answered files.old) (F.answered files.new) (asked_by options.now) (state_of it)) }
+    ensures err { IfErr result (λ error. NotStarted (F.holds files.old) (F.answered files.old) (F.answered files.new) (asked_by options.now) error) }
+{
+    let store = load_tables(alloc, options.tables.as_slice(), files)?;
+    let policies = match load_policies(alloc, options.policy.as_str(), files, &store) {
+        Ok(policies) => policies,
+        Err(fault) => return Err(refusal(alloc, options.policy.as_str(), fault)),
+    };
+    match policies.role(options.role.as_str()) {
+        Some(role) => Ok(Session::new(alloc, store, policies, role)),
+        None => Err(refusal(alloc, options.role.as_str(), FileFault::Role)),
+    }
+}
+
+// The policies that the file of this name holds, in front of the tables of the store.
+fn load_policies<F: Files>(
+    alloc: Global,
+    file: &str,
+    files: &mut F,
+    store: &Store,
+) -> Result<Policies, FileFault>
+    ensures given { (gave : Option (List ℕ)) × IfSome (F.holds files.old file.now) (λ there. gave ≡ first_bytes policy_read_limit there)
+        × Answered result (F.answered files.old) (F.answered files.new) (record { file = file.now; limit = policy_read_limit; gave = gave } ∷ [])
+        × GivesPolicies (policies_read store.now gave) result }
+{
+    let bytes = read_file(file, READ_LIMIT, files)?;
+    policies_from_bytes(alloc, &bytes, store)
+}
+
+// The policies that the bytes of their file mean, in front of the tables of the store.
+fn policies_from_bytes(alloc: Global, bytes: &[u8], store: &Store) -> Result<Policies, FileFault>
+    ensures { GivesPolicies (policies_read store.now (Some bytes.now)) result }
+{
+    match policies_from_toml(alloc, bytes, store) {
+        Ok(policies) => Ok(policies),
+        Err(error) => Err(FileFault::from(error)),
+    }
+}

@@ -1,0 +1,7 @@
+use Rattle.std.proofs.Common.{◌≡◌, map}
+use Rattle.lq_translate.specs.Translation.{part_of}
+use Rattle.lq_translate.proofs.calls.parts_of.Given as goal
+
+-- the calls of the bodies so far are made
+abbrev pub invariant-loop-next : goal.invariant-loop-next
+invariant-loop-next g l = l.made ≡ map (part_of g.X.Named.naming) l.yielded

@@ -1,0 +1,4 @@
+pub mod Maps
+pub mod Translated
+pub mod Translation
+pub mod TranslationLaws

@@ -1,0 +1,55 @@
+-- Laws of the translation: calls mean what clauses mean, and have the types that they have.
+use Rattle.std.specs.Prelude.{◌≡◌, ◌∷◌, List, ℕ, Bool, true, Option, Some, Ok}
+use Rattle.lq_value.specs.declared.ty.Ty.{Ty}
+use Rattle.lq_value.specs.declared.value.Value.{Value}
+use Rattle.lq_model.specs.ClauseTyping.{expression_type, query_items}
+use Rattle.lq_model.specs.Meaning.{Meaning, Scope, World, query_meaning}
+use Rattle.lq_model.specs.Operators.{call_items, call_meaning}
+use Rattle.lq_model.specs.Terms.{term_meaning, term_type}
+use Rattle.lq_model.specs.Typing.{Names, with_local}
+use Rattle.lq_model.specs.WholeMeaning.{expression_meaning, items_meaning}
+use Rattle.lq_model.specs.declared.syntax.Expr.{Expr}
+use Rattle.lq_model.specs.declared.syntax.Query.{Query}
+use Rattle.lq_translate.specs.Translated.{translated, translated_query}
+use Rattle.lq_translate.specs.Translation.{call_of}
+
+module _ {X : Type 0} (is_name : X → List ℕ → Bool) where
+  -- an expression that is a name has the type of what the name stands for
+  abbrev pub NamesTyped : (X → Names → Option Ty) → Type 0
+  NamesTyped typed = (x : X) (n : List ℕ) → is_name x n ≡ true → (names : Names) (t : Ty) → typed x (with_local names n t) ≡ Some t
+
+  -- and means it
+  abbrev pub NamesMean : {R : Type 0} → (X → Meaning R) → Type 0
+  NamesMean {R} meant =
+      (x : X) (n : List ℕ) → is_name x n ≡ true → (t : Ty) (v : Value R) (scope : Scope R) → meant x (record { name = n; ty = t; value = v } ∷ scope) ≡ Ok v
+
+-- at the place of any scope the calls of a query have its stream: items and ending, faults alike
+abbrev pub MeansAlike : Type 0 → Type 0 → Type 0
+MeansAlike R X =
+    (is_name : X → List ℕ → Bool) (world : World R) (typed : X → Names → Option Ty) (meant : X → Meaning R) → NamesTyped is_name typed
+    → NamesMean is_name meant → (q : Query X) (outer : Scope R) → call_meaning world typed meant (call_of is_name q) outer ≡ query_meaning world typed meant q outer
+
+-- under any names the calls of a query have the type of its items, and have none where it has none
+abbrev pub TypedAlike : Type 0 → Type 0
+TypedAlike X =
+    (is_name : X → List ℕ → Bool) (typed : X → Names → Option Ty) → NamesTyped is_name typed
+    → (q : Query X) (outer : Names) → call_items typed (call_of is_name q) outer ≡ query_items typed q outer
+
+-- ---- whole expressions
+
+-- a translated expression has the type of the expression, and none where it has none
+abbrev pub TermsTypedAlike : Type 0
+TermsTypedAlike = (e : Expr) (names : Names) → term_type (translated e) names ≡ expression_type e names
+
+-- and means what it means
+abbrev pub TermsMeanAlike : Type 0 → Type 0
+TermsMeanAlike R = (world : World R) (e : Expr) (scope : Scope R) → term_meaning world (translated e) scope ≡ expression_meaning world e scope
+
+-- the calls of a query have the type of its items, and none where it has none
+abbrev pub CallsTypedAlike : Type 0
+CallsTypedAlike = (q : Query Expr) (names : Names) → call_items term_type (translated_query q) names ≡ query_items expression_type q names
+
+-- and mean under nested pairs what the query's clauses mean under names: items and ending, faults alike
+abbrev pub CallsMeanAlike : Type 0 → Type 0
+CallsMeanAlike R =
+    (world : World R) (q : Query Expr) (scope : Scope R) → call_meaning world term_type (term_meaning world) (translated_query q) scope ≡ items_meaning world q scope

@@ -1,0 +1,221 @@
+//! The calls of a query, whatever stands in it for expressions.
+ghost use Rattle.std.specs.Prelude.{◌≡◌, ◌++◌, ◌∷◌, ◌&&◌, [], map, false, true, not, IfOk, OnOk};
+ghost use Rattle.lq_model.specs.declared.calls.Paired.TheVariants as paired;
+ghost use Rattle.lq_model.specs.declared.syntax.Last.TheVariants as last;
+ghost use Rattle.lq_translate.specs.Translation.{body_operators, call_of, clause_operator, has_result, keeps_sole, last_operators, operators_of, paired_operator, part_of, widens};
+
+use lq_model::{Body, Call, Clause, Continuation, Last, Operator, Paired, Part, Query};
+use lq_value::{List, Txt};
+use std::alloc::{AllocError, Global};
+
+/// What stands for an expression, as far as the translation looks at it.
+pub trait Named: Drop {
+    ghost use Rattle.std.specs.Prelude.{◌≡◌, List, ℕ, Bool};
+
+    /// Whether it is nothing but this name.
+    ghost naming: { Self → List ℕ → Bool };
+
+    /// Whether it is nothing but this name.
+    fn is_name(&self, name: &Txt) -> bool
+        ensures { result ≡ naming self.now name.now };
+}
+
+/// The calls that a query stands for, made of its own parts.
+#[tactic(auto, unfolding(crate::specs::Translation::call_of))]
+pub fn call_of_query<X: Named>(alloc: Global, query: Query<X>) -> Result<Call<X>, AllocError>
+    ensures { IfOk result (λ made. made ≡ call_of X.naming query) }
+{
+    let Query {
+        name,
+        source,
+        body,
+        rest,
+    } = query;
+    let operators = operators_of_body(alloc, &name, body)?;
+    let rest = parts_of(alloc, rest)?;
+    Ok(Call {
+        name,
+        source,
+        operators,
+        rest,
+    })
+}
+
+/// The calls of what follows by `into`.
+fn parts_of<X: Named>(
+    alloc: Global,
+    rest: List<Continuation<X>>,
+) -> Result<List<Part<X>>, AllocError>
+    ensures { IfOk result (λ made. made ≡ map (part_of X.naming) rest) }
+{
+    let mut made = List::new(alloc);
+    for next in rest.into_vec() {
+        made.push(part(alloc, next)?)?;
+    }
+    Ok(made)
+}
+
+/// The calls of a body that follows by `into`.
+fn part<X: Named>(alloc: Global, next: Continuation<X>) -> Result<Part<X>, AllocError>
+    ensures { IfOk result (λ made. made ≡ part_of X.naming next) }
+{
+    let Continuation { name, body } = next;
+    let operators = operators_of_body(alloc, &name, body)?;
+    Ok(Part { name, operators })
+}
+
+/// The calls of a body over this range variable.
+#[tactic(auto, using(crate::proofs::CallLemmas::body_up_to_last))]
+fn operators_of_body<X: Named>(
+    alloc: Global,
+    name: &Txt,
+    body: Body<X>,
+) -> Result<List<Operator<X>>, AllocError>
+    ensures { IfOk result (λ made. made ≡ body_operators X.naming name.now body) }
+{
+    let Body { clauses, last } = body;
+    let mut clauses = clauses.into_vec();
+    match clauses.pop() {
+        None => {
+            let mut made = List::new(alloc);
+            push_last(&mut made, name, false, true, last)?;
+            Ok(made)
+        }
+        Some(final_clause) => {
+            let sole = stays_sole(clauses.as_slice());
+            let mut made = pairing_operators(alloc, clauses)?;
+            push_final(&mut made, name, sole, final_clause, last)?;
+            Ok(made)
+        }
+    }
+}
+
+/// Whether none of the clauses brings a range variable in.
+fn stays_sole<X: Drop>(clauses: &[Clause<X>]) -> bool
+    ensures { result ≡ keeps_sole clauses.now }
+{
+    for clause in clauses {
+        if brings_name(clause) {
+            return false;
+        }
+    }
+    true
+}
+
+/// Whether a clause brings a range variable in.
+fn brings_name<X: Drop>(clause: &Clause<X>) -> bool
+    ensures { result ≡ widens clause.now }
+{
+    !matches!(clause, Clause::Where(_) | Clause::OrderBy(_))
+}
+
+/// Whether a clause's call takes what is made of each pair.
+fn makes_results<X: Drop>(clause: &Clause<X>) -> bool
+    ensures { result ≡ has_result clause.now }
+{
+    matches!(clause, Clause::From(_, _) | Clause::Join(_))
+}
+
+/// The calls of clauses none of which makes the value of a `select`.
+fn pairing_operators<X: Drop>(
+    alloc: Global,
+    clauses: Vec<Clause<X>>,
+) -> Result<List<Operator<X>>, AllocError>
+    ensures { IfOk result (λ made. made ≡ map paired_operator clauses.items) }
+{
+    let mut made = List::new(alloc);
+    for clause in clauses {
+        made.push(operator_of(clause, Paired::Pair))?;
+    }
+    Ok(made)
+}
+
+/// The call of a clause; where it pairs items, with what comes of each pair.
+fn operator_of<X: Drop>(clause: Clause<X>, made: Paired<X>) -> Operator<X>
+    ensures { result ≡ clause_operator clause made }
+{
+    match clause {
+        Clause::From(name, source) => Operator::SelectMany(name, source, made),
+        Clause::Let(name, value) => Operator::Let(name, value),
+        Clause::Where(condition) => Operator::Where(condition),
+        Clause::Join(join) => Operator::Join(join, made),
+        Clause::OrderBy(keys) => Operator::OrderBy(keys),
+    }
+}
+
+/// Puts the calls of the last clause and of what ends the body behind the others.
+fn push_final<X: Named>(
+    made: &mut List<Operator<X>>,
+    name: &Txt,
+    sole: bool,
+    clause: Clause<X>,
+    last: Last<X>,
+) -> Result<(), AllocError>
+    ensures { OnOk result (made.new ≡ made.old ++ operators_of X.naming name.now true sole (clause ∷ []) last) }
+{
+    let sole = sole && !brings_name(&clause);
+    let makes = makes_results(&clause);
+    match last {
+        Last::Select(value) => {
+            if makes {
+                made.push(operator_of(clause, Paired::Value(value)))?;
+            } else {
+                made.push(operator_of(clause, Paired::Pair))?;
+                push_select(made, name, true, sole, value)?;
+            }
+        }
+        Last::Group(element, key) => {
+            made.push(operator_of(clause, Paired::Pair))?;
+            push_group(made, name, sole, element, key)?;
+        }
+    }
+    Ok(())
+}
+
+/// Puts the call of what ends a body behind the others.
+fn push_last<X: Named>(
+    made: &mut List<Operator<X>>,
+    name: &Txt,
+    used: bool,
+    sole: bool,
+    last: Last<X>,
+) -> Result<(), AllocError>
+    ensures { OnOk result (made.new ≡ made.old ++ last_operators X.naming name.now used sole last) }
+{
+    match last {
+        Last::Select(value) => push_select(made, name, used, sole, value),
+        Last::Group(element, key) => push_group(made, name, sole, element, key),
+    }
+}
+
+/// Puts the call of a `select` behind the others, where there is one.
+fn push_select<X: Named>(
+    made: &mut List<Operator<X>>,
+    name: &Txt,
+    used: bool,
+    sole: bool,
+    value: X,
+) -> Result<(), AllocError>
+    ensures { OnOk result (made.new ≡ made.old ++ last_operators X.naming name.now used sole (last.Select value)) }
+{
+    if used && sole && value.is_name(name) {
+        return Ok(());
+    }
+    made.push(Operator::Select(value))
+}
+
+/// Puts the call of a `group` behind the others.
+fn push_group<X: Named>(
+    made: &mut List<Operator<X>>,
+    name: &Txt,
+    sole: bool,
+    element: X,
+    key: X,
+) -> Result<(), AllocError>
+    ensures { OnOk result (made.new ≡ made.old ++ last_operators X.naming name.now true sole (last.Group element key)) }
+{
+    if sole && element.is_name(name) {
+        return made.push(Operator::GroupBy(key, None));
+    }
+    made.push(Operator::GroupBy(key, Some(element)))
+}

@@ -1,0 +1,19 @@
+//! Laws of the translation. Each function's contract is the law that it is named for; the functions
+//! themselves do nothing.
+ghost use Rattle.lq_translate.specs.TranslationLaws.{CallsMeanAlike, CallsTypedAlike, MeansAlike, TermsMeanAlike, TermsTypedAlike, TypedAlike};
+
+/// The calls that a query is translated to mean under nested pairs what its clauses mean under names, items and ending alike,
+/// whatever its expressions are and mean, if only a name means what stands there; and they have its type, or none where it has none.
+pub fn calls_and_clauses<R, X>()
+    ensures meaning { MeansAlike R X }
+    ensures typing { TypedAlike X }
+{}
+
+/// The same for whole expressions, in which queries may hold queries: what an expression is translated to has its type, or none
+/// where it has none, and means what it means; and so the calls of a query have its items' type and give its stream.
+pub fn terms_and_expressions<R>()
+    ensures types { TermsTypedAlike }
+    ensures meanings { TermsMeanAlike R }
+    ensures items { CallsTypedAlike }
+    ensures streams { CallsMeanAlike R }
+{}

@@ -1,0 +1,195 @@
+//! The calls that queries stand for, each query spelled as a script has it.
+use lq_model::{Call, Expr, Operator, Paired, Query, Statement, Term};
+use lq_syntax::{SyntaxError, parse_statement};
+use lq_translate::translate;
+use std::alloc::{AllocError, Global};
+use std::test::Fail;
+
+/// Queries, each with its calls, and with those of what follows by the first `into`.
+const QUERIES: [(&str, &[&str], &[&str]); 18] = [
+    ("run from x in t select x;", &["Select"], &[]),
+    ("run from x in t where x.a select x;", &["Where"], &[]),
+    (
+        "run from x in t where x.a select x.b;",
+        &["Where", "Select"],
+        &[],
+    ),
+    ("run from x in t orderby x.a select x;", &["OrderBy"], &[]),
+    (
+        "run from x in t let y = x.a select x;",
+        &["Select pair", "Select"],
+        &[],
+    ),
+    (
+        "run from x in t from y in u select x;",
+        &["SelectMany value"],
+        &[],
+    ),
+    (
+        "run from x in t from y in x.s where y select x;",
+        &["SelectMany pair", "Where", "Select"],
+        &[],
+    ),
+    (
+        "run from x in t from y in u group x by y;",
+        &["SelectMany pair", "GroupBy element"],
+        &[],
+    ),
+    (
+        "run from x in t join y in u on x.a equals y.a select y;",
+        &["Join value"],
+        &[],
+    ),
+    (
+        "run from x in t join y in u on x.a equals y.a let z = 1 select z;",
+        &["Join pair", "Select pair", "Select"],
+        &[],
+    ),
+    (
+        "run from x in t join y in u on x.a equals y.a into g select g;",
+        &["GroupJoin value"],
+        &[],
+    ),
+    (
+        "run from x in t join y in u on x equals y into y orderby x select x;",
+        &["GroupJoin pair", "OrderBy", "Select"],
+        &[],
+    ),
+    ("run from x in t group x by x.a;", &["GroupBy"], &[]),
+    (
+        "run from x in t group x.b by x.a;",
+        &["GroupBy element"],
+        &[],
+    ),
+    (
+        "run from x in t where x.a group x by x.b;",
+        &["Where", "GroupBy"],
+        &[],
+    ),
+    (
+        "run from x in t select x.a into x where x select x;",
+        &["Select"],
+        &["Where"],
+    ),
+    (
+        "run from x in t group x by x.a into g select g.Key;",
+        &["GroupBy"],
+        &["Select"],
+    ),
+    (
+        "run from x in (from y in t where y.a select y) select x;",
+        &["Select"],
+        &[],
+    ),
+];
+
+// A call by its name, with what it makes of pairs.
+fn word_of(operator: &Operator<Term>) -> &'static str {
+    match operator {
+        Operator::Where(_) => "Where",
+        Operator::Select(_) => "Select",
+        Operator::Let(_, _) => "Select pair",
+        Operator::SelectMany(_, _, Paired::Pair) => "SelectMany pair",
+        Operator::SelectMany(_, _, Paired::Value(_)) => "SelectMany value",
+        Operator::Join(join, Paired::Pair) if join.into.is_none() => "Join pair",
+        Operator::Join(join, Paired::Value(_)) if join.into.is_none() => "Join value",
+        Operator::Join(_, Paired::Pair) => "GroupJoin pair",
+        Operator::Join(_, Paired::Value(_)) => "GroupJoin value",
+        Operator::OrderBy(_) => "OrderBy",
+        Operator::GroupBy(_, None) => "GroupBy",
+        Operator::GroupBy(_, Some(_)) => "GroupBy element",
+    }
+}
+
+// Whether calls are these, in order.
+fn are_named(operators: &[Operator<Term>], words: &[&str]) -> bool {
+    operators.len() == words.len()
+        && operators
+            .iter()
+            .zip(words.iter())
+            .all(|(operator, word)| word_of(operator) == *word)
+}
+
+fn is_made_of(call: &Call<Term>, words: &[&str], behind: &[&str]) -> bool {
+    are_named(call.operators.as_slice(), words)
+        && match call.rest.as_slice() {
+            [] => behind.is_empty(),
+            [part, ..] => are_named(part.operators.as_slice(), behind),
+        }
+}
+
+// Whether a query stands for these calls. A function of its own, like the next four: what costs most to prove of a test is that it lets
+// go of a tree.
+fn has_calls(
+    alloc: Global,
+    query: &Query<Expr>,
+    words: &[&str],
+    behind: &[&str],
+) -> Result<bool, AllocError> {
+    Ok(is_made_of(&translate(alloc, query)?, words, behind))
+}
+
+fn has_where_within(alloc: Global, query: &Query<Expr>) -> Result<bool, AllocError> {
+    Ok(holds_where(&translate(alloc, query)?.source))
+}
+
+// The query that a statement runs.
+fn query_of(statement: &Statement) -> Option<&Query<Expr>> {
+    match statement {
+        Statement::Run(Expr::Query(query)) => Some(query.get()),
+        _ => None,
+    }
+}
+
+// Whether the line is a query that stands for these calls.
+fn is_translated(
+    alloc: Global,
+    line: &str,
+    words: &[&str],
+    behind: &[&str],
+) -> Result<bool, SyntaxError> {
+    match parse_statement(alloc, line)? {
+        Some(statement) => Ok(query_of(&statement).is_some_and(|query| matches!(
+            has_calls(alloc, query, words, behind),
+            Ok(true)
+        ))),
+        None => Ok(false),
+    }
+}
+
+// Whether the source of the line's query is itself a call, whose only operator is a `Where`.
+fn is_nested(alloc: Global, line: &str) -> Result<bool, SyntaxError> {
+    match parse_statement(alloc, line)? {
+        Some(statement) => Ok(query_of(&statement).is_some_and(|query| matches!(
+            has_where_within(alloc, query),
+            Ok(true)
+        ))),
+        None => Ok(false),
+    }
+}
+
+fn holds_where(source: &Term) -> bool {
+    match source {
+        Term::Call(call) => are_named(call.get().operators.as_slice(), &["Where"]),
+        Term::Node(_) => false,
+    }
+}
+
+#[test]
+fn queries_stand_for_calls(rt: HostRuntime) -> Result<(), Fail> {
+    for (line, words, behind) in &QUERIES {
+        assert!(rt; is_translated(rt.alloc(), line, words, behind)?, "{line}");
+    }
+    Ok(())
+}
+
+#[test]
+fn inner_queries_are_translated_in_place(rt: HostRuntime) -> Result<(), Fail> {
+    assert!(rt;
+        is_nested(
+            rt.alloc(),
+            "run from x in (from y in t where y.a select y) select x;"
+        )?
+    );
+    Ok(())
+}

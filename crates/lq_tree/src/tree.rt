@@ -1,0 +1,95 @@
+//! Typed trees. Locals are values in slots, which are counted from 0 at the outermost lambda: the
+//! body of a lambda has one slot more than what it stands in, or two, where it takes two items.
+ghost use Rattle.std.specs.Prelude.{◌≡◌};
+
+use lq_model::{Field, Given, Op, Simple, SortKey, Through};
+use lq_value::{Held, List, Scalar, Ty};
+
+/// The parts of a join, whose outer sequence stands beside it (.NET, `Enumerable.Join` and
+/// `GroupJoin`).
+#[derive(Drop)]
+pub struct Joined<X> {
+    /// The inner sequence, in the slots round the query.
+    pub inner: X,
+    /// The key of an outer item, in one slot more.
+    pub outer_key: X,
+    /// The key of an inner item, in one slot more.
+    pub inner_key: X,
+    /// Whether all matches of an outer item stand together, as one sequence.
+    pub grouped: bool,
+    /// What comes of an outer item and its match, or its matches, in two slots more.
+    pub result: X,
+}
+
+/// A typed expression (ECMA-334, expressions; .NET, `Enumerable`).
+#[derive(Drop)]
+pub enum Form {
+    /// A literal.
+    Literal(Scalar),
+    /// What a slot holds.
+    Slot(usize),
+    /// The first part of a pair.
+    First(Held<Form>),
+    /// The second part of a pair.
+    Second(Held<Form>),
+    /// The rows of the table with this number.
+    Table(u16),
+    /// The cell of a row of the table with this number, by the number of its column.
+    Column(Held<Form>, u16, u16),
+    /// A member of a record, by its place.
+    Member(Held<Form>, usize),
+    /// The key of a group.
+    Key(Held<Form>),
+    /// An operator or member with one operand.
+    Unary(Op, Held<Form>),
+    /// An operator with two operands, both of which are evaluated.
+    Binary(Op, Held<Form>, Held<Form>),
+    /// `&&`
+    And(Held<Form>, Held<Form>),
+    /// `||`
+    Or(Held<Form>, Held<Form>),
+    /// `??`
+    Coalesce(Held<Form>, Held<Form>),
+    /// `? :`, with its condition first.
+    Conditional(Held<Form>, Held<Form>, Held<Form>),
+    /// Whether a row, a record or a group is null; or, where the truth value is false, that it isn't.
+    IsNull(bool, Held<Form>),
+    /// `new` with its members.
+    Record(List<Field<Form>>),
+    /// A pair.
+    Pair(Held<Form>, Held<Form>),
+    /// An expression of a sequence's type: a fault met in making it is the ending of its stream.
+    Sequence(Held<Form>),
+    /// A method without an argument, on items of this type.
+    Simple(Simple, Ty, Held<Form>),
+    /// A method on what stands first, with its argument.
+    Given(Given, Held<Form>, Held<Form>),
+    /// A method with a lambda, in one slot more, on items of the first type; the second is that of
+    /// what the lambda gives.
+    Through(Through, Ty, Ty, Held<Form>, Held<Form>),
+    /// What comes of each item, in one slot more, and of each item of the sequence that it leads to,
+    /// in two.
+    SelectMany(Held<Form>, Held<Form>, Held<Form>),
+    /// A join of what stands first.
+    Join(Held<Form>, Held<Joined<Form>>),
+    /// The items sorted by keys, in one slot more, the first of which counts most.
+    OrderBy(Held<Form>, List<SortKey<Form>>),
+    /// The items grouped by a key, with the elements of each key, both in one slot more.
+    GroupBy(Held<Form>, Held<Form>, Held<Form>),
+}
+
+/// A typed tree: a form with its type.
+#[derive(Drop)]
+pub struct Tree {
+    /// Its type.
+    pub ty: Ty,
+    /// The form.
+    pub form: Form,
+}
+
+/// The type of a tree.
+pub fn ty(tree: &Tree) -> &Ty
+    ensures { result.now ≡ tree.now.ty }
+{
+    &tree.ty
+}

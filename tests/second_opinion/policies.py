@@ -1,0 +1,247 @@
+"""Policy files: TOML that names roles, tables with row security, and policies; and the rows that these show.
+
+The library `tomllib` reads TOML 1.0, and the program reads TOML 1.1. Files on which the two differ are no cases here: line ends
+and a comma behind the last key in an inline table, the escapes `\\e` and `\\x`, and times without seconds, which 1.1 has. Of what
+1.1 leaves to its readers, the width of integers and the depth of arrays are looked at here as the program's page tells them; a
+number with a fraction beyond the floats of 64 bits, the depth of inline tables and the number of parts of a key are not.
+"""
+
+import tomllib
+from collections import Counter
+from dataclasses import dataclass, field
+
+from lexer import is_name
+from rules import NoRule, UnknownName, check_names, holds, is_total, is_truth, rule_of
+from tables import MARK
+
+MOST_BYTES = 1_048_576
+MOST_DEPTH = 80
+MOST_NAME_BYTES = 64
+ACTIONS = ("all", "select", "insert", "delete")
+NO_POLICY_NAMES = ("no-grant", "default-deny")
+
+REQUIRED = object()
+TEXT, FLAG, TEXTS = "a text", "a truth value", "an array of texts"
+# Of each array the keys of its entries, with the kind of each value, and what stands for it where it is absent.
+ARRAYS = {
+    "role": {"name": (TEXT, REQUIRED), "member_of": (TEXTS, []), "bypass": (FLAG, False)},
+    "table": {"name": (TEXT, REQUIRED), "row_security": (FLAG, REQUIRED)},
+    "policy": {
+        "name": (TEXT, REQUIRED), "table": (TEXT, REQUIRED), "kind": (TEXT, "permissive"), "for": (TEXT, "all"),
+        "to": (TEXTS, ["public"]), "using": (TEXT, None), "check": (TEXT, None),
+    },
+}
+
+
+class PolicyFault(Exception):
+    """The policy file is refused, for the reason that stands on standard error."""
+
+
+@dataclass
+class Role:
+    """`within` are the names of all roles that it is in."""
+
+    within: set
+    bypass: bool
+
+
+@dataclass
+class Policy:
+    """A policy of one table; a rule that it doesn't have is None."""
+
+    name: str
+    table: str
+    is_restrictive: bool
+    action: str
+    to: list
+    using: object
+    check: object
+
+    def applies(self, role, action):
+        return self.action in ("all", action) and any(name == "public" or name in role.within for name in self.to)
+
+
+@dataclass
+class Policies:
+    """`secured` are the names of the tables with row security."""
+
+    roles: dict = field(default_factory=dict)
+    secured: set = field(default_factory=set)
+    policies: list = field(default_factory=list)
+
+
+def depth_of(value):
+    """How deep arrays stand in one another, also in a table's. (Those of sections count here and not in the program: no case
+    comes near the limit there.)"""
+    parts = value.values() if isinstance(value, dict) else value if isinstance(value, list) else ()
+    return isinstance(value, list) + max(map(depth_of, parts), default=0)
+
+
+def check_width(value):
+    """TOML 1.1, integers: those of 64 bits are read, and others are a fault."""
+    if isinstance(value, dict):
+        value = list(value.values())
+    if isinstance(value, list):
+        for part in value:
+            check_width(part)
+    elif isinstance(value, int) and not isinstance(value, bool) and not -(1 << 63) <= value < 1 << 63:
+        raise PolicyFault("toml")
+
+
+def document_of(data):
+    """The document of a file's bytes, as dicts and lists."""
+    try:
+        document = tomllib.loads(data.removeprefix(MARK).decode("utf-8"))
+        if depth_of(document) > MOST_DEPTH:
+            raise PolicyFault("toml")
+    except (ValueError, RecursionError):
+        # No UTF-8 and no TOML are such errors, and a number of more digits than Python reads.
+        raise PolicyFault("toml") from None
+    check_width(document)
+    return document
+
+
+def is_of(kind, value):
+    if kind == TEXTS:
+        return isinstance(value, list) and all(isinstance(text, str) for text in value)
+    return isinstance(value, str if kind == TEXT else bool)
+
+
+def entry_of(keys, given):
+    """An entry with a value for each of its keys."""
+    if not isinstance(given, dict) or not given.keys() <= keys.keys():
+        raise PolicyFault("shape")
+    entry = {}
+    for name, (kind, absent) in keys.items():
+        if name in given and not is_of(kind, given[name]) or name not in given and absent is REQUIRED:
+            raise PolicyFault("shape")
+        entry[name] = given.get(name, absent)
+    return entry
+
+
+def tree_of(text):
+    try:
+        return None if text is None else rule_of(text)
+    except NoRule:
+        raise PolicyFault("shape") from None
+
+
+def check_policy_shape(entry):
+    """What only some policies have: the rules by the action. Both become trees."""
+    fits = entry["kind"] in ("permissive", "restrictive") and entry["for"] in ACTIONS
+    fits = fits and 1 <= len(entry["name"].encode()) <= MOST_NAME_BYTES and entry["name"] not in NO_POLICY_NAMES
+    fits = fits and (entry["using"] is None) == (entry["for"] == "insert")
+    fits = fits and (entry["check"] is None if entry["for"] in ("select", "delete") else True)
+    fits = fits and (entry["check"] is not None if entry["for"] == "insert" else True)
+    if not fits:
+        raise PolicyFault("shape")
+    entry["using"], entry["check"] = tree_of(entry["using"]), tree_of(entry["check"])
+
+
+def arrays_of(document):
+    """The entries of the three arrays, of the right shape."""
+    if not document.keys() <= ARRAYS.keys():
+        raise PolicyFault("shape")
+    arrays = {}
+    for name, keys in ARRAYS.items():
+        given = document.get(name, [])
+        if not isinstance(given, list):
+            raise PolicyFault("shape")
+        arrays[name] = [entry_of(keys, entry) for entry in given]
+    if not all(is_name(role["name"]) and role["name"] != "public" for role in arrays["role"]):
+        raise PolicyFault("shape")
+    for entry in arrays["policy"]:
+        check_policy_shape(entry)
+    return arrays
+
+
+def rules_in(entry):
+    return [rule for rule in (entry["using"], entry["check"]) if rule is not None]
+
+
+def check_known(arrays, tables):
+    """Every name of a table, role, column or predicate is that of one; a role is a member of earlier ones alone."""
+    roles = [role["name"] for role in arrays["role"]]
+    known = all(set(role["member_of"]) <= set(roles[:place]) for place, role in enumerate(arrays["role"]))
+    known = known and all(entry["name"] in tables for entry in arrays["table"])
+    known = known and all(entry["table"] in tables and {*entry["to"]} <= {"public", *roles} for entry in arrays["policy"])
+    if not known:
+        raise PolicyFault("unknown-name")
+    try:
+        for entry in arrays["policy"]:
+            for rule in rules_in(entry):
+                check_names(rule, tables[entry["table"]].columns)
+    except UnknownName:
+        raise PolicyFault("unknown-name") from None
+
+
+def check_rules(arrays, tables):
+    """All types come before the first rule's totality."""
+    rules = [(rule, tables[entry["table"]].columns) for entry in arrays["policy"] for rule in rules_in(entry)]
+    if not all(is_truth(*rule) for rule in rules):
+        raise PolicyFault("rule-type")
+    if not all(is_total(rule) for rule, _ in rules):
+        raise PolicyFault("rule-not-total")
+
+
+def roles_of(entries):
+    """PostgreSQL, role membership: along any chain; bypassing isn't inherited."""
+    roles = {}
+    for entry in entries:
+        within = {entry["name"]}.union(*(roles[name].within for name in entry["member_of"]))
+        roles[entry["name"]] = Role(within, entry["bypass"])
+    return roles
+
+
+def policy_of(entry):
+    check = entry["using"] if entry["check"] is None and entry["for"] == "all" else entry["check"]
+    is_restrictive = entry["kind"] == "restrictive"
+    return Policy(entry["name"], entry["table"], is_restrictive, entry["for"], entry["to"], entry["using"], check)
+
+
+def policies_of(data, tables):
+    """The policies of a file's bytes, over the tables by name. The kinds of faults come in the order of these steps."""
+    if len(data) > MOST_BYTES:
+        raise PolicyFault("shape")
+    arrays = arrays_of(document_of(data))
+    check_known(arrays, tables)
+    for entries in arrays.values():
+        if max(Counter(entry["name"] for entry in entries).values(), default=0) > 1:
+            raise PolicyFault("duplicate")
+    check_rules(arrays, tables)
+    secured = {entry["name"] for entry in arrays["table"] if entry["row_security"]}
+    return Policies(roles_of(arrays["role"]), secured, [policy_of(entry) for entry in arrays["policy"]])
+
+
+def read_policies(word, tables):
+    try:
+        with open(word, "rb") as file:
+            data = file.read(MOST_BYTES + 1)
+    except OSError:
+        raise PolicyFault("read") from None
+    return policies_of(data, tables)
+
+
+def passes(policies, name, action, rule_for, table, row, user):
+    """PostgreSQL, CREATE POLICY: one permissive policy that applies admits a row, and one restrictive one forbids it."""
+    found = [policy for policy in policies.policies if policy.table == name and policy.applies(policies.roles[user], action)]
+    is_true = {True: [], False: []}
+    for policy in found:
+        is_true[policy.is_restrictive].append(holds(rule_for(policy), table, row, user))
+    return any(is_true[False]) and all(is_true[True])
+
+
+def is_open(policies, name, user):
+    return name not in policies.secured or policies.roles[user].bypass
+
+
+def is_visible(policies, name, table, row, user):
+    return is_open(policies, name, user) or passes(policies, name, "select", lambda policy: policy.using, table, row, user)
+
+
+def as_seen(policies, tables, user):
+    """PostgreSQL, row security policies: the tables without the rows that the role may not see."""
+    return {
+        name: type(table)(table.columns, [row for row in table.rows if is_visible(policies, name, table, row, user)])
+        for name, table in tables.items()
+    }

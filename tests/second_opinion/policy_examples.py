@@ -1,0 +1,218 @@
+"""Table files, policy files and roles whose answers are known beforehand, over the tables of a small company.
+
+They hold for this reading as well as for the program: a reading that answers one of them otherwise compares nothing.
+"""
+
+from policies import as_seen, policies_of
+from policy_files import (
+    NO_COLUMNS, NO_PREDICATES, NO_RULES, NO_TOML, NO_TOTALS, NO_TRUTHS, TOTALS_AT_THE_EDGE, misread_faults, reason,
+)
+from tables import MARK, TableFault, table_of
+
+EMPLOYEES = b"""id:int,name:string,dept:int,boss:int?,salary:int,year:int
+1,ann,10,,500,2000
+2,bob,10,1,300,1999
+3,cyd,20,1,400,1996
+4,dan,30,2,300,1900
+"""
+DEPTS = b"id:int,title:string\n10,Sales\n20,Labs\n40,Void\n"
+MARKS = b"k:int[1..9],ok:bool\n3,true\n"
+FILES = {"employees.csv": EMPLOYEES, "depts.csv": DEPTS, "marks.csv": MARKS}
+
+ROLES = 'role = [{name = "dan"}, {name = "eve"}, {name = "root", bypass = true}]\n'
+MORE_ROLES = 'role = [{name = "dan"}, {name = "eve"}, {name = "root", bypass = true}, {name = "kim", member_of = ["dan"]},' \
+    ' {name = "aid", member_of = ["root"]}, {name = "lee", member_of = ["eve", "kim"]}]\n'
+SECURED = 'table = [{name = "employees", row_security = true}]\n'
+DEPT10 = '[[policy]]\nname = "dept10"\ntable = "employees"\nto = ["dan"]\nusing = "row.dept == 10"\n'
+OWN = '[[policy]]\nname = "own"\ntable = "employees"\nusing = "row.name == user"\n'
+RECENT = '[[policy]]\nname = "recent"\ntable = "employees"\nkind = "restrictive"\nusing = "row.year >= 1950"\n'
+COMPANY = ROLES + SECURED + DEPT10 + OWN + RECENT
+WITH_MORE = MORE_ROLES + SECURED + DEPT10 + OWN + RECENT
+
+
+def policy(title, rule, **more):
+    """A policy of the employees with one rule; a key whose text is empty is left out."""
+    lines = {"name": f'"{title}"', "table": '"employees"', "using": f"'{rule}'"} | more
+    return "[[policy]]\n" + "".join(f"{key} = {value}\n" for key, value in lines.items() if value)
+
+
+ALL = ["ann", "bob", "cyd", "dan"]
+RESTRICTIVE, SELECT = '"restrictive"', '"select"'
+# Of each policy file and role the names of the employees that are seen.
+SEEN = [
+    (COMPANY, "dan", ["ann", "bob"]), (COMPANY, "eve", []), (COMPANY, "root", ALL),
+    (WITH_MORE, "kim", ["ann", "bob"]), (WITH_MORE, "aid", []), (WITH_MORE, "root", ALL), (WITH_MORE, "lee", ["ann", "bob"]),
+    (ROLES, "dan", ALL), (ROLES + DEPT10 + RECENT, "eve", ALL), (ROLES + SECURED, "dan", []), (ROLES + SECURED, "root", ALL),
+    (ROLES + SECURED.replace("true", "false") + DEPT10, "eve", ALL), (ROLES + SECURED + RECENT, "dan", []),
+    (ROLES + SECURED + OWN, "dan", ["dan"]), (ROLES + SECURED + OWN, "eve", []), (ROLES + SECURED + DEPT10, "eve", []),
+    (ROLES + SECURED + OWN + DEPT10, "dan", ["ann", "bob", "dan"]),
+    (ROLES + SECURED + policy("p", "true", to="[]"), "dan", []),
+    (ROLES + SECURED + policy("p", "true", to='["public"]'), "dan", ALL),
+    (ROLES + SECURED + policy("p", "true", to='["eve", "eve", "public"]'), "dan", ALL),
+    (ROLES + SECURED + policy("p", "true") + policy("q", "row.id != 2", kind=RESTRICTIVE, to="[]"), "dan", ALL),
+    (ROLES + SECURED + policy("p", "true") + policy("q", "row.id != 2", kind=RESTRICTIVE, to='["eve"]'), "dan", ALL),
+    (ROLES + SECURED + policy("p", "true") + policy("q", "row.id != 2", kind=RESTRICTIVE, to='["eve"]'), "eve",
+    ["ann", "cyd", "dan"]),
+    (ROLES + SECURED + policy("p", "true") + policy("q", "row.id > 1", kind=RESTRICTIVE) + policy("r", "row.id < 4",
+    kind=RESTRICTIVE),
+     "dan", ["bob", "cyd"]),
+    (ROLES + SECURED + policy("p", "row.id == 1") + policy("q", "row.id == 4"), "dan", ["ann", "dan"]),
+    (ROLES + SECURED + policy("p", "true", **{"for": SELECT}), "dan", ALL),
+    (ROLES + SECURED + policy("p", "true", **{"for": '"delete"'}), "dan", []),
+    (ROLES + SECURED + policy("p", "", using="", check="'true'", **{"for": '"insert"'}), "dan", []),
+    (ROLES + SECURED + OWN + policy("q", "false", kind=RESTRICTIVE, **{"for": '"delete"'}), "dan", ["dan"]),
+    (ROLES + SECURED + policy("p", "row.id == 1", check="'row.id == 2'"), "dan", ["ann"]),
+    (ROLES + SECURED + policy("p", "row.boss == null"), "dan", ["ann"]),
+    (ROLES + SECURED + policy("p", "row.boss < 2"), "dan", ["bob", "cyd"]),
+    (ROLES + SECURED + policy("p", "!(row.boss < 2)"), "dan", ["ann", "dan"]),
+    (ROLES + SECURED + policy("p", "(row.boss ?? 0) % 2 == 0"), "dan", ["ann", "dan"]),
+    (ROLES + SECURED + policy("p", "row.boss.HasValue && row.boss / 2 == 0"), "dan", ["bob", "cyd"]),
+    (ROLES + SECURED + policy("p", '(row.name ?? "").Contains("n")'), "dan", ["ann", "dan"]),
+    (ROLES + SECURED + policy("p", 'user.StartsWith(row.id == 3 ? "d" : "e")'), "dan", ["cyd"]),
+    (ROLES + SECURED + policy("p", "row.id == 1 ? true : row.id == 4"), "dan", ["ann", "dan"]),
+    (ROLES + SECURED + policy("p", "row.name == user") + policy("q", "user == \"kim\""), "eve", []),
+    (WITH_MORE + policy("q", "user == \"kim\""), "kim", ["ann", "bob", "cyd"]),
+    (WITH_MORE + policy("q", "user == \"dan\"", to='["dan"]'), "kim", ["ann", "bob"]),
+    ("\ufeff" + COMPANY.replace("\n", "\r\n"), "dan", ["ann", "bob"]),
+    (ROLES + SECURED + "policy = []\n", "dan", []), (ROLES + "table = []\n", "dan", ALL),
+]
+
+SHAPES = [
+    "grant = []\n", "withhold = []\n", '[[grant]]\nname = "all"\nrights = []\n', "roles = []\n", "x = 1\n", "[role]\n",
+    "role = 1\n",
+    'role = "dan"\n', "role = [1]\n", 'role = ["dan"]\n', 'role = [{name = "dan"}, "eve"]\n', 'role = {name = "dan"}\n',
+    '[policy]\nname = "p"\n',
+    "[[role]]\n", 'role = [{nme = "dan"}]\n', 'role = [{name = "dan", nme = 1}]\n', 'role = [{name = 1}]\n',
+    'role = [{name = 1979-05-27}]\n',
+    'role = [{name = "dan", bypass = "true"}]\n', 'role = [{name = "dan", bypass = 1}]\n',
+    'role = [{name = "dan", member_of = "eve"}]\n',
+    'role = [{name = "dan", member_of = [1]}]\n', 'role = [{name = "dan", member_of = [["eve"]]}]\n',
+    'role = [{name = "public"}]\n',
+    'role = [{name = ""}]\n', 'role = [{name = "a b"}]\n', 'role = [{name = "from"}]\n', 'role = [{name = "1a"}]\n',
+    'role.name = "dan"\n',
+    'role = [{name.first = "dan"}]\n', 'role = [{name = "dan"}]\n[table]\n', 'table = [{name = "employees"}]\n',
+    "table = [{row_security = true}]\n", 'table = [{name = "employees", row_security = 1}]\n',
+    'table = [{name = "employees", row_security = true, force = true}]\n', policy("p", "true", name=""),
+    policy("p", "true", table=""),
+    policy("p", "", using=""), policy("", "true"), policy("no-grant", "true"), policy("default-deny", "true"),
+    policy("x" * 65, "true"),
+    policy("é" * 33, "true"), policy("p", "true", kind='"Permissive"'), policy("p", "true", kind='""'),
+    policy("p", "true", kind="true"),
+    policy("p", "true", **{"for": '"update"'}), policy("p", "true", **{"for": "[]"}), policy("p", "true", to='"public"'),
+    policy("p", "true", to="[true]"), policy("p", "true", check="'true'", **{"for": SELECT}),
+    policy("p", "true", rights="[]"),
+    policy("p", "true", check="'true'", **{"for": '"delete"'}), policy("p", "true", check="'true'", **{"for": '"insert"'}),
+    policy("p", "", using="", **{"for": '"insert"'}), policy("p", "", using="", check="'true'", **{"for": '"delete"'}),
+    policy("p", "", using="", check="'true'"), policy("p", "true", using="true"), policy("p", "row.id %"),
+    policy("p", "true", check="''"),
+    policy("p", "row.none") + policy("q", "true", kind='"x"'), ROLES.replace("eve", "dan") + policy("p", "("),
+    "x = 9223372036854775807\n",
+    "x = " + "[" * 80 + "]" * 80 + "\n", "#" * 1_048_577, "\x00" * 1_048_577,
+]
+UNKNOWN = [
+    'table = [{name = "none", row_security = true}]\n', 'table = [{name = "", row_security = true}]\n',
+    policy("p", "true", table='"none"'),
+    policy("p", "true", table='"a b"'), policy("p", "true", to='["nobody"]'), policy("p", "true", to='[""]'),
+    policy("p", "true", to='["public", "Dan"]'), ROLES + policy("p", "true", to='["dan", "kim"]'),
+    policy("p", "true", table='"Employees"'),
+    'role = [{name = "dan", member_of = ["dan"]}]\n', 'role = [{name = "dan", member_of = ["eve"]}, {name = "eve"}]\n',
+    'role = [{name = "dan", member_of = ["public"]}]\n', 'role = [{name = "dan", member_of = [""]}]\n',
+    policy("p", "row.x == 1"),
+    policy("p", "row.title == user"), policy("p", "true", check="'row.none'"), policy("p", "true || row.none"),
+    policy("p", "row.Id == 1"),
+    policy("p", "1 + row.none") + policy("p", "1"), ROLES.replace("eve", "dan") + policy("p", "row.none"),
+    policy("p", "1 + 1 == 2") + policy("q", "1") + policy("r", "row.none"),
+]
+DUPLICATES = [
+    ROLES.replace("eve", "dan"), 'role = [{name = "dan"}, {name = "dan", member_of = ["dan"]}]\n',
+    'table = [{name = "employees", row_security = true}, {name = "employees", row_security = true}]\n',
+    policy("p", "true") * 2,
+    policy("p", "true") + policy("p", "true", table='"depts"'), policy("p", "1") + policy("p", "true"),
+    policy("p", "1 + 1 == 2") + policy("q", "1") + policy("p", "true"),
+]
+TYPES = [
+    policy("p", "row.id"), policy("p", "row.name"), policy("p", "row.boss == row.name"), policy("p", "employees.Any()"),
+    policy("p", "depts == null"), policy("p", "row.boss"), policy("p", "true", check="'row.id'"),
+    policy("p", "row.id() == 1"),
+    policy("p", "1 + 1 == 2") + policy("q", "row.id"), policy("p", "row.id ?? 1 == 1"), policy("p", "row.name < user"),
+    policy("p", "new { row.id }.id == 1"), policy("p", "(from e in employees select e.id) == null"),
+]
+NOT_TOTAL = [
+    policy("p", "row.id + 1 > 0"), policy("p", "row.id / -2 == 0"), policy("p", "row.id % 0 == 0"),
+    policy("p", "row.id / row.dept == 0"),
+    policy("p", "row.boss.Value == 1"), policy("p", "row.name.Length > 1"), policy("p", "row == null"),
+    policy("p", "-row.id < 0"),
+    policy("p", 'row.name.Contains("a")'), policy("p", "user.Contains(row.name)"),
+    policy("p", "(user ?? row.name).Contains(user)"),
+    policy("p", "user.Contains(row.id == 1 ? row.name : user)"), policy("p", "row.name + user == user"),
+    policy("p", "-(-2147483648) == row.id"),
+    policy("p", "true") + policy("q", "true", check="'row.id * 1 == 1'"), policy("p", "(true ? row : row).id == 1"),
+    policy("p", "row.boss.HasValue && row.boss.Value == 1"), policy("p", "row.id / (1) / (row.id / 1) == 0"),
+]
+TOMLS = [piece for piece in NO_TOML if piece != MARK]
+TOMLS += ["grant = [\n", ROLES + ROLES, "[[role]]\n[role]\n", "\ufeff\ufeff" + COMPANY, COMPANY[:-2], COMPANY + '"',
+"#" * 1_048_574 + "\n\x00"]
+
+WORDS = {
+    "toml": TOMLS, "shape": [*SHAPES, *(policy("p", rule, using=f"'''{rule}'''") for rule in NO_RULES)],
+    "unknown-name": [*UNKNOWN, *(policy("p", rule) for rule in NO_COLUMNS + NO_PREDICATES)], "duplicate": DUPLICATES,
+    "rule-type": [*TYPES, *(policy("p", rule) for rule in NO_TRUTHS)],
+    "rule-not-total": [*NOT_TOTAL, *(policy("p", rule, using=f"'''{rule}'''") for rule in NO_TOTALS)],
+}
+ACCEPTED = [COMPANY, WITH_MORE, ""] + [policy("p", rule, using=f"'''\n{rule}'''") for rule in TOTALS_AT_THE_EDGE] + [
+    policy("x" * 64, "true"), policy("é" * 32, "true"), policy(" ", "true"), "#" * 1_048_576, "\ufeff", "role = []\n" + OWN,
+    policy("select", "true"), policy("p", "true", table='"marks"'),
+    ROLES + policy("p", "true", to='["dan", "dan", "public"]'),
+    'role = [{name = "Public"}, {name = "reader", member_of = ["Public", "Public"]}]\n', "[[role]]\nname = 'é'\n",
+]
+
+# The first fault of each table file.
+TABLE_WORDS = {
+    b"": "header", b"id:int,id:int\n": "duplicate-name", b"id:int\nx\n": "cell 2 1", b"id:int\n1,2\n": "csv",
+    b"id:int,id:int,x\n": "duplicate-name", b"id:int,x,id:int\n": "header", b"id:int?[1..2]\n": "header",
+    b"id:int[2..1]\n": "header",
+    b"id:int[1 ..2]\n": "header", b"id:int[+1..2]\n": "header", b"id:int[1..2147483648]\n": "header", b"id:bool?\n": "header",
+    b"id:text\n": "header", b"id\n": "header", b"id:\n": "header", b"id: int\n": "header", b"k:int[1..9]\n10\n": "cell 2 1",
+    b"k:int[1..9]\n1\n0\n": "cell 3 1", b"k:int[-1..1]\n-2\n": "cell 2 1", b"k:int\n 1\n": "cell 2 1",
+    b"k:int\n\\N\n": "cell 2 1",
+    b'k:int\n""\n': "cell 2 1", b"k:int?\nnull\n": "cell 2 1", b"k:int?\n2147483648\n": "cell 2 1",
+    b"b:bool\ntRUE\n": "cell 2 1",
+    b"b:bool\n1\n": "cell 2 1", b"b:bool\n\\N\n": "cell 2 1", b'b:bool\n""\n': "cell 2 1", b"s:string\n\xff\n": "cell 2 1",
+    b"s:string,k:int\na\xff,x\n": "cell 2 1", b"k:int,s:string\n1,\xff,\n": "csv", b"s\xff:string\n": "header",
+    b",".join([b"c:int"] * 101) + b"\n": "too-large", b",".join([b"\xff"] * 101): "too-large",
+    b"s:string\n" + b"," * 101: "csv",
+}
+# The cells of the one column c of each table file.
+TABLE_CELLS = {
+    b"c:int?\n\\N\n7\n": [None, 7], b"c:bool\nTRUE\nf\n": [True, False],
+    b"c:bool\ntrue\nTrue\nt\nfalse\nFalse\nFALSE\n": [True] * 3 + [False] * 3,
+    b'c:string\n\\N\n""\n\n"\\N"\n\\n\n\\\\N\n': [None, "", None, "\\n", "\\\\N"],
+    b'c:int?\n"\\N"\n""\n"7"\n-0\n': [None, None, 7, 0],
+    b"c:int[-2..007]\n-2\n7\n-0002\n": [-2, 7, -2], b"c:int[5..5]\n5\n": [5],
+    b"c:int[-2147483648..2147483647]\n-2147483648\n": [-2147483648],
+    b"\xef\xbb\xbf\xef\xbb\xbfc:string\n\xef\xbb\xbf\n a \n": ["\ufeff", " a "],
+    b'c:string\n"a,b\n""c"" "d\n': ['a,b\n"c" d'],
+    'c:string\né\n😀\n\x00\n"\r\n"\n'.encode(): ["é", "😀", "\0", "\r\n"], b"c:int?\n": [],
+}
+
+
+def bytes_of(text):
+    return text if isinstance(text, bytes) else text.encode()
+
+
+def cells_or_reason(data):
+    try:
+        return [row["c"] for row in table_of(data).rows]
+    except TableFault as fault:
+        return str(fault)
+
+
+def misread_files():
+    """The files with known answers that this reading answers otherwise."""
+    tables = {path.removesuffix(".csv"): table_of(data) for path, data in FILES.items()}
+    wrong = [text for text, role, names in SEEN if names != [
+        row["name"] for row in as_seen(policies_of(text.encode(), tables), tables, role)["employees"].rows]]
+    wrong += [text for word, texts in WORDS.items() for text in texts if reason(bytes_of(text), tables) != word]
+    wrong += [text for text in ACCEPTED if reason(text.encode(), tables) is not None]
+    wrong += [data for data, known in (TABLE_WORDS | TABLE_CELLS).items() if cells_or_reason(data) != known]
+    return wrong + misread_faults()
