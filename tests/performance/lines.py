@@ -1,19 +1,15 @@
-"""Long lines of each kind: 16 lines of 64 KiB against 8 of them, and against 16 of half their length."""
-
-from dataclasses import dataclass
+"""Long lines of each kind: four lines of 64 KiB against two of them, and against four of half their length."""
 
 import measuring
 from measuring import Failure
 
-# A line with its line feed. Sixteen of them are the longest script.
+# A line with its line feed, of the most bytes that a line may have.
 LINE = 65_536
-LINES = 16
-LEAST_ROUNDS = 3
-MOST_ROUNDS = 60
-MOST_TIMES = 2.3
-# The tree of a longer line leaves the processor's caches. Where time grew with the square of the length this would be 4.
-MOST_TIMES_OF_LENGTH = 3.0
-MOST_SECONDS = 0.05
+LINES = 4
+# Where the work grew with the square of the length, this would be 4.
+MOST_TIMES = 2.2
+# Of a run of one line, the program's start among them. Where these run at their slowest, they take some 50 ms.
+MOST_INSTRUCTIONS = 150_000_000
 
 SYNTAX = '{"error":"syntax"}'
 TYPE = '{"error":"type"}'
@@ -115,59 +111,45 @@ KINDS = [
 ]
 
 
-@dataclass
-class Script:
-    """A script of equal lines, and what it took."""
-
-    name: str
-    time: float = None
-
-    def write(self, line, size, count, reply):
-        text = line(size - 1)
-        blanks = size - 1 - len(text.encode())
-        if not 0 <= blanks < size // 8:
-            raise ValueError(f"a line of {len(text.encode())} bytes, which has to have nearly {size}")
-        with open(self.name + ".script", "wb") as script:
-            script.write((text.encode() + b" " * blanks + b"\n") * count)
-        with open(self.name + ".reply", "w") as replies:
-            replies.write(((reply(text) if callable(reply) else reply) + "\n") * count)
-
-    def measure(self, program):
-        time, _ = measuring.run(program, "t.csv", self.name + ".script", self.name + ".reply")
-        if time <= 0:
-            raise Failure(f"{self.name}: {time} s were measured, which cannot be")
-        self.time = time if self.time is None else min(self.time, time)
+def write(name, line, size, count, reply):
+    """Writes a script of equal lines, and the replies to it."""
+    text = line(size - 1)
+    blanks = size - 1 - len(text.encode())
+    if not 0 <= blanks < size // 8:
+        raise ValueError(f"a line of {len(text.encode())} bytes, which has to have nearly {size}")
+    with open(name + ".script", "wb") as script:
+        script.write((text.encode() + b" " * blanks + b"\n") * count)
+    with open(name + ".reply", "w") as replies:
+        replies.write(((reply(text) if callable(reply) else reply) + "\n") * count)
 
 
-def scripts_of(line, reply):
-    """One line, eight lines, sixteen lines, and sixteen lines of half the length."""
-    kinds = {"one": (LINE, 1), "eight": (LINE, LINES // 2), "sixteen": (LINE, LINES), "short": (LINE // 2, LINES)}
-    scripts = {name: Script(name) for name in kinds}
-    for name, (size, count) in kinds.items():
-        scripts[name].write(line, size, count, reply)
-    return scripts
+# The scripts of a kind: the size of a line, and how many there are.
+SCRIPTS = {"one": (LINE, 1), "half": (LINE, LINES // 2), "whole": (LINE, LINES), "short": (LINE // 2, LINES)}
 
 
-def is_met(one, eight, sixteen, short):
-    in_time = one.time <= MOST_SECONDS and sixteen.time <= MOST_TIMES * eight.time
-    return in_time and sixteen.time <= MOST_TIMES_OF_LENGTH * short.time
+def count_kind(program, line, reply):
+    """The instructions of each script of a kind."""
+    counts = {}
+    for name, (size, count) in SCRIPTS.items():
+        write(name, line, size, count, reply)
+        counts[name] = measuring.count(program, "t.csv", name + ".script", name + ".reply")
+    return counts
+
+
+def is_met(one, half, whole, short):
+    return one <= MOST_INSTRUCTIONS and whole <= MOST_TIMES * half and whole <= MOST_TIMES * short
 
 
 def measure_kind(program, kind, line, reply):
     """Measures a kind of lines, prints its figures, and tells whether the bounds are met."""
-    scripts = scripts_of(line, reply)
-    rounds = 0
-    while rounds < LEAST_ROUNDS or (not is_met(**scripts) and rounds < MOST_ROUNDS):
-        for script in scripts.values():
-            try:
-                script.measure(program)
-            except Failure as failure:
-                raise Failure(f"{kind}: {failure}") from failure
-        rounds += 1
-    one, eight, sixteen, short = (scripts[name].time * 1000 for name in ("one", "eight", "sixteen", "short"))
-    print(f"lines: {kind}: 1 in {one:.1f} ms, 8 in {eight:.1f} ms, 16 in {sixteen:.1f} ms ({sixteen / eight:.2f} times),"
-          f" 16 of half the length in {short:.1f} ms ({sixteen / short:.2f} times)", flush=True)
-    return is_met(**scripts)
+    try:
+        counts = count_kind(program, line, reply)
+    except Failure as failure:
+        raise Failure(f"{kind}: {failure}") from failure
+    of_count, of_length = counts["whole"] / counts["half"], counts["whole"] / counts["short"]
+    print(f"lines: {kind}: {counts['one'] / 1e6:.1f} million instructions; twice the lines {of_count:.2f} times, twice the length"
+          f" {of_length:.2f} times", flush=True)
+    return is_met(**counts)
 
 
 def compare(program):
@@ -176,5 +158,5 @@ def compare(program):
         table.write("c:int\n1\n2\n")
     slow = [kind for kind, line, reply in KINDS if not measure_kind(program, kind, line, reply)]
     if slow:
-        raise Failure(f"a line takes more than {MOST_SECONDS * 1000:.0f} ms, or twice the lines more than {MOST_TIMES} times the"
-                      f" time, or twice their length more than {MOST_TIMES_OF_LENGTH} times: {', '.join(slow)}")
+        raise Failure(f"a line takes more than {MOST_INSTRUCTIONS / 1e6:.0f} million instructions, or twice the lines or twice their"
+                      f" length more than {MOST_TIMES} times as many: {', '.join(slow)}")

@@ -1,30 +1,30 @@
 """Lookups, groups and arrangements of 300,000 keys, by the program of crates/lq_lookup_speed.
 
-A figure is the processor time of a run that does the work, less that of one that only makes the keys, and for `find` less that of
-one that only builds the lookup; each the least of several runs in turn. Memory is what building adds to the peak, for each key.
+A figure is the instructions of a run that does the work, less those of one that only makes the keys, and for `find` less those of one
+that only builds the lookup; and the processor time likewise, the least of a few runs. Memory is what building adds to the peak, for
+each key.
 """
 
 import os
 import subprocess
 import sys
 
+import measuring
 from measuring import Failure
 
 KEYS = 300_000
-LEAST_ROUNDS = 5
-MOST_ROUNDS = 20
-# How many times the time that is wanted a run may take, on a machine that may be slower and has other work.
-TIMES = 3
-# The subject, the work, the work that is taken off, what it is, and the milliseconds that are wanted.
+RUNS = 3
+# The subject, the work, the work that is taken off, what it is, the milliseconds that are wanted, and the millions of instructions
+# that it takes at most.
 WORK = [
-    ("ints", "build", "make", "build a lookup of different ints", 60),
-    ("ints", "find", "build", "find each of them", 40),
-    ("texts", "build", "make", "build a lookup of different texts of 12 bytes", 120),
-    ("texts", "find", "build", "find each of them", 80),
-    ("groups", "build", "make", "groups of 1,000 int keys", 25),
-    ("int_order", "build", "make", "arrangement by one int key", 80),
-    ("text_order", "build", "make", "arrangement by one text key", 200),
-    ("two_order", "build", "make", "arrangement by two int keys", 120),
+    ("ints", "build", "make", "build a lookup of different ints", 60, 115),
+    ("ints", "find", "build", "find each of them", 40, 55),
+    ("texts", "build", "make", "build a lookup of different texts of 12 bytes", 120, 260),
+    ("texts", "find", "build", "find each of them", 80, 75),
+    ("groups", "build", "make", "groups of 1,000 int keys", 25, 90),
+    ("int_order", "build", "make", "arrangement by one int key", 80, 200),
+    ("text_order", "build", "make", "arrangement by one text key", 200, 530),
+    ("two_order", "build", "make", "arrangement by two int keys", 120, 400),
 ]
 # The bytes for each key over those that its copy takes: 32, and 32 more for the bytes of a text. A peak counts whole pages, and
 # what the allocator keeps at hand, so that it differs from run to run and from machine to machine.
@@ -41,32 +41,29 @@ print(used.ru_maxrss * 1024 if status == 0 else 0)
 """
 
 
-def run(program, subject, what):
-    """The processor time of one run in milliseconds."""
-    process = subprocess.Popen([program, subject, what], stdin=subprocess.DEVNULL)
+def milliseconds(words):
+    """The processor time of one run."""
+    process = subprocess.Popen(words, stdin=subprocess.DEVNULL)
     _, status, used = os.wait4(process.pid, 0)
     process.returncode = os.waitstatus_to_exitcode(status)
     if process.returncode != 0:
-        raise Failure(f"{subject} {what}: status {process.returncode}")
+        raise Failure(f"{' '.join(words[1:])}: status {process.returncode}")
     return (used.ru_utime + used.ru_stime) * 1000
+
+
+def added(measure, program, subject, what, less):
+    """What the work adds to a figure of the run that does less."""
+    return measure([program, subject, what]) - measure([program, subject, less])
+
+
+def least_time(words):
+    return min(milliseconds(words) for _ in range(RUNS))
 
 
 def peak(program, subject, what):
     """The peak of memory of one run in bytes."""
     words = [sys.executable, "-E", "-S", "-c", STARTER, program, subject, what]
     return int(subprocess.run(words, stdout=subprocess.PIPE, check=True).stdout)
-
-
-def least(program, subject, what, less, most):
-    """What the work adds to the least time, with as many rounds as it takes to come below the bound."""
-    runs = {what: [], less: []}
-    for number in range(MOST_ROUNDS):
-        for work in (less, what):
-            runs[work].append(run(program, subject, work))
-        time = min(runs[what]) - min(runs[less])
-        if number + 1 >= LEAST_ROUNDS and time <= most:
-            break
-    return time
 
 
 def memory_over(program, subject):
@@ -81,11 +78,11 @@ def memory_over(program, subject):
 def compare(program):
     """Measures, prints the figures, and fails where a bound isn't met."""
     above = []
-    for subject, what, less, name, wanted in WORK:
-        most = wanted * TIMES
-        time = least(program, subject, what, less, most)
-        print(f"performance: {KEYS:,} keys, {name}: {time:.0f} ms, {wanted} wanted, at most {most}")
-        if time > most:
+    for subject, what, less, name, wanted, most in WORK:
+        time = added(least_time, program, subject, what, less)
+        count = added(measuring.count_command, program, subject, what, less) / 1e6
+        print(f"performance: {KEYS:,} keys, {name}: {time:.0f} ms, {wanted} wanted; {count:.0f} million instructions, at most {most}")
+        if not 0 < count <= most:
             above.append(name)
         if what == "build" and subject in COPY:
             memory = memory_over(program, subject)

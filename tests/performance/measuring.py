@@ -1,12 +1,21 @@
-"""One run of the program, checked and measured."""
+"""One run of a program, checked and measured."""
 
 import filecmp
 import os
+import re
+import shutil
 import subprocess
+import tempfile
 
-SECONDS = 60
+SECONDS = 600
 # The policy file, in which no table has row security.
 POLICY = "p.toml"
+# Counts the instructions that a program executes, those of the system aside: the same count whatever else the machine does.
+COUNTER = ["valgrind", "--tool=cachegrind", "--cache-sim=no", "--cachegrind-out-file=/dev/null"]
+
+
+class Failure(Exception):
+    """The program did something else than it has to."""
 
 
 def write_policy():
@@ -14,22 +23,52 @@ def write_policy():
         file.write('role = [{name = "reader"}]\n')
 
 
-class Failure(Exception):
-    """The program did something else than it has to."""
+def check_counter():
+    if shutil.which(COUNTER[0]) is None:
+        raise Failure(f"{COUNTER[0]} is not installed, by which instructions are counted")
+
+
+def ended(words, script, reply):
+    """Runs a command with the script in a file as its standard input, and returns the processor time in seconds and the peak of
+    memory in bytes. It has to end with status 0, with nothing on standard error, and with exactly the reply in a file."""
+    with open(script, "rb") as stdin, open("out", "wb") as out, open("err", "wb") as err:
+        process = subprocess.Popen(["timeout", str(SECONDS), *words], stdin=stdin, stdout=out, stderr=err)
+        _, status, used = os.wait4(process.pid, 0)
+        process.returncode = os.waitstatus_to_exitcode(status)
+    if process.returncode != 0:
+        raise Failure(f"{script}: status {process.returncode}")
+    if os.path.getsize("err") != 0:
+        raise Failure(f"{script}: something on standard error")
+    if not filecmp.cmp("out", reply, shallow=False):
+        raise Failure(f"{script}: another standard output than expected")
+    return used.ru_utime + used.ru_stime, used.ru_maxrss * 1024
+
+
+def words_of(program, table, policy):
+    return [program, "--role", "reader", "--policy", policy, table]
 
 
 def run(program, table, script, reply, policy=POLICY):
     """A run over the table file `table`, with the script, the whole expected standard output and the policies in files: its processor
-    time in seconds and its peak of memory in bytes. It has to end with status 0 and with nothing on standard error."""
-    with open(script, "rb") as stdin, open("out", "wb") as out, open("err", "wb") as err:
-        words = ["timeout", str(SECONDS), program, "--role", "reader", "--policy", policy, table]
-        process = subprocess.Popen(words, stdin=stdin, stdout=out, stderr=err)
-        _, status, used = os.wait4(process.pid, 0)
-        process.returncode = os.waitstatus_to_exitcode(status)
-    if process.returncode != 0:
-        raise Failure(f"{script} over {table}: status {process.returncode}")
-    if os.path.getsize("err") != 0:
-        raise Failure(f"{script} over {table}: something on standard error")
-    if not filecmp.cmp("out", reply, shallow=False):
-        raise Failure(f"{script} over {table}: another standard output than expected")
-    return used.ru_utime + used.ru_stime, used.ru_maxrss * 1024
+    time in seconds and its peak of memory in bytes."""
+    return ended(words_of(program, table, policy), script, reply)
+
+
+def count(program, table, script, reply, policy=POLICY):
+    """The instructions of such a run."""
+    return counted(lambda counter: ended([*counter, *words_of(program, table, policy)], script, reply))
+
+
+def count_command(words):
+    """The instructions of a command without standard input, which has to end with status 0."""
+    return counted(lambda counter: subprocess.run([*counter, *words], stdin=subprocess.DEVNULL, stdout=subprocess.DEVNULL, check=True))
+
+
+def counted(start):
+    """Has a run started behind the words that count its instructions, and returns how many there were."""
+    with tempfile.NamedTemporaryFile("r") as told:
+        start([*COUNTER, f"--log-file={told.name}"])
+        found = re.search(r"I +refs: +([\d,]+)", told.read())
+    if not found:
+        raise Failure("the instructions were not counted")
+    return int(found[1].replace(",", ""))

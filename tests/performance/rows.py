@@ -5,9 +5,8 @@ import os
 import measuring
 from measuring import Failure
 
-LEAST_ROUNDS = 5
-MOST_ROUNDS = 20
-MOST_TIMES = 2.3
+RUNS = 3
+MOST_TIMES = 2.1
 MOST_MEMORY = 20
 # The rows that are held at a time while the files are written.
 CHUNK = 10_000
@@ -20,13 +19,14 @@ class Table:
         self.file = name + ".csv"
         self.script = name + ".script"
         self.reply = name + ".reply"
-        self.time = None
-        self.peak = 0
         with open(self.script, "w") as script:
             script.write(f"run from x in {name} select x.c;\n")
         write_chunks(self.file, "c:int\n", "\n", "\n", rows)
         write_chunks(self.reply, '{"items":[', ",", "]}\n", rows)
         self.size = os.path.getsize(self.file)
+
+    def files(self):
+        return self.file, self.script, self.reply
 
 
 def write_chunks(path, head, between, end, rows):
@@ -40,34 +40,18 @@ def write_chunks(path, head, between, end, rows):
         file.write(end)
 
 
-def run(program, table):
-    return measuring.run(program, table.file, table.script, table.reply)
-
-
-def measure(program, table):
-    """One run that counts: the least time and the highest peak stay with the table."""
-    time, peak = run(program, table)
-    if time <= 0 or peak <= table.size:
-        raise Failure(f"{table.file}: {time} s and {peak} bytes were measured, which cannot be")
-    table.time = time if table.time is None else min(table.time, time)
-    table.peak = max(table.peak, peak)
-
-
 def compare(program):
     """Measures, prints the figures, and fails where a bound isn't met."""
-    run(program, Table("few", 1_000))
-    half = Table("half", 750_000)
-    whole = Table("whole", 1_500_000)
-    rounds = 0
-    while rounds < LEAST_ROUNDS or (whole.time > MOST_TIMES * half.time and rounds < MOST_ROUNDS):
-        measure(program, half)
-        measure(program, whole)
-        rounds += 1
-    times = whole.time / half.time
-    print(f"rows: {half.size} bytes in {half.time * 1000:.0f} ms, {whole.size} bytes in {whole.time * 1000:.0f} ms"
-          f" ({times:.2f} times), at most {whole.peak / 2**20:.0f} MiB ({whole.peak / whole.size:.1f} times the file);"
-          f" {rounds} runs each")
+    few, half, whole = Table("few", 1_000), Table("half", 750_000), Table("whole", 1_500_000)
+    counts = [measuring.count(program, *it.files()) for it in (few, half, whole)]
+    times = (counts[2] - counts[0]) / (counts[1] - counts[0])
+    runs = [measuring.run(program, *whole.files()) for _ in range(RUNS)]
+    seconds, peak = min(time for time, _ in runs), max(memory for _, memory in runs)
+    if seconds <= 0 or peak <= whole.size:
+        raise Failure(f"{whole.file}: {seconds} s and {peak} bytes were measured, which cannot be")
+    print(f"rows: {half.size} bytes in {counts[1] / 1e6:.0f} million instructions, {whole.size} bytes in {counts[2] / 1e6:.0f}"
+          f" ({times:.2f} times), {seconds * 1000:.0f} ms, at most {peak / 2**20:.0f} MiB ({peak / whole.size:.1f} times the file)")
     if times > MOST_TIMES:
-        raise Failure(f"twice the rows took more than {MOST_TIMES} times the time")
-    if whole.peak > MOST_MEMORY * whole.size:
+        raise Failure(f"twice the rows took more than {MOST_TIMES} times the instructions")
+    if peak > MOST_MEMORY * whole.size:
         raise Failure(f"the peak of memory is over {MOST_MEMORY} times the file")

@@ -3,19 +3,21 @@ evaluates conditions on them."""
 
 import os
 import shutil
-import subprocess
 
 import measuring
 from measuring import Failure
 
 ROWS = 300_000
-LEAST_ROUNDS = 5
-MOST_ROUNDS = 20
-# Of the time that `sqlite3` takes to import the same file into a memory database.
-MOST_OF_SQLITE = 0.4
+RUNS = 3
+# Of the instructions that `sqlite3` takes to import the same file into a memory database.
+MOST_OF_SQLITE = 0.3
 MOST_MEMORY = 10
-# Of the scan of a table without row security, loading left out.
-MOST_OF_OPEN = 2.0
+# Of the instructions of a scan of a table without row security, loading left out.
+MOST_OF_OPEN = 2.2
+# Millions of instructions.
+MOST_OF_LOADING = 1_000
+# Instructions a row, without row security.
+MOST_OF_SCAN = 700
 HEADER = "id:int,name:string,dept:int[0..999],boss:int?,salary:int,ok:bool"
 SCANS = 4
 CONDITIONS = ("false", "e.id < 0", "e.id >= 0 && e.dept >= 0 && e.salary < 0", 'e.name.StartsWith("x")')
@@ -62,76 +64,64 @@ def write_files():
     write("scan.reply", ('{"items":[' + items + "]}\n") * SCANS)
 
 
-def least(times, rounds, bound):
-    """The least times of what is measured in turn, more often while the bound isn't met."""
-    best = [None] * len(times)
-    for turn in range(MOST_ROUNDS):
-        for place, measure in enumerate(times):
-            time = measure()
-            best[place] = time if best[place] is None else min(best[place], time)
-        if turn + 1 >= rounds and bound(*best):
-            break
-    return best
+IMPORT = ["sqlite3", ":memory:", ".mode csv", ".import staff.csv staff"]
 
 
-def import_time():
-    """The processor time of `sqlite3`'s import."""
-    before = os.times()
-    subprocess.run(["sqlite3", ":memory:", ".mode csv", ".import staff.csv staff"], check=True, stdout=subprocess.DEVNULL)
-    after = os.times()
-    return after.children_user + after.children_system - before.children_user - before.children_system
+def files(name):
+    return "staff.csv", f"{name}.script", f"{name}.reply"
 
 
 def compare_loading(program):
-    peak = 0
-
-    def load_time():
-        nonlocal peak
-        time, memory = measuring.run(program, "staff.csv", "one.script", "one.reply")
-        peak = max(peak, memory)
-        return time
-
+    """Returns the instructions and the time of loading."""
+    count = measuring.count(program, *files("one"))
+    runs = [measuring.run(program, *files("one")) for _ in range(RUNS)]
+    time, peak = min(it for it, _ in runs), max(it for _, it in runs)
     size = os.path.getsize("staff.csv")
-    if shutil.which("sqlite3") is None:
-        (load,) = least([load_time], LEAST_ROUNDS, lambda load: True)
-        print(f"typed rows: {size} bytes in {load * 1000:.0f} ms; sqlite3 isn't here to compare with")
-    else:
-        load, other = least([load_time, import_time], LEAST_ROUNDS, lambda load, other: load <= MOST_OF_SQLITE * other)
-        print(f"typed rows: {size} bytes in {load * 1000:.0f} ms, sqlite3 in {other * 1000:.0f} ms ({load / other:.2f} times),"
-              f" at most {peak / 2**20:.0f} MiB ({peak / size:.1f} times the file)")
-        if load > MOST_OF_SQLITE * other:
-            raise Failure(f"loading took more than {MOST_OF_SQLITE} times the time of sqlite3")
+    print(f"typed rows: {size} bytes in {count / 1e6:.0f} million instructions, {time * 1000:.0f} ms, at most {peak / 2**20:.0f} MiB"
+          f" ({peak / size:.1f} times the file)")
+    if count > MOST_OF_LOADING * 1_000_000:
+        raise Failure(f"loading took more than {MOST_OF_LOADING} million instructions")
     if peak > MOST_MEMORY * size:
         raise Failure(f"the peak of memory is over {MOST_MEMORY} times the file")
-    return load
+    if shutil.which("sqlite3") is None:
+        print("typed rows: sqlite3 isn't here to compare with")
+        return count, time
+    other = measuring.count_command(IMPORT)
+    print(f"typed rows: {count / other:.2f} times the instructions of sqlite3")
+    if count > MOST_OF_SQLITE * other:
+        raise Failure(f"loading took more than {MOST_OF_SQLITE} times the instructions of sqlite3")
+    return count, time
 
 
-def compare_scans(program, load):
-    def scan_time(policy):
-        return lambda: measuring.run(program, "staff.csv", "scan.script", "scan.reply", policy)[0] - load
+def compare_scans(program, count, time):
+    each, policies = ROWS * SCANS, {"open": measuring.POLICY, "guarded": "guarded.toml"}
+    counts = {name: (measuring.count(program, *files("scan"), policy) - count) / each for name, policy in policies.items()}
+    times = {name: (least_time(program, "scan", policy) - time) * 1e9 / each for name, policy in policies.items()}
+    ratio = counts["guarded"] / counts["open"]
+    print(f"row policies: a scan takes {counts['open']:.0f} instructions a row without them, {times['open']:.0f} ns, and"
+          f" {counts['guarded']:.0f} with three, {times['guarded']:.0f} ns ({ratio:.2f} times the instructions)")
+    if counts["open"] > MOST_OF_SCAN:
+        raise Failure(f"a scan took more than {MOST_OF_SCAN} instructions a row")
+    if ratio > MOST_OF_OPEN:
+        raise Failure(f"a scan under row policies took more than {MOST_OF_OPEN} times the instructions without them")
 
-    open_, guarded = least([scan_time(measuring.POLICY), scan_time("guarded.toml")], LEAST_ROUNDS,
-                           lambda open_, guarded: guarded <= MOST_OF_OPEN * open_)
-    each = 1e9 / (ROWS * SCANS)
-    print(f"row policies: a scan takes {open_ * each:.0f} ns a row without them, {guarded * each:.0f} ns with three"
-          f" ({guarded / open_:.2f} times)")
-    if guarded > MOST_OF_OPEN * open_:
-        raise Failure(f"a scan under row policies took more than {MOST_OF_OPEN} times the time without them")
+
+def least_time(program, name, policy=measuring.POLICY):
+    return min(measuring.run(program, *files(name), policy)[0] for _ in range(RUNS))
 
 
-def measure_conditions(program, load):
+def measure_conditions(program, time):
     """Prints what conditions take: each is evaluated on every row, and keeps none."""
     for condition in CONDITIONS:
         write("condition.script", f"run from e in staff where {condition} select e.id;\n" * SCANS)
         write("condition.reply", '{"items":[]}\n' * SCANS)
-        (time,) = least([lambda: measuring.run(program, "staff.csv", "condition.script", "condition.reply")[0] - load],
-                        LEAST_ROUNDS, lambda time: True)
-        print(f"condition: {time * 1e9 / (ROWS * SCANS):.0f} ns a row for where {condition}")
+        taken = least_time(program, "condition") - time
+        print(f"condition: {taken * 1e9 / (ROWS * SCANS):.0f} ns a row for where {condition}")
 
 
 def compare(program):
     """Measures, prints the figures, and fails where a bound isn't met."""
     write_files()
-    load = compare_loading(program)
-    compare_scans(program, load)
-    measure_conditions(program, load)
+    count, time = compare_loading(program)
+    compare_scans(program, count, time)
+    measure_conditions(program, time)

@@ -1,0 +1,70 @@
+"""Records of wrong bodies that were refused: tests/wrong_bodies/refused/CRATE.
+
+A record holds a checksum of all that an answer depends on, and what was answered. As long as the checksum is the same, a further
+trial would only say the same again, which takes a processor some hours.
+"""
+
+import hashlib
+import os
+import subprocess
+
+PARTS = ("src", "specs", "proofs")
+HERE = os.path.dirname(os.path.realpath(__file__))
+# What of this tool an answer depends on.
+JUDGES = ("answers.py", "edits.py", "functions.py", "rounds.py")
+
+
+def files_below(folder):
+    """The files below a folder by their paths there, each with its bytes."""
+    for at, folders, names in os.walk(folder):
+        folders.sort()
+        for name in sorted(names):
+            with open(f"{at}/{name}", "rb") as file:
+                yield os.path.relpath(f"{at}/{name}", folder), file.read()
+
+
+def version_of_rt():
+    return subprocess.run(["rt", "version"], stdin=subprocess.DEVNULL, stdout=subprocess.PIPE, check=False).stdout
+
+
+class Record:
+    """What is on record of a crate, over the crates `below` it."""
+
+    def __init__(self, root, name, crates, below):
+        self.root, self.name, self.file = root, name, f"{root}/tests/wrong_bodies/refused/{name}"
+        self.lines = [f"{it}: {' '.join(crates[it])}" for it in (*below, name)]
+        self.folders = [f"crates/{it}/{part}" for it in (*below, name) for part in PARTS]
+        self.sum = self.sum_of_all()
+
+    def sum_of_all(self):
+        """The checksum of the toolchain's version, what judges here, the lines of crates.txt, the sources and the edits."""
+        found = hashlib.sha256(version_of_rt())
+        for name in JUDGES:
+            with open(f"{HERE}/{name}", "rb") as file:
+                self.add(found, name, file.read())
+        self.add(found, "crates.txt", "\n".join(self.lines).encode())
+        for folder in (*self.folders, f"crates/{self.name}/wrong-bodies"):
+            for path, text in files_below(f"{self.root}/{folder}"):
+                self.add(found, f"{folder}/{path}", text)
+        return found.hexdigest()
+
+    @staticmethod
+    def add(found, name, text):
+        found.update(f"{len(name.encode())} {name} {len(text)} ".encode() + text)
+
+    def refused(self):
+        """How many wrong bodies are on record as refused on just these bytes; None where a trial has to tell."""
+        try:
+            with open(self.file, encoding="utf-8") as lines:
+                first, *rest = lines.read().splitlines()
+        except (OSError, ValueError):
+            return None
+        return len(rest) if first == self.sum and rest else None
+
+    def keep(self, results):
+        """Records the results of a trial in which all were refused, unless what was tried has changed meanwhile."""
+        if not results or not all(is_refused for is_refused, _ in results.values()) or self.sum != self.sum_of_all():
+            return
+        os.makedirs(os.path.dirname(self.file), exist_ok=True)
+        with open(self.file, "w", encoding="utf-8") as to:
+            to.write("\n".join([self.sum, *(f"{label}: {why}" for label, (_, why) in sorted(results.items()))]) + "\n")
