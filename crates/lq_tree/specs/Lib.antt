@@ -1,1 +1,3 @@
+pub mod Binding
 pub mod FormMeaning
+pub mod Places
