@@ -1,6 +1,10 @@
 pub mod CallTypes
+pub mod FormSteps
 pub mod Layers
+pub mod MeansMembers
+pub mod MeansOperators
 pub mod NodeTypes
+pub mod Scopes
 pub mod TermTypes
 pub mod TreePulls
 pub mod TypeLemmas

@@ -140,7 +140,7 @@ abbrev pub first_with : {A : Type 0} → (A → Bool) → List A → Option A
 first_with test [] = None
 first_with test (x ∷ xs) = if test x then Some x else first_with test xs
 
-abbrev get_at : {A : Type 0} → List A → Option ℕ → Option A
+abbrev pub get_at : {A : Type 0} → List A → Option ℕ → Option A
 get_at xs o = option_and_then (λ n. slice_get xs n) o
 
 get_later : {A : Type 0} (x : A) (xs : List A) (o : Option ℕ) → get_at (x ∷ xs) (option_map suc o) ≡ get_at xs o
@@ -153,11 +153,11 @@ first_position {A} test (x ∷ xs) =
     then_if (λ n. slice_get (x ∷ xs) n) (test x) 0 (position_from test 1 xs)
     ∙ ap (λ (o : Option A). if test x then Some x else o) (ap (get_at (x ∷ xs)) (later test 0 xs) ∙ get_later x xs (position_from test 0 xs) ∙ first_position test xs)
 
-column_first : (m : List ℕ) (columns : List Column) → first_with (λ column. bytes_eq column.name m) columns ≡ column_named m columns
+pub column_first : (m : List ℕ) (columns : List Column) → first_with (λ column. bytes_eq column.name m) columns ≡ column_named m columns
 column_first m [] = refl
 column_first m (column ∷ columns) = ap (λ (o : Option Column). if bytes_eq column.name m then Some column else o) (column_first m columns)
 
-member_first : (m : List ℕ) (members : List (List ℕ × Ty)) → option_map (λ member. member.1) (first_with (λ member. bytes_eq m member.0) members) ≡ member_of m members
+pub member_first : (m : List ℕ) (members : List (List ℕ × Ty)) → option_map (λ member. member.1) (first_with (λ member. bytes_eq m member.0) members) ≡ member_of m members
 member_first m [] = refl
 member_first m (member ∷ members) =
     map_if (λ x. x.1) (bytes_eq m member.0) member (first_with (λ x. bytes_eq m x.0) members)
