@@ -1,1 +1,4 @@
+pub mod ItemLemmas
+pub mod NumberLemmas
 pub mod Opens
+pub mod PlaceLemmas

@@ -23,6 +23,7 @@ pub(crate) fn first<T: Drop>(
 }
 
 // The last item; all are read.
+#[tactic(auto, using(crate::proofs::ItemLemmas::last_pushed))]
 pub(crate) fn last<T: Drop>(none: Result<T, Fault>, items: List<T>, end: End) -> Result<T, Fault>
     ensures { result ≡ last none items end }
 {
@@ -34,6 +35,7 @@ pub(crate) fn last<T: Drop>(none: Result<T, Fault>, items: List<T>, end: End) ->
 }
 
 // The only item; a second one is a fault.
+#[tactic(auto, using(crate::proofs::ItemLemmas::singles))]
 pub(crate) fn single<T: Drop>(
     none: Result<T, Fault>,
     items: List<T>,
@@ -48,6 +50,7 @@ pub(crate) fn single<T: Drop>(
 }
 
 // The item behind so many.
+#[tactic(auto, using(crate::proofs::ItemLemmas::first_behind))]
 pub(crate) fn element_at<T: Drop>(number: i32, items: List<T>, end: End) -> Result<T, Fault>
     ensures { result ≡ element_at number items end }
 {

@@ -1,10 +1,13 @@
 //! Operators of sequences over items that are there: what each makes of them.
 #![tactic(auto)]
 
+mod defaults;
 mod ending;
 mod error;
 mod items;
+mod keys;
 mod numbers;
+mod sequences;
 mod slices;
 
 pub use error::RunError;

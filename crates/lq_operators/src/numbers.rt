@@ -3,7 +3,7 @@ ghost use Rattle.std.specs.Prelude.{◌≡◌, pos};
 ghost use Rattle.lq_value.specs.declared.value.Value.{out-Value};
 ghost use Rattle.lq_model.specs.Enumerable.{at_end, count, summed};
 ghost use Rattle.lq_model.specs.WholeMeaning.{number_in, numbers};
-ghost use Rattle.lq_operators.specs.Numbers.{best_of, chosen, ints_in};
+ghost use Rattle.lq_operators.specs.Numbers.{best_of, chosen};
 
 use crate::ending::at_end;
 use lq_value::{End, Fault, List, RowRef, Scalar, Value};
@@ -16,6 +16,7 @@ pub(crate) enum Extreme {
 }
 
 // How many items there are; more than an int holds are an overflow.
+#[tactic(auto, using(crate::proofs::NumberLemmas::counts))]
 pub(crate) fn count<T: Drop>(items: List<T>, end: End) -> Result<Scalar, Fault>
     ensures { result ≡ count items end }
 {
@@ -41,6 +42,7 @@ fn number_in<R: RowRef>(item: &Value<R>) -> Option<i32>
 }
 
 // The sum of the numbers, which may leave int at an item, before the ending.
+#[tactic(auto, using(crate::proofs::NumberLemmas::sums))]
 pub(crate) fn sum<R: RowRef>(items: &[Value<R>], end: End) -> Result<Scalar, Fault>
     ensures { result ≡ summed (pos 0) (numbers items.now) end }
 {

@@ -22,6 +22,7 @@ pub(crate) fn skip<T: Drop>(count: usize, items: List<T>) -> List<T>
 }
 
 // So many items, and how they end: what stands behind the last of them isn't read.
+#[tactic(auto, using(crate::proofs::ItemLemmas::taken))]
 pub(crate) fn take_first<T: Drop>(count: usize, items: List<T>, end: End) -> (List<T>, End)
     ensures { result ≡ take_first count items end }
 {

@@ -1,0 +1,36 @@
+-- Places of values that pass a test, and values picked by places.
+use Rattle.std.specs.Prelude.{◌≡◌, ◌∷◌, ◌++◌, ◌&&◌, if◌then◌else◌, not, List, [], ℕ, Bool, true, false, Option, Some, None, nat_lt, slice_get}
+use Rattle.std.specs.List.{list_any}
+use Rattle.lq_value.specs.KeyTests.{key_is}
+use Rattle.lq_value.specs.Lookups.{places}
+use Rattle.lq_value.specs.declared.key.Key.{Key}
+use Rattle.lq_lookup.specs.Found.{found}
+use Rattle.lq_lookup.specs.declared.nulls.Nulls.{Nulls}
+
+-- the lookup finds each key's places, null's as well
+abbrev pub FindsKeys : Nulls × List (Key × List ℕ) → List Key → Type 0
+FindsKeys lookup ks = (q : Key) → found lookup q ≡ places (key_is q) ks
+
+module _ {A : Type 0} where
+  abbrev pub passes : (A → Bool) → Option A → Bool
+  passes test None = false
+  passes test (Some x) = test x
+
+  -- whether the item at a place passes
+  abbrev pub passes_at : (A → Bool) → List A → ℕ → Bool
+  passes_at test xs place = passes test (slice_get xs place)
+
+  -- whether an item at a place before this one passes
+  abbrev pub passes_before : (A → Bool) → List A → ℕ → ℕ → Bool
+  passes_before test xs bound place = nat_lt place bound && passes_at test xs place
+
+  -- of each item whether none that was seen and none before it is the same
+  abbrev pub new_from : (A → A → Bool) → List A → List A → List Bool
+  new_from same seen [] = []
+  new_from same seen (x ∷ xs) = not (list_any (λ y. same y x) seen) ∷ new_from same (seen ++ x ∷ []) xs
+
+  -- the items with a true beside them
+  abbrev pub sifted : List Bool → List A → List A
+  sifted [] xs = []
+  sifted (keep ∷ keeps) [] = []
+  sifted (keep ∷ keeps) (x ∷ xs) = if keep then x ∷ sifted keeps xs else sifted keeps xs
