@@ -34,3 +34,9 @@ module _ {A : Type 0} where
   sifted [] xs = []
   sifted (keep ∷ keeps) [] = []
   sifted (keep ∷ keeps) (x ∷ xs) = if keep then x ∷ sifted keeps xs else sifted keeps xs
+
+  -- the items that are the same as none that was seen and as none before them
+  abbrev pub firsts_from : (A → A → Bool) → List A → List A → List A
+  firsts_from same seen [] = []
+  firsts_from same seen (x ∷ xs) =
+      if list_any (λ y. same y x) seen then firsts_from same (seen ++ x ∷ []) xs else x ∷ firsts_from same (seen ++ x ∷ []) xs

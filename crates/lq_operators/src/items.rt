@@ -1,10 +1,20 @@
 //! One item of a sequence: the first, the last, the only one, the one at a place.
 ghost use Rattle.std.specs.Prelude.{◌≡◌};
-ghost use Rattle.lq_model.specs.Enumerable.{element_at, first, last, single};
+ghost use Rattle.lq_model.specs.Enumerable.{any, element_at, first, last, single};
 
 use crate::ending::at_end;
 use crate::slices::skip;
 use lq_value::{End, Fault, List};
+
+// Whether there is an item.
+pub(crate) fn any<T: Drop>(items: List<T>, end: End) -> Result<bool, Fault>
+    ensures { result ≡ any items end }
+{
+    if items.is_empty() {
+        return at_end(end, Ok(false));
+    }
+    Ok(true)
+}
 
 // The first item. `none` is the answer where the source comes to its end without one.
 pub(crate) fn first<T: Drop>(

@@ -1,13 +1,13 @@
 //! Keys of values, and the places of what is the same as a value.
-ghost use Rattle.std.specs.Prelude.{◌≡◌, ◌&&◌, map, nat_lt, slice_get, IfOk};
+ghost use Rattle.std.specs.Prelude.{◌≡◌, map, take, IfOk};
 ghost use Rattle.std.specs.List.{list_any};
 ghost use Rattle.lq_value.specs.Keys.{key_value};
 ghost use Rattle.lq_value.specs.SameAndOrder.{same_values};
 ghost use Rattle.lq_model.specs.Enumerable.{is_among};
-ghost use Rattle.lq_operators.specs.Places.{FindsKeys, passes_at};
+ghost use Rattle.lq_operators.specs.Places.{FindsKeys, passes_at, passes_before};
 
 use lq_lookup::{Lookup, Nulls};
-use lq_value::{Key, List, RowRef, Value, key_of, same};
+use lq_value::{Key, RowRef, Value, key_of, same};
 use std::alloc::{AllocError, Global};
 
 // The keys of values.
@@ -33,17 +33,8 @@ pub(crate) fn lookup_of<R: RowRef>(
     Lookup::build(alloc, keys.as_slice(), Nulls::Keep)
 }
 
-// Whether the value at a place is the same as this one.
-fn is_same_at<R: RowRef>(value: &Value<R>, values: &[Value<R>], place: usize) -> bool
-    ensures { result ≡ passes_at (same_values value.now) values.now place }
-{
-    match values.get(place) {
-        Some(other) => same(value, other),
-        None => false,
-    }
-}
-
 // Whether a value is the same as one of these.
+#[tactic(auto, using(crate::proofs::PlaceLemmas::among_places))]
 pub(crate) fn is_among<R: RowRef>(
     alloc: Global,
     value: &Value<R>,
@@ -67,4 +58,58 @@ fn is_same_at_one<R: RowRef>(value: &Value<R>, values: &[Value<R>], places: &[us
         }
     }
     false
+}
+
+// Whether the value at a place is the same as this one.
+fn is_same_at<R: RowRef>(value: &Value<R>, values: &[Value<R>], place: usize) -> bool
+    ensures { result ≡ passes_at (same_values value.now) values.now place }
+{
+    match values.get(place) {
+        Some(other) => same(value, other),
+        None => false,
+    }
+}
+
+// Whether a value is the same as one of these before a place. Of one key type's values the first at the places of the key
+// decides, so that all of a list are asked in a time that grows as its length does.
+#[tactic(auto, using(crate::proofs::PlaceLemmas::before_places))]
+pub(crate) fn is_among_before<R: RowRef>(
+    alloc: Global,
+    value: &Value<R>,
+    values: &[Value<R>],
+    bound: usize,
+    lookup: &Lookup,
+) -> Result<bool, AllocError>
+    requires { FindsKeys lookup.now (map key_value values.now) }
+    ensures { IfOk result (λ found. found ≡ list_any (λ other. same_values other value.now) (take bound values.now)) }
+{
+    let key = key_of(alloc, value)?;
+    Ok(is_same_before(value, values, bound, lookup.find(&key)))
+}
+
+// Whether a value at one of these places, before the bound, is the same as this one.
+fn is_same_before<R: RowRef>(
+    value: &Value<R>,
+    values: &[Value<R>],
+    bound: usize,
+    places: &[usize],
+) -> bool
+    ensures { result ≡ list_any (passes_before (λ other. same_values other value.now) values.now bound) places.now }
+{
+    for place in places {
+        if *place < bound && is_other_same(value, values, *place) {
+            return true;
+        }
+    }
+    false
+}
+
+// Whether the value at a place, met first, is the same as this one.
+fn is_other_same<R: RowRef>(value: &Value<R>, values: &[Value<R>], place: usize) -> bool
+    ensures { result ≡ passes_at (λ other. same_values other value.now) values.now place }
+{
+    match values.get(place) {
+        Some(other) => same(other, value),
+        None => false,
+    }
 }

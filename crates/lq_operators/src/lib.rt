@@ -4,10 +4,13 @@
 mod defaults;
 mod ending;
 mod error;
+mod firsts;
 mod items;
 mod keys;
 mod numbers;
 mod sequences;
+mod simple_methods;
 mod slices;
 
 pub use error::RunError;
+pub use simple_methods::simple;

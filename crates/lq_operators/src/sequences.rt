@@ -1,12 +1,21 @@
 //! Sequences made of the items of one: turned round, or with a default in the place of none.
 ghost use Rattle.std.specs.Prelude.{◌≡◌, IfOk};
 ghost use Rattle.lq_model.specs.Enumerable.{default_if_empty, reversed};
+ghost use Rattle.lq_model.specs.Meaning.{sequence};
 
-use lq_value::{End, List};
+use lq_value::{End, List, RowRef, Value};
 use std::alloc::{AllocError, Global};
 
 /// Items, and how they end.
 pub(crate) type Stream<T> = (List<T>, End);
+
+// The stream as a value.
+pub(crate) fn sequence<R: RowRef>(stream: Stream<Value<R>>) -> Value<R>
+    ensures { result ≡ sequence stream }
+{
+    let (items, end) = stream;
+    Value::Seq(items, end)
+}
 
 // The items from the last to the first. The source is read whole: of one that faults comes nothing but its fault.
 pub(crate) fn reversed<T: Drop>(alloc: Global, items: List<T>, end: End) -> Stream<T>
