@@ -1,7 +1,7 @@
 -- The distinct items of a list, item by item.
-use Rattle.std.proofs.Common.{◌≡◌, ◌∷◌, ◌++◌, ◌+◌, ◌<◌, ◌||◌, if◌then◌else◌, not, List, [], filter, ℕ, Bool, true, false, ap, ◌∙◌, sym, refl, drop, take, length, get_or}
+use Rattle.std.proofs.Common.{◌≡◌, ◌∷◌, ◌++◌, ◌+◌, ◌<◌, ◌≤◌, ◌||◌, if◌then◌else◌, not, List, [], filter, ℕ, Bool, true, false, ap, ◌∙◌, sym, refl, drop, take, length, get_or, append_assoc, append-nil}
 use Rattle.std.specs.List.{list_any}
-use Rattle.std.proofs.lemmas.List.{at_drop_more, take_more}
+use Rattle.std.proofs.lemmas.List.{at_drop_more, drop_all, take_more}
 use Rattle.std.proofs.lemmas.List.Folds.{list_any-append}
 use Rattle.lq_model.specs.Stream.{first_keys}
 use Rattle.lq_operators.specs.Places.{firsts_from, new_from, sifted}
@@ -30,6 +30,20 @@ module _ {A : Type 0} (same : A → A → Bool) where
       ∙ ap (λ (y : A). if is_old (take n xs) y then firsts_from same (take n xs ++ y ∷ []) (drop (n + 1) xs) else y ∷ firsts_from same (take n xs ++ y ∷ []) (drop (n + 1) xs)) (sym is)
       ∙ ap (λ (seen : List A). if is_old (take n xs) x then firsts_from same seen (drop (n + 1) xs) else x ∷ firsts_from same seen (drop (n + 1) xs))
       (ap (λ (y : A). take n xs ++ y ∷ []) is ∙ sym (take_more xs n x h))
+
+  -- a copy of a new one is put behind those so far, or nothing where it is old
+  pub firsts_kept : (made : List A) (xs : List A) (n : ℕ) (x : A) → n < length xs → x ≡ get_or xs n x → is_old (take n xs) x ≡ false
+      → (made ++ x ∷ []) ++ firsts_from same (take (n + 1) xs) (drop (n + 1) xs) ≡ made ++ firsts_from same (take n xs) (drop n xs)
+  firsts_kept made xs n x h is new =
+      append_assoc made (x ∷ []) (firsts_from same (take (n + 1) xs) (drop (n + 1) xs))
+      ∙ ap (λ (ys : List A). made ++ ys) (sym (firsts_more xs n x h is
+      ∙ ap (λ (b : Bool). if b then firsts_from same (take (n + 1) xs) (drop (n + 1) xs) else x ∷ firsts_from same (take (n + 1) xs) (drop (n + 1) xs)) new))
+
+  pub firsts_left : (made : List A) (xs : List A) (n : ℕ) (x : A) → n < length xs → x ≡ get_or xs n x → is_old (take n xs) x ≡ true
+      → made ++ firsts_from same (take (n + 1) xs) (drop (n + 1) xs) ≡ made ++ firsts_from same (take n xs) (drop n xs)
+  firsts_left made xs n x h is old =
+      ap (λ (ys : List A). made ++ ys) (sym (firsts_more xs n x h is
+      ∙ ap (λ (b : Bool). if b then firsts_from same (take (n + 1) xs) (drop (n + 1) xs) else x ∷ firsts_from same (take (n + 1) xs) (drop (n + 1) xs)) old))
 
   -- ---- the definition
 
@@ -73,7 +87,19 @@ module _ {A : Type 0} (same : A → A → Bool) where
   pub firsts_are : (xs : List A) → firsts_from same [] xs ≡ first_keys same xs
   firsts_are xs = firsts_filtered [] xs ∙ all_new (first_keys same xs)
 
+  -- where a loop has come to the end
+  pub firsts_done : (made xs : List A) (n : ℕ) → length xs ≤ n → made ++ firsts_from same (take n xs) (drop n xs) ≡ firsts_from same [] xs → made ≡ first_keys same xs
+  firsts_done made xs n h so_far =
+      sym (append-nil made) ∙ ap (λ (ys : List A). made ++ firsts_from same (take n xs) ys) (sym (drop_all n xs h)) ∙ so_far ∙ firsts_are xs
+
   pub sifted_firsts : (xs : List A) → sifted (new_from same [] xs) xs ≡ first_keys same xs
   sifted_firsts xs = sifted_is [] xs ∙ firsts_are xs
+  -- ---- items kept by what stands beside them
 
-pub ruleset copied = (firsts_more, firsts_are)
+module _ {A : Type 0} where
+  pub sifted_end : (keeps : List Bool) → sifted {A = A} keeps [] ≡ []
+  sifted_end [] = refl
+  sifted_end (keep ∷ keeps) = refl
+
+  pub sifted_done : (kept : List A) (rest keeps : List Bool) (xs : List A) → kept ++ sifted rest [] ≡ sifted keeps (xs ++ []) → kept ≡ sifted keeps xs
+  sifted_done kept rest keeps xs h = sym (append-nil kept) ∙ ap (λ (ys : List A). kept ++ ys) (sym (sifted_end rest)) ∙ h ∙ ap (sifted keeps) (append-nil xs)

@@ -1,10 +1,9 @@
 //! The distinct items: each at its first appearance.
-ghost use Rattle.std.specs.Prelude.{◌≡◌, ◌++◌, map, not, take, IfOk};
-ghost use Rattle.std.specs.List.{list_any};
+ghost use Rattle.std.specs.Prelude.{◌≡◌, [], map, IfOk};
 ghost use Rattle.lq_value.specs.Keys.{key_value};
 ghost use Rattle.lq_value.specs.SameAndOrder.{same_values};
 ghost use Rattle.lq_model.specs.Stream.{first_keys};
-ghost use Rattle.lq_operators.specs.Places.{FindsKeys, firsts_from, new_from, sifted};
+ghost use Rattle.lq_operators.specs.Places.{FindsKeys, new_from, sifted};
 
 use crate::keys::{is_among_before, lookup_of};
 use lq_lookup::Lookup;
@@ -55,7 +54,6 @@ fn sift<T: Drop>(alloc: Global, items: List<T>, keeps: &[bool]) -> Result<List<T
 }
 
 // Copies of the values that are the same as none before them.
-#[tactic(auto, using(crate::proofs::FirstLemmas::copied))]
 pub(crate) fn copied_firsts<R: RowRef>(
     alloc: Global,
     values: &[Value<R>],

@@ -72,7 +72,7 @@ fn is_same_at<R: RowRef>(value: &Value<R>, values: &[Value<R>], place: usize) ->
 
 // Whether a value is the same as one of these before a place. Of one key type's values the first at the places of the key
 // decides, so that all of a list are asked in a time that grows as its length does.
-#[tactic(auto, using(crate::proofs::PlaceLemmas::before_places))]
+
 pub(crate) fn is_among_before<R: RowRef>(
     alloc: Global,
     value: &Value<R>,
