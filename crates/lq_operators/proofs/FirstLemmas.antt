@@ -15,14 +15,21 @@ module _ {A : Type 0} (same : A → A → Bool) where
 
   -- ---- as far as a loop has come
 
-  pub new_more : (xs : List A) (n : ℕ) (x : A) → n < length xs → x ≡ get_or xs n x
+  new_more : (xs : List A) (n : ℕ) (x : A) → n < length xs → x ≡ get_or xs n x
       → new_from same (take n xs) (drop n xs) ≡ is_new (take n xs) x ∷ new_from same (take (n + 1) xs) (drop (n + 1) xs)
   new_more xs n x h is =
       at_drop_more (new_from same (take n xs)) xs n x h
       ∙ ap (λ (y : A). is_new (take n xs) y ∷ new_from same (take n xs ++ y ∷ []) (drop (n + 1) xs)) (sym is)
       ∙ ap (λ (seen : List A). is_new (take n xs) x ∷ new_from same seen (drop (n + 1) xs)) (ap (λ (y : A). take n xs ++ y ∷ []) is ∙ sym (take_more xs n x h))
 
-  pub firsts_more : (xs : List A) (n : ℕ) (x : A) → n < length xs → x ≡ get_or xs n x
+  pub news_kept : (made : List Bool) (xs : List A) (n : ℕ) (x : A) (b : Bool) → n < length xs → x ≡ get_or xs n x → b ≡ is_old (take n xs) x
+      → (made ++ not b ∷ []) ++ new_from same (take (n + 1) xs) (drop (n + 1) xs) ≡ made ++ new_from same (take n xs) (drop n xs)
+  news_kept made xs n x b h is old =
+      append_assoc made (not b ∷ []) (new_from same (take (n + 1) xs) (drop (n + 1) xs))
+      ∙ ap (λ (c : Bool). made ++ not c ∷ new_from same (take (n + 1) xs) (drop (n + 1) xs)) old
+      ∙ ap (λ (bs : List Bool). made ++ bs) (sym (new_more xs n x h is))
+
+  firsts_more : (xs : List A) (n : ℕ) (x : A) → n < length xs → x ≡ get_or xs n x
       → firsts_from same (take n xs) (drop n xs)
       ≡ (if is_old (take n xs) x then firsts_from same (take (n + 1) xs) (drop (n + 1) xs) else x ∷ firsts_from same (take (n + 1) xs) (drop (n + 1) xs))
   firsts_more xs n x h is =

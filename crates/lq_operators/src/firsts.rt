@@ -23,7 +23,6 @@ pub(crate) fn distinct<R: RowRef>(
 }
 
 // Of each value whether it is the same as none before it.
-#[tactic(auto, using(crate::proofs::FirstLemmas::new_more))]
 fn news_of<R: RowRef>(alloc: Global, values: &[Value<R>]) -> Result<Vec<bool>, AllocError>
     ensures { IfOk result (λ made. made.items ≡ new_from same_values [] values.now) }
 {
