@@ -1,0 +1,4 @@
+//! The running of typed trees.
+#![tactic(auto)]
+
+mod slots;
