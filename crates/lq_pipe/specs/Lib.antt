@@ -1,1 +1,3 @@
+pub mod Running
 pub mod Slots
+pub mod Worlds

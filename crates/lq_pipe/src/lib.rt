@@ -1,4 +1,13 @@
-//! The running of typed trees.
+//! The running of typed trees: the value or the stream of each, over the rows that it is given.
 #![tactic(auto)]
 
+mod parts;
+mod reached;
+mod running;
+mod scalars;
+mod sequences;
 mod slots;
+mod tables;
+
+pub use lq_operators::RunError;
+pub use tables::{TableRow, TableRows};

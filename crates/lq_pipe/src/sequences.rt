@@ -1,0 +1,54 @@
+//! Sequences: the streams that values are enumerated as.
+ghost use Rattle.std.specs.Prelude.{◌≡◌, ◌++◌, IfOk, Result};
+ghost use Rattle.lq_value.specs.declared.value.Fault.{Fault};
+ghost use Rattle.lq_value.specs.declared.value.Fault.TheVariants as fault;
+ghost use Rattle.lq_value.specs.declared.value.Value.{Value, out-Value};
+ghost use Rattle.lq_model.specs.Meaning.{World, items_of, stream_of};
+ghost use Rattle.lq_operators.specs.Answers.{IsAnswer};
+
+use lq_operators::RunError;
+use lq_value::{End, Fault, List, RowRef, Value};
+use std::alloc::{AllocError, Global};
+
+/// The items that a value is enumerated as, and their ending. What is no sequence and no group has
+/// none, and no typed tree has it where a sequence is asked for.
+#[tactic(auto, using(crate::proofs::PartLemmas::layers))]
+fn items<R: RowRef>(alloc: Global, value: Value<R>) -> (List<Value<R>>, End)
+    ensures { (world : World R) → world.unknown ≡ fault.NullReference → result ≡ items_of world (out-Value R value) }
+{
+    match value {
+        Value::Seq(items, end) => (items, end),
+        Value::Group(_, items) => (items, End::Done),
+        Value::Scalar(_) | Value::Row(_) | Value::Rec(_) => {
+            (List::new(alloc), End::Fault(Fault::NullReference))
+        }
+    }
+}
+
+/// The stream of what was found: a fault that was met is its ending.
+pub(crate) fn stream<R: RowRef>(
+    alloc: Global,
+    found: Result<Value<R>, RunError>,
+) -> Result<(List<Value<R>>, End), AllocError>
+    ensures { (world : World R) (meant : Result (Value R) Fault) → world.unknown ≡ fault.NullReference → IsAnswer meant found
+        → IfOk result (λ s. s ≡ stream_of world meant) }
+{
+    match found {
+        Ok(value) => Ok(items(alloc, value)),
+        Err(RunError::Fault(fault)) => Ok((List::new(alloc), End::Fault(fault))),
+        Err(RunError::Memory) => Err(AllocError),
+    }
+}
+
+/// Items, and further ones behind them.
+pub(crate) fn joined<R: RowRef>(
+    items: List<Value<R>>,
+    further: List<Value<R>>,
+) -> Result<List<Value<R>>, AllocError>
+    ensures { IfOk result (λ all. all ≡ items ++ further) }
+{
+    let mut all = items.into_vec();
+    let mut further = further.into_vec();
+    all.append(&mut further)?;
+    Ok(List::from_vec(all))
+}
