@@ -1,5 +1,6 @@
 //! Parts of values: those of pairs, members of records, keys of groups.
-ghost use Rattle.std.specs.Prelude.{◌≡◌, IfOk};
+ghost use Rattle.std.specs.Prelude.{◌≡◌, IfOk, option_map, slice_get};
+ghost use Rattle.std.specs.Option.{option_copied};
 ghost use Rattle.lq_value.specs.declared.value.Value.{out-Value};
 ghost use Rattle.lq_model.specs.Meaning.{World};
 ghost use Rattle.lq_model.specs.Operators.{first, pair, second};
@@ -60,4 +61,12 @@ pub(crate) fn is_null<R: RowRef>(value: &Value<R>) -> bool
         Value::Scalar(Scalar::Int(_) | Scalar::Bool(_) | Scalar::Text(_)) => false,
         Value::Row(_) | Value::Rec(_) | Value::Group(_, _) | Value::Seq(_, _) => false,
     }
+}
+
+/// The value of the member at a place, if there is one.
+pub(crate) fn member<R: RowRef>(members: &[(Txt, Value<R>)], place: usize) -> Option<&Value<R>>
+    ensures { option_copied result ≡ option_map (λ member. member.1) (slice_get members.now place) }
+{
+    let (_, value) = members.get(place)?;
+    Some(value)
 }

@@ -46,6 +46,7 @@ impl<'a, R: TableRow> Running<'a, R> {
     }
 
     /// The rows of a table.
+    #[tactic(auto, using(crate::proofs::PartLemmas::places))]
     fn table(&self, number: u16) -> Result<Value<R>, RunError>
         ensures { IsAnswer (table_value (world_of R.table_of R.shown self.now.tables.now) (slice_get (world_of R.table_of R.shown self.now.tables.now).rows number)) result }
     {
@@ -77,12 +78,12 @@ impl<'a, R: TableRow> Running<'a, R> {
 
     /// A member of a record, by its place.
     #[tactic(auto, using(crate::proofs::PartLemmas::layers))]
-    fn member_at(&self, record: &Value<R>, place: usize) -> Result<Value<R>, RunError>
-        ensures { IsAnswer (member_at (world_of R.table_of R.shown self.now.tables.now) place (out-Value R record.now)) result }
+    fn member_at(&self, value: &Value<R>, place: usize) -> Result<Value<R>, RunError>
+        ensures { IsAnswer (member_at (world_of R.table_of R.shown self.now.tables.now) place (out-Value R value.now)) result }
     {
-        match record {
-            Value::Rec(members) => match members.as_slice().get(place) {
-                Some((_, value)) => Ok(copy(self.alloc, value)?),
+        match value {
+            Value::Rec(members) => match parts::member(members.as_slice(), place) {
+                Some(value) => Ok(copy(self.alloc, value)?),
                 None => Err(RunError::Fault(Fault::NullReference)),
             },
             Value::Scalar(_) | Value::Row(_) | Value::Group(_, _) | Value::Seq(_, _) => {
