@@ -1,2 +1,4 @@
+pub mod Forms
 pub mod PartLemmas
 pub mod SlotLemmas
+pub mod StreamLemmas

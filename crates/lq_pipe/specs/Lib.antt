@@ -1,3 +1,4 @@
+pub mod Lists
 pub mod Running
 pub mod Slots
 pub mod Worlds

@@ -104,4 +104,164 @@ impl<'a, R: TableRow> Running<'a, R> {
             }
         }
     }
+
+    /// What a form means, or its first fault.
+    #[cycle(running)]
+    #[tactic(auto, using(crate::proofs::Forms::form_literal, crate::proofs::Forms::form_slot, crate::proofs::Forms::form_table))]
+    pub(crate) fn evaluate(&self, form: &Form, slots: &Slots<'_, R>) -> Result<Value<R>, RunError>
+        ensures { IsAnswer (meant (world_of R.table_of R.shown self.now.tables.now) form.now slots.now) result }
+    {
+        match form {
+            Form::Literal(scalar) => Ok(Value::Scalar(copy_scalar(self.alloc, scalar)?)),
+            Form::Slot(number) => self.slot(*number, slots),
+            Form::Table(number) => self.table(*number),
+            Form::And(left, right) => self.both(left.get(), right.get(), slots),
+            Form::Unary(op, operand) => self.unary(*op, operand.get(), slots),
+            Form::Binary(op, left, right) => self.binary(*op, left.get(), right.get(), slots),
+            Form::Through(method, of, to, source, body) => {
+                self.through(*method, of, to, source.get(), body.get(), slots)
+            }
+            _ => Err(RunError::Memory),
+        }
+    }
+
+    /// The stream of a form.
+    #[cycle(running)]
+    fn stream(&self, form: &Form, slots: &Slots<'_, R>) -> Result<(List<Value<R>>, End), AllocError>
+        ensures { IfOk result (λ s. s ≡ stream_of (world_of R.table_of R.shown self.now.tables.now) (meant (world_of R.table_of R.shown self.now.tables.now) form.now slots.now)) }
+    {
+        sequences::stream(self.alloc, self.evaluate(form, slots))
+    }
+
+    /// The scalar that a form means.
+    #[cycle(running)]
+    fn scalar(&self, form: &Form, slots: &Slots<'_, R>) -> Result<Scalar, RunError>
+        ensures { Answers (scalar_in (world_of R.table_of R.shown self.now.tables.now) (meant (world_of R.table_of R.shown self.now.tables.now) form.now slots.now)) result }
+    {
+        scalars::scalar(self.evaluate(form, slots)?)
+    }
+
+    /// The truth value that a form means.
+    #[cycle(running)]
+    fn truth(&self, form: &Form, slots: &Slots<'_, R>) -> Result<bool, RunError>
+        ensures { Answers (truth_in (world_of R.table_of R.shown self.now.tables.now) (meant (world_of R.table_of R.shown self.now.tables.now) form.now slots.now)) result }
+    {
+        scalars::truth(&self.scalar(form, slots)?)
+    }
+
+    /// What an operator gives to one operand.
+    #[cycle(running)]
+    #[tactic(auto, using(crate::proofs::Forms::form_unary))]
+    fn unary(&self, op: Op, operand: &Form, slots: &Slots<'_, R>) -> Result<Value<R>, RunError>
+        ensures { IsAnswer (meant (world_of R.table_of R.shown self.now.tables.now) (form.Unary op operand.now) slots.now) result }
+    {
+        let operand = self.scalar(operand, slots)?;
+        scalars::of_one(self.alloc, op, operand)
+    }
+
+    /// What an operator gives to two operands, the left one of which is evaluated first.
+    #[cycle(running)]
+    #[tactic(auto, using(crate::proofs::Forms::form_binary))]
+    fn binary(&self, op: Op, left: &Form, right: &Form, slots: &Slots<'_, R>) -> Result<Value<R>, RunError>
+        ensures { IsAnswer (meant (world_of R.table_of R.shown self.now.tables.now) (form.Binary op left.now right.now) slots.now) result }
+    {
+        let left = self.scalar(left, slots)?;
+        let right = self.scalar(right, slots)?;
+        scalars::of_two(self.alloc, op, left, right)
+    }
+
+    /// Whether both are true; the second is evaluated only where the first is.
+    #[cycle(running)]
+    #[tactic(auto, using(crate::proofs::Forms::form_both))]
+    fn both(&self, left: &Form, right: &Form, slots: &Slots<'_, R>) -> Result<Value<R>, RunError>
+        ensures { IsAnswer (meant (world_of R.table_of R.shown self.now.tables.now) (form.And left.now right.now) slots.now) result }
+    {
+        match self.truth(left, slots)? {
+            true => self.evaluate(right, slots),
+            false => Ok(Value::Scalar(Scalar::Bool(false))),
+        }
+    }
+
+    /// A method with a lambda.
+    #[cycle(running)]
+    #[tactic(auto, using(crate::proofs::Forms::form_through))]
+    fn through(
+        &self,
+        method: Through,
+        of: &Ty,
+        to: &Ty,
+        source: &Form,
+        body: &Form,
+        slots: &Slots<'_, R>,
+    ) -> Result<Value<R>, RunError>
+        ensures { IsAnswer (meant (world_of R.table_of R.shown self.now.tables.now) (form.Through method of.now to.now source.now body.now) slots.now) result }
+    {
+        let (items, end) = self.stream(source, slots)?;
+        match method {
+            Through::Where => {
+                let (items, end) = self.kept(body, items, end, slots)?;
+                Ok(Value::Seq(items, end))
+            }
+            Through::Select => {
+                let (items, end) = self.selected(body, items.as_slice(), end, slots)?;
+                Ok(Value::Seq(items, end))
+            }
+            Through::Those(method) => {
+                let (items, end) = self.kept(body, items, end, slots)?;
+                simple(self.alloc, method, of, items, end)
+            }
+            Through::Values(method) => {
+                let (items, end) = self.selected(body, items.as_slice(), end, slots)?;
+                simple(self.alloc, method, to, items, end)
+            }
+            Through::All => Err(RunError::Memory),
+        }
+    }
+
+    /// What a form gives of each item, up to the first fault.
+    #[cycle(running)]
+    #[tactic(auto, using(crate::proofs::StreamLemmas::steps))]
+    fn selected(
+        &self,
+        body: &Form,
+        items: &[Value<R>],
+        end: End,
+        slots: &Slots<'_, R>,
+    ) -> Result<(List<Value<R>>, End), AllocError>
+        ensures { IfOk result (λ s. s ≡ select_by (of_item (world_of R.table_of R.shown self.now.tables.now) body.now slots.now) items.now end) }
+    {
+        let mut made = List::new(self.alloc);
+        for item in items {
+            match self.evaluate(body, &slots.with(item)) {
+                Ok(value) => made.push(value)?,
+                Err(RunError::Fault(fault)) => return Ok((made, End::Fault(fault))),
+                Err(RunError::Memory) => return Err(AllocError),
+            }
+        }
+        Ok((made, end))
+    }
+
+    /// The items of which a condition is true, up to the first fault.
+    #[cycle(running)]
+    #[tactic(auto, using(crate::proofs::StreamLemmas::steps))]
+    fn kept(
+        &self,
+        condition: &Form,
+        items: List<Value<R>>,
+        end: End,
+        slots: &Slots<'_, R>,
+    ) -> Result<(List<Value<R>>, End), AllocError>
+        ensures { IfOk result (λ s. s ≡ where_by (holds_of (world_of R.table_of R.shown self.now.tables.now) condition.now slots.now) items end) }
+    {
+        let mut made = List::new(self.alloc);
+        for item in items.into_vec() {
+            match self.truth(condition, &slots.with(&item)) {
+                Ok(true) => made.push(item)?,
+                Ok(false) => {}
+                Err(RunError::Fault(fault)) => return Ok((made, End::Fault(fault))),
+                Err(RunError::Memory) => return Err(AllocError),
+            }
+        }
+        Ok((made, end))
+    }
 }
