@@ -34,7 +34,7 @@ def records(count):
 
 
 def long_lines():
-    """Types at the limit of parts. The type of r10 has 2,047 parts, that of r9 1,023, and that of r8 511."""
+    """Types at the limit of parts, and a text with all escapes. The type of r10 has 2,047 parts, that of r9 1,023, and that of r8 511."""
     head = f"run from m in marks {records(10)} "
     parts_4093 = "new { a = r10, b = r9, c = r8, d = r8 }"
     parts_4095 = "new { a = r10, b = r10 }"
@@ -54,6 +54,8 @@ def long_lines():
         f"select (from n in marks select {parts_4096}).Count();", f"select marks.Select(n => {parts_4096}).Count();",
     ]
     lines = [(head + end, '{"items":[3]}\n') for end in served]
+    lines.append((r'run depts.Take(1).Select(d => new { t = "\b\f\n\r\t\"\\\u0001\u001f\u007f\u2028é" });',
+                  r'{"items":[{"t":"\b\f\n\r\t\"\\\u0001\u001f' + '\x7f\u2028é"}]}\n'))
     return lines + [(head + end, '{"error":"type"}\n') for end in refused]
 
 

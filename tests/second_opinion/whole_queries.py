@@ -20,7 +20,7 @@ TABLE_NAMES = ["t", "u", "x", "items", "rows", "g", "表", "Where"]
 COLUMN_NAMES = ["id", "n", "s", "b", "k", "C", "é", "Key"]
 # Cells that many rows share, so that keys meet; some near the ends of the ints.
 CELLS = {
-    "int": [0, 1, 1, 1, 2, 2, 2, 3, 3, 4, 10, -1, -7, 2147483647, -2147483648], "int?": [0, 1, 1, 2, 2, 3, 5, None, None, None],
+    "int": [0, 1, 1, 1, 2, 2, 2, 3, 3, 3, 4, 4, 5, 10, -1, -7, 2147483647, -2147483648], "int?": [0, 1, 1, 2, 2, 3, 5, None, None, None],
     "bool": [True, False], "string": ["", "a", "a", "b", "ab", "B", "é", "😀", "\uffff", None, None],
 }
 LITERALS = {
@@ -174,11 +174,12 @@ def telling(dice, wanted, scope):
     paths = scope.paths_of(kind)
     if not paths or wanted not in ("int", "bool"):
         return None
-    path = dice.choice(paths).words
+    # The last names are those of what is gone over.
+    path = dice.choice([*paths, *paths[-2:] * 3]).words
     if wanted == "int":
         words, level = dice.choice([
-            *[(["10", "/", "(", *path, "-", dice.choice("1234"), ")"], 7)] * 3, (["7", "%", *path], 7),
-            ([*path, "*", "1073741823"], 7), (["2147483644", "+", *path], 6), (["-", *path], 8),
+            *[(["10", "/", "(", *path, "-", dice.choice("12345"), ")"], 7)] * 4, (["7", "%", *path], 7),
+            ([*path, "*", "536870911"], 7), (["2147483642", "+", *path], 6), (["-", *path], 8),
         ])
         return Part(level, words, wanted)
     if kind == "bool":
@@ -219,7 +220,7 @@ def record(dice, scope, fuel, part_of):
 def any_value(dice, scope, fuel):
     """An expression of any type that a name may stand for; now and then one that faults on some items."""
     kind = dice.random()
-    if kind < 0.16:
+    if kind < 0.2:
         found = telling(dice, "int", scope)
         if found:
             return found
@@ -271,6 +272,8 @@ def sequence(dice, scope, fuel):
     part = base(dice, scope, fuel)
     if part is None:
         return any_scalar(dice, scope, 0)
+    if dice.random() < 0.2:
+        part = with_fault(dice, part, scope)
     for _ in range(dice.choice([0, 1, 1, 2, 3]) if fuel > 0 else dice.choice([0, 0, 1])):
         part = with_method(dice, part, scope, fuel - 1)
     return part
@@ -301,6 +304,17 @@ def number(dice, scope, fuel):
 def with_select(dice, part, scope, fuel):
     words, its_type = function(dice, part.type.item, scope, lambda inner: any_value(dice, inner, max(fuel, 1)))
     return called(part, "Select", words, Sequence(its_type))
+
+
+def with_fault(dice, part, scope):
+    """Ints that fault on some of the items, or conditions that do; the sequence as it is where the items have no int."""
+    name = new_name(dice, scope)
+    body = telling(dice, "int", scope.plus(name, part.type.item))
+    if body is None or name not in body.words:
+        return part
+    if dice.random() < 0.7:
+        return called(part, "Select", [name, "=>", *body.words], Sequence("int"))
+    return called(part, "Where", [name, "=>", *body.bound(6), dice.choice(["<", ">", "!="]), "1"], part.type)
 
 
 def second(dice, part, scope, fuel):
