@@ -12,6 +12,7 @@ import scalars
 import sentences
 import statements
 import whole_examples
+import whole_lines
 import whole_queries
 from tables import MARK
 
@@ -275,7 +276,7 @@ def whole_case(number):
         # Row security is off, so that there are rows to query.
         file["table"] = []
     role = dice.choice([entry["name"] for entry in file["role"]])
-    script = "".join(whole_queries.line(dice, tables).replace("\n", " ") + "\n" for _ in range(LINES_OF_WHOLE))
+    script = "".join(whole_lines.line(dice, tables).replace("\n", " ") + "\n" for _ in range(LINES_OF_WHOLE))
     return call(dice, tables, policy_files.spelled_file(dice, file).encode(), role, script.encode())
 
 

@@ -9,7 +9,6 @@ from dataclasses import dataclass
 import scalars
 from lexer import is_name
 from scalars import PRIMARY
-from statements import spell
 from tables import Table
 from whole_types import Group, Record, Row, Sequence, has_default, is_key, is_source, row_of
 
@@ -522,12 +521,3 @@ def other_part(dice, words):
     else:
         return other_part(dice, words)
     return words
-
-
-def line(dice, some_tables):
-    """A line that has a type, or now and then most probably none."""
-    scope = Scope({}, some_tables)
-    words = top(dice, scope, dice.choice([0, 1, 2, 2, 3, 3])).words
-    if dice.random() < 0.2:
-        words = other_part(dice, words)
-    return spell(dice, ["run", *words, ";"])
