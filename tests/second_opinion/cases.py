@@ -265,7 +265,7 @@ def lines_case(dice, line):
 
 
 def whole_case(number):
-    """Known lines of the whole language over the small company, and lines by chance over small tables behind policies by chance."""
+    """Known lines of the whole language over the small company; then lines by chance, over small tables behind some policies."""
     known = whole_examples.scripts()
     if number - CASES < len(known):
         return of_company(policy_examples.COMPANY.encode(), script=known[number - CASES])

@@ -54,7 +54,8 @@ def added(dice, scope):
 def with_stop(dice, part, scope):
     """A method that may stop before the source's fault, or that meets it, or one of its own first."""
     items = part.type.item
-    names = ["Any", "All", "First", "Last", "Single", "ElementAt", "Count"] + ["FirstOrDefault", "SingleOrDefault"] * has_default(items)
+    names = ["Any", "All", "First", "Last", "Single", "ElementAt", "Count"]
+    names += ["FirstOrDefault", "SingleOrDefault"] * has_default(items)
     names += ["Contains"] * 2 * is_key(items) + ["Sum", "Sum", "Min", "Max"] * (items == "int" or isinstance(items, Row))
     name = dice.choice(names)
     its_type = {"Any": "bool", "All": "bool", "Contains": "bool", "Count": "int"}.get(name, items)
@@ -64,7 +65,8 @@ def with_stop(dice, part, scope):
         words = (hot(dice, scope) if items == "int" else called(part, "First", [], items)).words
     elif name in ("Sum", "Min", "Max"):
         its_type = "int"
-        words = function(dice, items, scope, lambda inner: added(dice, inner))[0] if items != "int" or dice.random() < 0.4 else []
+        has_function = items != "int" or dice.random() < 0.4
+        words = function(dice, items, scope, lambda inner: added(dice, inner))[0] if has_function else []
     elif name == "All" or dice.random() < 0.4:
         words = function(dice, items, scope, lambda inner: hot_condition(dice, inner))[0]
     else:
@@ -139,7 +141,8 @@ def nested(dice, scope):
         names = dice.sample(MEMBERS, dice.choice([1, 2, 2, 3]))
         parts = [dice.choice([hot_ints, hot_sequence, hot, hot])(dice, inner) for _ in names]
         words = [word for name, part in zip(names, parts) for word in [",", name, "=", *part.words]]
-        return Part(PRIMARY, ["new", "{", *words[1:], "}"], Record(tuple((name, part.type) for name, part in zip(names, parts))))
+        members = tuple((name, part.type) for name, part in zip(names, parts))
+        return Part(PRIMARY, ["new", "{", *words[1:], "}"], Record(members))
 
     part = dice.choice([table, table, hot_sequence])(dice, scope)
     if dice.random() < 0.3 or not is_source(part.type):

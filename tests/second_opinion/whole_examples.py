@@ -1,7 +1,7 @@
 """Lines of the whole language whose replies are known: those of the folder `whole_examples`, and some long ones.
 
-Each file there has pairs of lines, a statement and its reply, between empty lines; a line that begins with `#` tells of them. They
-are over the tables of the small company, as the role dan sees them; those of `over_t.txt` are over the table `t` of one
+Each file there has pairs of lines, a statement and its reply, between empty lines; a line that begins with `#` tells of them.
+They are over the tables of the small company, as the role dan sees them; those of `over_t.txt` are over the table `t` of one
 column c with the rows 1 and 2, and today they are answered `type`.
 """
 
@@ -34,7 +34,7 @@ def records(count):
 
 
 def long_lines():
-    """Types at the limit of parts, and a text with all escapes. The type of r10 has 2,047 parts, that of r9 1,023, and that of r8 511."""
+    """Types at the limit of parts, and a text with all escapes. The types of r10, r9 and r8 have 2,047, 1,023 and 511 parts."""
     head = f"run from m in marks {records(10)} "
     parts_4093 = "new { a = r10, b = r9, c = r8, d = r8 }"
     parts_4095 = "new { a = r10, b = r10 }"
@@ -49,9 +49,9 @@ def long_lines():
         f"select new {{ {parts_4096}.a, r10, m }}.m.k;",
     ]
     refused = [
-        f"where {parts_4097} != null select m.k;", f"where {parts_4097}.c == 1 select m.k;", f"select {parts_4096} into r select r.c;",
-        f"select {parts_4096};", f"let r = {parts_4097} select 3;", f"group {parts_4093} by new {{ m.k }} into g select 3;",
-        f"select (from n in marks select {parts_4096}).Count();", f"select marks.Select(n => {parts_4096}).Count();",
+        f"where {parts_4097} != null select m.k;", f"where {parts_4097}.c == 1 select m.k;",
+        f"select {parts_4096} into r select r.c;", f"select {parts_4096};", f"let r = {parts_4097} select 3;",
+        f"group {parts_4093} by new {{ m.k }} into g select 3;", f"select (from n in marks select {parts_4096}).Count();", f"select marks.Select(n => {parts_4096}).Count();",
     ]
     lines = [(head + end, '{"items":[3]}\n') for end in served]
     lines.append((r'run depts.Take(1).Select(d => new { t = "\b\f\n\r\t\"\\\u0001\u001f\u007f\u2028é" });',

@@ -36,7 +36,7 @@ class Grouping:
 
 
 def same_key(value):
-    """What two values have in common exactly where they are the same: a record's members count, and null is none of its kinds."""
+    """What two values have in common exactly where they are the same. Of records all members count."""
     if isinstance(value, dict):
         return tuple(map(same_key, value.values()))
     return type(value).__name__, value
@@ -258,9 +258,9 @@ def extreme(choose):
 
 
 METHODS = {
-    "Distinct": distinct, "Reverse": backwards, "DefaultIfEmpty": default_if_empty, "Any": has_any, "Count": count, "First": first,
-    "FirstOrDefault": first_or_default, "Last": last, "Single": single, "SingleOrDefault": single_or_default, "Sum": total,
-    "Min": extreme(min), "Max": extreme(max),
+    "Distinct": distinct, "Reverse": backwards, "DefaultIfEmpty": default_if_empty, "Any": has_any, "Count": count,
+    "First": first, "FirstOrDefault": first_or_default, "Last": last, "Single": single, "SingleOrDefault": single_or_default,
+    "Sum": total, "Min": extreme(min), "Max": extreme(max),
 }
 
 

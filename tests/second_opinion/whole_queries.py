@@ -1,7 +1,7 @@
 """Lines of the whole language by chance: typed queries and expressions over some tables, and such with a part of another type.
 
-`dice` is a random.Random. A Part is an expression: the level of its weakest operator, its tokens' spellings and its type. `fuel`
-bounds how far it grows.
+`dice` is a random.Random. A Part is an expression: the level of its weakest operator, its tokens' spellings and its type.
+`fuel` bounds how far it grows.
 """
 
 from dataclasses import dataclass
@@ -10,7 +10,7 @@ import scalars
 from lexer import is_name
 from scalars import PRIMARY
 from tables import Table
-from whole_types import Group, Record, Row, Sequence, has_default, is_key, is_source, row_of
+from whole_types import METHODS, Group, Record, Row, Sequence, has_default, is_key, is_source, row_of
 
 SCALARS = ("int", "int?", "bool", "string")
 NAMES = ["x", "y", "z", "w", "a", "b", "g", "h", "e", "d", "it", "é", "_", "k", "v", "id"]
@@ -19,16 +19,17 @@ TABLE_NAMES = ["t", "u", "x", "items", "rows", "g", "表", "Where"]
 COLUMN_NAMES = ["id", "n", "s", "b", "k", "C", "é", "Key"]
 # Cells that many rows share, so that keys meet; some near the ends of the ints.
 CELLS = {
-    "int": [0, 1, 1, 1, 2, 2, 2, 3, 3, 3, 4, 4, 5, 10, -1, -7, 2147483647, -2147483648], "int?": [0, 1, 1, 2, 2, 3, 5, None, None, None],
-    "bool": [True, False], "string": ["", "a", "a", "b", "ab", "B", "é", "😀", "\uffff", None, None],
+    "int": [0, 1, 1, 1, 2, 2, 2, 3, 3, 3, 4, 4, 5, 10, -1, -7, 2147483647, -2147483648],
+    "int?": [0, 1, 1, 2, 2, 3, 5, None, None, None], "bool": [True, False],
+    "string": ["", "a", "a", "b", "ab", "B", "é", "😀", "\uffff", None, None],
 }
 LITERALS = {
     "int": ["0", "1", "1", "2", "2", "3", "7", "10", "2147483647"], "bool": ["true", "false"],
     "string": ['""', '"a"', '"b"', '"ab"', '"é"', r'"\u00e9\n"', '"😀"'],
 }
 FORMS = {
-    "int": ["int PLUS int", "int PLUS int", "int TIMES int", "int DIVIDE 3", "- int", "bool ? int : int", "int? ?? int", "int? ?? int",
-            "10 DIVIDE ( int - int )", "int DIVIDE int", "string . Length", "int? . Value"],
+    "int": ["int PLUS int", "int PLUS int", "int TIMES int", "int DIVIDE 3", "- int", "bool ? int : int", "int? ?? int",
+            "int? ?? int", "10 DIVIDE ( int - int )", "int DIVIDE int", "string . Length", "int? . Value"],
     "int?": ["int? PLUS int", "int TIMES int?", "bool ? int? : int", "bool ? null : int?", "int? ?? int?", "bool ? int : int?",
              "int? ?? null", "- int?", "int? DIVIDE int"],
     "bool": ["int COMPARE int", "int COMPARE int", "int COMPARE int", "int? COMPARE int", "int EQUAL int", "int? EQUAL int",
@@ -39,13 +40,11 @@ FORMS = {
 FORMS = {its_type: [form.split() for form in forms] for its_type, forms in FORMS.items()}
 # Names and literals that may stand in another one's place, and methods in another's.
 STRAY_NAMES = ["none", "x", "y", "g", "id", "n", "s", "Key", "t", "Count", "Value", "Length"]
-STRAY_VALUES = ["null", "1", '"a"', "true", "new { }", "none", "t", "( t )", "- 2147483648", "new { a = 1 }", "Host . p ( x . id )"]
-BINARY = ["+", "*", "/", "==", "!=", "<", ">", "&&", "||", "??"]
-STRAY_METHODS = [
-    "Where", "Select", "Concat", "Distinct", "Union", "Intersect", "Except", "Reverse", "Skip", "Take", "DefaultIfEmpty", "Any", "All",
-    "Contains", "Count", "First", "FirstOrDefault", "Last", "Single", "SingleOrDefault", "ElementAt", "Sum", "Min", "Max", "OrderBy",
-    "GroupBy", "SelectMany", "Join", "Zip", "ToList", "LastOrDefault", "count", "SkipWhile",
+STRAY_VALUES = [
+    "null", "1", '"a"', "true", "new { }", "none", "t", "( t )", "- 2147483648", "new { a = 1 }", "Host . p ( x . id )",
 ]
+BINARY = ["+", "*", "/", "==", "!=", "<", ">", "&&", "||", "??"]
+STRAY_METHODS = [*METHODS, "OrderBy", "GroupBy", "SelectMany", "Join", "Zip", "ToList", "LastOrDefault", "count", "SkipWhile"]
 
 
 @dataclass(frozen=True)
@@ -131,8 +130,8 @@ def new_name(dice, *scopes):
 
 
 def leaf(dice, wanted, scope):
-    """A path or a literal. An int? has no literal, so it is a path, or what a table's cells give. Where a name hides the last table
-    with such a column, it is an int, which most places take, too."""
+    """A path or a literal. An int? has no literal, so it is a path, or what a table's cells give. Where a name hides the last
+    table with such a column, it is an int, which most places take, too."""
     paths = scope.paths_of(wanted)
     if paths and (wanted == "int?" or dice.random() < 0.85):
         return dice.choice(paths)
@@ -140,8 +139,8 @@ def leaf(dice, wanted, scope):
         return Part(PRIMARY, [dice.choice(LITERALS["int" if wanted == "int?" else wanted])], wanted)
     name, column = dice.choice(nullable_columns(scope.seen))
     row = new_name(dice, scope)
-    words = [name, ".", "Select", "(", row, "=>", row, ".", column, ")", ".", dice.choice(["Max", "Min", "FirstOrDefault"]), "(", ")"]
-    return Part(PRIMARY, words, "int?")
+    part = called(Part(PRIMARY, [name], None), "Select", [row, "=>", row, ".", column], None)
+    return called(part, dice.choice(["Max", "Min", "FirstOrDefault"]), [], "int?")
 
 
 def scalar(dice, wanted, scope, fuel):
@@ -391,12 +390,10 @@ def decided(dice, part, scope, fuel):
     items = part.type.item
     name = dice.choice(["Any", "All", "Contains", "Contains"] if is_key(items) else ["Any", "All"])
     if name == "Contains":
-        wanted = items
-        if items == "int?" and dice.random() < 0.3:
-            wanted = "int"
+        wanted = "int" if items == "int?" and dice.random() < 0.3 else items
         if wanted in scope.types():
             return called(part, name, scalar(dice, wanted, scope, fuel).words, "bool")
-        return called(part, name, dice.choice([[*called(part, "First", [], items).words], ["null"]]) if wanted != "bool" else ["true"], "bool")
+        return called(part, name, dice.choice([called(part, "First", [], items).words, ["null"]]), "bool")
     words = condition(dice, items, scope, fuel) if name == "All" or dice.random() < 0.5 else []
     return called(part, name, words, "bool")
 
@@ -451,12 +448,14 @@ def keys(dice, outer, inner):
         pair = [dice.choice(["int", "int?"]) for _ in pair]
     if dice.random() < 0.75:
         return [scalar(dice, wanted, scope, dice.choice([0, 0, 1])).words for wanted, scope in zip(pair, (outer, inner))]
-    name, more = dice.sample(MEMBERS, 2)
-    other = dice.choice(types)
-    return [
-        ["new", "{", name, "=", *scalar(dice, its_type, scope, 0).words, ",", more, "=", *scalar(dice, other, scope, 0).words, "}"]
-        for scope in (outer, inner)
-    ]
+    names, kinds = dice.sample(MEMBERS, 2), [its_type, dice.choice(types)]
+    return [["new", "{", *members_words(dice, names, kinds, scope), "}"] for scope in (outer, inner)]
+
+
+def members_words(dice, names, kinds, scope):
+    """Members of the names and types, with commas between them."""
+    words = [[name, "=", *scalar(dice, kind, scope, 0).words] for name, kind in zip(names, kinds)]
+    return [word for place, member in enumerate(words) for word in ([","] if place else []) + member]
 
 
 def body(dice, outside, inside, fuel):

@@ -231,9 +231,9 @@ def is_number(its_type):
     return its_type in NUMBERS
 
 
-# .NET, Enumerable. Of each method: its arguments' letters, one of which it takes (`-` is no argument, p a condition and f a value of
-# an item, s a second sequence, n an int, v an item); what the items have to be, or the values of the f; and the type of its
-# result, where these are no scalars: "items" a sequence of them, "item" one of them.
+# .NET, Enumerable. Of each method: the letters of its arguments, one of which it takes (`-` is none, p a condition and f a value
+# of an item, s a second sequence, n an int, v an item); what the items have to be, or the values of the f; and the type of
+# its result: a sequence of the items or of the values, one item or value, or a scalar.
 METHODS = {
     "Where": ("p", anything, "items"), "Select": ("f", anything, "values"), "Concat": ("s", anything, "items"),
     "Distinct": ("-", is_key, "items"), "Union": ("s", is_key, "items"), "Intersect": ("s", is_key, "items"),
@@ -326,8 +326,8 @@ def where_clause(clause, _, inside):
 
 
 def join_clause(clause, outside, inside):
-    """ECMA-334, join clauses: the inner sequence sees no range variable of this query, the first key those before, the second the
-    inner items alone. With `into` the groups' name is in scope behind it, and the inner items' isn't."""
+    """ECMA-334, join clauses: the inner sequence sees no range variable of this query, the first key those before, the second
+    the inner items alone. With `into` the groups' name is in scope behind it, and the inner items' isn't."""
     name, inner, outer_key, inner_key, *group = clause.parts
     found = source(inner, outside)
     behind = inside.with_name(name, found.type.item)
