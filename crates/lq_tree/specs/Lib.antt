@@ -1,1 +1,3 @@
 pub mod FormMeaning
+pub mod RowLaws
+pub mod Rows

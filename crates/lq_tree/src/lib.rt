@@ -2,6 +2,7 @@
 //! needs, and nothing is left to look up by a text when the tree is run.
 #![tactic(auto)]
 
+pub mod row_laws;
 mod tree;
 
 pub use tree::{Form, Joined, Tree, ty};
