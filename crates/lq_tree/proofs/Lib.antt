@@ -1,1 +1,2 @@
+pub mod MappedStreams
 pub mod MappedValues

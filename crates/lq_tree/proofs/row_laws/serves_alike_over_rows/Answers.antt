@@ -1,5 +1,6 @@
+use Rattle.lq_tree.proofs.MappedStreams.{group_natural}
 use Rattle.lq_tree.proofs.MappedValues.{same_kept}
 use Rattle.lq_tree.proofs.row_laws.serves_alike_over_rows.Goals as goal
 
 pub returns : goal.returns
-returns g c = let h = λ f v w. same_kept f v w in ?
+returns g c = ?
