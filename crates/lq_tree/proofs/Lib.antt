@@ -1,2 +1,3 @@
+pub mod MappedMethods
 pub mod MappedStreams
 pub mod MappedValues
