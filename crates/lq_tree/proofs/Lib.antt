@@ -1,3 +1,5 @@
+pub mod MappedItems
 pub mod MappedMethods
+pub mod MappedReplies
 pub mod MappedStreams
 pub mod MappedValues

@@ -1,6 +1,6 @@
-use Rattle.lq_tree.proofs.MappedMethods.{contains_natural}
-use Rattle.lq_tree.proofs.MappedValues.{same_kept}
+use Rattle.lq_tree.proofs.MappedItems.{simple_natural}
+use Rattle.lq_tree.proofs.MappedReplies.{serves_alike}
 use Rattle.lq_tree.proofs.row_laws.serves_alike_over_rows.Goals as goal
 
 pub returns : goal.returns
-returns g c = ?
+returns g c = serves_alike
