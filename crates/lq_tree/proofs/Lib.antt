@@ -3,3 +3,4 @@ pub mod MappedMethods
 pub mod MappedReplies
 pub mod MappedStreams
 pub mod MappedValues
+pub mod RowMeanings
