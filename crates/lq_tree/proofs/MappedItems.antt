@@ -1,27 +1,22 @@
 -- What is read of values whose rows are replaced, and methods of sequences on such values.
-use Rattle.std.proofs.Common.{◌≡◌, ◌∷◌, if◌then◌else◌, List, [], map, ℕ, ℤ, pos, Bool, true, false, not, Option, Some, None, Result, Ok, Err, ap, ap₂, ◌∙◌, sym, refl, option_and_then, option_map, slice_get}
-use Rattle.std.proofs.lemmas.Option.{slice_get-map}
+use Rattle.std.proofs.Common.{◌≡◌, ◌∷◌, if◌then◌else◌, List, [], map, ℤ, pos, Bool, true, false, Result, Ok, Err, ap, ◌∙◌, sym, refl}
 use Rattle.lq_value.specs.SameAndOrder.{same_values as same_keys}
 use Rattle.lq_value.specs.declared.scalar.Scalar.{Scalar}
 use Rattle.lq_value.specs.declared.scalar.Scalar.TheVariants as scalar
 use Rattle.lq_value.specs.declared.ty.Ty.{Ty, out-Ty}
 use Rattle.lq_value.specs.declared.ty.Ty.TheOpen.{Ty-F}
-use Rattle.lq_value.specs.declared.value.End.{End}
-use Rattle.lq_value.specs.declared.value.End.TheVariants as end
 use Rattle.lq_value.specs.declared.value.Fault.{Fault}
 use Rattle.lq_value.specs.declared.value.Value.{Value, out-Value}
 use Rattle.lq_value.specs.declared.value.Value.TheOpen.{Value-F}
-use Rattle.lq_value.specs.declared.value.Value.TheVariants as value
-use Rattle.lq_model.specs.Enumerable.{any, count, default_if_empty, first, greatest, last, least, reversed, single, summed}
+use Rattle.lq_model.specs.Enumerable.{any, count, default_if_empty, first, greatest, least, reversed, single, summed}
 use Rattle.lq_model.specs.Meaning.{as_group, as_value, is_null_layer, matches, sequence, truth_value}
-use Rattle.lq_model.specs.Operations.{on_ok}
 use Rattle.lq_model.specs.Operators.{first as first_part, first_member, pair, second, second_member}
 use Rattle.lq_model.specs.Stream.{Stream, elements_of, first_keys}
 use Rattle.lq_model.specs.WholeMeaning.{as_sequence, as_truth, default_layer, default_of, no_number, none_there, number_in, numbers, simple_meaning}
 use Rattle.lq_model.specs.declared.methods.Simple.{Simple}
 use Rattle.lq_model.specs.declared.methods.Simple.TheVariants as simple
 use Rattle.lq_tree.specs.Rows.{mapped, result_map, stream_map}
-use Rattle.lq_tree.proofs.MappedMethods.{any_natural, contains_natural, count_natural, default_natural, distinct_natural, filter_map_natural, first_natural, last_natural, reversed_natural, single_natural}
+use Rattle.lq_tree.proofs.MappedMethods.{any_natural, count_natural, default_natural, distinct_natural, filter_map_natural, first_natural, last_natural, reversed_natural, single_natural}
 use Rattle.lq_tree.proofs.MappedStreams.{elements_natural, pair_map}
 use Rattle.lq_tree.proofs.MappedValues.{mapped_Group, mapped_Rec, mapped_Scalar, mapped_Seq, mapped_layer, mapped_out, same_kept}
 
@@ -99,7 +94,8 @@ module _ {R S : Type 0} (f : R → S) where
 
   pub numbers_kept : (vs : List (Value R)) → numbers (map m vs) ≡ numbers vs
   numbers_kept vs =
-      filter_map_natural m (λ v. number_in (out-Value R v)) (λ v. number_in (out-Value S v)) (λ v. ap number_in (mapped_out f v) ∙ number_by (out-Value R v)) vs
+      filter_map_natural m (λ v. number_in (out-Value R v)) (λ v. number_in (out-Value S v)) (λ v. ap number_in (mapped_out f v) ∙ number_by (out-Value R v))
+      vs
 
   -- ---- matches of a key
 
@@ -116,25 +112,32 @@ module _ {R S : Type 0} (f : R → S) where
 
   pub matches_kept : (key : Value R) (qs : List (Value R × Value R)) → matches (m key) (map (pair_map m m) qs) ≡ map m (matches key qs)
   matches_kept key qs =
-      ap (λ (b : Bool). if b then [] else elements_of same_keys (m key) (map (pair_map m m) qs)) (ap is_null_layer (mapped_out f key) ∙ null_by (out-Value R key))
+      ap (λ (b : Bool). if b then [] else elements_of same_keys (m key) (map (pair_map m m) qs))
+      (ap is_null_layer (mapped_out f key) ∙ null_by (out-Value R key))
       ∙ unless_null (is_null_layer (out-Value R key)) (elements_of same_keys key qs) (elements_of same_keys (m key) (map (pair_map m m) qs))
       (elements_natural m same_keys same_keys (same_kept f) m key qs)
 
   -- ---- methods without an argument
 
   pub simple_natural : (method : Simple) (t : Ty) (s : Stream (Value R)) → simple_meaning method t (stream_map m s) ≡ result_map m (simple_meaning method t s)
-  simple_natural simple.Distinct t s = ap as_sequence (distinct_natural m same_keys same_keys (same_kept f) s.0 s.1) ∙ items_kept (first_keys same_keys s.0, s.1)
+  simple_natural simple.Distinct t s =
+      ap as_sequence (distinct_natural m same_keys same_keys (same_kept f) s.0 s.1) ∙ items_kept (first_keys same_keys s.0, s.1)
   simple_natural simple.Reverse t s = ap as_sequence (reversed_natural m s.0 s.1) ∙ items_kept (reversed s.0 s.1)
   simple_natural simple.DefaultIfEmpty t s =
-      ap (λ (d : Value S). as_sequence (default_if_empty d (map m s.0) s.1)) (sym (default_kept t)) ∙ ap as_sequence (default_natural m (default_of t) s.0 s.1)
+      ap (λ (d : Value S). as_sequence (default_if_empty d (map m s.0) s.1)) (sym (default_kept t))
+      ∙ ap as_sequence (default_natural m (default_of t) s.0 s.1)
       ∙ items_kept (default_if_empty (default_of t) s.0 s.1)
   simple_natural simple.Any t s = ap as_truth (any_natural m s.0 s.1) ∙ answer_kept (any s.0 s.1)
   simple_natural simple.Count t s = ap as_value (count_natural m s.0 s.1) ∙ value_kept (count s.0 s.1)
   simple_natural simple.First t s = first_natural m none_there s.0 s.1
-  simple_natural simple.FirstOrDefault t s = ap (λ (d : Value S). first (Ok d) (map m s.0) s.1) (sym (default_kept t)) ∙ first_natural m (Ok (default_of t)) s.0 s.1
+  simple_natural simple.FirstOrDefault t s =
+      ap (λ (d : Value S). first (Ok d) (map m s.0) s.1) (sym (default_kept t)) ∙ first_natural m (Ok (default_of t)) s.0 s.1
   simple_natural simple.Last t s = last_natural m none_there s.0 s.1
   simple_natural simple.Single t s = single_natural m none_there s.0 s.1
-  simple_natural simple.SingleOrDefault t s = ap (λ (d : Value S). single (Ok d) (map m s.0) s.1) (sym (default_kept t)) ∙ single_natural m (Ok (default_of t)) s.0 s.1
+  simple_natural simple.SingleOrDefault t s =
+      ap (λ (d : Value S). single (Ok d) (map m s.0) s.1) (sym (default_kept t)) ∙ single_natural m (Ok (default_of t)) s.0 s.1
   simple_natural simple.Sum t s = ap (λ (ns : List ℤ). as_value (summed (pos 0) ns s.1)) (numbers_kept s.0) ∙ value_kept (summed (pos 0) (numbers s.0) s.1)
-  simple_natural simple.Min t s = ap (λ (ns : List ℤ). as_value (least (no_number t) ns s.1)) (numbers_kept s.0) ∙ value_kept (least (no_number t) (numbers s.0) s.1)
-  simple_natural simple.Max t s = ap (λ (ns : List ℤ). as_value (greatest (no_number t) ns s.1)) (numbers_kept s.0) ∙ value_kept (greatest (no_number t) (numbers s.0) s.1)
+  simple_natural simple.Min t s =
+      ap (λ (ns : List ℤ). as_value (least (no_number t) ns s.1)) (numbers_kept s.0) ∙ value_kept (least (no_number t) (numbers s.0) s.1)
+  simple_natural simple.Max t s =
+      ap (λ (ns : List ℤ). as_value (greatest (no_number t) ns s.1)) (numbers_kept s.0) ∙ value_kept (greatest (no_number t) (numbers s.0) s.1)

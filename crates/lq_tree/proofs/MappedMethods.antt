@@ -1,8 +1,7 @@
 -- Methods of sequences whose items are replaced: what each gives of them is what it gave of the items, replaced.
-use Rattle.std.proofs.Common.{◌≡◌, ◌∷◌, ◌||◌, if◌then◌else◌, List, [], filter, map, ℕ, zero, suc, ℤ, pos, negsuc, Bool, true, false, not, Option, Some, None, Result, Ok, Err, ap, ap₂, ◌∙◌, sym, refl, reverse}
+use Rattle.std.proofs.Common.{◌≡◌, ◌∷◌, ◌||◌, if◌then◌else◌, List, [], filter, map, ℕ, zero, suc, ℤ, pos, negsuc, Bool, true, false, not, Option, Result, Ok, ap, ap₂, ◌∙◌, refl, reverse}
 use Rattle.std.specs.List.{cons_option, drop-map, filter_map}
 use mathlib.Core.List.{reverse_aux}
-use Rattle.lq_value.specs.declared.scalar.Scalar.{Scalar}
 use Rattle.lq_value.specs.declared.value.End.{End}
 use Rattle.lq_value.specs.declared.value.End.TheVariants as end
 use Rattle.lq_value.specs.declared.value.Fault.{Fault}
@@ -42,7 +41,8 @@ module _ {A B : Type 0} (g : A → B) where
   any_natural [] e = refl
   any_natural (x ∷ xs) e = refl
 
-  pub all_natural : (c : A → Result Bool Fault) (k : B → Result Bool Fault) → ((x : A) → k (g x) ≡ c x) → (xs : List A) (e : End) → all k (map g xs) e ≡ all c xs e
+  pub all_natural : (c : A → Result Bool Fault) (k : B → Result Bool Fault) → ((x : A) → k (g x) ≡ c x) → (xs : List A) (e : End)
+      → all k (map g xs) e ≡ all c xs e
   all_natural c k h [] e = refl
   all_natural c k h (x ∷ xs) e =
       ap₂ (λ (o rest : Result Bool Fault). on_ok o (λ holds. if holds then rest else Ok false)) (h x) (all_natural c k h xs e)
@@ -50,7 +50,8 @@ module _ {A B : Type 0} (g : A → B) where
   pub count_natural : (xs : List A) (e : End) → count (map g xs) e ≡ count xs e
   count_natural xs e = ap (λ (ns : List ℤ). summed (pos 0) ns e) (map_twice g (λ x. pos 1) xs)
 
-  pub filter_map_natural : {C : Type 0} (p : A → Option C) (q : B → Option C) → ((x : A) → q (g x) ≡ p x) → (xs : List A) → filter_map q (map g xs) ≡ filter_map p xs
+  pub filter_map_natural : {C : Type 0} (p : A → Option C) (q : B → Option C) → ((x : A) → q (g x) ≡ p x) → (xs : List A)
+      → filter_map q (map g xs) ≡ filter_map p xs
   filter_map_natural p q h [] = refl
   filter_map_natural p q h (x ∷ xs) = ap₂ cons_option (h x) (filter_map_natural p q h xs)
 
@@ -110,11 +111,13 @@ module _ {A B : Type 0} (g : A → B) where
     chosen_natural test xs ys e =
         ap (λ (zs : List B). (zs, e))
         (ap (filter (λ x. test (is_among alike x (map g ys)))) (first_keys_natural g same alike h xs)
-        ∙ filter_natural g (λ x. test (is_among same x ys)) (λ x. test (is_among alike x (map g ys))) (λ x. ap test (among_natural x ys)) (first_keys same xs))
+        ∙ filter_natural g (λ x. test (is_among same x ys)) (λ x. test (is_among alike x (map g ys))) (λ x. ap test (among_natural x ys))
+        (first_keys same xs))
 
     pub intersect_natural : (xs ys : Stream A) → intersect alike (stream_map g xs) (stream_map g ys) ≡ stream_map g (intersect same xs ys)
     intersect_natural xs ys =
-        whole_natural g g (λ zs. (filter (λ x. is_among same x zs) (first_keys same xs.0), xs.1)) (λ zs. (filter (λ x. is_among alike x zs) (first_keys alike (map g xs.0)), xs.1))
+        whole_natural g g (λ zs. (filter (λ x. is_among same x zs) (first_keys same xs.0), xs.1))
+        (λ zs. (filter (λ x. is_among alike x zs) (first_keys alike (map g xs.0)), xs.1))
         (λ zs. chosen_natural (λ b. b) xs.0 zs xs.1) ys.0 ys.1
 
     pub except_natural : (xs ys : Stream A) → except alike (stream_map g xs) (stream_map g ys) ≡ stream_map g (except same xs ys)

@@ -1,8 +1,8 @@
 -- The reply of values whose rows are replaced by rows with the same cells.
-use Rattle.std.proofs.Common.{◌≡◌, ◌∷◌, List, [], map, ℕ, Option, Some, None, Result, Ok, Err, ap, ap₂, ◌∙◌, sym, refl, subst}
+use Rattle.std.proofs.Common.{◌≡◌, ◌∷◌, List, [], map, ℕ, Option, Result, Ok, Err, ap, ap₂, ◌∙◌, sym, refl, subst}
 use Rattle.lq_value.specs.declared.scalar.Scalar.{Scalar}
 use Rattle.lq_value.specs.declared.table.Schema.{Schema}
-use Rattle.lq_value.specs.declared.ty.Ty.{Ty, fold_out-Ty, ind-Ty, map-Ty, out-Ty, roll-Ty}
+use Rattle.lq_value.specs.declared.ty.Ty.{Ty, ind-Ty, map-Ty, roll-Ty}
 use Rattle.lq_value.specs.declared.ty.Ty.TheOpen.{Ty-F}
 use Rattle.lq_value.specs.declared.ty.Ty.TheViews.{out-roll-Ty}
 use Rattle.lq_value.specs.declared.value.Fault.{Fault}
@@ -72,7 +72,8 @@ bare P layer = map-Ty (Typed P) Ty (λ z. z.0) layer
 of_every_type : (P : Ty → Type 0) → ((y : Ty-F (Typed P)) → P (roll-Ty (bare P y))) → (t : Ty) → P t
 of_every_type P h t = ind-Ty P (λ x y e. subst (λ (d : Ty-F Ty). P (roll-Ty d)) e (h y)) t
 
-module _ {R S : Type 0} (f : R → S) (schemas : List Schema) (cells_r : R → List Scalar) (cells_s : S → List Scalar) (same : (r : R) → cells_s (f r) ≡ cells_r r) where
+module _ {R S : Type 0} (f : R → S) (schemas : List Schema) (cells_r : R → List Scalar) (cells_s : S → List Scalar)
+    (same : (r : R) → cells_s (f r) ≡ cells_r r) where
   abbrev KeepsData : Ty → Type 0
   KeepsData t = (v : Value R) → item_data schemas cells_s t (mapped f v) ≡ item_data schemas cells_r t v
 
@@ -80,7 +81,8 @@ module _ {R S : Type 0} (f : R → S) (schemas : List Schema) (cells_r : R → L
   Kept = Typed KeepsData
 
   members_data : (ts : List (List ℕ × Kept)) (ns : List (List ℕ × Value R))
-      → record_members (map (λ (t : List ℕ × Ty). (t.0, item_data schemas cells_s t.1)) (map (λ (t : List ℕ × Kept). (t.0, t.1.0)) ts)) (map (mapped_member f) ns)
+      → record_members (map (λ (t : List ℕ × Ty). (t.0, item_data schemas cells_s t.1)) (map (λ (t : List ℕ × Kept). (t.0, t.1.0)) ts))
+      (map (mapped_member f) ns)
       ≡ record_members (map (λ (t : List ℕ × Ty). (t.0, item_data schemas cells_r t.1)) (map (λ (t : List ℕ × Kept). (t.0, t.1.0)) ts)) ns
   members_data [] ns = refl
   members_data (t ∷ ts) [] = let others = members_data ts [] in cc
@@ -91,12 +93,14 @@ module _ {R S : Type 0} (f : R → S) (schemas : List Schema) (cells_r : R → L
   items_data t (v ∷ vs) = ap₂ (λ d ds. d ∷ ds) (t.1 v) (items_data t vs)
 
   row_by : (cells : List Scalar) (y : Ty-F Kept)
-      → row_data schemas cells (map-Ty Ty _ (item_data schemas cells_s) (bare KeepsData y)) ≡ row_data schemas cells (map-Ty Ty _ (item_data schemas cells_r) (bare KeepsData y))
+      → row_data schemas cells (map-Ty Ty _ (item_data schemas cells_s) (bare KeepsData y))
+      ≡ row_data schemas cells (map-Ty Ty _ (item_data schemas cells_r) (bare KeepsData y))
   row_by cells (Ty-F.Row n) = refl
   row_by cells y = refl
 
   record_by : (ns : List (List ℕ × Value R)) (y : Ty-F Kept)
-      → record_data (map (mapped_member f) ns) (map-Ty Ty _ (item_data schemas cells_s) (bare KeepsData y)) ≡ record_data ns (map-Ty Ty _ (item_data schemas cells_r) (bare KeepsData y))
+      → record_data (map (mapped_member f) ns) (map-Ty Ty _ (item_data schemas cells_s) (bare KeepsData y))
+      ≡ record_data ns (map-Ty Ty _ (item_data schemas cells_r) (bare KeepsData y))
   record_by ns (Ty-F.Rec ts) = let here = members_data ts ns in cc
   record_by ns y = refl
 
@@ -107,7 +111,8 @@ module _ {R S : Type 0} (f : R → S) (schemas : List Schema) (cells_r : R → L
   group_by key vs y = refl
 
   sequence_by : (vs : List (Value R)) (y : Ty-F Kept)
-      → sequence_data (map (mapped f) vs) (map-Ty Ty _ (item_data schemas cells_s) (bare KeepsData y)) ≡ sequence_data vs (map-Ty Ty _ (item_data schemas cells_r) (bare KeepsData y))
+      → sequence_data (map (mapped f) vs) (map-Ty Ty _ (item_data schemas cells_s) (bare KeepsData y))
+      ≡ sequence_data vs (map-Ty Ty _ (item_data schemas cells_r) (bare KeepsData y))
   sequence_by vs (Ty-F.Seq t) = let here = items_data t vs in cc
   sequence_by vs y = refl
 
@@ -127,7 +132,8 @@ module _ {R S : Type 0} (f : R → S) (schemas : List Schema) (cells_r : R → L
       item_out schemas cells_s t (mapped f v)
       ∙ (λ i. layer_data schemas cells_s (map-Ty Ty _ (item_data schemas cells_s) (out-roll-Ty (bare KeepsData y) i)) (mapped_out f v i))
       ∙ layers_data y (out-Value R v)
-      ∙ sym (item_out schemas cells_r t v ∙ (λ i. layer_data schemas cells_r (map-Ty Ty _ (item_data schemas cells_r) (out-roll-Ty (bare KeepsData y) i)) (out-Value R v)))
+      ∙ sym (item_out schemas cells_r t v
+      ∙ (λ i. layer_data schemas cells_r (map-Ty Ty _ (item_data schemas cells_r) (out-roll-Ty (bare KeepsData y) i)) (out-Value R v)))
 
   pub data_kept : (t : Ty) (v : Value R) → item_data schemas cells_s t (mapped f v) ≡ item_data schemas cells_r t v
   data_kept t v = of_every_type KeepsData keeps_data t v

@@ -1,7 +1,7 @@
 -- A value whose rows are replaced, layer by layer; it is the same key as it was.
-use Rattle.std.proofs.Common.{◌≡◌, ◌∷◌, ◌&&◌, List, [], map, ℕ, Bool, Option, Some, ap, ap₂, ◌∙◌, sym, refl, subst, bytes_eq}
+use Rattle.std.proofs.Common.{◌≡◌, ◌∷◌, ◌&&◌, List, [], map, ℕ, Bool, ap, ap₂, ◌∙◌, sym, refl, subst, bytes_eq}
 use Rattle.std.specs.Cmp.Lexicographic.{pointwise}
-use Rattle.lq_value.specs.SameAndOrder.{same_layers, same_member, same_values, tested_member}
+use Rattle.lq_value.specs.SameAndOrder.{same_layers, same_values, tested_member}
 use Rattle.lq_value.specs.declared.scalar.Scalar.{Scalar}
 use Rattle.lq_value.specs.declared.value.End.{End}
 use Rattle.lq_value.specs.declared.value.Value.{Value, fold_out-Value, ind-Value, map-Value, out-Value, roll-Value}

@@ -1,12 +1,11 @@
 -- Every form over rows that are replaced by rows with the same cells means what it meant, with the rows replaced.
-use Rattle.std.proofs.Common.{◌≡◌, ◌∷◌, List, [], map, ℕ, Option, Result, Ok, Err, ap, ◌∙◌, sym, refl, subst}
+use Rattle.std.proofs.Common.{◌≡◌, ◌∷◌, List, [], map, ℕ, Option, Ok, ap, ◌∙◌, sym, refl, subst}
 use Rattle.lq_value.specs.declared.scalar.Scalar.{Scalar}
-use Rattle.lq_value.specs.declared.value.Fault.{Fault}
 use Rattle.lq_value.specs.declared.value.Value.{Value}
 use Rattle.lq_value.specs.declared.value.Value.TheVariants as value
 use Rattle.lq_model.specs.Arrangement.{order_by}
 use Rattle.lq_model.specs.Maps.{map_field, map_key}
-use Rattle.lq_model.specs.Meaning.{World, sequence, stream_of}
+use Rattle.lq_model.specs.Meaning.{World, stream_of}
 use Rattle.lq_model.specs.Operations.{on_ok}
 use Rattle.lq_model.specs.Stream.{Stream}
 use Rattle.lq_model.specs.declared.syntax.Field.{Field}
@@ -35,7 +34,8 @@ module _ {R : Type 0} (world : World R) where
   meaning_roll : (layer : Form-F Form) (slots : Slots R) → form_meaning world (roll-Form layer) slots ≡ form_step world (meant layer) slots
   meaning_roll layer slots = meaning_out (roll-Form layer) slots ∙ ap (λ (l : Form-F Form). form_step world (meant l) slots) (out-roll-Form layer)
 
-module _ {R S : Type 0} (f : R → S) (world : World R) (cell : S → List ℕ → Option Scalar) (same_cells : (r : R) (column : List ℕ) → cell (f r) column ≡ world.cell r column) where
+module _ {R S : Type 0} (f : R → S) (world : World R) (cell : S → List ℕ → Option Scalar)
+    (same_cells : (r : R) (column : List ℕ) → cell (f r) column ≡ world.cell r column) where
   abbrev a : Form → Means R
   a = form_meaning world
 
@@ -64,17 +64,22 @@ module _ {R S : Type 0} (f : R → S) (world : World R) (cell : S → List ℕ �
   members_like (field ∷ fields) slots =
       ok_by m (map (mapped_member f))
       (λ v. on_ok (members_of world (map (map_field a) (map (map_field base) fields)) slots) (λ members. Ok ((field.name, v) ∷ members)))
-      (λ v. on_ok (members_of (over f world cell) (map (map_field b) (map (map_field base) fields)) (map m slots)) (λ members. Ok ((field.name, v) ∷ members)))
-      (λ v. ok_by (map (mapped_member f)) (map (mapped_member f)) (λ members. Ok ((field.name, v) ∷ members)) (λ members. Ok ((field.name, m v) ∷ members)) (λ members. refl)
-      (members_of world (map (map_field a) (map (map_field base) fields)) slots) (members_of (over f world cell) (map (map_field b) (map (map_field base) fields)) (map m slots))
+      (λ v. on_ok (members_of (over f world cell) (map (map_field b) (map (map_field base) fields)) (map m slots))
+      (λ members. Ok ((field.name, v) ∷ members)))
+      (λ v. ok_by (map (mapped_member f)) (map (mapped_member f)) (λ members. Ok ((field.name, v) ∷ members)) (λ members. Ok ((field.name, m v) ∷ members))
+      (λ members. refl)
+      (members_of world (map (map_field a) (map (map_field base) fields)) slots)
+      (members_of (over f world cell) (map (map_field b) (map (map_field base) fields)) (map m slots))
       (members_like fields slots))
       (a field.value.0 slots) (b field.value.0 (map m slots)) (field.value.1 slots)
 
   record_like : (fields : List (Field Such))
-      → Like f world cell same_cells (form_step world (Form-F.Record (map (map_field a) (map (map_field base) fields)))) (form_step (over f world cell) (Form-F.Record (map (map_field b) (map (map_field base) fields))))
+      → Like f world cell same_cells (form_step world (Form-F.Record (map (map_field a) (map (map_field base) fields))))
+      (form_step (over f world cell) (Form-F.Record (map (map_field b) (map (map_field base) fields))))
   record_like fields slots =
       ok_by (map (mapped_member f)) m (λ members. Ok (value.Rec members)) (λ members. Ok (value.Rec members)) (λ members. ap Ok (sym (mapped_Rec f members)))
-      (members_of world (map (map_field a) (map (map_field base) fields)) slots) (members_of (over f world cell) (map (map_field b) (map (map_field base) fields)) (map m slots))
+      (members_of world (map (map_field a) (map (map_field base) fields)) slots)
+      (members_of (over f world cell) (map (map_field b) (map (map_field base) fields)) (map m slots))
       (members_like fields slots)
 
   -- items sorted by the keys
@@ -83,13 +88,15 @@ module _ {R S : Type 0} (f : R → S) (world : World R) (cell : S → List ℕ �
 
   -- the same, whose keys are those of forms
   by_forms : {Q : Type 0} (w : World Q) (slots : Slots Q) (ks : List (SortKey Such)) (s : Stream (Value Q))
-      → sorted w slots (map (map_key (form_meaning w)) (map (map_key base) ks)) s ≡ order_by (λ (k : SortKey Such). k.descending) (λ k. sort_key w slots (map_key (form_meaning w) (map_key base k))) ks s.0 s.1
+      → sorted w slots (map (map_key (form_meaning w)) (map (map_key base) ks)) s
+      ≡ order_by (λ (k : SortKey Such). k.descending) (λ k. sort_key w slots (map_key (form_meaning w) (map_key base k))) ks s.0 s.1
   by_forms {Q} w slots ks s =
       order_keys (map_key (form_meaning w)) (λ (k : SortKey (Means Q)). k.descending) (sort_key w slots) (map (map_key base) ks) s.0 s.1
       ∙ order_keys (map_key base) (λ (k : SortKey Form). k.descending) (λ (k : SortKey Form). sort_key w slots (map_key (form_meaning w) k)) ks s.0 s.1
 
   order_natural : (ks : List (SortKey Such)) (slots : Slots R) (s : Stream (Value R))
-      → sorted (over f world cell) (map m slots) (map (map_key b) (map (map_key base) ks)) (stream_map m s) ≡ stream_map m (sorted world slots (map (map_key a) (map (map_key base) ks)) s)
+      → sorted (over f world cell) (map m slots) (map (map_key b) (map (map_key base) ks)) (stream_map m s)
+      ≡ stream_map m (sorted world slots (map (map_key a) (map (map_key base) ks)) s)
   order_natural ks slots s =
       by_forms (over f world cell) (map m slots) ks (stream_map m s)
       ∙ arranged_natural m (λ (k : SortKey Such). k.descending) (λ k. sort_key world slots (map_key a (map_key base k)))
@@ -103,7 +110,8 @@ module _ {R S : Type 0} (f : R → S) (world : World R) (cell : S → List ℕ �
   order_like z ks slots =
       sequence_follows f world cell same_cells (sorted world slots (map (map_key a) (map (map_key base) ks)) (stream_of world (a z.0 slots)))
       (sorted (over f world cell) (map m slots) (map (map_key b) (map (map_key base) ks)) (stream_of (over f world cell) (b z.0 (map m slots))))
-      (ap (sorted (over f world cell) (map m slots) (map (map_key b) (map (map_key base) ks))) (stream_follows f world cell same_cells (a z.0 slots) (b z.0 (map m slots)) (z.1 slots))
+      (ap (sorted (over f world cell) (map m slots) (map (map_key b) (map (map_key base) ks)))
+      (stream_follows f world cell same_cells (a z.0 slots) (b z.0 (map m slots)) (z.1 slots))
       ∙ order_natural ks slots (stream_of world (a z.0 slots)))
 
   -- ---- every form
@@ -148,7 +156,8 @@ module _ {R S : Type 0} (f : R → S) (world : World R) (cell : S → List ℕ �
       group_like f world cell same_cells (a x.0) (a key.0) (a element.0) (b x.0) (b key.0) (b element.0) x.1 key.1 element.1
 
   layer_alike : (y : Form-F Such) → Alike (roll-Form (plain y))
-  layer_alike y slots = meaning_roll (over f world cell) (plain y) (map m slots) ∙ steps y slots ∙ ap (result_map m) (sym (meaning_roll world (plain y) slots))
+  layer_alike y slots =
+      meaning_roll (over f world cell) (plain y) (map m slots) ∙ steps y slots ∙ ap (result_map m) (sym (meaning_roll world (plain y) slots))
 
   alike : (form : Form) → Alike form
   alike form = ind-Form Alike (λ x y h. subst (λ (d : Form-F Form). Alike (roll-Form d)) h (layer_alike y)) form
@@ -164,5 +173,7 @@ means_alike {R} {S} f a b rows form slots =
 
 pub streams_alike : {R S : Type 0} → StreamsAlikeOverRows R S
 streams_alike {R} {S} f a b rows form slots =
-    subst (λ (w : World S). stream_of w (form_meaning w form (map (mapped f) slots)) ≡ stream_map (mapped f) (stream_of a (form_meaning a form slots))) (the_world f a b rows)
-    (stream_follows f a b.cell rows.cells (form_meaning a form slots) (form_meaning (over f a b.cell) form (map (mapped f) slots)) (alike f a b.cell rows.cells form slots))
+    subst (λ (w : World S). stream_of w (form_meaning w form (map (mapped f) slots)) ≡ stream_map (mapped f) (stream_of a (form_meaning a form slots)))
+    (the_world f a b rows)
+    (stream_follows f a b.cell rows.cells (form_meaning a form slots) (form_meaning (over f a b.cell) form (map (mapped f) slots))
+    (alike f a b.cell rows.cells form slots))

@@ -1,6 +1,6 @@
 -- A form over rows that are replaced by rows with the same cells: it means what it meant, with the rows replaced. Each form in turn,
 -- where the forms in it do so.
-use Rattle.std.proofs.Common.{◌≡◌, ◌∷◌, ◌++◌, if◌then◌else◌, List, [], map, ℕ, ℤ, Bool, true, false, not, Option, Some, None, Result, Ok, Err, ap, ap₂, ◌∙◌, sym, refl, subst, option_and_then, option_map, slice_get}
+use Rattle.std.proofs.Common.{◌≡◌, ◌∷◌, ◌++◌, if◌then◌else◌, List, [], map, ℕ, ℤ, Bool, true, false, not, Option, Some, None, Result, Ok, Err, ap, ◌∙◌, sym, refl, option_and_then, option_map, slice_get}
 use Rattle.std.proofs.lemmas.List.{map-append}
 use Rattle.std.proofs.lemmas.Option.{slice_get-map}
 use Rattle.lq_value.specs.SameAndOrder.{same_values as same_keys}
@@ -12,7 +12,6 @@ use Rattle.lq_value.specs.declared.value.Fault.{Fault}
 use Rattle.lq_value.specs.declared.value.Value.{Value, out-Value}
 use Rattle.lq_value.specs.declared.value.Value.TheOpen.{Value-F}
 use Rattle.lq_value.specs.declared.value.Value.TheVariants as value
-use Rattle.lq_model.specs.Arrangement.{order_by}
 use Rattle.lq_model.specs.Enumerable.{all, as_count, concat, contains, element_at, except, intersect, skip, take_first, union}
 use Rattle.lq_model.specs.Meaning.{World, as_group, as_value, cell_value, is_null, items_of, matches, on_scalar, on_truth, scalar_of, sequence, stream_of, table_value, truth_value}
 use Rattle.lq_model.specs.Operations.{of_one, of_two, on_ok, truth_of}
@@ -31,14 +30,15 @@ use Rattle.lq_tree.specs.declared.tree.Form.TheOpen.{Form-F}
 use Rattle.lq_tree.specs.declared.tree.Joined.{Joined}
 use Rattle.lq_tree.proofs.MappedItems.{answer_kept, first_kept, group_kept, items_kept, matches_kept, pair_kept, second_kept, sequence_kept, simple_natural, truth_kept, value_kept}
 use Rattle.lq_tree.proofs.MappedMethods.{all_natural, concat_natural, contains_natural, element_natural, except_natural, intersect_natural, skip_natural, take_natural, union_natural}
-use Rattle.lq_tree.proofs.MappedStreams.{expand_natural, group_natural, join_natural, keys_natural, map_square, ok_alike, ok_by, ok_natural, ok_same, pair_map, select_natural, where_natural}
-use Rattle.lq_tree.proofs.MappedValues.{mapped_Rec, mapped_Row, mapped_Scalar, mapped_Seq, mapped_layer, mapped_member, mapped_out, same_kept}
+use Rattle.lq_tree.proofs.MappedStreams.{expand_natural, group_natural, join_natural, keys_natural, map_square, ok_alike, ok_by, ok_same, pair_map, select_natural, where_natural}
+use Rattle.lq_tree.proofs.MappedValues.{mapped_Row, mapped_Scalar, mapped_Seq, mapped_layer, mapped_member, mapped_out, same_kept}
 
 -- the world over the rows that stand for those of another
 abbrev pub over : {R S : Type 0} → (R → S) → World R → (S → List ℕ → Option Scalar) → World S
 over f world cell = record { schemas = world.schemas; rows = map (map f) world.rows; cell = cell; unknown = world.unknown }
 
-module _ {R S : Type 0} (f : R → S) (world : World R) (cell : S → List ℕ → Option Scalar) (same_cells : (r : R) (column : List ℕ) → cell (f r) column ≡ world.cell r column) where
+module _ {R S : Type 0} (f : R → S) (world : World R) (cell : S → List ℕ → Option Scalar)
+    (same_cells : (r : R) (column : List ℕ) → cell (f r) column ≡ world.cell r column) where
   abbrev pub a : World R
   a = world
 
@@ -65,12 +65,14 @@ module _ {R S : Type 0} (f : R → S) (world : World R) (cell : S → List ℕ �
   scalar_by (Value-F.Group key items) = refl
   scalar_by (Value-F.Seq items e) = refl
 
-  scalar_same : (o : Result (Value R) Fault) (p : Result (Value S) Fault) → Follows o p → on_ok p (λ v. scalar_of b (out-Value S v)) ≡ on_ok o (λ v. scalar_of a (out-Value R v))
+  scalar_same : (o : Result (Value R) Fault) (p : Result (Value S) Fault) → Follows o p
+      → on_ok p (λ v. scalar_of b (out-Value S v)) ≡ on_ok o (λ v. scalar_of a (out-Value R v))
   scalar_same o p h =
       ap (λ (q : Result (Value S) Fault). on_ok q (λ v. scalar_of b (out-Value S v))) h
       ∙ ok_same m (λ v. scalar_of a (out-Value R v)) (λ v. scalar_of b (out-Value S v)) (λ v. ap (scalar_of b) (mapped_out f v) ∙ scalar_by (out-Value R v)) o
 
-  on_scalar_same : {C : Type 0} (next : Scalar → Result C Fault) (o : Result (Value R) Fault) (p : Result (Value S) Fault) → Follows o p → on_scalar b p next ≡ on_scalar a o next
+  on_scalar_same : {C : Type 0} (next : Scalar → Result C Fault) (o : Result (Value R) Fault) (p : Result (Value S) Fault) → Follows o p
+      → on_scalar b p next ≡ on_scalar a o next
   on_scalar_same next o p h = ap (λ (q : Result Scalar Fault). on_ok q next) (scalar_same o p h)
 
   pub on_scalar_follows : (next : Scalar → Result (Value R) Fault) (more : Scalar → Result (Value S) Fault) → ((s : Scalar) → Follows (next s) (more s))
@@ -80,13 +82,15 @@ module _ {R S : Type 0} (f : R → S) (world : World R) (cell : S → List ℕ �
   pub on_truth_follows : (next : Bool → Result (Value R) Fault) (more : Bool → Result (Value S) Fault) → ((t : Bool) → Follows (next t) (more t))
       → (o : Result (Value R) Fault) (p : Result (Value S) Fault) → Follows o p → Follows (on_truth a o next) (on_truth b p more)
   on_truth_follows next more h o p is =
-      ap (λ (q : Result Bool Fault). on_ok q more) (on_scalar_same (truth_of world.unknown) o p is) ∙ ok_alike m next more h (on_scalar a o (truth_of world.unknown))
+      ap (λ (q : Result Bool Fault). on_ok q more) (on_scalar_same (truth_of world.unknown) o p is)
+      ∙ ok_alike m next more h (on_scalar a o (truth_of world.unknown))
 
   pub ok_follows : (next : Value R → Result (Value R) Fault) (more : Value S → Result (Value S) Fault) → ((v : Value R) → Follows (next v) (more (m v)))
       → (o : Result (Value R) Fault) (p : Result (Value S) Fault) → Follows o p → Follows (on_ok o next) (on_ok p more)
   ok_follows next more h o p is = ok_by m m next more h o p is
 
-  pub choice_follows : (c : Bool) (o q : Result (Value R) Fault) (p r : Result (Value S) Fault) → Follows o p → Follows q r → Follows (if c then o else q) (if c then p else r)
+  pub choice_follows : (c : Bool) (o q : Result (Value R) Fault) (p r : Result (Value S) Fault) → Follows o p → Follows q r
+      → Follows (if c then o else q) (if c then p else r)
   choice_follows true o q p r h k = h
   choice_follows false o q p r h k = k
 
@@ -150,13 +154,15 @@ module _ {R S : Type 0} (f : R → S) (world : World R) (cell : S → List ℕ �
   pub column_follows : (table c : ℕ) (v : Value R) → Follows (cell_in a table c (out-Value R v)) (cell_in b table c (out-Value S (m v)))
   column_follows table c v = ap (cell_in b table c) (mapped_out f v) ∙ column_by table c (out-Value R v)
 
-  member_there : (o : Option (List ℕ × Value R)) → Follows (if_there a (option_map (λ n. n.1) o)) (if_there b (option_map (λ n. n.1) (option_map (mapped_member f) o)))
+  member_there : (o : Option (List ℕ × Value R))
+      → Follows (if_there a (option_map (λ n. n.1) o)) (if_there b (option_map (λ n. n.1) (option_map (mapped_member f) o)))
   member_there (Some n) = refl
   member_there None = refl
 
   member_by : (place : ℕ) (layer : Value-F R (Value R)) → Follows (member_at a place layer) (member_at b place (mapped_layer f layer))
   member_by place (Value-F.Rec members) =
-      ap (λ (o : Option (List ℕ × Value S)). if_there b (option_map (λ n. n.1) o)) (slice_get-map (mapped_member f) members place) ∙ member_there (slice_get members place)
+      ap (λ (o : Option (List ℕ × Value S)). if_there b (option_map (λ n. n.1) o)) (slice_get-map (mapped_member f) members place)
+      ∙ member_there (slice_get members place)
   member_by place (Value-F.Scalar scalar.Null) = refl
   member_by place (Value-F.Scalar s) = refl
   member_by place (Value-F.Row r) = refl
@@ -192,13 +198,16 @@ module _ {R S : Type 0} (f : R → S) (world : World R) (cell : S → List ℕ �
 
   -- ---- lambdas
 
-  pub item_like : (x : Means R) (y : Means S) → Like x y → (slots : Slots R) (v : Value R) → Follows (x (with_item a slots v)) (y (with_item b (map m slots) (m v)))
+  pub item_like : (x : Means R) (y : Means S) → Like x y → (slots : Slots R) (v : Value R)
+      → Follows (x (with_item a slots v)) (y (with_item b (map m slots) (m v)))
   item_like x y h slots v = ap y (sym (map-append m slots (v ∷ []))) ∙ h (slots ++ v ∷ [])
 
-  pub items_like : (x : Means R) (y : Means S) → Like x y → (slots : Slots R) (v w : Value R) → Follows (x (with_items a slots v w)) (y (with_items b (map m slots) (m v) (m w)))
+  pub items_like : (x : Means R) (y : Means S) → Like x y → (slots : Slots R) (v w : Value R)
+      → Follows (x (with_items a slots v w)) (y (with_items b (map m slots) (m v) (m w)))
   items_like x y h slots v w = ap y (sym (map-append m slots (v ∷ w ∷ []))) ∙ h (slots ++ v ∷ w ∷ [])
 
-  pub condition_like : (x : Means R) (y : Means S) → Like x y → (slots : Slots R) (v : Value R) → is_true b y (with_item b (map m slots) (m v)) ≡ is_true a x (with_item a slots v)
+  pub condition_like : (x : Means R) (y : Means S) → Like x y → (slots : Slots R) (v : Value R)
+      → is_true b y (with_item b (map m slots) (m v)) ≡ is_true a x (with_item a slots v)
   condition_like x y h slots v =
       on_scalar_same (truth_of world.unknown) (x (with_item a slots v)) (y (with_item b (map m slots) (m v))) (item_like x y h slots v)
 
@@ -227,7 +236,8 @@ module _ {R S : Type 0} (f : R → S) (world : World R) (cell : S → List ℕ �
       → Follows (given_meaning a method o s) (given_meaning b method p (stream_map m s))
   given_follows given.Concat s o p is = second_follows concat concat (concat_natural m) s o p is
   given_follows given.Union s o p is = second_follows (union same_keys) (union same_keys) (union_natural m same_keys same_keys (same_kept f)) s o p is
-  given_follows given.Intersect s o p is = second_follows (intersect same_keys) (intersect same_keys) (intersect_natural m same_keys same_keys (same_kept f)) s o p is
+  given_follows given.Intersect s o p is =
+      second_follows (intersect same_keys) (intersect same_keys) (intersect_natural m same_keys same_keys (same_kept f)) s o p is
   given_follows given.Except s o p is = second_follows (except same_keys) (except same_keys) (except_natural m same_keys same_keys (same_kept f)) s o p is
   given_follows given.Skip s o p is =
       number_follows (λ n. as_sequence (skip (as_count n) s.0 s.1)) (λ n. as_sequence (skip (as_count n) (map m s.0) s.1))
@@ -254,9 +264,11 @@ module _ {R S : Type 0} (f : R → S) (world : World R) (cell : S → List ℕ �
 
   -- ---- matches
 
-  pub matched_kept : (grouped : Bool) (key : Value R) (qs : List (Value R × Value R)) → matched b grouped (m key) (map (pair_map m m) qs) ≡ map m (matched a grouped key qs)
+  pub matched_kept : (grouped : Bool) (key : Value R) (qs : List (Value R × Value R))
+      → matched b grouped (m key) (map (pair_map m m) qs) ≡ map m (matched a grouped key qs)
   matched_kept true key qs =
-      ap (λ (vs : List (Value S)). value.Seq vs end.Done ∷ []) (matches_kept f key qs) ∙ ap (λ (v : Value S). v ∷ []) (sym (mapped_Seq f (matches key qs) end.Done))
+      ap (λ (vs : List (Value S)). value.Seq vs end.Done ∷ []) (matches_kept f key qs)
+      ∙ ap (λ (v : Value S). v ∷ []) (sym (mapped_Seq f (matches key qs) end.Done))
   matched_kept false key qs = matches_kept f key qs
 
   -- ---- forms
@@ -267,43 +279,54 @@ module _ {R S : Type 0} (f : R → S) (world : World R) (cell : S → List ℕ �
   pub second_like : (x : Means R) (y : Means S) → Like x y → Like (form_step a (Form-F.Second x)) (form_step b (Form-F.Second y))
   second_like x y h slots = ok_follows (λ v. Ok (second v)) (λ v. Ok (second v)) (λ v. ap Ok (second_kept f v)) (x slots) (y (map m slots)) (h slots)
 
-  pub column_like : (x : Means R) (y : Means S) → Like x y → (table c : ℕ) → Like (form_step a (Form-F.Column x table c)) (form_step b (Form-F.Column y table c))
+  pub column_like : (x : Means R) (y : Means S) → Like x y → (table c : ℕ)
+      → Like (form_step a (Form-F.Column x table c)) (form_step b (Form-F.Column y table c))
   column_like x y h table c slots =
-      ok_follows (λ v. cell_in a table c (out-Value R v)) (λ v. cell_in b table c (out-Value S v)) (column_follows table c) (x slots) (y (map m slots)) (h slots)
+      ok_follows (λ v. cell_in a table c (out-Value R v)) (λ v. cell_in b table c (out-Value S v)) (column_follows table c)
+      (x slots) (y (map m slots)) (h slots)
 
   pub member_like : (x : Means R) (y : Means S) → Like x y → (place : ℕ) → Like (form_step a (Form-F.Member x place)) (form_step b (Form-F.Member y place))
   member_like x y h place slots =
-      ok_follows (λ v. member_at a place (out-Value R v)) (λ v. member_at b place (out-Value S v)) (member_follows place) (x slots) (y (map m slots)) (h slots)
+      ok_follows (λ v. member_at a place (out-Value R v)) (λ v. member_at b place (out-Value S v)) (member_follows place)
+      (x slots) (y (map m slots)) (h slots)
 
   pub key_like : (x : Means R) (y : Means S) → Like x y → Like (form_step a (Form-F.Key x)) (form_step b (Form-F.Key y))
   key_like x y h slots = ok_follows (λ v. key_in a (out-Value R v)) (λ v. key_in b (out-Value S v)) key_follows (x slots) (y (map m slots)) (h slots)
 
   pub unary_like : (o : Op) (x : Means R) (y : Means S) → Like x y → Like (form_step a (Form-F.Unary o x)) (form_step b (Form-F.Unary o y))
   unary_like o x y h slots =
-      on_scalar_follows (λ s. as_value (of_one world.unknown o s)) (λ s. as_value (of_one world.unknown o s)) (λ s. value_kept f (of_one world.unknown o s)) (x slots) (y (map m slots)) (h slots)
+      on_scalar_follows (λ s. as_value (of_one world.unknown o s)) (λ s. as_value (of_one world.unknown o s)) (λ s. value_kept f (of_one world.unknown o s))
+      (x slots) (y (map m slots)) (h slots)
 
-  pub binary_like : (o : Op) (x z : Means R) (y w : Means S) → Like x y → Like z w → Like (form_step a (Form-F.Binary o x z)) (form_step b (Form-F.Binary o y w))
+  pub binary_like : (o : Op) (x z : Means R) (y w : Means S) → Like x y → Like z w
+      → Like (form_step a (Form-F.Binary o x z)) (form_step b (Form-F.Binary o y w))
   binary_like o x z y w h k slots =
-      on_scalar_follows (λ s. on_scalar a (z slots) (λ t. as_value (of_two world.unknown o s t))) (λ s. on_scalar b (w (map m slots)) (λ t. as_value (of_two world.unknown o s t)))
-      (λ s. on_scalar_follows (λ t. as_value (of_two world.unknown o s t)) (λ t. as_value (of_two world.unknown o s t)) (λ t. value_kept f (of_two world.unknown o s t))
+      on_scalar_follows (λ s. on_scalar a (z slots) (λ t. as_value (of_two world.unknown o s t)))
+      (λ s. on_scalar b (w (map m slots)) (λ t. as_value (of_two world.unknown o s t)))
+      (λ s. on_scalar_follows (λ t. as_value (of_two world.unknown o s t)) (λ t. as_value (of_two world.unknown o s t))
+      (λ t. value_kept f (of_two world.unknown o s t))
       (z slots) (w (map m slots)) (k slots)) (x slots) (y (map m slots)) (h slots)
 
   pub and_like : (x z : Means R) (y w : Means S) → Like x y → Like z w → Like (form_step a (Form-F.And x z)) (form_step b (Form-F.And y w))
   and_like x z y w h k slots =
       on_truth_follows (λ t. if t then z slots else Ok (truth_value false)) (λ t. if t then w (map m slots) else Ok (truth_value false))
-      (λ t. choice_follows t (z slots) (Ok (truth_value false)) (w (map m slots)) (Ok (truth_value false)) (k slots) (truth_follows false)) (x slots) (y (map m slots)) (h slots)
+      (λ t. choice_follows t (z slots) (Ok (truth_value false)) (w (map m slots)) (Ok (truth_value false)) (k slots) (truth_follows false))
+      (x slots) (y (map m slots)) (h slots)
 
   pub or_like : (x z : Means R) (y w : Means S) → Like x y → Like z w → Like (form_step a (Form-F.Or x z)) (form_step b (Form-F.Or y w))
   or_like x z y w h k slots =
       on_truth_follows (λ t. if t then Ok (truth_value true) else z slots) (λ t. if t then Ok (truth_value true) else w (map m slots))
-      (λ t. choice_follows t (Ok (truth_value true)) (z slots) (Ok (truth_value true)) (w (map m slots)) (truth_follows true) (k slots)) (x slots) (y (map m slots)) (h slots)
+      (λ t. choice_follows t (Ok (truth_value true)) (z slots) (Ok (truth_value true)) (w (map m slots)) (truth_follows true) (k slots))
+      (x slots) (y (map m slots)) (h slots)
 
   pub coalesce_like : (x z : Means R) (y w : Means S) → Like x y → Like z w → Like (form_step a (Form-F.Coalesce x z)) (form_step b (Form-F.Coalesce y w))
   coalesce_like x z y w h k slots =
       on_scalar_follows (λ s. if is_null s then z slots else Ok (value.Scalar s)) (λ s. if is_null s then w (map m slots) else Ok (value.Scalar s))
-      (λ s. choice_follows (is_null s) (z slots) (Ok (value.Scalar s)) (w (map m slots)) (Ok (value.Scalar s)) (k slots) (scalar_follows s)) (x slots) (y (map m slots)) (h slots)
+      (λ s. choice_follows (is_null s) (z slots) (Ok (value.Scalar s)) (w (map m slots)) (Ok (value.Scalar s)) (k slots) (scalar_follows s))
+      (x slots) (y (map m slots)) (h slots)
 
-  pub conditional_like : (c x z : Means R) (d y w : Means S) → Like c d → Like x y → Like z w → Like (form_step a (Form-F.Conditional c x z)) (form_step b (Form-F.Conditional d y w))
+  pub conditional_like : (c x z : Means R) (d y w : Means S) → Like c d → Like x y → Like z w
+      → Like (form_step a (Form-F.Conditional c x z)) (form_step b (Form-F.Conditional d y w))
   conditional_like c x z d y w g h k slots =
       on_truth_follows (λ t. if t then x slots else z slots) (λ t. if t then y (map m slots) else w (map m slots))
       (λ t. choice_follows t (x slots) (z slots) (y (map m slots)) (w (map m slots)) (h slots) (k slots)) (c slots) (d (map m slots)) (g slots)
@@ -311,23 +334,27 @@ module _ {R S : Type 0} (f : R → S) (world : World R) (cell : S → List ℕ �
   pub null_like : (wanted : Bool) (x : Means R) (y : Means S) → Like x y → Like (form_step a (Form-F.IsNull wanted x)) (form_step b (Form-F.IsNull wanted y))
   null_like wanted x y h slots =
       ok_follows (λ v. let null = is_null_value a (out-Value R v) in Ok (truth_value (if wanted then null else not null)))
-      (λ v. let null = is_null_value b (out-Value S v) in Ok (truth_value (if wanted then null else not null))) (null_follows wanted) (x slots) (y (map m slots)) (h slots)
+      (λ v. let null = is_null_value b (out-Value S v) in Ok (truth_value (if wanted then null else not null))) (null_follows wanted)
+      (x slots) (y (map m slots)) (h slots)
 
   pub pair_like : (x z : Means R) (y w : Means S) → Like x y → Like z w → Like (form_step a (Form-F.Pair x z)) (form_step b (Form-F.Pair y w))
   pair_like x z y w h k slots =
       ok_follows (λ v. on_ok (z slots) (λ u. Ok (pair v u))) (λ v. on_ok (w (map m slots)) (λ u. Ok (pair v u)))
-      (λ v. ok_follows (λ u. Ok (pair v u)) (λ u. Ok (pair (m v) u)) (λ u. ap Ok (pair_kept f v u)) (z slots) (w (map m slots)) (k slots)) (x slots) (y (map m slots)) (h slots)
+      (λ v. ok_follows (λ u. Ok (pair v u)) (λ u. Ok (pair (m v) u)) (λ u. ap Ok (pair_kept f v u)) (z slots) (w (map m slots)) (k slots))
+      (x slots) (y (map m slots)) (h slots)
 
   -- ---- forms of sequences
 
   pub sequence_like : (x : Means R) (y : Means S) → Like x y → Like (form_step a (Form-F.Sequence x)) (form_step b (Form-F.Sequence y))
   sequence_like x y h slots = sequence_follows (stream_of a (x slots)) (stream_of b (y (map m slots))) (stream_follows (x slots) (y (map m slots)) (h slots))
 
-  pub simple_like : (method : Simple) (t : Ty) (x : Means R) (y : Means S) → Like x y → Like (form_step a (Form-F.Simple method t x)) (form_step b (Form-F.Simple method t y))
+  pub simple_like : (method : Simple) (t : Ty) (x : Means R) (y : Means S) → Like x y
+      → Like (form_step a (Form-F.Simple method t x)) (form_step b (Form-F.Simple method t y))
   simple_like method t x y h slots =
       ap (simple_meaning method t) (stream_follows (x slots) (y (map m slots)) (h slots)) ∙ simple_natural f method t (stream_of a (x slots))
 
-  pub given_like : (method : Given) (x z : Means R) (y w : Means S) → Like x y → Like z w → Like (form_step a (Form-F.Given method x z)) (form_step b (Form-F.Given method y w))
+  pub given_like : (method : Given) (x z : Means R) (y w : Means S) → Like x y → Like z w
+      → Like (form_step a (Form-F.Given method x z)) (form_step b (Form-F.Given method y w))
   given_like method x z y w h k slots =
       ap (given_meaning b method (w (map m slots))) (stream_follows (x slots) (y (map m slots)) (h slots))
       ∙ given_follows method (stream_of a (x slots)) (z slots) (w (map m slots)) (k slots)
@@ -335,13 +362,16 @@ module _ {R S : Type 0} (f : R → S) (world : World R) (cell : S → List ℕ �
   pub through_like : (method : Through) (t u : Ty) (x z : Means R) (y w : Means S) → Like x y → Like z w
       → Like (form_step a (Form-F.Through method t u x z)) (form_step b (Form-F.Through method t u y w))
   through_like method t u x z y w h k slots =
-      ap (through_meaning b method t u (λ v. is_true b w (with_item b (map m slots) v)) (λ v. w (with_item b (map m slots) v))) (stream_follows (x slots) (y (map m slots)) (h slots))
+      ap (through_meaning b method t u (λ v. is_true b w (with_item b (map m slots) v)) (λ v. w (with_item b (map m slots) v)))
+      (stream_follows (x slots) (y (map m slots)) (h slots))
       ∙ through_follows method t u (λ v. is_true a z (with_item a slots v)) (λ v. is_true b w (with_item b (map m slots) v)) (condition_like z w k slots)
       (λ v. z (with_item a slots v)) (λ v. w (with_item b (map m slots) v)) (item_like z w k slots) (stream_of a (x slots))
 
   -- an operator on the stream of what stands first
-  streamed : (next : Stream (Value R) → Stream (Value R)) (more : Stream (Value S) → Stream (Value S)) → ((s : Stream (Value R)) → more (stream_map m s) ≡ stream_map m (next s))
-      → (o : Result (Value R) Fault) (p : Result (Value S) Fault) → Follows o p → Follows (Ok (sequence (next (stream_of a o)))) (Ok (sequence (more (stream_of b p))))
+  streamed : (next : Stream (Value R) → Stream (Value R)) (more : Stream (Value S) → Stream (Value S))
+      → ((s : Stream (Value R)) → more (stream_map m s) ≡ stream_map m (next s))
+      → (o : Result (Value R) Fault) (p : Result (Value S) Fault) → Follows o p
+      → Follows (Ok (sequence (next (stream_of a o)))) (Ok (sequence (more (stream_of b p))))
   streamed next more h o p is = sequence_follows (next (stream_of a o)) (more (stream_of b p)) (ap more (stream_follows o p is) ∙ h (stream_of a o))
 
   pub many_like : (x inner result : Means R) (y other found : Means S) → Like x y → Like inner other → Like result found
@@ -359,17 +389,22 @@ module _ {R S : Type 0} (f : R → S) (world : World R) (cell : S → List ℕ �
   group_like x key element y other found h k e slots =
       streamed (λ s. group_by same_keys (λ v. key (with_item a slots v)) (λ v. element (with_item a slots v)) as_group s.0 s.1)
       (λ s. group_by same_keys (λ v. other (with_item b (map m slots) v)) (λ v. found (with_item b (map m slots) v)) as_group s.0 s.1)
-      (λ s. group_natural m same_keys same_keys (same_kept f) m m m (λ v. key (with_item a slots v)) (λ v. other (with_item b (map m slots) v)) (item_like key other k slots)
-      (λ v. element (with_item a slots v)) (λ v. found (with_item b (map m slots) v)) (item_like element found e slots) as_group as_group (group_kept f) s.0 s.1)
+      (λ s. group_natural m same_keys same_keys (same_kept f) m m m (λ v. key (with_item a slots v)) (λ v. other (with_item b (map m slots) v))
+      (item_like key other k slots)
+      (λ v. element (with_item a slots v)) (λ v. found (with_item b (map m slots) v)) (item_like element found e slots) as_group as_group (group_kept f) s.0
+      s.1)
       (x slots) (y (map m slots)) (h slots)
 
   -- the parts of a join
-  pub join_like : (x : Means R) (y : Means S) → Like x y → (j : Joined (Means R)) (k : Joined (Means S)) → Like j.inner k.inner → Like j.outer_key k.outer_key → Like j.inner_key k.inner_key
+  pub join_like : (x : Means R) (y : Means S) → Like x y → (j : Joined (Means R)) (k : Joined (Means S)) → Like j.inner k.inner
+      → Like j.outer_key k.outer_key → Like j.inner_key k.inner_key
       → k.grouped ≡ j.grouped → Like j.result k.result → Like (form_step a (Form-F.Join x j)) (form_step b (Form-F.Join y k))
   join_like x y h j k inner outer_key inner_key grouped result slots =
       streamed (joined_stream a slots j) (joined_stream b (map m slots) k)
-      (λ s. (λ i. join_by (inner_items i) (λ v. k.outer_key (with_item b (map m slots) v)) (matched b (grouped i)) (λ v w. k.result (with_items b (map m slots) v w)) (map m s.0) s.1)
-      ∙ join_natural m (pair_map m m) m m m (λ v. j.outer_key (with_item a slots v)) (λ v. k.outer_key (with_item b (map m slots) v)) (item_like j.outer_key k.outer_key outer_key slots)
+      (λ s. (λ i. join_by (inner_items i) (λ v. k.outer_key (with_item b (map m slots) v)) (matched b (grouped i))
+      (λ v w. k.result (with_items b (map m slots) v w)) (map m s.0) s.1)
+      ∙ join_natural m (pair_map m m) m m m (λ v. j.outer_key (with_item a slots v)) (λ v. k.outer_key (with_item b (map m slots) v))
+      (item_like j.outer_key k.outer_key outer_key slots)
       (matched a j.grouped) (matched b j.grouped) (matched_kept j.grouped)
       (λ v w. j.result (with_items a slots v w)) (λ v w. k.result (with_items b (map m slots) v w)) (items_like j.result k.result result slots)
       (with_keys (λ v. j.inner_key (with_item a slots v)) (stream_of a (j.inner slots))) s.0 s.1)
@@ -379,5 +414,6 @@ module _ {R S : Type 0} (f : R → S) (world : World R) (cell : S → List ℕ �
           ≡ stream_map (pair_map m m) (with_keys (λ v. j.inner_key (with_item a slots v)) (stream_of a (j.inner slots)))
       inner_items =
           ap (with_keys (λ v. k.inner_key (with_item b (map m slots) v))) (stream_follows (j.inner slots) (k.inner (map m slots)) (inner slots))
-          ∙ keys_natural m m (λ v. j.inner_key (with_item a slots v)) (λ v. k.inner_key (with_item b (map m slots) v)) (item_like j.inner_key k.inner_key inner_key slots)
+          ∙ keys_natural m m (λ v. j.inner_key (with_item a slots v)) (λ v. k.inner_key (with_item b (map m slots) v))
+          (item_like j.inner_key k.inner_key inner_key slots)
           (stream_of a (j.inner slots))

@@ -1,6 +1,5 @@
 -- Values and worlds over one kind of rows beside those over another: each row is replaced, and all else stays.
-use Rattle.std.specs.Prelude.{◌≡◌, List, map, ℕ, Option, Result, Ok, Err}
-use Rattle.lq_value.specs.declared.scalar.Scalar.{Scalar}
+use Rattle.std.specs.Prelude.{◌≡◌, List, map, ℕ, Result, Ok, Err}
 use Rattle.lq_value.specs.declared.value.Fault.{Fault}
 use Rattle.lq_value.specs.declared.value.Value.{Value, fold-Value}
 use Rattle.lq_value.specs.declared.value.Value.TheOpen.{Value-F}

@@ -1,4 +1,3 @@
-use Rattle.lq_tree.proofs.MappedItems.{simple_natural}
 use Rattle.lq_tree.proofs.MappedReplies.{serves_alike}
 use Rattle.lq_tree.proofs.row_laws.serves_alike_over_rows.Goals as goal
 
