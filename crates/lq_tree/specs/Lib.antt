@@ -1,3 +1,4 @@
 pub mod Binding
 pub mod FormMeaning
 pub mod Places
+pub mod TypeParts

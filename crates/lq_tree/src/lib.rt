@@ -3,5 +3,6 @@
 #![tactic(auto)]
 
 mod tree;
+mod types;
 
 pub use tree::{Form, Joined, Tree, ty};
