@@ -4,5 +4,6 @@
 
 mod tree;
 mod types;
+mod typing;
 
 pub use tree::{Form, Joined, Tree, ty};
