@@ -1,1 +1,8 @@
+pub mod CallTypes
+pub mod Layers
+pub mod NodeTypes
+pub mod TermTypes
+pub mod TreePulls
 pub mod TypeLayers
+pub mod TypeLemmas
+pub mod Walks

@@ -1,7 +1,7 @@
 -- The typed tree of a term: each name is replaced by the form that reaches its value, each member by its number, and each operator by the
 -- one that its operands' types choose. There is a tree exactly where there is a type (ECMA-334, expressions; .NET, Enumerable).
 use Rattle.std.specs.Prelude.{◌∷◌, ◌++◌, ◌+◌, ◌&&◌, ◌||◌, if◌then◌else◌, List, [], map, ℕ, Bool, true, false, Option, Some, None, codes, slice_get, option_and_then, option_map, is_some}
-use Rattle.std.specs.List.{fold}
+use Rattle.std.specs.List.{fold, position_from}
 use Rattle.std.specs.Str.{bytes_eq}
 use Rattle.lq_value.specs.Tables.{first_named}
 use Rattle.lq_value.specs.declared.scalar.Scalar.{Scalar}
@@ -155,7 +155,7 @@ column_tree m table row schema =
 abbrev pub record_member_tree : List ℕ → Form → List (List ℕ × Ty) → Option Tree
 record_member_tree m a members =
     option_and_then (λ place. option_map (λ member. tree_of member.1 (form.Member a place)) (slice_get members place))
-    (first_named (λ member. member.0) m members)
+    (position_from (λ member. bytes_eq m member.0) 0 members)
 
 -- a member of an int?, and of a text
 abbrev pub nullable_tree : List ℕ → Form → Option Tree

@@ -1,4 +1,5 @@
 pub mod Binding
+pub mod BindingLaws
 pub mod FormMeaning
 pub mod Places
 pub mod TypeParts
