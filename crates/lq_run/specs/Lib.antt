@@ -1,0 +1,2 @@
+pub mod RunReply
+pub mod SeenRows
