@@ -1,1 +1,4 @@
+pub mod Binding
+pub mod BindingLaws
 pub mod FormMeaning
+pub mod Places

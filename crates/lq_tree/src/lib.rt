@@ -2,6 +2,8 @@
 //! needs, and nothing is left to look up by a text when the tree is run.
 #![tactic(auto)]
 
+mod binding_laws;
 mod tree;
 
+pub use binding_laws::types_of_trees;
 pub use tree::{Form, Joined, Tree, ty};
