@@ -2,3 +2,4 @@ pub mod Binding
 pub mod BindingLaws
 pub mod FormMeaning
 pub mod Places
+pub mod Bound

@@ -3,7 +3,9 @@
 #![tactic(auto)]
 
 mod binding_laws;
+mod bound;
 mod tree;
 
 pub use binding_laws::types_of_trees;
+pub use bound::{BindError, Scope, bind_term};
 pub use tree::{Form, Joined, Tree, ty};
