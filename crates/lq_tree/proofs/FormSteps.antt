@@ -29,7 +29,7 @@ module _ {R : Type 0} (world : World R) where
   abbrev step : Form-F (Means R) → Means R
   step = form_step world
 
-  by_layer : (f : Form) (layer : Form-F Form) → out-Form f ≡ layer → mean f ≡ step (map-Form Form (Means R) mean layer)
+  pub by_layer : (f : Form) (layer : Form-F Form) → out-Form f ≡ layer → mean f ≡ step (map-Form Form (Means R) mean layer)
   unfolding form_meaning
   by_layer f layer is = fold_out-Form (Means R) step f ∙ ap (λ (l : Form-F Form). step (map-Form Form (Means R) mean l)) is
 
