@@ -3,6 +3,7 @@ pub mod FormSteps
 pub mod Layers
 pub mod MeansMembers
 pub mod MeansOperators
+pub mod NodeMeans
 pub mod NodeTypes
 pub mod Scopes
 pub mod TermTypes

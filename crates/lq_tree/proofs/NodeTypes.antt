@@ -22,42 +22,47 @@ use Rattle.lq_tree.specs.declared.tree.Form.TheVariants as form
 use Rattle.lq_tree.specs.declared.tree.Tree.{Tree}
 use Rattle.lq_tree.proofs.TypeLemmas.{choice_found, local_place, map_then, member_found, method_found, name_found, number_found, record_found_at, truth_found, truths_found, two_found, type_found, typed_found}
 
-module _ {X : Type 0} (typed : X → Names → Option Ty) where
-  abbrev plain_type : (Names → Option Ty) → Names → Option Ty
-  plain_type t = t
+-- where expressions are replaced, and what replaces them has their types
+module _ {X Y : Type 0} (f : X → Y) (typed : Y → Names → Option Ty) where
+  abbrev before : X → Names → Option Ty
+  before x = typed (f x)
 
   called_by : (source : Option Ty) (names : Names) (o : Option (EnumerableCall X))
-      → called_type plain_type source (option_map (map_enumerable typed) o) names ≡ called_type typed source o names
+      → called_type typed source (option_map (map_enumerable f) o) names ≡ called_type before source o names
   called_by source names None = refl
   called_by source names (Some (Plain method)) = refl
   called_by source names (Some (With method x)) = refl
   called_by source names (Some (By method n x)) = refl
 
-  argument_by : (names : Names) (xs : List (Argument X)) → argument_type plain_type names (sole_argument (map (map_argument typed) xs)) ≡ argument_type typed names (sole_argument xs)
-  argument_by names [] = refl
-  argument_by names (argument.Value x ∷ []) = refl
-  argument_by names (argument.Lambda n x ∷ []) = refl
-  argument_by names (argument.Value x ∷ y ∷ xs) = refl
-  argument_by names (argument.Lambda n x ∷ y ∷ xs) = refl
+  pub sole_by : (xs : List (Argument X)) → sole_argument (map (map_argument f) xs) ≡ option_map f (sole_argument xs)
+  sole_by [] = refl
+  sole_by (argument.Value x ∷ []) = refl
+  sole_by (argument.Lambda n x ∷ []) = refl
+  sole_by (argument.Value x ∷ y ∷ xs) = refl
+  sole_by (argument.Lambda n x ∷ y ∷ xs) = refl
 
-  method_by : (a : X) (m : List ℕ) (xs : List (Argument X)) (names : Names)
-      → method_type plain_type (typed a) m (map (map_argument typed) xs) names ≡ method_type typed a m xs names
+  argument_by : (names : Names) (o : Option X) → argument_type typed names (option_map f o) ≡ argument_type before names o
+  argument_by names None = refl
+  argument_by names (Some x) = refl
+
+  pub method_by : (a : X) (m : List ℕ) (xs : List (Argument X)) (names : Names)
+      → method_type typed (f a) m (map (map_argument f) xs) names ≡ method_type before a m xs names
   method_by a m xs names =
-      ap₂ (λ (searched called : Option Ty). if is_text_type (typed a names) then searched else called)
-      (ap (λ (o : Option Ty). truth_type (is_search m && is_text_type o)) (argument_by names xs))
-      (ap (λ (o : Option (EnumerableCall (Names → Option Ty))). called_type plain_type (typed a names) o names) (call_maps typed m xs)
-      ∙ called_by (typed a names) names (enumerable_call m xs))
+      ap₂ (λ (searched called : Option Ty). if is_text_type (typed (f a) names) then searched else called)
+      (ap (λ (o : Option Ty). truth_type (is_search m && is_text_type o)) (ap (argument_type typed names) (sole_by xs) ∙ argument_by names (sole_argument xs)))
+      (ap (λ (o : Option (EnumerableCall Y)). called_type typed (typed (f a) names) o names) (call_maps f m xs)
+      ∙ called_by (typed (f a) names) names (enumerable_call m xs))
 
-  names_by : (fields : List (Field X)) → map (λ (field : Field (Names → Option Ty)). field.name) (map (map_field typed) fields) ≡ map (λ field. field.name) fields
+  names_by : (fields : List (Field X)) → map (λ (field : Field Y). field.name) (map (map_field f) fields) ≡ map (λ field. field.name) fields
   names_by [] = refl
   names_by (field ∷ fields) = ap (λ ns. field.name ∷ ns) (names_by fields)
 
-  members_by : (fields : List (Field X)) (names : Names) → members_type plain_type (map (map_field typed) fields) names ≡ members_type typed fields names
+  members_by : (fields : List (Field X)) (names : Names) → members_type typed (map (map_field f) fields) names ≡ members_type before fields names
   members_by [] names = refl
   members_by (field ∷ fields) names =
-      ap (λ (o : Option (List (List ℕ × Ty))). option_and_then (λ t. option_map (λ members. (field.name, t) ∷ members) o) (if_placed (typed field.value names))) (members_by fields names)
+      ap (λ (o : Option (List (List ℕ × Ty))). option_and_then (λ t. option_map (λ members. (field.name, t) ∷ members) o) (if_placed (typed (f field.value) names))) (members_by fields names)
 
-  record_by : (fields : List (Field X)) (names : Names) → record_type plain_type (map (map_field typed) fields) names ≡ record_type typed fields names
+  record_by : (fields : List (Field X)) (names : Names) → record_type typed (map (map_field f) fields) names ≡ record_type before fields names
   record_by fields names =
       ap₂ (λ (ns : List (List ℕ)) (o : Option (List (List ℕ × Ty))). when (are_distinct ns) (if_limited (option_map ty.Rec o))) (names_by fields) (members_by fields names)
 
@@ -110,6 +115,6 @@ module _ (schemas : List Schema) {X : Type 0} (tree : X → Binds) (typed : X �
       choice_found (tree c places) (tree a places) (tree b places)
       ∙ (λ i. whole_type (node.Conditional (λ ns. alike c places i) (λ ns. alike a places i) (λ ns. alike b places i)) (names places))
   node_found (node.Host p xs) places = refl
-  node_found (node.New fields) places = record_found_at schemas tree typed alike places fields ∙ sym (record_by typed fields (names places))
+  node_found (node.New fields) places = record_found_at schemas tree typed alike places fields ∙ sym (record_by typed (λ t. t) fields (names places))
   node_found (node.Method a m arguments) places =
-      method_found schemas tree typed alike places m arguments a (tree a places) (alike a places) ∙ sym (method_by typed a m arguments (names places))
+      method_found schemas tree typed alike places m arguments a (tree a places) (alike a places) ∙ sym (method_by typed (λ t. t) a m arguments (names places))

@@ -177,7 +177,7 @@ local_place x (place ∷ places) =
 
 -- ---- searches
 
-search_by : (starts ends has : Bool)
+pub search_by : (starts ends has : Bool)
     → is_some (if starts then Some op.StartsWith else (if ends then Some op.EndsWith else (if has then Some op.Contains else None))) ≡ (starts || ends || has)
 search_by true ends has = refl
 search_by false true has = refl
