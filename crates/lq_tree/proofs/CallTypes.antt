@@ -71,13 +71,13 @@ module _ (schemas : List Schema) {X : Type 0} (tree : X → Binds) (typed : X �
   names places = names_of_places schemas places
 
   -- under an item's names
-  at_item : (places : Places) (p : Pattern) (x : X) → type_found (tree x (with_item places p)) ≡ typed x (names_of (names places) p)
+  pub at_item : (places : Places) (p : Pattern) (x : X) → type_found (tree x (with_item places p)) ≡ typed x (names_of (names places) p)
   at_item places p x = alike x (with_item places p) ∙ ap (typed x) (names_alike schemas places p)
 
-  at_pair : (places : Places) (p : Pattern) (n : List ℕ) (t : Ty) (x : X) → type_found (tree x (with_name (with_item places p) n t)) ≡ typed x (names_of (names places) (With p n t))
+  pub at_pair : (places : Places) (p : Pattern) (n : List ℕ) (t : Ty) (x : X) → type_found (tree x (with_name (with_item places p) n t)) ≡ typed x (names_of (names places) (With p n t))
   at_pair places p n t x = alike x (with_name (with_item places p) n t) ∙ ap (λ (ns : Names). typed x (with_local ns n t)) (names_alike schemas places p)
 
-  source_found : (places : Places) (x : X) → type_found (source_tree schemas tree x places) ≡ source_type typed x (names places)
+  pub source_found : (places : Places) (x : X) → type_found (source_tree schemas tree x places) ≡ source_type typed x (names places)
   source_found places x = items_found (tree x places) ∙ ap (option_and_then (λ t. element_type (out-Ty t))) (alike x places)
 
   source_at_item : (places : Places) (p : Pattern) (x : X) → type_found (source_tree schemas tree x (with_item places p)) ≡ source_type typed x (names_of (names places) p)

@@ -1,3 +1,4 @@
+pub mod CallMeans
 pub mod CallTypes
 pub mod FormSteps
 pub mod Layers
@@ -5,6 +6,7 @@ pub mod MeansMembers
 pub mod MeansOperators
 pub mod NodeMeans
 pub mod NodeTypes
+pub mod Patterns
 pub mod Scopes
 pub mod TermTypes
 pub mod TreePulls
