@@ -144,7 +144,7 @@ module _ {R : Type 0} (world : World R) where
   pub types_at : (slots : Slots R) (places : Places) (scope : Scope R) → Stands slots places scope → names_at world scope ≡ names_of_places world.schemas places
   types_at slots places scope at = names_same slots places scope at.1
 
-  slot_reached : (slots : Slots R) (n : ℕ) (v : Value R) → length slots ≡ n → At (slots ++ v ∷ []) (form.Slot n) v
+  pub slot_reached : (slots : Slots R) (n : ℕ) (v : Value R) → length slots ≡ n → At (slots ++ v ∷ []) (form.Slot n) v
   slot_reached slots n v is more =
       ap (λ (m : Slots R → Result (Value R) Fault). m ((slots ++ v ∷ []) ++ more)) (of_slot world n)
       ∙ ap (λ (k : ℕ). if_there world (slice_get ((slots ++ v ∷ []) ++ more) k)) (sym is) ∙ ap (if_there world) (at_end slots v more)
