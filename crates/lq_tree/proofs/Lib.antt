@@ -8,6 +8,7 @@ pub mod NodeMeans
 pub mod NodeTypes
 pub mod Patterns
 pub mod Scopes
+pub mod TermMeans
 pub mod TermTypes
 pub mod TreePulls
 pub mod TypeLemmas
