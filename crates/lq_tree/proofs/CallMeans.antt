@@ -1,6 +1,6 @@
 -- The tree of the calls of a query is the sequence of their stream, call by call, if the trees of the expressions in them mean what those
 -- mean.
-use Rattle.std.proofs.Common.{true≢false, ◌≡◌, ◌∷◌, ◌++◌, ◌+◌, ◌&&◌, if◌then◌else◌, List, [], map, ℕ, Bool, true, false, Option, Some, None, Result, Ok, Err, ap, ap₂, ◌∙◌, sym, refl, subst, length, option_and_then, option_map, slice_get}
+use Rattle.std.proofs.Common.{true≢false, ◌≡◌, ◌∷◌, ◌++◌, ◌+◌, if◌then◌else◌, List, [], map, ℕ, Bool, true, false, Option, Some, None, Result, Ok, ap, ap₂, ◌∙◌, sym, refl, subst, option_and_then}
 use Rattle.std.proofs.lemmas.Option.{none-some, option_and_then_some, same_Some}
 use Rattle.std.specs.List.{fold}
 use Rattle.std.specs.Prelude.{is_some}
@@ -17,14 +17,14 @@ use Rattle.lq_value.specs.declared.value.Value.{Value, out-Value}
 use Rattle.lq_value.specs.declared.value.Value.TheVariants as value
 use Rattle.lq_value.specs.declared.value.Value.TheVariants.{outs-Seq}
 use Rattle.lq_model.specs.Arrangement.{Keyed, all_of, arranged, keyed, order_by, with_key}
-use Rattle.lq_model.specs.ClauseTyping.{are_join_keys, element_type, has_place, is_fresh, is_key, is_within, joined_name, source_type, when}
+use Rattle.lq_model.specs.ClauseTyping.{element_type, has_place, is_fresh, is_key, is_within, joined_name, when}
 use Rattle.lq_model.specs.Maps.{map_key}
-use Rattle.lq_model.specs.Meaning.{Binding, Meaning, Scope, World, as_group, bound, condition_at, inner_items, is_null_layer, item_type_at, items_of, joined_type, joined_values, matches, names_at, on_scalar, or_null, sequence, sort_key_at, stream_of}
-use Rattle.lq_model.specs.MeaningLaws.{Every, HoldsRows, IsScalarOf}
-use Rattle.lq_model.specs.Operations.{on_ok, truth_of}
-use Rattle.lq_model.specs.Operators.{Pattern, One, With, bind, call_meaning, element_at, lambda, names_of, operator_meaning, operators_items, operators_meaning, operators_type_at, pair, parts_meaning, pattern_after, pattern_behind, pattern_type, result_of, source_type_under, unnamed}
-use Rattle.lq_model.specs.Stream.{Stream, both, elements_of, expand_by, group_by, join_by, on_value, select_by, where_by, whole, with_keys}
-use Rattle.lq_model.specs.Typing.{Names, is_bool, is_scalar, with_local}
+use Rattle.lq_model.specs.Meaning.{Meaning, Scope, World, as_group, bound, condition_at, inner_items, is_null_layer, item_type_at, items_of, joined_type, joined_values, matches, names_at, on_scalar, or_null, sequence, sort_key_at, stream_of}
+use Rattle.lq_model.specs.MeaningLaws.{Every, HoldsRows}
+use Rattle.lq_model.specs.Operations.{on_ok}
+use Rattle.lq_model.specs.Operators.{Pattern, One, With, bind, call_meaning, element_at, lambda, names_of, operator_meaning, operators_items, operators_meaning, operators_type_at, pair, parts_meaning, pattern_after, pattern_behind, pattern_type, result_of, unnamed}
+use Rattle.lq_model.specs.Stream.{Stream, both, elements_of, expand_by, join_by, on_value, select_by, where_by, with_keys}
+use Rattle.lq_model.specs.Typing.{Names, is_scalar}
 use Rattle.lq_model.specs.WholeMeaning.{as_sequence}
 use Rattle.lq_model.specs.WholeMeaningLaws.{IsValueOf, by_group}
 use Rattle.lq_model.specs.declared.calls.Call.{Call}
@@ -48,11 +48,11 @@ use Rattle.lq_tree.specs.Places.{Places, names_of_places, with_item, with_name}
 use Rattle.lq_tree.specs.declared.tree.Form.{Form}
 use Rattle.lq_tree.specs.declared.tree.Form.TheVariants as form
 use Rattle.lq_tree.specs.declared.tree.Tree.{Tree}
-use Rattle.lq_tree.proofs.CallTypes.{at_item, body_found, names_alike, operator_found, pattern_found, source_found}
-use Rattle.lq_tree.proofs.FormSteps.{of_group, of_join, of_order, of_pair, of_select_many, of_sequence, of_slot, of_through}
+use Rattle.lq_tree.proofs.CallTypes.{at_item, body_found, operator_found, pattern_found}
+use Rattle.lq_tree.proofs.FormSteps.{of_group, of_join, of_order, of_pair, of_select_many, of_sequence, of_through}
 use Rattle.lq_tree.proofs.MeansMembers.{at_slots, same_agree}
 use Rattle.lq_tree.proofs.Patterns.{behind_after}
-use Rattle.lq_tree.proofs.Scopes.{IsItem, Stands, append_behind, at_end, item_stands, item_value, length_one_more, slot_means, slot_reached, types_at}
+use Rattle.lq_tree.proofs.Scopes.{IsItem, Stands, append_behind, item_stands, item_value, slot_means, slot_reached, types_at}
 use Rattle.lq_tree.proofs.TypeLemmas.{type_found}
 use Rattle.lq_tree.proofs.Walks.{gathered_all, traversed, walk_none}
 

@@ -1,9 +1,7 @@
 -- What a form means, over the meanings of the forms in it.
-use Rattle.std.proofs.Common.{◌≡◌, ◌∷◌, ◌++◌, if◌then◌else◌, List, [], map, ℕ, Bool, Result, Ok, ap, ◌∙◌, refl, not, slice_get}
+use Rattle.std.proofs.Common.{◌≡◌, List, map, ℕ, Bool, ap, ◌∙◌, refl}
 use Rattle.lq_value.specs.declared.scalar.Scalar.{Scalar}
 use Rattle.lq_value.specs.declared.ty.Ty.{Ty}
-use Rattle.lq_value.specs.declared.value.Fault.{Fault}
-use Rattle.lq_value.specs.declared.value.Value.{Value}
 use Rattle.lq_model.specs.Maps.{map_field, map_key}
 use Rattle.lq_model.specs.Meaning.{World}
 use Rattle.lq_model.specs.MeaningLaws.{assuming}
@@ -13,7 +11,7 @@ use Rattle.lq_model.specs.declared.methods.Through.{Through}
 use Rattle.lq_model.specs.declared.operation.Op.{Op}
 use Rattle.lq_model.specs.declared.syntax.Field.{Field}
 use Rattle.lq_model.specs.declared.syntax.SortKey.{SortKey}
-use Rattle.lq_tree.specs.FormMeaning.{Means, Slots, form_meaning, form_step}
+use Rattle.lq_tree.specs.FormMeaning.{Means, form_meaning, form_step}
 use Rattle.lq_tree.specs.declared.tree.Form.{Form, fold_out-Form, map-Form, out-Form}
 use Rattle.lq_tree.specs.declared.tree.Form.TheOpen.{Form-F}
 use Rattle.lq_tree.specs.declared.tree.Form.TheVariants as form

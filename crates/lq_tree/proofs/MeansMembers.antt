@@ -1,5 +1,5 @@
 -- Members by their numbers: what a column, a record's member, a group's key or a member of a scalar is, is what the name's meaning is.
-use Rattle.std.proofs.Common.{◌≡◌, ◌∷◌, ◌++◌, ◌+◌, arith, if◌then◌else◌, List, [], map, ℕ, zero, suc, Bool, true, false, Option, Some, None, Result, Ok, Err, ap, ap₂, ◌∙◌, sym, refl, subst, bytes_eq, codes, true≢false, option_and_then, option_map, slice_get}
+use Rattle.std.proofs.Common.{◌≡◌, ◌∷◌, ◌+◌, if◌then◌else◌, List, [], map, ℕ, Bool, true, false, Option, Some, None, Result, Ok, Err, ap, ap₂, ◌∙◌, sym, refl, subst, bytes_eq, codes, true≢false, option_and_then, option_map, slice_get}
 use Rattle.std.proofs.lemmas.Option.{none-some, option_and_then_some, same_Some}
 use Rattle.std.proofs.lemmas.Slice.Eq.{bytes_eq-Decides}
 use Rattle.std.specs.List.{position_from}
@@ -16,9 +16,8 @@ use Rattle.lq_value.specs.declared.value.Fault.{Fault}
 use Rattle.lq_value.specs.declared.value.Fault.TheVariants as fault
 use Rattle.lq_value.specs.declared.value.Value.{Value, out-Value}
 use Rattle.lq_value.specs.declared.value.Value.TheOpen.{Value-F}
-use Rattle.lq_value.specs.declared.value.Value.TheVariants as value
 use Rattle.lq_value.specs.declared.value.Value.TheVariants.{outs-Group as outs-value-Group, outs-Rec as outs-value-Rec, outs-Row as outs-value-Row, outs-Scalar}
-use Rattle.lq_model.specs.Meaning.{World, stream_of, as_value, cell_value, member_value, on_scalar, scalar_of}
+use Rattle.lq_model.specs.Meaning.{World, stream_of, as_value, cell_value, member_value, scalar_of}
 use Rattle.lq_model.specs.MeaningLaws.{IsScalarOf}
 use Rattle.lq_model.specs.Members.{member_named}
 use Rattle.lq_model.specs.Operations.{of_member, of_one, on_ok}
@@ -29,13 +28,13 @@ use Rattle.lq_model.specs.WholeMeaningLaws.{AreMembers, Fits, IsValueOf, no_memb
 use Rattle.lq_model.specs.WholeTyping.{member_of}
 use Rattle.lq_model.specs.declared.operation.Op.{Op}
 use Rattle.lq_model.specs.declared.operation.Op.TheVariants as op
-use Rattle.lq_model.proofs.AlikeStreams.{Agree, agree_err, agree_ok, on_ok_agree}
+use Rattle.lq_model.proofs.AlikeStreams.{Agree, on_ok_agree}
 use Rattle.lq_model.proofs.Findings.{map_by, when_by}
 use Rattle.lq_model.proofs.ScalarResults.{Gives, given_of, has_value_given, length_given, value_given}
 use Rattle.lq_model.proofs.TypedMethods.{column_agrees, key_agrees, member_agrees, scalar_member_agrees, settled_agree}
 use Rattle.lq_model.proofs.TypingLemmas.{is_of_layer, type_with}
 use Rattle.lq_model.proofs.ValuesOfTypes.{RecordOrNull, RowOrNull, a_record, a_row, group_value, is_plain, no_record, no_row, plain_value, record_value, row_value}
-use Rattle.lq_tree.specs.Binding.{column_tree, group_key_tree, member_layer, member_tree, settled_form, settled_tree, nullable_tree, record_member_tree, text_tree, tree_of}
+use Rattle.lq_tree.specs.Binding.{group_key_tree, member_layer, member_tree, settled_form, settled_tree, nullable_tree, record_member_tree, text_tree, tree_of}
 use Rattle.lq_tree.specs.FormMeaning.{Slots, cell_in, column_name, form_meaning, if_there, key_in, member_at, name_of_column}
 use Rattle.lq_tree.specs.declared.tree.Form.{Form}
 use Rattle.lq_tree.specs.declared.tree.Form.TheVariants as form

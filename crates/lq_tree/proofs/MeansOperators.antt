@@ -1,7 +1,6 @@
 -- Operators: what the form that the operands' types choose means, is what the sign means between them.
-use Rattle.std.proofs.Common.{◌⊎◌, inl, inr, ◌≡◌, ◌∷◌, ◌&&◌, ◌||◌, if◌then◌else◌, not, List, [], ℕ, Bool, true, false, Option, Some, None, Result, Ok, Err, ap, ap₂, ◌∙◌, sym, refl, subst, true≢false, option_and_then, option_map}
-use Rattle.std.proofs.lemmas.Bool.{and_from}
-use Rattle.std.proofs.lemmas.Option.{none-some, option_and_then_some, same_Some}
+use Rattle.std.proofs.Common.{◌⊎◌, inl, inr, ◌≡◌, ◌&&◌, ◌||◌, if◌then◌else◌, not, Bool, true, false, Option, Some, Result, Ok, Err, ap, ap₂, ◌∙◌, sym, refl, subst, true≢false}
+use Rattle.std.proofs.lemmas.Option.{none-some, same_Some}
 use Rattle.lq_value.specs.declared.scalar.Scalar.{Scalar}
 use Rattle.lq_value.specs.declared.scalar.Scalar.TheVariants as scalar
 use Rattle.lq_value.specs.declared.ty.Ty.{Ty, out-Ty}
@@ -17,8 +16,7 @@ use Rattle.lq_model.specs.Meaning.{World, as_value, compared_meaning, is_null, o
 use Rattle.lq_model.specs.MeaningLaws.{IsScalarOf}
 use Rattle.lq_model.specs.Operations.{negated, of_two, on_ok, operation_of, same_content, truth, truth_of}
 use Rattle.lq_model.specs.Operators.{first, pair, second}
-use Rattle.lq_model.specs.Types.{when}
-use Rattle.lq_model.specs.Typing.{are_comparable, are_joined, coalesced, is_bool, is_equality, is_number, is_ordering, is_text, joined_type, number_type, operated_type, result_type, truth_type}
+use Rattle.lq_model.specs.Typing.{are_comparable, are_joined, coalesced, is_bool, is_equality, is_number, is_ordering, is_text, joined_type, number_type, result_type, truth_type}
 use Rattle.lq_model.specs.WholeMeaning.{whole_compared, whole_same}
 use Rattle.lq_model.specs.WholeMeaningLaws.{IsValueOf, by_scalar}
 use Rattle.lq_model.specs.WholeTyping.{are_null_tests, whole_chosen, whole_operated_type}
@@ -34,7 +32,7 @@ use Rattle.lq_model.proofs.TypedMethods.{given_agree, scalar_after, truth_after}
 use Rattle.lq_model.proofs.TypedOperators.{Keeps, choice_keeps, coalesced_plain, decides, plain_keeps}
 use Rattle.lq_model.proofs.TypingLemmas.{compares_not, is_truth}
 use Rattle.lq_model.proofs.ValuesOfTypes.{RecordOrNull, RowOrNull, a_record, a_row, group_value, is_plain, no_record, no_row, number_plain, plain_value, record_value, row_value, truth_is}
-use Rattle.lq_tree.specs.Binding.{and_tree, binary_form, binary_tree, coalesce_tree, conditional_tree, equality_form, is_literal, is_object, operation_at, or_tree, tested_first, tested_second, tree_of, typed_tree, unary_tree}
+use Rattle.lq_tree.specs.Binding.{and_tree, binary_form, binary_tree, coalesce_tree, conditional_tree, equality_form, is_literal, is_object, operation_at, or_tree, tested_first, tested_second, tree_of, unary_tree}
 use Rattle.lq_tree.specs.FormMeaning.{Slots, form_meaning, is_null_value}
 use Rattle.lq_tree.specs.declared.tree.Form.{Form, out-Form}
 use Rattle.lq_tree.specs.declared.tree.Form.TheOpen.{Form-F}

@@ -1,5 +1,5 @@
 -- The tree of a node means what the node means, and gives values of its type, if the same is so of the expressions in it.
-use Rattle.std.proofs.Common.{◌≡◌, ◌∷◌, ◌++◌, ◌&&◌, if◌then◌else◌, not, List, [], map, ℕ, Bool, true, false, Option, Some, None, Result, Ok, Err, ap, ap₂, ◌∙◌, sym, refl, subst, bytes_eq, codes, true≢false, option_and_then, option_map, slice_get}
+use Rattle.std.proofs.Common.{◌≡◌, ◌∷◌, ◌++◌, if◌then◌else◌, List, [], map, ℕ, Bool, true, false, Option, Some, None, Result, Ok, ap, ◌∙◌, sym, refl, subst, bytes_eq, codes, true≢false, option_and_then, option_map, slice_get}
 use Rattle.std.proofs.lemmas.Option.{none-some, option_and_then_some, same_Some}
 use Rattle.std.specs.Prelude.{is_some}
 use Rattle.lq_value.specs.declared.scalar.Scalar.{Scalar}
@@ -16,13 +16,13 @@ use Rattle.lq_model.specs.EnumerableCalls.{EnumerableCall, By, Plain, With, enum
 use Rattle.lq_model.specs.Maps.{map_argument, map_enumerable, map_field, map_node}
 use Rattle.lq_model.specs.Meaning.{Binding, Meaning, Scope, World, as_value, binding_of, bound, condition_at, item_type_at, name_value, names_at, on_scalar, or_null, stream_of, table_value}
 use Rattle.lq_model.specs.MeaningLaws.{Every, HasCells, HoldsRows, IsScalarOf}
-use Rattle.lq_model.specs.Members.{is_search, search_named, sole_argument}
-use Rattle.lq_model.specs.Operations.{of_search, of_two, on_ok, truth_of}
+use Rattle.lq_model.specs.Members.{search_named, sole_argument}
+use Rattle.lq_model.specs.Operations.{of_search, on_ok}
 use Rattle.lq_model.specs.Operators.{One}
 use Rattle.lq_model.specs.Stream.{Stream}
-use Rattle.lq_model.specs.Types.{element_type, is_fresh, is_within, when}
-use Rattle.lq_model.specs.Typing.{Names, is_bool, is_text, is_text_type, table_number, with_local}
-use Rattle.lq_model.specs.WholeMeaning.{argument_meaning, as_sequence, called_meaning, enumerable_meaning, given_meaning, is_sequence_layer, members_meaning, method_meaning, method_type_at, search_meaning, settled, simple_meaning, through_meaning, whole_meaning, whole_member_value}
+use Rattle.lq_model.specs.Types.{element_type, is_fresh, is_within}
+use Rattle.lq_model.specs.Typing.{Names, is_text, is_text_type, table_number, with_local}
+use Rattle.lq_model.specs.WholeMeaning.{argument_meaning, as_sequence, called_meaning, enumerable_meaning, given_meaning, is_sequence_layer, members_meaning, method_type_at, search_meaning, settled, simple_meaning, through_meaning, whole_meaning, whole_member_value}
 use Rattle.lq_model.specs.WholeMeaningLaws.{AreMembers, Fits, IsValueOf, by_record, by_row, no_member, one_member}
 use Rattle.lq_model.specs.WholeTyping.{given_type, simple_type, through_type, whole_type}
 use Rattle.lq_model.specs.declared.operation.Op.{Op}
@@ -31,7 +31,7 @@ use Rattle.lq_model.specs.declared.syntax.Field.{Field}
 use Rattle.lq_model.specs.declared.syntax.Node.{Node}
 use Rattle.lq_model.specs.declared.syntax.Node.TheVariants as node
 use Rattle.lq_model.specs.declared.syntax.Unary.TheVariants as unary
-use Rattle.lq_model.proofs.AlikeStreams.{Agree, Alike, agree_err, agree_ok, on_ok_agree}
+use Rattle.lq_model.proofs.AlikeStreams.{Agree, agree_err, agree_ok, on_ok_agree}
 use Rattle.lq_model.proofs.EveryItem.{every_map, table_there}
 use Rattle.lq_model.proofs.Findings.{map_by, when_by}
 use Rattle.lq_model.proofs.MemberLemmas.{search_given as search_known}
@@ -40,15 +40,15 @@ use Rattle.lq_model.proofs.ScalarResults.{given_of, search_given}
 use Rattle.lq_model.proofs.TypedMethods.{given_agree, given_typed, scalar_after, simple_typed, stream_alike, through_typed, truth_same}
 use Rattle.lq_model.proofs.TypingLemmas.{is_text_of, is_truth}
 use Rattle.lq_model.proofs.ValuesOfTypes.{is_plain, scalar_is, sequence_is}
-use Rattle.lq_tree.specs.Binding.{Binds, and_tree, binary_tree, coalesce_tree, conditional_tree, member_tree, of_two_trees, or_tree, called_tree, enumerable_tree, field_tree, fields_tree, form_of_field, gathered, lambda_tree, method_tree, name_tree, node_tree, placed_tree, record_tree, search_form, search_tree, settled_form, settled_tree, tree_of, type_of_field, within_tree}
-use Rattle.lq_tree.specs.FormMeaning.{Means, Slots, form_meaning, is_true, members_of}
+use Rattle.lq_tree.specs.Binding.{Binds, and_tree, binary_tree, coalesce_tree, conditional_tree, member_tree, of_two_trees, or_tree, called_tree, enumerable_tree, field_tree, fields_tree, form_of_field, gathered, lambda_tree, name_tree, node_tree, placed_tree, record_tree, search_form, search_tree, settled_tree, tree_of, type_of_field, within_tree}
+use Rattle.lq_tree.specs.FormMeaning.{Slots, form_meaning, is_true, members_of}
 use Rattle.lq_tree.specs.Places.{Place, Places, names_of_places, place_of, with_name}
 use Rattle.lq_tree.specs.declared.tree.Form.{Form}
 use Rattle.lq_tree.specs.declared.tree.Form.TheVariants as form
 use Rattle.lq_tree.specs.declared.tree.Tree.{Tree}
 use Rattle.lq_tree.proofs.FormSteps.{of_binary, of_given, of_literal, of_record, of_simple, of_table, of_through}
 use Rattle.lq_tree.proofs.MeansMembers.{at_slots, member_means, same_agree, settled_goal}
-use Rattle.lq_tree.proofs.MeansOperators.{and_means, binary_means, coalesce_means, conditional_means, minus_means, not_means, or_means, sign_meaning}
+use Rattle.lq_tree.proofs.MeansOperators.{and_means, binary_means, coalesce_means, conditional_means, minus_means, not_means, or_means}
 use Rattle.lq_tree.proofs.NodeTypes.{method_by, node_found, sole_by}
 use Rattle.lq_tree.proofs.Scopes.{Found, Stands, append_none, item_stands, name_there, types_at}
 use Rattle.lq_tree.proofs.TypeLemmas.{search_by, type_found}

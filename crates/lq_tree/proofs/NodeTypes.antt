@@ -1,5 +1,5 @@
 -- The type of a node is a matter of the types of the expressions in it, and its tree has that type.
-use Rattle.std.proofs.Common.{◌≡◌, ◌∷◌, ◌&&◌, if◌then◌else◌, List, [], map, ℕ, Bool, Option, Some, None, ap, ap₂, ◌∙◌, sym, refl, option_and_then, option_map}
+use Rattle.std.proofs.Common.{◌≡◌, ◌∷◌, ◌&&◌, if◌then◌else◌, List, [], map, ℕ, Option, Some, None, ap, ap₂, ◌∙◌, sym, refl, option_and_then, option_map}
 use Rattle.lq_value.specs.declared.table.Schema.{Schema}
 use Rattle.lq_value.specs.declared.ty.Ty.{Ty, out-Ty}
 use Rattle.lq_value.specs.declared.ty.Ty.TheVariants as ty
@@ -7,7 +7,7 @@ use Rattle.lq_model.specs.EnumerableCalls.{EnumerableCall, By, Plain, With, enum
 use Rattle.lq_model.specs.Maps.{map_argument, map_enumerable, map_field, map_node}
 use Rattle.lq_model.specs.Members.{is_search, sole_argument}
 use Rattle.lq_model.specs.Types.{if_placed, when}
-use Rattle.lq_model.specs.Typing.{Names, coalesced, is_bool, is_number, is_text_type, local_type, name_type, truth_type}
+use Rattle.lq_model.specs.Typing.{Names, coalesced, is_bool, is_number, is_text_type, name_type, truth_type}
 use Rattle.lq_model.specs.WholeTyping.{argument_type, are_distinct, called_type, if_limited, members_type, method_type, record_type, whole_member_type, whole_operated_type, whole_type}
 use Rattle.lq_model.specs.declared.syntax.Argument.{Argument}
 use Rattle.lq_model.specs.declared.syntax.Argument.TheVariants as argument
@@ -16,7 +16,7 @@ use Rattle.lq_model.specs.declared.syntax.Node.{Node}
 use Rattle.lq_model.specs.declared.syntax.Node.TheVariants as node
 use Rattle.lq_model.specs.declared.syntax.Unary.TheVariants as unary
 use Rattle.lq_model.proofs.MethodPulls.{call_maps}
-use Rattle.lq_tree.specs.Binding.{Binds, and_tree, binary_form, binary_tree, coalesce_tree, member_tree, name_tree, node_tree, or_tree, unary_tree}
+use Rattle.lq_tree.specs.Binding.{Binds, and_tree, binary_form, binary_tree, coalesce_tree, member_tree, node_tree, or_tree, unary_tree}
 use Rattle.lq_tree.specs.Places.{Places, names_of_places, place_of}
 use Rattle.lq_tree.specs.declared.tree.Form.TheVariants as form
 use Rattle.lq_tree.specs.declared.tree.Tree.{Tree}

@@ -1,17 +1,15 @@
 -- What an item stands for behind a call: where the call is typed, the pattern that its meaning goes on with is the one that its type has.
-use Rattle.std.proofs.Common.{◌≡◌, ◌&&◌, List, ℕ, Bool, true, false, Option, Some, None, ap, ◌∙◌, sym, refl, subst, option_and_then, option_map}
-use Rattle.std.proofs.lemmas.Option.{none-some, option_and_then_some, same_Some}
-use Rattle.lq_value.specs.declared.ty.Ty.{Ty, out-Ty}
-use Rattle.lq_value.specs.declared.ty.Ty.TheVariants as ty
-use Rattle.lq_model.specs.ClauseTyping.{are_join_keys, are_sort_keys, fresh_type, from_type, group_type, has_place, if_placed, is_fresh, join_type, joined_name, let_type, matched_type, source_type, when}
-use Rattle.lq_model.specs.Meaning.{Meaning, Scope, World, item_type_at, joined_type, names_at, or_null}
-use Rattle.lq_model.specs.Operators.{Pattern, With, element_of, names_of, paired_behind, paired_pattern, pattern_after, pattern_behind, unnamed}
-use Rattle.lq_model.specs.Typing.{Names, is_bool_type, with_local}
+use Rattle.std.proofs.Common.{◌≡◌, List, ℕ, Option, Some, None, ap, ◌∙◌, sym, subst}
+use Rattle.std.proofs.lemmas.Option.{option_and_then_some, same_Some}
+use Rattle.lq_value.specs.declared.ty.Ty.{Ty}
+use Rattle.lq_model.specs.ClauseTyping.{are_join_keys, fresh_type, from_type, if_placed, is_fresh, join_type, joined_name, matched_type, source_type, when}
+use Rattle.lq_model.specs.Meaning.{Meaning, Scope, World, joined_type, names_at, or_null}
+use Rattle.lq_model.specs.Operators.{Pattern, With, names_of, paired_behind, paired_pattern, pattern_after, pattern_behind, unnamed}
+use Rattle.lq_model.specs.Typing.{Names, with_local}
 use Rattle.lq_model.specs.declared.calls.Operator.{Operator}
 use Rattle.lq_model.specs.declared.calls.Operator.TheVariants as operator
 use Rattle.lq_model.specs.declared.calls.Paired.{Paired}
 use Rattle.lq_model.specs.declared.calls.Paired.TheVariants as paired
-use Rattle.lq_model.specs.declared.syntax.Join.{Join}
 use Rattle.lq_model.proofs.Findings.{map_by, when_by}
 
 or_null_is : (o : Option Ty) (t : Ty) → o ≡ Some t → or_null o ≡ t

@@ -1,24 +1,19 @@
 -- Slots that hold a scope: what a name's place reaches, and what holds where an item stands in one slot more.
-use Rattle.std.proofs.Common.{◌≡◌, ◌∷◌, ◌++◌, ◌+◌, arith, if◌then◌else◌, List, [], map, ℕ, zero, suc, Bool, true, false, Option, Some, None, Result, Ok, ap, ap₂, ◌∙◌, sym, refl, subst, bytes_eq, length, slice_get}
-use Rattle.lq_value.specs.declared.ty.Ty.{Ty, out-Ty}
-use Rattle.lq_value.specs.declared.ty.Ty.TheOpen.{Ty-F}
+use Rattle.std.proofs.Common.{◌≡◌, ◌∷◌, ◌++◌, ◌+◌, arith, if◌then◌else◌, List, [], map, ℕ, Bool, true, false, Option, Some, None, Result, Ok, ap, ap₂, ◌∙◌, sym, refl, subst, bytes_eq, length, slice_get}
+use Rattle.lq_value.specs.declared.ty.Ty.{Ty}
 use Rattle.lq_value.specs.declared.ty.Ty.TheVariants as ty
 use Rattle.lq_value.specs.declared.ty.Ty.TheVariants.{outs-Rec}
 use Rattle.lq_value.specs.declared.value.Fault.{Fault}
-use Rattle.lq_value.specs.declared.value.Value.{Value, out-Value}
-use Rattle.lq_value.specs.declared.value.Value.TheVariants as value
+use Rattle.lq_value.specs.declared.value.Value.{Value}
 use Rattle.lq_value.specs.declared.value.Value.TheVariants.{outs-Rec as outs-value-Rec}
 use Rattle.lq_model.specs.Meaning.{Binding, Scope, World, binding_of, names_at, typed_locals}
-use Rattle.lq_model.specs.MeaningLaws.{Every}
 use Rattle.lq_model.specs.Operations.{on_ok}
 use Rattle.lq_model.specs.Operators.{Pattern, One, With, bind, first, first_member, pair, pair_type, pattern_type, second, second_member}
-use Rattle.lq_model.specs.Typing.{Names}
-use Rattle.lq_model.specs.WholeMeaningLaws.{AreMembers, Fits, by_record, IsScopeOfValues, IsValueOf, no_member, one_member}
+use Rattle.lq_model.specs.WholeMeaningLaws.{by_record, IsScopeOfValues, IsValueOf, no_member, one_member}
 use Rattle.lq_model.proofs.EveryItem.{every_more, first_of, others_of}
-use Rattle.lq_model.proofs.ValuesOfTypes.{RecordOrNull, a_record, no_record, record_value}
 use Rattle.lq_tree.specs.BindingLaws.{Holds, Reaches, ReachesAll}
 use Rattle.lq_tree.specs.FormMeaning.{Slots, form_meaning, if_there}
-use Rattle.lq_tree.specs.Places.{Place, Places, names_of_places, place_of, places_of, with_item, with_name}
+use Rattle.lq_tree.specs.Places.{Place, Places, names_of_places, place_of, places_of, with_item}
 use Rattle.lq_tree.specs.declared.tree.Form.{Form}
 use Rattle.lq_tree.specs.declared.tree.Form.TheVariants as form
 use Rattle.lq_tree.proofs.FormSteps.{of_first, of_second, of_slot}

@@ -20,7 +20,7 @@ use Rattle.lq_translate.specs.Maps.{map_call, map_node}
 use Rattle.lq_translate.proofs.Layers.{para_call, para_term_node}
 use Rattle.lq_translate.proofs.NodePulls.{map_nodes, node_pull as meaning_pull}
 use Rattle.lq_translate.proofs.QueryPulls.{call_meant}
-use Rattle.lq_tree.specs.Binding.{Binds, call_tree, term_tree}
+use Rattle.lq_tree.specs.Binding.{Binds, term_tree}
 use Rattle.lq_tree.specs.BindingLaws.{MeaningsOfCalls, MeaningsOfTrees}
 use Rattle.lq_tree.specs.FormMeaning.{Slots, form_meaning}
 use Rattle.lq_tree.specs.Places.{Places}

@@ -17,7 +17,6 @@ use Rattle.lq_translate.proofs.NodePulls.{map_nodes}
 use Rattle.lq_translate.proofs.QueryPulls.{call_typed}
 use Rattle.lq_tree.specs.Binding.{Binds, call_tree, term_tree}
 use Rattle.lq_tree.specs.Places.{Places, names_of_places}
-use Rattle.lq_tree.specs.declared.tree.Tree.{Tree}
 use Rattle.lq_tree.proofs.CallTypes.{call_found}
 use Rattle.lq_tree.proofs.Layers.{Such, of_every, plain}
 use Rattle.lq_tree.proofs.NodeTypes.{node_found}

@@ -1,8 +1,7 @@
 -- What a node and calls are bound to is a matter of what the expressions in them are bound to: these may be replaced before or after.
-use Rattle.std.proofs.Common.{◌≡◌, ◌∷◌, ◌&&◌, if◌then◌else◌, List, [], map, ℕ, Bool, Option, Some, None, ap, ap₂, ◌∙◌, sym, refl, option_and_then, option_map}
-use Rattle.std.specs.List.{fold}
+use Rattle.std.proofs.Common.{◌≡◌, ◌∷◌, if◌then◌else◌, List, [], map, ℕ, Option, Some, None, ap, ap₂, ◌∙◌, refl, option_and_then, option_map}
 use Rattle.lq_value.specs.declared.table.Schema.{Schema}
-use Rattle.lq_value.specs.declared.ty.Ty.{Ty, out-Ty}
+use Rattle.lq_value.specs.declared.ty.Ty.{out-Ty}
 use Rattle.lq_model.specs.EnumerableCalls.{EnumerableCall, By, Plain, With, enumerable_call}
 use Rattle.lq_model.specs.Members.{search_named, sole_argument}
 use Rattle.lq_model.specs.Operators.{One}
@@ -16,7 +15,6 @@ use Rattle.lq_model.specs.declared.calls.Paired.TheVariants as paired
 use Rattle.lq_model.specs.declared.calls.Part.{Part}
 use Rattle.lq_model.specs.declared.calls.Term.{Term}
 use Rattle.lq_model.specs.declared.calls.Term.TheVariants as term
-use Rattle.lq_model.specs.declared.operation.Op.{Op}
 use Rattle.lq_model.specs.declared.syntax.Argument.{Argument}
 use Rattle.lq_model.specs.declared.syntax.Argument.TheVariants as argument
 use Rattle.lq_model.specs.declared.syntax.Field.{Field}
@@ -26,9 +24,8 @@ use Rattle.lq_model.specs.declared.syntax.SortKey.{SortKey}
 use Rattle.lq_model.proofs.MethodPulls.{call_maps}
 use Rattle.lq_translate.specs.Maps.{map_argument, map_call, map_enumerable, map_field, map_key, map_node, map_operator, map_part}
 use Rattle.lq_translate.proofs.Layers.{fold_call, fold_term_node}
-use Rattle.lq_tree.specs.Binding.{Binds, Stage, body_tree, call_items_tree, call_tree, called_tree, field_tree, fields_tree, gather_step, gathered, items_of_stage, key_tree, method_tree, node_tree, operator_stage, part_tree, query_tree, record_tree, search_form, search_tree, sequence_tree, settled_tree, source_tree, stage_of, term_tree, tree_step, walk_step, walked, within_tree}
+use Rattle.lq_tree.specs.Binding.{Binds, Stage, body_tree, call_items_tree, call_tree, called_tree, field_tree, fields_tree, gather_step, gathered, items_of_stage, key_tree, method_tree, node_tree, operator_stage, part_tree, query_tree, record_tree, search_form, sequence_tree, settled_tree, source_tree, stage_of, term_tree, tree_step, walked, within_tree}
 use Rattle.lq_tree.specs.Places.{Places, names_of_places, with_item}
-use Rattle.lq_tree.specs.declared.tree.Form.{Form}
 use Rattle.lq_tree.specs.declared.tree.Form.TheVariants as form
 use Rattle.lq_tree.specs.declared.tree.Tree.{Tree}
 use Rattle.lq_tree.proofs.Walks.{walk_map}

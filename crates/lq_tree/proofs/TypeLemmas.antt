@@ -1,5 +1,5 @@
 -- A node has a tree exactly where it has a type, and the tree's type is that, if the same is so of the expressions in it.
-use Rattle.std.proofs.Common.{arith, ◌≡◌, ◌∷◌, ◌++◌, ◌+◌, ◌&&◌, ◌||◌, if◌then◌else◌, List, [], map, ℕ, zero, suc, Bool, true, false, Option, Some, None, ap, ap₂, ◌∙◌, sym, refl, subst, bytes_eq, codes, option_and_then, option_map, slice_get}
+use Rattle.std.proofs.Common.{arith, ◌≡◌, ◌∷◌, ◌+◌, ◌&&◌, ◌||◌, if◌then◌else◌, List, [], map, ℕ, suc, Bool, true, false, Option, Some, None, ap, ap₂, ◌∙◌, sym, refl, bytes_eq, codes, option_and_then, option_map, slice_get}
 use Rattle.std.specs.List.{position_from}
 use Rattle.std.specs.Prelude.{is_some}
 use Rattle.lq_value.specs.declared.table.Column.{Column}
@@ -8,11 +8,10 @@ use Rattle.lq_value.specs.declared.ty.Ty.{Ty, out-Ty}
 use Rattle.lq_value.specs.declared.ty.Ty.TheOpen.{Ty-F}
 use Rattle.lq_value.specs.declared.ty.Ty.TheVariants as ty
 use Rattle.lq_model.specs.EnumerableCalls.{EnumerableCall, By, Plain, With, enumerable_call}
-use Rattle.lq_model.specs.Maps.{map_node}
-use Rattle.lq_model.specs.Members.{is_search, search_named, sole_argument}
+use Rattle.lq_model.specs.Members.{search_named, sole_argument}
 use Rattle.lq_model.specs.Types.{element_type, has_place, if_placed, is_fresh, is_key, is_within, when}
-use Rattle.lq_model.specs.Typing.{Names, coalesced, column_named, column_type, is_bool, is_bool_type, is_number, is_text, is_text_type, local_type, name_type, of_operands, table_number, truth_type, type_of_column, with_local}
-use Rattle.lq_model.specs.WholeTyping.{argument_type, are_distinct, called_type, enumerable_type, given_type, if_limited, lambda_type, member_of, members_type, method_type, record_type, search_type, simple_type, through_type, whole_chosen, whole_choice_type, whole_member_type, whole_operated_type, whole_type}
+use Rattle.lq_model.specs.Typing.{Names, column_named, is_bool, is_bool_type, is_text, is_text_type, local_type, name_type, of_operands, table_number, truth_type, type_of_column}
+use Rattle.lq_model.specs.WholeTyping.{argument_type, are_distinct, called_type, enumerable_type, given_type, if_limited, lambda_type, member_of, members_type, method_type, record_type, search_type, simple_type, through_type, whole_chosen, whole_choice_type, whole_member_type}
 use Rattle.lq_model.specs.declared.methods.Given.{Given}
 use Rattle.lq_model.specs.declared.methods.Given.TheVariants as given
 use Rattle.lq_model.specs.declared.methods.Through.{Through}
@@ -20,15 +19,8 @@ use Rattle.lq_model.specs.declared.methods.Through.TheVariants as through
 use Rattle.lq_model.specs.declared.operation.Op.{Op}
 use Rattle.lq_model.specs.declared.operation.Op.TheVariants as op
 use Rattle.lq_model.specs.declared.syntax.Argument.{Argument}
-use Rattle.lq_model.specs.declared.syntax.Argument.TheVariants as argument
-use Rattle.lq_model.specs.declared.syntax.Binary.{Binary}
 use Rattle.lq_model.specs.declared.syntax.Field.{Field}
-use Rattle.lq_model.specs.declared.syntax.Node.{Node}
-use Rattle.lq_model.specs.declared.syntax.Node.TheVariants as node
-use Rattle.lq_model.specs.declared.syntax.Unary.{Unary}
-use Rattle.lq_model.specs.declared.syntax.Unary.TheVariants as unary
-use Rattle.lq_model.proofs.MethodPulls.{call_maps}
-use Rattle.lq_tree.specs.Binding.{Binds, and_tree, binary_tree, called_tree, coalesce_tree, column_tree, conditional_tree, enumerable_tree, field_tree, fields_tree, gathered, group_key_tree, lambda_tree, member_layer, member_tree, method_tree, name_tree, node_tree, nullable_tree, of_three_trees, of_two_trees, or_tree, placed_tree, record_member_tree, record_tree, search_form, search_tree, settled_tree, text_tree, tree_of, type_of_field, typed_tree, unary_tree, within_tree}
+use Rattle.lq_tree.specs.Binding.{Binds, called_tree, column_tree, conditional_tree, enumerable_tree, field_tree, fields_tree, gathered, lambda_tree, member_layer, member_tree, method_tree, name_tree, of_three_trees, of_two_trees, placed_tree, record_member_tree, record_tree, search_form, search_tree, settled_tree, tree_of, type_of_field, typed_tree, within_tree}
 use Rattle.lq_tree.specs.Places.{Place, Places, names_of_places, place_of, with_name}
 use Rattle.lq_tree.specs.declared.tree.Form.{Form}
 use Rattle.lq_tree.specs.declared.tree.Form.TheVariants as form

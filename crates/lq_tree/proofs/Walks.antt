@@ -1,7 +1,7 @@
 -- Lists that are gone through with something in hand: what they give where it is given up, item by item, and where the items are replaced.
 use Rattle.std.proofs.Common.{◌≡◌, ◌∷◌, ◌++◌, List, [], map, Option, Some, None, ap, ◌∙◌, sym, refl, option_and_then, option_map}
 use Rattle.std.specs.List.{fold}
-use Rattle.lq_tree.specs.Binding.{gather_step, gathered, walk_step, walked}
+use Rattle.lq_tree.specs.Binding.{gather_step, gathered, walk_step}
 
 -- what comes of each item, from the last to the first
 abbrev pub traversed : {A B : Type 0} → (A → Option B) → List A → Option (List B)

@@ -4,9 +4,7 @@ use Rattle.std.specs.Prelude.{◌∷◌, ◌++◌, ◌+◌, ◌&&◌, ◌||◌, 
 use Rattle.std.specs.List.{fold, position_from}
 use Rattle.std.specs.Str.{bytes_eq}
 use Rattle.lq_value.specs.Tables.{first_named}
-use Rattle.lq_value.specs.declared.scalar.Scalar.{Scalar}
 use Rattle.lq_value.specs.declared.scalar.Scalar.TheVariants as scalar
-use Rattle.lq_value.specs.declared.table.Column.{Column}
 use Rattle.lq_value.specs.declared.table.Schema.{Schema}
 use Rattle.lq_value.specs.declared.ty.Ty.{Ty, out-Ty}
 use Rattle.lq_value.specs.declared.ty.Ty.TheOpen.{Ty-F}
@@ -19,7 +17,7 @@ use Rattle.lq_model.specs.Operations.{operation_of}
 use Rattle.lq_model.specs.Operators.{Pattern, One, pattern_type, unnamed}
 use Rattle.lq_model.specs.Operators as of
 use Rattle.lq_model.specs.Types.{are_join_keys, element_type, has_place, is_fresh, is_key, is_sort_key, is_within, when}
-use Rattle.lq_model.specs.Typing.{Names, coalesced, is_bool, is_equality, is_number, is_text, table_number, type_of_column}
+use Rattle.lq_model.specs.Typing.{coalesced, is_bool, is_equality, is_number, is_text, table_number, type_of_column}
 use Rattle.lq_model.specs.WholeMeaning.{is_sequence_layer}
 use Rattle.lq_model.specs.WholeTyping.{are_distinct, given_type, simple_type, through_type, whole_chosen, whole_operated_type}
 use Rattle.lq_model.specs.declared.calls.Call.{Call}
