@@ -1,10 +1,9 @@
 -- What a form means, over the meanings of the forms in it.
-use Rattle.std.proofs.Common.{◌≡◌, List, map, ℕ, Bool, ap, ◌∙◌, refl}
+use Rattle.std.proofs.Common.{◌≡◌, List, map, ℕ, Bool, ap, ◌∙◌}
 use Rattle.lq_value.specs.declared.scalar.Scalar.{Scalar}
 use Rattle.lq_value.specs.declared.ty.Ty.{Ty}
 use Rattle.lq_model.specs.Maps.{map_field, map_key}
 use Rattle.lq_model.specs.Meaning.{World}
-use Rattle.lq_model.specs.MeaningLaws.{assuming}
 use Rattle.lq_model.specs.declared.methods.Given.{Given}
 use Rattle.lq_model.specs.declared.methods.Simple.{Simple}
 use Rattle.lq_model.specs.declared.methods.Through.{Through}
@@ -18,9 +17,6 @@ use Rattle.lq_tree.specs.declared.tree.Form.TheVariants as form
 use Rattle.lq_tree.specs.declared.tree.Joined.{Joined}
 
 module _ {R : Type 0} (world : World R) where
-  eta : assuming world.unknown world ≡ world
-  eta = refl
-
   abbrev mean : Form → Means R
   mean = form_meaning world
 

@@ -67,7 +67,11 @@ module _ {X Y : Type 0} (f : X → Y) where
   at_part_operator (operator.GroupBy key (Some x)) = refl
 
   at_part : (part : Part X) → calls.former-Term-Call-0-at-53.map X Y f part ≡ map_part f part
-  at_part part = λ i. record { name = part.name; operators = map_ext (calls.former-Term-Call-0-at-51.map X Y f) (map_operator f) at_part_operator part.operators i }
+  at_part part = λ i. record {
+    name = part.name;
+    operators = map_ext (calls.former-Term-Call-0-at-51.map X Y f) (map_operator f) at_part_operator
+        part.operators i;
+  }
 
   at_call : (c : Call X) → calls.former-Term-Call-0.map X Y f c ≡ map_call f c
   at_call c = λ i. record {
@@ -88,9 +92,11 @@ module _ (P : Term → Type 0) (of_node : (n : Node (Such P)) → P (term.Node (
     (of_call : (c : Call (Such P)) → P (term.Call (map_call (plain {P = P}) c))) where
   of_layer : (y : Term-F (Such P)) → P (roll-Term (map-Term (Such P) Term (plain {P = P}) y))
   of_layer (Term-F.Node n) =
-      subst (λ (m : Node Term). P (roll-Term (Term-F.Node m))) (sym (at_term_node (plain {P = P}) n)) (subst P (sym (rolls-Node (map_node (plain {P = P}) n))) (of_node n))
+      subst (λ (m : Node Term). P (roll-Term (Term-F.Node m))) (sym (at_term_node (plain {P = P}) n))
+      (subst P (sym (rolls-Node (map_node (plain {P = P}) n))) (of_node n))
   of_layer (Term-F.Call c) =
-      subst (λ (d : Call Term). P (roll-Term (Term-F.Call d))) (sym (at_call (plain {P = P}) c)) (subst P (sym (rolls-Call (map_call (plain {P = P}) c))) (of_call c))
+      subst (λ (d : Call Term). P (roll-Term (Term-F.Call d))) (sym (at_call (plain {P = P}) c)) (subst P (sym (rolls-Call (map_call (plain {P = P}) c)))
+      (of_call c))
 
   pub of_every : (t : Term) → P t
   of_every t = ind-Term P (λ x y h. subst (λ (d : Term-F Term). P (roll-Term d)) h (of_layer y)) t

@@ -45,7 +45,8 @@ use Rattle.lq_tree.proofs.TypeLemmas.{column_first, first_position, first_with, 
 -- ---- positions
 
 -- the first of one list is at the position of the first of another whose tests come out the same
-positions_same : {A B : Type 0} (p : A → Bool) (q : B → Bool) (xs : List A) (ys : List B) → map p xs ≡ map q ys → (start : ℕ) → position_from p start xs ≡ position_from q start ys
+positions_same : {A B : Type 0} (p : A → Bool) (q : B → Bool) (xs : List A) (ys : List B) → map p xs ≡ map q ys → (start : ℕ) → position_from p start xs
+    ≡ position_from q start ys
 positions_same p q [] [] same start = refl
 positions_same p q (x ∷ xs) (y ∷ ys) same start =
     let here : p x ≡ q y = cc in
@@ -98,14 +99,16 @@ module _ {R : Type 0} (world : World R) (slots : Slots R) where
   by_step : (m : List ℕ) (t u : Ty) (f g : Form) (step : Value R → Result (Value R) Fault) → mean g ≡ on_ok (mean f) step
       → ((v : Value R) → Val t v → Agree (Val u) (step v) (named m t v)) → Goal m t f (tree_of u g)
   by_step m t u f g step is same n agree =
-      subst (λ (o : Result (Value R) Fault). Agree (Val u) o (on_ok n (named m t))) (sym is) (on_ok_agree (Val t) (Val u) step (named m t) same (mean f) n agree)
+      subst (λ (o : Result (Value R) Fault). Agree (Val u) o (on_ok n (named m t))) (sym is) (on_ok_agree (Val t) (Val u) step (named m t) same
+      (mean f) n agree)
 
   pub at_slots : {g h : Slots R → Result (Value R) Fault} → g ≡ h → g slots ≡ h slots
   at_slots same = ap (λ (m : Slots R → Result (Value R) Fault). m slots) same
 
   -- ---- rows
 
-  column_step : (n c : ℕ) (m : List ℕ) (u : Ty) → name_of_column world.schemas n c ≡ Some m → column_type world.schemas n m ≡ Some u → (v : Value R) → Val (ty.Row n) v
+  column_step : (n c : ℕ) (m : List ℕ) (u : Ty) → name_of_column world.schemas n c ≡ Some m → column_type world.schemas n m ≡ Some u → (v : Value R)
+      → Val (ty.Row n) v
       → Agree (Val u) (cell_in world n c (out-Value R v)) (named m (ty.Row n) v)
   column_step n c m u name typed v fits =
       same_agree u _ _ (by (row_value world (ty.Row n) n v (outs-Row n) fits)) (column_agrees world world.unknown world.unknown n m u typed v fits)
@@ -121,7 +124,8 @@ module _ {R : Type 0} (world : World R) (slots : Slots R) where
         where
           null_row : whole_member_value world (Some (ty.Row n)) m (Value-F.Scalar scalar.Null) ≡ Err fault.NullReference
           null_row =
-              ap (λ (b : Bool). if b then Err fault.NullReference else member_value world (Some (ty.Row n)) m (Value-F.Scalar scalar.Null)) (ap has_members (outs-Row n))
+              ap (λ (b : Bool). if b then Err fault.NullReference else member_value world (Some (ty.Row n)) m (Value-F.Scalar scalar.Null))
+              (ap has_members (outs-Row n))
 
   row_goal : (m : List ℕ) (n : ℕ) (f : Form) (r : Tree) → member_layer world.schemas m f (Ty-F.Row n) ≡ Some r → Goal m (ty.Row n) f r
   row_goal m n f r h =
@@ -133,7 +137,8 @@ module _ {R : Type 0} (world : World R) (slots : Slots R) where
       sym (first_position (λ (d : Column). bytes_eq d.name m) schema.columns) ∙ ap (get_at schema.columns) position ∙ at in
       by_step m (ty.Row n) (type_of_column column.ty) f (form.Column f n c) (λ v. cell_in world n c (out-Value R v)) (at_slots (of_column world f n c))
       (column_step n c m (type_of_column column.ty)
-      (ap (option_and_then (column_name c)) there ∙ ap (option_map (λ (d : Column). d.name)) at ∙ ap Some (name_is column.name m (first_passes _ schema.columns column first)))
+      (ap (option_and_then (column_name c)) there ∙ ap (option_map (λ (d : Column). d.name)) at
+      ∙ ap Some (name_is column.name m (first_passes _ schema.columns column first)))
       (ap (option_and_then (λ (s : Schema). option_map (λ (d : Column). type_of_column d.ty) (column_named m s.columns))) there
       ∙ ap (option_map (λ (d : Column). type_of_column d.ty)) (sym (column_first m schema.columns) ∙ first)))))))
 
@@ -148,7 +153,8 @@ module _ {R : Type 0} (world : World R) (slots : Slots R) where
   there_found None = refl
   there_found (Some v) = refl
 
-  member_step : (ms : List (List ℕ × Ty)) (m : List ℕ) (place : ℕ) (u : Ty) → position_from (λ (d : List ℕ × Ty). bytes_eq m d.0) 0 ms ≡ Some place → member_of m ms ≡ Some u
+  member_step : (ms : List (List ℕ × Ty)) (m : List ℕ) (place : ℕ) (u : Ty) → position_from (λ (d : List ℕ × Ty). bytes_eq m d.0) 0 ms ≡ Some place
+      → member_of m ms ≡ Some u
       → (v : Value R) → Val (ty.Rec ms) v → Agree (Val u) (member_at world place (out-Value R v)) (named m (ty.Rec ms) v)
   member_step ms m place u position typed v fits =
       same_agree u _ _ (by (record_value world (ty.Rec ms) ms v (outs-Rec ms) fits)) (member_agrees world world.unknown world.unknown ms m u typed v fits)
@@ -156,14 +162,17 @@ module _ {R : Type 0} (world : World R) (slots : Slots R) where
       by : RecordOrNull world ms v → member_at world place (out-Value R v) ≡ named m (ty.Rec ms) v
       by (a_record vs members is) =
           ap (λ (w : Value R). member_at world place (out-Value R w)) is ∙ ap (member_at world place) (outs-value-Rec vs)
-          ∙ ap (λ (o : Option (List ℕ × Value R)). if_there world (option_map (λ d. d.1) o)) (sym (ap (get_at vs) (sym (positions_same _ _ ms vs (members_tested m ms vs members) 0) ∙ position))
+          ∙ ap (λ (o : Option (List ℕ × Value R)). if_there world (option_map (λ d. d.1) o))
+          (sym (ap (get_at vs) (sym (positions_same _ _ ms vs (members_tested m ms vs members) 0) ∙ position))
           ∙ first_position (λ d. bytes_eq m d.0) vs)
-          ∙ there_found (option_map (λ d. d.1) (first_with (λ d. bytes_eq m d.0) vs)) ∙ ap (member_found world) (named_member m vs (member_in world m) refl (λ d ds. refl))
+          ∙ there_found (option_map (λ d. d.1) (first_with (λ d. bytes_eq m d.0) vs)) ∙ ap (member_found world) (named_member m vs (member_in world m) refl
+          (λ d ds. refl))
           ∙ sym (ap (λ (w : Value R). named m (ty.Rec ms) w) is ∙ ap (whole_member_value world (Some (ty.Rec ms)) m) (outs-value-Rec vs))
       by (no_record is) =
           ap (λ (w : Value R). member_at world place (out-Value R w)) is ∙ ap (member_at world place) (outs-Scalar scalar.Null)
           ∙ sym (ap (λ (w : Value R). named m (ty.Rec ms) w) is ∙ ap (whole_member_value world (Some (ty.Rec ms)) m) (outs-Scalar scalar.Null)
-          ∙ ap (λ (b : Bool). if b then Err fault.NullReference else member_value world (Some (ty.Rec ms)) m (Value-F.Scalar scalar.Null)) (ap has_members (outs-Rec ms)))
+          ∙ ap (λ (b : Bool). if b then Err fault.NullReference else member_value world (Some (ty.Rec ms)) m (Value-F.Scalar scalar.Null))
+          (ap has_members (outs-Rec ms)))
 
   record_goal : (m : List ℕ) (ms : List (List ℕ × Ty)) (f : Form) (r : Tree) → record_member_tree m f ms ≡ Some r → Goal m (ty.Rec ms) f r
   record_goal m ms f r h =
@@ -172,7 +181,8 @@ module _ {R : Type 0} (world : World R) (slots : Slots R) where
       (λ member at is. subst (Goal m (ty.Rec ms) f) is
       (by_step m (ty.Rec ms) member.1 f (form.Member f place) (λ v. member_at world place (out-Value R v)) (at_slots (means_member world f place))
       (member_step ms m place member.1 position
-      (sym (member_first m ms) ∙ ap (option_map (λ (d : List ℕ × Ty). d.1)) (sym (first_position (λ (d : List ℕ × Ty). bytes_eq m d.0) ms) ∙ ap (get_at ms) position ∙ at))))))
+      (sym (member_first m ms) ∙ ap (option_map (λ (d : List ℕ × Ty). d.1)) (sym (first_position (λ (d : List ℕ × Ty). bytes_eq m d.0) ms)
+      ∙ ap (get_at ms) position ∙ at))))))
 
   -- ---- groups
 
@@ -201,7 +211,8 @@ module _ {R : Type 0} (world : World R) (slots : Slots R) where
       → whole_member_value world (Some t) m (Value-F.Scalar s) ≡ as_value (of_member world.unknown (member_named m) s)
   of_scalar t m scalar.Null plain =
       let none = no_members (out-Ty t) plain in
-      ap₂ (λ (b : Bool) (o : Option ℕ). if b then Err fault.NullReference else as_value (if is_some o then Err fault.NullReference else of_member world.unknown (member_named m) scalar.Null))
+      ap₂ (λ (b : Bool) (o : Option ℕ). if b then Err fault.NullReference else as_value (if is_some o then Err fault.NullReference else of_member
+      world.unknown (member_named m) scalar.Null))
       none.0 none.1
   of_scalar t m (scalar.Int n) plain = refl
   of_scalar t m (scalar.Bool b) plain = refl
@@ -229,7 +240,8 @@ module _ {R : Type 0} (world : World R) (slots : Slots R) where
   nullable_goal : (m : List ℕ) (t : Ty) (f : Form) (r : Tree) → out-Ty t ≡ Ty-F.IntN → nullable_tree m f ≡ Some r → Goal m t f r
   nullable_goal m t f r is h = by (bytes_eq m (codes "HasValue")) refl h where
     by : (b : Bool) → bytes_eq m (codes "HasValue") ≡ b
-        → (if b then Some (tree_of ty.Bool (form.Unary op.HasValue f)) else when (bytes_eq m (codes "Value")) (Some (tree_of ty.Int (form.Unary op.Value f)))) ≡ Some r → Goal m t f r
+        → (if b then Some (tree_of ty.Bool (form.Unary op.HasValue f)) else when (bytes_eq m (codes "Value"))
+        (Some (tree_of ty.Int (form.Unary op.Value f)))) ≡ Some r → Goal m t f r
     by true same found =
         subst (Goal m t f) (same_Some _ r found)
         (scalar_goal m t ty.Bool Ty-F.IntN Ty-F.Bool op.HasValue f is outs-Bool refl (ap member_named (name_is m (codes "HasValue") same)) has_value_given)
@@ -268,11 +280,13 @@ module _ {R : Type 0} (world : World R) (slots : Slots R) where
   pub settled_goal : (t : Ty) (o : Option Ty) (f : Form) (n : Result (Value R) Fault) → o ≡ Some t → Agree (Val t) (mean f) n
       → Agree (Val t) (mean (settled_form t f)) (settled world o n)
   settled_goal t o f n is agree =
-      subst (λ (x : Result (Value R) Fault). Agree (Val t) x (settled world o n)) (ap (λ (q : Option Ty). settled world q (mean f)) is ∙ sym (settled_means t f))
+      subst (λ (x : Result (Value R) Fault). Agree (Val t) x (settled world o n)) (ap (λ (q : Option Ty). settled world q (mean f)) is
+      ∙ sym (settled_means t f))
       (settled_agree world world.unknown world.unknown t o is (mean f) n agree)
 
   -- a member, of what means this
-  pub member_means : (m : List ℕ) (a r : Tree) (o : Option Ty) (n : Result (Value R) Fault) → member_tree world.schemas m a ≡ Some r → o ≡ Some r.ty → Agree (Val a.ty) (mean a.form) n
+  pub member_means : (m : List ℕ) (a r : Tree) (o : Option Ty) (n : Result (Value R) Fault) → member_tree world.schemas m a ≡ Some r → o ≡ Some r.ty
+      → Agree (Val a.ty) (mean a.form) n
       → Agree (Val r.ty) (mean r.form) (settled world o (on_ok n (named m a.ty)))
   member_means m a r o n h is agree =
       map_by settled_tree (member_layer world.schemas m a.form (out-Ty a.ty)) r h

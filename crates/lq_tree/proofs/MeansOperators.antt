@@ -69,10 +69,12 @@ added s t x (scalar.Text y) none h k = absurd (true≢false k)
 added s t scalar.Null scalar.Null none h k = refl
 added s t x y none h k = sym (ap (λ (b : Bool). if b then op.Concat else op.Add) none)
 
-numbers_signed : (sign : Binary) (s t : Ty) → is_number (out-Ty s) ≡ true → is_number (out-Ty t) ≡ true → (x y : Scalar) → IsScalarOf (out-Ty s) x → IsScalarOf (out-Ty t) y
+numbers_signed : (sign : Binary) (s t : Ty) → is_number (out-Ty s) ≡ true → is_number (out-Ty t) ≡ true → (x y : Scalar) → IsScalarOf (out-Ty s) x
+    → IsScalarOf (out-Ty t) y
     → operation_on sign (Some s) (Some t) x y ≡ operation_at sign (out-Ty s) (out-Ty t)
 numbers_signed binary.Add s t h k x y x_fits y_fits =
-    added s t x y (ap₂ (λ (a b : Bool). a || b) (number_no_text (out-Ty s) h) (number_no_text (out-Ty t) k)) (number_scalar (out-Ty s) h x x_fits) (number_scalar (out-Ty t) k y y_fits)
+    added s t x y (ap₂ (λ (a b : Bool). a || b) (number_no_text (out-Ty s) h) (number_no_text (out-Ty t) k)) (number_scalar (out-Ty s) h x x_fits)
+    (number_scalar (out-Ty t) k y y_fits)
 numbers_signed sign s t h k x y x_fits y_fits = refl
 
 joined_text : (k l : Ty-F Ty) → are_joined k l ≡ true → (is_text k || is_text l) ≡ true
@@ -141,13 +143,15 @@ module _ {R : Type 0} (world : World R) (slots : Slots R) where
       × ((x y : Scalar) → IsScalarOf (out-Ty s) x → IsScalarOf (out-Ty t) y
       → Gives (out-Ty r) (signed sign s t x y) × (operation_on sign (Some s) (Some t) x y ≡ operation_at sign (out-Ty s) (out-Ty t)))
 
-  numbers_by : (sign : Binary) (s t r : Ty) → is_equality sign ≡ false → is_number (out-Ty s) ≡ true → is_number (out-Ty t) ≡ true → (b : Bool) → is_ordering sign ≡ b
+  numbers_by : (sign : Binary) (s t r : Ty) → is_equality sign ≡ false → is_number (out-Ty s) ≡ true → is_number (out-Ty t) ≡ true → (b : Bool)
+      → is_ordering sign ≡ b
       → (if b then ty.Bool else number_type (out-Ty s) (out-Ty t)) ≡ r → Signs sign s t r
   numbers_by sign s t r other h k true orders is = (
     number_plain (out-Ty s) h,
     number_plain (out-Ty t) k,
     λ x y x_fits y_fits. (
-      subst (λ (u : Ty). Gives (out-Ty u) (signed sign s t x y)) is (given_of ty.Bool Ty-F.Bool (signed sign s t x y) outs-Bool (ordering_given sign s t orders h k x y x_fits y_fits)),
+      subst (λ (u : Ty). Gives (out-Ty u) (signed sign s t x y)) is (given_of ty.Bool Ty-F.Bool (signed sign s t x y) outs-Bool
+          (ordering_given sign s t orders h k x y x_fits y_fits)),
       numbers_signed sign s t h k x y x_fits y_fits,
     ),
   )
@@ -169,8 +173,10 @@ module _ {R : Type 0} (world : World R) (slots : Slots R) where
         plain.0,
         plain.1,
         λ x y x_fits y_fits. (
-          subst (λ (u : Ty). Gives (out-Ty u) (signed binary.Add s t x y)) is (given_of ty.Str Ty-F.Str (signed binary.Add s t x y) outs-Str (joined_given s t joins x y x_fits y_fits)),
-          texts_signed s t x y (joined_text (out-Ty s) (out-Ty t) joins) (joined_scalar (out-Ty s) sides.0 x x_fits) (joined_scalar (out-Ty t) sides.1 y y_fits),
+          subst (λ (u : Ty). Gives (out-Ty u) (signed binary.Add s t x y)) is (given_of ty.Str Ty-F.Str (signed binary.Add s t x y) outs-Str
+              (joined_given s t joins x y x_fits y_fits)),
+          texts_signed s t x y (joined_text (out-Ty s) (out-Ty t) joins) (joined_scalar (out-Ty s) sides.0 x x_fits)
+              (joined_scalar (out-Ty t) sides.1 y y_fits),
         ),
       ))
   joined_by sign s t r h = absurd (none-some r h)
@@ -191,16 +197,19 @@ module _ {R : Type 0} (world : World R) (slots : Slots R) where
       operated_by sign s t r other (is_number (out-Ty s) && is_number (out-Ty t)) refl
       (sym (ap (λ (c : Bool). if c && are_null_tests (out-Ty s) (out-Ty t) then Some ty.Bool
       else (if c then truth_type (are_comparable (out-Ty s) (out-Ty t))
-      else (if is_number (out-Ty s) && is_number (out-Ty t) then Some (result_type sign (out-Ty s) (out-Ty t)) else joined_type sign (out-Ty s) (out-Ty t)))) other) ∙ h)
+      else (if is_number (out-Ty s) && is_number (out-Ty t) then Some (result_type sign (out-Ty s) (out-Ty t)) else joined_type sign (out-Ty s) (out-Ty t))))
+      other) ∙ h)
 
   signed_means : (sign : Binary) (a b : Tree) (r : Ty) (m n : Result (Value R) Fault) → Signs sign a.ty b.ty r → Means a m → Means b n
       → Means (tree_of r (form.Binary (operation_at sign (out-Ty a.ty) (out-Ty b.ty)) a.form b.form)) (operated_meaning world sign (Some a.ty) (Some b.ty) m n)
   signed_means sign a b r m n typed first second =
-      as_form r (form.Binary (operation_at sign (out-Ty a.ty) (out-Ty b.ty)) a.form b.form) _ _ (at_slots world slots (of_binary world (operation_at sign (out-Ty a.ty) (out-Ty b.ty)) a.form b.form))
+      as_form r (form.Binary (operation_at sign (out-Ty a.ty) (out-Ty b.ty)) a.form b.form) _ _
+      (at_slots world slots (of_binary world (operation_at sign (out-Ty a.ty) (out-Ty b.ty)) a.form b.form))
       (scalar_after world world.unknown world.unknown (Agree (Val r)) (agree_err (Val r)) a.ty typed.0 _ _
       (λ x x_fits. scalar_after world world.unknown world.unknown (Agree (Val r)) (agree_err (Val r)) b.ty typed.1 _ _
       (λ y y_fits. let here = typed.2 x y x_fits y_fits in
-      same_agree world slots r _ _ (ap (λ (o : Op). as_value (of_two world.unknown o x y)) (sym here.1)) (given_agree world world.unknown world.unknown r (signed sign a.ty b.ty x y) here.0))
+      same_agree world slots r _ _ (ap (λ (o : Op). as_value (of_two world.unknown o x y)) (sym here.1)) (given_agree world world.unknown world.unknown r
+      (signed sign a.ty b.ty x y) here.0))
       (mean b.form) n second) (mean a.form) m first)
 
   -- ---- `==` and `!=`
@@ -227,10 +236,12 @@ module _ {R : Type 0} (world : World R) (slots : Slots R) where
   second_twice (Err f) n next = refl
 
   pair_first : (a b : Form) → mean (form.First (form.Pair a b)) ≡ on_ok (on_ok (mean a) (λ v. on_ok (mean b) (λ w. Ok (pair v w)))) (λ p. Ok (first p))
-  pair_first a b = at_slots world slots (of_first world (form.Pair a b)) ∙ ap (λ (o : Result (Value R) Fault). on_ok o (λ p. Ok (first p))) (at_slots world slots (of_pair world a b))
+  pair_first a b = at_slots world slots (of_first world (form.Pair a b)) ∙ ap (λ (o : Result (Value R) Fault). on_ok o (λ p. Ok (first p)))
+      (at_slots world slots (of_pair world a b))
 
   pair_second : (a b : Form) → mean (form.Second (form.Pair a b)) ≡ on_ok (on_ok (mean a) (λ v. on_ok (mean b) (λ w. Ok (pair v w)))) (λ p. Ok (second p))
-  pair_second a b = at_slots world slots (of_second world (form.Pair a b)) ∙ ap (λ (o : Result (Value R) Fault). on_ok o (λ p. Ok (second p))) (at_slots world slots (of_pair world a b))
+  pair_second a b = at_slots world slots (of_second world (form.Pair a b)) ∙ ap (λ (o : Result (Value R) Fault). on_ok o (λ p. Ok (second p)))
+      (at_slots world slots (of_pair world a b))
 
   literal_mean : (b : Form) (s : Scalar) → out-Form b ≡ Form-F.Literal s → mean b ≡ Ok (value.Scalar s)
   literal_mean b s is = at_slots world slots (by_layer world b (Form-F.Literal s) is)
@@ -240,7 +251,8 @@ module _ {R : Type 0} (world : World R) (slots : Slots R) where
   first_by a b (Form-F.Literal s) is next = ap (λ (o : Result (Value R) Fault). on_ok (mean a) (λ v. on_ok o (λ w. next v))) (sym (literal_mean b s is))
   first_by a b layer is next = ap (λ (o : Result (Value R) Fault). on_ok o next) (pair_first a b) ∙ first_twice (mean a) (mean b) next
 
-  literal_before : (m : Result (Value R) Fault) (v : Value R) (n : Result (Value R) Fault) (next : Value R → Result (Value R) Fault) → m ≡ Ok v → on_ok n next ≡ on_ok m (λ x. on_ok n next)
+  literal_before : (m : Result (Value R) Fault) (v : Value R) (n : Result (Value R) Fault) (next : Value R → Result (Value R) Fault) → m ≡ Ok v
+      → on_ok n next ≡ on_ok m (λ x. on_ok n next)
   literal_before m v n next is = ap (λ (o : Result (Value R) Fault). on_ok o (λ x. on_ok n next)) (sym is)
 
   second_by : (a b : Form) (layer : Form-F Form) → out-Form a ≡ layer → (next : Value R → Result (Value R) Fault)
@@ -267,7 +279,8 @@ module _ {R : Type 0} (world : World R) (slots : Slots R) where
   null_before k (Ty-F.Group l t) h object = absurd (true≢false (sym h))
   null_before k l h object = absurd (true≢false (sym object))
 
-  both_plain : (k l : Ty-F Ty) → (are_null_tests k l || are_comparable k l) ≡ true → is_object k ≡ false → is_object l ≡ false → (is_plain k ≡ true) × (is_plain l ≡ true)
+  both_plain : (k l : Ty-F Ty) → (are_null_tests k l || are_comparable k l) ≡ true → is_object k ≡ false → is_object l ≡ false
+      → (is_plain k ≡ true) × (is_plain l ≡ true)
   both_plain Ty-F.Int Ty-F.Int h a b = (refl, refl)
   both_plain Ty-F.Int Ty-F.IntN h a b = (refl, refl)
   both_plain Ty-F.Int Ty-F.Null h a b = (refl, refl)
@@ -295,7 +308,8 @@ module _ {R : Type 0} (world : World R) (slots : Slots R) where
 
   null_of : (t : Ty) (v : Value R) → out-Ty t ≡ Ty-F.Null → Val t v → v ≡ value.Scalar scalar.Null
   null_of t v is fits =
-      let found = plain_value world t v (ap is_plain is) fits in found.1 ∙ ap value.Scalar (null_scalar found.0 (subst (λ (u : Ty-F Ty). IsScalarOf u found.0) is found.2))
+      let found = plain_value world t v (ap is_plain is) fits in found.1
+      ∙ ap value.Scalar (null_scalar found.0 (subst (λ (u : Ty-F Ty). IsScalarOf u found.0) is found.2))
 
   abbrev Null : Value-F R (Value R)
   Null = Value-F.Scalar scalar.Null
@@ -303,13 +317,15 @@ module _ {R : Type 0} (world : World R) (slots : Slots R) where
   -- whether a value is null, as `==` with null tells it, from either side
   abbrev AsksNull : Value R → Type 0
   AsksNull v =
-      (whole_same world (out-Value R v) Null ≡ Ok (is_null_value world (out-Value R v))) × (whole_same world Null (out-Value R v) ≡ Ok (is_null_value world (out-Value R v)))
+      (whole_same world (out-Value R v) Null ≡ Ok (is_null_value world (out-Value R v))) × (whole_same world Null (out-Value R v)
+      ≡ Ok (is_null_value world (out-Value R v)))
 
   asks_by : (v w : Value R) (layer : Value-F R (Value R)) → v ≡ w → out-Value R w ≡ layer → (whole_same world layer Null ≡ Ok (is_null_value world layer))
       → (whole_same world Null layer ≡ Ok (is_null_value world layer)) → AsksNull v
   asks_by v w layer v_is w_is before behind =
       subst (λ (x : Value R). AsksNull x) (sym v_is)
-      (subst (λ (l : Value-F R (Value R)). (whole_same world l Null ≡ Ok (is_null_value world l)) × (whole_same world Null l ≡ Ok (is_null_value world l))) (sym w_is) (before, behind))
+      (subst (λ (l : Value-F R (Value R)). (whole_same world l Null ≡ Ok (is_null_value world l)) × (whole_same world Null l ≡ Ok (is_null_value world l)))
+      (sym w_is) (before, behind))
 
   asks_null : (t : Ty) (layer : Ty-F Ty) → out-Ty t ≡ layer → is_object layer ≡ true → (v : Value R) → Val t v → AsksNull v
   asks_null t (Ty-F.Row n) is object v fits = by (row_value world t n v is fits) where
@@ -329,7 +345,8 @@ module _ {R : Type 0} (world : World R) (slots : Slots R) where
       → Agree (Val ty.Bool) x (on_ok o (λ same. Ok (truth_value (told sign same))))
   told_agree sign x o b o_is x_is =
       subst (λ (p : Result Bool Fault). Agree (Val ty.Bool) x (on_ok p (λ same. Ok (truth_value (told sign same))))) (sym o_is)
-      (same_agree world slots ty.Bool x (Ok (truth_value (told sign b))) x_is (agree_ok (Val ty.Bool) (truth_value (told sign b)) (truth_is world (told sign b))))
+      (same_agree world slots ty.Bool x (Ok (truth_value (told sign b))) x_is (agree_ok (Val ty.Bool) (truth_value (told sign b))
+      (truth_is world (told sign b))))
 
   asked_agree : (sign : Binary) (v : Value R) (o : Result Bool Fault) → is_equality sign ≡ true → o ≡ Ok (is_null_value world (out-Value R v))
       → Agree (Val ty.Bool) (Ok (asked (told sign true) v)) (on_ok o (λ same. Ok (truth_value (told sign same))))
@@ -352,7 +369,8 @@ module _ {R : Type 0} (world : World R) (slots : Slots R) where
 
   scalars_agree : (sign : Binary) (s t : Ty) → is_equality sign ≡ true → (are_null_tests (out-Ty s) (out-Ty t) || are_comparable (out-Ty s) (out-Ty t)) ≡ true
       → is_plain (out-Ty s) ≡ true → is_plain (out-Ty t) ≡ true → (v w : Value R) → Val s v → Val t w
-      → Agree (Val ty.Bool) (on_ok (scalar_of world (out-Value R v)) (λ x. on_ok (scalar_of world (out-Value R w)) (λ y. as_value (of_two world.unknown (operation_of sign) x y))))
+      → Agree (Val ty.Bool) (on_ok (scalar_of world (out-Value R v)) (λ x. on_ok (scalar_of world (out-Value R w))
+      (λ y. as_value (of_two world.unknown (operation_of sign) x y))))
       (on_ok (whole_same world (out-Value R v) (out-Value R w)) (λ same. Ok (truth_value (told sign same))))
   scalars_agree sign s t same compares s_plain t_plain v w v_fits w_fits =
       let x = plain_value world s v s_plain v_fits in
@@ -361,11 +379,9 @@ module _ {R : Type 0} (world : World R) (slots : Slots R) where
       let y_out : out-Value R w ≡ Value-F.Scalar y.0 = ap (out-Value R) y.1 ∙ outs-Scalar y.0 in
       let decided = decides world s t compares v w v_fits w_fits in
       told_agree sign _ _ decided.0 (decided.1 world.unknown)
-      (ap₂ (λ (k l : Value-F R (Value R)). on_ok (scalar_of world k) (λ x. on_ok (scalar_of world l) (λ y. as_value (of_two world.unknown (operation_of sign) x y)))) x_out y_out
+      (ap₂ (λ (k l : Value-F R (Value R)). on_ok (scalar_of world k) (λ x. on_ok (scalar_of world l)
+      (λ y. as_value (of_two world.unknown (operation_of sign) x y)))) x_out y_out
       ∙ compared_scalars sign x.0 y.0 decided.0 same (sym (scalars_same x.0 y.0) ∙ sym (ap₂ (whole_same world) x_out y_out) ∙ decided.1 world.unknown))
-
-  abbrev both_scalars : Binary → Result (Value R) Fault → Result (Value R) Fault → Result (Value R) Fault
-  both_scalars sign m n = on_scalar world m (λ x. on_scalar world n (λ y. as_value (of_two world.unknown (operation_of sign) x y)))
 
   abbrev told_scalars : Binary → Scalar → Scalar → Result (Value R) Fault
   told_scalars sign x y = as_value (of_two world.unknown (operation_of sign) x y)
@@ -379,7 +395,8 @@ module _ {R : Type 0} (world : World R) (slots : Slots R) where
       (on_ok_twice n (λ w. scalar_of world (out-Value R w)) (told_scalars sign x))
 
   scalars_means : (sign : Binary) (a b : Tree) (m n : Result (Value R) Fault) → is_equality sign ≡ true
-      → (are_null_tests (out-Ty a.ty) (out-Ty b.ty) || are_comparable (out-Ty a.ty) (out-Ty b.ty)) ≡ true → is_plain (out-Ty a.ty) ≡ true → is_plain (out-Ty b.ty) ≡ true
+      → (are_null_tests (out-Ty a.ty) (out-Ty b.ty) || are_comparable (out-Ty a.ty) (out-Ty b.ty)) ≡ true → is_plain (out-Ty a.ty) ≡ true
+      → is_plain (out-Ty b.ty) ≡ true
       → Means a m → Means b n → Agree (Val ty.Bool) (mean (form.Binary (operation_of sign) a.form b.form)) (whole_compared world sign m n)
   scalars_means sign a b m n same compares a_plain b_plain first second =
       as_form ty.Bool (form.Binary (operation_of sign) a.form b.form) _ _
@@ -389,31 +406,38 @@ module _ {R : Type 0} (world : World R) (slots : Slots R) where
       (λ v. on_ok n (λ w. on_ok (whole_same world (out-Value R v) (out-Value R w)) (λ same. Ok (truth_value (told sign same)))))
       (λ v v_fits. let x = plain_value world a.ty v a_plain v_fits in
       same_first _ _ _ (turned sign (mean b.form) v x.0 (ap (out-Value R) x.1 ∙ outs-Scalar x.0))
-      (on_ok_agree (Val b.ty) (Val ty.Bool) _ _ (λ w w_fits. scalars_agree sign a.ty b.ty same compares a_plain b_plain v w v_fits w_fits) (mean b.form) n second))
+      (on_ok_agree (Val b.ty) (Val ty.Bool) _ _ (λ w w_fits. scalars_agree sign a.ty b.ty same compares a_plain b_plain v w v_fits w_fits)
+      (mean b.form) n second))
       (mean a.form) m first)
     where
       same_first : (x y z : Result (Value R) Fault) → x ≡ y → Agree (Val ty.Bool) y z → Agree (Val ty.Bool) x z
       same_first x y z h agree = (h ∙ agree.0, λ v is. agree.1 v (sym h ∙ is))
 
   -- what has members or is grouped, beside null
-  object_first : (sign : Binary) (a b : Tree) (m n : Result (Value R) Fault) → is_equality sign ≡ true → is_object (out-Ty a.ty) ≡ true → out-Ty b.ty ≡ Ty-F.Null → Means a m → Means b n
+  object_first : (sign : Binary) (a b : Tree) (m n : Result (Value R) Fault) → is_equality sign ≡ true → is_object (out-Ty a.ty) ≡ true → out-Ty b.ty
+      ≡ Ty-F.Null → Means a m → Means b n
       → Agree (Val ty.Bool) (mean (form.IsNull (told sign true) (tested_first a.form b.form))) (whole_compared world sign m n)
   object_first sign a b m n same object null first second =
       as_form ty.Bool (form.IsNull (told sign true) (tested_first a.form b.form)) _ _
-      (at_slots world slots (of_is_null world (told sign true) (tested_first a.form b.form)) ∙ first_by a.form b.form (out-Form b.form) refl (λ v. Ok (asked (told sign true) v)))
+      (at_slots world slots (of_is_null world (told sign true) (tested_first a.form b.form)) ∙ first_by a.form b.form (out-Form b.form) refl
+      (λ v. Ok (asked (told sign true) v)))
       (on_ok_agree (Val a.ty) (Val ty.Bool) _ _ (λ v v_fits. on_ok_agree (Val b.ty) (Val ty.Bool) _ _
       (λ w w_fits. asked_agree sign v _ same
-      (ap (λ (x : Value R). whole_same world (out-Value R v) (out-Value R x)) (null_of b.ty w null w_fits) ∙ ap (whole_same world (out-Value R v)) (outs-Scalar scalar.Null)
+      (ap (λ (x : Value R). whole_same world (out-Value R v) (out-Value R x)) (null_of b.ty w null w_fits) ∙ ap (whole_same world (out-Value R v))
+      (outs-Scalar scalar.Null)
       ∙ (asks_null a.ty (out-Ty a.ty) refl object v v_fits).0)) (mean b.form) n second) (mean a.form) m first)
 
-  object_second : (sign : Binary) (a b : Tree) (m n : Result (Value R) Fault) → is_equality sign ≡ true → is_object (out-Ty b.ty) ≡ true → out-Ty a.ty ≡ Ty-F.Null → Means a m → Means b n
+  object_second : (sign : Binary) (a b : Tree) (m n : Result (Value R) Fault) → is_equality sign ≡ true → is_object (out-Ty b.ty) ≡ true → out-Ty a.ty
+      ≡ Ty-F.Null → Means a m → Means b n
       → Agree (Val ty.Bool) (mean (form.IsNull (told sign true) (tested_second a.form b.form))) (whole_compared world sign m n)
   object_second sign a b m n same object null first second =
       as_form ty.Bool (form.IsNull (told sign true) (tested_second a.form b.form)) _ _
-      (at_slots world slots (of_is_null world (told sign true) (tested_second a.form b.form)) ∙ second_by a.form b.form (out-Form a.form) refl (λ v. Ok (asked (told sign true) v)))
+      (at_slots world slots (of_is_null world (told sign true) (tested_second a.form b.form)) ∙ second_by a.form b.form (out-Form a.form) refl
+      (λ v. Ok (asked (told sign true) v)))
       (on_ok_agree (Val a.ty) (Val ty.Bool) _ _ (λ v v_fits. on_ok_agree (Val b.ty) (Val ty.Bool) _ _
       (λ w w_fits. asked_agree sign w _ same
-      (ap (λ (x : Value R). whole_same world (out-Value R x) (out-Value R w)) (null_of a.ty v null v_fits) ∙ ap (λ (l : Value-F R (Value R)). whole_same world l (out-Value R w)) (outs-Scalar scalar.Null)
+      (ap (λ (x : Value R). whole_same world (out-Value R x) (out-Value R w)) (null_of a.ty v null v_fits)
+      ∙ ap (λ (l : Value-F R (Value R)). whole_same world l (out-Value R w)) (outs-Scalar scalar.Null)
       ∙ (asks_null b.ty (out-Ty b.ty) refl object w w_fits).1)) (mean b.form) n second) (mean a.form) m first)
 
   equality_means : (sign : Binary) (a b : Tree) (m n : Result (Value R) Fault) → is_equality sign ≡ true
@@ -423,7 +447,8 @@ module _ {R : Type 0} (world : World R) (slots : Slots R) where
     by : (c d : Bool) → is_object (out-Ty a.ty) ≡ c → is_object (out-Ty b.ty) ≡ d
         → Agree (Val ty.Bool)
         (mean (if c then form.IsNull (told sign true) (tested_first a.form b.form)
-        else (if d then form.IsNull (told sign true) (tested_second a.form b.form) else form.Binary (operation_of sign) a.form b.form))) (whole_compared world sign m n)
+        else (if d then form.IsNull (told sign true) (tested_second a.form b.form) else form.Binary (operation_of sign) a.form b.form)))
+        (whole_compared world sign m n)
     by true d c_is d_is = object_first sign a b m n same c_is (beside_null (out-Ty a.ty) (out-Ty b.ty) compares c_is) first second
     by false true c_is d_is = object_second sign a b m n same d_is (null_before (out-Ty a.ty) (out-Ty b.ty) compares d_is) first second
     by false false c_is d_is =
@@ -443,7 +468,8 @@ module _ {R : Type 0} (world : World R) (slots : Slots R) where
       if is_equality sign then whole_compared world sign m n
       else (if is_equality sign then compared_meaning world sign m n else operated_meaning world sign s t m n)
 
-  sign_by : (sign : Binary) (a b : Tree) (r : Ty) (m n : Result (Value R) Fault) → whole_operated_type sign (out-Ty a.ty) (out-Ty b.ty) ≡ Some r → Means a m → Means b n
+  sign_by : (sign : Binary) (a b : Tree) (r : Ty) (m n : Result (Value R) Fault) → whole_operated_type sign (out-Ty a.ty) (out-Ty b.ty) ≡ Some r → Means a m
+      → Means b n
       → (c : Bool) → is_equality sign ≡ c
       → Agree (Val r) (mean (if c then equality_form sign a b else form.Binary (operation_at sign (out-Ty a.ty) (out-Ty b.ty)) a.form b.form))
       (if c then whole_compared world sign m n else (if c then compared_meaning world sign m n else operated_meaning world sign (Some a.ty) (Some b.ty) m n))
@@ -452,11 +478,14 @@ module _ {R : Type 0} (world : World R) (slots : Slots R) where
       equality_by (are_null_tests (out-Ty a.ty) (out-Ty b.ty)) (are_comparable (out-Ty a.ty) (out-Ty b.ty)) r
       (sym (ap (λ (c : Bool). if c && are_null_tests (out-Ty a.ty) (out-Ty b.ty) then Some ty.Bool
       else (if c then truth_type (are_comparable (out-Ty a.ty) (out-Ty b.ty))
-      else (if is_number (out-Ty a.ty) && is_number (out-Ty b.ty) then Some (result_type sign (out-Ty a.ty) (out-Ty b.ty)) else joined_type sign (out-Ty a.ty) (out-Ty b.ty)))) same) ∙ h) in
-      subst (λ (u : Ty). Agree (Val u) (mean (equality_form sign a b)) (whole_compared world sign m n)) types.1 (equality_means sign a b m n same types.0 first second)
+      else (if is_number (out-Ty a.ty) && is_number (out-Ty b.ty) then Some (result_type sign (out-Ty a.ty) (out-Ty b.ty)) else joined_type sign
+      (out-Ty a.ty) (out-Ty b.ty)))) same) ∙ h) in
+      subst (λ (u : Ty). Agree (Val u) (mean (equality_form sign a b)) (whole_compared world sign m n)) types.1
+      (equality_means sign a b m n same types.0 first second)
   sign_by sign a b r m n h first second false other = signed_means sign a b r m n (signs sign a.ty b.ty r other h) first second
 
-  pub binary_means : (sign : Binary) (a b r : Tree) (m n : Result (Value R) Fault) (s t : Option Ty) → binary_tree sign a b ≡ Some r → s ≡ Some a.ty → t ≡ Some b.ty → Means a m → Means b n
+  pub binary_means : (sign : Binary) (a b r : Tree) (m n : Result (Value R) Fault) (s t : Option Ty) → binary_tree sign a b ≡ Some r → s ≡ Some a.ty → t
+      ≡ Some b.ty → Means a m → Means b n
       → Means r (sign_meaning sign s t m n)
   binary_means sign a b r m n s t h s_is t_is first second =
       map_by _ (whole_operated_type sign (out-Ty a.ty) (out-Ty b.ty)) r h
@@ -467,13 +496,15 @@ module _ {R : Type 0} (world : World R) (slots : Slots R) where
 
   -- ---- operators with one operand, and those that may leave one out
 
-  pub minus_means : (a r : Tree) (n : Result (Value R) Fault) → unary_tree unary.Minus a ≡ Some r → Means a n → Means r (on_scalar world n (λ s. as_value (negated world.unknown s)))
+  pub minus_means : (a r : Tree) (n : Result (Value R) Fault) → unary_tree unary.Minus a ≡ Some r → Means a n
+      → Means r (on_scalar world n (λ s. as_value (negated world.unknown s)))
   minus_means a r n h agree =
       when_by (is_number (out-Ty a.ty)) _ r h
       (λ number is. subst (λ (x : Tree). Means x (on_scalar world n (λ s. as_value (negated world.unknown s)))) (same_Some _ r is)
       (as_form a.ty (form.Unary op.Minus a.form) _ _ (at_slots world slots (of_unary world op.Minus a.form))
       (scalar_after world world.unknown world.unknown (Agree (Val a.ty)) (agree_err (Val a.ty)) a.ty (number_plain (out-Ty a.ty) number) _ _
-      (λ s fits. given_agree world world.unknown world.unknown a.ty (λ unknown. negated unknown s) (minus_given (out-Ty a.ty) number s fits)) (mean a.form) n agree)))
+      (λ s fits. given_agree world world.unknown world.unknown a.ty (λ unknown. negated unknown s) (minus_given (out-Ty a.ty) number s fits))
+      (mean a.form) n agree)))
 
   bools : (a : Tree) (m : Result (Value R) Fault) → is_bool (out-Ty a.ty) ≡ true → Means a m → Agree (Val ty.Bool) (mean a.form) m
   bools a m truth agree = subst (λ (u : Ty). Agree (Val u) (mean a.form) m) (is_truth a.ty truth) agree
@@ -482,7 +513,8 @@ module _ {R : Type 0} (world : World R) (slots : Slots R) where
   not_by (Ok b) = refl
   not_by (Err f) = refl
 
-  pub not_means : (a r : Tree) (n : Result (Value R) Fault) → unary_tree unary.Not a ≡ Some r → Means a n → Means r (on_truth world n (λ t. Ok (truth_value (not t))))
+  pub not_means : (a r : Tree) (n : Result (Value R) Fault) → unary_tree unary.Not a ≡ Some r → Means a n
+      → Means r (on_truth world n (λ t. Ok (truth_value (not t))))
   not_means a r n h agree =
       when_by (is_bool (out-Ty a.ty)) _ r h
       (λ truth_type is. subst (λ (x : Tree). Means x (on_truth world n (λ t. Ok (truth_value (not t))))) (same_Some _ r is)
@@ -493,31 +525,38 @@ module _ {R : Type 0} (world : World R) (slots : Slots R) where
       (truth_after world world.unknown world.unknown ty.Bool (λ t. Ok (truth_value (not t))) (λ t. Ok (truth_value (not t)))
       (λ t. agree_ok (Val ty.Bool) (truth_value (not t)) (truth_is world (not t))) (mean a.form) n (bools a n truth_type agree))))
 
-  both_by : (m n : Result (Value R) Fault) → Agree (Val ty.Bool) m n → (c d : Bool) → Agree (Val ty.Bool) (if c then m else Ok (truth_value d)) (if c then n else Ok (truth_value d))
+  both_by : (m n : Result (Value R) Fault) → Agree (Val ty.Bool) m n → (c d : Bool) → Agree (Val ty.Bool) (if c then m else Ok (truth_value d))
+      (if c then n else Ok (truth_value d))
   both_by m n agree true d = agree
   both_by m n agree false d = agree_ok (Val ty.Bool) (truth_value d) (truth_is world d)
 
-  either_by : (m n : Result (Value R) Fault) → Agree (Val ty.Bool) m n → (c d : Bool) → Agree (Val ty.Bool) (if c then Ok (truth_value d) else m) (if c then Ok (truth_value d) else n)
+  either_by : (m n : Result (Value R) Fault) → Agree (Val ty.Bool) m n → (c d : Bool) → Agree (Val ty.Bool) (if c then Ok (truth_value d) else m)
+      (if c then Ok (truth_value d) else n)
   either_by m n agree true d = agree_ok (Val ty.Bool) (truth_value d) (truth_is world d)
   either_by m n agree false d = agree
 
-  pub and_means : (a b r : Tree) (m n : Result (Value R) Fault) → and_tree a b ≡ Some r → Means a m → Means b n → Means r (on_truth world m (λ t. if t then n else Ok (truth_value false)))
+  pub and_means : (a b r : Tree) (m n : Result (Value R) Fault) → and_tree a b ≡ Some r → Means a m → Means b n
+      → Means r (on_truth world m (λ t. if t then n else Ok (truth_value false)))
   and_means a b r m n h first second =
       when_by (is_bool (out-Ty a.ty) && is_bool (out-Ty b.ty)) _ r h
       (λ truths is. let are = both_true (is_bool (out-Ty a.ty)) (is_bool (out-Ty b.ty)) truths in
       subst (λ (x : Tree). Means x (on_truth world m (λ t. if t then n else Ok (truth_value false)))) (same_Some _ r is)
       (as_form ty.Bool (form.And a.form b.form) _ _ (at_slots world slots (of_and world a.form b.form))
-      (truth_after world world.unknown world.unknown ty.Bool _ _ (λ c. both_by (mean b.form) n (bools b n are.1 second) c false) (mean a.form) m (bools a m are.0 first))))
+      (truth_after world world.unknown world.unknown ty.Bool _ _ (λ c. both_by (mean b.form) n (bools b n are.1 second) c false) (mean a.form) m
+      (bools a m are.0 first))))
 
-  pub or_means : (a b r : Tree) (m n : Result (Value R) Fault) → or_tree a b ≡ Some r → Means a m → Means b n → Means r (on_truth world m (λ t. if t then Ok (truth_value true) else n))
+  pub or_means : (a b r : Tree) (m n : Result (Value R) Fault) → or_tree a b ≡ Some r → Means a m → Means b n
+      → Means r (on_truth world m (λ t. if t then Ok (truth_value true) else n))
   or_means a b r m n h first second =
       when_by (is_bool (out-Ty a.ty) && is_bool (out-Ty b.ty)) _ r h
       (λ truths is. let are = both_true (is_bool (out-Ty a.ty)) (is_bool (out-Ty b.ty)) truths in
       subst (λ (x : Tree). Means x (on_truth world m (λ t. if t then Ok (truth_value true) else n))) (same_Some _ r is)
       (as_form ty.Bool (form.Or a.form b.form) _ _ (at_slots world slots (of_or world a.form b.form))
-      (truth_after world world.unknown world.unknown ty.Bool _ _ (λ c. either_by (mean b.form) n (bools b n are.1 second) c true) (mean a.form) m (bools a m are.0 first))))
+      (truth_after world world.unknown world.unknown ty.Bool _ _ (λ c. either_by (mean b.form) n (bools b n are.1 second) c true) (mean a.form) m
+      (bools a m are.0 first))))
 
-  coalesced_by : (s t r : Ty) → coalesced (out-Ty s) (out-Ty t) ≡ Some r → (x : Scalar) → IsScalarOf (out-Ty s) x → (m n : Result (Value R) Fault) → Agree (Val t) m n
+  coalesced_by : (s t r : Ty) → coalesced (out-Ty s) (out-Ty t) ≡ Some r → (x : Scalar) → IsScalarOf (out-Ty s) x → (m n : Result (Value R) Fault)
+      → Agree (Val t) m n
       → (c : Bool) → is_null x ≡ c → Agree (Val r) (if c then m else Ok (value.Scalar x)) (if c then n else Ok (value.Scalar x))
   coalesced_by s t r h x fits m n agree true is =
       (agree.0, λ v got. plain_keeps world t r (coalesced_plain (out-Ty s) (out-Ty t) r h).1 (coalesced_fits (out-Ty s) (out-Ty t) r h).1.1 v (agree.1 v got))
@@ -545,4 +584,5 @@ module _ {R : Type 0} (world : World R) (slots : Slots R) where
       (λ u chooses is. let keeps = choice_keeps world a.ty b.ty u chooses in
       subst (λ (x : Tree). Means x (on_truth world l (λ t. if t then m else n))) is
       (as_form u (form.Conditional c.form a.form b.form) _ _ (at_slots world slots (of_conditional world c.form a.form b.form))
-      (truth_after world world.unknown world.unknown u _ _ (choice_by u a.ty b.ty keeps.0 keeps.1 (mean a.form) m (mean b.form) n first second) (mean c.form) l (bools c l truth condition)))))
+      (truth_after world world.unknown world.unknown u _ _ (choice_by u a.ty b.ty keeps.0 keeps.1 (mean a.form) m (mean b.form) n first second)
+      (mean c.form) l (bools c l truth condition)))))

@@ -60,11 +60,13 @@ module _ {X Y : Type 0} (f : X → Y) (typed : Y → Names → Option Ty) where
   members_by : (fields : List (Field X)) (names : Names) → members_type typed (map (map_field f) fields) names ≡ members_type before fields names
   members_by [] names = refl
   members_by (field ∷ fields) names =
-      ap (λ (o : Option (List (List ℕ × Ty))). option_and_then (λ t. option_map (λ members. (field.name, t) ∷ members) o) (if_placed (typed (f field.value) names))) (members_by fields names)
+      ap (λ (o : Option (List (List ℕ × Ty))). option_and_then (λ t. option_map (λ members. (field.name, t) ∷ members) o)
+      (if_placed (typed (f field.value) names))) (members_by fields names)
 
   record_by : (fields : List (Field X)) (names : Names) → record_type typed (map (map_field f) fields) names ≡ record_type before fields names
   record_by fields names =
-      ap₂ (λ (ns : List (List ℕ)) (o : Option (List (List ℕ × Ty))). when (are_distinct ns) (if_limited (option_map ty.Rec o))) (names_by fields) (members_by fields names)
+      ap₂ (λ (ns : List (List ℕ)) (o : Option (List (List ℕ × Ty))). when (are_distinct ns) (if_limited (option_map ty.Rec o))) (names_by fields)
+      (members_by fields names)
 
 module _ (schemas : List Schema) {X : Type 0} (tree : X → Binds) (typed : X → Names → Option Ty)
     (alike : (x : X) (places : Places) → type_found (tree x places) ≡ typed x (names_of_places schemas places)) where
@@ -95,12 +97,14 @@ module _ (schemas : List Schema) {X : Type 0} (tree : X → Binds) (typed : X �
   node_found node.Null places = refl
   node_found (node.Name x) places = name_found schemas places x (place_of x places.locals) ∙ ap (name_type (names places) x) (sym (local_place x places.locals))
   node_found (node.Member a m) places =
-      map_then (λ found. found.ty) (λ found. found.ty) (member_tree schemas m) (λ t. whole_member_type (names places) m (out-Ty t)) (member_found schemas places m) (tree a places)
+      map_then (λ found. found.ty) (λ found. found.ty) (member_tree schemas m) (λ t. whole_member_type (names places) m (out-Ty t))
+      (member_found schemas places m) (tree a places)
       ∙ ap (option_and_then (λ t. whole_member_type (names places) m (out-Ty t))) (alike a places)
   node_found (node.Unary unary.Minus a) places = unary_by places a (tree a places) (alike a places)
   node_found (node.Unary unary.Not a) places = not_by places a (tree a places) (alike a places)
   node_found (node.Binary sign a b) places =
-      two_found (binary_tree sign) (whole_operated_type sign) (λ x y. typed_found (whole_operated_type sign (out-Ty x.ty) (out-Ty y.ty)) (binary_form sign x y)) (tree a places) (tree b places)
+      two_found (binary_tree sign) (whole_operated_type sign) (λ x y. typed_found (whole_operated_type sign (out-Ty x.ty) (out-Ty y.ty))
+      (binary_form sign x y)) (tree a places) (tree b places)
       ∙ ap₂ (λ (s t : Option Ty). whole_type (node.Binary sign (λ ns. s) (λ ns. t)) (names places)) (alike a places) (alike b places)
   node_found (node.And a b) places =
       truths_found and_tree (λ x y. truth_found (is_bool (out-Ty x.ty) && is_bool (out-Ty y.ty)) (form.And x.form y.form)) (tree a places) (tree b places)
@@ -109,7 +113,8 @@ module _ (schemas : List Schema) {X : Type 0} (tree : X → Binds) (typed : X �
       truths_found or_tree (λ x y. truth_found (is_bool (out-Ty x.ty) && is_bool (out-Ty y.ty)) (form.Or x.form y.form)) (tree a places) (tree b places)
       ∙ ap₂ (λ (s t : Option Ty). whole_type (node.Or (λ ns. s) (λ ns. t)) (names places)) (alike a places) (alike b places)
   node_found (node.Coalesce a b) places =
-      two_found coalesce_tree coalesced (λ x y. typed_found (coalesced (out-Ty x.ty) (out-Ty y.ty)) (form.Coalesce x.form y.form)) (tree a places) (tree b places)
+      two_found coalesce_tree coalesced (λ x y. typed_found (coalesced (out-Ty x.ty) (out-Ty y.ty)) (form.Coalesce x.form y.form)) (tree a places)
+      (tree b places)
       ∙ ap₂ (λ (s t : Option Ty). whole_type (node.Coalesce (λ ns. s) (λ ns. t)) (names places)) (alike a places) (alike b places)
   node_found (node.Conditional c a b) places =
       choice_found (tree c places) (tree a places) (tree b places)

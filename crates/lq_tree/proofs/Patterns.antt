@@ -49,11 +49,14 @@ module _ {R X : Type 0} (world : World R) (typed : X → Names → Option Ty) (m
   behind_after (operator.Join j result) p q h =
       option_and_then_some _ (join_type typed names j (names_of names p)) q h
       (λ u found made. option_and_then_some
-      (λ t. when (are_join_keys (typed j.outer_key (names_of names p)) (typed j.inner_key (with_local names j.name t))) (matched_type typed (names_of names p) j.into t))
+      (λ t. when (are_join_keys (typed j.outer_key (names_of names p)) (typed j.inner_key (with_local names j.name t)))
+      (matched_type typed (names_of names p) j.into t))
       (fresh_type (names_of names p) j.name (source_type typed j.source names)) u found
       (λ t fresh_found keyed. when_by (is_fresh (names_of names p) j.name) (source_type typed j.source names) t fresh_found
-      (λ fresh source. when_by (are_join_keys (typed j.outer_key (names_of names p)) (typed j.inner_key (with_local names j.name t))) (matched_type typed (names_of names p) j.into t) u keyed
+      (λ fresh source. when_by (are_join_keys (typed j.outer_key (names_of names p)) (typed j.inner_key (with_local names j.name t)))
+      (matched_type typed (names_of names p) j.into t) u keyed
       (λ keys matched. subst (λ (w : Ty). AtType p (joined_name j) result w q)
-      (sym (ap (joined_type world typed meant j.into) (or_null_is _ t source) ∙ matched_by (names_of names p) j.into t u matched)) (paired_by p (joined_name j) u result q made)))))
+      (sym (ap (joined_type world typed meant j.into) (or_null_is _ t source) ∙ matched_by (names_of names p) j.into t u matched))
+      (paired_by p (joined_name j) u result q made)))))
   behind_after (operator.OrderBy ks) p q h = when_by _ (Some p) q h (λ sorts is. same_Some p q is)
   behind_after (operator.GroupBy key element) p q h = map_by unnamed _ q h (λ u found is. ap unnamed (or_null_is _ u found) ∙ is)

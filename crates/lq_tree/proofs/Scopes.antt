@@ -51,7 +51,8 @@ module _ {R : Type 0} (world : World R) where
   locals_same slots [] (b ∷ scope) reach = absurd reach
   locals_same slots (place ∷ places) [] reach = absurd reach
 
-  pub names_same : (slots : Slots R) (places : Places) (scope : Scope R) → Holds world slots places scope → names_at world scope ≡ names_of_places world.schemas places
+  pub names_same : (slots : Slots R) (places : Places) (scope : Scope R) → Holds world slots places scope → names_at world scope
+      ≡ names_of_places world.schemas places
   names_same slots places scope holds =
       ap (λ (locals : List (List ℕ × Ty)). record { tables = world.schemas; locals = locals }) (locals_same slots places.locals scope holds.1)
 
@@ -61,7 +62,8 @@ module _ {R : Type 0} (world : World R) where
   Found slots (Some place) (Some b) = Reaches world slots place b × Val b.ty b.value
   Found slots o p = ⊥
 
-  found_by : (slots : Slots R) (c : Bool) (place : Place) (b : Binding R) (o : Option Place) (p : Option (Binding R)) → Reaches world slots place b × Val b.ty b.value → Found slots o p
+  found_by : (slots : Slots R) (c : Bool) (place : Place) (b : Binding R) (o : Option Place) (p : Option (Binding R))
+      → Reaches world slots place b × Val b.ty b.value → Found slots o p
       → Found slots (if c then Some place else o) (if c then Some b else p)
   found_by slots true place b o p here rest = here
   found_by slots false place b o p here rest = rest
@@ -70,7 +72,8 @@ module _ {R : Type 0} (world : World R) where
       → Found slots (place_of x places) (binding_of x scope)
   name_there slots x [] [] reach fits = tt
   name_there slots x (place ∷ places) (b ∷ scope) reach fits =
-      subst (λ (n : List ℕ). Found slots (if bytes_eq place.name x then Some place else place_of x places) (if bytes_eq n x then Some b else binding_of x scope)) reach.0.0
+      subst (λ (n : List ℕ). Found slots (if bytes_eq place.name x then Some place else place_of x places)
+      (if bytes_eq n x then Some b else binding_of x scope)) reach.0.0
       (found_by slots (bytes_eq place.name x) place b (place_of x places) (binding_of x scope) (reach.0, first_of (λ d. Val d.ty d.value) b scope fits)
       (name_there slots x places scope reach.1 (others_of (λ d. Val d.ty d.value) b scope fits)))
   name_there slots x [] (b ∷ scope) reach fits = absurd reach
@@ -78,7 +81,8 @@ module _ {R : Type 0} (world : World R) where
 
   -- ---- one slot more
 
-  wider : (slots : Slots R) (v : Value R) (places : List Place) (scope : Scope R) → ReachesAll world slots places scope → ReachesAll world (slots ++ v ∷ []) places scope
+  wider : (slots : Slots R) (v : Value R) (places : List Place) (scope : Scope R) → ReachesAll world slots places scope
+      → ReachesAll world (slots ++ v ∷ []) places scope
   wider slots v [] [] reach = tt
   wider slots v (place ∷ places) (b ∷ scope) reach = (
     (reach.0.0, reach.0.1, λ more. ap (form_meaning world place.form) (append_behind slots (v ∷ []) more) ∙ reach.0.2 (v ∷ more)),
@@ -91,13 +95,20 @@ module _ {R : Type 0} (world : World R) where
   abbrev At : Slots R → Form → Value R → Type 0
   At slots item v = (more : Slots R) → form_meaning world item (slots ++ more) ≡ Ok v
 
-  parts_reached : (slots : Slots R) (p : Pattern) (item : Form) (v : Value R) (places : List Place) (scope : Scope R) → At slots item v → ReachesAll world slots places scope
+  parts_reached : (slots : Slots R) (p : Pattern) (item : Form) (v : Value R) (places : List Place) (scope : Scope R) → At slots item v
+      → ReachesAll world slots places scope
       → ReachesAll world slots (places_of p item places) (bind p scope v)
   parts_reached slots (One n t) item v places scope here reach = ((refl, refl, here), reach)
   parts_reached slots (With p n t) item v places scope here reach = (
-    (refl, refl, λ more. ap (λ (m : Slots R → Result (Value R) Fault). m (slots ++ more)) (of_second world item) ∙ ap (λ (o : Result (Value R) Fault). on_ok o (λ w. Ok (second w))) (here more)),
+    (
+      refl,
+      refl,
+      λ more. ap (λ (m : Slots R → Result (Value R) Fault). m (slots ++ more)) (of_second world item)
+          ∙ ap (λ (o : Result (Value R) Fault). on_ok o (λ w. Ok (second w))) (here more),
+    ),
     parts_reached slots p (form.First item) (first v) places scope
-        (λ more. ap (λ (m : Slots R → Result (Value R) Fault). m (slots ++ more)) (of_first world item) ∙ ap (λ (o : Result (Value R) Fault). on_ok o (λ w. Ok (first w))) (here more)) reach,
+        (λ more. ap (λ (m : Slots R → Result (Value R) Fault). m (slots ++ more)) (of_first world item)
+        ∙ ap (λ (o : Result (Value R) Fault). on_ok o (λ w. Ok (first w))) (here more)) reach,
   )
 
   -- ---- parts of pairs
@@ -151,11 +162,13 @@ module _ {R : Type 0} (world : World R) where
     bound_values p scope v item at.0,
     (
       length_one_more slots v ∙ ap (λ n. n + 1) at.1.0,
-      parts_reached (slots ++ v ∷ []) p (form.Slot places.depth) v places.locals scope (slot_reached slots places.depth v at.1.0) (wider slots v places.locals scope at.1.1),
+      parts_reached (slots ++ v ∷ []) p (form.Slot places.depth) v places.locals scope (slot_reached slots places.depth v at.1.0)
+          (wider slots v places.locals scope at.1.1),
     ),
   )
 
   -- what the slot of an item holds
-  pub slot_means : (slots : Slots R) (places : Places) (scope : Scope R) (v : Value R) → Stands slots places scope → form_meaning world (form.Slot places.depth) (slots ++ v ∷ []) ≡ Ok v
+  pub slot_means : (slots : Slots R) (places : Places) (scope : Scope R) (v : Value R) → Stands slots places scope
+      → form_meaning world (form.Slot places.depth) (slots ++ v ∷ []) ≡ Ok v
   slot_means slots places scope v at =
       ap (form_meaning world (form.Slot places.depth)) (sym (append_none (slots ++ v ∷ []))) ∙ slot_reached slots places.depth v at.1.0 []

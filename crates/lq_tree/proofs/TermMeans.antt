@@ -1,8 +1,11 @@
 -- The tree of a term means what the term means, and gives values of its type: by induction over the terms in it.
-use Rattle.std.proofs.Common.{◌≡◌, Option, Some, Result, Ok, ap, ◌∙◌, sym, subst}
+use Rattle.std.proofs.Common.{◌≡◌, Option, None, Some, Result, Ok, ap, ◌∙◌, sym, subst, option_map}
+use Rattle.std.proofs.lemmas.Option.{none-some, same_Some}
 use Rattle.lq_value.specs.declared.ty.Ty.{Ty}
+use Rattle.lq_value.specs.declared.ty.Ty.TheVariants as ty
 use Rattle.lq_value.specs.declared.value.Fault.{Fault}
 use Rattle.lq_value.specs.declared.value.Value.{Value}
+use Rattle.lq_model.specs.ClauseTyping.{expression_type, query_items}
 use Rattle.lq_model.specs.Meaning.{Meaning, Scope, World, sequence}
 use Rattle.lq_model.specs.MeaningLaws.{HoldsRows}
 use Rattle.lq_model.specs.Operators.{call_meaning}
@@ -17,19 +20,23 @@ use Rattle.lq_model.specs.declared.calls.Term.TheVariants as term
 use Rattle.lq_model.specs.declared.syntax.Node.{Node}
 use Rattle.lq_model.proofs.AlikeStreams.{Agree}
 use Rattle.lq_translate.specs.Maps.{map_call, map_node}
+use Rattle.lq_translate.specs.Translated.{translated, translated_query}
+use Rattle.lq_translate.proofs.Alike.{items_typed, streams_mean, terms_mean, terms_typed}
 use Rattle.lq_translate.proofs.Layers.{para_call, para_term_node}
 use Rattle.lq_translate.proofs.NodePulls.{map_nodes, node_pull as meaning_pull}
 use Rattle.lq_translate.proofs.QueryPulls.{call_meant}
-use Rattle.lq_tree.specs.Binding.{Binds, term_tree}
-use Rattle.lq_tree.specs.BindingLaws.{MeaningsOfCalls, MeaningsOfTrees}
+use Rattle.lq_tree.specs.Binding.{Binds, call_tree, term_tree, tree_of}
+use Rattle.lq_tree.specs.BindingLaws.{BindsExpressions, BindsQueries, MeaningsOfCalls, MeaningsOfTrees}
 use Rattle.lq_tree.specs.FormMeaning.{Slots, form_meaning}
-use Rattle.lq_tree.specs.Places.{Places}
+use Rattle.lq_tree.specs.Places.{Places, names_of_places}
+use Rattle.lq_tree.specs.declared.tree.Form.{Form}
 use Rattle.lq_tree.specs.declared.tree.Tree.{Tree}
 use Rattle.lq_tree.proofs.CallMeans.{call_means}
 use Rattle.lq_tree.proofs.Layers.{Such, of_every, plain}
 use Rattle.lq_tree.proofs.NodeMeans.{node_means}
-use Rattle.lq_tree.proofs.Scopes.{Stands}
-use Rattle.lq_tree.proofs.TermTypes.{types_same}
+use Rattle.lq_tree.proofs.Scopes.{Stands, names_same}
+use Rattle.lq_tree.proofs.TermTypes.{call_types_same, types_same}
+use Rattle.lq_tree.proofs.TypeLemmas.{type_found}
 use Rattle.lq_tree.proofs.TreePulls.{call_pull, node_pull, tree_of_call, tree_of_node}
 
 module _ {R : Type 0} (world : World R) (holds : HoldsRows world) where
@@ -41,7 +48,8 @@ module _ {R : Type 0} (world : World R) (holds : HoldsRows world) where
   unfolding term_meaning
   meaning_of_node n = para_term_node (Meaning R) (term_meaning_step world) n
 
-  meaning_of_call : (c : Call Term) → term_meaning world (term.Call c) ≡ (λ scope. Ok (sequence (call_meaning world (λ x. term_type x.0) (λ x. x.1) (map_call beside c) scope)))
+  meaning_of_call : (c : Call Term) → term_meaning world (term.Call c)
+      ≡ (λ scope. Ok (sequence (call_meaning world (λ x. term_type x.0) (λ x. x.1) (map_call beside c) scope)))
   unfolding term_meaning
   meaning_of_call c = para_call (Meaning R) (term_meaning_step world) c
 
@@ -96,4 +104,36 @@ meanings_same world holds t places slots scope fits reached tree h = every_means
 
 pub call_meanings_same : {R : Type 0} → MeaningsOfCalls R
 call_meanings_same world holds c places slots scope fits reached tree h =
-    call_means world holds (term_tree world.schemas) term_type (term_meaning world) (types_same world.schemas) (every_means world holds) slots places scope (fits, reached) c tree h
+    call_means world holds (term_tree world.schemas) term_type (term_meaning world) (types_same world.schemas) (every_means world holds) slots places scope
+    (fits, reached) c tree h
+
+-- ---- whole expressions
+
+-- a tree that is found with this type
+tree_there : (o : Option Tree) (t : Ty) → type_found o ≡ Some t → (f : Form) × (o ≡ Some (tree_of t f))
+tree_there None t h = absurd (none-some t h)
+tree_there (Some tree) t h = (tree.form, ap (λ (u : Ty). Some (tree_of u tree.form)) (same_Some tree.ty t h))
+
+pub expressions_bound : {R : Type 0} → BindsExpressions R
+expressions_bound world holds e places slots scope fits reached t typed =
+    let there =
+    tree_there (term_tree world.schemas (translated e) places) t
+    (types_same world.schemas (translated e) places ∙ terms_typed e (names_of_places world.schemas places)
+    ∙ ap (expression_type e) (sym (names_same world slots places scope reached)) ∙ typed) in (
+      there.0,
+      there.1,
+      (meanings_same world holds (translated e) places slots scope fits reached (tree_of t there.0) there.1).0 ∙ terms_mean world e scope,
+    )
+
+pub queries_bound : {R : Type 0} → BindsQueries R
+queries_bound {R} world holds q places slots scope fits reached t typed =
+    let there =
+    tree_there (call_tree world.schemas (term_tree world.schemas) (translated_query q) places) (ty.Seq t)
+    (call_types_same world.schemas (translated_query q) places
+    ∙ ap (option_map ty.Seq) (items_typed q (names_of_places world.schemas places)
+    ∙ ap (query_items expression_type q) (sym (names_same world slots places scope reached)) ∙ typed)) in (
+      there.0,
+      there.1,
+      (call_meanings_same world holds (translated_query q) places slots scope fits reached (tree_of (ty.Seq t) there.0) there.1).0
+          ∙ ap (λ (s : Stream (Value R)). Ok (sequence s)) (streams_mean world q scope),
+    )

@@ -62,9 +62,11 @@ module _ (schemas : List Schema) {X Y : Type 0} (f : X → Y) (tree : Y → Bind
   names_pull [] = refl
   names_pull (field ∷ fields) = ap (λ ns. field.name ∷ ns) (names_pull fields)
 
-  record_pull : (fields : List (Field X)) (places : Places) → record_tree schemas tree (map (map_field f) fields) places ≡ record_tree schemas before fields places
+  record_pull : (fields : List (Field X)) (places : Places) → record_tree schemas tree (map (map_field f) fields) places
+      ≡ record_tree schemas before fields places
   record_pull fields places =
-      ap₂ (λ (ns : List (List ℕ)) (o : Option (List (Field Tree))). when (are_distinct ns) (option_and_then within_tree (option_map fields_tree o))) (names_pull fields)
+      ap₂ (λ (ns : List (List ℕ)) (o : Option (List (Field Tree))). when (are_distinct ns) (option_and_then within_tree (option_map fields_tree o)))
+      (names_pull fields)
       (walk_map (map_field f) (gather_step (field_tree schemas tree places)) fields (Some []))
 
   pub node_pull : (n : Node X) (places : Places) → node_tree schemas tree (map_node f n) places ≡ node_tree schemas before n places
@@ -86,10 +88,12 @@ module _ (schemas : List Schema) {X Y : Type 0} (f : X → Y) (tree : Y → Bind
 
   -- ---- calls
 
-  keys_pull : (places : Places) (ks : List (SortKey X)) → gathered (key_tree schemas tree places) (map (map_key f) ks) ≡ gathered (key_tree schemas before places) ks
+  keys_pull : (places : Places) (ks : List (SortKey X)) → gathered (key_tree schemas tree places) (map (map_key f) ks)
+      ≡ gathered (key_tree schemas before places) ks
   keys_pull places ks = walk_map (map_key f) (gather_step (key_tree schemas tree places)) ks (Some [])
 
-  operator_pull : (places : Places) (op : Operator X) (stage : Stage) → operator_stage schemas tree places (map_operator f op) stage ≡ operator_stage schemas before places op stage
+  operator_pull : (places : Places) (op : Operator X) (stage : Stage) → operator_stage schemas tree places (map_operator f op) stage
+      ≡ operator_stage schemas before places op stage
   operator_pull places (operator.Where c) stage = refl
   operator_pull places (operator.Select v) stage = refl
   operator_pull places (operator.Let n v) stage = refl
@@ -111,7 +115,8 @@ module _ (schemas : List Schema) {X Y : Type 0} (f : X → Y) (tree : Y → Bind
   body_pull : (places : Places) (n : List ℕ) (ops : List (Operator X)) (items : Tree)
       → body_tree schemas tree places n (map (map_operator f) ops) items ≡ body_tree schemas before places n ops items
   body_pull places n ops items =
-      ap (λ (o : Option Stage). when (is_fresh (names_of_places schemas places) n) (option_and_then items_of_stage o)) (operators_pull places ops (stage_of (One n items.ty) items.form))
+      ap (λ (o : Option Stage). when (is_fresh (names_of_places schemas places) n) (option_and_then items_of_stage o)) (operators_pull places ops
+      (stage_of (One n items.ty) items.form))
 
   parts_pull : (places : Places) (rest : List (Part X)) (start : Tree)
       → walked (part_tree schemas tree places) start (map (map_part f) rest) ≡ walked (part_tree schemas before places) start rest
@@ -122,7 +127,8 @@ module _ (schemas : List Schema) {X Y : Type 0} (f : X → Y) (tree : Y → Bind
   items_pull : (c : Call X) (places : Places) → call_items_tree schemas tree (map_call f c) places ≡ call_items_tree schemas before c places
   items_pull c places =
       λ i. option_and_then (λ items. parts_pull places c.rest items i)
-      (option_and_then (λ items. body_pull places c.name c.operators items i) (option_map (sequence_tree schemas tree) (source_tree schemas tree (f c.source) places)))
+      (option_and_then (λ items. body_pull places c.name c.operators items i) (option_map (sequence_tree schemas tree) (source_tree schemas tree
+      (f c.source) places)))
 
   pub call_pull : (c : Call X) (places : Places) → call_tree schemas tree (map_call f c) places ≡ call_tree schemas before c places
   unfolding call_tree

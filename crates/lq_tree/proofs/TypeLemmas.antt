@@ -37,7 +37,8 @@ pub map_when : {A B : Type 0} (f : A → B) (b : Bool) (o : Option A) → option
 map_when f true o = refl
 map_when f false o = refl
 
-pub map_then : {A B C D : Type 0} (f : A → B) (g : C → D) (next : C → Option A) (more : D → Option B) → ((x : C) → option_map f (next x) ≡ more (g x)) → (o : Option C)
+pub map_then : {A B C D : Type 0} (f : A → B) (g : C → D) (next : C → Option A) (more : D → Option B) → ((x : C) → option_map f (next x) ≡ more (g x))
+    → (o : Option C)
     → option_map f (option_and_then next o) ≡ option_and_then more (option_map g o)
 map_then f g next more same None = refl
 map_then f g next more same (Some x) = same x
@@ -55,11 +56,13 @@ settled_found None = refl
 settled_found (Some t) = refl
 
 pub within_found : (o : Option Tree) → type_found (option_and_then within_tree o) ≡ if_limited (type_found o)
-within_found o = map_then (λ tree. tree.ty) (λ tree. tree.ty) within_tree (λ t. when (is_within t) (Some t)) (λ x. map_when (λ tree. tree.ty) (is_within x.ty) (Some x)) o
+within_found o = map_then (λ tree. tree.ty) (λ tree. tree.ty) within_tree (λ t. when (is_within t) (Some t)) (λ x. map_when (λ tree. tree.ty)
+    (is_within x.ty) (Some x)) o
 
 pub placed_found : (o : Option Tree) → type_found (option_and_then placed_tree o) ≡ if_placed (type_found o)
 placed_found o =
-    map_then (λ tree. tree.ty) (λ tree. tree.ty) placed_tree (λ t. when (has_place (out-Ty t)) (Some t)) (λ x. map_when (λ tree. tree.ty) (has_place (out-Ty x.ty)) (Some x)) o
+    map_then (λ tree. tree.ty) (λ tree. tree.ty) placed_tree (λ t. when (has_place (out-Ty t)) (Some t)) (λ x. map_when (λ tree. tree.ty)
+    (has_place (out-Ty x.ty)) (Some x)) o
 
 pub truth_found : (b : Bool) (f : Form) → type_found (when b (Some (tree_of ty.Bool f))) ≡ truth_type b
 truth_found true f = refl
@@ -67,7 +70,8 @@ truth_found false f = refl
 
 -- ---- operators
 
-pub two_found : (given : Tree → Tree → Option Tree) (types : Ty-F Ty → Ty-F Ty → Option Ty) → ((x y : Tree) → type_found (given x y) ≡ types (out-Ty x.ty) (out-Ty y.ty)) → (o p : Option Tree)
+pub two_found : (given : Tree → Tree → Option Tree) (types : Ty-F Ty → Ty-F Ty → Option Ty) → ((x y : Tree) → type_found (given x y)
+    ≡ types (out-Ty x.ty) (out-Ty y.ty)) → (o p : Option Tree)
     → type_found (of_two_trees given o p) ≡ of_operands types (type_found o) (type_found p)
 two_found given types same (Some x) (Some y) = same x y
 two_found given types same (Some x) None = refl
@@ -77,7 +81,8 @@ truth_and : (b : Bool) → truth_type (b && false) ≡ None
 truth_and true = refl
 truth_and false = refl
 
-pub truths_found : (given : Tree → Tree → Option Tree) → ((x y : Tree) → type_found (given x y) ≡ truth_type (is_bool (out-Ty x.ty) && is_bool (out-Ty y.ty))) → (o p : Option Tree)
+pub truths_found : (given : Tree → Tree → Option Tree) → ((x y : Tree) → type_found (given x y)
+    ≡ truth_type (is_bool (out-Ty x.ty) && is_bool (out-Ty y.ty))) → (o p : Option Tree)
     → type_found (of_two_trees given o p) ≡ truth_type (is_bool_type (type_found o) && is_bool_type (type_found p))
 truths_found given same (Some x) (Some y) = same x y
 truths_found given same (Some x) None = sym (truth_and (is_bool (out-Ty x.ty)))
@@ -86,10 +91,6 @@ truths_found given same None p = refl
 pub number_found : (x : Tree) (f : Form) (b : Bool) → type_found (when b (Some (tree_of x.ty f))) ≡ (if b then Some x.ty else None)
 number_found x f true = refl
 number_found x f false = refl
-
-three_by : (b : Bool) (f : Form) (o : Option Ty) → type_found (when b (typed_tree o f)) ≡ (if b then o else None)
-three_by true f o = typed_found o f
-three_by false f o = refl
 
 choice_none : (b : Bool) (o : Option Ty) → whole_choice_type b o None ≡ None
 choice_none true None = refl
@@ -104,7 +105,8 @@ choice_by : (b : Bool) (s t : Ty) (f : Form) → type_found (when b (typed_tree 
 choice_by true s t f = typed_found (whole_chosen (out-Ty s) (out-Ty t)) f
 choice_by false s t f = refl
 
-pub choice_found : (o p q : Option Tree) → type_found (of_three_trees conditional_tree o p q) ≡ whole_choice_type (is_bool_type (type_found o)) (type_found p) (type_found q)
+pub choice_found : (o p q : Option Tree) → type_found (of_three_trees conditional_tree o p q) ≡ whole_choice_type (is_bool_type (type_found o))
+    (type_found p) (type_found q)
 choice_found None p q = refl
 choice_found (Some c) None q = sym (choice_first_none (is_bool (out-Ty c.ty)) (type_found q))
 choice_found (Some c) (Some a) None = sym (choice_none (is_bool (out-Ty c.ty)) (Some a.ty))
@@ -117,7 +119,8 @@ pub map_if : {A B : Type 0} (f : A → B) (b : Bool) (x : A) (o : Option A) → 
 map_if f true x o = refl
 map_if f false x o = refl
 
-then_if : {A B : Type 0} (f : A → Option B) (b : Bool) (x : A) (o : Option A) → option_and_then f (if b then Some x else o) ≡ (if b then f x else option_and_then f o)
+then_if : {A B : Type 0} (f : A → Option B) (b : Bool) (x : A) (o : Option A) → option_and_then f (if b then Some x else o)
+    ≡ (if b then f x else option_and_then f o)
 then_if f true x o = refl
 then_if f false x o = refl
 
@@ -125,7 +128,8 @@ later : {A : Type 0} (test : A → Bool) (start : ℕ) (xs : List A) → positio
 later test start [] = refl
 later test start (x ∷ xs) =
     let next : start + 1 ≡ suc start = omega arith in
-    ap₂ (λ (n : ℕ) (o : Option ℕ). if test x then Some n else o) next (later test (start + 1) xs) ∙ sym (map_if suc (test x) start (position_from test (start + 1) xs))
+    ap₂ (λ (n : ℕ) (o : Option ℕ). if test x then Some n else o) next (later test (start + 1) xs)
+    ∙ sym (map_if suc (test x) start (position_from test (start + 1) xs))
 
 -- the first that passes a test
 abbrev pub first_with : {A : Type 0} → (A → Bool) → List A → Option A
@@ -143,13 +147,15 @@ pub first_position : {A : Type 0} (test : A → Bool) (xs : List A) → get_at x
 first_position test [] = refl
 first_position {A} test (x ∷ xs) =
     then_if (λ n. slice_get (x ∷ xs) n) (test x) 0 (position_from test 1 xs)
-    ∙ ap (λ (o : Option A). if test x then Some x else o) (ap (get_at (x ∷ xs)) (later test 0 xs) ∙ get_later x xs (position_from test 0 xs) ∙ first_position test xs)
+    ∙ ap (λ (o : Option A). if test x then Some x else o) (ap (get_at (x ∷ xs)) (later test 0 xs) ∙ get_later x xs (position_from test 0 xs)
+    ∙ first_position test xs)
 
 pub column_first : (m : List ℕ) (columns : List Column) → first_with (λ column. bytes_eq column.name m) columns ≡ column_named m columns
 column_first m [] = refl
 column_first m (column ∷ columns) = ap (λ (o : Option Column). if bytes_eq column.name m then Some column else o) (column_first m columns)
 
-pub member_first : (m : List ℕ) (members : List (List ℕ × Ty)) → option_map (λ member. member.1) (first_with (λ member. bytes_eq m member.0) members) ≡ member_of m members
+pub member_first : (m : List ℕ) (members : List (List ℕ × Ty)) → option_map (λ member. member.1) (first_with (λ member. bytes_eq m member.0) members)
+    ≡ member_of m members
 member_first m [] = refl
 member_first m (member ∷ members) =
     map_if (λ x. x.1) (bytes_eq m member.0) member (first_with (λ x. bytes_eq m x.0) members)
@@ -161,7 +167,8 @@ at_position : {A : Type 0} (xs : List A) (type_at : A → Ty) (form_at : ℕ →
 at_position xs type_at form_at None = refl
 at_position xs type_at form_at (Some n) = map_two (λ tree. tree.ty) (λ x. tree_of (type_at x) (form_at n x)) (slice_get xs n)
 
-pub local_place : (x : List ℕ) (places : List Place) → local_type x (map (λ place. (place.name, place.ty)) places) ≡ option_map (λ place. place.ty) (place_of x places)
+pub local_place : (x : List ℕ) (places : List Place) → local_type x (map (λ place. (place.name, place.ty)) places) ≡ option_map (λ place. place.ty)
+    (place_of x places)
 local_place x [] = refl
 local_place x (place ∷ places) =
     ap (λ (o : Option Ty). if bytes_eq place.name x then Some place.ty else o) (local_place x places)
@@ -176,7 +183,8 @@ search_by false true has = refl
 search_by false false true = refl
 search_by false false false = refl
 
-search_found : (x : Tree) (o : Option Op) (q : Option Tree) → type_found (option_and_then (λ o. option_and_then (search_form o x) q) o) ≡ truth_type (is_some o && is_text_type (type_found q))
+search_found : (x : Tree) (o : Option Op) (q : Option Tree) → type_found (option_and_then (λ o. option_and_then (search_form o x) q) o)
+    ≡ truth_type (is_some o && is_text_type (type_found q))
 search_found x None q = refl
 search_found x (Some o) None = refl
 search_found x (Some o) (Some b) = truth_found (is_text (out-Ty b.ty)) (form.Binary o x.form b.form)
@@ -220,11 +228,13 @@ module _ (schemas : List Schema) where
   column_found : (m : List ℕ) (n : ℕ) (a : Form) (schema : Schema)
       → type_found (column_tree m n a schema) ≡ option_map (λ column. type_of_column column.ty) (column_named m schema.columns)
   column_found m n a schema =
-      at_position schema.columns (λ column. type_of_column column.ty) (λ c column. form.Column a n c) (position_from (λ column. bytes_eq column.name m) 0 schema.columns)
+      at_position schema.columns (λ column. type_of_column column.ty) (λ c column. form.Column a n c)
+      (position_from (λ column. bytes_eq column.name m) 0 schema.columns)
       ∙ ap (option_map (λ column. type_of_column column.ty)) (first_position (λ column. bytes_eq column.name m) schema.columns ∙ column_first m schema.columns)
 
   row_found : (m : List ℕ) (n : ℕ) (a : Form) (o : Option Schema)
-      → type_found (option_and_then (column_tree m n a) o) ≡ option_and_then (λ schema. option_map (λ column. type_of_column column.ty) (column_named m schema.columns)) o
+      → type_found (option_and_then (column_tree m n a) o) ≡ option_and_then (λ schema. option_map (λ column. type_of_column column.ty)
+      (column_named m schema.columns)) o
   row_found m n a None = refl
   row_found m n a (Some schema) = column_found m n a schema
 
@@ -245,7 +255,8 @@ module _ (schemas : List Schema) where
   layer_found places m a Ty-F.Null = refl
   layer_found places m a (Ty-F.Seq t) = refl
 
-  pub member_found : (places : Places) (m : List ℕ) (a : Tree) → type_found (member_tree schemas m a) ≡ whole_member_type (names_of_places schemas places) m (out-Ty a.ty)
+  pub member_found : (places : Places) (m : List ℕ) (a : Tree) → type_found (member_tree schemas m a) ≡ whole_member_type (names_of_places schemas places) m
+      (out-Ty a.ty)
   member_found places m a = settled_found (member_layer schemas m a.form (out-Ty a.ty)) ∙ layer_found places m a.form (out-Ty a.ty)
 
   pub name_found : (places : Places) (x : List ℕ) (o : Option Place)
@@ -261,17 +272,21 @@ module _ (schemas : List Schema) where
     names places = names_of_places schemas places
 
     -- methods
-    lambda_found : (places : Places) (t : Ty) (n : List ℕ) (body : X) → type_found (lambda_tree schemas tree places t n body) ≡ lambda_type typed (names places) t n body
+    lambda_found : (places : Places) (t : Ty) (n : List ℕ) (body : X) → type_found (lambda_tree schemas tree places t n body)
+        ≡ lambda_type typed (names places) t n body
     lambda_found places t n body =
-        map_when (λ found. found.ty) (is_fresh (names places) n) (tree body (with_name places n t)) ∙ ap (when (is_fresh (names places) n)) (alike body (with_name places n t))
+        map_when (λ found. found.ty) (is_fresh (names places) n) (tree body (with_name places n t)) ∙ ap (when (is_fresh (names places) n))
+        (alike body (with_name places n t))
 
     given_by : (method : Given) (t : Ty) (source : Form) (o : Option Tree)
-        → type_found (option_and_then (λ b. typed_tree (given_type method t (Some b.ty)) (form.Given method source b.form)) o) ≡ given_type method t (type_found o)
+        → type_found (option_and_then (λ b. typed_tree (given_type method t (Some b.ty)) (form.Given method source b.form)) o)
+        ≡ given_type method t (type_found o)
     given_by method t source None = sym (given_none method t)
     given_by method t source (Some b) = typed_found (given_type method t (Some b.ty)) (form.Given method source b.form)
 
     through_by : (method : Through) (t : Ty) (source : Form) (o : Option Tree)
-        → type_found (option_and_then (λ f. typed_tree (through_type method t (Some f.ty)) (form.Through method t f.ty source f.form)) o) ≡ through_type method t (type_found o)
+        → type_found (option_and_then (λ f. typed_tree (through_type method t (Some f.ty)) (form.Through method t f.ty source f.form)) o)
+        ≡ through_type method t (type_found o)
     through_by method t source None = sym (through_none method t)
     through_by method t source (Some f) = typed_found (through_type method t (Some f.ty)) (form.Through method t f.ty source f.form)
 
@@ -288,7 +303,8 @@ module _ (schemas : List Schema) where
     call_found places source t (Some call) = enumerable_found places source t call
 
     element_found : (places : Places) (source : Form) (call : Option (EnumerableCall X)) (o : Option Ty)
-        → type_found (option_and_then (λ t. option_and_then (enumerable_tree schemas tree places source t) call) o) ≡ option_and_then (λ t. option_and_then (enumerable_type typed (names places) t) call) o
+        → type_found (option_and_then (λ t. option_and_then (enumerable_tree schemas tree places source t) call) o)
+        ≡ option_and_then (λ t. option_and_then (enumerable_type typed (names places) t) call) o
     element_found places source call None = refl
     element_found places source call (Some t) = call_found places source t call
 
@@ -307,7 +323,8 @@ module _ (schemas : List Schema) where
     searched_found places m arguments a =
         search_found a (search_named m) (option_and_then (λ x. tree x places) (sole_argument arguments))
         ∙ ap₂ (λ (b : Bool) (o : Option Ty). truth_type (b && is_text_type o))
-        (search_by (bytes_eq m (codes "StartsWith")) (bytes_eq m (codes "EndsWith")) (bytes_eq m (codes "Contains"))) (argument_found places (sole_argument arguments))
+        (search_by (bytes_eq m (codes "StartsWith")) (bytes_eq m (codes "EndsWith")) (bytes_eq m (codes "Contains")))
+        (argument_found places (sole_argument arguments))
 
     method_by : (b : Bool) (o p : Option Tree) (q r : Option Ty) → type_found o ≡ q → type_found p ≡ r → type_found (if b then o else p) ≡ (if b then q else r)
     method_by true o p q r h k = h
@@ -316,27 +333,34 @@ module _ (schemas : List Schema) where
     pub method_found : (places : Places) (m : List ℕ) (arguments : List (Argument X)) (a : X) (o : Option Tree) → type_found o ≡ typed a (names places)
         → type_found (option_and_then (λ found. method_tree schemas tree m arguments found places) o) ≡ method_type typed a m arguments (names places)
     method_found places m arguments a o same =
-        by o ∙ ap (λ (t : Option Ty). if is_text_type t then search_type typed m arguments (names places) else called_type typed t (enumerable_call m arguments) (names places)) same
+        by o ∙ ap (λ (t : Option Ty). if is_text_type t then search_type typed m arguments (names places) else called_type typed t
+        (enumerable_call m arguments) (names places)) same
       where
         by : (p : Option Tree) → type_found (option_and_then (λ found. method_tree schemas tree m arguments found places) p)
-            ≡ (if is_text_type (type_found p) then search_type typed m arguments (names places) else called_type typed (type_found p) (enumerable_call m arguments) (names places))
+            ≡ (if is_text_type (type_found p) then search_type typed m arguments (names places) else called_type typed (type_found p)
+            (enumerable_call m arguments) (names places))
         by None = refl
         by (Some found) =
             method_by (is_text (out-Ty found.ty)) (search_tree schemas tree m arguments found places) _ _ _ (searched_found places m arguments found)
             (settled_found (called_tree schemas tree (enumerable_call m arguments) found places) ∙ called_found places (enumerable_call m arguments) found)
 
     -- records
-    field_by : (name : List ℕ) (t : Ty) (o : Option (List (Field Tree))) (p : Option (List (List ℕ × Ty))) (field : Field Tree) → type_of_field field ≡ (name, t)
-        → option_map (map type_of_field) o ≡ p → option_map (map type_of_field) (option_map (λ fields. field ∷ fields) o) ≡ option_map (λ members. (name, t) ∷ members) p
+    field_by : (name : List ℕ) (t : Ty) (o : Option (List (Field Tree))) (p : Option (List (List ℕ × Ty))) (field : Field Tree) → type_of_field field
+        ≡ (name, t)
+        → option_map (map type_of_field) o ≡ p → option_map (map type_of_field) (option_map (λ fields. field ∷ fields) o)
+        ≡ option_map (λ members. (name, t) ∷ members) p
     field_by name t None p field is same = ap (option_map (λ members. (name, t) ∷ members)) same
-    field_by name t (Some fields) p field is same = ap (λ (m : List ℕ × Ty). Some (m ∷ map type_of_field fields)) is ∙ ap (option_map (λ members. (name, t) ∷ members)) same
+    field_by name t (Some fields) p field is same = ap (λ (m : List ℕ × Ty). Some (m ∷ map type_of_field fields)) is
+        ∙ ap (option_map (λ members. (name, t) ∷ members)) same
 
     fields_by : (places : Places) (name : List ℕ) (fields : List (Field X)) (found : Option Tree)
         → option_map (map type_of_field) (traversed (field_tree schemas tree places) fields) ≡ members_type typed fields (names places)
-        → option_map (map type_of_field) (option_and_then (λ (y : Field Tree). option_map (λ ys. y ∷ ys) (traversed (field_tree schemas tree places) fields)) (option_map (λ f. record { name = name; value = f }) found))
+        → option_map (map type_of_field) (option_and_then (λ (y : Field Tree). option_map (λ ys. y ∷ ys) (traversed (field_tree schemas tree places) fields))
+        (option_map (λ f. record { name = name; value = f }) found))
         ≡ option_and_then (λ t. option_map (λ members. (name, t) ∷ members) (members_type typed fields (names places))) (type_found found)
     fields_by places name fields None same = refl
-    fields_by places name fields (Some found) same = field_by name found.ty (traversed (field_tree schemas tree places) fields) _ (record { name = name; value = found }) refl same
+    fields_by places name fields (Some found) same = field_by name found.ty (traversed (field_tree schemas tree places) fields) _
+        (record { name = name; value = found }) refl same
 
     fields_found : (places : Places) (fields : List (Field X))
         → option_map (map type_of_field) (traversed (field_tree schemas tree places) fields) ≡ members_type typed fields (names places)
@@ -350,9 +374,11 @@ module _ (schemas : List Schema) where
     rec_found None = refl
     rec_found (Some fields) = refl
 
-    pub record_found_at : (places : Places) (fields : List (Field X)) → type_found (record_tree schemas tree fields places) ≡ record_type typed fields (names places)
+    pub record_found_at : (places : Places) (fields : List (Field X)) → type_found (record_tree schemas tree fields places)
+        ≡ record_type typed fields (names places)
     record_found_at places fields =
-        map_when (λ found. found.ty) (are_distinct (map (λ field. field.name) fields)) (option_and_then within_tree (option_map fields_tree (gathered (field_tree schemas tree places) fields)))
+        map_when (λ found. found.ty) (are_distinct (map (λ field. field.name) fields)) (option_and_then within_tree
+        (option_map fields_tree (gathered (field_tree schemas tree places) fields)))
         ∙ ap (when (are_distinct (map (λ field. field.name) fields)))
         (within_found (option_map fields_tree (gathered (field_tree schemas tree places) fields))
         ∙ ap if_limited (rec_found (gathered (field_tree schemas tree places) fields)

@@ -35,7 +35,8 @@ module _ {A B : Type 0} (made : A → Option B) where
   append_none (y ∷ ys) = ap (λ more. y ∷ more) (append_none ys)
 
   gather_by : (xs : List A) (ys : List B) → ((zs : List B) → fold (walk_step (gather_step made)) (Some zs) xs ≡ behind zs (traversed made xs)) → (o : Option B)
-      → fold (walk_step (gather_step made)) (option_map (λ y. ys ++ y ∷ []) o) xs ≡ behind ys (option_and_then (λ y. option_map (λ zs. y ∷ zs) (traversed made xs)) o)
+      → fold (walk_step (gather_step made)) (option_map (λ y. ys ++ y ∷ []) o) xs
+      ≡ behind ys (option_and_then (λ y. option_map (λ zs. y ∷ zs) (traversed made xs)) o)
   gather_by xs ys rest None = walk_none (gather_step made) xs
   gather_by xs ys rest (Some y) = rest (ys ++ y ∷ []) ∙ append_one ys y (traversed made xs)
 

@@ -5,5 +5,5 @@
 mod binding_laws;
 mod tree;
 
-pub use binding_laws::{meanings_of_trees, types_of_trees};
+pub use binding_laws::{meanings_of_trees, trees_of_expressions, types_of_trees};
 pub use tree::{Form, Joined, Tree, ty};
