@@ -32,7 +32,8 @@ TypesOfTrees =
 abbrev pub TypesOfCalls : Type 0
 TypesOfCalls =
     (schemas : List Schema) (c : Call Term) (places : Places)
-    → option_map (λ tree. tree.ty) (call_tree schemas (term_tree schemas) c places) ≡ option_map ty.Seq (call_items term_type c (names_of_places schemas places))
+    → option_map (λ tree. tree.ty) (call_tree schemas (term_tree schemas) c places)
+    ≡ option_map ty.Seq (call_items term_type c (names_of_places schemas places))
 
 -- ---- meaning
 
