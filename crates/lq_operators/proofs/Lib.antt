@@ -1,3 +1,4 @@
+pub mod ArgumentLemmas
 pub mod FirstLemmas
 pub mod ItemLemmas
 pub mod NumberLemmas

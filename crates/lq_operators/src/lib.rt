@@ -1,16 +1,20 @@
 //! Operators of sequences over items that are there: what each makes of them.
 #![tactic(auto)]
 
+mod arguments;
 mod defaults;
 mod ending;
 mod error;
 mod firsts;
+mod given_methods;
 mod items;
 mod keys;
 mod numbers;
 mod sequences;
+mod sets;
 mod simple_methods;
 mod slices;
 
 pub use error::RunError;
+pub use given_methods::given;
 pub use simple_methods::simple;
