@@ -62,7 +62,7 @@ module _ {A : Type 0} where
 -- ---- values
 
 module _ {R : Type 0} where
-  places_of_keys : (q : Key) (m : ℕ) (vs : List (Value R)) → places_from (key_is q) m (map key_value vs) ≡ places_from (λ v. key_is q (key_value v)) m vs
+  pub places_of_keys : (q : Key) (m : ℕ) (vs : List (Value R)) → places_from (key_is q) m (map key_value vs) ≡ places_from (λ v. key_is q (key_value v)) m vs
   places_of_keys q m [] = refl
   places_of_keys q m (v ∷ vs) = by (key_is q (key_value v)) (places_of_keys q (suc m) vs) where
     by : (b : Bool) → places_from (key_is q) (suc m) (map key_value vs) ≡ places_from (λ v. key_is q (key_value v)) (suc m) vs
@@ -72,7 +72,7 @@ module _ {R : Type 0} where
     by false rest = rest
 
   -- what is the same has the same key
-  same_keyed : (v w : Value R) → same_values v w ≡ true → key_is (key_value v) (key_value w) ≡ true
+  pub same_keyed : (v w : Value R) → same_values v w ≡ true → key_is (key_value v) (key_value w) ≡ true
   same_keyed v w h = (tells_equal_keys (key_value v) (key_value w)).1 (ap key_value ((tells_keys R v w).0 h).1)
 
   same_keyed_back : (v w : Value R) → same_values w v ≡ true → key_is (key_value v) (key_value w) ≡ true

@@ -1,9 +1,14 @@
 -- Places of values that pass a test, and values picked by places.
 use Rattle.std.specs.Prelude.{◌≡◌, ◌∷◌, ◌++◌, ◌&&◌, if◌then◌else◌, not, List, [], ℕ, Bool, true, false, Option, Some, None, nat_lt, slice_get}
-use Rattle.std.specs.List.{list_any}
+use Rattle.std.specs.List.{list_any, zip}
+use Rattle.std.specs.Option.{option_to_list}
 use Rattle.lq_value.specs.KeyTests.{key_is}
 use Rattle.lq_value.specs.Lookups.{places}
+use Rattle.lq_value.specs.SameAndOrder.{same_values}
 use Rattle.lq_value.specs.declared.key.Key.{Key}
+use Rattle.lq_value.specs.declared.value.Value.{Value}
+use Rattle.lq_value.specs.declared.value.Value.TheVariants as value
+use Rattle.lq_model.specs.Stream.{elements_of}
 use Rattle.lq_lookup.specs.Found.{found}
 use Rattle.lq_lookup.specs.declared.nulls.Nulls.{Nulls}
 
@@ -40,3 +45,17 @@ module _ {A : Type 0} where
   firsts_from same seen [] = []
   firsts_from same seen (x ∷ xs) =
       if list_any (λ y. same y x) seen then firsts_from same (seen ++ x ∷ []) xs else x ∷ firsts_from same (seen ++ x ∷ []) xs
+
+module _ {A B : Type 0} where
+  -- what stands at a place whose key passes
+  abbrev pub picked_at : (A → Bool) → List A → List B → ℕ → List B
+  picked_at test ks xs place = if passes_at test ks place then option_to_list (slice_get xs place) else []
+
+  -- what stands at those places whose keys pass
+  abbrev pub picked : (A → Bool) → List A → List B → List ℕ → List B
+  picked test ks xs [] = []
+  picked test ks xs (place ∷ places) = picked_at test ks xs place ++ picked test ks xs places
+
+-- the group of a key
+abbrev pub group_at : {R : Type 0} → List (Value R) → List (Value R) → Value R → Value R
+group_at ks xs k = value.Group k (elements_of same_values k (zip ks xs))

@@ -61,7 +61,7 @@ fn is_same_at_one<R: RowRef>(value: &Value<R>, values: &[Value<R>], places: &[us
 }
 
 // Whether the value at a place is the same as this one.
-fn is_same_at<R: RowRef>(value: &Value<R>, values: &[Value<R>], place: usize) -> bool
+pub(crate) fn is_same_at<R: RowRef>(value: &Value<R>, values: &[Value<R>], place: usize) -> bool
     ensures { result ≡ passes_at (same_values value.now) values.now place }
 {
     match values.get(place) {
