@@ -1,5 +1,5 @@
 -- The elements of a key, picked at the places of the key; and pairs that were split.
-use Rattle.std.proofs.Common.{◌≡◌, ◌∷◌, ◌++◌, if◌then◌else◌, List, [], map, filter, ℕ, zero, suc, Bool, true, false, Option, Some, None, ap, ◌∙◌, sym, refl, true≢false, drop, slice_get}
+use Rattle.std.proofs.Common.{◌≡◌, ◌∷◌, ◌++◌, if◌then◌else◌, List, [], map, filter, ℕ, zero, suc, Bool, true, false, Option, Some, None, ap, ◌∙◌, sym, refl, true≢false, drop, slice_get, append-nil}
 use Rattle.std.specs.List.{zip}
 use Rattle.std.specs.Option.{option_to_list}
 use Rattle.lq_value.specs.KeyTests.{key_is}
@@ -17,6 +17,10 @@ module _ {A B : Type 0} where
   zip_split [] = refl
   zip_split (p ∷ ps) = ap (λ (qs : List (A × B)). p ∷ qs) (zip_split ps)
 
+  pub zip_both : (ps : List (A × B)) (ks : List A) (xs : List B) → ks ≡ map (λ p. p.0) ps → xs ≡ map (λ p. p.1) ps → zip ks xs ≡ ps
+  zip_both ps ks xs e f = (λ i. zip (e i) (f i)) ∙ zip_split ps
+
+module _ {B : Type 0} where
   -- nothing stands past the end
   none_there : (m : ℕ) (ys : List B) → drop m ys ≡ [] → (slice_get ys m ≡ None) × (drop (suc m) ys ≡ [])
   none_there zero [] h = (refl, refl)
@@ -24,6 +28,7 @@ module _ {A B : Type 0} where
   none_there (suc m) [] h = (refl, refl)
   none_there (suc m) (y ∷ ys) h = none_there m ys h
 
+module _ {A B : Type 0} where
   module _ (test key : A → Bool) (keyed : (x : A) → test x ≡ true → key x ≡ true) where
     nothing_by : (b : Bool) (o : Option B) → o ≡ None → (if b then option_to_list o else []) ≡ []
     nothing_by true o h = ap option_to_list h
@@ -64,6 +69,10 @@ module _ {A B : Type 0} where
         let there = head_there m xs ys y e in
         picked_here ks xs m (places_from key (suc m) ls) l y (kept ls ys) at.0 there.0 (picked_from ks ls xs ys (suc m) at.1 there.1) (key l) (test l) refl refl
         ∙ kept_here l y ls ys (test l)
+
+-- nothing put behind what is there
+pub none_pushed : {B : Type 0} (made : List B) (o : Option B) → o ≡ None → made ≡ made ++ option_to_list o
+none_pushed {B} made o h = sym (ap (λ (p : Option B). made ++ option_to_list p) h ∙ append-nil made)
 
 module _ {R : Type 0} where
   pub elements_picked : (k : Value R) (ks xs : List (Value R)) (ps : List ℕ) → ps ≡ places (key_is (key_value k)) (map key_value ks)

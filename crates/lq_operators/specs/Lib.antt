@@ -1,4 +1,5 @@
 pub mod Answers
 pub mod Arguments
+pub mod Matching
 pub mod Numbers
 pub mod Places

@@ -10,10 +10,9 @@ use crate::pairs::{elements_of, split};
 use lq_lookup::Lookup;
 use lq_value::{List, RowRef, Scalar, Value};
 use std::alloc::{AllocError, Global};
-use std::marker::Model;
 
-/// Items with their keys, prepared for a join (.NET, Enumerable.Join and GroupJoin): contracts see
-/// it as the list of the pairs of a key and its item.
+/// Items with their keys, prepared for a join (.NET, Enumerable.Join and GroupJoin). Contracts
+/// see it through `pairs_of`, the list of the pairs of a key and its item.
 #[derive(Drop)]
 pub struct Matches<R> {
     keys: List<Value<R>>,
@@ -22,26 +21,18 @@ pub struct Matches<R> {
     ghost found: { FindsKeys lookup (map key_value keys) },
 }
 
-impl<R> Model for Matches<R> {
-    ghost use Rattle.std.specs.Prelude.{List};
-    ghost use Rattle.std.specs.List.{zip};
-    ghost use Rattle.lq_value.specs.declared.value.Value.{Value as ValueOf};
-
-    ghost Value = { List (ValueOf R × ValueOf R) };
-
-    ghost view = { λ m. zip m.keys m.items };
-}
-
 impl<R: RowRef> Matches<R> {
     ghost use Rattle.std.specs.Prelude.{◌≡◌, IfOk};
     ghost use Rattle.lq_model.specs.Meaning.{matches};
+    ghost use Rattle.lq_operators.specs.Matching.{pairs_of};
 
     /// The pairs of a key and its item, in their order.
+    #[tactic(auto, using(crate::proofs::PairLemmas::zip_both), unfolding(crate::specs::Matching::pairs_of))]
     pub fn build(
         alloc: Global,
         pairs: List<(Value<R>, Value<R>)>,
     ) -> Result<Matches<R>, AllocError>
-        ensures { IfOk result (λ made. made ≡ pairs) }
+        ensures { IfOk result (λ made. pairs_of made ≡ pairs) }
     {
         let (keys, items) = split(alloc, pairs)?;
         let lookup = lookup_of(alloc, keys.as_slice())?;
@@ -54,8 +45,9 @@ impl<R: RowRef> Matches<R> {
 
     /// Copies of the items whose keys are the same as `key`, in their order. A key that is itself
     /// null is the same as none; a record with null members is a key as any other.
+    #[tactic(auto, unfolding(crate::specs::Matching::pairs_of))]
     pub fn find(&self, alloc: Global, key: &Value<R>) -> Result<List<Value<R>>, AllocError>
-        ensures { IfOk result (λ found. found ≡ matches key.now self.now) }
+        ensures { IfOk result (λ found. found ≡ matches key.now (pairs_of self.now)) }
     {
         if is_null(key) {
             return Ok(List::new(alloc));
