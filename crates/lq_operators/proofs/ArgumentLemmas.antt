@@ -1,9 +1,8 @@
 -- Of a world the meaning of a method takes only what stands where there is none.
-use Rattle.std.proofs.Common.{◌≡◌, List, [], ℤ, Result, Ok, Err, ap, ◌∙◌, refl, sym}
+use Rattle.std.proofs.Common.{◌≡◌, [], ℤ, Result, Ok, Err, ap, ◌∙◌, refl, sym}
 use Rattle.lq_value.specs.SameAndOrder.{same_values as same_keys}
 use Rattle.lq_value.specs.declared.scalar.Scalar.{Scalar}
 use Rattle.lq_value.specs.declared.scalar.Scalar.TheVariants as scalar
-use Rattle.lq_value.specs.declared.value.End.{End}
 use Rattle.lq_value.specs.declared.value.End.TheVariants as end
 use Rattle.lq_value.specs.declared.value.Fault.{Fault}
 use Rattle.lq_value.specs.declared.value.Fault.TheVariants as fault

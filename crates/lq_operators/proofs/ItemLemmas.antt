@@ -1,10 +1,10 @@
 -- Where the items that an operator asks for stand in a list.
-use Rattle.std.proofs.Common.{◌≡◌, ◌∷◌, ◌++◌, ◌<◌, ◌≤◌, List, [], ℕ, zero, suc, pos, Result, Ok, Err, drop, take, length, ap, ◌∙◌, sym, refl, arith}
+use Rattle.std.proofs.Common.{◌≡◌, ◌∷◌, ◌++◌, ◌<◌, ◌≤◌, List, [], ℕ, zero, suc, Result, Ok, Err, drop, take, length, ap, refl, arith}
 use Rattle.lq_value.specs.declared.value.End.{End}
 use Rattle.lq_value.specs.declared.value.End.TheVariants as end
 use Rattle.lq_value.specs.declared.value.Fault.{Fault}
 use Rattle.lq_value.specs.declared.value.Fault.TheVariants as fault
-use Rattle.lq_model.specs.Enumerable.{element_at, first, in_front, item_behind, last_of, single, last, take_first}
+use Rattle.lq_model.specs.Enumerable.{first, in_front, item_behind, last_of, single, last, take_first}
 
 module _ {A : Type 0} where
   pub last_pushed : (none : Result A Fault) (xs : List A) (x : A) → last_of none (xs ++ x ∷ []) ≡ Ok x

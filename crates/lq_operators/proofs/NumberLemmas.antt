@@ -1,11 +1,8 @@
 -- Sums and counts, and the best of numbers that were read in part.
-use Rattle.std.proofs.Common.{◌≡◌, ◌∷◌, ◌+◌, ◌<◌, ◌≤◌, ◌&&◌, if◌then◌else◌, List, [], ℕ, suc, ℤ, pos, negsuc, ◌+ℤ◌, Bool, true, false, Option, Some, None, Result, Ok, Err, map, length, ap, ◌∙◌, sym, refl, arith, int_le, SFits, w32, true≢false}
-use Rattle.std.specs.Option.{SomeIff}
+use Rattle.std.proofs.Common.{◌≡◌, ◌∷◌, ◌+◌, ◌<◌, ◌≤◌, ◌&&◌, if◌then◌else◌, List, [], ℕ, suc, ℤ, pos, negsuc, ◌+ℤ◌, Bool, true, false, Ok, Err, map, length, ap, ◌∙◌, sym, refl, arith, int_le, SFits, w32, true≢false}
 use Rattle.std.proofs.lemmas.Bool.{le-leb, leb-true, leb-false}
-use Rattle.lq_value.specs.declared.scalar.Scalar.{Scalar}
 use Rattle.lq_value.specs.declared.scalar.Scalar.TheVariants as scalar
 use Rattle.lq_value.specs.declared.value.End.{End}
-use Rattle.lq_value.specs.declared.value.Fault.{Fault}
 use Rattle.lq_value.specs.declared.value.Fault.TheVariants as fault
 use Rattle.lq_model.specs.Enumerable.{at_end, count, summed}
 use Rattle.lq_model.specs.Operations.{is_int}

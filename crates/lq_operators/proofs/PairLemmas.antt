@@ -9,7 +9,7 @@ use Rattle.lq_value.specs.SameAndOrder.{same_values}
 use Rattle.lq_value.specs.declared.value.Value.{Value}
 use Rattle.lq_model.specs.Meaning.{as_group}
 use Rattle.lq_model.specs.Stream.{elements_of, first_keys, groups_of}
-use Rattle.lq_operators.specs.Places.{group_at, passes, passes_at, picked, picked_at}
+use Rattle.lq_operators.specs.Places.{group_at, passes, passes_at, picked}
 use Rattle.lq_operators.proofs.PlaceLemmas.{head_there, places_of_keys, same_keyed}
 
 module _ {A B : Type 0} where

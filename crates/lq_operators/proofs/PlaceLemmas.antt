@@ -1,5 +1,5 @@
 -- Places of what passes a test, among the places of what has one key.
-use Rattle.std.proofs.Common.{◌≡◌, ◌∷◌, ◌++◌, ◌+◌, ◌-◌, ◌<◌, ◌≤◌, ◌&&◌, ◌||◌, if◌then◌else◌, List, [], map, ℕ, zero, suc, Bool, true, false, Some, None, ap, ◌∙◌, sym, refl, true≢false, arith, drop, take, length, slice_get, nat_lt}
+use Rattle.std.proofs.Common.{◌≡◌, ◌∷◌, ◌+◌, ◌≤◌, ◌&&◌, ◌||◌, if◌then◌else◌, List, [], map, ℕ, zero, suc, Bool, true, false, Some, ap, ◌∙◌, sym, refl, true≢false, arith, drop, take, slice_get}
 use Rattle.std.specs.List.{list_any}
 use Rattle.std.proofs.lemmas.Bool.{le-ltb, lt-ltb}
 use Rattle.lq_value.specs.KeyTests.{key_is}

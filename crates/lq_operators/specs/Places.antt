@@ -1,5 +1,5 @@
 -- Places of values that pass a test, and values picked by places.
-use Rattle.std.specs.Prelude.{◌≡◌, ◌∷◌, ◌++◌, ◌&&◌, if◌then◌else◌, not, List, [], ℕ, Bool, true, false, Option, Some, None, nat_lt, slice_get}
+use Rattle.std.specs.Prelude.{◌≡◌, ◌∷◌, ◌++◌, ◌&&◌, if◌then◌else◌, not, List, [], ℕ, Bool, false, Option, Some, None, nat_lt, slice_get}
 use Rattle.std.specs.List.{list_any, zip}
 use Rattle.std.specs.Option.{option_to_list}
 use Rattle.lq_value.specs.KeyTests.{key_is}

@@ -44,11 +44,7 @@ fn answered<R: RowRef>(
     match method {
         Given::Concat => Ok(sequence(concat(source, stream_of(alloc, argument))?)),
         Given::Union => Ok(sequence(union(alloc, source, stream_of(alloc, argument))?)),
-        Given::Intersect => Ok(sequence(intersect(
-            alloc,
-            source,
-            stream_of(alloc, argument),
-        )?)),
+        Given::Intersect => Ok(sequence(intersect(alloc, source, stream_of(alloc, argument))?)),
         Given::Except => Ok(sequence(except(alloc, source, stream_of(alloc, argument))?)),
         Given::Skip => skipped(argument, source),
         Given::Take => taken(argument, source),

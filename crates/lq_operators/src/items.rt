@@ -17,11 +17,7 @@ pub(crate) fn any<T: Drop>(items: List<T>, end: End) -> Result<bool, Fault>
 }
 
 // The first item. `none` is the answer where the source comes to its end without one.
-pub(crate) fn first<T: Drop>(
-    none: Result<T, Fault>,
-    items: List<T>,
-    end: End,
-) -> Result<T, Fault>
+pub(crate) fn first<T: Drop>(none: Result<T, Fault>, items: List<T>, end: End) -> Result<T, Fault>
     ensures { result ≡ first none items end }
 {
     let mut items = items.into_vec();
@@ -46,11 +42,7 @@ pub(crate) fn last<T: Drop>(none: Result<T, Fault>, items: List<T>, end: End) ->
 
 // The only item; a second one is a fault.
 #[tactic(auto, using(crate::proofs::ItemLemmas::singles))]
-pub(crate) fn single<T: Drop>(
-    none: Result<T, Fault>,
-    items: List<T>,
-    end: End,
-) -> Result<T, Fault>
+pub(crate) fn single<T: Drop>(none: Result<T, Fault>, items: List<T>, end: End) -> Result<T, Fault>
     ensures { result ≡ single none items end }
 {
     if items.len() > 1 {

@@ -23,10 +23,7 @@ fn keys_of<R: RowRef>(alloc: Global, values: &[Value<R>]) -> Result<Vec<Key>, Al
 
 // The places of each key among these values. What is the same as a value has its key, and so stands there; but not all that
 // stands there is the same, since what is no key has the key of null.
-pub(crate) fn lookup_of<R: RowRef>(
-    alloc: Global,
-    values: &[Value<R>],
-) -> Result<Lookup, AllocError>
+pub(crate) fn lookup_of<R: RowRef>(alloc: Global, values: &[Value<R>]) -> Result<Lookup, AllocError>
     ensures { IfOk result (λ lookup. FindsKeys lookup (map key_value values.now)) }
 {
     let keys = keys_of(alloc, values)?;

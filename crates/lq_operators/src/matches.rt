@@ -28,10 +28,7 @@ impl<R: RowRef> Matches<R> {
 
     /// The pairs of a key and its item, in their order.
     #[tactic(auto, using(crate::proofs::PairLemmas::zip_both), unfolding(crate::specs::Matching::pairs_of))]
-    pub fn build(
-        alloc: Global,
-        pairs: List<(Value<R>, Value<R>)>,
-    ) -> Result<Matches<R>, AllocError>
+    pub fn build(alloc: Global, pairs: List<(Value<R>, Value<R>)>) -> Result<Matches<R>, AllocError>
         ensures { IfOk result (λ made. pairs_of made ≡ pairs) }
     {
         let (keys, items) = split(alloc, pairs)?;

@@ -15,10 +15,7 @@ use lq_value::{End, Fault, List, RowRef, Value, same};
 use std::alloc::{AllocError, Global};
 
 // The first, and where it comes to its end the second.
-pub(crate) fn concat<T: Drop>(
-    first: Stream<T>,
-    second: Stream<T>,
-) -> Result<Stream<T>, AllocError>
+pub(crate) fn concat<T: Drop>(first: Stream<T>, second: Stream<T>) -> Result<Stream<T>, AllocError>
     ensures { IfOk result (λ made. made ≡ concat first second) }
 {
     let (items, end) = first;

@@ -1,4 +1,4 @@
-use Rattle.std.proofs.Common.{◌≡◌, ◌++◌, ◌∷◌, ◌+◌, [], List, ap, sym, ◌∙◌, drop, take, arith}
+use Rattle.std.proofs.Common.{◌++◌, ◌∷◌, ◌+◌, [], List, ap, sym, ◌∙◌, drop, take, arith}
 use Rattle.lq_value.specs.SameAndOrder.{same_values}
 use Rattle.lq_value.specs.declared.value.Value.{Value}
 use Rattle.lq_operators.specs.Places.{firsts_from}
@@ -17,14 +17,14 @@ loop-place-preserved g c =
     let old = c.in_ok-is_among_before.ensures in
     let left = firsts_from same_values (take (place + 1) values) (drop (place + 1) values) in
     elim c.if-not-branch.branch [
-      then-not-branch+in_ok-copy+in_ok-push w ↦
-        let pushed = w.in_ok-push.ensures.ok in
-        let copied = w.in_ok-copy.ensures in
-        ap (λ (made : List (Value g.row.R.Denot)). made ++ left) (w.firsts-is ∙ pushed ∙ ap (λ (made : Value g.row.R.Denot). firsts ++ made ∷ []) copied)
-        ∙ firsts_kept same_values firsts values place value here item (sym old ∙ w.if-not-branch.true) ∙ c.loop-place.invariant
-    | else-not-branch w ↦
-        ap (λ (made : List (Value g.row.R.Denot)). made ++ left) w.firsts-is
-        ∙ firsts_left same_values firsts values place value here item (sym old ∙ w.if-not-branch.false) ∙ c.loop-place.invariant
+      | then-not-branch+in_ok-copy+in_ok-push w ↦
+          let pushed = w.in_ok-push.ensures.ok in
+          let copied = w.in_ok-copy.ensures in
+          ap (λ (made : List (Value g.row.R.Denot)). made ++ left) (w.firsts-is ∙ pushed ∙ ap (λ (made : Value g.row.R.Denot). firsts ++ made ∷ []) copied)
+          ∙ firsts_kept same_values firsts values place value here item (sym old ∙ w.if-not-branch.true) ∙ c.loop-place.invariant
+      | else-not-branch w ↦
+          ap (λ (made : List (Value g.row.R.Denot)). made ++ left) w.firsts-is
+          ∙ firsts_left same_values firsts values place value here item (sym old ∙ w.if-not-branch.false) ∙ c.loop-place.invariant
     ]
 
 pub returns : goal.returns
