@@ -80,8 +80,8 @@ pub(crate) fn except<R: RowRef>(
     match last {
         End::Done => {
             let (items, end) = first;
-            let firsts = distinct(alloc, items)?;
-            Ok((chosen(alloc, firsts, others.as_slice(), false)?, end))
+            let candidates = distinct(alloc, items)?;
+            Ok((chosen(alloc, candidates, others.as_slice(), false)?, end))
         }
         End::Fault(_) => Ok((List::new(alloc), last)),
     }
