@@ -41,15 +41,18 @@ module _ {R : Type 0} (world : World R) (null : world.unknown ≡ fault.NullRefe
 
   numbers_anywhere : (argument : Result (Value R) Fault) → on_scalar nowhere argument (number_of {R = R} nowhere) ≡ on_scalar world argument (number_of world)
   numbers_anywhere (Ok v) =
-      ap (λ (found : Result Scalar Fault). on_ok found (number_of {R = R} nowhere)) (scalars_anywhere (out-Value R v)) ∙ on_each (scalar_of world (out-Value R v))
+      ap (λ (found : Result Scalar Fault). on_ok found (number_of {R = R} nowhere)) (scalars_anywhere (out-Value R v))
+      ∙ on_each (scalar_of world (out-Value R v))
   numbers_anywhere (Err f) = refl
 
-  pub given_anywhere : (method : Given) (argument : Result (Value R) Fault) (s : Stream (Value R)) → given_meaning nowhere method argument s ≡ given_meaning world method argument s
+  pub given_anywhere : (method : Given) (argument : Result (Value R) Fault) (s : Stream (Value R))
+      → given_meaning nowhere method argument s ≡ given_meaning world method argument s
   given_anywhere of.Concat argument s = ap (λ (t : Stream (Value R)). as_sequence (concat s t)) (streams_anywhere argument)
   given_anywhere of.Union argument s = ap (λ (t : Stream (Value R)). as_sequence (union same_keys s t)) (streams_anywhere argument)
   given_anywhere of.Intersect argument s = ap (λ (t : Stream (Value R)). as_sequence (intersect same_keys s t)) (streams_anywhere argument)
   given_anywhere of.Except argument s = ap (λ (t : Stream (Value R)). as_sequence (except same_keys s t)) (streams_anywhere argument)
   given_anywhere of.Skip argument s = ap (λ (found : Result ℤ Fault). on_ok found (λ n. as_sequence (skip (as_count n) s.0 s.1))) (numbers_anywhere argument)
-  given_anywhere of.Take argument s = ap (λ (found : Result ℤ Fault). on_ok found (λ n. as_sequence (take_first (as_count n) s.0 s.1))) (numbers_anywhere argument)
+  given_anywhere of.Take argument s =
+      ap (λ (found : Result ℤ Fault). on_ok found (λ n. as_sequence (take_first (as_count n) s.0 s.1))) (numbers_anywhere argument)
   given_anywhere of.ElementAt argument s = ap (λ (found : Result ℤ Fault). on_ok found (λ n. element_at n s.0 s.1)) (numbers_anywhere argument)
   given_anywhere of.Contains argument s = refl

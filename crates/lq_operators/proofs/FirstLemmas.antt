@@ -34,7 +34,8 @@ module _ {A : Type 0} (same : A → A → Bool) where
       ≡ (if is_old (take n xs) x then firsts_from same (take (n + 1) xs) (drop (n + 1) xs) else x ∷ firsts_from same (take (n + 1) xs) (drop (n + 1) xs))
   firsts_more xs n x h is =
       at_drop_more (firsts_from same (take n xs)) xs n x h
-      ∙ ap (λ (y : A). if is_old (take n xs) y then firsts_from same (take n xs ++ y ∷ []) (drop (n + 1) xs) else y ∷ firsts_from same (take n xs ++ y ∷ []) (drop (n + 1) xs)) (sym is)
+      ∙ ap (λ (y : A). if is_old (take n xs) y then firsts_from same (take n xs ++ y ∷ []) (drop (n + 1) xs) else y ∷ firsts_from same (take n xs ++ y ∷ [])
+      (drop (n + 1) xs)) (sym is)
       ∙ ap (λ (seen : List A). if is_old (take n xs) x then firsts_from same seen (drop (n + 1) xs) else x ∷ firsts_from same seen (drop (n + 1) xs))
       (ap (λ (y : A). take n xs ++ y ∷ []) is ∙ sym (take_more xs n x h))
 
@@ -67,23 +68,29 @@ module _ {A : Type 0} (same : A → A → Bool) where
   new_behind : (seen : List A) (x : A) (ys : List A) → filter (is_new (seen ++ x ∷ [])) ys ≡ filter (is_new seen) (filter (λ y. not (same x y)) ys)
   new_behind seen x [] = refl
   new_behind seen x (y ∷ ys) =
-      ap (λ (b : Bool). if not b then y ∷ filter (is_new (seen ++ x ∷ [])) ys else filter (is_new (seen ++ x ∷ [])) ys) (list_any-append (λ z. same z y) seen (x ∷ []))
+      ap (λ (b : Bool). if not b then y ∷ filter (is_new (seen ++ x ∷ [])) ys else filter (is_new (seen ++ x ∷ [])) ys)
+      (list_any-append (λ z. same z y) seen (x ∷ []))
       ∙ by (is_old seen y) refl (same x y) (new_behind seen x ys)
     where
       by : (b : Bool) → is_old seen y ≡ b → (c : Bool) → filter (is_new (seen ++ x ∷ [])) ys ≡ filter (is_new seen) (filter (λ y. not (same x y)) ys)
           → (if not (b || (c || false)) then y ∷ filter (is_new (seen ++ x ∷ [])) ys else filter (is_new (seen ++ x ∷ [])) ys)
           ≡ filter (is_new seen) (if not c then y ∷ filter (λ y. not (same x y)) ys else filter (λ y. not (same x y)) ys)
       by true e true rest = rest
-      by true e false rest = rest ∙ sym (ap (λ (d : Bool). if not d then y ∷ filter (is_new seen) (filter (λ y. not (same x y)) ys) else filter (is_new seen) (filter (λ y. not (same x y)) ys)) e)
+      by true e false rest = rest
+          ∙ sym (ap (λ (d : Bool). if not d then y ∷ filter (is_new seen) (filter (λ y. not (same x y)) ys) else filter (is_new seen)
+          (filter (λ y. not (same x y)) ys)) e)
       by false e true rest = rest
-      by false e false rest = ap (λ (zs : List A). y ∷ zs) rest ∙ sym (ap (λ (d : Bool). if not d then y ∷ filter (is_new seen) (filter (λ y. not (same x y)) ys) else filter (is_new seen) (filter (λ y. not (same x y)) ys)) e)
+      by false e false rest = ap (λ (zs : List A). y ∷ zs) rest
+          ∙ sym (ap (λ (d : Bool). if not d then y ∷ filter (is_new seen) (filter (λ y. not (same x y)) ys) else filter (is_new seen)
+          (filter (λ y. not (same x y)) ys)) e)
 
   firsts_filtered : (seen xs : List A) → firsts_from same seen xs ≡ filter (is_new seen) (first_keys same xs)
   firsts_filtered seen [] = refl
   firsts_filtered seen (x ∷ xs) = by (is_old seen x) (firsts_filtered (seen ++ x ∷ []) xs ∙ new_behind seen x (first_keys same xs)) where
     by : (b : Bool) → firsts_from same (seen ++ x ∷ []) xs ≡ filter (is_new seen) (filter (λ y. not (same x y)) (first_keys same xs))
         → (if b then firsts_from same (seen ++ x ∷ []) xs else x ∷ firsts_from same (seen ++ x ∷ []) xs)
-        ≡ (if not b then x ∷ filter (is_new seen) (filter (λ y. not (same x y)) (first_keys same xs)) else filter (is_new seen) (filter (λ y. not (same x y)) (first_keys same xs)))
+        ≡ (if not b then x ∷ filter (is_new seen) (filter (λ y. not (same x y)) (first_keys same xs)) else filter (is_new seen)
+        (filter (λ y. not (same x y)) (first_keys same xs)))
     by true rest = rest
     by false rest = ap (λ (ys : List A). x ∷ ys) rest
 
@@ -95,7 +102,8 @@ module _ {A : Type 0} (same : A → A → Bool) where
   firsts_are xs = firsts_filtered [] xs ∙ all_new (first_keys same xs)
 
   -- where a loop has come to the end
-  pub firsts_done : (made xs : List A) (n : ℕ) → length xs ≤ n → made ++ firsts_from same (take n xs) (drop n xs) ≡ firsts_from same [] xs → made ≡ first_keys same xs
+  pub firsts_done : (made xs : List A) (n : ℕ) → length xs ≤ n → made ++ firsts_from same (take n xs) (drop n xs) ≡ firsts_from same [] xs
+      → made ≡ first_keys same xs
   firsts_done made xs n h so_far =
       sym (append-nil made) ∙ ap (λ (ys : List A). made ++ firsts_from same (take n xs) ys) (sym (drop_all n xs h)) ∙ so_far ∙ firsts_are xs
 

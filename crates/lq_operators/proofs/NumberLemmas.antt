@@ -11,10 +11,11 @@ use Rattle.lq_model.specs.Operations.{is_int}
 
 is_fit : (z : ℤ) → is_int z ≡ true → SFits w32 z
 is_fit (pos n) h = record { sfits = omega (arith, leb-true n 2147483647 h) }
-is_fit (negsuc n) h = record { sfits = omega (arith, leb-true n 2147483647 (left_true (int_le (negsuc 2147483647) (negsuc n)) (int_le (negsuc n) (pos 2147483647)) h)) } where
-  left_true : (a b : Bool) → (a && b) ≡ true → a ≡ true
-  left_true true b k = refl
-  left_true false b k = absurd (true≢false (sym k))
+is_fit (negsuc n) h =
+    record { sfits = omega (arith, leb-true n 2147483647 (left_true (int_le (negsuc 2147483647) (negsuc n)) (int_le (negsuc n) (pos 2147483647)) h)) } where
+      left_true : (a b : Bool) → (a && b) ≡ true → a ≡ true
+      left_true true b k = refl
+      left_true false b k = absurd (true≢false (sym k))
 
 fit_is : (z : ℤ) → SFits w32 z → is_int z ≡ true
 fit_is (pos n) h = le-leb n 2147483647 (omega (arith, h.sfits))

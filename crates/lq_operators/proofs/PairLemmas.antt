@@ -34,7 +34,8 @@ module _ {A B : Type 0} where
     nothing_by true o h = ap option_to_list h
     nothing_by false o h = refl
 
-    none_here : (ks : List A) (xs : List B) (m : ℕ) (ps : List ℕ) → slice_get xs m ≡ None → picked test ks xs ps ≡ [] → (c : Bool) → picked test ks xs (if c then m ∷ ps else ps) ≡ []
+    none_here : (ks : List A) (xs : List B) (m : ℕ) (ps : List ℕ) → slice_get xs m ≡ None → picked test ks xs ps ≡ [] → (c : Bool)
+        → picked test ks xs (if c then m ∷ ps else ps) ≡ []
     none_here ks xs m ps none rest true = ap (λ (ys : List B). ys ++ picked test ks xs ps) (nothing_by (passes_at test ks m) (slice_get xs m) none) ∙ rest
     none_here ks xs m ps none rest false = rest
 
@@ -44,7 +45,8 @@ module _ {A B : Type 0} where
         let none = none_there m xs h in
         none_here ks xs m (places_from key (suc m) ls) none.0 (none_picked ks ls xs (suc m) none.1) (key l)
 
-    picked_here : (ks : List A) (xs : List B) (m : ℕ) (ps : List ℕ) (k : A) (x : B) (rest : List B) → slice_get ks m ≡ Some k → slice_get xs m ≡ Some x → picked test ks xs ps ≡ rest
+    picked_here : (ks : List A) (xs : List B) (m : ℕ) (ps : List ℕ) (k : A) (x : B) (rest : List B) → slice_get ks m ≡ Some k → slice_get xs m ≡ Some x
+        → picked test ks xs ps ≡ rest
         → (c b : Bool) → key k ≡ c → test k ≡ b → picked test ks xs (if c then m ∷ ps else ps) ≡ (if b then x ∷ rest else rest)
     picked_here ks xs m ps k x rest at there others true true h e =
         ap (λ (b : Bool). (if b then option_to_list (slice_get xs m) else []) ++ picked test ks xs ps) (ap (passes test) at ∙ e)
@@ -57,7 +59,9 @@ module _ {A B : Type 0} where
     abbrev kept : List A → List B → List B
     kept ls ys = map (λ q. q.1) (filter (λ q. test q.0) (zip ls ys))
 
-    kept_here : (l : A) (y : B) (ls : List A) (ys : List B) (b : Bool) → (if b then y ∷ kept ls ys else kept ls ys) ≡ map (λ q. q.1) (if b then (l, y) ∷ filter (λ q. test q.0) (zip ls ys) else filter (λ q. test q.0) (zip ls ys))
+    kept_here : (l : A) (y : B) (ls : List A) (ys : List B) (b : Bool)
+        → (if b then y ∷ kept ls ys else kept ls ys)
+        ≡ map (λ q. q.1) (if b then (l, y) ∷ filter (λ q. test q.0) (zip ls ys) else filter (λ q. test q.0) (zip ls ys))
     kept_here l y ls ys true = refl
     kept_here l y ls ys false = refl
 
@@ -91,5 +95,6 @@ module _ {R : Type 0} where
       → map (group_at ks xs) (first_keys same_values ks) ≡ map as_group (groups_of same_values qs)
   groups_split qs ks xs ks_are xs_are =
       (λ i. map (group_at (ks_are i) (xs_are i)) (first_keys same_values (ks_are i)))
-      ∙ ap (λ (ps : List (Value R × Value R)). map (λ k. as_group (k, elements_of same_values k ps)) (first_keys same_values (map (λ q. q.0) qs))) (zip_split qs)
+      ∙ ap (λ (ps : List (Value R × Value R)). map (λ k. as_group (k, elements_of same_values k ps)) (first_keys same_values (map (λ q. q.0) qs)))
+      (zip_split qs)
       ∙ groups_each (first_keys same_values (map (λ q. q.0) qs)) qs

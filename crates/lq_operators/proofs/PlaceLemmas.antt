@@ -33,7 +33,8 @@ module _ {A : Type 0} where
     any_from ys [] m h = refl
     any_from ys (x ∷ xs) m h =
         let at = head_there m ys xs x h in
-        any_here (passes_at test ys) m (places_from key (suc m) xs) x (list_any test xs) (ap (passes test) at.0) (any_from ys xs (suc m) at.1) (key x) (test x) refl refl
+        any_here (passes_at test ys) m (places_from key (suc m) xs) x (list_any test xs) (ap (passes test) at.0) (any_from ys xs (suc m) at.1) (key x)
+        (test x) refl refl
 
     pub any_at_places : (xs : List A) → list_any (passes_at test xs) (places key xs) ≡ list_any test xs
     any_at_places xs = any_from xs xs 0 refl
@@ -42,19 +43,22 @@ module _ {A : Type 0} where
     none_from : (ys xs : List A) (n m : ℕ) → n ≤ m → list_any (passes_before test ys n) (places_from key m xs) ≡ false
     none_from ys [] n m h = refl
     none_from ys (x ∷ xs) n m h =
-        none_here (passes_before test ys n) m (places_from key (suc m) xs) (ap (λ (b : Bool). b && passes_at test ys m) (le-ltb m n h)) (none_from ys xs n (suc m) (omega arith)) (key x)
+        none_here (passes_before test ys n) m (places_from key (suc m) xs) (ap (λ (b : Bool). b && passes_at test ys m) (le-ltb m n h))
+        (none_from ys xs n (suc m) (omega arith)) (key x)
       where
         none_here : (f : ℕ → Bool) (m : ℕ) (ps : List ℕ) → f m ≡ false → list_any f ps ≡ false → (c : Bool) → list_any f (if c then m ∷ ps else ps) ≡ false
         none_here f m ps e others true = λ i. e i || others i
         none_here f m ps e others false = others
 
-    before_from : (ys xs : List A) (n m k : ℕ) → drop m ys ≡ xs → n ≡ m + k → list_any (passes_before test ys n) (places_from key m xs) ≡ list_any test (take k xs)
+    before_from : (ys xs : List A) (n m k : ℕ) → drop m ys ≡ xs → n ≡ m + k
+        → list_any (passes_before test ys n) (places_from key m xs) ≡ list_any test (take k xs)
     before_from ys xs n m zero h e = none_from ys xs n m (omega arith)
     before_from ys [] n m (suc k) h e = refl
     before_from ys (x ∷ xs) n m (suc k) h e =
         let at = head_there m ys xs x h in
         let here : passes_before test ys n m ≡ test x = ap (λ (b : Bool). b && passes_at test ys m) (lt-ltb m n (omega arith)) ∙ ap (passes test) at.0 in
-        any_here (passes_before test ys n) m (places_from key (suc m) xs) x (list_any test (take k xs)) here (before_from ys xs n (suc m) k at.1 (omega arith)) (key x) (test x) refl refl
+        any_here (passes_before test ys n) m (places_from key (suc m) xs) x (list_any test (take k xs)) here
+        (before_from ys xs n (suc m) k at.1 (omega arith)) (key x) (test x) refl refl
 
     pub any_before : (xs : List A) (n : ℕ) → list_any (passes_before test xs n) (places key xs) ≡ list_any test (take n xs)
     any_before xs n = before_from xs xs n 0 n refl (omega arith)
