@@ -218,6 +218,32 @@ impl<'a, R: TableRow> Running<'a, R> {
         }
     }
 
+    /// What a form gives of an item.
+    #[cycle(running)]
+    fn of_item(
+        &self,
+        body: &Form,
+        item: &Value<R>,
+        slots: &Slots<'_, R>,
+    ) -> Result<Value<R>, RunError>
+        ensures { IsAnswer (of_item (world_of R.table_of R.shown self.now.tables.now) body.now slots.now item.now) result }
+    {
+        self.evaluate(body, &(&*slots).with(&*item))
+    }
+
+    /// Whether a condition is true of an item.
+    #[cycle(running)]
+    fn holds(
+        &self,
+        condition: &Form,
+        item: &Value<R>,
+        slots: &Slots<'_, R>,
+    ) -> Result<bool, RunError>
+        ensures { Answers (holds_of (world_of R.table_of R.shown self.now.tables.now) condition.now slots.now item.now) result }
+    {
+        self.truth(condition, &(&*slots).with(&*item))
+    }
+
     /// What a form gives of each item, up to the first fault.
     #[cycle(running)]
     #[tactic(auto, using(crate::proofs::StreamLemmas::steps))]
@@ -232,7 +258,7 @@ impl<'a, R: TableRow> Running<'a, R> {
     {
         let mut made = List::new(self.alloc);
         for item in items {
-            match self.evaluate(body, &slots.with(item)) {
+            match self.of_item(body, item, slots) {
                 Ok(value) => made.push(value)?,
                 Err(RunError::Fault(fault)) => return Ok((made, End::Fault(fault))),
                 Err(RunError::Memory) => return Err(AllocError),
@@ -255,7 +281,7 @@ impl<'a, R: TableRow> Running<'a, R> {
     {
         let mut made = List::new(self.alloc);
         for item in items.into_vec() {
-            match self.truth(condition, &slots.with(&item)) {
+            match self.holds(condition, &item, slots) {
                 Ok(true) => made.push(item)?,
                 Ok(false) => {}
                 Err(RunError::Fault(fault)) => return Ok((made, End::Fault(fault))),
