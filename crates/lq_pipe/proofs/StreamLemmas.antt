@@ -1,9 +1,16 @@
 -- Streams item by item.
-use Rattle.std.proofs.Common.{◌≡◌, ◌∷◌, ◌++◌, List, [], Bool, true, false, Result, Ok, Err, ap, ◌∙◌, sym, refl, append_assoc, append-nil}
+use Rattle.std.proofs.Common.{◌≡◌, ◌∷◌, ◌++◌, ◌+◌, ◌<◌, ◌≤◌, if◌then◌else◌, List, [], ℕ, zero, suc, Bool, true, false, Result, Ok, Err, ap, ◌∙◌, sym, refl, append_assoc, append-nil, drop, drop-cons, get_or, length, length-append, arith}
+use Rattle.std.proofs.lemmas.List.{drop_all}
 use Rattle.lq_value.specs.declared.value.End.{End}
 use Rattle.lq_value.specs.declared.value.End.TheVariants as end
 use Rattle.lq_value.specs.declared.value.Fault.{Fault}
+use Rattle.lq_value.specs.declared.value.Value.{Value}
+use Rattle.lq_model.specs.Enumerable.{all}
+use Rattle.lq_model.specs.Meaning.{World}
+use Rattle.lq_model.specs.Operations.{on_ok}
 use Rattle.lq_model.specs.Stream.{Stream, each, kept, one, select_by, then_ending, then_stream, where_by}
+use Rattle.lq_pipe.specs.Kept.{chosen, kept_by, truth_value_of, truths_of}
+use Rattle.lq_pipe.specs.Running.{truth_in}
 
 -- one stream behind another, behind a third
 pub then_assoc : {A : Type 0} (xs : List A) (d : End) (ys : List A) (e : End) (c : Stream A) → then_ending xs d (then_ending ys e c) ≡ then_stream (then_ending xs d (ys, e)) c
@@ -11,18 +18,110 @@ then_assoc xs end.Done ys end.Done c = ap (λ l. (l, c.1)) (sym (append_assoc xs
 then_assoc xs end.Done ys (end.Fault f) c = refl
 then_assoc xs (end.Fault f) ys e c = refl
 
-module _ {A B : Type 0} (f : A → Result B Fault) where
-  pub select_step : (made : List B) (x : A) (xs : List A) (e : End) (v : B) → f x ≡ Ok v
-      → then_ending made end.Done (select_by f (x ∷ xs) e) ≡ then_ending (made ++ v ∷ []) end.Done (select_by f xs e)
-  select_step made x xs e v h =
-      ap (λ r. then_ending made end.Done (then_stream (one r) (select_by f xs e))) h ∙ ap (λ l. (l, (select_by f xs e).1)) (sym (append_assoc made (v ∷ []) (select_by f xs e).0))
+-- what was made of the items before, with what comes of those that are left
+module _ {A B : Type 0} (f : A → Stream B) (items : List A) (e : End) (all : Stream B) where
+  abbrev pub Goes : List B → ℕ → Type 0
+  Goes made i = then_ending made end.Done (each f (drop i items) e) ≡ all
 
-  pub select_stop : (made : List B) (x : A) (xs : List A) (e : End) (g : Fault) → f x ≡ Err g
-      → then_ending made end.Done (select_by f (x ∷ xs) e) ≡ (made, end.Fault g)
-  select_stop made x xs e g h =
-      ap (λ r. then_ending made end.Done (then_stream (one r) (select_by f xs e))) h ∙ ap (λ l. (l, end.Fault g)) (append-nil made)
+  left_at : (made : List B) (i : ℕ) (x : A) → x ≡ get_or items i x → i < length items → Goes made i
+      → then_ending made end.Done (then_stream (f x) (each f (drop (suc i) items) e)) ≡ all
+  left_at made i x is below goes =
+      ap (λ y. then_ending made end.Done (then_stream (f y) (each f (drop (suc i) items) e))) is
+      ∙ ap (λ l. then_ending made end.Done (each f l e)) (sym (drop-cons items i x below)) ∙ goes
 
-  pub select_done : (made : List B) (e : End) → then_ending made end.Done (select_by f [] e) ≡ (made, e)
-  select_done made e = ap (λ l. (l, e)) (append-nil made)
+  pub each_goes : (made more vs : List B) (i : ℕ) (x : A) → x ≡ get_or items i x → i < length items → f x ≡ (vs, end.Done) → more ≡ made ++ vs
+      → Goes made i → Goes more (suc i)
+  each_goes made more vs i x is below gives more_is goes =
+      ap (λ l. then_ending l end.Done (each f (drop (suc i) items) e)) more_is
+      ∙ sym (then_assoc made end.Done vs end.Done (each f (drop (suc i) items) e))
+      ∙ ap (λ (s : Stream B). then_ending made end.Done (then_stream s (each f (drop (suc i) items) e))) (sym gives)
+      ∙ left_at made i x is below goes
 
-pub ruleset steps = (select_step, select_stop, select_done)
+  pub each_stops : (made more vs : List B) (i : ℕ) (x : A) (g : Fault) → x ≡ get_or items i x → i < length items → f x ≡ (vs, end.Fault g) → more ≡ made ++ vs
+      → Goes made i → (more, end.Fault g) ≡ all
+  each_stops made more vs i x g is below gives more_is goes =
+      ap (λ l. (l, end.Fault g)) more_is
+      ∙ ap (λ (s : Stream B). then_ending made end.Done (then_stream s (each f (drop (suc i) items) e))) (sym gives)
+      ∙ left_at made i x is below goes
+
+  pub each_ends : (made : List B) (i : ℕ) → length items ≤ i → Goes made i → (made, e) ≡ all
+  each_ends made i over goes =
+      ap (λ l. (l, e)) (sym (append-nil made)) ∙ ap (λ l. then_ending made end.Done (each f l e)) (sym (drop_all i items over)) ∙ goes
+
+-- the same for one item of each
+module _ {A B : Type 0} (f : A → Result B Fault) (items : List A) (e : End) (all : Stream B) where
+  pub select_goes : (made more : List B) (i : ℕ) (x : A) (v : B) → x ≡ get_or items i x → i < length items → Ok v ≡ f x → more ≡ made ++ v ∷ []
+      → Goes (λ y. one (f y)) items e all made i → Goes (λ y. one (f y)) items e all more (suc i)
+  select_goes made more i x v is below gives more_is goes = each_goes (λ y. one (f y)) items e all made more (v ∷ []) i x is below (ap one (sym gives)) more_is goes
+
+  pub select_stops : (made : List B) (i : ℕ) (x : A) (g : Fault) → x ≡ get_or items i x → i < length items → Err g ≡ f x
+      → Goes (λ y. one (f y)) items e all made i → (made, end.Fault g) ≡ all
+  select_stops made i x g is below gives goes =
+      each_stops (λ y. one (f y)) items e all made made [] i x g is below (ap one (sym gives)) (sym (append-nil made)) goes
+
+-- ---- items that are kept
+
+drop_next : (n : ℕ) (bs : List Bool) → drop 1 (drop n bs) ≡ drop (suc n) bs
+drop_next zero bs = refl
+drop_next (suc n) [] = refl
+drop_next (suc n) (b ∷ bs) = drop_next n bs
+
+module _ {A : Type 0} where
+  chosen_push : (ys : List A) (x : A) (bs : List Bool)
+      → chosen (ys ++ x ∷ []) bs ≡ chosen ys bs ++ (if get_or (drop (length ys) bs) 0 false then x ∷ [] else [])
+  chosen_push [] x [] = refl
+  chosen_push [] x (true ∷ bs) = refl
+  chosen_push [] x (false ∷ bs) = refl
+  chosen_push (y ∷ ys) x [] = refl
+  chosen_push (y ∷ ys) x (true ∷ bs) = ap (λ l. y ∷ l) (chosen_push ys x bs)
+  chosen_push (y ∷ ys) x (false ∷ bs) = chosen_push ys x bs
+
+  pub chosen_next : (ys : List A) (x : A) (bs left : List Bool) (made more : List A) (b : Bool) → made ≡ chosen ys bs → left ≡ drop (length ys) bs
+      → b ≡ get_or left 0 false → more ≡ made ++ (if b then x ∷ [] else []) → more ≡ chosen (ys ++ x ∷ []) bs
+  chosen_next ys x bs left made more b made_is left_is b_is more_is =
+      more_is ∙ (λ i. made_is i ++ (if b_is i then x ∷ [] else [])) ∙ ap (λ l. chosen ys bs ++ (if get_or l 0 false then x ∷ [] else [])) left_is
+      ∙ sym (chosen_push ys x bs)
+
+  pub left_next : (ys : List A) (x : A) (bs left others : List Bool) → left ≡ drop (length ys) bs → others ≡ drop 1 left → others ≡ drop (length (ys ++ x ∷ [])) bs
+  left_next ys x bs left others left_is others_is =
+      others_is ∙ ap (drop 1) left_is ∙ drop_next (length ys) bs ∙ ap (λ n. drop n bs) (sym (one_longer ys))
+    where
+      one_longer : (zs : List A) → length (zs ++ x ∷ []) ≡ suc (length zs)
+      one_longer [] = refl
+      one_longer (z ∷ zs) = ap suc (one_longer zs)
+
+module _ {A R : Type 0} (world : World R) (f : A → Result (Value R) Fault) where
+  kept_step : (x : A) (xs : List A) (rest : Stream A) (found : Result (Value R) Fault) (more : Stream (Value R)) → rest ≡ kept_by world xs more
+      → then_stream (kept (truth_in world found) x) rest ≡ kept_by world (x ∷ xs) (then_stream (one found) more)
+  kept_step x xs rest (Err g) more h = refl
+  kept_step x xs rest (Ok v) more h = by (truth_value_of world v) where
+    by : (b : Result Bool Fault)
+        → then_stream (kept b x) rest
+        ≡ (chosen (x ∷ xs) (then_stream (one b) (truths_of world more.0 more.1)).0, (then_stream (one b) (truths_of world more.0 more.1)).1)
+    by (Ok true) = ap (λ (s : Stream A). (x ∷ s.0, s.1)) h
+    by (Ok false) = h
+    by (Err g) = refl
+
+  -- a condition's values are met first, and then the items are kept by them
+  pub where_is_kept : (xs : List A) (e : End) → where_by (λ x. truth_in world (f x)) xs e ≡ kept_by world xs (select_by f xs e)
+  where_is_kept [] e = refl
+  where_is_kept (x ∷ xs) e = kept_step x xs (where_by (λ y. truth_in world (f y)) xs e) (f x) (select_by f xs e) (where_is_kept xs e)
+
+  all_step : (rest : Result Bool Fault) (found : Result (Value R) Fault) (more : Stream (Value R)) → rest ≡ all (λ b. Ok b) (truths_of world more.0 more.1).0 (truths_of world more.0 more.1).1
+      → on_ok (truth_in world found) (λ holds. if holds then rest else Ok false)
+      ≡ all (λ b. Ok b) (truths_of world (then_stream (one found) more).0 (then_stream (one found) more).1).0
+      (truths_of world (then_stream (one found) more).0 (then_stream (one found) more).1).1
+  all_step rest (Err g) more h = refl
+  all_step rest (Ok v) more h = by (truth_value_of world v) where
+    by : (b : Result Bool Fault)
+        → on_ok b (λ holds. if holds then rest else Ok false)
+        ≡ all (λ c. Ok c) (then_stream (one b) (truths_of world more.0 more.1)).0 (then_stream (one b) (truths_of world more.0 more.1)).1
+    by (Ok true) = h
+    by (Ok false) = refl
+    by (Err g) = refl
+
+  pub all_is_of_truths : (xs : List A) (e : End)
+      → all (λ x. truth_in world (f x)) xs e
+      ≡ all (λ b. Ok b) (truths_of world (select_by f xs e).0 (select_by f xs e).1).0 (truths_of world (select_by f xs e).0 (select_by f xs e).1).1
+  all_is_of_truths [] e = refl
+  all_is_of_truths (x ∷ xs) e = all_step (all (λ y. truth_in world (f y)) xs e) (f x) (select_by f xs e) (all_is_of_truths xs e)

@@ -1,6 +1,7 @@
 //! The running of typed trees: the value or the stream of each, over the rows that it is given.
 #![tactic(auto)]
 
+mod kept;
 mod parts;
 mod reached;
 mod running;

@@ -1,17 +1,33 @@
 //! The running of forms.
-ghost use Rattle.std.specs.Prelude.{◌≡◌, IfOk, IfSome, Ok};
+ghost use Rattle.std.specs.Prelude.{◌≡◌, IfSome, Ok};
+ghost use Rattle.lq_model.specs.Meaning.{World};
+ghost use Rattle.lq_pipe.specs.Running.{meant};
 
+use crate::kept;
 use crate::parts;
 use crate::reached::Reached;
 use crate::scalars;
 use crate::sequences;
 use crate::slots::Slots;
 use crate::tables::{TableRow, TableRows, cell};
-use lq_model::{Op, Simple, Given, Through};
+use lq_model::{Field, Given, Op, Simple, Through};
 use lq_operators::{RunError, given, simple};
 use lq_tree::Form;
-use lq_value::{End, Fault, List, Scalar, Ty, Value, copy, copy_scalar};
+use lq_value::{End, Fault, List, RowRef, Scalar, Txt, Ty, Value, copy, copy_scalar};
 use std::alloc::{AllocError, Global};
+
+/// What a form means, where it is a part of what stands in a slot.
+#[tactic(auto, using(crate::proofs::Forms::form_slot, crate::proofs::Forms::form_first, crate::proofs::Forms::form_second, crate::proofs::Forms::form_member))]
+fn borrowed<'s, R: RowRef>(form: &Form, slots: &'s Slots<'_, R>) -> Option<&'s Value<R>>
+    ensures { (world : World R) → IfSome result (λ value. meant world form.now slots.now ≡ Ok value.now) }
+{
+    match form {
+        Form::Slot(number) => slots.get(*number),
+        Form::First(pair) => Some(parts::first(borrowed(pair.get(), slots)?)),
+        Form::Second(pair) => Some(parts::second(borrowed(pair.get(), slots)?)),
+        _ => None,
+    }
+}
 
 /// What a form is run over: the tables that it may read, and what gives memory.
 #[derive(Clone, Copy)]
@@ -21,7 +37,7 @@ pub(crate) struct Running<'a, R> {
 }
 
 impl<'a, R: TableRow> Running<'a, R> {
-    ghost use Rattle.std.specs.Prelude.{◌≡◌, IfOk, IfSome, Ok, slice_get};
+    ghost use Rattle.std.specs.Prelude.{◌≡◌, IfOk, Ok, map, slice_get};
     ghost use Rattle.lq_value.specs.declared.scalar.Scalar.TheVariants as scalar;
     ghost use Rattle.lq_value.specs.declared.value.Value.{out-Value};
     ghost use Rattle.lq_value.specs.declared.value.Value.TheVariants as value;
@@ -29,7 +45,9 @@ impl<'a, R: TableRow> Running<'a, R> {
     ghost use Rattle.lq_model.specs.Enumerable.{all};
     ghost use Rattle.lq_model.specs.Stream.{select_by, where_by};
     ghost use Rattle.lq_operators.specs.Answers.{IsAnswer};
-    ghost use Rattle.lq_tree.specs.FormMeaning.{cell_in, if_there, key_in, member_at};
+    ghost use Rattle.lq_tree.specs.FormMeaning.{cell_in, if_there, key_in, member_at, members_of};
+    ghost use Rattle.lq_model.specs.WholeMeaning.{as_truth};
+    ghost use Rattle.lq_pipe.specs.Lists.{field_means};
     ghost use Rattle.lq_tree.specs.declared.tree.Form.TheVariants as form;
     ghost use Rattle.lq_pipe.specs.Running.{Answers, IsReached, holds_of, meant, of_item, scalar_in, truth_in};
     ghost use Rattle.lq_pipe.specs.Slots.{values_in};
@@ -114,20 +132,45 @@ impl<'a, R: TableRow> Running<'a, R> {
         match form {
             Form::Literal(scalar) => Ok(Value::Scalar(copy_scalar(self.alloc, scalar)?)),
             Form::Slot(number) => self.slot(*number, slots),
+            Form::First(pair) => self.first(pair.get(), slots),
+            Form::Second(pair) => self.second(pair.get(), slots),
             Form::Table(number) => self.table(*number),
-            Form::And(left, right) => self.both(left.get(), right.get(), slots),
+            Form::Column(row, table, column) => self.column(row.get(), *table, *column, slots),
+            Form::Member(value, place) => self.member(value.get(), *place, slots),
+            Form::Key(group) => self.key(group.get(), slots),
             Form::Unary(op, operand) => self.unary(*op, operand.get(), slots),
             Form::Binary(op, left, right) => self.binary(*op, left.get(), right.get(), slots),
+            Form::And(left, right) => self.both(left.get(), right.get(), slots),
+            Form::Or(left, right) => self.either(left.get(), right.get(), slots),
+            Form::Coalesce(left, right) => self.coalesced(left.get(), right.get(), slots),
+            Form::Conditional(condition, left, right) => {
+                self.chosen(condition.get(), left.get(), right.get(), slots)
+            }
+            Form::IsNull(wanted, operand) => self.is_null(*wanted, operand.get(), slots),
+            Form::Record(fields) => self.record(fields, slots),
+            Form::Pair(left, right) => self.pair(left.get(), right.get(), slots),
+            Form::Sequence(source) => self.sequence(source.get(), slots),
+            Form::Simple(method, of, source) => self.simple(*method, of, source.get(), slots),
+            Form::Given(method, source, argument) => {
+                self.given(*method, source.get(), argument.get(), slots)
+            }
             Form::Through(method, of, to, source, body) => {
                 self.through(*method, of, to, source.get(), body.get(), slots)
             }
-            _ => Err(RunError::Memory),
+            Form::SelectMany(_, _, _)
+            | Form::Join(_, _)
+            | Form::OrderBy(_, _)
+            | Form::GroupBy(_, _, _) => Err(RunError::Memory),
         }
     }
 
     /// The stream of a form.
     #[cycle(running)]
-    fn stream(&self, form: &Form, slots: &Slots<'_, R>) -> Result<(List<Value<R>>, End), AllocError>
+    fn stream(
+        &self,
+        form: &Form,
+        slots: &Slots<'_, R>,
+    ) -> Result<(List<Value<R>>, End), AllocError>
         ensures { IfOk result (λ s. s ≡ stream_of (world_of R.table_of R.shown self.now.tables.now) (meant (world_of R.table_of R.shown self.now.tables.now) form.now slots.now)) }
     {
         sequences::stream(self.alloc, self.evaluate(form, slots))
@@ -135,7 +178,11 @@ impl<'a, R: TableRow> Running<'a, R> {
 
     /// The scalar that a form means.
     #[cycle(running)]
-    fn scalar(&self, form: &Form, slots: &Slots<'_, R>) -> Result<Scalar, RunError>
+    fn scalar(
+        &self,
+        form: &Form,
+        slots: &Slots<'_, R>,
+    ) -> Result<Scalar, RunError>
         ensures { Answers (scalar_in (world_of R.table_of R.shown self.now.tables.now) (meant (world_of R.table_of R.shown self.now.tables.now) form.now slots.now)) result }
     {
         scalars::scalar(self.evaluate(form, slots)?)
@@ -143,16 +190,129 @@ impl<'a, R: TableRow> Running<'a, R> {
 
     /// The truth value that a form means.
     #[cycle(running)]
-    fn truth(&self, form: &Form, slots: &Slots<'_, R>) -> Result<bool, RunError>
+    fn truth(
+        &self,
+        form: &Form,
+        slots: &Slots<'_, R>,
+    ) -> Result<bool, RunError>
         ensures { Answers (truth_in (world_of R.table_of R.shown self.now.tables.now) (meant (world_of R.table_of R.shown self.now.tables.now) form.now slots.now)) result }
     {
         scalars::truth(&self.scalar(form, slots)?)
     }
 
+    /// What a form means, borrowed where it is a part of what stands in a slot.
+    #[cycle(running)]
+    fn reach<'s>(
+        &self,
+        form: &Form,
+        slots: &'s Slots<'_, R>,
+    ) -> Result<Reached<'s, R>, RunError>
+        ensures { IsReached (meant (world_of R.table_of R.shown self.now.tables.now) form.now slots.now) result }
+    {
+        match borrowed(form, slots) {
+            Some(value) => Ok(Reached::There(value)),
+            None => Ok(Reached::Made(self.evaluate(form, slots)?)),
+        }
+    }
+
+    /// The first part of a pair.
+    #[cycle(running)]
+    #[tactic(auto, using(crate::proofs::Forms::form_first))]
+    fn first(
+        &self,
+        pair: &Form,
+        slots: &Slots<'_, R>,
+    ) -> Result<Value<R>, RunError>
+        ensures { IsAnswer (meant (world_of R.table_of R.shown self.now.tables.now) (form.First pair.now) slots.now) result }
+    {
+        let pair = self.reach(pair, slots)?;
+        Ok(copy(self.alloc, parts::first(pair.get()))?)
+    }
+
+    /// The second part of a pair.
+    #[cycle(running)]
+    #[tactic(auto, using(crate::proofs::Forms::form_second))]
+    fn second(
+        &self,
+        pair: &Form,
+        slots: &Slots<'_, R>,
+    ) -> Result<Value<R>, RunError>
+        ensures { IsAnswer (meant (world_of R.table_of R.shown self.now.tables.now) (form.Second pair.now) slots.now) result }
+    {
+        let pair = self.reach(pair, slots)?;
+        Ok(copy(self.alloc, parts::second(pair.get()))?)
+    }
+
+    /// The cell of a row.
+    #[cycle(running)]
+    #[tactic(auto, using(crate::proofs::Forms::form_column))]
+    fn column(
+        &self,
+        row: &Form,
+        table: u16,
+        column: u16,
+        slots: &Slots<'_, R>,
+    ) -> Result<Value<R>, RunError>
+        ensures { IsAnswer (meant (world_of R.table_of R.shown self.now.tables.now) (form.Column row.now table column) slots.now) result }
+    {
+        let row = self.reach(row, slots)?;
+        self.cell_in(row.get(), table, column)
+    }
+
+    /// A member of a record.
+    #[cycle(running)]
+    #[tactic(auto, using(crate::proofs::Forms::form_member))]
+    fn member(
+        &self,
+        value: &Form,
+        place: usize,
+        slots: &Slots<'_, R>,
+    ) -> Result<Value<R>, RunError>
+        ensures { IsAnswer (meant (world_of R.table_of R.shown self.now.tables.now) (form.Member value.now place) slots.now) result }
+    {
+        let value = self.reach(value, slots)?;
+        self.member_at(value.get(), place)
+    }
+
+    /// The key of a group.
+    #[cycle(running)]
+    #[tactic(auto, using(crate::proofs::Forms::form_key))]
+    fn key(
+        &self,
+        group: &Form,
+        slots: &Slots<'_, R>,
+    ) -> Result<Value<R>, RunError>
+        ensures { IsAnswer (meant (world_of R.table_of R.shown self.now.tables.now) (form.Key group.now) slots.now) result }
+    {
+        let group = self.reach(group, slots)?;
+        self.key_in(group.get())
+    }
+
+    /// Whether a row, a record or a group is null, or isn't.
+    #[cycle(running)]
+    #[tactic(auto, using(crate::proofs::Forms::form_is_null))]
+    fn is_null(
+        &self,
+        wanted: bool,
+        operand: &Form,
+        slots: &Slots<'_, R>,
+    ) -> Result<Value<R>, RunError>
+        ensures { IsAnswer (meant (world_of R.table_of R.shown self.now.tables.now) (form.IsNull wanted operand.now) slots.now) result }
+    {
+        let operand = self.reach(operand, slots)?;
+        let null = parts::is_null(operand.get());
+        Ok(Value::Scalar(Scalar::Bool(if wanted { null } else { !null })))
+    }
+
     /// What an operator gives to one operand.
     #[cycle(running)]
     #[tactic(auto, using(crate::proofs::Forms::form_unary))]
-    fn unary(&self, op: Op, operand: &Form, slots: &Slots<'_, R>) -> Result<Value<R>, RunError>
+    fn unary(
+        &self,
+        op: Op,
+        operand: &Form,
+        slots: &Slots<'_, R>,
+    ) -> Result<Value<R>, RunError>
         ensures { IsAnswer (meant (world_of R.table_of R.shown self.now.tables.now) (form.Unary op operand.now) slots.now) result }
     {
         let operand = self.scalar(operand, slots)?;
@@ -162,7 +322,13 @@ impl<'a, R: TableRow> Running<'a, R> {
     /// What an operator gives to two operands, the left one of which is evaluated first.
     #[cycle(running)]
     #[tactic(auto, using(crate::proofs::Forms::form_binary))]
-    fn binary(&self, op: Op, left: &Form, right: &Form, slots: &Slots<'_, R>) -> Result<Value<R>, RunError>
+    fn binary(
+        &self,
+        op: Op,
+        left: &Form,
+        right: &Form,
+        slots: &Slots<'_, R>,
+    ) -> Result<Value<R>, RunError>
         ensures { IsAnswer (meant (world_of R.table_of R.shown self.now.tables.now) (form.Binary op left.now right.now) slots.now) result }
     {
         let left = self.scalar(left, slots)?;
@@ -173,13 +339,164 @@ impl<'a, R: TableRow> Running<'a, R> {
     /// Whether both are true; the second is evaluated only where the first is.
     #[cycle(running)]
     #[tactic(auto, using(crate::proofs::Forms::form_both))]
-    fn both(&self, left: &Form, right: &Form, slots: &Slots<'_, R>) -> Result<Value<R>, RunError>
+    fn both(
+        &self,
+        left: &Form,
+        right: &Form,
+        slots: &Slots<'_, R>,
+    ) -> Result<Value<R>, RunError>
         ensures { IsAnswer (meant (world_of R.table_of R.shown self.now.tables.now) (form.And left.now right.now) slots.now) result }
     {
         match self.truth(left, slots)? {
             true => self.evaluate(right, slots),
             false => Ok(Value::Scalar(Scalar::Bool(false))),
         }
+    }
+
+    /// Whether one is true; the second is evaluated only where the first isn't.
+    #[cycle(running)]
+    #[tactic(auto, using(crate::proofs::Forms::form_either))]
+    fn either(
+        &self,
+        left: &Form,
+        right: &Form,
+        slots: &Slots<'_, R>,
+    ) -> Result<Value<R>, RunError>
+        ensures { IsAnswer (meant (world_of R.table_of R.shown self.now.tables.now) (form.Or left.now right.now) slots.now) result }
+    {
+        match self.truth(left, slots)? {
+            true => Ok(Value::Scalar(Scalar::Bool(true))),
+            false => self.evaluate(right, slots),
+        }
+    }
+
+    /// The first, or the second in place of null.
+    #[cycle(running)]
+    #[tactic(auto, using(crate::proofs::Forms::form_coalesce))]
+    fn coalesced(
+        &self,
+        left: &Form,
+        right: &Form,
+        slots: &Slots<'_, R>,
+    ) -> Result<Value<R>, RunError>
+        ensures { IsAnswer (meant (world_of R.table_of R.shown self.now.tables.now) (form.Coalesce left.now right.now) slots.now) result }
+    {
+        let left = self.scalar(left, slots)?;
+        match scalars::is_null(&left) {
+            true => self.evaluate(right, slots),
+            false => Ok(Value::Scalar(left)),
+        }
+    }
+
+    /// The one that the condition chooses; the other is not evaluated.
+    #[cycle(running)]
+    #[tactic(auto, using(crate::proofs::Forms::form_choice))]
+    fn chosen(
+        &self,
+        condition: &Form,
+        left: &Form,
+        right: &Form,
+        slots: &Slots<'_, R>,
+    ) -> Result<Value<R>, RunError>
+        ensures { IsAnswer (meant (world_of R.table_of R.shown self.now.tables.now) (form.Conditional condition.now left.now right.now) slots.now) result }
+    {
+        match self.truth(condition, slots)? {
+            true => self.evaluate(left, slots),
+            false => self.evaluate(right, slots),
+        }
+    }
+
+    /// A record.
+    #[cycle(running)]
+    #[tactic(auto, using(crate::proofs::Forms::form_record))]
+    fn record(
+        &self,
+        fields: &List<Field<Form>>,
+        slots: &Slots<'_, R>,
+    ) -> Result<Value<R>, RunError>
+        ensures { IsAnswer (meant (world_of R.table_of R.shown self.now.tables.now) (form.Record fields.now) slots.now) result }
+    {
+        Ok(Value::Rec(self.members(fields, slots)?))
+    }
+
+    /// The members of a record, in their order, up to the first fault.
+    #[cycle(running)]
+    fn members(
+        &self,
+        fields: &List<Field<Form>>,
+        slots: &Slots<'_, R>,
+    ) -> Result<List<(Txt, Value<R>)>, RunError>
+        ensures { Answers (members_of (world_of R.table_of R.shown self.now.tables.now) (map (field_means (world_of R.table_of R.shown self.now.tables.now)) fields.now) (values_in slots.now)) result }
+    {
+        let mut made = List::new(self.alloc);
+        for field in fields.as_slice() {
+            let value = self.evaluate(&field.value, slots)?;
+            made.push((Txt::from_str(self.alloc, field.name.as_str())?, value))?;
+        }
+        Ok(made)
+    }
+
+    /// A pair, the left part of which is evaluated first.
+    #[cycle(running)]
+    #[tactic(auto, using(crate::proofs::Forms::form_pair))]
+    fn pair(
+        &self,
+        left: &Form,
+        right: &Form,
+        slots: &Slots<'_, R>,
+    ) -> Result<Value<R>, RunError>
+        ensures { IsAnswer (meant (world_of R.table_of R.shown self.now.tables.now) (form.Pair left.now right.now) slots.now) result }
+    {
+        let left = self.evaluate(left, slots)?;
+        let right = self.evaluate(right, slots)?;
+        Ok(parts::pair(self.alloc, left, right)?)
+    }
+
+    /// A sequence, of which a fault that is met in making it is the ending.
+    #[cycle(running)]
+    #[tactic(auto, using(crate::proofs::Forms::form_sequence))]
+    fn sequence(
+        &self,
+        source: &Form,
+        slots: &Slots<'_, R>,
+    ) -> Result<Value<R>, RunError>
+        ensures { IsAnswer (meant (world_of R.table_of R.shown self.now.tables.now) (form.Sequence source.now) slots.now) result }
+    {
+        let (items, end) = self.stream(source, slots)?;
+        Ok(Value::Seq(items, end))
+    }
+
+    /// A method without an argument.
+    #[cycle(running)]
+    #[tactic(auto, using(crate::proofs::Forms::form_simple))]
+    fn simple(
+        &self,
+        method: Simple,
+        of: &Ty,
+        source: &Form,
+        slots: &Slots<'_, R>,
+    ) -> Result<Value<R>, RunError>
+        ensures { IsAnswer (meant (world_of R.table_of R.shown self.now.tables.now) (form.Simple method of.now source.now) slots.now) result }
+    {
+        let (items, end) = self.stream(source, slots)?;
+        simple(self.alloc, method, of, items, end)
+    }
+
+    /// A method with an argument.
+    #[cycle(running)]
+    #[tactic(auto, using(crate::proofs::Forms::form_given))]
+    fn given(
+        &self,
+        method: Given,
+        source: &Form,
+        argument: &Form,
+        slots: &Slots<'_, R>,
+    ) -> Result<Value<R>, RunError>
+        ensures { IsAnswer (meant (world_of R.table_of R.shown self.now.tables.now) (form.Given method source.now argument.now) slots.now) result }
+    {
+        let (items, end) = self.stream(source, slots)?;
+        let argument = sequences::settled(self.evaluate(argument, slots))?;
+        given(self.alloc, method, argument, items, end)
     }
 
     /// A method with a lambda.
@@ -196,26 +513,73 @@ impl<'a, R: TableRow> Running<'a, R> {
     ) -> Result<Value<R>, RunError>
         ensures { IsAnswer (meant (world_of R.table_of R.shown self.now.tables.now) (form.Through method of.now to.now source.now body.now) slots.now) result }
     {
-        let (items, end) = self.stream(source, slots)?;
         match method {
             Through::Where => {
-                let (items, end) = self.kept(body, items, end, slots)?;
+                let (items, end) = self.filtered(source, body, slots)?;
                 Ok(Value::Seq(items, end))
             }
             Through::Select => {
-                let (items, end) = self.selected(body, items.as_slice(), end, slots)?;
+                let (items, end) = self.mapped(source, body, slots)?;
                 Ok(Value::Seq(items, end))
             }
+            Through::All => self.all(source, body, slots),
             Through::Those(method) => {
-                let (items, end) = self.kept(body, items, end, slots)?;
+                let (items, end) = self.filtered(source, body, slots)?;
                 simple(self.alloc, method, of, items, end)
             }
             Through::Values(method) => {
-                let (items, end) = self.selected(body, items.as_slice(), end, slots)?;
+                let (items, end) = self.mapped(source, body, slots)?;
                 simple(self.alloc, method, to, items, end)
             }
-            Through::All => Err(RunError::Memory),
         }
+    }
+
+    /// The items of which a condition is true, up to the first fault.
+    #[cycle(running)]
+    fn filtered(
+        &self,
+        source: &Form,
+        condition: &Form,
+        slots: &Slots<'_, R>,
+    ) -> Result<(List<Value<R>>, End), AllocError>
+        ensures { IfOk result (λ s. s ≡ where_by (holds_of (world_of R.table_of R.shown self.now.tables.now) condition.now slots.now) (stream_of (world_of R.table_of R.shown self.now.tables.now) (meant (world_of R.table_of R.shown self.now.tables.now) source.now slots.now)).0 (stream_of (world_of R.table_of R.shown self.now.tables.now) (meant (world_of R.table_of R.shown self.now.tables.now) source.now slots.now)).1) }
+    {
+        let (items, end) = self.stream(source, slots)?;
+        let (values, end) = self.selected(condition, items.as_slice(), end, slots)?;
+        let (truths, end) = kept::truths(self.alloc, values.as_slice(), end)?;
+        let items = kept::chosen(self.alloc, items, truths.as_slice())?;
+        Ok((items, end))
+    }
+
+    /// What a lambda gives of the items, up to the first fault.
+    #[cycle(running)]
+    fn mapped(
+        &self,
+        source: &Form,
+        body: &Form,
+        slots: &Slots<'_, R>,
+    ) -> Result<(List<Value<R>>, End), AllocError>
+        ensures { IfOk result (λ s. s ≡ select_by (of_item (world_of R.table_of R.shown self.now.tables.now) body.now slots.now) (stream_of (world_of R.table_of R.shown self.now.tables.now) (meant (world_of R.table_of R.shown self.now.tables.now) source.now slots.now)).0 (stream_of (world_of R.table_of R.shown self.now.tables.now) (meant (world_of R.table_of R.shown self.now.tables.now) source.now slots.now)).1) }
+    {
+        let (items, end) = self.stream(source, slots)?;
+        self.selected(body, items.as_slice(), end, slots)
+    }
+
+    /// Whether a condition is true of all items.
+    #[cycle(running)]
+    fn all(
+        &self,
+        source: &Form,
+        condition: &Form,
+        slots: &Slots<'_, R>,
+    ) -> Result<Value<R>, RunError>
+        ensures { IsAnswer (as_truth (all (holds_of (world_of R.table_of R.shown self.now.tables.now) condition.now slots.now) (stream_of (world_of R.table_of R.shown self.now.tables.now) (meant (world_of R.table_of R.shown self.now.tables.now) source.now slots.now)).0 (stream_of (world_of R.table_of R.shown self.now.tables.now) (meant (world_of R.table_of R.shown self.now.tables.now) source.now slots.now)).1)) result }
+    {
+        let (items, end) = self.stream(source, slots)?;
+        let (values, end) = self.selected(condition, items.as_slice(), end, slots)?;
+        let (truths, end) = kept::truths(self.alloc, values.as_slice(), end)?;
+        let all = kept::all(truths.as_slice(), end)?;
+        Ok(Value::Scalar(Scalar::Bool(all)))
     }
 
     /// What a form gives of an item.
@@ -225,28 +589,14 @@ impl<'a, R: TableRow> Running<'a, R> {
         body: &Form,
         item: &Value<R>,
         slots: &Slots<'_, R>,
-    ) -> Result<Value<R>, RunError>
-        ensures { IsAnswer (of_item (world_of R.table_of R.shown self.now.tables.now) body.now slots.now item.now) result }
+    ) -> Result<Result<Value<R>, Fault>, AllocError>
+        ensures { IfOk result (λ found. found ≡ of_item (world_of R.table_of R.shown self.now.tables.now) body.now slots.now item.now) }
     {
-        self.evaluate(body, &(&*slots).with(&*item))
-    }
-
-    /// Whether a condition is true of an item.
-    #[cycle(running)]
-    fn holds(
-        &self,
-        condition: &Form,
-        item: &Value<R>,
-        slots: &Slots<'_, R>,
-    ) -> Result<bool, RunError>
-        ensures { Answers (holds_of (world_of R.table_of R.shown self.now.tables.now) condition.now slots.now item.now) result }
-    {
-        self.truth(condition, &(&*slots).with(&*item))
+        sequences::settled(self.evaluate(body, &(&*slots).with(&*item)))
     }
 
     /// What a form gives of each item, up to the first fault.
     #[cycle(running)]
-    #[tactic(auto, using(crate::proofs::StreamLemmas::steps))]
     fn selected(
         &self,
         body: &Form,
@@ -258,34 +608,9 @@ impl<'a, R: TableRow> Running<'a, R> {
     {
         let mut made = List::new(self.alloc);
         for item in items {
-            match self.of_item(body, item, slots) {
+            match self.of_item(body, item, slots)? {
                 Ok(value) => made.push(value)?,
-                Err(RunError::Fault(fault)) => return Ok((made, End::Fault(fault))),
-                Err(RunError::Memory) => return Err(AllocError),
-            }
-        }
-        Ok((made, end))
-    }
-
-    /// The items of which a condition is true, up to the first fault.
-    #[cycle(running)]
-    #[tactic(auto, using(crate::proofs::StreamLemmas::steps))]
-    fn kept(
-        &self,
-        condition: &Form,
-        items: List<Value<R>>,
-        end: End,
-        slots: &Slots<'_, R>,
-    ) -> Result<(List<Value<R>>, End), AllocError>
-        ensures { IfOk result (λ s. s ≡ where_by (holds_of (world_of R.table_of R.shown self.now.tables.now) condition.now slots.now) items end) }
-    {
-        let mut made = List::new(self.alloc);
-        for item in items.into_vec() {
-            match self.holds(condition, &item, slots) {
-                Ok(true) => made.push(item)?,
-                Ok(false) => {}
-                Err(RunError::Fault(fault)) => return Ok((made, End::Fault(fault))),
-                Err(RunError::Memory) => return Err(AllocError),
+                Err(fault) => return Ok((made, End::Fault(fault))),
             }
         }
         Ok((made, end))

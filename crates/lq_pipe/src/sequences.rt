@@ -40,6 +40,19 @@ pub(crate) fn stream<R: RowRef>(
     }
 }
 
+/// The value or the fault that was found, where memory wasn't refused.
+pub(crate) fn settled<R: RowRef>(
+    found: Result<Value<R>, RunError>,
+) -> Result<Result<Value<R>, Fault>, AllocError>
+    ensures { (meant : Result (Value R) Fault) → IsAnswer meant found → IfOk result (λ settled. settled ≡ meant) }
+{
+    match found {
+        Ok(value) => Ok(Ok(value)),
+        Err(RunError::Fault(fault)) => Ok(Err(fault)),
+        Err(RunError::Memory) => Err(AllocError),
+    }
+}
+
 /// Items, and further ones behind them.
 pub(crate) fn joined<R: RowRef>(
     items: List<Value<R>>,
