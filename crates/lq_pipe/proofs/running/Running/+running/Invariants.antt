@@ -1,11 +1,15 @@
 -- What each function of the running goes down by: the size of the form, and at one size how far the function stands from `evaluate`; and
 -- what each loop keeps.
-use Rattle.std.proofs.Common.{◌≡◌, ◌+◌, ◌*◌, max, drop}
-use Rattle.lq_value.specs.declared.value.End.TheVariants as end
-use Rattle.lq_model.specs.Stream.{select_by, then_ending, where_by}
+use Rattle.std.proofs.Common.{◌≡◌, ◌+◌, ◌*◌, ◌++◌, Ok, map, max, drop}
+use Rattle.lq_model.specs.Operations.{on_ok}
+use Rattle.lq_model.specs.Stream.{one, select_by}
 use Rattle.lq_tree.proofs.tree.Form.TheLaws.{the_size}
-use Rattle.lq_pipe.specs.Running.{holds_of, of_item}
+use Rattle.lq_tree.specs.FormMeaning.{members_of}
+use Rattle.lq_pipe.specs.Lists.{field_means}
+use Rattle.lq_pipe.specs.Running.{of_item}
+use Rattle.lq_pipe.specs.Slots.{values_in}
 use Rattle.lq_pipe.specs.Worlds.{world_of}
+use Rattle.lq_pipe.proofs.StreamLemmas.{Goes}
 use Rattle.lq_pipe.proofs.running.Running.+running.Given as goal
 
 abbrev pub decreases-evaluate : goal.decreases-evaluate
@@ -20,17 +24,41 @@ decreases-scalar g l = 8 * the_size l.form.now + 1
 abbrev pub decreases-truth : goal.decreases-truth
 decreases-truth g l = 8 * the_size l.form.now + 2
 
+abbrev pub decreases-reach : goal.decreases-reach
+decreases-reach g l = 8 * the_size l.form.now + 1
+
 abbrev pub decreases-of_item : goal.decreases-of_item
 decreases-of_item g l = 8 * the_size l.body.now + 1
-
-abbrev pub decreases-holds : goal.decreases-holds
-decreases-holds g l = 8 * the_size l.condition.now + 3
 
 abbrev pub decreases-selected : goal.decreases-selected
 decreases-selected g l = 8 * the_size l.body.now + 2
 
-abbrev pub decreases-kept : goal.decreases-kept
-decreases-kept g l = 8 * the_size l.condition.now + 4
+abbrev pub decreases-mapped : goal.decreases-mapped
+decreases-mapped g l = 8 * max (the_size l.source.now) (the_size l.body.now) + 3
+
+abbrev pub decreases-filtered : goal.decreases-filtered
+decreases-filtered g l = 8 * max (the_size l.source.now) (the_size l.condition.now) + 3
+
+abbrev pub decreases-all : goal.decreases-all
+decreases-all g l = 8 * max (the_size l.source.now) (the_size l.condition.now) + 3
+
+abbrev pub decreases-first : goal.decreases-first
+decreases-first g l = 8 * the_size l.pair.now + 5
+
+abbrev pub decreases-second : goal.decreases-second
+decreases-second g l = 8 * the_size l.pair.now + 5
+
+abbrev pub decreases-column : goal.decreases-column
+decreases-column g l = 8 * the_size l.row.now + 5
+
+abbrev pub decreases-member : goal.decreases-member
+decreases-member g l = 8 * the_size l.value.now + 5
+
+abbrev pub decreases-key : goal.decreases-key
+decreases-key g l = 8 * the_size l.group.now + 5
+
+abbrev pub decreases-is_null : goal.decreases-is_null
+decreases-is_null g l = 8 * the_size l.operand.now + 5
 
 abbrev pub decreases-unary : goal.decreases-unary
 decreases-unary g l = 8 * the_size l.operand.now + 5
@@ -41,6 +69,33 @@ decreases-binary g l = 8 * max (the_size l.left.now) (the_size l.right.now) + 5
 abbrev pub decreases-both : goal.decreases-both
 decreases-both g l = 8 * max (the_size l.left.now) (the_size l.right.now) + 5
 
+abbrev pub decreases-either : goal.decreases-either
+decreases-either g l = 8 * max (the_size l.left.now) (the_size l.right.now) + 5
+
+abbrev pub decreases-coalesced : goal.decreases-coalesced
+decreases-coalesced g l = 8 * max (the_size l.left.now) (the_size l.right.now) + 5
+
+abbrev pub decreases-chosen : goal.decreases-chosen
+decreases-chosen g l = 8 * max (the_size l.condition.now) (max (the_size l.left.now) (the_size l.right.now)) + 5
+
+abbrev pub decreases-members : goal.decreases-members
+decreases-members g l = 8 * goal.size-members g l + 5
+
+abbrev pub decreases-record : goal.decreases-record
+decreases-record g l = 8 * goal.size-record g l + 6
+
+abbrev pub decreases-pair : goal.decreases-pair
+decreases-pair g l = 8 * max (the_size l.left.now) (the_size l.right.now) + 5
+
+abbrev pub decreases-sequence : goal.decreases-sequence
+decreases-sequence g l = 8 * the_size l.source.now + 5
+
+abbrev pub decreases-simple : goal.decreases-simple
+decreases-simple g l = 8 * the_size l.source.now + 5
+
+abbrev pub decreases-given : goal.decreases-given
+decreases-given g l = 8 * max (the_size l.source.now) (the_size l.argument.now) + 5
+
 abbrev pub decreases-through : goal.decreases-through
 decreases-through g l = 8 * max (the_size l.source.now) (the_size l.body.now) + 5
 
@@ -49,13 +104,15 @@ decreases-through g l = 8 * max (the_size l.source.now) (the_size l.body.now) + 
 -- what was made, and what comes of the items that are left
 abbrev pub invariant-selected-loop-item : goal.invariant-selected-loop-item
 invariant-selected-loop-item g l =
-    then_ending l.made end.Done
-    (select_by (of_item (world_of g.R.TableRow.table_of g.R.RowRef.shown l.fn.self.tables.now) l.fn.body l.fn.slots) (drop l.item-index l.items) l.fn.end)
-    ≡ select_by (of_item (world_of g.R.TableRow.table_of g.R.RowRef.shown l.fn.self.tables.now) l.fn.body l.fn.slots) l.items l.fn.end
+    Goes (λ v. one (of_item (world_of g.R.TableRow.table_of g.R.RowRef.shown l.fn.self.tables.now) l.fn.body l.fn.slots v)) l.items l.fn.end
+    (select_by (of_item (world_of g.R.TableRow.table_of g.R.RowRef.shown l.fn.self.tables.now) l.fn.body l.fn.slots) l.items l.fn.end) l.made l.item-index
 
--- the items so far, and those of them that were kept
-abbrev pub invariant-kept-loop-item : goal.invariant-kept-loop-item
-invariant-kept-loop-item g l =
-    (goal.iterator-kept-loop-item g).can_next l.item-iterator
-    × (goal.iterator-kept-loop-item g).is_finite l.item-iterator
-    × (where_by (holds_of (world_of g.R.TableRow.table_of g.R.RowRef.shown l.fn.self.tables.now) l.fn.condition l.fn.slots) l.yielded end.Done ≡ (l.made, end.Done))
+-- the members so far, and those that are left
+abbrev pub invariant-members-loop-field : goal.invariant-members-loop-field
+invariant-members-loop-field g l =
+    on_ok
+    (members_of (world_of g.R.TableRow.table_of g.R.RowRef.shown l.fn.self.tables.now)
+    (map (field_means (world_of g.R.TableRow.table_of g.R.RowRef.shown l.fn.self.tables.now)) (drop l.field-index l.field-items)) (values_in l.fn.slots))
+    (λ ms. Ok (l.made ++ ms))
+    ≡ members_of (world_of g.R.TableRow.table_of g.R.RowRef.shown l.fn.self.tables.now)
+    (map (field_means (world_of g.R.TableRow.table_of g.R.RowRef.shown l.fn.self.tables.now)) l.field-items) (values_in l.fn.slots)
