@@ -1,5 +1,5 @@
 -- What each form means, over what the forms in it mean.
-use Rattle.std.proofs.Common.{◌≡◌, ◌∷◌, ◌++◌, if◌then◌else◌, not, List, [], map, ℕ, Bool, true, false, Option, Some, None, Result, Ok, Err, ap, ◌∙◌, sym, refl, slice_get}
+use Rattle.std.proofs.Common.{◌≡◌, ◌∷◌, ◌++◌, if◌then◌else◌, not, List, [], map, ℕ, Bool, true, false, Option, Some, None, Result, Ok, Err, ap, ◌∙◌, sym, refl, subst, slice_get, ◌+◌, ◌<◌, suc, append_assoc, arith, drop, drop-cons, get_or, length}
 use Rattle.lq_value.specs.SameAndOrder.{same_values as same_keys}
 use Rattle.lq_value.specs.declared.scalar.Scalar.{Scalar}
 use Rattle.lq_value.specs.declared.ty.Ty.{Ty}
@@ -18,6 +18,8 @@ use Rattle.lq_model.specs.declared.methods.Through.{Through}
 use Rattle.lq_model.specs.declared.operation.Op.{Op}
 use Rattle.lq_model.specs.declared.syntax.Field.{Field}
 use Rattle.lq_model.specs.declared.syntax.SortKey.{SortKey}
+use Rattle.lq_operators.specs.Answers.{IsAnswer}
+use Rattle.lq_operators.specs.declared.error.RunError.{RunError}
 use Rattle.lq_tree.specs.FormMeaning.{Means, Slots, cell_in, form_meaning, form_step, if_there, is_null_value, is_true, joined_stream, key_in, member_at, members_of, sort_key, with_item, with_items}
 use Rattle.lq_tree.specs.declared.tree.Form.{Form, fold_out-Form, map-Form, out-Form}
 use Rattle.lq_tree.specs.declared.tree.Form.TheOpen.{Form-F}
@@ -150,3 +152,41 @@ module _ {R : Type 0} (world : World R) where
       (group_by same_keys (λ v. form_meaning world key (with_item world slots v)) (λ v. form_meaning world element (with_item world slots v)) as_group
       (stream_of world (form_meaning world a slots)).0 (stream_of world (form_meaning world a slots)).1))
   form_group_by a key element slots = at _ _ slots (form.outs-GroupBy a key element)
+
+  -- ---- answers
+
+  pub is_null_answer : (wanted : Bool) (a : Form) (slots : Slots R) (v v' : Value R) (b : Bool) → form_meaning world a slots ≡ Ok v → v' ≡ v
+      → b ≡ (if wanted then is_null_value world (out-Value R v') else not (is_null_value world (out-Value R v')))
+      → form_meaning world (form.IsNull wanted a) slots ≡ Ok (truth_value b)
+  is_null_answer wanted a slots v v' b is same told =
+      form_is_null wanted a slots
+      ∙ ap (λ m. on_ok m (λ w. Ok (truth_value (if wanted then is_null_value world (out-Value R w) else not (is_null_value world (out-Value R w)))))) is
+      ∙ ap (λ w. Ok (truth_value (if wanted then is_null_value world (out-Value R w) else not (is_null_value world (out-Value R w))))) (sym same)
+      ∙ ap (λ c. Ok (truth_value c)) (sym told)
+
+  pub given_answer : (method : Given) (a b : Form) (slots : Slots R) (argument : Result (Value R) Fault) (items : Stream (Value R)) (answer : Result (Value R) RunError)
+      → argument ≡ form_meaning world b slots → items ≡ stream_of world (form_meaning world a slots)
+      → IsAnswer (given_meaning world method argument items) answer → IsAnswer (form_meaning world (form.Given method a b) slots) answer
+  given_answer method a b slots argument items answer argument_is items_is h =
+      subst (λ m. IsAnswer m answer) ((λ i. given_meaning world method (argument_is i) (items_is i)) ∙ sym (form_given method a b slots)) h
+
+  pub members_goes : (items : List (Field Form)) (slots : Slots R) (all : Result (List (List ℕ × Value R)) Fault) (made more : List (List ℕ × Value R)) (i : ℕ) (field : Field Form) (v : Value R)
+      → field ≡ get_or items i field → i < length items → form_meaning world field.value slots ≡ Ok v → more ≡ made ++ (field.name, v) ∷ []
+      → on_ok (members_of world (map (field_means world) (drop i items)) slots) (λ ms. Ok (made ++ ms)) ≡ all
+      → on_ok (members_of world (map (field_means world) (drop (i + 1) items)) slots) (λ ms. Ok (more ++ ms)) ≡ all
+  members_goes items slots all made more i field v is below gives more_is goes =
+      subst (λ n. on_ok (members_of world (map (field_means world) (drop n items)) slots) (λ ms. Ok (more ++ ms)) ≡ all) (next_of i)
+      (ap (λ l. on_ok (rest (drop (suc i) items)) (λ ms. Ok (l ++ ms))) more_is
+      ∙ by (rest (drop (suc i) items))
+      ∙ ap (λ m. on_ok (on_ok m (λ w. on_ok (rest (drop (suc i) items)) (λ ms. Ok ((field.name, w) ∷ ms)))) (λ ms. Ok (made ++ ms))) (sym gives)
+      ∙ ap (λ f. on_ok (rest (f ∷ drop (suc i) items)) (λ ms. Ok (made ++ ms))) is
+      ∙ ap (λ l. on_ok (rest l) (λ ms. Ok (made ++ ms))) (sym (drop-cons items i field below)) ∙ goes)
+    where
+      next_of : (n : ℕ) → suc n ≡ n + 1
+      next_of n = omega arith
+      rest : List (Field Form) → Result (List (List ℕ × Value R)) Fault
+      rest fields = members_of world (map (field_means world) fields) slots
+      by : (found : Result (List (List ℕ × Value R)) Fault)
+          → on_ok found (λ ms. Ok ((made ++ (field.name, v) ∷ []) ++ ms)) ≡ on_ok (on_ok found (λ ms. Ok ((field.name, v) ∷ ms))) (λ ms. Ok (made ++ ms))
+      by (Ok ms) = ap (λ l. Ok l) (append_assoc made ((field.name, v) ∷ []) ms)
+      by (Err f) = refl

@@ -1,5 +1,5 @@
 -- Streams item by item.
-use Rattle.std.proofs.Common.{◌≡◌, ◌∷◌, ◌++◌, ◌+◌, ◌<◌, ◌≤◌, if◌then◌else◌, List, [], ℕ, zero, suc, Bool, true, false, Result, Ok, Err, ap, ◌∙◌, sym, refl, append_assoc, append-nil, drop, drop-cons, get_or, length, length-append, arith}
+use Rattle.std.proofs.Common.{◌≡◌, ◌∷◌, ◌++◌, ◌+◌, ◌<◌, ◌≤◌, if◌then◌else◌, List, [], ℕ, zero, suc, Bool, true, false, Result, Ok, Err, ap, ◌∙◌, sym, refl, subst, append_assoc, append-nil, drop, drop-cons, get_or, length, length-append, arith}
 use Rattle.std.proofs.lemmas.List.{drop_all}
 use Rattle.lq_value.specs.declared.value.End.{End}
 use Rattle.lq_value.specs.declared.value.End.TheVariants as end
@@ -29,13 +29,17 @@ module _ {A B : Type 0} (f : A → Stream B) (items : List A) (e : End) (all : S
       ap (λ y. then_ending made end.Done (then_stream (f y) (each f (drop (suc i) items) e))) is
       ∙ ap (λ l. then_ending made end.Done (each f l e)) (sym (drop-cons items i x below)) ∙ goes
 
+  next_of : (i : ℕ) → suc i ≡ i + 1
+  next_of i = omega arith
+
   pub each_goes : (made more vs : List B) (i : ℕ) (x : A) → x ≡ get_or items i x → i < length items → f x ≡ (vs, end.Done) → more ≡ made ++ vs
-      → Goes made i → Goes more (suc i)
+      → Goes made i → Goes more (i + 1)
   each_goes made more vs i x is below gives more_is goes =
+      subst (λ n. Goes more n) (next_of i) (
       ap (λ l. then_ending l end.Done (each f (drop (suc i) items) e)) more_is
       ∙ sym (then_assoc made end.Done vs end.Done (each f (drop (suc i) items) e))
       ∙ ap (λ (s : Stream B). then_ending made end.Done (then_stream s (each f (drop (suc i) items) e))) (sym gives)
-      ∙ left_at made i x is below goes
+      ∙ left_at made i x is below goes)
 
   pub each_stops : (made more vs : List B) (i : ℕ) (x : A) (g : Fault) → x ≡ get_or items i x → i < length items → f x ≡ (vs, end.Fault g) → more ≡ made ++ vs
       → Goes made i → (more, end.Fault g) ≡ all
@@ -51,7 +55,7 @@ module _ {A B : Type 0} (f : A → Stream B) (items : List A) (e : End) (all : S
 -- the same for one item of each
 module _ {A B : Type 0} (f : A → Result B Fault) (items : List A) (e : End) (all : Stream B) where
   pub select_goes : (made more : List B) (i : ℕ) (x : A) (v : B) → x ≡ get_or items i x → i < length items → Ok v ≡ f x → more ≡ made ++ v ∷ []
-      → Goes (λ y. one (f y)) items e all made i → Goes (λ y. one (f y)) items e all more (suc i)
+      → Goes (λ y. one (f y)) items e all made i → Goes (λ y. one (f y)) items e all more (i + 1)
   select_goes made more i x v is below gives more_is goes = each_goes (λ y. one (f y)) items e all made more (v ∷ []) i x is below (ap one (sym gives)) more_is goes
 
   pub select_stops : (made : List B) (i : ℕ) (x : A) (g : Fault) → x ≡ get_or items i x → i < length items → Err g ≡ f x
@@ -125,3 +129,28 @@ module _ {A R : Type 0} (world : World R) (f : A → Result (Value R) Fault) whe
       ≡ all (λ b. Ok b) (truths_of world (select_by f xs e).0 (select_by f xs e).1).0 (truths_of world (select_by f xs e).0 (select_by f xs e).1).1
   all_is_of_truths [] e = refl
   all_is_of_truths (x ∷ xs) e = all_step (all (λ y. truth_in world (f y)) xs e) (f x) (select_by f xs e) (all_is_of_truths xs e)
+
+module _ {R : Type 0} (world : World R) (f : Value R → Result (Value R) Fault) where
+  pub filtered_is : (S : Stream (Value R)) (xs xs' vs vs' : List (Value R)) (e e1 e2 : End) (bs bs' : List Bool) (left : List (Value R)) → (xs, e) ≡ S → xs' ≡ xs
+      → (vs, e1) ≡ select_by f xs' e → vs' ≡ vs → (bs, e2) ≡ truths_of world vs' e1 → bs' ≡ bs → left ≡ chosen xs bs'
+      → (left, e2) ≡ where_by (λ x. truth_in world (f x)) S.0 S.1
+  filtered_is S xs xs' vs vs' e e1 e2 bs bs' left is xs_is found vs_is truths bs_is left_is =
+      ap (λ l. (l, e2)) (left_is ∙ ap (chosen xs) bs_is)
+      ∙ ap (λ (q : Stream Bool). (chosen xs q.0, q.1)) truths
+      ∙ ap (λ w. kept_by world xs (w, e1)) vs_is
+      ∙ ap (kept_by world xs) found
+      ∙ ap (λ w. kept_by world xs (select_by f w e)) xs_is
+      ∙ sym (where_is_kept world f xs e)
+      ∙ ap (λ (s : Stream (Value R)). where_by (λ x. truth_in world (f x)) s.0 s.1) is
+
+  pub all_is : (S : Stream (Value R)) (xs xs' vs vs' : List (Value R)) (e e1 e2 : End) (bs bs' : List Bool) → (xs, e) ≡ S → xs' ≡ xs
+      → (vs, e1) ≡ select_by f xs' e → vs' ≡ vs → (bs, e2) ≡ truths_of world vs' e1 → bs' ≡ bs
+      → all (λ b. Ok b) bs' e2 ≡ all (λ x. truth_in world (f x)) S.0 S.1
+  all_is S xs xs' vs vs' e e1 e2 bs bs' is xs_is found vs_is truths bs_is =
+      ap (λ l. all (λ b. Ok b) l e2) bs_is
+      ∙ ap (λ (q : Stream Bool). all (λ b. Ok b) q.0 q.1) truths
+      ∙ ap (λ w. all (λ b. Ok b) (truths_of world w e1).0 (truths_of world w e1).1) vs_is
+      ∙ ap (λ (s : Stream (Value R)). all (λ b. Ok b) (truths_of world s.0 s.1).0 (truths_of world s.0 s.1).1) found
+      ∙ ap (λ w. all (λ b. Ok b) (truths_of world (select_by f w e).0 (select_by f w e).1).0 (truths_of world (select_by f w e).0 (select_by f w e).1).1) xs_is
+      ∙ sym (all_is_of_truths world f xs e)
+      ∙ ap (λ (s : Stream (Value R)). all (λ x. truth_in world (f x)) s.0 s.1) is

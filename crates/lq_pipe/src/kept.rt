@@ -3,8 +3,11 @@ ghost use Rattle.std.specs.Prelude.{◌≡◌, ◌∷◌, ◌++◌, [], if◌the
 ghost use Rattle.lq_value.specs.declared.value.Fault.TheVariants as fault;
 ghost use Rattle.lq_model.specs.Enumerable.{all};
 ghost use Rattle.lq_model.specs.Meaning.{World};
+ghost use Rattle.lq_model.specs.WholeMeaning.{as_truth};
+ghost use Rattle.lq_operators.specs.Answers.{IsAnswer};
 ghost use Rattle.lq_pipe.specs.Kept.{chosen, kept_by, truth_value_of, truths_of};
 
+use lq_operators::RunError;
 use lq_value::{End, Fault, List, RowRef, Scalar, Value};
 use std::alloc::{AllocError, Global};
 
@@ -85,7 +88,7 @@ pub(crate) fn chosen<R: RowRef>(
 }
 
 /// Whether all are true, up to the first that isn't.
-pub(crate) fn all(truths: &[bool], end: End) -> Result<bool, Fault>
+fn all(truths: &[bool], end: End) -> Result<bool, Fault>
     ensures { result ≡ all (λ b. Ok b) truths.now end }
 {
     for truth in truths {
@@ -96,5 +99,15 @@ pub(crate) fn all(truths: &[bool], end: End) -> Result<bool, Fault>
     match end {
         End::Done => Ok(true),
         End::Fault(fault) => Err(fault),
+    }
+}
+
+/// The same as a value, or why there is none.
+pub(crate) fn all_told<R: RowRef>(truths: &[bool], end: End) -> Result<Value<R>, RunError>
+    ensures { IsAnswer (as_truth (all (λ b. Ok b) truths.now end)) result }
+{
+    match all(truths, end) {
+        Ok(all) => Ok(Value::Scalar(Scalar::Bool(all))),
+        Err(fault) => Err(RunError::Fault(fault)),
     }
 }

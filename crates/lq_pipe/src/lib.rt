@@ -4,6 +4,7 @@
 mod kept;
 mod parts;
 mod reached;
+mod run;
 mod running;
 mod scalars;
 mod sequences;
@@ -11,4 +12,5 @@ mod slots;
 mod tables;
 
 pub use lq_operators::RunError;
+pub use run::{run, value};
 pub use tables::{TableRow, TableRows};

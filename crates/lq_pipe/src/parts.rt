@@ -1,5 +1,5 @@
 //! Parts of values: those of pairs, members of records, keys of groups.
-ghost use Rattle.std.specs.Prelude.{◌≡◌, IfOk, option_map, slice_get};
+ghost use Rattle.std.specs.Prelude.{◌≡◌, ◌∷◌, ◌++◌, [], if◌then◌else◌, not, IfOk, OnOk, option_map, slice_get};
 ghost use Rattle.std.specs.Option.{option_copied};
 ghost use Rattle.lq_value.specs.declared.value.Value.{out-Value};
 ghost use Rattle.lq_model.specs.Meaning.{World};
@@ -69,4 +69,24 @@ pub(crate) fn member<R: RowRef>(members: &[(Txt, Value<R>)], place: usize) -> Op
 {
     let (_, value) = members.get(place)?;
     Some(value)
+}
+
+/// Whether a value is null, where that is wanted, and else whether it isn't.
+pub(crate) fn told_null<R: RowRef>(value: &Value<R>, wanted: bool) -> bool
+    ensures { (world : World R) → result ≡ (if wanted then is_null_value world (out-Value R value.now) else not (is_null_value world (out-Value R value.now))) }
+{
+    let null = is_null(value);
+    if wanted { null } else { !null }
+}
+
+/// Puts a member behind the others.
+pub(crate) fn push_member<R: RowRef>(
+    alloc: Global,
+    members: &mut List<(Txt, Value<R>)>,
+    name: &Txt,
+    value: Value<R>,
+) -> Result<(), AllocError>
+    ensures { OnOk result (members.new ≡ members.old ++ (name.now, value) ∷ []) }
+{
+    members.push((Txt::from_str(alloc, name.as_str())?, value))
 }

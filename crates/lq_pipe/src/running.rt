@@ -300,8 +300,8 @@ impl<'a, R: TableRow> Running<'a, R> {
         ensures { IsAnswer (meant (world_of R.table_of R.shown self.now.tables.now) (form.IsNull wanted operand.now) slots.now) result }
     {
         let operand = self.reach(operand, slots)?;
-        let null = parts::is_null(operand.get());
-        Ok(Value::Scalar(Scalar::Bool(if wanted { null } else { !null })))
+        let told = parts::told_null(operand.get(), wanted);
+        Ok(Value::Scalar(Scalar::Bool(told)))
     }
 
     /// What an operator gives to one operand.
@@ -431,7 +431,7 @@ impl<'a, R: TableRow> Running<'a, R> {
         let mut made = List::new(self.alloc);
         for field in fields.as_slice() {
             let value = self.evaluate(&field.value, slots)?;
-            made.push((Txt::from_str(self.alloc, field.name.as_str())?, value))?;
+            parts::push_member(self.alloc, &mut made, &field.name, value)?;
         }
         Ok(made)
     }
@@ -578,8 +578,7 @@ impl<'a, R: TableRow> Running<'a, R> {
         let (items, end) = self.stream(source, slots)?;
         let (values, end) = self.selected(condition, items.as_slice(), end, slots)?;
         let (truths, end) = kept::truths(self.alloc, values.as_slice(), end)?;
-        let all = kept::all(truths.as_slice(), end)?;
-        Ok(Value::Scalar(Scalar::Bool(all)))
+        kept::all_told(truths.as_slice(), end)
     }
 
     /// What a form gives of an item.

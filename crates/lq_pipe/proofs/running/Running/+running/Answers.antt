@@ -1,8 +1,11 @@
-use Rattle.std.proofs.Common.{◌≡◌, ◌∷◌, ◌++◌, [], Ok, Err, refl, subst, sym}
+use Rattle.std.proofs.Common.{◌≡◌, ◌∷◌, ◌++◌, [], Ok, Err, refl, subst, sym, ◌∙◌}
 use Rattle.lq_operators.specs.Answers.{IsAnswer}
 use Rattle.lq_tree.specs.FormMeaning.{form_meaning}
 use Rattle.lq_pipe.specs.Running.{Answers, of_item, scalar_in}
 use Rattle.lq_pipe.specs.Worlds.{world_of}
+use Rattle.lq_model.specs.WholeMeaning.{as_truth}
+use Rattle.lq_pipe.proofs.Forms.{given_answer, is_null_answer, members_goes}
+use Rattle.lq_pipe.proofs.StreamLemmas.{all_is, filtered_is, select_goes, select_stops}
 use Rattle.lq_pipe.proofs.running.Running.+running.Goals as goal
 
 pub stream-returns : goal.stream-returns
@@ -18,3 +21,44 @@ of_item-returns g t c =
     c.settled.ensures (of_item (world_of g.R.TableRow.table_of g.R.RowRef.shown c.args.self.now.tables.now) c.args.body.now c.args.slots.now c.args.item.now)
     (subst (λ vs. IsAnswer (form_meaning (world_of g.R.TableRow.table_of g.R.RowRef.shown c.args.self.now.tables.now) c.args.body.now vs) c.evaluate.result) c.with.ensures
     c.evaluate.ensures)
+
+pub is_null-returns : goal.is_null-returns
+is_null-returns g t c =
+    is_null_answer (world_of g.R.TableRow.table_of g.R.RowRef.shown c.args.self.now.tables.now) c.args.wanted c.args.operand.now _ _ _ _ c.in_ok-operand.ensures
+    c.get.ensures (c.told_null-told.ensures (world_of g.R.TableRow.table_of g.R.RowRef.shown c.args.self.now.tables.now))
+
+pub given-returns : goal.given-returns
+given-returns g t c =
+    given_answer (world_of g.R.TableRow.table_of g.R.RowRef.shown c.args.self.now.tables.now) c.args.method c.args.source.now c.args.argument.now _ _ _ c.given.result
+    (c.in_ok-argument.ensures _ c.evaluate.ensures) c.in_ok-items.ensures (c.given.ensures (world_of g.R.TableRow.table_of g.R.RowRef.shown c.args.self.now.tables.now) refl)
+
+pub filtered-returns : goal.filtered-returns
+filtered-returns g t c =
+    filtered_is (world_of g.R.TableRow.table_of g.R.RowRef.shown c.args.self.now.tables.now)
+    (of_item (world_of g.R.TableRow.table_of g.R.RowRef.shown c.args.self.now.tables.now) c.args.condition.now c.args.slots.now) _ _ _ _ _ _ _ _ _ _ _
+    c.in_ok-items.ensures c.as_slice.ensures c.in_ok-values.ensures c.as_slice-2.ensures
+    (c.in_ok-truths.ensures (world_of g.R.TableRow.table_of g.R.RowRef.shown c.args.self.now.tables.now) refl) c.as_slice-3.ensures c.in_ok-items-2.ensures
+
+pub all-returns : goal.all-returns
+all-returns g t c =
+    subst (λ m. IsAnswer (as_truth m) c.all_told.result)
+    (all_is (world_of g.R.TableRow.table_of g.R.RowRef.shown c.args.self.now.tables.now)
+    (of_item (world_of g.R.TableRow.table_of g.R.RowRef.shown c.args.self.now.tables.now) c.args.condition.now c.args.slots.now) _ _ _ _ _ _ _ _ _ _
+    c.in_ok-items.ensures c.as_slice.ensures c.in_ok-values.ensures c.as_slice-2.ensures
+    (c.in_ok-truths.ensures (world_of g.R.TableRow.table_of g.R.RowRef.shown c.args.self.now.tables.now) refl) c.as_slice-3.ensures)
+    c.all_told.ensures
+
+pub members-loop-field-preserved : goal.members-loop-field-preserved
+members-loop-field-preserved g t c =
+    members_goes (world_of g.R.TableRow.table_of g.R.RowRef.shown c.args.self.now.tables.now) _ _ _ _ _ _ _ _
+    c.field-item.is c.loop-field-test.true c.in_ok-value.ensures c.in_ok-push_member.ensures c.loop-field.invariant
+
+pub selected-loop-item-preserved : goal.selected-loop-item-preserved
+selected-loop-item-preserved g t c =
+    select_goes (of_item (world_of g.R.TableRow.table_of g.R.RowRef.shown c.args.self.now.tables.now) c.args.body.now c.args.slots.now) c.args.items.now c.args.end _ c.loop-item.made _ _ _ _
+    c.item-item.is c.loop-item-test.true (sym c.in-Ok.is ∙ c.in_ok-value.ensures) c.in_ok-push-in-Ok.ensures.ok c.loop-item.invariant
+
+pub selected-returns-in-Err : goal.selected-returns-in-Err
+selected-returns-in-Err g t c =
+    select_stops (of_item (world_of g.R.TableRow.table_of g.R.RowRef.shown c.args.self.now.tables.now) c.args.body.now c.args.slots.now) c.args.items.now c.args.end _ c.loop-item.made _ _ _
+    c.item-item.is c.loop-item-test.true (sym c.in-Err.is ∙ c.in_ok-value.ensures) c.loop-item.invariant
