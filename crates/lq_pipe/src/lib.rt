@@ -4,13 +4,13 @@
 mod kept;
 mod parts;
 mod reached;
-mod run;
 mod running;
 mod scalars;
 mod sequences;
 mod slots;
 mod tables;
+mod trees;
 
 pub use lq_operators::RunError;
-pub use run::{run, value};
 pub use tables::{TableRow, TableRows};
+pub use trees::{run, value};

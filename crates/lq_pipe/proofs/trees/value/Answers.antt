@@ -3,7 +3,7 @@ use Rattle.lq_operators.specs.Answers.{IsAnswer}
 use Rattle.lq_tree.specs.FormMeaning.{form_meaning}
 use Rattle.lq_pipe.specs.Worlds.{world_of}
 use Rattle.lq_pipe.proofs.SlotLemmas.{no_values}
-use Rattle.lq_pipe.proofs.run.value.Goals as goal
+use Rattle.lq_pipe.proofs.trees.value.Goals as goal
 
 pub returns : goal.returns
 returns g c =
