@@ -1,4 +1,5 @@
 pub mod Forms
+pub mod ItemLemmas
 pub mod PartLemmas
 pub mod SlotLemmas
 pub mod StreamLemmas

@@ -11,8 +11,8 @@ use crate::sequences;
 use crate::slots::Slots;
 use crate::tables::{TableRow, TableRows, cell};
 use lq_model::{Field, Given, Op, Simple, Through};
-use lq_operators::{RunError, given, simple};
-use lq_tree::Form;
+use lq_operators::{Matches, RunError, given, simple};
+use lq_tree::{Form, Joined};
 use lq_value::{End, Fault, List, RowRef, Scalar, Txt, Ty, Value, copy, copy_scalar};
 use std::alloc::{AllocError, Global};
 
@@ -43,9 +43,12 @@ impl<'a, R: TableRow> Running<'a, R> {
     ghost use Rattle.lq_value.specs.declared.value.Value.TheVariants as value;
     ghost use Rattle.lq_model.specs.Meaning.{stream_of, table_value};
     ghost use Rattle.lq_model.specs.Enumerable.{all};
-    ghost use Rattle.lq_model.specs.Stream.{select_by, where_by};
+    ghost use Rattle.lq_model.specs.Stream.{each, made, select_by, where_by};
+    ghost use Rattle.lq_pipe.specs.Items.{expanded_of, joined_of, keyed_of, with_key_of};
+    ghost use Rattle.lq_operators.specs.Matching.{pairs_of};
+    ghost use Rattle.lq_value.specs.declared.value.End.TheVariants as end;
     ghost use Rattle.lq_operators.specs.Answers.{IsAnswer};
-    ghost use Rattle.lq_tree.specs.FormMeaning.{cell_in, if_there, key_in, member_at, members_of};
+    ghost use Rattle.lq_tree.specs.FormMeaning.{cell_in, if_there, key_in, member_at, members_of, form_meaning, with_items};
     ghost use Rattle.lq_model.specs.WholeMeaning.{as_truth};
     ghost use Rattle.lq_pipe.specs.Lists.{field_means};
     ghost use Rattle.lq_tree.specs.declared.tree.Form.TheVariants as form;
@@ -157,10 +160,14 @@ impl<'a, R: TableRow> Running<'a, R> {
             Form::Through(method, of, to, source, body) => {
                 self.through(*method, of, to, source.get(), body.get(), slots)
             }
-            Form::SelectMany(_, _, _)
-            | Form::Join(_, _)
-            | Form::OrderBy(_, _)
-            | Form::GroupBy(_, _, _) => Err(RunError::Memory),
+            Form::SelectMany(source, inner, body) => {
+                self.select_many(source.get(), inner.get(), body.get(), slots)
+            }
+            Form::GroupBy(source, key, element) => {
+                self.group_by(source.get(), key.get(), element.get(), slots)
+            }
+            Form::Join(source, joined) => self.join(joined.get(), source.get(), slots),
+            Form::OrderBy(_, _) => Err(RunError::Memory),
         }
     }
 
@@ -610,6 +617,240 @@ impl<'a, R: TableRow> Running<'a, R> {
             match self.of_item(body, item, slots)? {
                 Ok(value) => made.push(value)?,
                 Err(fault) => return Ok((made, End::Fault(fault))),
+            }
+        }
+        Ok((made, end))
+    }
+
+    /// What comes of each item and of each item of what it leads to.
+    #[cycle(running)]
+    fn select_many(
+        &self,
+        source: &Form,
+        inner: &Form,
+        body: &Form,
+        slots: &Slots<'_, R>,
+    ) -> Result<Value<R>, RunError>
+        ensures { IsAnswer (meant (world_of R.table_of R.shown self.now.tables.now) (form.SelectMany source.now inner.now body.now) slots.now) result }
+    {
+        let (items, end) = self.stream(source, slots)?;
+        let (values, end) = self.expanded(inner, body, items.as_slice(), end, slots)?;
+        Ok(Value::Seq(values, end))
+    }
+
+    /// What comes of an item and of each item of what it leads to.
+    #[cycle(running)]
+    fn expanded_item(
+        &self,
+        inner: &Form,
+        body: &Form,
+        item: &Value<R>,
+        slots: &Slots<'_, R>,
+    ) -> Result<(List<Value<R>>, End), AllocError>
+        ensures { IfOk result (λ s. s ≡ expanded_of (world_of R.table_of R.shown self.now.tables.now) (values_in slots.now) inner.now body.now item.now) }
+    {
+        let deeper = (&*slots).with(&*item);
+        let (values, end) = self.stream(inner, &deeper)?;
+        self.selected(body, values.as_slice(), end, &deeper)
+    }
+
+    /// The same of each item, up to the first fault.
+    #[cycle(running)]
+    fn expanded(
+        &self,
+        inner: &Form,
+        body: &Form,
+        items: &[Value<R>],
+        end: End,
+        slots: &Slots<'_, R>,
+    ) -> Result<(List<Value<R>>, End), AllocError>
+        ensures { IfOk result (λ s. s ≡ each (expanded_of (world_of R.table_of R.shown self.now.tables.now) (values_in slots.now) inner.now body.now) items.now end) }
+    {
+        let mut made = List::new(self.alloc);
+        for item in items {
+            let (values, ending) = self.expanded_item(inner, body, item, slots)?;
+            let joined = sequences::joined(made, values)?;
+            match ending {
+                End::Done => made = joined,
+                End::Fault(fault) => return Ok((joined, End::Fault(fault))),
+            }
+        }
+        Ok((made, end))
+    }
+
+    /// The items grouped by a key.
+    #[cycle(running)]
+    fn group_by(
+        &self,
+        source: &Form,
+        key: &Form,
+        element: &Form,
+        slots: &Slots<'_, R>,
+    ) -> Result<Value<R>, RunError>
+        ensures { IsAnswer (meant (world_of R.table_of R.shown self.now.tables.now) (form.GroupBy source.now key.now element.now) slots.now) result }
+    {
+        let (items, end) = self.stream(source, slots)?;
+        let (pairs, end) = self.keyed(key, element, items.as_slice(), end, slots)?;
+        Ok(sequences::groups(self.alloc, pairs, end)?)
+    }
+
+    /// The key of an item, and then its element.
+    #[cycle(running)]
+    fn keyed_item(
+        &self,
+        key: &Form,
+        element: &Form,
+        item: &Value<R>,
+        slots: &Slots<'_, R>,
+    ) -> Result<Result<(Value<R>, Value<R>), Fault>, AllocError>
+        ensures { IfOk result (λ found. found ≡ keyed_of (world_of R.table_of R.shown self.now.tables.now) (values_in slots.now) key.now element.now item.now) }
+    {
+        match self.of_item(key, item, slots)? {
+            Ok(key) => match self.of_item(element, item, slots)? {
+                Ok(element) => Ok(Ok((key, element))),
+                Err(fault) => Ok(Err(fault)),
+            },
+            Err(fault) => Ok(Err(fault)),
+        }
+    }
+
+    /// The keys of items with their elements, up to the first fault.
+    #[cycle(running)]
+    fn keyed(
+        &self,
+        key: &Form,
+        element: &Form,
+        items: &[Value<R>],
+        end: End,
+        slots: &Slots<'_, R>,
+    ) -> Result<(List<(Value<R>, Value<R>)>, End), AllocError>
+        ensures { IfOk result (λ s. s ≡ select_by (keyed_of (world_of R.table_of R.shown self.now.tables.now) (values_in slots.now) key.now element.now) items.now end) }
+    {
+        let mut made = List::new(self.alloc);
+        for item in items {
+            match self.keyed_item(key, element, item, slots)? {
+                Ok(pair) => made.push(pair)?,
+                Err(fault) => return Ok((made, End::Fault(fault))),
+            }
+        }
+        Ok((made, end))
+    }
+
+    /// A join: the inner items and their keys are read first, and then the outer ones one by one.
+    #[cycle(running)]
+    fn join(
+        &self,
+        joined: &Joined<Form>,
+        source: &Form,
+        slots: &Slots<'_, R>,
+    ) -> Result<Value<R>, RunError>
+        ensures { IsAnswer (meant (world_of R.table_of R.shown self.now.tables.now) (form.Join source.now joined.now) slots.now) result }
+    {
+        let (items, end) = self.stream(source, slots)?;
+        let (inner, inner_end) = self.stream(&joined.inner, slots)?;
+        let (pairs, pairs_end) =
+            self.with_keys(&joined.inner_key, inner.as_slice(), inner_end, slots)?;
+        match pairs_end {
+            End::Done => {
+                let matches = Matches::build(self.alloc, pairs)?;
+                let (values, end) = self.joined(joined, &matches, items.as_slice(), end, slots)?;
+                Ok(Value::Seq(values, end))
+            }
+            End::Fault(fault) => Ok(Value::Seq(List::new(self.alloc), End::Fault(fault))),
+        }
+    }
+
+    /// An inner item with its key.
+    #[cycle(running)]
+    fn with_key(
+        &self,
+        key: &Form,
+        item: &Value<R>,
+        slots: &Slots<'_, R>,
+    ) -> Result<Result<(Value<R>, Value<R>), Fault>, AllocError>
+        ensures { IfOk result (λ found. found ≡ with_key_of (world_of R.table_of R.shown self.now.tables.now) (values_in slots.now) key.now item.now) }
+    {
+        match self.of_item(key, item, slots)? {
+            Ok(key) => Ok(Ok((key, copy(self.alloc, item)?))),
+            Err(fault) => Ok(Err(fault)),
+        }
+    }
+
+    /// Inner items with their keys, up to the first fault.
+    #[cycle(running)]
+    fn with_keys(
+        &self,
+        key: &Form,
+        items: &[Value<R>],
+        end: End,
+        slots: &Slots<'_, R>,
+    ) -> Result<(List<(Value<R>, Value<R>)>, End), AllocError>
+        ensures { IfOk result (λ s. s ≡ select_by (with_key_of (world_of R.table_of R.shown self.now.tables.now) (values_in slots.now) key.now) items.now end) }
+    {
+        let mut made = List::new(self.alloc);
+        for item in items {
+            match self.with_key(key, item, slots)? {
+                Ok(pair) => made.push(pair)?,
+                Err(fault) => return Ok((made, End::Fault(fault))),
+            }
+        }
+        Ok((made, end))
+    }
+
+    /// What comes of an outer item and of each inner one that its key matches, or of all of them.
+    #[cycle(running)]
+    fn joined_item(
+        &self,
+        joined: &Joined<Form>,
+        matches: &Matches<R>,
+        item: &Value<R>,
+        slots: &Slots<'_, R>,
+    ) -> Result<(List<Value<R>>, End), AllocError>
+        ensures { IfOk result (λ s. s ≡ joined_of (world_of R.table_of R.shown self.now.tables.now) (values_in slots.now) joined.now (pairs_of matches.now) item.now) }
+    {
+        match self.of_item(&joined.outer_key, item, slots)? {
+            Ok(key) => {
+                let found = sequences::matched(self.alloc, joined.grouped, &key, matches)?;
+                self.matched_item(&joined.result, found.as_slice(), item, slots)
+            }
+            Err(fault) => Ok((List::new(self.alloc), End::Fault(fault))),
+        }
+    }
+
+    /// What comes of an item and of each of what it matches.
+    #[cycle(running)]
+    fn matched_item(
+        &self,
+        body: &Form,
+        found: &[Value<R>],
+        item: &Value<R>,
+        slots: &Slots<'_, R>,
+    ) -> Result<(List<Value<R>>, End), AllocError>
+        ensures { IfOk result (λ s. s ≡ made (λ w. form_meaning (world_of R.table_of R.shown self.now.tables.now) body.now (with_items (world_of R.table_of R.shown self.now.tables.now) (values_in slots.now) item.now w)) (found.now, end.Done)) }
+    {
+        let deeper = (&*slots).with(&*item);
+        self.selected(body, found, End::Done, &deeper)
+    }
+
+    /// What comes of each outer item, up to the first fault.
+    #[cycle(running)]
+    fn joined(
+        &self,
+        joined: &Joined<Form>,
+        matches: &Matches<R>,
+        items: &[Value<R>],
+        end: End,
+        slots: &Slots<'_, R>,
+    ) -> Result<(List<Value<R>>, End), AllocError>
+        ensures { IfOk result (λ s. s ≡ each (joined_of (world_of R.table_of R.shown self.now.tables.now) (values_in slots.now) joined.now (pairs_of matches.now)) items.now end) }
+    {
+        let mut made = List::new(self.alloc);
+        for item in items {
+            let (values, ending) = self.joined_item(joined, matches, item, slots)?;
+            let all = sequences::joined(made, values)?;
+            match ending {
+                End::Done => made = all,
+                End::Fault(fault) => return Ok((all, End::Fault(fault))),
             }
         }
         Ok((made, end))

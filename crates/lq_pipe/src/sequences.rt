@@ -3,10 +3,14 @@ ghost use Rattle.std.specs.Prelude.{◌≡◌, ◌++◌, IfOk, Result};
 ghost use Rattle.lq_value.specs.declared.value.Fault.{Fault};
 ghost use Rattle.lq_value.specs.declared.value.Fault.TheVariants as fault;
 ghost use Rattle.lq_value.specs.declared.value.Value.{Value, out-Value};
-ghost use Rattle.lq_model.specs.Meaning.{World, items_of, stream_of};
+ghost use Rattle.lq_model.specs.Meaning.{World, items_of, sequence, stream_of};
+ghost use Rattle.lq_model.specs.Stream.{whole};
+ghost use Rattle.lq_operators.specs.Matching.{pairs_of};
+ghost use Rattle.lq_tree.specs.FormMeaning.{matched};
+ghost use Rattle.lq_pipe.specs.Items.{groups_in};
 ghost use Rattle.lq_operators.specs.Answers.{IsAnswer};
 
-use lq_operators::RunError;
+use lq_operators::{Matches, RunError, grouped};
 use lq_value::{End, Fault, List, RowRef, Value};
 use std::alloc::{AllocError, Global};
 
@@ -51,6 +55,38 @@ pub(crate) fn settled<R: RowRef>(
         Err(RunError::Fault(fault)) => Ok(Err(fault)),
         Err(RunError::Memory) => Err(AllocError),
     }
+}
+
+/// The groups of items by their keys; where their stream ended in a fault, nothing but that fault.
+pub(crate) fn groups<R: RowRef>(
+    alloc: Global,
+    pairs: List<(Value<R>, Value<R>)>,
+    end: End,
+) -> Result<Value<R>, AllocError>
+    ensures { IfOk result (λ made. made ≡ sequence (whole pairs end groups_in)) }
+{
+    match end {
+        End::Done => Ok(Value::Seq(grouped(alloc, pairs)?, End::Done)),
+        End::Fault(fault) => Ok(Value::Seq(List::new(alloc), End::Fault(fault))),
+    }
+}
+
+/// What a key matches: the items one by one, or all of them as one sequence.
+pub(crate) fn matched<R: RowRef>(
+    alloc: Global,
+    grouped: bool,
+    key: &Value<R>,
+    matches: &Matches<R>,
+) -> Result<List<Value<R>>, AllocError>
+    ensures { (world : World R) → IfOk result (λ found. found ≡ matched world grouped key.now (pairs_of matches.now)) }
+{
+    let found = matches.find(alloc, key)?;
+    if !grouped {
+        return Ok(found);
+    }
+    let mut one = List::new(alloc);
+    one.push(Value::Seq(found, End::Done))?;
+    Ok(one)
 }
 
 /// Items, and further ones behind them.

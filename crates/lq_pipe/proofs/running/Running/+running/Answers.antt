@@ -1,11 +1,15 @@
-use Rattle.std.proofs.Common.{◌≡◌, ◌∷◌, ◌++◌, [], Ok, Err, refl, subst, sym, ◌∙◌}
+use Rattle.std.proofs.Common.{◌≡◌, ◌∷◌, ◌++◌, [], Ok, Err, ap, refl, subst, sym, ◌∙◌}
 use Rattle.lq_operators.specs.Answers.{IsAnswer}
 use Rattle.lq_tree.specs.FormMeaning.{form_meaning}
+use Rattle.lq_operators.specs.Matching.{pairs_of}
+use Rattle.lq_pipe.specs.Items.{expanded_of, joined_of, keyed_of, with_key_of}
+use Rattle.lq_pipe.specs.Slots.{values_in}
+use Rattle.lq_pipe.proofs.ItemLemmas.{expanded_is, group_by_answer, join_answer, join_stops, joined_met, matched_is, select_many_answer}
 use Rattle.lq_pipe.specs.Running.{Answers, of_item, scalar_in}
 use Rattle.lq_pipe.specs.Worlds.{world_of}
 use Rattle.lq_model.specs.WholeMeaning.{as_truth}
 use Rattle.lq_pipe.proofs.Forms.{given_answer, is_null_answer, members_goes}
-use Rattle.lq_pipe.proofs.StreamLemmas.{all_is, filtered_is, select_goes, select_stops}
+use Rattle.lq_pipe.proofs.StreamLemmas.{all_is, each_goes, each_stops, filtered_is, select_goes, select_stops}
 use Rattle.lq_pipe.proofs.running.Running.+running.Goals as goal
 
 pub stream-returns : goal.stream-returns
@@ -62,3 +66,71 @@ pub selected-returns-in-Err : goal.selected-returns-in-Err
 selected-returns-in-Err g t c =
     select_stops (of_item (world_of g.R.TableRow.table_of g.R.RowRef.shown c.args.self.now.tables.now) c.args.body.now c.args.slots.now) c.args.items.now c.args.end _ c.loop-item.made _ _ _
     c.item-item.is c.loop-item-test.true (sym c.in-Err.is ∙ c.in_ok-value.ensures) c.loop-item.invariant
+
+pub expanded-loop-item-preserved : goal.expanded-loop-item-preserved
+expanded-loop-item-preserved g t c =
+    each_goes (expanded_of (world_of g.R.TableRow.table_of g.R.RowRef.shown c.args.self.now.tables.now) (values_in c.args.slots.now) c.args.inner.now c.args.body.now) c.args.items.now c.args.end _ c.loop-item.made _ _ _ _
+    c.item-item.is c.loop-item-test.true (sym c.in_ok-values.ensures ∙ ap (λ d. (c.in_ok-values.values, d)) c.in-Done.is) c.in_ok-joined.ensures c.loop-item.invariant
+
+pub expanded-returns-in-Fault : goal.expanded-returns-in-Fault
+expanded-returns-in-Fault g t c =
+    each_stops (expanded_of (world_of g.R.TableRow.table_of g.R.RowRef.shown c.args.self.now.tables.now) (values_in c.args.slots.now) c.args.inner.now c.args.body.now) c.args.items.now c.args.end _ c.loop-item.made _ _ _ _ _
+    c.item-item.is c.loop-item-test.true (sym c.in_ok-values.ensures ∙ ap (λ d. (c.in_ok-values.values, d)) c.in-Fault.is) c.in_ok-joined.ensures c.loop-item.invariant
+
+pub joined-loop-item-preserved : goal.joined-loop-item-preserved
+joined-loop-item-preserved g t c =
+    each_goes (joined_of (world_of g.R.TableRow.table_of g.R.RowRef.shown c.args.self.now.tables.now) (values_in c.args.slots.now) c.args.joined.now (pairs_of c.args.matches.now)) c.args.items.now c.args.end _ c.loop-item.made _ _ _ _
+    c.item-item.is c.loop-item-test.true (sym c.in_ok-values.ensures ∙ ap (λ d. (c.in_ok-values.values, d)) c.in-Done.is) c.in_ok-all.ensures c.loop-item.invariant
+
+pub joined-returns-in-Fault : goal.joined-returns-in-Fault
+joined-returns-in-Fault g t c =
+    each_stops (joined_of (world_of g.R.TableRow.table_of g.R.RowRef.shown c.args.self.now.tables.now) (values_in c.args.slots.now) c.args.joined.now (pairs_of c.args.matches.now)) c.args.items.now c.args.end _ c.loop-item.made _ _ _ _ _
+    c.item-item.is c.loop-item-test.true (sym c.in_ok-values.ensures ∙ ap (λ d. (c.in_ok-values.values, d)) c.in-Fault.is) c.in_ok-all.ensures c.loop-item.invariant
+
+pub keyed-loop-item-preserved : goal.keyed-loop-item-preserved
+keyed-loop-item-preserved g t c =
+    select_goes (keyed_of (world_of g.R.TableRow.table_of g.R.RowRef.shown c.args.self.now.tables.now) (values_in c.args.slots.now) c.args.key.now c.args.element.now) c.args.items.now c.args.end _ c.loop-item.made _ _ _ _
+    c.item-item.is c.loop-item-test.true (sym c.in-Ok.is ∙ c.in_ok-pair.ensures) c.in_ok-push-in-Ok.ensures.ok c.loop-item.invariant
+
+pub keyed-returns-in-Err : goal.keyed-returns-in-Err
+keyed-returns-in-Err g t c =
+    select_stops (keyed_of (world_of g.R.TableRow.table_of g.R.RowRef.shown c.args.self.now.tables.now) (values_in c.args.slots.now) c.args.key.now c.args.element.now) c.args.items.now c.args.end _ c.loop-item.made _ _ _
+    c.item-item.is c.loop-item-test.true (sym c.in-Err.is ∙ c.in_ok-pair.ensures) c.loop-item.invariant
+
+pub with_keys-loop-item-preserved : goal.with_keys-loop-item-preserved
+with_keys-loop-item-preserved g t c =
+    select_goes (with_key_of (world_of g.R.TableRow.table_of g.R.RowRef.shown c.args.self.now.tables.now) (values_in c.args.slots.now) c.args.key.now) c.args.items.now c.args.end _ c.loop-item.made _ _ _ _
+    c.item-item.is c.loop-item-test.true (sym c.in-Ok.is ∙ c.in_ok-pair.ensures) c.in_ok-push-in-Ok.ensures.ok c.loop-item.invariant
+
+pub with_keys-returns-in-Err : goal.with_keys-returns-in-Err
+with_keys-returns-in-Err g t c =
+    select_stops (with_key_of (world_of g.R.TableRow.table_of g.R.RowRef.shown c.args.self.now.tables.now) (values_in c.args.slots.now) c.args.key.now) c.args.items.now c.args.end _ c.loop-item.made _ _ _
+    c.item-item.is c.loop-item-test.true (sym c.in-Err.is ∙ c.in_ok-pair.ensures) c.loop-item.invariant
+
+pub expanded_item-returns : goal.expanded_item-returns
+expanded_item-returns g t c =
+    expanded_is (world_of g.R.TableRow.table_of g.R.RowRef.shown c.args.self.now.tables.now) (values_in c.args.slots.now) c.args.item.now _ c.args.inner.now c.args.body.now _ _ _ _ c.selected.result
+    c.with-deeper.ensures c.in_ok-values.ensures c.as_slice.ensures c.selected.ensures
+
+pub matched_item-returns : goal.matched_item-returns
+matched_item-returns g t c =
+    matched_is (world_of g.R.TableRow.table_of g.R.RowRef.shown c.args.self.now.tables.now) (values_in c.args.slots.now) c.args.item.now _ c.args.body.now _ _ c.selected.result c.with-deeper.ensures c.selected.ensures
+
+pub select_many-returns : goal.select_many-returns
+select_many-returns g t c =
+    select_many_answer (world_of g.R.TableRow.table_of g.R.RowRef.shown c.args.self.now.tables.now) (values_in c.args.slots.now) c.args.source.now c.args.inner.now c.args.body.now _ _ _ _
+    c.in_ok-items.ensures c.as_slice.ensures c.in_ok-values.ensures
+
+pub group_by-returns : goal.group_by-returns
+group_by-returns g t c =
+    group_by_answer (world_of g.R.TableRow.table_of g.R.RowRef.shown c.args.self.now.tables.now) (values_in c.args.slots.now) c.args.source.now c.args.key.now c.args.element.now _ _ _ _ _ _
+    c.in_ok-items.ensures c.as_slice.ensures c.in_ok-pairs.ensures c.in_ok-groups.ensures
+
+pub joined_item-returns-in-Ok : goal.joined_item-returns-in-Ok
+joined_item-returns-in-Ok g t c = ?
+
+pub join-returns-in-Done : goal.join-returns-in-Done
+join-returns-in-Done g t c = ?
+
+pub join-returns-in-Fault : goal.join-returns-in-Fault
+join-returns-in-Fault g t c = ?

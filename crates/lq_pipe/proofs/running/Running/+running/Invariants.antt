@@ -2,9 +2,11 @@
 -- what each loop keeps.
 use Rattle.std.proofs.Common.{◌≡◌, ◌+◌, ◌*◌, ◌++◌, Ok, map, max, drop}
 use Rattle.lq_model.specs.Operations.{on_ok}
-use Rattle.lq_model.specs.Stream.{one, select_by}
+use Rattle.lq_model.specs.Stream.{each, one, select_by}
 use Rattle.lq_tree.proofs.tree.Form.TheLaws.{the_size}
 use Rattle.lq_tree.specs.FormMeaning.{members_of}
+use Rattle.lq_operators.specs.Matching.{pairs_of}
+use Rattle.lq_pipe.specs.Items.{expanded_of, joined_of, keyed_of, with_key_of}
 use Rattle.lq_pipe.specs.Lists.{field_means}
 use Rattle.lq_pipe.specs.Running.{of_item}
 use Rattle.lq_pipe.specs.Slots.{values_in}
@@ -99,6 +101,42 @@ decreases-given g l = 8 * max (the_size l.source.now) (the_size l.argument.now) 
 abbrev pub decreases-through : goal.decreases-through
 decreases-through g l = 8 * max (the_size l.source.now) (the_size l.body.now) + 5
 
+abbrev pub decreases-expanded_item : goal.decreases-expanded_item
+decreases-expanded_item g l = 8 * max (the_size l.inner.now) (the_size l.body.now) + 3
+
+abbrev pub decreases-expanded : goal.decreases-expanded
+decreases-expanded g l = 8 * max (the_size l.inner.now) (the_size l.body.now) + 4
+
+abbrev pub decreases-select_many : goal.decreases-select_many
+decreases-select_many g l = 8 * max (the_size l.source.now) (max (the_size l.inner.now) (the_size l.body.now)) + 5
+
+abbrev pub decreases-keyed_item : goal.decreases-keyed_item
+decreases-keyed_item g l = 8 * max (the_size l.key.now) (the_size l.element.now) + 2
+
+abbrev pub decreases-keyed : goal.decreases-keyed
+decreases-keyed g l = 8 * max (the_size l.key.now) (the_size l.element.now) + 3
+
+abbrev pub decreases-with_key : goal.decreases-with_key
+decreases-with_key g l = 8 * the_size l.key.now + 2
+
+abbrev pub decreases-with_keys : goal.decreases-with_keys
+decreases-with_keys g l = 8 * the_size l.key.now + 3
+
+abbrev pub decreases-matched_item : goal.decreases-matched_item
+decreases-matched_item g l = 8 * the_size l.body.now + 3
+
+abbrev pub decreases-joined_item : goal.decreases-joined_item
+decreases-joined_item g l = 8 * goal.size-joined_item g l + 4
+
+abbrev pub decreases-joined : goal.decreases-joined
+decreases-joined g l = 8 * goal.size-joined g l + 5
+
+abbrev pub decreases-join : goal.decreases-join
+decreases-join g l = 8 * max (goal.size-join g l) (the_size l.source.now) + 6
+
+abbrev pub decreases-group_by : goal.decreases-group_by
+decreases-group_by g l = 8 * max (the_size l.source.now) (max (the_size l.key.now) (the_size l.element.now)) + 5
+
 -- ---- loops
 
 -- what was made, and what comes of the items that are left
@@ -116,3 +154,23 @@ invariant-members-loop-field g l =
     (λ ms. Ok (l.made ++ ms))
     ≡ members_of (world_of g.R.TableRow.table_of g.R.RowRef.shown l.fn.self.tables.now)
     (map (field_means (world_of g.R.TableRow.table_of g.R.RowRef.shown l.fn.self.tables.now)) l.field-items) (values_in l.fn.slots)
+
+abbrev pub invariant-expanded-loop-item : goal.invariant-expanded-loop-item
+invariant-expanded-loop-item g l =
+    Goes (expanded_of (world_of g.R.TableRow.table_of g.R.RowRef.shown l.fn.self.tables.now) (values_in l.fn.slots) l.fn.inner l.fn.body) l.items l.fn.end
+    (each (expanded_of (world_of g.R.TableRow.table_of g.R.RowRef.shown l.fn.self.tables.now) (values_in l.fn.slots) l.fn.inner l.fn.body) l.items l.fn.end) l.made l.item-index
+
+abbrev pub invariant-keyed-loop-item : goal.invariant-keyed-loop-item
+invariant-keyed-loop-item g l =
+    Goes (λ v. one (keyed_of (world_of g.R.TableRow.table_of g.R.RowRef.shown l.fn.self.tables.now) (values_in l.fn.slots) l.fn.key l.fn.element v)) l.items l.fn.end
+    (select_by (keyed_of (world_of g.R.TableRow.table_of g.R.RowRef.shown l.fn.self.tables.now) (values_in l.fn.slots) l.fn.key l.fn.element) l.items l.fn.end) l.made l.item-index
+
+abbrev pub invariant-with_keys-loop-item : goal.invariant-with_keys-loop-item
+invariant-with_keys-loop-item g l =
+    Goes (λ v. one (with_key_of (world_of g.R.TableRow.table_of g.R.RowRef.shown l.fn.self.tables.now) (values_in l.fn.slots) l.fn.key v)) l.items l.fn.end
+    (select_by (with_key_of (world_of g.R.TableRow.table_of g.R.RowRef.shown l.fn.self.tables.now) (values_in l.fn.slots) l.fn.key) l.items l.fn.end) l.made l.item-index
+
+abbrev pub invariant-joined-loop-item : goal.invariant-joined-loop-item
+invariant-joined-loop-item g l =
+    Goes (joined_of (world_of g.R.TableRow.table_of g.R.RowRef.shown l.fn.self.tables.now) (values_in l.fn.slots) l.fn.joined (pairs_of l.fn.matches)) l.items l.fn.end
+    (each (joined_of (world_of g.R.TableRow.table_of g.R.RowRef.shown l.fn.self.tables.now) (values_in l.fn.slots) l.fn.joined (pairs_of l.fn.matches)) l.items l.fn.end) l.made l.item-index
