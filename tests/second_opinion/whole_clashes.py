@@ -12,6 +12,25 @@ def hot(dice, scope):
     return found or Part(6, dice.choice(FAULTS) if dice.random() < 0.3 else ["2"], "int")
 
 
+def twins(dice, scope):
+    """Two ints that fault differently on the same items: which fault is met tells which was evaluated first."""
+    paths = scope.paths_of("int")
+    path = dice.choice([*paths, *paths[-2:] * 2]).words if paths else ["1"]
+    near = dice.choice(["1", "1", "2", "2", "3", "4"])
+    met = [*path, "==", near]
+    found = [
+        Part(7, ["10", "/", "(", *path, "-", near, ")"], "int"),
+        Part(6, ["(", *met, "?", "2147483647", ":", "0", ")", "+", "1"], "int"),
+        Part(PRIMARY, ["(", *met, "?", "null", ":", '"a"', ")", ".", "Length"], "int"),
+    ]
+    return dice.sample(found, 2)
+
+
+def pair(dice, scope):
+    """Two ints in which faults may stand."""
+    return twins(dice, scope) if dice.random() < 0.6 else [hot(dice, scope), hot(dice, scope)]
+
+
 def hot_condition(dice, scope):
     return Part(5, [*hot(dice, scope).bound(6), dice.choice(["<", ">", "<=", "!="]), dice.choice("0123")], "bool")
 
@@ -103,7 +122,7 @@ def hot_clause(dice, outside, inside):
     if kind == "where":
         return ["where", *hot_condition(dice, inside).words], inside
     if kind == "orderby":
-        keys = [hot(dice, inside).words + dice.choice([[], ["descending"]]) for _ in range(dice.choice([1, 2, 2]))]
+        keys = [part.words + dice.choice([[], ["descending"]]) for part in pair(dice, inside)[:dice.choice([1, 2, 2])]]
         return ["orderby", *keys[0], *(word for more in keys[1:] for word in [",", *more])], inside
     if kind == "let":
         return ["let", name, "=", *hot(dice, inside).words], inside.plus(name, "int")
@@ -127,11 +146,37 @@ def hot_query(dice, scope):
     for _ in range(dice.choice([0, 1, 1, 2])):
         more, inside = hot_clause(dice, scope, inside)
         words += more
-    value = hot(dice, inside) if dice.random() < 0.7 else dice.choice(inside.paths)
-    if dice.random() < 0.6:
+    value, by = pair(dice, inside)
+    value = value if dice.random() < 0.7 else dice.choice(inside.paths)
+    if dice.random() < 0.5:
         return Part(0, [*words, "select", *value.words], Sequence(value.type))
-    by = hot(dice, inside)
     return Part(0, [*words, "group", *value.words, "by", *by.words], Sequence(Group("int", value.type)))
+
+
+def twin_sequences(dice, scope):
+    """Two sequences that fault differently, and somewhere in their midst."""
+    found = []
+    for place in range(2):
+        part = table(dice, scope)
+        if not is_source(part.type):
+            return [part, part]
+        words = function(dice, part.type.item, scope, lambda inner: twins(dice, inner)[place])[0]
+        found.append(called(part, "Select", words, Sequence("int")))
+    return found
+
+
+def group_source(dice, scope):
+    """A method of a group that may not be there: its fault is the ending of its stream."""
+    part = hot_query(dice, scope)
+    while is_source(part.type) and not isinstance(part.type.item, Group):
+        part = hot_query(dice, scope)
+    if not is_source(part.type):
+        return part
+    name = dice.choice(["First", "First", "Last", "Single", "ElementAt"])
+    condition = function(dice, part.type.item, scope, lambda inner: hot_condition(dice, inner))[0]
+    words = [dice.choice("0129")] if name == "ElementAt" else dice.choice([[], condition, [new_name(dice, scope), "=>", "false"]])
+    part = called(part, name, words, part.type.item)
+    return with_other(dice, part, scope) if dice.random() < 0.6 else with_stop(dice, part, scope)
 
 
 def nested(dice, scope):
@@ -140,6 +185,7 @@ def nested(dice, scope):
     def record(inner):
         names = dice.sample(MEMBERS, dice.choice([1, 2, 2, 3]))
         parts = [dice.choice([hot_ints, hot_sequence, hot, hot])(dice, inner) for _ in names]
+        parts[:2] = twin_sequences(dice, inner)[:len(parts)] if dice.random() < 0.5 else parts[:2]
         words = [word for name, part in zip(names, parts) for word in [",", name, "=", *part.words]]
         members = tuple((name, part.type) for name, part in zip(names, parts))
         return Part(PRIMARY, ["new", "{", *words[1:], "}"], Record(members))
@@ -158,6 +204,8 @@ def clash(dice, scope):
         return chain(dice, scope)
     if kind < 0.55:
         return nested(dice, scope)
+    if kind < 0.63:
+        return group_source(dice, scope)
     part = hot_query(dice, scope)
     if dice.random() < 0.6 or not is_source(part.type):
         return part

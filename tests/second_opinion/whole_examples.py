@@ -51,7 +51,8 @@ def long_lines():
     refused = [
         f"where {parts_4097} != null select m.k;", f"where {parts_4097}.c == 1 select m.k;",
         f"select {parts_4096} into r select r.c;", f"select {parts_4096};", f"let r = {parts_4097} select 3;",
-        f"group {parts_4093} by new {{ m.k }} into g select 3;", f"select (from n in marks select {parts_4096}).Count();", f"select marks.Select(n => {parts_4096}).Count();",
+        f"group {parts_4093} by new {{ m.k }} into g select 3;",
+        f"select (from n in marks select {parts_4096}).Count();", f"select marks.Select(n => {parts_4096}).Count();",
     ]
     lines = [(head + end, '{"items":[3]}\n') for end in served]
     lines.append((r'run depts.Take(1).Select(d => new { t = "\b\f\n\r\t\"\\\u0001\u001f\u007f\u2028é" });',

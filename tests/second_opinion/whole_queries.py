@@ -7,10 +7,9 @@
 from dataclasses import dataclass
 
 import scalars
-from lexer import is_name
 from scalars import PRIMARY
 from tables import Table
-from whole_types import METHODS, Group, Record, Row, Sequence, has_default, is_key, is_source, row_of
+from whole_types import Group, Record, Row, Sequence, has_default, is_key, is_source, row_of
 
 SCALARS = ("int", "int?", "bool", "string")
 NAMES = ["x", "y", "z", "w", "a", "b", "g", "h", "e", "d", "it", "é", "_", "k", "v", "id"]
@@ -38,13 +37,6 @@ FORMS = {
     "string": ["string + string", "string + null", "string ?? string", "bool ? string : null", "bool ? string : string"],
 }
 FORMS = {its_type: [form.split() for form in forms] for its_type, forms in FORMS.items()}
-# Names and literals that may stand in another one's place, and methods in another's.
-STRAY_NAMES = ["none", "x", "y", "g", "id", "n", "s", "Key", "t", "Count", "Value", "Length"]
-STRAY_VALUES = [
-    "null", "1", '"a"', "true", "new { }", "none", "t", "( t )", "- 2147483648", "new { a = 1 }", "Host . p ( x . id )",
-]
-BINARY = ["+", "*", "/", "==", "!=", "<", ">", "&&", "||", "??"]
-STRAY_METHODS = [*METHODS, "OrderBy", "GroupBy", "SelectMany", "Join", "Zip", "ToList", "LastOrDefault", "count", "SkipWhile"]
 
 
 @dataclass(frozen=True)
@@ -113,13 +105,20 @@ def table(dice):
     names = dice.sample(COLUMN_NAMES, dice.choice([1, 2, 3, 3, 4]))
     types = ["int", *dice.choices(["int", "int?", "int?", "bool", "string", "string"], k=len(names) - 1)]
     dice.shuffle(types)
-    columns = dict(zip(names, types))
+    return filled_table(dice, dict(zip(names, types)))
+
+
+def filled_table(dice, columns):
     count = dice.choice([0, 1, 2, 3, 4, 4, 5, 5, 6, 7])
     return Table(columns, [{name: dice.choice(CELLS[kind]) for name, kind in columns.items()} for _ in range(count)])
 
 
 def tables(dice):
-    return {name: table(dice) for name in dice.sample(TABLE_NAMES, dice.choice([1, 2, 2, 3]))}
+    """Some tables; now and then the columns of the last are those of the first."""
+    found = {name: table(dice) for name in dice.sample(TABLE_NAMES, dice.choice([1, 2, 2, 3]))}
+    if dice.random() < 0.25:
+        found[list(found)[-1]] = filled_table(dice, list(found.values())[0].columns)
+    return found
 
 
 def new_name(dice, *scopes):
@@ -318,6 +317,8 @@ def with_fault(dice, part, scope):
 def second(dice, part, scope, fuel):
     """Another sequence of the same items: the same one, a table's, or one that Select makes alike."""
     other = sequence(dice, scope, fuel)
+    if dice.random() < 0.04:
+        return other.bound(0)
     if is_source(other.type) and other.type.item == part.type.item:
         return other.words
     if is_source(other.type) and part.type.item in scope.types():
@@ -499,24 +500,3 @@ def top(dice, scope, fuel):
     if kind < 0.8:
         return sequence(dice, scope, fuel + 1)
     return dice.choice([any_value, any_scalar, element])(dice, scope, fuel)
-
-
-def other_part(dice, words):
-    """A name, a literal, a method or a sign is another one, or a piece is missing: most such lines have no type."""
-    words = list(words)
-    place = dice.randrange(len(words))
-    word = words[place]
-    if word in STRAY_METHODS and dice.random() < 0.6:
-        words[place] = dice.choice(STRAY_METHODS)
-    elif word in BINARY:
-        words[place] = dice.choice(BINARY)
-    elif is_name(word) and dice.random() < 0.7:
-        words[place] = dice.choice([dice.choice(STRAY_NAMES), dice.choice(list(filter(is_name, words)))])
-    elif word.isdigit() or word.startswith('"') or word in ("true", "false"):
-        words[place:place + 1] = dice.choice(STRAY_VALUES).split()
-    elif dice.random() < 0.08:
-        end = min(len(words), place + dice.choice([1, 2, 3, 4]))
-        return words[:place] + words[end:]
-    else:
-        return other_part(dice, words)
-    return words
