@@ -21,6 +21,7 @@ FIRST_OF_SCALARS = 4600
 FIRST_OF_POLICIES = 4720
 CASES = 6020
 # Cases of the whole language, which is not served yet: first the fixed ones, then those by chance.
+FIRST_OF_QUERIES = CASES + len(whole_examples.by_file())
 WHOLE_CASES = 6320
 LINES_OF_WHOLE = 20
 NO_UTF8 = [
@@ -266,9 +267,8 @@ def lines_case(dice, line):
 
 def whole_case(number):
     """Known lines of the whole language over the small company; then lines by chance, over small tables behind some policies."""
-    known = whole_examples.scripts()
-    if number - CASES < len(known):
-        return of_company(policy_examples.COMPANY.encode(), script=known[number - CASES])
+    if number < FIRST_OF_QUERIES:
+        return of_company(policy_examples.COMPANY.encode(), script=whole_examples.scripts()[number - CASES])
     dice = random.Random(number)
     tables = whole_queries.tables(dice)
     file = policy_files.right_file(dice, tables)
