@@ -318,7 +318,10 @@ def second(dice, part, scope, fuel):
     """Another sequence of the same items: the same one, a table's, or one that Select makes alike."""
     other = sequence(dice, scope, fuel)
     if dice.random() < 0.04:
-        return other.bound(0)
+        return other.words
+    if isinstance(part.type.item, Row) and scope.seen and dice.random() < 0.08:
+        # Perhaps another table with such columns, whose rows are of another type all the same.
+        return [dice.choice(list(scope.seen))]
     if is_source(other.type) and other.type.item == part.type.item:
         return other.words
     if is_source(other.type) and part.type.item in scope.types():
@@ -447,7 +450,7 @@ def keys(dice, outer, inner):
     pair = [its_type, its_type]
     if its_type in ("int", "int?") and "int?" in types and dice.random() < 0.3:
         pair = [dice.choice(["int", "int?"]) for _ in pair]
-    if dice.random() < 0.75:
+    if dice.random() < 0.65:
         return [scalar(dice, wanted, scope, dice.choice([0, 0, 1])).words for wanted, scope in zip(pair, (outer, inner))]
     names, kinds = dice.sample(MEMBERS, 2), [its_type, dice.choice(types)]
     return [["new", "{", *members_words(dice, names, kinds, scope), "}"] for scope in (outer, inner)]
