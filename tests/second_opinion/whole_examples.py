@@ -60,10 +60,32 @@ def long_lines():
     return lines + [(head + end, '{"error":"type"}\n') for end in refused]
 
 
+def deep_lines():
+    """Lines near the limits of depth, over the table of one row."""
+    values = {
+        "marks" + ".Skip(0)" * 252 + ".Count()": "1", "marks" + ".Select(m => m)" * 250 + ".First().k": "3",
+        "marks" + ".Where(m => m.ok)" * 250 + ".Count()": "1", "marks" + ".Reverse()" * 252 + ".Any()": "true",
+        "marks" + ".Concat(marks)" * 200 + ".Count()": "201", "marks" + ".Union(marks)" * 200 + ".Count()": None,
+        "marks.Select(m => m.k)" + ".Distinct().Intersect(marks.Select(m => m.k))" * 100 + ".Sum()": "3",
+        "(from m in " * 63 + "marks" + " select m)" * 63 + ".Single().k": "3",
+    }
+    items = {
+        "new { a = " * 60 + "marks" + " }" * 60 + ".a" * 60: '{"k":3,"ok":true}',
+        "".join(f"marks.Select(m{place} => " for place in range(60)) + "1" + ")" * 60: "[" * 59 + "1" + "]" * 59,
+        "from m in marks select m.k" + " into k where k > 0 select k" * 60: "3",
+        "from m in marks" + "".join(f" from m{place} in marks" for place in range(110)) + " select m109.k": "3",
+        "from m in marks" + "".join(f" let k{place} = m.k" for place in range(80)) + " select k79": "3",
+        "from m in marks" + "".join(f" join m{place} in marks on m.k equals m{place}.k" for place in range(40)) + " select m39.k": "3",
+        "from m in marks" + " orderby m.k, m.ok descending" * 40 + " select m.k": "3",
+    }
+    known = [(f"run {line};", f'{{"value":{value}}}\n' if value else '{"error":"type"}\n') for line, value in values.items()]
+    return known + [(f"run {line};", f'{{"items":[{value}]}}\n') for line, value in items.items()]
+
+
 def by_file():
-    """The pairs of each file over the small company, and those of the long lines."""
+    """The pairs of each file over the small company, and those of the long and the deep lines."""
     pairs = {path.name: pairs_in(path) for path in sorted(FOLDER.glob("*.txt")) if path.name != OVER_T}
-    return {**pairs, "long lines": long_lines()}
+    return {**pairs, "long lines": long_lines(), "deep lines": deep_lines()}
 
 
 def over_t():
