@@ -75,7 +75,7 @@ def deep_lines():
         "from m in marks select m.k" + " into k where k > 0 select k" * 60: "3",
         "from m in marks" + "".join(f" from m{place} in marks" for place in range(110)) + " select m109.k": "3",
         "from m in marks" + "".join(f" let k{place} = m.k" for place in range(80)) + " select k79": "3",
-        "from m in marks" + "".join(f" join n{place} in marks on m.k equals n{place}.k" for place in range(40)) + " select m.k": "3",
+        "from m in marks" + "".join(f" join n{place} in marks on m.k equals n{place}.k" for place in range(40)) + " select 3": "3",
         "from m in marks" + " orderby m.k, m.ok descending" * 40 + " select m.k": "3",
     }
     known = [(f"run {line};", f'{{"value":{value}}}\n' if value else '{"error":"type"}\n') for line, value in values.items()]
