@@ -246,7 +246,7 @@ def key(dice, scope, fuel):
 
 
 def base(dice, scope, fuel):
-    """A sequence or a group: a table, a name or a member, a query in brackets, or one that a sequence holds."""
+    """A sequence or a group: a table, a name or a member, or a query in brackets. None where there is none."""
     kind = dice.random()
     paths = [path for path in scope.paths if is_source(path.type)]
     if paths and kind < 0.5:
@@ -257,15 +257,12 @@ def base(dice, scope, fuel):
     if scope.seen:
         name = dice.choice(list(scope.seen))
         return Part(PRIMARY, [name], Sequence(row_of(name, scope.seen[name])))
-    if paths:
-        return dice.choice(paths)
-    name = list(scope.tables)[0]
-    # All tables are hidden by local names: there is nothing left but what a scalar gives.
-    return Part(PRIMARY, [name], scope.names[name]) if is_source(scope.names[name]) else None
+    # All tables are hidden by local names.
+    return dice.choice(paths) if paths else None
 
 
 def sequence(dice, scope, fuel):
-    """A sequence or a group with some methods behind it."""
+    """A sequence or a group with some methods behind it; a scalar where there is none."""
     part = base(dice, scope, fuel)
     if part is None:
         return any_scalar(dice, scope, 0)
