@@ -61,6 +61,7 @@ fn seen_in<'a>(
 }
 
 /// For each table of the store, by number, its rows that the role may read.
+#[tactic(auto, using(crate::proofs::SeenLemmas::whole, crate::proofs::SeenLemmas::more))]
 pub fn seen_tables<'a>(
     alloc: Global,
     store: &'a Store,
@@ -70,8 +71,10 @@ pub fn seen_tables<'a>(
     ensures { IfOk result (λ tables. map shown_rows tables.items ≡ tables_as_seen policies.now (number_of role) store.now) }
 {
     let mut tables = Vec::with_capacity(alloc, store.len())?;
-    for table in 0..store.len() {
-        tables.push(seen_in(alloc, store, policies, role, table as u16)?)?;
+    let mut table = 0u16;
+    while (table as usize) < store.len() {
+        tables.push(seen_in(alloc, store, policies, role, table)?)?;
+        table += 1;
     }
     Ok(tables)
 }
