@@ -21,6 +21,7 @@ use Rattle.lq_tree.proofs.MappedStreams.{elements_natural, pair_map}
 use Rattle.lq_tree.proofs.MappedValues.{mapped_Group, mapped_Rec, mapped_Scalar, mapped_Seq, mapped_layer, mapped_out, same_kept}
 
 module _ {R S : Type 0} (f : R → S) where
+  -- a value with its rows replaced
   abbrev m : Value R → Value S
   m = mapped f
 

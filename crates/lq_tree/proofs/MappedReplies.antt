@@ -20,6 +20,7 @@ use Rattle.lq_tree.proofs.MappedValues.{Such, mapped_layer, mapped_member, mappe
 -- ---- faults inside of a value
 
 module _ {R S : Type 0} (f : R → S) where
+  -- a value with its rows replaced
   abbrev m : Value R → Value S
   m = mapped f
 

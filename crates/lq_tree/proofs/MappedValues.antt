@@ -26,6 +26,7 @@ module _ {R : Type 0} (P : Value R → Type 0) where
   of_every h v = ind-Value R P (λ x y e. subst (λ (d : Value-F R (Value R)). P (roll-Value R d)) e (h y)) v
 
 module _ {R S : Type 0} (f : R → S) where
+  -- a value with its rows replaced
   abbrev pub m : Value R → Value S
   m = mapped f
 

@@ -36,12 +36,14 @@ module _ {R : Type 0} (world : World R) where
 
 module _ {R S : Type 0} (f : R → S) (world : World R) (cell : S → List ℕ → Option Scalar)
     (same_cells : (r : R) (column : List ℕ) → cell (f r) column ≡ world.cell r column) where
+  -- what a form means in each of the two worlds
   abbrev a : Form → Means R
   a = form_meaning world
 
   abbrev b : Form → Means S
   b = form_meaning (over f world cell)
 
+  -- a value with its rows replaced
   abbrev m : Value R → Value S
   m = mapped f
 

@@ -39,12 +39,14 @@ over f world cell = record { schemas = world.schemas; rows = map (map f) world.r
 
 module _ {R S : Type 0} (f : R → S) (world : World R) (cell : S → List ℕ → Option Scalar)
     (same_cells : (r : R) (column : List ℕ) → cell (f r) column ≡ world.cell r column) where
+  -- the two worlds
   abbrev pub a : World R
   a = world
 
   abbrev pub b : World S
   b = over f world cell
 
+  -- a value with its rows replaced
   abbrev pub m : Value R → Value S
   m = mapped f
 
