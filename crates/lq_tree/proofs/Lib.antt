@@ -5,3 +5,10 @@ pub mod TermTypes
 pub mod TreePulls
 pub mod TypeLemmas
 pub mod Walks
+pub mod MappedItems
+pub mod MappedMethods
+pub mod MappedReplies
+pub mod MappedStreams
+pub mod MappedValues
+pub mod RowForms
+pub mod RowMeanings

@@ -3,3 +3,5 @@ pub mod BindingLaws
 pub mod FormMeaning
 pub mod Places
 pub mod Bound
+pub mod RowLaws
+pub mod Rows

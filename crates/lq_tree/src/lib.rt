@@ -4,6 +4,7 @@
 
 mod binding_laws;
 mod bound;
+pub mod row_laws;
 mod tree;
 
 pub use binding_laws::types_of_trees;
