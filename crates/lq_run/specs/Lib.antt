@@ -1,2 +1,3 @@
 pub mod RunReply
 pub mod SeenRows
+pub mod TreeReply

@@ -4,6 +4,7 @@ ghost use Rattle.lq_model.specs.Visible.{seen_rows, tables_as_seen};
 ghost use Rattle.lq_policy.specs.Roles.{number_of};
 ghost use Rattle.lq_run.specs.SeenRows.{admitted_rows, shown_row, shown_rows};
 
+use lq_pipe::TableRow;
 use lq_policy::{Action, Policies, RoleId, RowRules};
 use lq_store::Store;
 use lq_value::{Row, RowRef, Scalar};
@@ -23,6 +24,14 @@ impl RowRef for SeenRow<'_> {
 
     fn cells(&self) -> &[Scalar] {
         self.row.cells.as_slice()
+    }
+}
+
+impl TableRow for SeenRow<'_> {
+    ghost table_of = { λ r. r.table };
+
+    fn table(&self) -> u16 {
+        self.table
     }
 }
 
