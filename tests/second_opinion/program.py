@@ -1,6 +1,7 @@
 """The whole program by this reading: words and a script give standard output, standard error and a status.
 
-It can be used in the place of `lq`, slowly: `python3 -B tests/second_opinion/program.py --role R --policy P T.csv .. <SCRIPT`
+It can be used in the place of `lq`, slowly: `python3 -B tests/second_opinion/program.py --role R --policy P T.csv .. <SCRIPT`.
+With `--whole` as its first word it answers every query of the language, and else what is served today.
 """
 
 import os
@@ -11,6 +12,7 @@ from commands import HelpWanted, UsageFault, options_of
 from meaning import reply_of
 from policies import PolicyFault, as_seen, read_policies
 from tables import TableFault, read_table, without_marks
+from whole_meaning import whole_reply_of
 
 MOST_SCRIPT_BYTES = 1_048_576
 MOST_LINE_BYTES = 65_536
@@ -103,12 +105,13 @@ def lines_of(script):
         raise Fault("lq: script: utf8", 4) from None
 
 
-def replies_of(words, read_script):
+def replies_of(words, read_script, whole):
     """Tables, policies and the role come before the script, and the whole script before its first line is answered."""
+    reply = whole_reply_of if whole else reply_of
     options = options_of(words)
     tables, views = seen_tables(options)
     script = script_of(options, read_script)
-    return "".join(reply_of(line, tables) for line in lines_of(script)).encode(), views
+    return "".join(reply(line, tables) for line in lines_of(script)).encode(), views
 
 
 def ended_by(fault):
@@ -116,10 +119,11 @@ def ended_by(fault):
     return Answer(fault.status, b"", f"{fault.line}\n".encode())
 
 
-def answer(words, read_script, can_write=True):
-    """The answer to words and a script; `can_write` is whether standard output takes bytes."""
+def answer(words, read_script, can_write=True, whole=False):
+    """The answer to words and a script; `can_write` is whether standard output takes bytes, and `whole` whether every query is
+    served."""
     try:
-        output, views = replies_of(words, read_script)
+        output, views = replies_of(words, read_script, whole)
         if output and not can_write:
             raise WRITE_FAULT
         return Answer(0, output, b"", views)
@@ -133,8 +137,9 @@ def answer(words, read_script, can_write=True):
 
 def main():
     """The answer to this process's words and standard input, on its own standard streams."""
-    words = [os.fsencode(word) for word in sys.argv[1:]]
-    given = answer(words, lambda: open(0, "rb").read())
+    whole = sys.argv[1:2] == ["--whole"]
+    words = [os.fsencode(word) for word in sys.argv[1 + whole:]]
+    given = answer(words, lambda: open(0, "rb").read(), whole=whole)
     try:
         with open(1, "wb", closefd=False) as output:
             output.write(b"help\n" if given.output is SOME_TEXT else given.output)

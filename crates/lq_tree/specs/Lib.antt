@@ -1,1 +1,6 @@
+pub mod Binding
+pub mod BindingLaws
 pub mod FormMeaning
+pub mod Places
+pub mod RowLaws
+pub mod Rows

@@ -2,6 +2,9 @@
 //! needs, and nothing is left to look up by a text when the tree is run.
 #![tactic(auto)]
 
+mod binding_laws;
+pub mod row_laws;
 mod tree;
 
+pub use binding_laws::{meanings_of_trees, trees_of_expressions, types_of_trees};
 pub use tree::{Form, Joined, Tree, ty};

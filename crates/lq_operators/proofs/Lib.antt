@@ -1,0 +1,9 @@
+pub mod ArgumentLemmas
+pub mod FirstLemmas
+pub mod ItemLemmas
+pub mod MoveLemmas
+pub mod NumberLemmas
+pub mod Opens
+pub mod OrderLemmas
+pub mod PairLemmas
+pub mod PlaceLemmas

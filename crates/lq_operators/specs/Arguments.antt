@@ -1,0 +1,12 @@
+-- What an argument stands for where it is no sequence or no number, and what is kept by whether it is among others.
+use Rattle.std.specs.Prelude.{if◌then◌else◌, not, [], Bool, None}
+use Rattle.lq_value.specs.declared.value.Fault.TheVariants as fault
+use Rattle.lq_model.specs.Meaning.{World}
+
+-- A world of no tables. Of a world an argument's meaning takes only what stands where there is none, here a null reference.
+abbrev pub nowhere : {R : Type 0} → World R
+nowhere = record { schemas = []; rows = []; cell = λ r name. None; unknown = fault.NullReference }
+
+-- whether an item is kept, where those among the others are wanted, or the rest
+abbrev pub kept_by : Bool → Bool → Bool
+kept_by wanted found = if wanted then found else not found

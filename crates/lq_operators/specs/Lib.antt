@@ -1,0 +1,6 @@
+pub mod Answers
+pub mod Arguments
+pub mod Matching
+pub mod Moves
+pub mod Numbers
+pub mod Places

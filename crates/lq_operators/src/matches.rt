@@ -1,0 +1,75 @@
+//! The inner side of a join.
+ghost use Rattle.std.specs.Prelude.{◌≡◌, map};
+ghost use Rattle.lq_value.specs.Keys.{key_value};
+ghost use Rattle.lq_value.specs.declared.value.Value.{out-Value};
+ghost use Rattle.lq_model.specs.Meaning.{is_null_layer};
+ghost use Rattle.lq_operators.specs.Places.{FindsKeys};
+
+use crate::keys::lookup_of;
+use crate::pairs::{elements_of, split};
+use lq_lookup::Lookup;
+use lq_value::{List, RowRef, Scalar, Value};
+use std::alloc::{AllocError, Global};
+
+/// Items with their keys, prepared for a join (.NET, Enumerable.Join and GroupJoin). Contracts
+/// see it through `pairs_of`, the list of the pairs of a key and its item.
+#[derive(Drop)]
+pub struct Matches<R> {
+    keys: List<Value<R>>,
+    items: List<Value<R>>,
+    lookup: Lookup,
+    ghost found: { FindsKeys lookup (map key_value keys) },
+}
+
+impl<R: RowRef> Matches<R> {
+    ghost use Rattle.std.specs.Prelude.{◌≡◌, IfOk};
+    ghost use Rattle.lq_model.specs.Meaning.{matches};
+    ghost use Rattle.lq_operators.specs.Matching.{pairs_of};
+
+    /// The pairs of a key and its item, in their order.
+    #[tactic(auto, using(crate::proofs::PairLemmas::zip_both), unfolding(crate::specs::Matching::pairs_of))]
+    pub fn build(alloc: Global, pairs: List<(Value<R>, Value<R>)>) -> Result<Matches<R>, AllocError>
+        ensures { IfOk result (λ made. pairs_of made ≡ pairs) }
+    {
+        let (keys, items) = split(alloc, pairs)?;
+        let lookup = lookup_of(alloc, keys.as_slice())?;
+        Ok(Matches {
+            keys,
+            items,
+            lookup,
+        })
+    }
+
+    /// Copies of the items whose keys are the same as `key`, in their order. A key that is itself
+    /// null is the same as none; a record with null members is a key as any other.
+    #[tactic(auto, unfolding(crate::specs::Matching::pairs_of))]
+    pub fn find(&self, alloc: Global, key: &Value<R>) -> Result<List<Value<R>>, AllocError>
+        ensures { IfOk result (λ found. found ≡ matches key.now (pairs_of self.now)) }
+    {
+        if is_null(key) {
+            return Ok(List::new(alloc));
+        }
+        elements_of(
+            alloc,
+            key,
+            self.keys.as_slice(),
+            self.items.as_slice(),
+            &self.lookup,
+        )
+    }
+}
+
+// Whether a value is null.
+#[tactic(auto, using(crate::proofs::Opens::layers))]
+fn is_null<R: RowRef>(value: &Value<R>) -> bool
+    ensures { result ≡ is_null_layer (out-Value R value.now) }
+{
+    match value {
+        Value::Scalar(Scalar::Null) => true,
+        Value::Scalar(_) => false,
+        Value::Row(_) => false,
+        Value::Rec(_) => false,
+        Value::Group(_, _) => false,
+        Value::Seq(_, _) => false,
+    }
+}

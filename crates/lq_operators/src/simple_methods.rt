@@ -1,0 +1,51 @@
+//! Methods without an argument.
+ghost use Rattle.lq_model.specs.WholeMeaning.{simple_meaning};
+ghost use Rattle.lq_operators.specs.Answers.{IsAnswer};
+
+use crate::defaults::{default_of, no_number};
+use crate::error::RunError;
+use crate::firsts::distinct;
+use crate::items::{any, first, last, single};
+use crate::numbers::{Extreme, best_of, count, sum};
+use crate::sequences::{default_if_empty, reversed, sequence};
+use lq_model::Simple;
+use lq_value::{End, Fault, List, RowRef, Scalar, Ty, Value};
+use std::alloc::Global;
+
+/// What a method without an argument makes of items of the type `ty`, behind which the source ends so
+/// (.NET, Enumerable): what each reads, where it stops and which fault it meets are as there.
+pub fn simple<R: RowRef>(
+    alloc: Global,
+    method: Simple,
+    ty: &Ty,
+    items: List<Value<R>>,
+    end: End,
+) -> Result<Value<R>, RunError>
+    ensures { IsAnswer (simple_meaning method ty.now (items, end)) result }
+{
+    match method {
+        Simple::Distinct => Ok(Value::Seq(distinct(alloc, items)?, end)),
+        Simple::Reverse => Ok(sequence(reversed(alloc, items, end))),
+        Simple::DefaultIfEmpty => Ok(sequence(default_if_empty(default_of(ty), items, end)?)),
+        Simple::Any => Ok(Value::Scalar(Scalar::Bool(any(items, end)?))),
+        Simple::Count => Ok(Value::Scalar(count(items, end)?)),
+        Simple::First => Ok(first(Err(Fault::InvalidOperation), items, end)?),
+        Simple::FirstOrDefault => Ok(first(Ok(default_of(ty)), items, end)?),
+        Simple::Last => Ok(last(Err(Fault::InvalidOperation), items, end)?),
+        Simple::Single => Ok(single(Err(Fault::InvalidOperation), items, end)?),
+        Simple::SingleOrDefault => Ok(single(Ok(default_of(ty)), items, end)?),
+        Simple::Sum => Ok(Value::Scalar(sum(items.as_slice(), end)?)),
+        Simple::Min => Ok(Value::Scalar(best_of(
+            Extreme::Least,
+            no_number(ty),
+            items.as_slice(),
+            end,
+        )?)),
+        Simple::Max => Ok(Value::Scalar(best_of(
+            Extreme::Greatest,
+            no_number(ty),
+            items.as_slice(),
+            end,
+        )?)),
+    }
+}

@@ -1,0 +1,194 @@
+-- What each form means, over what the forms in it mean.
+use Rattle.std.proofs.Common.{◌≡◌, ◌∷◌, ◌++◌, if◌then◌else◌, not, List, [], map, ℕ, Bool, true, false, Result, Ok, Err, ap, ◌∙◌, sym, refl, subst, slice_get, ◌+◌, ◌<◌, suc, append_assoc, arith, drop, drop-cons, get_or, length}
+use Rattle.lq_value.specs.SameAndOrder.{same_values as same_keys}
+use Rattle.lq_value.specs.declared.scalar.Scalar.{Scalar}
+use Rattle.lq_value.specs.declared.ty.Ty.{Ty}
+use Rattle.lq_value.specs.declared.value.Fault.{Fault}
+use Rattle.lq_value.specs.declared.value.Value.{Value, out-Value}
+use Rattle.lq_value.specs.declared.value.Value.TheVariants as value
+use Rattle.lq_model.specs.Arrangement.{order_by}
+use Rattle.lq_model.specs.Meaning.{World, as_group, as_value, is_null, on_scalar, on_truth, sequence, stream_of, table_value, truth_value}
+use Rattle.lq_model.specs.Operations.{of_one, of_two, on_ok}
+use Rattle.lq_model.specs.Operators.{first, pair, second}
+use Rattle.lq_model.specs.Stream.{Stream, expand_by, group_by}
+use Rattle.lq_model.specs.WholeMeaning.{given_meaning, simple_meaning, through_meaning}
+use Rattle.lq_model.specs.declared.methods.Given.{Given}
+use Rattle.lq_model.specs.declared.methods.Simple.{Simple}
+use Rattle.lq_model.specs.declared.methods.Through.{Through}
+use Rattle.lq_model.specs.declared.operation.Op.{Op}
+use Rattle.lq_model.specs.declared.syntax.Field.{Field}
+use Rattle.lq_model.specs.declared.syntax.SortKey.{SortKey}
+use Rattle.lq_operators.specs.Answers.{IsAnswer}
+use Rattle.lq_operators.specs.declared.error.RunError.{RunError}
+use Rattle.lq_tree.specs.FormMeaning.{Means, Slots, cell_in, form_meaning, form_step, if_there, is_null_value, is_true, joined_stream, key_in, member_at, members_of, sort_key, with_item, with_items}
+use Rattle.lq_tree.specs.declared.tree.Form.{Form, fold_out-Form, map-Form, out-Form}
+use Rattle.lq_tree.specs.declared.tree.Form.TheOpen.{Form-F}
+use Rattle.lq_tree.specs.declared.tree.Form.TheVariants as form
+use Rattle.lq_tree.specs.declared.tree.Joined.{Joined}
+use Rattle.lq_pipe.specs.Lists.{field_means, joined_means, key_means}
+
+module _ {R : Type 0} (world : World R) where
+  abbrev layer_meaning : Form-F Form → Means R
+  layer_meaning layer = form_step world (map-Form Form (Means R) (form_meaning world) layer)
+
+  form_out : (f : Form) (slots : Slots R) → form_meaning world f slots ≡ layer_meaning (out-Form f) slots
+  unfolding form_meaning
+  form_out f slots = ap (λ (m : Means R). m slots) (fold_out-Form (Means R) (form_step world) f)
+
+  at : (f : Form) (layer : Form-F Form) (slots : Slots R) → out-Form f ≡ layer → form_meaning world f slots ≡ layer_meaning layer slots
+  at f layer slots h = form_out f slots ∙ ap (λ l. layer_meaning l slots) h
+
+  pub form_literal : (s : Scalar) (slots : Slots R) → form_meaning world (form.Literal s) slots ≡ Ok (value.Scalar s)
+  form_literal s slots = at _ _ slots (form.outs-Literal s)
+
+  pub form_slot : (n : ℕ) (slots : Slots R) → form_meaning world (form.Slot n) slots ≡ if_there world (slice_get slots n)
+  form_slot n slots = at _ _ slots (form.outs-Slot n)
+
+  pub form_first : (a : Form) (slots : Slots R) → form_meaning world (form.First a) slots ≡ on_ok (form_meaning world a slots) (λ v. Ok (first v))
+  form_first a slots = at _ _ slots (form.outs-First a)
+
+  pub form_second : (a : Form) (slots : Slots R) → form_meaning world (form.Second a) slots ≡ on_ok (form_meaning world a slots) (λ v. Ok (second v))
+  form_second a slots = at _ _ slots (form.outs-Second a)
+
+  pub form_table : (n : ℕ) (slots : Slots R) → form_meaning world (form.Table n) slots ≡ table_value world (slice_get world.rows n)
+  form_table n slots = at _ _ slots (form.outs-Table n)
+
+  pub form_column : (a : Form) (table c : ℕ) (slots : Slots R)
+      → form_meaning world (form.Column a table c) slots ≡ on_ok (form_meaning world a slots) (λ v. cell_in world table c (out-Value R v))
+  form_column a table c slots = at _ _ slots (form.outs-Column a table c)
+
+  pub form_member : (a : Form) (place : ℕ) (slots : Slots R)
+      → form_meaning world (form.Member a place) slots ≡ on_ok (form_meaning world a slots) (λ v. member_at world place (out-Value R v))
+  form_member a place slots = at _ _ slots (form.outs-Member a place)
+
+  pub form_key : (a : Form) (slots : Slots R)
+      → form_meaning world (form.Key a) slots ≡ on_ok (form_meaning world a slots) (λ v. key_in world (out-Value R v))
+  form_key a slots = at _ _ slots (form.outs-Key a)
+
+  pub form_unary : (o : Op) (a : Form) (slots : Slots R)
+      → form_meaning world (form.Unary o a) slots ≡ on_scalar world (form_meaning world a slots) (λ s. as_value (of_one world.unknown o s))
+  form_unary o a slots = at _ _ slots (form.outs-Unary o a)
+
+  pub form_binary : (o : Op) (a b : Form) (slots : Slots R)
+      → form_meaning world (form.Binary o a b) slots
+      ≡ on_scalar world (form_meaning world a slots) (λ s. on_scalar world (form_meaning world b slots) (λ t. as_value (of_two world.unknown o s t)))
+  form_binary o a b slots = at _ _ slots (form.outs-Binary o a b)
+
+  pub form_both : (a b : Form) (slots : Slots R)
+      → form_meaning world (form.And a b) slots
+      ≡ on_truth world (form_meaning world a slots) (λ t. if t then form_meaning world b slots else Ok (truth_value false))
+  form_both a b slots = at _ _ slots (form.outs-And a b)
+
+  pub form_either : (a b : Form) (slots : Slots R)
+      → form_meaning world (form.Or a b) slots
+      ≡ on_truth world (form_meaning world a slots) (λ t. if t then Ok (truth_value true) else form_meaning world b slots)
+  form_either a b slots = at _ _ slots (form.outs-Or a b)
+
+  pub form_coalesce : (a b : Form) (slots : Slots R)
+      → form_meaning world (form.Coalesce a b) slots
+      ≡ on_scalar world (form_meaning world a slots) (λ s. if is_null s then form_meaning world b slots else Ok (value.Scalar s))
+  form_coalesce a b slots = at _ _ slots (form.outs-Coalesce a b)
+
+  pub form_choice : (c a b : Form) (slots : Slots R)
+      → form_meaning world (form.Conditional c a b) slots
+      ≡ on_truth world (form_meaning world c slots) (λ t. if t then form_meaning world a slots else form_meaning world b slots)
+  form_choice c a b slots = at _ _ slots (form.outs-Conditional c a b)
+
+  pub form_is_null : (wanted : Bool) (a : Form) (slots : Slots R)
+      → form_meaning world (form.IsNull wanted a) slots
+      ≡ on_ok (form_meaning world a slots)
+      (λ v. Ok (truth_value (if wanted then is_null_value world (out-Value R v) else not (is_null_value world (out-Value R v)))))
+  form_is_null wanted a slots = at _ _ slots (form.outs-IsNull wanted a)
+
+  pub form_record : (fields : List (Field Form)) (slots : Slots R)
+      → form_meaning world (form.Record fields) slots ≡ on_ok (members_of world (map (field_means world) fields) slots) (λ ms. Ok (value.Rec ms))
+  form_record fields slots = at _ _ slots (form.outs-Record fields)
+
+  pub form_pair : (a b : Form) (slots : Slots R)
+      → form_meaning world (form.Pair a b) slots
+      ≡ on_ok (form_meaning world a slots) (λ v. on_ok (form_meaning world b slots) (λ w. Ok (pair v w)))
+  form_pair a b slots = at _ _ slots (form.outs-Pair a b)
+
+  pub form_sequence : (a : Form) (slots : Slots R) → form_meaning world (form.Sequence a) slots ≡ Ok (sequence (stream_of world (form_meaning world a slots)))
+  form_sequence a slots = at _ _ slots (form.outs-Sequence a)
+
+  pub form_simple : (method : Simple) (t : Ty) (a : Form) (slots : Slots R)
+      → form_meaning world (form.Simple method t a) slots ≡ simple_meaning method t (stream_of world (form_meaning world a slots))
+  form_simple method t a slots = at _ _ slots (form.outs-Simple method t a)
+
+  pub form_given : (method : Given) (a b : Form) (slots : Slots R)
+      → form_meaning world (form.Given method a b) slots
+      ≡ given_meaning world method (form_meaning world b slots) (stream_of world (form_meaning world a slots))
+  form_given method a b slots = at _ _ slots (form.outs-Given method a b)
+
+  pub form_through : (method : Through) (t u : Ty) (a f : Form) (slots : Slots R)
+      → form_meaning world (form.Through method t u a f) slots
+      ≡ through_meaning world method t u (λ v. is_true world (form_meaning world f) (with_item world slots v))
+      (λ v. form_meaning world f (with_item world slots v)) (stream_of world (form_meaning world a slots))
+  form_through method t u a f slots = at _ _ slots (form.outs-Through method t u a f)
+
+  pub form_select_many : (a inner result : Form) (slots : Slots R)
+      → form_meaning world (form.SelectMany a inner result) slots
+      ≡ Ok (sequence
+      (expand_by (λ v. stream_of world (form_meaning world inner (with_item world slots v))) (λ v w. form_meaning world result (with_items world slots v w))
+      (stream_of world (form_meaning world a slots)).0 (stream_of world (form_meaning world a slots)).1))
+  form_select_many a inner result slots = at _ _ slots (form.outs-SelectMany a inner result)
+
+  pub form_join : (a : Form) (j : Joined Form) (slots : Slots R)
+      → form_meaning world (form.Join a j) slots
+      ≡ Ok (sequence (joined_stream world slots (joined_means world j) (stream_of world (form_meaning world a slots))))
+  form_join a j slots = at _ _ slots (form.outs-Join a j)
+
+  pub form_order_by : (a : Form) (ks : List (SortKey Form)) (slots : Slots R)
+      → form_meaning world (form.OrderBy a ks) slots
+      ≡ Ok (sequence
+      (order_by (λ k. k.descending) (sort_key world slots) (map (key_means world) ks) (stream_of world (form_meaning world a slots)).0
+      (stream_of world (form_meaning world a slots)).1))
+  form_order_by a ks slots = at _ _ slots (form.outs-OrderBy a ks)
+
+  pub form_group_by : (a key element : Form) (slots : Slots R)
+      → form_meaning world (form.GroupBy a key element) slots
+      ≡ Ok (sequence
+      (group_by same_keys (λ v. form_meaning world key (with_item world slots v)) (λ v. form_meaning world element (with_item world slots v)) as_group
+      (stream_of world (form_meaning world a slots)).0 (stream_of world (form_meaning world a slots)).1))
+  form_group_by a key element slots = at _ _ slots (form.outs-GroupBy a key element)
+
+  -- ---- answers
+
+  pub is_null_answer : (wanted : Bool) (a : Form) (slots : Slots R) (v v' : Value R) (b : Bool) → form_meaning world a slots ≡ Ok v → v' ≡ v
+      → b ≡ (if wanted then is_null_value world (out-Value R v') else not (is_null_value world (out-Value R v')))
+      → form_meaning world (form.IsNull wanted a) slots ≡ Ok (truth_value b)
+  is_null_answer wanted a slots v v' b is same told =
+      form_is_null wanted a slots
+      ∙ ap (λ m. on_ok m (λ w. Ok (truth_value (if wanted then is_null_value world (out-Value R w) else not (is_null_value world (out-Value R w)))))) is
+      ∙ ap (λ w. Ok (truth_value (if wanted then is_null_value world (out-Value R w) else not (is_null_value world (out-Value R w))))) (sym same)
+      ∙ ap (λ c. Ok (truth_value c)) (sym told)
+
+  pub given_answer : (method : Given) (a b : Form) (slots : Slots R) (argument : Result (Value R) Fault) (items : Stream (Value R)) (answer : Result (Value R) RunError)
+      → argument ≡ form_meaning world b slots → items ≡ stream_of world (form_meaning world a slots)
+      → IsAnswer (given_meaning world method argument items) answer → IsAnswer (form_meaning world (form.Given method a b) slots) answer
+  given_answer method a b slots argument items answer argument_is items_is h =
+      subst (λ m. IsAnswer m answer) ((λ i. given_meaning world method (argument_is i) (items_is i)) ∙ sym (form_given method a b slots)) h
+
+  pub members_goes : (items : List (Field Form)) (slots : Slots R) (all : Result (List (List ℕ × Value R)) Fault) (made more : List (List ℕ × Value R)) (i : ℕ) (field : Field Form) (v : Value R)
+      → field ≡ get_or items i field → i < length items → form_meaning world field.value slots ≡ Ok v → more ≡ made ++ (field.name, v) ∷ []
+      → on_ok (members_of world (map (field_means world) (drop i items)) slots) (λ ms. Ok (made ++ ms)) ≡ all
+      → on_ok (members_of world (map (field_means world) (drop (i + 1) items)) slots) (λ ms. Ok (more ++ ms)) ≡ all
+  members_goes items slots all made more i field v is below gives more_is goes =
+      subst (λ n. on_ok (members_of world (map (field_means world) (drop n items)) slots) (λ ms. Ok (more ++ ms)) ≡ all) (next_of i)
+      (ap (λ l. on_ok (rest (drop (suc i) items)) (λ ms. Ok (l ++ ms))) more_is
+      ∙ by (rest (drop (suc i) items))
+      ∙ ap (λ m. on_ok (on_ok m (λ w. on_ok (rest (drop (suc i) items)) (λ ms. Ok ((field.name, w) ∷ ms)))) (λ ms. Ok (made ++ ms))) (sym gives)
+      ∙ ap (λ f. on_ok (rest (f ∷ drop (suc i) items)) (λ ms. Ok (made ++ ms))) is
+      ∙ ap (λ l. on_ok (rest l) (λ ms. Ok (made ++ ms))) (sym (drop-cons items i field below)) ∙ goes)
+    where
+      next_of : (n : ℕ) → suc n ≡ n + 1
+      next_of n = omega arith
+
+      rest : List (Field Form) → Result (List (List ℕ × Value R)) Fault
+      rest fields = members_of world (map (field_means world) fields) slots
+
+      by : (found : Result (List (List ℕ × Value R)) Fault)
+          → on_ok found (λ ms. Ok ((made ++ (field.name, v) ∷ []) ++ ms)) ≡ on_ok (on_ok found (λ ms. Ok ((field.name, v) ∷ ms))) (λ ms. Ok (made ++ ms))
+      by (Ok ms) = ap (λ l. Ok l) (append_assoc made ((field.name, v) ∷ []) ms)
+      by (Err f) = refl

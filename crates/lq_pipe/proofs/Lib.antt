@@ -1,0 +1,6 @@
+pub mod ArrangementLemmas
+pub mod Forms
+pub mod ItemLemmas
+pub mod PartLemmas
+pub mod SlotLemmas
+pub mod StreamLemmas

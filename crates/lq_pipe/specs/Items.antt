@@ -1,0 +1,35 @@
+-- What comes of an item in a slot of its own.
+use Rattle.std.specs.Prelude.{List, map, Result, Ok}
+use Rattle.lq_value.specs.SameAndOrder.{same_values as same_keys}
+use Rattle.lq_value.specs.declared.value.End.TheVariants as end
+use Rattle.lq_value.specs.declared.value.Fault.{Fault}
+use Rattle.lq_value.specs.declared.value.Value.{Value}
+use Rattle.lq_model.specs.Meaning.{World, as_group, stream_of}
+use Rattle.lq_model.specs.Stream.{Stream, both, groups_of, made, on_value}
+use Rattle.lq_tree.specs.FormMeaning.{Slots, form_meaning, matched, with_item, with_items}
+use Rattle.lq_tree.specs.declared.tree.Form.{Form}
+use Rattle.lq_tree.specs.declared.tree.Joined.{Joined}
+
+module _ {R : Type 0} (world : World R) (slots : Slots R) where
+  -- what comes of an item and of each item of the sequence that it leads to
+  abbrev pub expanded_of : Form → Form → Value R → Stream (Value R)
+  expanded_of inner result x =
+      made (λ w. form_meaning world result (with_items world slots x w)) (stream_of world (form_meaning world inner (with_item world slots x)))
+
+  -- the key and the element of an item
+  abbrev pub keyed_of : Form → Form → Value R → Result (Value R × Value R) Fault
+  keyed_of key element x = both (form_meaning world key (with_item world slots x)) (form_meaning world element (with_item world slots x))
+
+  -- an inner item with its key
+  abbrev pub with_key_of : Form → Value R → Result (Value R × Value R) Fault
+  with_key_of key x = both (form_meaning world key (with_item world slots x)) (Ok x)
+
+  -- what comes of an outer item and of what its key matches
+  abbrev pub joined_of : Joined Form → List (Value R × Value R) → Value R → Stream (Value R)
+  joined_of j qs x =
+      on_value (form_meaning world j.outer_key (with_item world slots x))
+      (λ k. made (λ w. form_meaning world j.result (with_items world slots x w)) (matched world j.grouped k qs, end.Done))
+
+module _ {R : Type 0} where
+  abbrev pub groups_in : List (Value R × Value R) → Stream (Value R)
+  groups_in qs = (map as_group (groups_of same_keys qs), end.Done)

@@ -1,0 +1,7 @@
+pub mod Arrangements
+pub mod Items
+pub mod Kept
+pub mod Lists
+pub mod Running
+pub mod Slots
+pub mod Worlds

@@ -1,0 +1,26 @@
+-- What a tree reads: the schemas and rows of the tables that it is given, and the cells of rows by the names of their columns.
+use Rattle.std.specs.Prelude.{List, map, ℕ, slice_get}
+use Rattle.lq_value.specs.declared.scalar.Scalar.{Scalar}
+use Rattle.lq_value.specs.declared.table.Schema.{Schema}
+use Rattle.lq_value.specs.declared.value.Fault.TheVariants as fault
+use Rattle.lq_model.specs.Meaning.{World}
+use Rattle.lq_model.specs.Served.{columns_in}
+use Rattle.lq_model.specs.Visible.{cell_named}
+use Rattle.lq_pipe.specs.declared.tables.TableRows.{TableRows}
+
+module _ {R : Type 0} where
+  abbrev pub schemas_in : List (TableRows R) → List Schema
+  schemas_in tables = map (λ t. t.schema.now) tables
+
+  abbrev pub rows_in : List (TableRows R) → List (List R)
+  rows_in tables = map (λ t. t.rows.now) tables
+
+  -- what is read, where rows tell the numbers of their tables and their cells; the fault stands where an expression has no meaning
+  abbrev pub world_of : (R → ℕ) → (R → List Scalar) → List (TableRows R) → World R
+  world_of table_of shown tables =
+      record {
+        schemas = schemas_in tables;
+        rows = rows_in tables;
+        cell = λ r. cell_named (columns_in (slice_get (schemas_in tables) (table_of r))) (shown r);
+        unknown = fault.NullReference;
+      }

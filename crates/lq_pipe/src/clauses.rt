@@ -1,0 +1,354 @@
+//! The running of what several sequences or keys take part in.
+use crate::running::Running;
+use crate::slots::Slots;
+use crate::tables::TableRow;
+use crate::{arrangements, sequences};
+use lq_model::SortKey;
+use lq_operators::{Matches, RunError};
+use lq_tree::{Form, Joined};
+use lq_value::{End, Fault, List, Scalar, Value, copy};
+use std::alloc::AllocError;
+
+impl<'a, R: TableRow> Running<'a, R> {
+    ghost use Rattle.std.specs.Prelude.{◌≡◌, IfOk, Ok};
+    ghost use Rattle.lq_model.specs.Stream.{each, made, select_by, whole};
+    ghost use Rattle.lq_model.specs.Arrangement.{all_of};
+    ghost use Rattle.lq_model.specs.Meaning.{sequence};
+    ghost use Rattle.lq_pipe.specs.Items.{expanded_of, joined_of, keyed_of, with_key_of};
+    ghost use Rattle.lq_operators.specs.Matching.{pairs_of};
+    ghost use Rattle.lq_value.specs.declared.value.End.TheVariants as end;
+    ghost use Rattle.lq_operators.specs.Answers.{IsAnswer};
+    ghost use Rattle.lq_tree.specs.FormMeaning.{form_meaning, with_items};
+    ghost use Rattle.lq_tree.specs.declared.tree.Form.TheVariants as form;
+    ghost use Rattle.lq_pipe.specs.Arrangements.{columns_of, key_at, sorted_by};
+    ghost use Rattle.lq_pipe.specs.Running.{Answers, meant};
+    ghost use Rattle.lq_pipe.specs.Slots.{values_in};
+    ghost use Rattle.lq_pipe.specs.Worlds.{world_of};
+
+    /// What comes of each item and of each item of what it leads to.
+    #[cycle(running)]
+    pub(crate) fn select_many(
+        &self,
+        source: &Form,
+        inner: &Form,
+        body: &Form,
+        slots: &Slots<'_, R>,
+    ) -> Result<Value<R>, RunError>
+        ensures { IsAnswer (meant (world_of R.table_of R.shown self.now.tables.now) (form.SelectMany source.now inner.now body.now) slots.now) result }
+    {
+        let (items, end) = self.stream(source, slots)?;
+        let (values, end) = self.expanded(inner, body, items.as_slice(), end, slots)?;
+        Ok(Value::Seq(values, end))
+    }
+
+    /// What comes of an item and of each item of what it leads to.
+    #[cycle(running)]
+    fn expanded_item(
+        &self,
+        inner: &Form,
+        body: &Form,
+        item: &Value<R>,
+        slots: &Slots<'_, R>,
+    ) -> Result<(List<Value<R>>, End), AllocError>
+        ensures { IfOk result (λ s. s ≡ expanded_of (world_of R.table_of R.shown self.now.tables.now) (values_in slots.now) inner.now body.now item.now) }
+    {
+        let deeper = (&*slots).with(&*item);
+        let (values, end) = self.stream(inner, &deeper)?;
+        self.selected(body, values.as_slice(), end, &deeper)
+    }
+
+    /// The same of each item, up to the first fault.
+    #[cycle(running)]
+    fn expanded(
+        &self,
+        inner: &Form,
+        body: &Form,
+        items: &[Value<R>],
+        end: End,
+        slots: &Slots<'_, R>,
+    ) -> Result<(List<Value<R>>, End), AllocError>
+        ensures { IfOk result (λ s. s ≡ each (expanded_of (world_of R.table_of R.shown self.now.tables.now) (values_in slots.now) inner.now body.now) items.now end) }
+    {
+        let mut made = List::new(self.alloc);
+        for item in items {
+            let (values, ending) = self.expanded_item(inner, body, item, slots)?;
+            let joined = sequences::joined(made, values)?;
+            match ending {
+                End::Done => made = joined,
+                End::Fault(fault) => return Ok((joined, End::Fault(fault))),
+            }
+        }
+        Ok((made, end))
+    }
+
+    /// The items grouped by a key.
+    #[cycle(running)]
+    pub(crate) fn group_by(
+        &self,
+        source: &Form,
+        key: &Form,
+        element: &Form,
+        slots: &Slots<'_, R>,
+    ) -> Result<Value<R>, RunError>
+        ensures { IsAnswer (meant (world_of R.table_of R.shown self.now.tables.now) (form.GroupBy source.now key.now element.now) slots.now) result }
+    {
+        let (items, end) = self.stream(source, slots)?;
+        let (pairs, end) = self.keyed(key, element, items.as_slice(), end, slots)?;
+        Ok(sequences::groups(self.alloc, pairs, end)?)
+    }
+
+    /// The key of an item, and then its element.
+    #[cycle(running)]
+    fn keyed_item(
+        &self,
+        key: &Form,
+        element: &Form,
+        item: &Value<R>,
+        slots: &Slots<'_, R>,
+    ) -> Result<Result<(Value<R>, Value<R>), Fault>, AllocError>
+        ensures { IfOk result (λ found. found ≡ keyed_of (world_of R.table_of R.shown self.now.tables.now) (values_in slots.now) key.now element.now item.now) }
+    {
+        match self.of_item(key, item, slots)? {
+            Ok(key) => match self.of_item(element, item, slots)? {
+                Ok(element) => Ok(Ok((key, element))),
+                Err(fault) => Ok(Err(fault)),
+            },
+            Err(fault) => Ok(Err(fault)),
+        }
+    }
+
+    /// The keys of items with their elements, up to the first fault.
+    #[cycle(running)]
+    fn keyed(
+        &self,
+        key: &Form,
+        element: &Form,
+        items: &[Value<R>],
+        end: End,
+        slots: &Slots<'_, R>,
+    ) -> Result<(List<(Value<R>, Value<R>)>, End), AllocError>
+        ensures { IfOk result (λ s. s ≡ select_by (keyed_of (world_of R.table_of R.shown self.now.tables.now) (values_in slots.now) key.now element.now) items.now end) }
+    {
+        let mut made = List::new(self.alloc);
+        for item in items {
+            match self.keyed_item(key, element, item, slots)? {
+                Ok(pair) => made.push(pair)?,
+                Err(fault) => return Ok((made, End::Fault(fault))),
+            }
+        }
+        Ok((made, end))
+    }
+
+    /// A join: the inner items and their keys are read first, and then the outer ones one by one.
+    #[cycle(running)]
+    pub(crate) fn join(
+        &self,
+        joined: &Joined<Form>,
+        source: &Form,
+        slots: &Slots<'_, R>,
+    ) -> Result<Value<R>, RunError>
+        ensures { IsAnswer (meant (world_of R.table_of R.shown self.now.tables.now) (form.Join source.now joined.now) slots.now) result }
+    {
+        let (items, end) = self.stream(source, slots)?;
+        let (inner, inner_end) = self.stream(&joined.inner, slots)?;
+        let (pairs, pairs_end) = self.with_keys(
+            &joined.inner_key,
+            inner.as_slice(),
+            inner_end,
+            slots,
+        )?;
+        match pairs_end {
+            End::Done => {
+                let matches = Matches::build(self.alloc, pairs)?;
+                let (values, end) = self.joined(joined, &matches, items.as_slice(), end, slots)?;
+                Ok(Value::Seq(values, end))
+            }
+            End::Fault(fault) => Ok(sequences::stopped(self.alloc, fault)),
+        }
+    }
+
+    /// An inner item with its key.
+    #[cycle(running)]
+    fn with_key(
+        &self,
+        key: &Form,
+        item: &Value<R>,
+        slots: &Slots<'_, R>,
+    ) -> Result<Result<(Value<R>, Value<R>), Fault>, AllocError>
+        ensures { IfOk result (λ found. found ≡ with_key_of (world_of R.table_of R.shown self.now.tables.now) (values_in slots.now) key.now item.now) }
+    {
+        match self.of_item(key, item, slots)? {
+            Ok(key) => Ok(Ok((key, copy(self.alloc, item)?))),
+            Err(fault) => Ok(Err(fault)),
+        }
+    }
+
+    /// Inner items with their keys, up to the first fault.
+    #[cycle(running)]
+    fn with_keys(
+        &self,
+        key: &Form,
+        items: &[Value<R>],
+        end: End,
+        slots: &Slots<'_, R>,
+    ) -> Result<(List<(Value<R>, Value<R>)>, End), AllocError>
+        ensures { IfOk result (λ s. s ≡ select_by (with_key_of (world_of R.table_of R.shown self.now.tables.now) (values_in slots.now) key.now) items.now end) }
+    {
+        let mut made = List::new(self.alloc);
+        for item in items {
+            match self.with_key(key, item, slots)? {
+                Ok(pair) => made.push(pair)?,
+                Err(fault) => return Ok((made, End::Fault(fault))),
+            }
+        }
+        Ok((made, end))
+    }
+
+    /// What comes of an outer item and of each inner one that its key matches, or of all of them.
+    #[cycle(running)]
+    fn joined_item(
+        &self,
+        joined: &Joined<Form>,
+        matches: &Matches<R>,
+        item: &Value<R>,
+        slots: &Slots<'_, R>,
+    ) -> Result<(List<Value<R>>, End), AllocError>
+        ensures { IfOk result (λ s. s ≡ joined_of (world_of R.table_of R.shown self.now.tables.now) (values_in slots.now) joined.now (pairs_of matches.now) item.now) }
+    {
+        match self.of_item(&joined.outer_key, item, slots)? {
+            Ok(key) => {
+                let found = sequences::matched(self.alloc, joined.grouped, &key, matches)?;
+                self.matched_item(&joined.result, found.as_slice(), item, slots)
+            }
+            Err(fault) => Ok((List::new(self.alloc), End::Fault(fault))),
+        }
+    }
+
+    /// What comes of an item and of each of what it matches.
+    #[cycle(running)]
+    fn matched_item(
+        &self,
+        body: &Form,
+        found: &[Value<R>],
+        item: &Value<R>,
+        slots: &Slots<'_, R>,
+    ) -> Result<(List<Value<R>>, End), AllocError>
+        ensures { IfOk result (λ s. s ≡ made (λ w. form_meaning (world_of R.table_of R.shown self.now.tables.now) body.now (with_items (world_of R.table_of R.shown self.now.tables.now) (values_in slots.now) item.now w)) (found.now, end.Done)) }
+    {
+        let deeper = (&*slots).with(&*item);
+        self.selected(body, found, End::Done, &deeper)
+    }
+
+    /// What comes of each outer item, up to the first fault.
+    #[cycle(running)]
+    fn joined(
+        &self,
+        joined: &Joined<Form>,
+        matches: &Matches<R>,
+        items: &[Value<R>],
+        end: End,
+        slots: &Slots<'_, R>,
+    ) -> Result<(List<Value<R>>, End), AllocError>
+        ensures { IfOk result (λ s. s ≡ each (joined_of (world_of R.table_of R.shown self.now.tables.now) (values_in slots.now) joined.now (pairs_of matches.now)) items.now end) }
+    {
+        let mut made = List::new(self.alloc);
+        for item in items {
+            let (values, ending) = self.joined_item(joined, matches, item, slots)?;
+            let all = sequences::joined(made, values)?;
+            match ending {
+                End::Done => made = all,
+                End::Fault(fault) => return Ok((all, End::Fault(fault))),
+            }
+        }
+        Ok((made, end))
+    }
+
+    /// The items sorted by keys, which are met only where the items come to their end.
+    #[cycle(running)]
+    pub(crate) fn order_by(
+        &self,
+        keys: &List<SortKey<Form>>,
+        source: &Form,
+        slots: &Slots<'_, R>,
+    ) -> Result<Value<R>, RunError>
+        ensures { IsAnswer (meant (world_of R.table_of R.shown self.now.tables.now) (form.OrderBy source.now keys.now) slots.now) result }
+    {
+        let (items, end) = self.stream(source, slots)?;
+        Ok(self.arranged(keys, items, end, slots)?)
+    }
+
+    /// The items sorted by keys; where their stream ended in a fault, nothing but that fault.
+    #[cycle(running)]
+    fn arranged(
+        &self,
+        keys: &List<SortKey<Form>>,
+        items: List<Value<R>>,
+        end: End,
+        slots: &Slots<'_, R>,
+    ) -> Result<Value<R>, AllocError>
+        ensures { IfOk result (λ v. v ≡ sequence (whole items end (sorted_by (world_of R.table_of R.shown self.now.tables.now) (values_in slots.now) keys.now))) }
+    {
+        match end {
+            End::Done => self.sorted(keys, items, slots),
+            End::Fault(fault) => Ok(sequences::stopped(self.alloc, fault)),
+        }
+    }
+
+    /// The items sorted by keys, or the first fault that is met in a key.
+    #[cycle(running)]
+    fn sorted(
+        &self,
+        keys: &List<SortKey<Form>>,
+        items: List<Value<R>>,
+        slots: &Slots<'_, R>,
+    ) -> Result<Value<R>, AllocError>
+        ensures { IfOk result (λ v. v ≡ sequence (sorted_by (world_of R.table_of R.shown self.now.tables.now) (values_in slots.now) keys.now items)) }
+    {
+        let columns = self.columns(keys, items.as_slice(), slots);
+        arrangements::sorted_by(self.alloc, keys.as_slice(), columns, items)
+    }
+
+    /// The first key of all items, then the next of all, up to the first fault.
+    #[cycle(running)]
+    fn columns(
+        &self,
+        keys: &List<SortKey<Form>>,
+        items: &[Value<R>],
+        slots: &Slots<'_, R>,
+    ) -> Result<List<List<Scalar>>, RunError>
+        ensures { Answers (columns_of (world_of R.table_of R.shown self.now.tables.now) (values_in slots.now) keys.now items.now) result }
+    {
+        let mut made = List::new(self.alloc);
+        for key in keys.as_slice() {
+            let column = self.keys_of(&key.value, items, slots)?;
+            made.push(column)?;
+        }
+        Ok(made)
+    }
+
+    /// A key of each item, up to the first fault.
+    #[cycle(running)]
+    fn keys_of(
+        &self,
+        key: &Form,
+        items: &[Value<R>],
+        slots: &Slots<'_, R>,
+    ) -> Result<List<Scalar>, RunError>
+        ensures { Answers (all_of (key_at (world_of R.table_of R.shown self.now.tables.now) (values_in slots.now) key.now) items.now) result }
+    {
+        let mut made = List::new(self.alloc);
+        for item in items {
+            let found = self.key_of(key, item, slots)?;
+            made.push(found)?;
+        }
+        Ok(made)
+    }
+
+    /// A key of an item.
+    #[cycle(running)]
+    fn key_of(&self, key: &Form, item: &Value<R>, slots: &Slots<'_, R>) -> Result<Scalar, RunError>
+        ensures { Answers (key_at (world_of R.table_of R.shown self.now.tables.now) (values_in slots.now) key.now item.now) result }
+    {
+        self.scalar(key, &(&*slots).with(&*item))
+    }
+}

@@ -1,0 +1,168 @@
+//! The running of operators, and of what makes one value of several.
+use crate::running::Running;
+use crate::slots::Slots;
+use crate::tables::TableRow;
+use crate::{parts, scalars};
+use lq_model::{Field, Op};
+use lq_operators::RunError;
+use lq_tree::Form;
+use lq_value::{List, Scalar, Txt, Value};
+
+impl<'a, R: TableRow> Running<'a, R> {
+    ghost use Rattle.std.specs.Prelude.{Ok, map};
+    ghost use Rattle.lq_operators.specs.Answers.{IsAnswer};
+    ghost use Rattle.lq_tree.specs.FormMeaning.{members_of};
+    ghost use Rattle.lq_pipe.specs.Lists.{field_means};
+    ghost use Rattle.lq_tree.specs.declared.tree.Form.TheVariants as form;
+    ghost use Rattle.lq_pipe.specs.Running.{Answers, meant};
+    ghost use Rattle.lq_pipe.specs.Slots.{values_in};
+    ghost use Rattle.lq_pipe.specs.Worlds.{world_of};
+
+    /// What an operator gives to one operand.
+    #[cycle(running)]
+    #[tactic(auto, using(crate::proofs::Forms::form_unary))]
+    pub(crate) fn unary(
+        &self,
+        op: Op,
+        operand: &Form,
+        slots: &Slots<'_, R>,
+    ) -> Result<Value<R>, RunError>
+        ensures { IsAnswer (meant (world_of R.table_of R.shown self.now.tables.now) (form.Unary op operand.now) slots.now) result }
+    {
+        let operand = self.scalar(operand, slots)?;
+        scalars::of_one(self.alloc, op, operand)
+    }
+
+    /// What an operator gives to two operands, the left one of which is evaluated first.
+    #[cycle(running)]
+    #[tactic(auto, using(crate::proofs::Forms::form_binary))]
+    pub(crate) fn binary(
+        &self,
+        op: Op,
+        left: &Form,
+        right: &Form,
+        slots: &Slots<'_, R>,
+    ) -> Result<Value<R>, RunError>
+        ensures { IsAnswer (meant (world_of R.table_of R.shown self.now.tables.now) (form.Binary op left.now right.now) slots.now) result }
+    {
+        let left = self.scalar(left, slots)?;
+        let right = self.scalar(right, slots)?;
+        scalars::of_two(self.alloc, op, left, right)
+    }
+
+    /// Whether both are true; the second is evaluated only where the first is.
+    #[cycle(running)]
+    #[tactic(auto, using(crate::proofs::Forms::form_both))]
+    pub(crate) fn both(
+        &self,
+        left: &Form,
+        right: &Form,
+        slots: &Slots<'_, R>,
+    ) -> Result<Value<R>, RunError>
+        ensures { IsAnswer (meant (world_of R.table_of R.shown self.now.tables.now) (form.And left.now right.now) slots.now) result }
+    {
+        match self.truth(left, slots)? {
+            true => self.evaluate(right, slots),
+            false => Ok(Value::Scalar(Scalar::Bool(false))),
+        }
+    }
+
+    /// Whether one is true; the second is evaluated only where the first isn't.
+    #[cycle(running)]
+    #[tactic(auto, using(crate::proofs::Forms::form_either))]
+    pub(crate) fn either(
+        &self,
+        left: &Form,
+        right: &Form,
+        slots: &Slots<'_, R>,
+    ) -> Result<Value<R>, RunError>
+        ensures { IsAnswer (meant (world_of R.table_of R.shown self.now.tables.now) (form.Or left.now right.now) slots.now) result }
+    {
+        match self.truth(left, slots)? {
+            true => Ok(Value::Scalar(Scalar::Bool(true))),
+            false => self.evaluate(right, slots),
+        }
+    }
+
+    /// The first, or the second in place of null.
+    #[cycle(running)]
+    #[tactic(auto, using(crate::proofs::Forms::form_coalesce))]
+    pub(crate) fn coalesced(
+        &self,
+        left: &Form,
+        right: &Form,
+        slots: &Slots<'_, R>,
+    ) -> Result<Value<R>, RunError>
+        ensures { IsAnswer (meant (world_of R.table_of R.shown self.now.tables.now) (form.Coalesce left.now right.now) slots.now) result }
+    {
+        let left = self.scalar(left, slots)?;
+        match scalars::is_null(&left) {
+            true => self.evaluate(right, slots),
+            false => Ok(Value::Scalar(left)),
+        }
+    }
+
+    /// The one that the condition chooses; the other is not evaluated.
+    #[cycle(running)]
+    #[tactic(auto, using(crate::proofs::Forms::form_choice))]
+    pub(crate) fn chosen(
+        &self,
+        condition: &Form,
+        left: &Form,
+        right: &Form,
+        slots: &Slots<'_, R>,
+    ) -> Result<Value<R>, RunError>
+        ensures { IsAnswer (meant (world_of R.table_of R.shown self.now.tables.now) (form.Conditional condition.now left.now right.now) slots.now) result }
+    {
+        match self.truth(condition, slots)? {
+            true => self.evaluate(left, slots),
+            false => self.evaluate(right, slots),
+        }
+    }
+
+    /// A record.
+    #[cycle(running)]
+    #[tactic(auto, using(crate::proofs::Forms::form_record))]
+    pub(crate) fn record(
+        &self,
+        fields: &List<Field<Form>>,
+        slots: &Slots<'_, R>,
+    ) -> Result<Value<R>, RunError>
+        ensures { IsAnswer (meant (world_of R.table_of R.shown self.now.tables.now) (form.Record fields.now) slots.now) result }
+    {
+        Ok(Value::Rec(self.members(fields, slots)?))
+    }
+
+    /// The members of a record, in their order, up to the first fault.
+    #[cycle(running)]
+    fn members(
+        &self,
+        fields: &List<Field<Form>>,
+        slots: &Slots<'_, R>,
+    ) -> Result<List<(Txt, Value<R>)>, RunError>
+        ensures { Answers (members_of (world_of R.table_of R.shown self.now.tables.now) (map (field_means (world_of R.table_of R.shown self.now.tables.now)) fields.now) (values_in slots.now)) result }
+    {
+        let mut made = List::new(self.alloc);
+        for field in fields.as_slice() {
+            let value = self.evaluate(&field.value, slots)?;
+            parts::push_member(self.alloc, &mut made, &field.name, value)?;
+        }
+        Ok(made)
+    }
+
+    /// A pair, the left part of which is evaluated first.
+    #[cycle(running)]
+    #[tactic(auto, using(crate::proofs::Forms::form_pair))]
+    pub(crate) fn pair(
+        &self,
+        left: &Form,
+        right: &Form,
+        slots: &Slots<'_, R>,
+    ) -> Result<Value<R>, RunError>
+        ensures { IsAnswer (meant (world_of R.table_of R.shown self.now.tables.now) (form.Pair left.now right.now) slots.now) result }
+    {
+        let left = self.evaluate(left, slots)?;
+        let right = self.evaluate(right, slots)?;
+        Ok(parts::pair(self.alloc, left, right)?)
+    }
+}

@@ -1,0 +1,92 @@
+//! Parts of values: those of pairs, members of records, keys of groups.
+ghost use Rattle.std.specs.Prelude.{◌≡◌, ◌∷◌, ◌++◌, [], if◌then◌else◌, not, IfOk, OnOk, option_map, slice_get};
+ghost use Rattle.std.specs.Option.{option_copied};
+ghost use Rattle.lq_value.specs.declared.value.Value.{out-Value};
+ghost use Rattle.lq_model.specs.Meaning.{World};
+ghost use Rattle.lq_model.specs.Operators.{first, pair, second};
+ghost use Rattle.lq_tree.specs.FormMeaning.{is_null_value};
+
+use lq_value::{List, RowRef, Scalar, Txt, Value};
+use std::alloc::{AllocError, Global};
+
+/// The first part of a pair; of what is no pair, itself.
+#[tactic(auto, using(crate::proofs::PartLemmas::layers))]
+pub(crate) fn first<R: RowRef>(value: &Value<R>) -> &Value<R>
+    ensures { result.now ≡ first value.now }
+{
+    match value {
+        Value::Rec(members) => match members.as_slice() {
+            [(_, part), ..] => part,
+            [] => value,
+        },
+        Value::Scalar(_) | Value::Row(_) | Value::Group(_, _) | Value::Seq(_, _) => value,
+    }
+}
+
+/// The second part of a pair; of what is no pair, itself.
+#[tactic(auto, using(crate::proofs::PartLemmas::layers))]
+pub(crate) fn second<R: RowRef>(value: &Value<R>) -> &Value<R>
+    ensures { result.now ≡ second value.now }
+{
+    match value {
+        Value::Rec(members) => match members.as_slice() {
+            [_, (_, part), ..] => part,
+            [_] | [] => value,
+        },
+        Value::Scalar(_) | Value::Row(_) | Value::Group(_, _) | Value::Seq(_, _) => value,
+    }
+}
+
+/// A pair: a record of two members without names.
+pub(crate) fn pair<R: RowRef>(
+    alloc: Global,
+    left: Value<R>,
+    right: Value<R>,
+) -> Result<Value<R>, AllocError>
+    ensures { IfOk result (λ made. made ≡ pair left right) }
+{
+    let mut members = List::new(alloc);
+    members.push((Txt::from_str(alloc, "")?, left))?;
+    members.push((Txt::from_str(alloc, "")?, right))?;
+    Ok(Value::Rec(members))
+}
+
+/// Whether a value is null.
+#[tactic(auto, using(crate::proofs::PartLemmas::layers))]
+pub(crate) fn is_null<R: RowRef>(value: &Value<R>) -> bool
+    ensures { (world : World R) → result ≡ is_null_value world (out-Value R value.now) }
+{
+    match value {
+        Value::Scalar(Scalar::Null) => true,
+        Value::Scalar(Scalar::Int(_) | Scalar::Bool(_) | Scalar::Text(_)) => false,
+        Value::Row(_) | Value::Rec(_) | Value::Group(_, _) | Value::Seq(_, _) => false,
+    }
+}
+
+/// The value of the member at a place, if there is one.
+pub(crate) fn member<R: RowRef>(members: &[(Txt, Value<R>)], place: usize) -> Option<&Value<R>>
+    ensures { option_copied result ≡ option_map (λ member. member.1) (slice_get members.now place) }
+{
+    let (_, value) = members.get(place)?;
+    Some(value)
+}
+
+/// Whether a value is null, where that is wanted, and else whether it isn't.
+pub(crate) fn told_null<R: RowRef>(value: &Value<R>, wanted: bool) -> bool
+    ensures { (world : World R) → result ≡ (if wanted then is_null_value world (out-Value R value.now) else not (is_null_value world (out-Value R value.now))) }
+{
+    let null = is_null(value);
+    if wanted { null } else { !null }
+}
+
+/// Puts a member behind the others.
+pub(crate) fn push_member<R: RowRef>(
+    alloc: Global,
+    members: &mut List<(Txt, Value<R>)>,
+    name: &Txt,
+    value: Value<R>,
+) -> Result<(), AllocError>
+    ensures { OnOk result (members.new ≡ members.old ++ (name.now, value) ∷ []) }
+{
+    members.push((Txt::from_str(alloc, name.as_str())?, value))
+}

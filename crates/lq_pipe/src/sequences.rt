@@ -1,0 +1,111 @@
+//! Sequences: the streams that values are enumerated as.
+ghost use Rattle.std.specs.Prelude.{◌≡◌, ◌++◌, [], IfOk, Result};
+ghost use Rattle.lq_value.specs.declared.value.End.TheVariants as end;
+ghost use Rattle.lq_value.specs.declared.value.Fault.{Fault};
+ghost use Rattle.lq_value.specs.declared.value.Fault.TheVariants as fault;
+ghost use Rattle.lq_value.specs.declared.value.Value.{Value, out-Value};
+ghost use Rattle.lq_model.specs.Meaning.{World, items_of, sequence, stream_of};
+ghost use Rattle.lq_model.specs.Stream.{whole};
+ghost use Rattle.lq_operators.specs.Matching.{pairs_of};
+ghost use Rattle.lq_tree.specs.FormMeaning.{matched};
+ghost use Rattle.lq_pipe.specs.Items.{groups_in};
+ghost use Rattle.lq_operators.specs.Answers.{IsAnswer};
+
+use lq_operators::{Matches, RunError, grouped};
+use lq_value::{End, Fault, List, RowRef, Value};
+use std::alloc::{AllocError, Global};
+
+/// The items that a value is enumerated as, and their ending. What is no sequence and no group has
+/// none, and no typed tree has it where a sequence is asked for.
+#[tactic(auto, using(crate::proofs::PartLemmas::layers))]
+fn items<R: RowRef>(alloc: Global, value: Value<R>) -> (List<Value<R>>, End)
+    ensures { (world : World R) → world.unknown ≡ fault.NullReference → result ≡ items_of world (out-Value R value) }
+{
+    match value {
+        Value::Seq(items, end) => (items, end),
+        Value::Group(_, items) => (items, End::Done),
+        Value::Scalar(_) | Value::Row(_) | Value::Rec(_) => {
+            (List::new(alloc), End::Fault(Fault::NullReference))
+        }
+    }
+}
+
+/// The stream of what was found: a fault that was met is its ending.
+pub(crate) fn stream<R: RowRef>(
+    alloc: Global,
+    found: Result<Value<R>, RunError>,
+) -> Result<(List<Value<R>>, End), AllocError>
+    ensures { (world : World R) (meant : Result (Value R) Fault) → world.unknown ≡ fault.NullReference → IsAnswer meant found
+        → IfOk result (λ s. s ≡ stream_of world meant) }
+{
+    match found {
+        Ok(value) => Ok(items(alloc, value)),
+        Err(RunError::Fault(fault)) => Ok((List::new(alloc), End::Fault(fault))),
+        Err(RunError::Memory) => Err(AllocError),
+    }
+}
+
+/// The value or the fault that was found, where memory wasn't refused.
+pub(crate) fn settled<R: RowRef>(
+    found: Result<Value<R>, RunError>,
+) -> Result<Result<Value<R>, Fault>, AllocError>
+    ensures { (meant : Result (Value R) Fault) → IsAnswer meant found → IfOk result (λ settled. settled ≡ meant) }
+{
+    match found {
+        Ok(value) => Ok(Ok(value)),
+        Err(RunError::Fault(fault)) => Ok(Err(fault)),
+        Err(RunError::Memory) => Err(AllocError),
+    }
+}
+
+/// What is read whole and ends in a fault: no item, and that fault.
+pub(crate) fn stopped<R: RowRef>(alloc: Global, fault: Fault) -> Value<R>
+    ensures { result ≡ sequence ([], end.Fault fault) }
+{
+    Value::Seq(List::new(alloc), End::Fault(fault))
+}
+
+/// The groups of items by their keys; where their stream ended in a fault, nothing but that fault.
+pub(crate) fn groups<R: RowRef>(
+    alloc: Global,
+    pairs: List<(Value<R>, Value<R>)>,
+    end: End,
+) -> Result<Value<R>, AllocError>
+    ensures { IfOk result (λ made. made ≡ sequence (whole pairs end groups_in)) }
+{
+    match end {
+        End::Done => Ok(Value::Seq(grouped(alloc, pairs)?, End::Done)),
+        End::Fault(fault) => Ok(stopped(alloc, fault)),
+    }
+}
+
+/// What a key matches: the items one by one, or all of them as one sequence.
+pub(crate) fn matched<R: RowRef>(
+    alloc: Global,
+    grouped: bool,
+    key: &Value<R>,
+    matches: &Matches<R>,
+) -> Result<List<Value<R>>, AllocError>
+    ensures { (world : World R) → IfOk result (λ found. found ≡ matched world grouped key.now (pairs_of matches.now)) }
+{
+    let found = matches.find(alloc, key)?;
+    if !grouped {
+        return Ok(found);
+    }
+    let mut one = List::new(alloc);
+    one.push(Value::Seq(found, End::Done))?;
+    Ok(one)
+}
+
+/// Items, and further ones behind them.
+pub(crate) fn joined<R: RowRef>(
+    items: List<Value<R>>,
+    further: List<Value<R>>,
+) -> Result<List<Value<R>>, AllocError>
+    ensures { IfOk result (λ all. all ≡ items ++ further) }
+{
+    let mut all = items.into_vec();
+    let mut further = further.into_vec();
+    all.append(&mut further)?;
+    Ok(List::from_vec(all))
+}

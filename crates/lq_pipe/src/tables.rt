@@ -1,0 +1,68 @@
+//! The tables that a tree reads.
+ghost use Rattle.std.specs.Prelude.{◌≡◌, map, slice_get, option_and_then, option_map};
+ghost use Rattle.std.specs.Option.{option_copied};
+ghost use Rattle.lq_model.specs.Served.{columns_in};
+ghost use Rattle.lq_model.specs.Visible.{cell_named};
+ghost use Rattle.lq_tree.specs.FormMeaning.{name_of_column};
+ghost use Rattle.lq_pipe.specs.Worlds.{schemas_in, world_of};
+
+use lq_scalar::cell_named;
+use lq_value::{Column, RowRef, Scalar, Schema};
+
+/// A row that knows its table.
+pub trait TableRow: RowRef {
+    ghost use Rattle.std.specs.Prelude.{◌≡◌, ℕ};
+
+    ghost table_of: { Self → ℕ };
+
+    /// The number of the row's table.
+    fn table(&self) -> u16
+        ensures { result ≡ table_of self.now };
+}
+
+/// A table as a tree reads it.
+#[derive(Clone, Copy)]
+pub struct TableRows<'a, R> {
+    /// What the table is called and what its rows hold.
+    pub schema: &'a Schema,
+    /// Its rows, in their order: these and no others are read.
+    pub rows: &'a [R],
+}
+
+/// The columns of the table with this number, or none.
+fn columns<'a, R: TableRow>(tables: &[TableRows<'a, R>], table: u16) -> &'a [Column]
+    ensures { map (λ column. column.name) result.now ≡ columns_in (slice_get (schemas_in tables.now) table) }
+{
+    match tables.get(table as usize) {
+        Some(found) => found.schema.columns.as_slice(),
+        None => &[],
+    }
+}
+
+/// The name of a column, by its number.
+fn column_name<'a, R: TableRow>(
+    tables: &[TableRows<'a, R>],
+    table: u16,
+    column: u16,
+) -> Option<&'a str>
+    ensures { option_map (λ name. name.now) result ≡ name_of_column (schemas_in tables.now) table column }
+{
+    let found = tables.get(table as usize)?;
+    let column = found.schema.columns.as_slice().get(column as usize)?;
+    Some(column.name.as_str())
+}
+
+/// The cell of a row under the name of a column of a table, which the types of a tree make the
+/// row's own.
+pub(crate) fn cell<'r, R: TableRow>(
+    tables: &[TableRows<'_, R>],
+    row: &'r R,
+    table: u16,
+    column: u16,
+) -> Option<&'r Scalar>
+    ensures { option_copied result
+        ≡ option_and_then ((world_of R.table_of R.shown tables.now).cell row.now) (name_of_column (schemas_in tables.now) table column) }
+{
+    let name = column_name(tables, table, column)?;
+    cell_named(columns(tables, row.table()), row.cells(), name)
+}

@@ -1,0 +1,42 @@
+//! The value and the stream of a typed tree.
+ghost use Rattle.std.specs.Prelude.{◌≡◌, [], IfOk};
+ghost use Rattle.lq_model.specs.Meaning.{stream_of};
+ghost use Rattle.lq_operators.specs.Answers.{IsAnswer};
+ghost use Rattle.lq_tree.specs.FormMeaning.{form_meaning};
+ghost use Rattle.lq_pipe.specs.Worlds.{world_of};
+
+use crate::running::Running;
+use crate::sequences;
+use crate::slots::Slots;
+use crate::tables::{TableRow, TableRows};
+use lq_operators::RunError;
+use lq_tree::Tree;
+use lq_value::{End, List, Value};
+use std::alloc::{AllocError, Global};
+
+/// The value of a typed tree over these tables, or its first fault (ECMA-334, expressions; .NET,
+/// `Enumerable`). No other rows are read. Memory means that none was left, and nothing else.
+#[tactic(auto, using(crate::proofs::SlotLemmas::no_values))]
+pub fn value<'a, R: TableRow>(
+    alloc: Global,
+    tree: &Tree,
+    tables: &'a [TableRows<'a, R>],
+) -> Result<Value<R>, RunError>
+    ensures { IsAnswer (form_meaning (world_of R.table_of R.shown tables.now) tree.now.form []) result }
+{
+    let running = Running { alloc, tables };
+    running.evaluate(&tree.form, &Slots::Empty)
+}
+
+/// The items of a typed tree over these tables, and how they end: a fault that is met in making
+/// them is their ending. Refused where no memory was left, and only there.
+pub fn run<'a, R: TableRow>(
+    alloc: Global,
+    tree: &Tree,
+    tables: &'a [TableRows<'a, R>],
+) -> Result<(List<Value<R>>, End), AllocError>
+    ensures { IfOk result (λ s. s
+        ≡ stream_of (world_of R.table_of R.shown tables.now) (form_meaning (world_of R.table_of R.shown tables.now) tree.now.form [])) }
+{
+    sequences::stream(alloc, value(alloc, tree, tables))
+}

@@ -1,0 +1,15 @@
+//! Types: copies of them, what may be done with values of a type, and which types operators and methods
+//! give (ECMA-334, expressions; .NET, Enumerable).
+#![tactic(auto)]
+
+mod types;
+mod typing;
+
+pub use types::{
+    copy_ty, element_type, has_place, is_bool, is_key, is_number, is_sequence, is_sort_key,
+    is_text, is_within,
+};
+pub use typing::{
+    are_join_keys, chosen, coalesced, given_type, is_equality, operated_type, simple_type,
+    through_type,
+};
