@@ -2,8 +2,8 @@
 
 They hold for this reading as well as for the program: a reading that answers one of them otherwise compares nothing.
 
-Each file of the folder `known_lines` has pairs of lines, a statement and its reply, between empty lines; a line that begins with `#`
-tells of them. Those of `over_t.txt` are over the table `t`.
+Each file of the folder `known_lines` has pairs of lines, a statement and its reply, between empty lines; a line that begins
+with `#` tells of them. Those of `over_t.txt` are over the table `t`.
 """
 
 import json

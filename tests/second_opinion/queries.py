@@ -496,7 +496,7 @@ def query(dice, scope, fuel):
 
 
 def plain_query(dice, scope):
-    """A query over a table without further clauses: groups by a key, a sequence for each row, or an int that faults on some rows."""
+    """A query over a table without more clauses: groups by a key, a sequence for each row, or an int that faults on some rows."""
     name, variable = dice.choice(list(scope.tables)), new_name(dice, scope)
     inside = scope.plus(variable, row_of(name, scope.tables[name]))
     words, kind = ["from", variable, "in", name], dice.random()

@@ -95,8 +95,8 @@ def is_sum_of_null_texts(tree, operands, names):
 
 
 def value_of(tree, names):
-    """The value of a rule or of a part of it, which has a type. ECMA-334, expressions: operands are evaluated from left to right, and of `&&`,
-    `||`, `??` and `?:` only those that are needed."""
+    """The value of a rule or of a part of it, which has a type. ECMA-334, expressions: operands are evaluated from left to
+    right, and of `&&`, `||`, `??` and `?:` only those that are needed."""
     if tree.kind in ("integer", "text"):
         return tree.parts[0]
     if tree.kind in LITERALS:
