@@ -1,5 +1,5 @@
 -- What binding answers: a tree; or that there is none, as the expression has no type or the statement is past its limits.
-use Rattle.std.specs.Prelude.{◌≡◌, ◌×◌, ◌||◌, List, [], ℕ, true, false, Bool, Option, Some, None, Result, Ok, Err, Unit, nat_lt}
+use Rattle.std.specs.Prelude.{◌≡◌, ◌||◌, [], ℕ, true, false, Bool, Option, Some, None, Result, Ok, Err, nat_lt}
 use Rattle.lq_tree.specs.Places.{Places}
 use Rattle.lq_tree.specs.declared.tree.Tree.{Tree}
 use Rattle.lq_bind.specs.declared.error.BindError.{BindError}
