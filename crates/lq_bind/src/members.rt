@@ -1,12 +1,14 @@
 //! The trees of members (ECMA-334, member access; .NET, `Nullable`, `String` and `IGrouping`).
-ghost use Rattle.std.specs.Prelude.{◌≡◌, IfOk, option_and_then, slice_get};
+ghost use Rattle.std.specs.Prelude.{◌≡◌, IfOk, option_and_then, option_map, slice_get};
+ghost use Rattle.std.specs.Option.{option_copied};
 ghost use Rattle.std.specs.List.{position_from};
 ghost use Rattle.std.specs.Str.{bytes_eq};
 ghost use Rattle.lq_value.specs.declared.ty.Ty.{out-Ty};
 ghost use Rattle.lq_value.specs.Tables.{first_named};
 ghost use Rattle.lq_model.specs.Machine.{schemas_of};
 ghost use Rattle.lq_model.specs.Typing.{type_of_column};
-ghost use Rattle.lq_tree.specs.Binding.{column_tree, group_key_tree, member_layer, member_tree, nullable_tree, record_member_tree, text_tree};
+ghost use Rattle.lq_tree.specs.Binding.{column_tree, group_key_tree, member_layer, member_tree, nullable_tree, record_member_tree, text_tree, tree_of};
+ghost use Rattle.lq_tree.specs.declared.tree.Form.TheVariants as form;
 
 use crate::placed;
 use lq_model::Op;
@@ -37,6 +39,33 @@ fn column_named(columns: &[Column], name: &str) -> Option<usize>
         .position(|column| column.name.as_str() == name)
 }
 
+/// The cell of a row in the column of this number, which has this type. No table has more columns than
+/// numbers reach; one that had is refused as past all memory.
+fn cell_at(
+    alloc: Global,
+    row: Form,
+    table: u16,
+    number: usize,
+    ty: ColumnType,
+) -> Result<Tree, AllocError>
+    ensures { IfOk result (λ made. made ≡ tree_of (type_of_column ty) (form.Column row table number)) }
+{
+    let Ok(number) = u16::try_from(number) else {
+        return Err(AllocError);
+    };
+    let form = Form::Column(Held::new(alloc, row)?, table, number);
+    let ty = type_of_column(ty);
+    Ok(Tree { ty, form })
+}
+
+/// The type of the column of this number.
+fn column_at(columns: &[Column], number: usize) -> Option<ColumnType>
+    ensures { result ≡ option_map (λ column. column.ty) (slice_get columns.now number) }
+{
+    let column = columns.get(number)?;
+    Some(column.ty)
+}
+
 /// The cell of a row under the column of this name.
 fn column(
     alloc: Global,
@@ -51,15 +80,10 @@ fn column(
     let Some(number) = column_named(columns, name) else {
         return Ok(None);
     };
-    let Some(column) = columns.get(number) else {
-        return Ok(None);
-    };
-    let Ok(number) = u16::try_from(number) else {
-        return Err(AllocError);
-    };
-    let ty = type_of_column(column.ty);
-    let form = Form::Column(Held::new(alloc, row)?, table, number);
-    Ok(Some(Tree { ty, form }))
+    match column_at(columns, number) {
+        Some(ty) => Ok(Some(cell_at(alloc, row, table, number, ty)?)),
+        None => Ok(None),
+    }
 }
 
 /// The place of a record's member of this name.
@@ -69,6 +93,24 @@ fn member_named(members: &[(Txt, Ty)], name: &str) -> Option<usize>
     members
         .iter()
         .position(|(member, _)| name == member.as_str())
+}
+
+/// The type of the member in this place.
+fn type_at(members: &[(Txt, Ty)], place: usize) -> Option<&Ty>
+    ensures { option_copied result ≡ option_map (λ member. member.1) (slice_get members.now place) }
+{
+    let member = members.get(place)?;
+    Some(&member.1)
+}
+
+/// The member of a record in this place, which has this type.
+fn member_at(alloc: Global, of: Form, place: usize, ty: &Ty) -> Result<Tree, AllocError>
+    ensures { IfOk result (λ made. made ≡ tree_of ty.now (form.Member of place)) }
+{
+    let of = Held::new(alloc, of)?;
+    let ty = copy_ty(alloc, ty)?;
+    let form = Form::Member(of, place);
+    Ok(Tree { ty, form })
 }
 
 /// The member of a record of this name.
@@ -83,12 +125,10 @@ fn record_member(
     let Some(place) = member_named(members, name) else {
         return Ok(None);
     };
-    let Some((_, ty)) = members.get(place) else {
-        return Ok(None);
-    };
-    let ty = copy_ty(alloc, ty)?;
-    let form = Form::Member(Held::new(alloc, of)?, place);
-    Ok(Some(Tree { ty, form }))
+    match type_at(members, place) {
+        Some(ty) => Ok(Some(member_at(alloc, of, place, ty)?)),
+        None => Ok(None),
+    }
 }
 
 /// A member of an `int?`.
@@ -150,17 +190,17 @@ fn member_of(
     alloc: Global,
     store: &Store,
     name: &str,
-    form: Form,
+    of: Form,
     ty: Ty,
 ) -> Result<Option<Tree>, AllocError>
-    ensures { IfOk result (λ found. found ≡ member_layer (schemas_of store.now) name.now form (out-Ty ty)) }
+    ensures { IfOk result (λ found. found ≡ member_layer (schemas_of store.now) name.now of (out-Ty ty)) }
 {
     match ty {
-        Ty::Row(table) => cell(alloc, store, name, table, form),
-        Ty::Rec(members) => record_member(alloc, name, form, members.as_slice()),
-        Ty::Group(key, _) => group_key(alloc, name, key.into_inner(), form),
-        Ty::IntN => nullable(alloc, name, form),
-        Ty::Str => text(alloc, name, form),
+        Ty::Row(table) => cell(alloc, store, name, table, of),
+        Ty::Rec(members) => record_member(alloc, name, of, members.as_slice()),
+        Ty::Group(key, _) => group_key(alloc, name, key.into_inner(), of),
+        Ty::IntN => nullable(alloc, name, of),
+        Ty::Str => text(alloc, name, of),
         Ty::Int | Ty::Bool | Ty::Null | Ty::Seq(_) => Ok(None),
     }
 }

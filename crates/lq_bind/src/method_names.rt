@@ -10,22 +10,46 @@ use lq_model::{Given, Op, Simple, Through};
 pub(crate) fn simple_method(name: &str) -> Option<Simple>
     ensures { result ≡ simple_method name.now }
 {
-    match name {
-        "Distinct" => Some(Simple::Distinct),
-        "Reverse" => Some(Simple::Reverse),
-        "DefaultIfEmpty" => Some(Simple::DefaultIfEmpty),
-        "Any" => Some(Simple::Any),
-        "Count" => Some(Simple::Count),
-        "First" => Some(Simple::First),
-        "FirstOrDefault" => Some(Simple::FirstOrDefault),
-        "Last" => Some(Simple::Last),
-        "Single" => Some(Simple::Single),
-        "SingleOrDefault" => Some(Simple::SingleOrDefault),
-        "Sum" => Some(Simple::Sum),
-        "Min" => Some(Simple::Min),
-        "Max" => Some(Simple::Max),
-        _ => None,
+    if name == "Distinct" {
+        return Some(Simple::Distinct);
     }
+    if name == "Reverse" {
+        return Some(Simple::Reverse);
+    }
+    if name == "DefaultIfEmpty" {
+        return Some(Simple::DefaultIfEmpty);
+    }
+    if name == "Any" {
+        return Some(Simple::Any);
+    }
+    if name == "Count" {
+        return Some(Simple::Count);
+    }
+    if name == "First" {
+        return Some(Simple::First);
+    }
+    if name == "FirstOrDefault" {
+        return Some(Simple::FirstOrDefault);
+    }
+    if name == "Last" {
+        return Some(Simple::Last);
+    }
+    if name == "Single" {
+        return Some(Simple::Single);
+    }
+    if name == "SingleOrDefault" {
+        return Some(Simple::SingleOrDefault);
+    }
+    if name == "Sum" {
+        return Some(Simple::Sum);
+    }
+    if name == "Min" {
+        return Some(Simple::Min);
+    }
+    if name == "Max" {
+        return Some(Simple::Max);
+    }
+    None
 }
 
 /// The method of this name with a value.
@@ -33,17 +57,31 @@ pub(crate) fn simple_method(name: &str) -> Option<Simple>
 pub(crate) fn method_with_value(name: &str) -> Option<Given>
     ensures { result ≡ method_with_value name.now }
 {
-    match name {
-        "Concat" => Some(Given::Concat),
-        "Union" => Some(Given::Union),
-        "Intersect" => Some(Given::Intersect),
-        "Except" => Some(Given::Except),
-        "Skip" => Some(Given::Skip),
-        "Take" => Some(Given::Take),
-        "ElementAt" => Some(Given::ElementAt),
-        "Contains" => Some(Given::Contains),
-        _ => None,
+    if name == "Concat" {
+        return Some(Given::Concat);
     }
+    if name == "Union" {
+        return Some(Given::Union);
+    }
+    if name == "Intersect" {
+        return Some(Given::Intersect);
+    }
+    if name == "Except" {
+        return Some(Given::Except);
+    }
+    if name == "Skip" {
+        return Some(Given::Skip);
+    }
+    if name == "Take" {
+        return Some(Given::Take);
+    }
+    if name == "ElementAt" {
+        return Some(Given::ElementAt);
+    }
+    if name == "Contains" {
+        return Some(Given::Contains);
+    }
+    None
 }
 
 /// The method of this name with a lambda.
@@ -51,32 +89,60 @@ pub(crate) fn method_with_value(name: &str) -> Option<Given>
 pub(crate) fn method_with_lambda(name: &str) -> Option<Through>
     ensures { result ≡ method_with_lambda name.now }
 {
-    match name {
-        "Where" => Some(Through::Where),
-        "Select" => Some(Through::Select),
-        "All" => Some(Through::All),
-        "Any" => Some(Through::Those(Simple::Any)),
-        "Count" => Some(Through::Those(Simple::Count)),
-        "First" => Some(Through::Those(Simple::First)),
-        "FirstOrDefault" => Some(Through::Those(Simple::FirstOrDefault)),
-        "Last" => Some(Through::Those(Simple::Last)),
-        "Single" => Some(Through::Those(Simple::Single)),
-        "SingleOrDefault" => Some(Through::Those(Simple::SingleOrDefault)),
-        "Sum" => Some(Through::Values(Simple::Sum)),
-        "Min" => Some(Through::Values(Simple::Min)),
-        "Max" => Some(Through::Values(Simple::Max)),
-        _ => None,
+    if name == "Where" {
+        return Some(Through::Where);
     }
+    if name == "Select" {
+        return Some(Through::Select);
+    }
+    if name == "All" {
+        return Some(Through::All);
+    }
+    if name == "Any" {
+        return Some(Through::Those(Simple::Any));
+    }
+    if name == "Count" {
+        return Some(Through::Those(Simple::Count));
+    }
+    if name == "First" {
+        return Some(Through::Those(Simple::First));
+    }
+    if name == "FirstOrDefault" {
+        return Some(Through::Those(Simple::FirstOrDefault));
+    }
+    if name == "Last" {
+        return Some(Through::Those(Simple::Last));
+    }
+    if name == "Single" {
+        return Some(Through::Those(Simple::Single));
+    }
+    if name == "SingleOrDefault" {
+        return Some(Through::Those(Simple::SingleOrDefault));
+    }
+    if name == "Sum" {
+        return Some(Through::Values(Simple::Sum));
+    }
+    if name == "Min" {
+        return Some(Through::Values(Simple::Min));
+    }
+    if name == "Max" {
+        return Some(Through::Values(Simple::Max));
+    }
+    None
 }
 
 /// The method of this name that looks for a text in another.
 pub(crate) fn search_named(name: &str) -> Option<Op>
     ensures { result ≡ search_named name.now }
 {
-    match name {
-        "StartsWith" => Some(Op::StartsWith),
-        "EndsWith" => Some(Op::EndsWith),
-        "Contains" => Some(Op::Contains),
-        _ => None,
+    if name == "StartsWith" {
+        return Some(Op::StartsWith);
     }
+    if name == "EndsWith" {
+        return Some(Op::EndsWith);
+    }
+    if name == "Contains" {
+        return Some(Op::Contains);
+    }
+    None
 }
