@@ -1,10 +1,12 @@
 //! The binding of whole expressions and queries.
-ghost use Rattle.std.specs.Prelude.{◌≡◌};
+ghost use Rattle.std.specs.Prelude.{◌≡◌, false};
 ghost use Rattle.lq_model.specs.Machine.{schemas_of};
 ghost use Rattle.lq_tree.specs.Binding.{call_tree, term_tree};
 ghost use Rattle.lq_bind.specs.Outcomes.{IsBound, is_past, no_places};
 
+use crate::binder::Binder;
 use crate::error::BindError;
+use crate::frames::Frame;
 use lq_model::{Call, Term};
 use lq_store::Store;
 use lq_tree::Tree;
@@ -36,18 +38,40 @@ impl Scope<'_> {
     }
 }
 
+/// The tree that was found, or the refusal where there is none.
+fn typed(found: Option<Tree>) -> Result<Tree, BindError>
+    ensures { IsBound false found result }
+{
+    match found {
+        Some(tree) => Ok(tree),
+        None => Err(BindError::IllTyped),
+    }
+}
+
 /// The typed tree of the calls of a query. Refuses with `TooDeep` where the statement is past the limits of opening, with
 /// `IllTyped` where the query has no type, in this order, and with `Memory`.
+#[tactic(auto, using(crate::proofs::FrameLemmas::chains))]
 pub fn bind(alloc: Global, call: &Call<Term>, scope: &Scope<'_>) -> Result<Tree, BindError>
     ensures { IsBound (is_past scope.now.size scope.now.rank)
         (call_tree (schemas_of scope.now.store.now) (term_tree (schemas_of scope.now.store.now)) call.now no_places) result }
 {
-    Err(BindError::Memory)
+    if scope.is_past() {
+        return Err(BindError::TooDeep);
+    }
+    let store = scope.store;
+    let binder = Binder { alloc, store };
+    typed(binder.call(call, &Frame::Top)?)
 }
 
 /// The typed tree of a term, with the same refusals.
+#[tactic(auto, using(crate::proofs::FrameLemmas::chains))]
 pub fn bind_term(alloc: Global, term: &Term, scope: &Scope<'_>) -> Result<Tree, BindError>
     ensures { IsBound (is_past scope.now.size scope.now.rank) (term_tree (schemas_of scope.now.store.now) term.now no_places) result }
 {
-    Err(BindError::Memory)
+    if scope.is_past() {
+        return Err(BindError::TooDeep);
+    }
+    let store = scope.store;
+    let binder = Binder { alloc, store };
+    typed(binder.term(term, &Frame::Top)?)
 }

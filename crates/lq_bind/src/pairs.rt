@@ -1,0 +1,239 @@
+//! The binding of calls that pair items: `SelectMany`, `Join` and `GroupJoin` (ECMA-334, from and join
+//! clauses).
+ghost use Rattle.std.specs.Prelude.{◌≡◌, IfOk};
+ghost use Rattle.lq_model.specs.ClauseTyping.{joined_name};
+ghost use Rattle.lq_bind.specs.Bound.{joined_type};
+ghost use Rattle.lq_bind.specs.Frames.{places_in};
+
+use crate::binder::Binder;
+use crate::frames::Frame;
+use crate::stage_forms::{self, Sides};
+use crate::variables::{Behind, Variables};
+use lq_model::{Join, Paired, Term};
+use lq_tree::{Form, Tree};
+use lq_value::{Held, Txt, Ty};
+use std::alloc::{AllocError, Global};
+
+/// What a join has found of its inner side.
+#[derive(Drop)]
+pub(crate) struct Matched {
+    /// The inner sequence and the keys.
+    pub(crate) sides: Sides,
+    /// The type of the name that the join leaves behind.
+    pub(crate) ty: Ty,
+}
+
+/// The type of the name that a join leaves behind: that of an inner item; or with `into` that of the
+/// sequence of the matches, whose name repeats none that is known.
+fn joined_type(
+    alloc: Global,
+    into: &Option<Txt>,
+    ty: Ty,
+    scope: &Frame<'_>,
+) -> Result<Option<Ty>, AllocError>
+    ensures { IfOk result (λ found. found ≡ joined_type (places_in scope.now) into.now ty) }
+{
+    match into {
+        Some(name) => {
+            if !scope.is_fresh(name.as_str()) {
+                return Ok(None);
+            }
+            Ok(Some(Ty::Seq(Held::new(alloc, ty)?)))
+        }
+        None => Ok(Some(ty)),
+    }
+}
+
+/// The name that a join leaves behind.
+fn joined_name(join: &Join<Term>) -> &Txt
+    ensures { result.now ≡ joined_name join.now }
+{
+    match &join.into {
+        Some(name) => name,
+        None => &join.name,
+    }
+}
+
+impl Binder<'_> {
+    ghost use Rattle.std.specs.Prelude.{◌≡◌, IfOk, is_some, option_and_then, option_map};
+    ghost use Rattle.lq_model.specs.ClauseTyping.{joined_name};
+    ghost use Rattle.lq_model.specs.Machine.{schemas_of};
+    ghost use Rattle.lq_model.specs.Operators.{unnamed};
+    ghost use Rattle.lq_tree.specs.Binding.{expanded_stage, if_fresh, join_keys, joined_stage, paired_stage, placed_tree, source_tree, stage_of};
+    ghost use Rattle.lq_tree.specs.Places.{with_item, with_name};
+    ghost use Rattle.lq_bind.specs.Bound.{matched_in, trees_in};
+    ghost use Rattle.lq_bind.specs.Frames.{found_stage, pattern_in, places_in, stage_in};
+
+    /// The inner sequence of `SelectMany`, in the scope of an item; the name repeats none that is known.
+    #[cycle(binding)]
+    pub(crate) fn inner(
+        &self,
+        source: &Term,
+        name: &Txt,
+        variables: &Variables,
+        frame: &Frame<'_>,
+    ) -> Result<Option<Tree>, AllocError>
+        ensures { IfOk result (λ found. found ≡ if_fresh (schemas_of self.now.store.now) (trees_in self.now.store.now) (places_in frame.now)
+            (pattern_in variables.now) name.now (source_tree (schemas_of self.now.store.now) (trees_in self.now.store.now) source.now
+            (with_item (places_in frame.now) (pattern_in variables.now)))) }
+    {
+        let inner = (&*frame).with(&*variables);
+        if !inner.is_fresh(name.as_str()) {
+            return Ok(None);
+        }
+        self.source(source, &inner)
+    }
+
+    /// `SelectMany` with this inner sequence.
+    #[cycle(binding)]
+    pub(crate) fn expanded(
+        &self,
+        pair: &Paired<Term>,
+        name: &Txt,
+        before: Behind,
+        inner: Tree,
+        frame: &Frame<'_>,
+    ) -> Result<Option<Behind>, AllocError>
+        ensures { IfOk result (λ found. found_stage found ≡ expanded_stage (schemas_of self.now.store.now) (trees_in self.now.store.now) (places_in frame.now)
+            name.now pair.now (stage_in before) inner) }
+    {
+        let Behind { variables, form } = before;
+        let Tree { ty, form: inner } = inner;
+        let Some(made) = self.paired(pair, name, ty, variables, frame)? else {
+            return Ok(None);
+        };
+        Ok(Some(stage_forms::expanded(self.alloc, form, inner, made)?))
+    }
+
+    /// What a call that pairs items makes of a pair.
+    #[cycle(binding)]
+    fn paired(
+        &self,
+        pair: &Paired<Term>,
+        name: &Txt,
+        ty: Ty,
+        variables: Variables,
+        frame: &Frame<'_>,
+    ) -> Result<Option<Behind>, AllocError>
+        ensures { IfOk result (λ found. found_stage found ≡ paired_stage (schemas_of self.now.store.now) (trees_in self.now.store.now) (places_in frame.now)
+            (pattern_in variables) name.now ty pair.now) }
+    {
+        match pair {
+            Paired::Pair => {
+                let item = frame.depth()?;
+                Ok(Some(stage_forms::paired(self.alloc, variables, name, ty, item)?))
+            }
+            Paired::Value(value) => self.paired_value(value, name, &ty, &variables, frame),
+        }
+    }
+
+    /// The value that comes of a pair.
+    #[cycle(binding)]
+    fn paired_value(
+        &self,
+        value: &Term,
+        name: &Txt,
+        ty: &Ty,
+        variables: &Variables,
+        frame: &Frame<'_>,
+    ) -> Result<Option<Behind>, AllocError>
+        ensures { IfOk result (λ found. found_stage found ≡ option_map (λ found. stage_of (unnamed found.ty) found.form) (option_and_then placed_tree
+            (trees_in self.now.store.now value.now (with_name (with_item (places_in frame.now) (pattern_in variables.now)) name.now ty.now)))) }
+    {
+        let item = (&*frame).with(&*variables);
+        let scope = (&item).with_name(&*name, &*ty);
+        let Some(value) = self.term(value, &scope)? else {
+            return Ok(None);
+        };
+        stage_forms::unnamed_items(self.alloc, value)
+    }
+
+    /// The inner sequence of a join, which sees none of the query's range variables; the name of its
+    /// items repeats none that is known.
+    #[cycle(binding)]
+    fn joined_source(
+        &self,
+        join: &Join<Term>,
+        variables: &Variables,
+        frame: &Frame<'_>,
+    ) -> Result<Option<Tree>, AllocError>
+        ensures { IfOk result (λ found. found ≡ if_fresh (schemas_of self.now.store.now) (trees_in self.now.store.now) (places_in frame.now)
+            (pattern_in variables.now) join.now.name (source_tree (schemas_of self.now.store.now) (trees_in self.now.store.now) join.now.source
+            (places_in frame.now))) }
+    {
+        if !(&*frame).with(&*variables).is_fresh(join.name.as_str()) {
+            return Ok(None);
+        }
+        self.source(&join.source, frame)
+    }
+
+    /// The keys of a join whose inner items are of this type.
+    #[cycle(binding)]
+    fn join_keys(
+        &self,
+        join: &Join<Term>,
+        variables: &Variables,
+        ty: &Ty,
+        frame: &Frame<'_>,
+    ) -> Result<Option<(Form, Form)>, AllocError>
+        ensures { IfOk result (λ found. found ≡ join_keys (schemas_of self.now.store.now) (trees_in self.now.store.now) (places_in frame.now)
+            (pattern_in variables.now) join.now ty.now) }
+    {
+        let Some(outer) = self.of_item(&join.outer_key, variables, frame)? else {
+            return Ok(None);
+        };
+        let scope = (&*frame).with_name(&join.name, &*ty);
+        let Some(inner) = self.term(&join.inner_key, &scope)? else {
+            return Ok(None);
+        };
+        Ok(stage_forms::keys(outer, inner))
+    }
+
+    /// The inner side of a join.
+    #[cycle(binding)]
+    pub(crate) fn matched(
+        &self,
+        join: &Join<Term>,
+        variables: &Variables,
+        frame: &Frame<'_>,
+    ) -> Result<Option<Matched>, AllocError>
+        ensures { IfOk result (λ found. found ≡ matched_in (schemas_of self.now.store.now) (trees_in self.now.store.now) (places_in frame.now)
+            (pattern_in variables.now) join.now) }
+    {
+        let Some(inner) = self.joined_source(join, variables, frame)? else {
+            return Ok(None);
+        };
+        let Some(keys) = self.join_keys(join, variables, &inner.ty, frame)? else {
+            return Ok(None);
+        };
+        let Tree { ty, form: inner } = inner;
+        let sides = Sides { inner, keys };
+        let scope = (&*frame).with(&*variables);
+        let Some(ty) = joined_type(self.alloc, &join.into, ty, &scope)? else {
+            return Ok(None);
+        };
+        Ok(Some(Matched { sides, ty }))
+    }
+
+    /// A join with this inner side.
+    #[cycle(binding)]
+    pub(crate) fn joined(
+        &self,
+        pair: &Paired<Term>,
+        join: &Join<Term>,
+        before: Behind,
+        matched: Matched,
+        frame: &Frame<'_>,
+    ) -> Result<Option<Behind>, AllocError>
+        ensures { IfOk result (λ found. found_stage found ≡ joined_stage (schemas_of self.now.store.now) (trees_in self.now.store.now) (places_in frame.now)
+            join.now pair.now (stage_in before) matched.sides.inner matched.sides.keys matched.ty) }
+    {
+        let Behind { variables, form } = before;
+        let Matched { sides, ty } = matched;
+        let Some(made) = self.paired(pair, joined_name(join), ty, variables, frame)? else {
+            return Ok(None);
+        };
+        let grouped = join.into.is_some();
+        Ok(Some(stage_forms::joined(self.alloc, form, sides, grouped, made)?))
+    }
+}
