@@ -5,6 +5,7 @@ import re
 import shutil
 import subprocess
 import tempfile
+import threading
 import time
 from collections import namedtuple
 
@@ -12,31 +13,37 @@ import tables
 from queries import QUERIES
 
 HERE = os.path.dirname(os.path.realpath(__file__))
+# A command that takes longer is ended, and has no answer.
 SECONDS = 600
 # Seconds by the clock and of the processor, the peak of memory in bytes, and the bytes that were written.
 Run = namedtuple("Run", "wall processor peak written")
 
 
 class NotServed(Exception):
-    """The engine has no answer to the query."""
+    """The engine failed, or has no answer to the query."""
 
 
-def timed(words, script=None, cwd=None):
-    """Runs a command with a text as its standard input, and returns what it took, and the first bytes that it wrote."""
+def timed(words, script=None, cwd=None, check=None):
+    """Runs a command with a text as its standard input, and returns what it took. `check` looks at what it wrote, line by line."""
     with tempfile.TemporaryFile("w+") as given, tempfile.TemporaryFile() as out:
         given.write(script or "")
         given.seek(0)
         begun = time.perf_counter()
         process = subprocess.Popen(words, stdin=given, stdout=out, cwd=cwd)
+        limit = threading.Timer(SECONDS, process.kill)
+        limit.start()
         _, status, used = os.wait4(process.pid, 0)
         wall = time.perf_counter() - begun
+        limit.cancel()
         process.returncode = os.waitstatus_to_exitcode(status)
         if process.returncode:
-            raise NotServed(f"{words[0]}: status {process.returncode}")
+            raise NotServed(f"{os.path.basename(words[0])}: status {process.returncode}, after {wall:.0f} s")
         out.seek(0, os.SEEK_END)
         written = out.tell()
         out.seek(0)
-        return Run(wall, used.ru_utime + used.ru_stime, used.ru_maxrss * 1024, written), out.read(64)
+        if check:
+            check(out)
+        return Run(wall, used.ru_utime + used.ru_stime, used.ru_maxrss * 1024, written)
 
 
 class Lq:
@@ -51,11 +58,18 @@ class Lq:
 
     def run(self, query, times):
         words = [self.program, "--role", "reader", "--policy", "policy.toml", "employees.csv", "depts.csv"]
-        script = f"run {query.lq};\n" * times if query else "run 1;\n"
-        taken, begins = timed(words, script, self.folder)
-        if begins.startswith(b'{"error"'):
-            raise NotServed(begins.decode().split("\n")[0])
-        return taken
+        return timed(words, f"run {query.lq};\n" * times if query else "", self.folder, lambda out: self.check(out, times))
+
+    @staticmethod
+    def check(out, times):
+        """Each statement has to be answered by items or a value: a refusal or a fault is no answer that a time could be of."""
+        replies = 0
+        for line in out:
+            if not line.startswith((b'{"items":', b'{"value":')):
+                raise NotServed(line[:64].decode(errors="replace").rstrip("\n"))
+            replies += 1
+        if replies != times:
+            raise NotServed(f"{replies} replies to {times} statements")
 
 
 SQL_TYPES = {"int": "integer", "int?": "integer", "string": "text"}
@@ -80,7 +94,7 @@ class Sqlite:
         return bool(shutil.which("sqlite3"))
 
     def run(self, query, times):
-        return timed(["sqlite3", "-bail", ":memory:"], self.loading + (f"{query.sql};\n" * times if query else ""), self.folder)[0]
+        return timed(["sqlite3", "-bail", ":memory:"], self.loading + (f"{query.sql};\n" * times if query else ""), self.folder)
 
 
 class Mono:
@@ -103,7 +117,7 @@ class Mono:
 
     def run(self, query, times):
         number = QUERIES.index(query) if query else 0
-        return timed(["mono", "linq.exe", ".", str(number), str(times)], cwd=self.folder)[0]
+        return timed(["mono", "linq.exe", ".", str(number), str(times)], cwd=self.folder)
 
 
 class Postgres:
@@ -145,7 +159,7 @@ class Postgres:
         script += (f"select row_to_json(q) from ({query.sql}) q;\n" * times if query else "") + "select pg_backend_pid() as pid \\gset\n"
         script += "\\setenv SERVED_BY :pid\n\\! cat /proc/$SERVED_BY/stat /proc/$SERVED_BY/status >served\n"
         words = ["psql", "-qAt", "-v", "ON_ERROR_STOP=1", "-h", self.data, "-U", "bench", "-d", "postgres"]
-        taken, _ = timed(words, script, self.folder)
+        taken = timed(words, script, self.folder)
         with open(f"{self.folder}/served", encoding="utf-8") as file:
             told = file.read()
         peak = int(re.search(r"VmHWM:\s+(\d+) kB", told)[1]) * 1024

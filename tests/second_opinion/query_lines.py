@@ -1,13 +1,13 @@
-"""Lines of the whole language by chance: typed ones, such in which faults meet, and such with a part of another type.
+"""Lines of queries by chance: typed ones, such in which faults meet, and such with a part of another type.
 
 `dice` is a random.Random, and a line is the list of its tokens' spellings until the end.
 """
 
+from clashes import clash
 from lexer import is_name
+from queries import Scope, top
+from scopes import METHODS
 from statements import spell
-from whole_clashes import clash
-from whole_queries import Scope, top
-from whole_types import METHODS
 
 # Names and literals that may stand in another one's place, and methods in another's.
 STRAY_NAMES = ["none", "x", "y", "g", "id", "n", "s", "Key", "t", "Count", "Value", "Length"]

@@ -1,30 +1,12 @@
-"""Lines of the whole language whose replies are known: those of the folder `whole_examples`, and some long ones.
-
-Each file there has pairs of lines, a statement and its reply, between empty lines; a line that begins with `#` tells of them.
-They are over the tables of the small company, as the role dan sees them; those of `over_t.txt` are over the table `t` of one
-column c with the rows 1 and 2, and today they are answered `type`.
+"""Lines whose replies are known, over the tables of the small company, as the role dan sees them: those of the files in the
+folder `known_lines` but for `over_t.txt`, and some long and some deep ones.
 """
 
-from pathlib import Path
-
+from examples import FOLDER, OVER_T, pairs_in
+from meaning import reply_of
 from policies import as_seen, policies_of
 from policy_examples import COMPANY, FILES
 from tables import table_of
-from whole_meaning import whole_reply_of
-
-FOLDER = Path(__file__).resolve().parent / "whole_examples"
-OVER_T = "over_t.txt"
-
-
-def pairs_in(path):
-    """The statements and replies of a file."""
-    pairs = []
-    for block in path.read_text(encoding="utf-8").split("\n\n"):
-        lines = [line for line in block.split("\n") if line and not line.startswith("#")]
-        if lines:
-            statement, reply = lines
-            pairs.append((statement, reply + "\n"))
-    return pairs
 
 
 def records(count):
@@ -88,22 +70,13 @@ def by_file():
     return {**pairs, "long lines": long_lines(), "deep lines": deep_lines()}
 
 
-def over_t():
-    """The replies to lines over the table t, or over that of nulls, by the lines."""
-    deep = "run " + "new{a=" * 63 + "(1" + "+1" * 64 + ")" + "}" * 63 + ";"
-    return {
-        **dict(pairs_in(FOLDER / OVER_T)), deep: '{"value":' + '{"a":' * 63 + "65" + "}" * 64 + "\n",
-        "run from x in nulls select x.b ? x : null;": '{"items":[{"b":true,"n":null,"s":null},null]}\n',
-    }
-
-
 def scripts():
     """The statements of each file as a script."""
     return ["\n".join(line for line, _ in pairs).encode() for pairs in by_file().values()]
 
 
-def misread_whole():
+def misread_of_company():
     """The lines that this reading answers otherwise."""
     tables = {path[:-len(".csv")]: table_of(data) for path, data in FILES.items()}
     seen = as_seen(policies_of(COMPANY.encode(), tables), tables, "dan")
-    return [line for pairs in by_file().values() for line, reply in pairs if whole_reply_of(line, seen) != reply]
+    return [line for pairs in by_file().values() for line, reply in pairs if reply_of(line, seen) != reply]

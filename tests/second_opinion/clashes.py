@@ -1,7 +1,7 @@
 """Lines by chance in which faults meet: which one is the reply, and what is never met, because something stops before it."""
 
-from whole_queries import MEMBERS, PRIMARY, Part, called, function, new_name, number, row_of, sequence, telling
-from whole_types import Group, Record, Row, Sequence, has_default, is_key, is_source
+from queries import MEMBERS, PRIMARY, Part, called, function, new_name, number, row_of, sequence, telling
+from scopes import Group, Record, Row, Sequence, has_default, is_key, is_source
 
 FAULTS = [["1", "/", "0"], ["2147483647", "+", "1"], ["7", "%", "0"], ["-", "-", "2147483648"]]
 

@@ -1,4 +1,4 @@
-"""Lines of the whole language by chance: typed queries and expressions over some tables, and such with a part of another type.
+"""Queries and expressions by chance that have a type, over some tables.
 
 `dice` is a random.Random. A Part is an expression: the level of its weakest operator, its tokens' spellings and its type.
 `fuel` bounds how far it grows.
@@ -9,7 +9,7 @@ from dataclasses import dataclass
 import scalars
 from scalars import PRIMARY
 from tables import Table
-from whole_types import Group, Record, Row, Sequence, has_default, is_key, is_source, row_of
+from scopes import Group, Record, Row, Sequence, has_default, is_key, is_source, row_of
 
 SCALARS = ("int", "int?", "bool", "string")
 NAMES = ["x", "y", "z", "w", "a", "b", "g", "h", "e", "d", "it", "é", "_", "k", "v", "id"]
@@ -239,7 +239,10 @@ def any_value(dice, scope, fuel):
 
 
 def key(dice, scope, fuel):
-    """A key: a scalar, or a record of scalars."""
+    """A key: a scalar, often one that is null on some items, or a record of scalars."""
+    nullable = [path for path in scope.paths if path.type in ("int?", "string")]
+    if nullable and dice.random() < 0.4:
+        return dice.choice(nullable)
     if dice.random() < 0.75:
         return any_scalar(dice, scope, min(fuel, 1))
     return record(dice, scope, 0, any_scalar)
@@ -443,7 +446,7 @@ def join_clause(dice, outside, inside, fuel):
 def keys(dice, outer, inner):
     """The two keys of a join."""
     types = [its_type for its_type in outer.types() if its_type in inner.types()]
-    its_type = dice.choice(types)
+    its_type = dice.choice([*types, *(its_type for its_type in types if its_type in ("int?", "string"))])
     pair = [its_type, its_type]
     if its_type in ("int", "int?") and "int?" in types and dice.random() < 0.3:
         pair = [dice.choice(["int", "int?"]) for _ in pair]
@@ -467,7 +470,7 @@ def body(dice, outside, inside, fuel):
         more, inside = dice.choice(clauses)(dice, outside, inside, fuel - 1)
         words += more
     part = any_value(dice, inside, fuel)
-    if dice.random() < 0.75:
+    if dice.random() < 0.65:
         words += ["select", *part.words]
         items = part.type
     else:
@@ -492,9 +495,23 @@ def query(dice, scope, fuel):
     return Part(0, [*words, *more], Sequence(items))
 
 
+def plain_query(dice, scope):
+    """A query over a table without more clauses: groups by a key, a sequence for each row, or an int that faults on some rows."""
+    name, variable = dice.choice(list(scope.tables)), new_name(dice, scope)
+    inside = scope.plus(variable, row_of(name, scope.tables[name]))
+    words, kind = ["from", variable, "in", name], dice.random()
+    if kind < 0.4:
+        by, part = key(dice, inside, 0), dice.choice(inside.paths)
+        return Part(0, [*words, "group", *part.words, "by", *by.words], Sequence(Group(by.type, part.type)))
+    part = (sequence(dice, inside, 1) if kind < 0.7 else telling(dice, "int", inside)) or inside.paths[0]
+    return Part(0, [*words, "select", *part.words], Sequence(part.type))
+
+
 def top(dice, scope, fuel):
-    """What is run: mostly a query, else a sequence or another value."""
+    """What is run, where no local name is in scope: mostly a query, else a sequence or another value."""
     kind = dice.random()
+    if kind < 0.15:
+        return plain_query(dice, scope)
     if kind < 0.6:
         return query(dice, scope, fuel)
     if kind < 0.8:
