@@ -20,6 +20,7 @@ use Rattle.lq_model.specs.Visible.{TableRow, cell_named, tables_as_seen}
 use Rattle.lq_model.specs.WholeMeaning.{expression_meaning}
 use Rattle.lq_model.specs.WholeMeaningLaws.{IsValueOf}
 use Rattle.lq_model.specs.declared.policy.PolicyParts.{PolicyParts}
+use Rattle.lq_model.specs.declared.calls.Term.{Term}
 use Rattle.lq_model.specs.declared.syntax.Expr.{Expr}
 use Rattle.lq_model.proofs.EveryItem.{every_none}
 use Rattle.lq_model.proofs.MeaningLemmas.{holds_seen}
@@ -35,7 +36,7 @@ use Rattle.lq_tree.specs.Rows.{OverRows}
 use Rattle.lq_tree.specs.declared.tree.Tree.{Tree}
 use Rattle.lq_tree.proofs.TermMeans.{meanings_same}
 use Rattle.lq_tree.proofs.TermTypes.{types_same}
-use Rattle.lq_run.specs.Replies.{AnswersTree, IsTreeOf, run_line}
+use Rattle.lq_run.specs.Replies.{AnswersTerm, AnswersTree, IsTreeOf, run_line}
 use Rattle.lq_run.specs.SeenRows.{AreSeen, cells_in, number_in, shown_row, shown_rows}
 use Rattle.lq_run.specs.TreeReply.{data_by, tree_data}
 use Rattle.lq_run.specs.declared.seen.SeenRow.{SeenRow}
@@ -84,6 +85,16 @@ module _ (parts : PolicyParts) (role : ℕ) (tables : List Table) where
   no_tree e none =
       ap (λ (o : Option Ty). line_of (served world (if_placed o) (expression_meaning world e [])))
       (ap (option_map (λ t. t.ty)) (sym none) ∙ tree_type schemas e)
+
+  -- a line for the tree of a term is one for the term
+  pub term_reply : (term : Term) (tree : Tree) (line : List ℕ) → term_tree (schemas_of tables) term no_places ≡ Some tree
+      → AnswersTree parts role tables tree line → AnswersTerm parts role tables term line
+  term_reply term tree line bound answers e is = answers e (ap (λ t. term_tree (schemas_of tables) t no_places) (sym is) ∙ bound)
+
+  -- and the refusal is one for a term without a tree
+  pub term_refused : (term : Term) (line : List ℕ) → term_tree (schemas_of tables) term no_places ≡ None → line ≡ line_of (error_data (codes "type"))
+      → AnswersTerm parts role tables term line
+  term_refused term line none so e is = so ∙ no_tree e (ap (λ t. term_tree (schemas_of tables) t no_places) (sym is) ∙ none)
 
   -- the rows of the tables that a run reads are those that the machine reads
   over : (seen : List (Vec SeenRow Global)) (made : List (TableRows SeenRow)) → map shown_rows seen ≡ tables_as_seen parts role tables → AreSeen tables seen made

@@ -7,6 +7,7 @@ use Rattle.lq_model.specs.Machine.{run_reply, schemas_of}
 use Rattle.lq_model.specs.Served.{line_of}
 use Rattle.lq_model.specs.Visible.{tables_as_seen}
 use Rattle.lq_model.specs.declared.policy.PolicyParts.{PolicyParts}
+use Rattle.lq_model.specs.declared.calls.Term.{Term}
 use Rattle.lq_model.specs.declared.syntax.Expr.{Expr}
 use Rattle.lq_translate.specs.Translated.{translated}
 use Rattle.lq_tree.specs.Binding.{term_tree}
@@ -26,6 +27,10 @@ module _ (parts : PolicyParts) (role : ℕ) (tables : List Table) where
   -- a line is the machine's for every expression that is bound to the tree
   abbrev pub AnswersTree : Tree → List ℕ → Type 0
   AnswersTree tree line = (e : Expr) → IsTreeOf e tree → line ≡ run_line e
+
+  -- and for every expression that is translated to the term
+  abbrev pub AnswersTerm : Term → List ℕ → Type 0
+  AnswersTerm term line = (e : Expr) → term ≡ translated e → line ≡ run_line e
 
 -- where these rows are those that a role sees, a line over them is the machine's
 abbrev pub AnswersRows : List Table → List (Vec SeenRow Global) → Tree → List ℕ → Type 0
