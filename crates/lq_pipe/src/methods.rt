@@ -22,6 +22,7 @@ impl<'a, R: TableRow> Running<'a, R> {
 
     /// A sequence, of which a fault that is met in making it is the ending.
     #[cycle(running)]
+    #[inline(never)]
     #[tactic(auto, using(crate::proofs::Forms::form_sequence))]
     pub(crate) fn sequence(&self, source: &Form, slots: &Slots<'_, R>) -> Result<Value<R>, RunError>
         ensures { IsAnswer (meant (world_of R.table_of R.shown self.now.tables.now) (form.Sequence source.now) slots.now) result }
@@ -32,6 +33,7 @@ impl<'a, R: TableRow> Running<'a, R> {
 
     /// A method without an argument.
     #[cycle(running)]
+    #[inline(never)]
     #[tactic(auto, using(crate::proofs::Forms::form_simple))]
     pub(crate) fn simple(
         &self,
@@ -48,6 +50,7 @@ impl<'a, R: TableRow> Running<'a, R> {
 
     /// A method with an argument.
     #[cycle(running)]
+    #[inline(never)]
     #[tactic(auto, using(crate::proofs::Forms::form_given))]
     pub(crate) fn given(
         &self,
@@ -65,6 +68,7 @@ impl<'a, R: TableRow> Running<'a, R> {
 
     /// A method with a lambda.
     #[cycle(running)]
+    #[inline(never)]
     #[tactic(auto, using(crate::proofs::Forms::form_through))]
     pub(crate) fn through(
         &self,

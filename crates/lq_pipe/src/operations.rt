@@ -20,6 +20,7 @@ impl<'a, R: TableRow> Running<'a, R> {
 
     /// What an operator gives to one operand.
     #[cycle(running)]
+    #[inline(never)]
     #[tactic(auto, using(crate::proofs::Forms::form_unary))]
     pub(crate) fn unary(
         &self,
@@ -35,6 +36,7 @@ impl<'a, R: TableRow> Running<'a, R> {
 
     /// What an operator gives to two operands, the left one of which is evaluated first.
     #[cycle(running)]
+    #[inline(never)]
     #[tactic(auto, using(crate::proofs::Forms::form_binary))]
     pub(crate) fn binary(
         &self,
@@ -52,6 +54,7 @@ impl<'a, R: TableRow> Running<'a, R> {
 
     /// Whether both are true; the second is evaluated only where the first is.
     #[cycle(running)]
+    #[inline(never)]
     #[tactic(auto, using(crate::proofs::Forms::form_both))]
     pub(crate) fn both(
         &self,
@@ -69,6 +72,7 @@ impl<'a, R: TableRow> Running<'a, R> {
 
     /// Whether one is true; the second is evaluated only where the first isn't.
     #[cycle(running)]
+    #[inline(never)]
     #[tactic(auto, using(crate::proofs::Forms::form_either))]
     pub(crate) fn either(
         &self,
@@ -86,6 +90,7 @@ impl<'a, R: TableRow> Running<'a, R> {
 
     /// The first, or the second in place of null.
     #[cycle(running)]
+    #[inline(never)]
     #[tactic(auto, using(crate::proofs::Forms::form_coalesce))]
     pub(crate) fn coalesced(
         &self,
@@ -104,6 +109,7 @@ impl<'a, R: TableRow> Running<'a, R> {
 
     /// The one that the condition chooses; the other is not evaluated.
     #[cycle(running)]
+    #[inline(never)]
     #[tactic(auto, using(crate::proofs::Forms::form_choice))]
     pub(crate) fn chosen(
         &self,
@@ -122,6 +128,7 @@ impl<'a, R: TableRow> Running<'a, R> {
 
     /// A record.
     #[cycle(running)]
+    #[inline(never)]
     #[tactic(auto, using(crate::proofs::Forms::form_record))]
     pub(crate) fn record(
         &self,
@@ -152,6 +159,7 @@ impl<'a, R: TableRow> Running<'a, R> {
 
     /// A pair, the left part of which is evaluated first.
     #[cycle(running)]
+    #[inline(never)]
     #[tactic(auto, using(crate::proofs::Forms::form_pair))]
     pub(crate) fn pair(
         &self,

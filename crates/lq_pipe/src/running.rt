@@ -44,6 +44,7 @@ impl<'a, R: TableRow> Running<'a, R> {
     ghost use Rattle.lq_pipe.specs.Worlds.{world_of};
 
     /// What a slot holds.
+    #[inline(never)]
     fn slot(&self, number: usize, slots: &Slots<'_, R>) -> Result<Value<R>, RunError>
         ensures { IsAnswer (if_there (world_of R.table_of R.shown self.now.tables.now) (slice_get (values_in slots.now) number)) result }
     {
@@ -54,6 +55,7 @@ impl<'a, R: TableRow> Running<'a, R> {
     }
 
     /// The rows of a table.
+    #[inline(never)]
     #[tactic(auto, using(crate::proofs::PartLemmas::places))]
     fn table(&self, number: u16) -> Result<Value<R>, RunError>
         ensures { IsAnswer (table_value (world_of R.table_of R.shown self.now.tables.now) (slice_get (world_of R.table_of R.shown self.now.tables.now).rows number)) result }
@@ -160,6 +162,7 @@ impl<'a, R: TableRow> Running<'a, R> {
 
     /// The stream of a form.
     #[cycle(running)]
+    #[inline(never)]
     pub(crate) fn stream(
         &self,
         form: &Form,
@@ -172,6 +175,7 @@ impl<'a, R: TableRow> Running<'a, R> {
 
     /// The scalar that a form means.
     #[cycle(running)]
+    #[inline(never)]
     pub(crate) fn scalar(&self, form: &Form, slots: &Slots<'_, R>) -> Result<Scalar, RunError>
         ensures { Answers (scalar_in (world_of R.table_of R.shown self.now.tables.now) (meant (world_of R.table_of R.shown self.now.tables.now) form.now slots.now)) result }
     {
@@ -180,6 +184,7 @@ impl<'a, R: TableRow> Running<'a, R> {
 
     /// The truth value that a form means.
     #[cycle(running)]
+    #[inline(never)]
     pub(crate) fn truth(&self, form: &Form, slots: &Slots<'_, R>) -> Result<bool, RunError>
         ensures { Answers (truth_in (world_of R.table_of R.shown self.now.tables.now) (meant (world_of R.table_of R.shown self.now.tables.now) form.now slots.now)) result }
     {
@@ -199,6 +204,7 @@ impl<'a, R: TableRow> Running<'a, R> {
 
     /// The first part of a pair.
     #[cycle(running)]
+    #[inline(never)]
     #[tactic(auto, using(crate::proofs::Forms::form_first))]
     fn first(&self, pair: &Form, slots: &Slots<'_, R>) -> Result<Value<R>, RunError>
         ensures { IsAnswer (meant (world_of R.table_of R.shown self.now.tables.now) (form.First pair.now) slots.now) result }
@@ -209,6 +215,7 @@ impl<'a, R: TableRow> Running<'a, R> {
 
     /// The second part of a pair.
     #[cycle(running)]
+    #[inline(never)]
     #[tactic(auto, using(crate::proofs::Forms::form_second))]
     fn second(&self, pair: &Form, slots: &Slots<'_, R>) -> Result<Value<R>, RunError>
         ensures { IsAnswer (meant (world_of R.table_of R.shown self.now.tables.now) (form.Second pair.now) slots.now) result }
@@ -219,6 +226,7 @@ impl<'a, R: TableRow> Running<'a, R> {
 
     /// The cell of a row.
     #[cycle(running)]
+    #[inline(never)]
     #[tactic(auto, using(crate::proofs::Forms::form_column))]
     fn column(
         &self,
@@ -235,6 +243,7 @@ impl<'a, R: TableRow> Running<'a, R> {
 
     /// A member of a record.
     #[cycle(running)]
+    #[inline(never)]
     #[tactic(auto, using(crate::proofs::Forms::form_member))]
     fn member(&self, value: &Form, place: usize, slots: &Slots<'_, R>) -> Result<Value<R>, RunError>
         ensures { IsAnswer (meant (world_of R.table_of R.shown self.now.tables.now) (form.Member value.now place) slots.now) result }
@@ -245,6 +254,7 @@ impl<'a, R: TableRow> Running<'a, R> {
 
     /// The key of a group.
     #[cycle(running)]
+    #[inline(never)]
     #[tactic(auto, using(crate::proofs::Forms::form_key))]
     fn key(&self, group: &Form, slots: &Slots<'_, R>) -> Result<Value<R>, RunError>
         ensures { IsAnswer (meant (world_of R.table_of R.shown self.now.tables.now) (form.Key group.now) slots.now) result }
@@ -255,6 +265,7 @@ impl<'a, R: TableRow> Running<'a, R> {
 
     /// Whether a row, a record or a group is null, or isn't.
     #[cycle(running)]
+    #[inline(never)]
     #[tactic(auto, using(crate::proofs::Forms::form_is_null))]
     fn is_null(
         &self,

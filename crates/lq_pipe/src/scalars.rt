@@ -63,6 +63,7 @@ fn as_value<R: RowRef>(found: Result<Scalar, ScalarError>) -> Result<Value<R>, R
 }
 
 /// What an operator or member gives to one operand.
+#[inline(never)]
 pub(crate) fn of_one<R: RowRef>(
     alloc: Global,
     op: Op,
@@ -74,6 +75,7 @@ pub(crate) fn of_one<R: RowRef>(
 }
 
 /// What an operator gives to two operands.
+#[inline(never)]
 pub(crate) fn of_two<R: RowRef>(
     alloc: Global,
     op: Op,
