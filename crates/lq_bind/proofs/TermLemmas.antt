@@ -1,5 +1,5 @@
 -- What terms are bound to, layer by layer; the names of tables; and operands that are bound together.
-use Rattle.std.proofs.Common.{◌≡◌, ◌∷◌, if◌then◌else◌, List, [], map, ℕ, suc, ◌+◌, Bool, true, false, Option, Some, None, ap, ◌∙◌, refl, sym, option_and_then, option_map}
+use Rattle.std.proofs.Common.{◌≡◌, ◌∷◌, if◌then◌else◌, List, [], map, ℕ, ◌+◌, Bool, true, false, Option, Some, None, ap, ◌∙◌, refl, sym, option_and_then, option_map}
 use Rattle.std.proofs.lemmas.Option.{none-some}
 use Rattle.std.specs.List.{position_from}
 use Rattle.std.specs.Str.{bytes_eq}
@@ -16,12 +16,12 @@ use Rattle.lq_model.specs.declared.calls.Term.TheVariants as term
 use Rattle.lq_model.specs.declared.syntax.Join.{Join}
 use Rattle.lq_model.specs.declared.syntax.Node.{Node}
 use Rattle.lq_store.specs.Rules.{name_of}
-use Rattle.lq_tree.specs.Binding.{Binds, Stage, call_items_tree, call_tree, if_fresh, join_keys, join_stage, joined_stage, matched_type, name_tree, node_tree, of_two_trees, query_tree, source_tree}
+use Rattle.lq_tree.specs.Binding.{Binds, Stage, call_items_tree, call_tree, if_fresh, join_keys, join_stage, joined_stage, matched_type, name_tree, node_tree, query_tree, source_tree}
 use Rattle.lq_tree.specs.Places.{Place, Places, with_item}
 use Rattle.lq_tree.specs.declared.tree.Form.{Form}
 use Rattle.lq_tree.specs.declared.tree.Tree.{Tree}
 use Rattle.lq_tree.proofs.TreePulls.{tree_of_call, tree_of_node}
-use Rattle.lq_bind.specs.Bound.{both, joined_type, matched_by, matched_in, matched_keys, trees_in}
+use Rattle.lq_bind.specs.Bound.{joined_type, matched_by, matched_in, matched_keys, trees_in}
 use Rattle.lq_bind.specs.Frames.{tree_at}
 use Rattle.lq_bind.specs.declared.pairs.Matched.{Matched}
 
@@ -37,26 +37,18 @@ call_bound tables c places = λ i. tree_of_call (schemas_of tables) c i places
 
 pub ruleset terms = (node_bound, call_bound)
 
--- ---- operands
-
-pub two_of_both : (given : Tree → Tree → Option Tree) (a b : Option Tree)
-    → of_two_trees given a b ≡ option_and_then (λ (p : Tree × Tree). given p.0 p.1) (both a b)
-two_of_both given None b = refl
-two_of_both given (Some x) None = refl
-two_of_both given (Some x) (Some y) = refl
-
-pub ruleset pairs = (two_of_both)
-
 -- ---- tables
 
 position_mapped : (name : List ℕ) (tables : List Table) (n : ℕ)
     → position_from (λ (schema : Schema). bytes_eq schema.name name) n (schemas_of tables) ≡ position_from (λ (t : Table). bytes_eq (name_of t) name) n tables
 position_mapped name [] n = refl
-position_mapped name (t ∷ ts) n = at (bytes_eq t.schema.name name) where
-  at : (b : Bool) → (if b then Some n else position_from (λ (schema : Schema). bytes_eq schema.name name) (suc n) (schemas_of ts))
-      ≡ (if b then Some n else position_from (λ (t : Table). bytes_eq (name_of t) name) (suc n) ts)
-  at true = refl
-  at false = position_mapped name ts (suc n)
+position_mapped name (t ∷ ts) n = at (bytes_eq t.schema.name name) (position_mapped name ts (n + 1)) where
+  at : (b : Bool) → position_from (λ (schema : Schema). bytes_eq schema.name name) (n + 1) (schemas_of ts)
+      ≡ position_from (λ (t : Table). bytes_eq (name_of t) name) (n + 1) ts
+      → (if b then Some n else position_from (λ (schema : Schema). bytes_eq schema.name name) (n + 1) (schemas_of ts))
+      ≡ (if b then Some n else position_from (λ (t : Table). bytes_eq (name_of t) name) (n + 1) ts)
+  at true e = refl
+  at false e = e
 
 pub table_found : (name : List ℕ) (tables : List Table) → table_number name (schemas_of tables) ≡ first_named name_of name tables
 table_found name tables = position_mapped name tables 0

@@ -26,10 +26,6 @@ trees_in tables = term_tree (schemas_of tables)
 abbrev pub literal_tree : Ty → Scalar → Tree
 literal_tree t s = tree_of t (form.Literal s)
 
--- what two terms are bound to, where each has a tree
-abbrev pub both : Option Tree → Option Tree → Option (Tree × Tree)
-both a b = option_and_then (λ x. option_map (λ y. (x, y)) b) a
-
 -- the type of the name that a join leaves behind, at the places of an outer item
 abbrev pub joined_type : Places → Option (List ℕ) → Ty → Option Ty
 joined_type places None t = Some t

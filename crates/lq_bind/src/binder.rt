@@ -1,11 +1,10 @@
 //! The binding of terms (ECMA-334, expressions).
-ghost use Rattle.std.specs.Prelude.{◌≡◌, IfOk, Some, None};
-
 use crate::frames::Frame;
 use crate::{members, names, operations};
-use lq_model::{Binary, Node, Term, Unary};
+use lq_model::{Argument, Binary, Node, Term, Unary};
 use lq_store::Store;
 use lq_tree::Tree;
+use lq_value::List;
 use std::alloc::{AllocError, Global};
 
 /// What terms are bound in: the tables whose names are known, and what gives memory.
@@ -19,8 +18,8 @@ impl Binder<'_> {
     ghost use Rattle.std.specs.Prelude.{◌≡◌, IfOk, option_and_then};
     ghost use Rattle.lq_model.specs.Machine.{schemas_of};
     ghost use Rattle.lq_tree.specs.Binding.{and_tree, binary_tree, coalesce_tree, conditional_tree, member_tree, node_tree, of_three_trees, of_two_trees};
-    ghost use Rattle.lq_tree.specs.Binding.{or_tree, unary_tree};
-    ghost use Rattle.lq_bind.specs.Bound.{both, trees_in};
+    ghost use Rattle.lq_tree.specs.Binding.{method_tree, or_tree, unary_tree};
+    ghost use Rattle.lq_bind.specs.Bound.{trees_in};
     ghost use Rattle.lq_bind.specs.Frames.{places_in};
 
     /// The tree of a term, where it has one.
@@ -35,16 +34,18 @@ impl Binder<'_> {
         }
     }
 
-    /// The tree of an expression other than a query.
+    /// The tree of an expression other than a query. Each form that holds expressions has a function of
+    /// its own, which takes less of the stack than all forms together: expressions may be many thousand
+    /// operators deep on their left.
     #[cycle(binding)]
     fn node(&self, node: &Node<Term>, frame: &Frame<'_>) -> Result<Option<Tree>, AllocError>
         ensures { IfOk result (λ found. found ≡ node_tree (schemas_of self.now.store.now) (trees_in self.now.store.now) node.now (places_in frame.now)) }
     {
         match node {
-            Node::Integer(number) => Ok(Some(names::integer(*number))),
-            Node::Text(text) => Ok(Some(names::text(self.alloc, text)?)),
-            Node::Bool(truth) => Ok(Some(names::truth(*truth))),
-            Node::Null => Ok(Some(names::null())),
+            Node::Integer(number) => names::integer(*number),
+            Node::Text(text) => names::text(self.alloc, text),
+            Node::Bool(truth) => names::truth(*truth),
+            Node::Null => names::null(),
             Node::Name(name) => names::name(self.alloc, self.store, name.as_str(), frame),
             Node::Member(of, name) => self.member(of.get(), name.as_str(), frame),
             Node::Unary(sign, operand) => self.unary(operand.get(), *sign, frame),
@@ -58,16 +59,14 @@ impl Binder<'_> {
             Node::Host(_, _) => Ok(None),
             Node::New(fields) => self.new_record(fields, frame),
             Node::Method(of, name, arguments) => {
-                let Some(of) = self.term(of.get(), frame)? else {
-                    return Ok(None);
-                };
-                self.method(arguments.as_slice(), name.as_str(), of, frame)
+                self.method_of(arguments, name.as_str(), of.get(), frame)
             }
         }
     }
 
     /// A member.
     #[cycle(binding)]
+    #[inline(never)]
     fn member(
         &self,
         of: &Term,
@@ -85,6 +84,7 @@ impl Binder<'_> {
 
     /// An operator with one operand.
     #[cycle(binding)]
+    #[inline(never)]
     fn unary(
         &self,
         operand: &Term,
@@ -99,29 +99,9 @@ impl Binder<'_> {
         operations::unary(self.alloc, sign, operand)
     }
 
-    /// Two operands.
-    #[cycle(binding)]
-    fn operands(
-        &self,
-        left: &Term,
-        right: &Term,
-        frame: &Frame<'_>,
-    ) -> Result<Option<(Tree, Tree)>, AllocError>
-        ensures { IfOk result (λ found. found
-            ≡ both (trees_in self.now.store.now left.now (places_in frame.now)) (trees_in self.now.store.now right.now (places_in frame.now))) }
-    {
-        let Some(left) = self.term(left, frame)? else {
-            return Ok(None);
-        };
-        let Some(right) = self.term(right, frame)? else {
-            return Ok(None);
-        };
-        Ok(Some((left, right)))
-    }
-
     /// An operator that evaluates both of its operands.
     #[cycle(binding)]
-    #[tactic(auto, using(crate::proofs::TermLemmas::pairs))]
+    #[inline(never)]
     fn binary(
         &self,
         left: &Term,
@@ -132,7 +112,25 @@ impl Binder<'_> {
         ensures { IfOk result (λ found. found ≡ of_two_trees (binary_tree sign)
             (trees_in self.now.store.now left.now (places_in frame.now)) (trees_in self.now.store.now right.now (places_in frame.now))) }
     {
-        let Some((left, right)) = self.operands(left, right, frame)? else {
+        let Some(left) = self.term(left, frame)? else {
+            return Ok(None);
+        };
+        self.binary_beside(right, sign, left, frame)
+    }
+
+    /// The same where the first operand has this tree.
+    #[cycle(binding)]
+    #[inline(never)]
+    fn binary_beside(
+        &self,
+        right: &Term,
+        sign: Binary,
+        left: Tree,
+        frame: &Frame<'_>,
+    ) -> Result<Option<Tree>, AllocError>
+        ensures { IfOk result (λ found. found ≡ option_and_then (binary_tree sign left) (trees_in self.now.store.now right.now (places_in frame.now))) }
+    {
+        let Some(right) = self.term(right, frame)? else {
             return Ok(None);
         };
         operations::binary(self.alloc, sign, left, right)
@@ -140,12 +138,34 @@ impl Binder<'_> {
 
     /// `&&`
     #[cycle(binding)]
-    #[tactic(auto, using(crate::proofs::TermLemmas::pairs))]
-    fn and(&self, left: &Term, right: &Term, frame: &Frame<'_>) -> Result<Option<Tree>, AllocError>
+    #[inline(never)]
+    fn and(
+        &self,
+        left: &Term,
+        right: &Term,
+        frame: &Frame<'_>,
+    ) -> Result<Option<Tree>, AllocError>
         ensures { IfOk result (λ found. found ≡ of_two_trees and_tree
             (trees_in self.now.store.now left.now (places_in frame.now)) (trees_in self.now.store.now right.now (places_in frame.now))) }
     {
-        let Some((left, right)) = self.operands(left, right, frame)? else {
+        let Some(left) = self.term(left, frame)? else {
+            return Ok(None);
+        };
+        self.and_beside(right, left, frame)
+    }
+
+    /// The same where the first operand has this tree.
+    #[cycle(binding)]
+    #[inline(never)]
+    fn and_beside(
+        &self,
+        right: &Term,
+        left: Tree,
+        frame: &Frame<'_>,
+    ) -> Result<Option<Tree>, AllocError>
+        ensures { IfOk result (λ found. found ≡ option_and_then (and_tree left) (trees_in self.now.store.now right.now (places_in frame.now))) }
+    {
+        let Some(right) = self.term(right, frame)? else {
             return Ok(None);
         };
         operations::and(self.alloc, left, right)
@@ -153,12 +173,34 @@ impl Binder<'_> {
 
     /// `||`
     #[cycle(binding)]
-    #[tactic(auto, using(crate::proofs::TermLemmas::pairs))]
-    fn or(&self, left: &Term, right: &Term, frame: &Frame<'_>) -> Result<Option<Tree>, AllocError>
+    #[inline(never)]
+    fn or(
+        &self,
+        left: &Term,
+        right: &Term,
+        frame: &Frame<'_>,
+    ) -> Result<Option<Tree>, AllocError>
         ensures { IfOk result (λ found. found ≡ of_two_trees or_tree
             (trees_in self.now.store.now left.now (places_in frame.now)) (trees_in self.now.store.now right.now (places_in frame.now))) }
     {
-        let Some((left, right)) = self.operands(left, right, frame)? else {
+        let Some(left) = self.term(left, frame)? else {
+            return Ok(None);
+        };
+        self.or_beside(right, left, frame)
+    }
+
+    /// The same where the first operand has this tree.
+    #[cycle(binding)]
+    #[inline(never)]
+    fn or_beside(
+        &self,
+        right: &Term,
+        left: Tree,
+        frame: &Frame<'_>,
+    ) -> Result<Option<Tree>, AllocError>
+        ensures { IfOk result (λ found. found ≡ option_and_then (or_tree left) (trees_in self.now.store.now right.now (places_in frame.now))) }
+    {
+        let Some(right) = self.term(right, frame)? else {
             return Ok(None);
         };
         operations::or(self.alloc, left, right)
@@ -166,7 +208,7 @@ impl Binder<'_> {
 
     /// `??`
     #[cycle(binding)]
-    #[tactic(auto, using(crate::proofs::TermLemmas::pairs))]
+    #[inline(never)]
     fn coalesce(
         &self,
         left: &Term,
@@ -176,7 +218,24 @@ impl Binder<'_> {
         ensures { IfOk result (λ found. found ≡ of_two_trees coalesce_tree
             (trees_in self.now.store.now left.now (places_in frame.now)) (trees_in self.now.store.now right.now (places_in frame.now))) }
     {
-        let Some((left, right)) = self.operands(left, right, frame)? else {
+        let Some(left) = self.term(left, frame)? else {
+            return Ok(None);
+        };
+        self.coalesce_beside(right, left, frame)
+    }
+
+    /// The same where the first operand has this tree.
+    #[cycle(binding)]
+    #[inline(never)]
+    fn coalesce_beside(
+        &self,
+        right: &Term,
+        left: Tree,
+        frame: &Frame<'_>,
+    ) -> Result<Option<Tree>, AllocError>
+        ensures { IfOk result (λ found. found ≡ option_and_then (coalesce_tree left) (trees_in self.now.store.now right.now (places_in frame.now))) }
+    {
+        let Some(right) = self.term(right, frame)? else {
             return Ok(None);
         };
         operations::coalesce(self.alloc, left, right)
@@ -184,7 +243,7 @@ impl Binder<'_> {
 
     /// `? :`, with its condition first.
     #[cycle(binding)]
-    #[tactic(auto, using(crate::proofs::TermLemmas::pairs))]
+    #[inline(never)]
     fn conditional(
         &self,
         condition: &Term,
@@ -198,9 +257,64 @@ impl Binder<'_> {
         let Some(condition) = self.term(condition, frame)? else {
             return Ok(None);
         };
-        let Some((left, right)) = self.operands(left, right, frame)? else {
+        self.choice(left, right, condition, frame)
+    }
+
+    /// The same where the condition has this tree.
+    #[cycle(binding)]
+    #[inline(never)]
+    fn choice(
+        &self,
+        left: &Term,
+        right: &Term,
+        condition: Tree,
+        frame: &Frame<'_>,
+    ) -> Result<Option<Tree>, AllocError>
+        ensures { IfOk result (λ found. found ≡ of_two_trees (conditional_tree condition)
+            (trees_in self.now.store.now left.now (places_in frame.now)) (trees_in self.now.store.now right.now (places_in frame.now))) }
+    {
+        let Some(left) = self.term(left, frame)? else {
+            return Ok(None);
+        };
+        self.choice_beside(right, condition, left, frame)
+    }
+
+    /// The same where the first operand has this tree too.
+    #[cycle(binding)]
+    #[inline(never)]
+    fn choice_beside(
+        &self,
+        right: &Term,
+        condition: Tree,
+        left: Tree,
+        frame: &Frame<'_>,
+    ) -> Result<Option<Tree>, AllocError>
+        ensures { IfOk result (λ found. found
+            ≡ option_and_then (conditional_tree condition left) (trees_in self.now.store.now right.now (places_in frame.now))) }
+    {
+        let Some(right) = self.term(right, frame)? else {
             return Ok(None);
         };
         operations::conditional(self.alloc, condition, left, right)
+    }
+
+    /// A method.
+    #[cycle(binding)]
+    #[inline(never)]
+    fn method_of(
+        &self,
+        arguments: &List<Argument<Term>>,
+        name: &str,
+        of: &Term,
+        frame: &Frame<'_>,
+    ) -> Result<Option<Tree>, AllocError>
+        ensures { IfOk result (λ found. found ≡ option_and_then
+            (λ found. method_tree (schemas_of self.now.store.now) (trees_in self.now.store.now) name.now arguments.now found (places_in frame.now))
+            (trees_in self.now.store.now of.now (places_in frame.now))) }
+    {
+        let Some(of) = self.term(of, frame)? else {
+            return Ok(None);
+        };
+        self.method(arguments.as_slice(), name, of, frame)
     }
 }

@@ -1,55 +1,78 @@
 //! Methods by their names (.NET, `Enumerable` and `String`).
 ghost use Rattle.std.specs.Prelude.{◌≡◌};
-ghost use Rattle.lq_model.specs.EnumerableCalls.{method_with_lambda, method_with_value, simple_method};
+ghost use Rattle.lq_model.specs.EnumerableCalls.{by_name, method_with_lambda, method_with_value, simple_method};
 ghost use Rattle.lq_model.specs.Members.{search_named};
+ghost use Rattle.lq_bind.specs.MethodNames.{names_with_lambdas, names_with_values, simple_names};
 
 use lq_model::{Given, Op, Simple, Through};
+
+/// The method of this name in the list of those without an argument.
+fn simple_by_name(name: &str) -> Option<Simple>
+    ensures { result ≡ by_name name.now simple_names }
+{
+    match name {
+        "Distinct" => Some(Simple::Distinct),
+        "Reverse" => Some(Simple::Reverse),
+        "DefaultIfEmpty" => Some(Simple::DefaultIfEmpty),
+        "Any" => Some(Simple::Any),
+        "Count" => Some(Simple::Count),
+        "First" => Some(Simple::First),
+        "FirstOrDefault" => Some(Simple::FirstOrDefault),
+        "Last" => Some(Simple::Last),
+        "Single" => Some(Simple::Single),
+        "SingleOrDefault" => Some(Simple::SingleOrDefault),
+        "Sum" => Some(Simple::Sum),
+        "Min" => Some(Simple::Min),
+        "Max" => Some(Simple::Max),
+        _ => None,
+    }
+}
+
+/// The method of this name in the list of those with a value.
+fn with_value_by_name(name: &str) -> Option<Given>
+    ensures { result ≡ by_name name.now names_with_values }
+{
+    match name {
+        "Concat" => Some(Given::Concat),
+        "Union" => Some(Given::Union),
+        "Intersect" => Some(Given::Intersect),
+        "Except" => Some(Given::Except),
+        "Skip" => Some(Given::Skip),
+        "Take" => Some(Given::Take),
+        "ElementAt" => Some(Given::ElementAt),
+        "Contains" => Some(Given::Contains),
+        _ => None,
+    }
+}
+
+/// The method of this name in the list of those with a lambda.
+fn with_lambda_by_name(name: &str) -> Option<Through>
+    ensures { result ≡ by_name name.now names_with_lambdas }
+{
+    match name {
+        "Where" => Some(Through::Where),
+        "Select" => Some(Through::Select),
+        "All" => Some(Through::All),
+        "Any" => Some(Through::Those(Simple::Any)),
+        "Count" => Some(Through::Those(Simple::Count)),
+        "First" => Some(Through::Those(Simple::First)),
+        "FirstOrDefault" => Some(Through::Those(Simple::FirstOrDefault)),
+        "Last" => Some(Through::Those(Simple::Last)),
+        "Single" => Some(Through::Those(Simple::Single)),
+        "SingleOrDefault" => Some(Through::Those(Simple::SingleOrDefault)),
+        "Sum" => Some(Through::Values(Simple::Sum)),
+        "Min" => Some(Through::Values(Simple::Min)),
+        "Max" => Some(Through::Values(Simple::Max)),
+        _ => None,
+    }
+}
 
 /// The method of this name without an argument.
 #[tactic(auto, using(crate::proofs::MethodLemmas::simple_methods))]
 pub(crate) fn simple_method(name: &str) -> Option<Simple>
     ensures { result ≡ simple_method name.now }
 {
-    if name == "Distinct" {
-        return Some(Simple::Distinct);
-    }
-    if name == "Reverse" {
-        return Some(Simple::Reverse);
-    }
-    if name == "DefaultIfEmpty" {
-        return Some(Simple::DefaultIfEmpty);
-    }
-    if name == "Any" {
-        return Some(Simple::Any);
-    }
-    if name == "Count" {
-        return Some(Simple::Count);
-    }
-    if name == "First" {
-        return Some(Simple::First);
-    }
-    if name == "FirstOrDefault" {
-        return Some(Simple::FirstOrDefault);
-    }
-    if name == "Last" {
-        return Some(Simple::Last);
-    }
-    if name == "Single" {
-        return Some(Simple::Single);
-    }
-    if name == "SingleOrDefault" {
-        return Some(Simple::SingleOrDefault);
-    }
-    if name == "Sum" {
-        return Some(Simple::Sum);
-    }
-    if name == "Min" {
-        return Some(Simple::Min);
-    }
-    if name == "Max" {
-        return Some(Simple::Max);
-    }
-    None
+    simple_by_name(name)
 }
 
 /// The method of this name with a value.
@@ -57,31 +80,7 @@ pub(crate) fn simple_method(name: &str) -> Option<Simple>
 pub(crate) fn method_with_value(name: &str) -> Option<Given>
     ensures { result ≡ method_with_value name.now }
 {
-    if name == "Concat" {
-        return Some(Given::Concat);
-    }
-    if name == "Union" {
-        return Some(Given::Union);
-    }
-    if name == "Intersect" {
-        return Some(Given::Intersect);
-    }
-    if name == "Except" {
-        return Some(Given::Except);
-    }
-    if name == "Skip" {
-        return Some(Given::Skip);
-    }
-    if name == "Take" {
-        return Some(Given::Take);
-    }
-    if name == "ElementAt" {
-        return Some(Given::ElementAt);
-    }
-    if name == "Contains" {
-        return Some(Given::Contains);
-    }
-    None
+    with_value_by_name(name)
 }
 
 /// The method of this name with a lambda.
@@ -89,46 +88,7 @@ pub(crate) fn method_with_value(name: &str) -> Option<Given>
 pub(crate) fn method_with_lambda(name: &str) -> Option<Through>
     ensures { result ≡ method_with_lambda name.now }
 {
-    if name == "Where" {
-        return Some(Through::Where);
-    }
-    if name == "Select" {
-        return Some(Through::Select);
-    }
-    if name == "All" {
-        return Some(Through::All);
-    }
-    if name == "Any" {
-        return Some(Through::Those(Simple::Any));
-    }
-    if name == "Count" {
-        return Some(Through::Those(Simple::Count));
-    }
-    if name == "First" {
-        return Some(Through::Those(Simple::First));
-    }
-    if name == "FirstOrDefault" {
-        return Some(Through::Those(Simple::FirstOrDefault));
-    }
-    if name == "Last" {
-        return Some(Through::Those(Simple::Last));
-    }
-    if name == "Single" {
-        return Some(Through::Those(Simple::Single));
-    }
-    if name == "SingleOrDefault" {
-        return Some(Through::Those(Simple::SingleOrDefault));
-    }
-    if name == "Sum" {
-        return Some(Through::Values(Simple::Sum));
-    }
-    if name == "Min" {
-        return Some(Through::Values(Simple::Min));
-    }
-    if name == "Max" {
-        return Some(Through::Values(Simple::Max));
-    }
-    None
+    with_lambda_by_name(name)
 }
 
 /// The method of this name that looks for a text in another.

@@ -1,5 +1,5 @@
 //! The trees of literals and of names (ECMA-334, literals and simple names).
-ghost use Rattle.std.specs.Prelude.{◌≡◌, IfOk};
+ghost use Rattle.std.specs.Prelude.{◌≡◌, IfOk, None, Some};
 ghost use Rattle.lq_value.specs.declared.scalar.Scalar.TheVariants as scalar;
 ghost use Rattle.lq_value.specs.declared.ty.Ty.TheVariants as ty;
 ghost use Rattle.lq_model.specs.Machine.{schemas_of};
@@ -7,7 +7,6 @@ ghost use Rattle.lq_tree.specs.Binding.{name_tree};
 ghost use Rattle.lq_tree.specs.Places.{place_of};
 ghost use Rattle.lq_bind.specs.Bound.{literal_tree};
 ghost use Rattle.lq_bind.specs.Frames.{places_in};
-ghost use Rattle.std.specs.Prelude.{None};
 
 use crate::frames::Frame;
 use lq_store::Store;
@@ -15,45 +14,45 @@ use lq_tree::{Form, Tree};
 use lq_value::{Held, Scalar, Txt, Ty};
 use std::alloc::{AllocError, Global};
 
-/// An integer.
-pub(crate) fn integer(number: i32) -> Tree
-    ensures { result ≡ literal_tree ty.Int (scalar.Int number) }
+/// A literal of this type.
+fn literal(of: Ty, value: Scalar) -> Result<Option<Tree>, AllocError>
+    ensures { IfOk result (λ found. found ≡ Some (literal_tree of value)) }
 {
-    Tree {
-        ty: Ty::Int,
-        form: Form::Literal(Scalar::Int(number)),
-    }
+    let form = Form::Literal(value);
+    Ok(Some(Tree { ty: of, form }))
+}
+
+/// An integer.
+#[inline(never)]
+pub(crate) fn integer(number: i32) -> Result<Option<Tree>, AllocError>
+    ensures { IfOk result (λ found. found ≡ Some (literal_tree ty.Int (scalar.Int number))) }
+{
+    literal(Ty::Int, Scalar::Int(number))
 }
 
 /// A text.
-pub(crate) fn text(alloc: Global, text: &Txt) -> Result<Tree, AllocError>
-    ensures { IfOk result (λ made. made ≡ literal_tree ty.Str (scalar.Text text.now)) }
+#[inline(never)]
+pub(crate) fn text(alloc: Global, text: &Txt) -> Result<Option<Tree>, AllocError>
+    ensures { IfOk result (λ found. found ≡ Some (literal_tree ty.Str (scalar.Text text.now))) }
 {
     let text = Txt::from_str(alloc, text.as_str())?;
-    Ok(Tree {
-        ty: Ty::Str,
-        form: Form::Literal(Scalar::Text(text)),
-    })
+    literal(Ty::Str, Scalar::Text(text))
 }
 
 /// `true` or `false`.
-pub(crate) fn truth(truth: bool) -> Tree
-    ensures { result ≡ literal_tree ty.Bool (scalar.Bool truth) }
+#[inline(never)]
+pub(crate) fn truth(truth: bool) -> Result<Option<Tree>, AllocError>
+    ensures { IfOk result (λ found. found ≡ Some (literal_tree ty.Bool (scalar.Bool truth))) }
 {
-    Tree {
-        ty: Ty::Bool,
-        form: Form::Literal(Scalar::Bool(truth)),
-    }
+    literal(Ty::Bool, Scalar::Bool(truth))
 }
 
 /// `null`
-pub(crate) fn null() -> Tree
-    ensures { result ≡ literal_tree ty.Null scalar.Null }
+#[inline(never)]
+pub(crate) fn null() -> Result<Option<Tree>, AllocError>
+    ensures { IfOk result (λ found. found ≡ Some (literal_tree ty.Null scalar.Null)) }
 {
-    Tree {
-        ty: Ty::Null,
-        form: Form::Literal(Scalar::Null),
-    }
+    literal(Ty::Null, Scalar::Null)
 }
 
 /// The rows of the table of this name.
@@ -72,6 +71,7 @@ fn rows(alloc: Global, store: &Store, name: &str) -> Result<Option<Tree>, AllocE
 }
 
 /// What a name stands for: a local name, and else the rows of a table.
+#[inline(never)]
 #[tactic(auto, using(crate::proofs::TermLemmas::named))]
 pub(crate) fn name(
     alloc: Global,

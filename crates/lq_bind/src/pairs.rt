@@ -61,6 +61,7 @@ impl Binder<'_> {
     ghost use Rattle.lq_model.specs.Operators.{unnamed};
     ghost use Rattle.lq_tree.specs.Binding.{expanded_stage, if_fresh, join_keys, joined_stage, paired_stage, placed_tree, source_tree, stage_of};
     ghost use Rattle.lq_tree.specs.Places.{with_item, with_name};
+    ghost use Rattle.lq_tree.specs.declared.tree.Form.TheVariants as form;
     ghost use Rattle.lq_bind.specs.Bound.{matched_in, trees_in};
     ghost use Rattle.lq_bind.specs.Frames.{found_stage, pattern_in, places_in, stage_in};
 
@@ -97,12 +98,30 @@ impl Binder<'_> {
         ensures { IfOk result (λ found. found_stage found ≡ expanded_stage (schemas_of self.now.store.now) (trees_in self.now.store.now) (places_in frame.now)
             name.now pair.now (stage_in before) inner) }
     {
-        let Behind { variables, form } = before;
-        let Tree { ty, form: inner } = inner;
-        let Some(made) = self.paired(pair, name, ty, variables, frame)? else {
+        match pair {
+            Paired::Pair => stage_forms::expanded_pairs(self.alloc, before, name, inner, frame),
+            Paired::Value(value) => self.expanded_values(value, name, before, inner, frame),
+        }
+    }
+
+    /// The same where a value comes of each pair.
+    #[cycle(binding)]
+    fn expanded_values(
+        &self,
+        value: &Term,
+        name: &Txt,
+        before: Behind,
+        inner: Tree,
+        frame: &Frame<'_>,
+    ) -> Result<Option<Behind>, AllocError>
+        ensures { IfOk result (λ found. found_stage found ≡ option_map (λ made. stage_of made.pattern (form.SelectMany before.form inner.form made.form))
+            (option_map (λ found. stage_of (unnamed found.ty) found.form) (option_and_then placed_tree
+            (trees_in self.now.store.now value.now (with_name (with_item (places_in frame.now) (pattern_in before.variables)) name.now inner.ty))))) }
+    {
+        let Some(made) = self.paired_value(value, name, &inner.ty, &before.variables, frame)? else {
             return Ok(None);
         };
-        Ok(Some(stage_forms::expanded(self.alloc, form, inner, made)?))
+        stage_forms::expanded(self.alloc, before, inner, made)
     }
 
     /// What a call that pairs items makes of a pair.
@@ -228,12 +247,12 @@ impl Binder<'_> {
         ensures { IfOk result (λ found. found_stage found ≡ joined_stage (schemas_of self.now.store.now) (trees_in self.now.store.now) (places_in frame.now)
             join.now pair.now (stage_in before) matched.sides.inner matched.sides.keys matched.ty) }
     {
-        let Behind { variables, form } = before;
         let Matched { sides, ty } = matched;
+        let (variables, sources) = stage_forms::beside_source(before, sides);
         let Some(made) = self.paired(pair, joined_name(join), ty, variables, frame)? else {
             return Ok(None);
         };
         let grouped = join.into.is_some();
-        Ok(Some(stage_forms::joined(self.alloc, form, sides, grouped, made)?))
+        Ok(Some(stage_forms::joined(self.alloc, sources, grouped, made)?))
     }
 }

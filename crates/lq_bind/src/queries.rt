@@ -19,6 +19,7 @@ impl Binder<'_> {
 
     /// The calls of a query.
     #[cycle(binding)]
+    #[inline(never)]
     #[tactic(auto, using(crate::proofs::TermLemmas::calls))]
     pub(crate) fn call(
         &self,
@@ -279,15 +280,15 @@ impl Binder<'_> {
     fn element(
         &self,
         element: &Option<Term>,
-        variables: Variables,
+        variables: &Variables,
         frame: &Frame<'_>,
     ) -> Result<Option<Tree>, AllocError>
         ensures { IfOk result (λ found. found ≡ element_tree (schemas_of self.now.store.now) (trees_in self.now.store.now) (places_in frame.now)
-            (pattern_in variables) element.now) }
+            (pattern_in variables.now) element.now) }
     {
         match element {
-            Some(element) => self.of_item(element, &variables, frame),
-            None => Ok(Some(stage_forms::item(self.alloc, variables, frame.depth()?)?)),
+            Some(element) => self.of_item(element, variables, frame),
+            None => stage_forms::item(self.alloc, variables, frame.depth()?),
         }
     }
 
@@ -303,10 +304,9 @@ impl Binder<'_> {
         ensures { IfOk result (λ found. found_stage found ≡ grouped_stage (schemas_of self.now.store.now) (trees_in self.now.store.now) (places_in frame.now)
             element.now (stage_in before) key) }
     {
-        let Behind { variables, form } = before;
-        let Some(element) = self.element(element, variables, frame)? else {
+        let Some(element) = self.element(element, &before.variables, frame)? else {
             return Ok(None);
         };
-        stage_forms::grouped(self.alloc, form, key, element)
+        stage_forms::grouped(self.alloc, before, key, element)
     }
 }

@@ -17,6 +17,7 @@ impl Binder<'_> {
 
     /// A record of members with different names.
     #[cycle(binding)]
+    #[inline(never)]
     pub(crate) fn new_record(
         &self,
         fields: &List<Field<Term>>,

@@ -7,8 +7,9 @@ ghost use Rattle.lq_value.specs.declared.ty.Ty.TheVariants as ty;
 ghost use Rattle.lq_tree.specs.Binding.{condition_tree, items_of_stage, placed_tree, stage_of, tree_of};
 ghost use Rattle.lq_model.specs.Types.{are_join_keys, is_within, when};
 ghost use Rattle.lq_tree.specs.declared.tree.Form.TheVariants as form;
-ghost use Rattle.lq_bind.specs.Frames.{found_stage, pattern_in, stage_in};
+ghost use Rattle.lq_bind.specs.Frames.{found_stage, pattern_in, places_in, stage_in};
 
+use crate::frames::Frame;
 use crate::operations::into_form;
 use crate::placed;
 use crate::variables::{Behind, Variables, unnamed};
@@ -27,6 +28,24 @@ pub(crate) struct Sides {
     pub(crate) keys: (Form, Form),
 }
 
+/// A source, and what is known of how it is paired or grouped.
+#[derive(Drop)]
+pub(crate) struct Beside<T> {
+    /// The source.
+    pub(crate) source: Form,
+    /// What stands beside it.
+    pub(crate) other: T,
+}
+
+/// The variables of a source, and the source beside something else.
+pub(crate) fn beside_source<T>(before: Behind, other: T) -> (Variables, Beside<T>)
+    ensures { result ≡ (before.variables, record { source = before.form; other = other }) }
+{
+    let Behind { variables, form } = before;
+    let source = form;
+    (variables, Beside { source, other })
+}
+
 /// A method with a lambda, where the types of items are of no account.
 fn through(
     alloc: Global,
@@ -42,7 +61,7 @@ fn through(
 }
 
 /// A pair of an item and of what the second form means.
-fn beside(alloc: Global, item: usize, second: Form) -> Result<Form, AllocError>
+fn item_beside(alloc: Global, item: usize, second: Form) -> Result<Form, AllocError>
     ensures { IfOk result (λ made. made ≡ form.Pair (form.Slot item) second) }
 {
     let second = Held::new(alloc, second)?;
@@ -62,12 +81,12 @@ pub(crate) fn first(alloc: Global, name: &Txt, items: Tree) -> Result<Behind, Al
 }
 
 /// The item in this slot.
-pub(crate) fn item(alloc: Global, variables: Variables, slot: usize) -> Result<Tree, AllocError>
-    ensures { IfOk result (λ made. made ≡ tree_of (pattern_type (pattern_in variables)) (form.Slot slot)) }
+pub(crate) fn item(alloc: Global, variables: &Variables, slot: usize) -> Result<Option<Tree>, AllocError>
+    ensures { IfOk result (λ made. made ≡ Some (tree_of (pattern_type (pattern_in variables.now)) (form.Slot slot))) }
 {
-    let ty = variables.into_type(alloc)?;
+    let ty = variables.item_type(alloc)?;
     let form = Form::Slot(slot);
-    Ok(Tree { ty, form })
+    Ok(Some(Tree { ty, form }))
 }
 
 /// Items that no name stands for, which are given by this tree, where it has a place.
@@ -132,7 +151,7 @@ fn more(
 fn named_form(alloc: Global, source: Form, item: usize, second: Form) -> Result<Form, AllocError>
     ensures { IfOk result (λ made. made ≡ form.Through through.Select ty.Null ty.Null source (form.Pair (form.Slot item) second)) }
 {
-    let pair = beside(alloc, item, second)?;
+    let pair = item_beside(alloc, item, second)?;
     through(alloc, Through::Select, source, pair)
 }
 
@@ -179,7 +198,7 @@ fn pair_form(alloc: Global, item: usize) -> Result<Form, AllocError>
     let Some(next) = item.checked_add(1) else {
         return Err(AllocError);
     };
-    beside(alloc, item, Form::Slot(next))
+    item_beside(alloc, item, Form::Slot(next))
 }
 
 /// A pair of the items in this slot and the next one.
@@ -216,15 +235,42 @@ fn expanded_form(
 /// `SelectMany`: what is made of each item, and of each item of the sequence that it leads to.
 pub(crate) fn expanded(
     alloc: Global,
-    source: Form,
-    inner: Form,
+    before: Behind,
+    inner: Tree,
     made: Behind,
-) -> Result<Behind, AllocError>
-    ensures { IfOk result (λ found. stage_in found ≡ stage_of (pattern_in made.variables) (form.SelectMany source inner made.form)) }
+) -> Result<Option<Behind>, AllocError>
+    ensures { IfOk result (λ found. found_stage found ≡ Some (stage_of (pattern_in made.variables) (form.SelectMany before.form inner.form made.form))) }
 {
     let Behind { variables, form } = made;
-    let form = expanded_form(alloc, source, inner, form)?;
-    Ok(Behind { variables, form })
+    let form = expanded_form(alloc, source_of(before), into_form(inner), form)?;
+    Ok(Some(Behind { variables, form }))
+}
+
+/// `SelectMany` that makes pairs of the items, which stand in the next two slots.
+pub(crate) fn expanded_pairs(
+    alloc: Global,
+    before: Behind,
+    name: &Txt,
+    inner: Tree,
+    frame: &Frame<'_>,
+) -> Result<Option<Behind>, AllocError>
+    ensures { IfOk result (λ found. found_stage found ≡ Some (stage_of (With (pattern_in before.variables) name.now inner.ty)
+        (form.SelectMany before.form inner.form (form.Pair (form.Slot (places_in frame.now).depth) (form.Slot ((places_in frame.now).depth + 1)))))) }
+{
+    let pair = pair_form(alloc, frame.depth()?)?;
+    let Behind { variables, form: source } = before;
+    let Tree { ty, form: inner } = inner;
+    let variables = more(alloc, variables, name, ty)?;
+    let form = expanded_form(alloc, source, inner, pair)?;
+    Ok(Some(Behind { variables, form }))
+}
+
+/// The form of what stands behind a call.
+pub(crate) fn source_of(behind: Behind) -> Form
+    ensures { result ≡ behind.form }
+{
+    let Behind { form, .. } = behind;
+    form
 }
 
 /// The keys of a join, where they can be compared.
@@ -264,16 +310,17 @@ fn join_parts(sides: Sides, grouped: bool, pair: Form) -> Joined<Form>
 /// A join of a source with this inner sequence.
 pub(crate) fn joined(
     alloc: Global,
-    source: Form,
-    sides: Sides,
+    sources: Beside<Sides>,
     grouped: bool,
     made: Behind,
 ) -> Result<Behind, AllocError>
     ensures { IfOk result (λ found. stage_in found ≡ stage_of (pattern_in made.variables)
-        (form.Join source (record { inner = sides.inner; outer_key = sides.keys.0; inner_key = sides.keys.1; grouped = grouped; result = made.form }))) }
+        (form.Join sources.source (record { inner = sources.other.inner; outer_key = sources.other.keys.0; inner_key = sources.other.keys.1;
+            grouped = grouped; result = made.form }))) }
 {
     let Behind { variables, form } = made;
-    let form = join_form(alloc, source, join_parts(sides, grouped, form))?;
+    let Beside { source, other } = sources;
+    let form = join_form(alloc, source, join_parts(other, grouped, form))?;
     Ok(Behind { variables, form })
 }
 
@@ -329,17 +376,17 @@ fn group_items(alloc: Global, source: Form, key: Tree, element: Tree) -> Result<
 /// `GroupBy`, with its key and its element.
 pub(crate) fn grouped(
     alloc: Global,
-    source: Form,
+    before: Behind,
     key: Tree,
     element: Tree,
 ) -> Result<Option<Behind>, AllocError>
     ensures { IfOk result (λ made. found_stage made
-        ≡ option_map (λ found. stage_of (unnamed (ty.Group key.ty found.ty)) (form.GroupBy source key.form found.form)) (placed_tree element)) }
+        ≡ option_map (λ found. stage_of (unnamed (ty.Group key.ty found.ty)) (form.GroupBy before.form key.form found.form)) (placed_tree element)) }
 {
     let Some(element) = placed::placed(element) else {
         return Ok(None);
     };
-    Ok(Some(group_items(alloc, source, key, element)?))
+    Ok(Some(group_items(alloc, source_of(before), key, element)?))
 }
 
 /// The items, where the type of their sequence is one that an expression may have.

@@ -87,6 +87,20 @@ impl Variables {
         }
     }
 
+    /// The type of the item, copied.
+    #[tactic(auto, using(crate::proofs::FrameLemmas::patterns))]
+    pub(crate) fn item_type(&self, alloc: Global) -> Result<Ty, AllocError>
+        ensures { IfOk result (λ made. made ≡ pattern_type (pattern_in self.now)) }
+    {
+        match self {
+            Variables::One(_, ty) => copy_ty(alloc, ty),
+            Variables::With(before, _, ty) => {
+                let before = before.get().item_type(alloc)?;
+                pair_type(alloc, before, copy_ty(alloc, ty)?)
+            }
+        }
+    }
+
     /// The type of the item.
     #[tactic(auto, using(crate::proofs::FrameLemmas::patterns))]
     pub(crate) fn into_type(self, alloc: Global) -> Result<Ty, AllocError>

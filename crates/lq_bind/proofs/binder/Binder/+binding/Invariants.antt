@@ -111,6 +111,9 @@ decreases-grouped l = 32 * goal.size-grouped l + 10
 abbrev pub decreases-expanded : goal.decreases-expanded
 decreases-expanded l = 32 * goal.size-expanded l + 12
 
+abbrev pub decreases-expanded_values : goal.decreases-expanded_values
+decreases-expanded_values l = 32 * goal.size-expanded_values l + 6
+
 abbrev pub decreases-paired : goal.decreases-paired
 decreases-paired l = 32 * goal.size-paired l + 10
 
@@ -129,44 +132,62 @@ decreases-join_keys l = 32 * goal.size-join_keys l + 8
 abbrev pub decreases-matched : goal.decreases-matched
 decreases-matched l = 32 * goal.size-matched l + 10
 
-abbrev pub decreases-operands : goal.decreases-operands
-decreases-operands l = 32 * max (the_size l.left.now) (the_size l.right.now) + 3
-
 abbrev pub decreases-binary : goal.decreases-binary
-decreases-binary l = 32 * max (the_size l.left.now) (the_size l.right.now) + 5
+decreases-binary l = 32 * max (the_size l.left.now) (the_size l.right.now) + 6
+
+abbrev pub decreases-binary_beside : goal.decreases-binary_beside
+decreases-binary_beside l = 32 * the_size l.right.now + 5
 
 abbrev pub decreases-and : goal.decreases-and
-decreases-and l = 32 * max (the_size l.left.now) (the_size l.right.now) + 5
+decreases-and l = 32 * max (the_size l.left.now) (the_size l.right.now) + 6
+
+abbrev pub decreases-and_beside : goal.decreases-and_beside
+decreases-and_beside l = 32 * the_size l.right.now + 5
 
 abbrev pub decreases-or : goal.decreases-or
-decreases-or l = 32 * max (the_size l.left.now) (the_size l.right.now) + 5
+decreases-or l = 32 * max (the_size l.left.now) (the_size l.right.now) + 6
+
+abbrev pub decreases-or_beside : goal.decreases-or_beside
+decreases-or_beside l = 32 * the_size l.right.now + 5
 
 abbrev pub decreases-coalesce : goal.decreases-coalesce
-decreases-coalesce l = 32 * max (the_size l.left.now) (the_size l.right.now) + 5
+decreases-coalesce l = 32 * max (the_size l.left.now) (the_size l.right.now) + 6
+
+abbrev pub decreases-coalesce_beside : goal.decreases-coalesce_beside
+decreases-coalesce_beside l = 32 * the_size l.right.now + 5
 
 abbrev pub decreases-conditional : goal.decreases-conditional
-decreases-conditional l = 32 * max (the_size l.condition.now) (max (the_size l.left.now) (the_size l.right.now)) + 5
+decreases-conditional l = 32 * max (the_size l.condition.now) (max (the_size l.left.now) (the_size l.right.now)) + 7
+
+abbrev pub decreases-choice : goal.decreases-choice
+decreases-choice l = 32 * max (the_size l.left.now) (the_size l.right.now) + 6
+
+abbrev pub decreases-choice_beside : goal.decreases-choice_beside
+decreases-choice_beside l = 32 * the_size l.right.now + 5
+
+abbrev pub decreases-method_of : goal.decreases-method_of
+decreases-method_of l = 32 * max (goal.size-method_of l) (the_size l.of.now) + 14
 
 -- ---- loops
 
 -- what comes of the items that are left, behind what is in hand, is what comes of all of them
 abbrev pub invariant-fields-loop-field : goal.invariant-fields-loop-field
 invariant-fields-loop-field l =
-    Walks (gather_step (field_tree (schemas_of l.fn.self.store.now) (trees_in l.fn.self.store.now) (places_in l.fn.frame))) l.field-items
-    (gathered (field_tree (schemas_of l.fn.self.store.now) (trees_in l.fn.self.store.now) (places_in l.fn.frame)) l.field-items) l.members l.field-index
+    Walks (gather_step (field_tree (schemas_of l.fn.self.store.now) (trees_in l.fn.self.store.now) (places_in l.fn.frame))) l.fields
+    (gathered (field_tree (schemas_of l.fn.self.store.now) (trees_in l.fn.self.store.now) (places_in l.fn.frame)) l.fields) l.members l.field-index
 
 abbrev pub invariant-sort_keys-loop-key : goal.invariant-sort_keys-loop-key
 invariant-sort_keys-loop-key l =
-    Walks (gather_step (key_tree (schemas_of l.fn.self.store.now) (trees_in l.fn.self.store.now) (places_in l.fn.frame))) l.key-items
-    (gathered (key_tree (schemas_of l.fn.self.store.now) (trees_in l.fn.self.store.now) (places_in l.fn.frame)) l.key-items) l.bound l.key-index
+    Walks (gather_step (key_tree (schemas_of l.fn.self.store.now) (trees_in l.fn.self.store.now) (places_in l.fn.frame))) l.keys
+    (gathered (key_tree (schemas_of l.fn.self.store.now) (trees_in l.fn.self.store.now) (places_in l.fn.frame)) l.keys) l.bound l.key-index
 
 abbrev pub invariant-parts-loop-part : goal.invariant-parts-loop-part
 invariant-parts-loop-part l =
-    Walks (part_tree (schemas_of l.fn.self.store.now) (trees_in l.fn.self.store.now) (places_in l.fn.frame)) l.part-items
-    (walked (part_tree (schemas_of l.fn.self.store.now) (trees_in l.fn.self.store.now) (places_in l.fn.frame)) l.fn.first l.part-items) l.items l.part-index
+    Walks (part_tree (schemas_of l.fn.self.store.now) (trees_in l.fn.self.store.now) (places_in l.fn.frame)) l.parts
+    (walked (part_tree (schemas_of l.fn.self.store.now) (trees_in l.fn.self.store.now) (places_in l.fn.frame)) l.fn.first l.parts) l.items l.part-index
 
 abbrev pub invariant-behind-loop-operator : goal.invariant-behind-loop-operator
 invariant-behind-loop-operator l =
-    Walks (operator_stage (schemas_of l.fn.self.store.now) (trees_in l.fn.self.store.now) (places_in l.fn.frame)) l.operator-items
-    (walked (operator_stage (schemas_of l.fn.self.store.now) (trees_in l.fn.self.store.now) (places_in l.fn.frame)) (stage_in l.fn.first) l.operator-items)
+    Walks (operator_stage (schemas_of l.fn.self.store.now) (trees_in l.fn.self.store.now) (places_in l.fn.frame)) l.operators
+    (walked (operator_stage (schemas_of l.fn.self.store.now) (trees_in l.fn.self.store.now) (places_in l.fn.frame)) (stage_in l.fn.first) l.operators)
     (stage_in l.behind) l.operator-index
