@@ -1,8 +1,8 @@
-use Rattle.std.proofs.Common.{◌≡◌, IfOk, Option, None, Some, ap, sym, subst, ◌∙◌, option_and_then}
+use Rattle.std.proofs.Common.{◌≡◌, IfOk, List, Option, None, Some, ap, sym, subst, ◌∙◌, option_and_then}
 use Rattle.lq_model.specs.Machine.{schemas_of}
 use Rattle.lq_model.specs.declared.calls.Operator.{Operator}
 use Rattle.lq_model.specs.declared.calls.Term.{Term}
-use Rattle.lq_tree.specs.Binding.{field_tree, joined_stage, key_tree, operator_stage, part_tree}
+use Rattle.lq_tree.specs.Binding.{body_tree, field_tree, joined_stage, key_tree, operator_stage, part_tree}
 use Rattle.lq_bind.specs.Bound.{trees_in}
 use Rattle.lq_bind.specs.Frames.{found_stage, places_in, stage_in}
 use Rattle.lq_bind.specs.declared.pairs.Matched.{Matched}
@@ -18,7 +18,11 @@ behind-returns-in_default t c =
 pub parts-returns-in_default : goal.parts-returns-in_default
 parts-returns-in_default t c =
     walk_stops (part_tree (schemas_of c.args.self.now.store.now) (trees_in c.args.self.now.store.now) (places_in c.args.frame.now)) c.args.parts.now _ _ _ _
-    c.part-item.is c.loop-part-test.true (sym c.in_default.is ∙ c.in_ok-next.ensures) c.loop-part.invariant
+    c.part-item.is c.loop-part-test.true
+    (sym c.in_default.is ∙ c.in_ok-next.ensures
+    ∙ ap (λ (ops : List (Operator Term)). body_tree (schemas_of c.args.self.now.store.now) (trees_in c.args.self.now.store.now) (places_in c.args.frame.now) c.part-item.result.name ops c.loop-part.items)
+    c.as_slice.ensures)
+    c.loop-part.invariant
 
 pub fields-returns-in_default : goal.fields-returns-in_default
 fields-returns-in_default t c =
