@@ -55,28 +55,28 @@ pub ruleset chains = (places_top, places_item, places_name)
 pub found_in : (n : List ℕ) (p : Pattern) (item : Form) (ps : List Place)
     → place_of n (places_of p item ps) ≡ (if is_among n p then place_of n (places_of p item []) else place_of n ps)
 found_in n (One m t) item ps = one (bytes_eq m n) where
-    one : (b : Bool) → (if b then Some (record { name = m; ty = t; form = item }) else place_of n ps)
-        ≡ (if b then (if b then Some (record { name = m; ty = t; form = item }) else None) else place_of n ps)
-    one true = refl
-    one false = refl
+  one : (b : Bool) → (if b then Some (record { name = m; ty = t; form = item }) else place_of n ps)
+      ≡ (if b then (if b then Some (record { name = m; ty = t; form = item }) else None) else place_of n ps)
+  one true = refl
+  one false = refl
 found_in n (With p m t) item ps = more (bytes_eq m n) (found_in n p (form.First item) ps) where
-    more : (b : Bool) → place_of n (places_of p (form.First item) ps) ≡ (if is_among n p then place_of n (places_of p (form.First item) []) else place_of n ps)
-        → (if b then Some (record { name = m; ty = t; form = form.Second item }) else place_of n (places_of p (form.First item) ps))
-        ≡ (if b || is_among n p then (if b then Some (record { name = m; ty = t; form = form.Second item }) else place_of n (places_of p (form.First item) [])) else place_of n ps)
-    more true e = refl
-    more false e = e
+  more : (b : Bool) → place_of n (places_of p (form.First item) ps) ≡ (if is_among n p then place_of n (places_of p (form.First item) []) else place_of n ps)
+      → (if b then Some (record { name = m; ty = t; form = form.Second item }) else place_of n (places_of p (form.First item) ps))
+      ≡ (if b || is_among n p then (if b then Some (record { name = m; ty = t; form = form.Second item }) else place_of n (places_of p (form.First item) [])) else place_of n ps)
+  more true e = refl
+  more false e = e
 
 -- and it is found where it is among them
 pub is_found : (n : List ℕ) (p : Pattern) (item : Form) → is_some (place_of n (places_of p item [])) ≡ is_among n p
 is_found n (One m t) item = one (bytes_eq m n) where
-    one : (b : Bool) → is_some {T = Place} (if b then Some (record { name = m; ty = t; form = item }) else None) ≡ b
-    one true = refl
-    one false = refl
+  one : (b : Bool) → is_some {T = Place} (if b then Some (record { name = m; ty = t; form = item }) else None) ≡ b
+  one true = refl
+  one false = refl
 is_found n (With p m t) item = more (bytes_eq m n) (is_found n p (form.First item)) where
-    more : (b : Bool) → is_some (place_of n (places_of p (form.First item) [])) ≡ is_among n p
-        → is_some {T = Place} (if b then Some (record { name = m; ty = t; form = form.Second item }) else place_of n (places_of p (form.First item) [])) ≡ b || is_among n p
-    more true e = refl
-    more false e = e
+  more : (b : Bool) → is_some (place_of n (places_of p (form.First item) [])) ≡ is_among n p
+      → is_some {T = Place} (if b then Some (record { name = m; ty = t; form = form.Second item }) else place_of n (places_of p (form.First item) [])) ≡ b || is_among n p
+  more true e = refl
+  more false e = e
 
 pub ruleset known = (found_in, is_found)
 
@@ -84,9 +84,9 @@ pub ruleset known = (found_in, is_found)
 pub typed_where_placed : (n : List ℕ) (ps : List Place) → is_some (local_type n (map (λ (place : Place). (place.name, place.ty)) ps)) ≡ is_some (place_of n ps)
 typed_where_placed n [] = refl
 typed_where_placed n (place ∷ ps) = at (bytes_eq place.name n) (typed_where_placed n ps) where
-    at : (b : Bool) → is_some (local_type n (map (λ (place : Place). (place.name, place.ty)) ps)) ≡ is_some (place_of n ps)
-        → is_some (if b then Some place.ty else local_type n (map (λ (place : Place). (place.name, place.ty)) ps)) ≡ is_some (if b then Some place else place_of n ps)
-    at true e = refl
-    at false e = e
+  at : (b : Bool) → is_some (local_type n (map (λ (place : Place). (place.name, place.ty)) ps)) ≡ is_some (place_of n ps)
+      → is_some (if b then Some place.ty else local_type n (map (λ (place : Place). (place.name, place.ty)) ps)) ≡ is_some (if b then Some place else place_of n ps)
+  at true e = refl
+  at false e = e
 
 pub ruleset fresh = (typed_where_placed)

@@ -16,5 +16,7 @@ unfolding method_with_lambda
 lambda_is m = refl
 
 pub ruleset simple_methods = (simple_is)
+
 pub ruleset methods_with_values = (value_is)
+
 pub ruleset methods_with_lambdas = (lambda_is)

@@ -67,12 +67,7 @@ impl Binder<'_> {
     /// A member.
     #[cycle(binding)]
     #[inline(never)]
-    fn member(
-        &self,
-        of: &Term,
-        name: &str,
-        frame: &Frame<'_>,
-    ) -> Result<Option<Tree>, AllocError>
+    fn member(&self, of: &Term, name: &str, frame: &Frame<'_>) -> Result<Option<Tree>, AllocError>
         ensures { IfOk result (λ found. found
             ≡ option_and_then (member_tree (schemas_of self.now.store.now) name.now) (trees_in self.now.store.now of.now (places_in frame.now))) }
     {
@@ -139,12 +134,7 @@ impl Binder<'_> {
     /// `&&`
     #[cycle(binding)]
     #[inline(never)]
-    fn and(
-        &self,
-        left: &Term,
-        right: &Term,
-        frame: &Frame<'_>,
-    ) -> Result<Option<Tree>, AllocError>
+    fn and(&self, left: &Term, right: &Term, frame: &Frame<'_>) -> Result<Option<Tree>, AllocError>
         ensures { IfOk result (λ found. found ≡ of_two_trees and_tree
             (trees_in self.now.store.now left.now (places_in frame.now)) (trees_in self.now.store.now right.now (places_in frame.now))) }
     {
@@ -174,12 +164,7 @@ impl Binder<'_> {
     /// `||`
     #[cycle(binding)]
     #[inline(never)]
-    fn or(
-        &self,
-        left: &Term,
-        right: &Term,
-        frame: &Frame<'_>,
-    ) -> Result<Option<Tree>, AllocError>
+    fn or(&self, left: &Term, right: &Term, frame: &Frame<'_>) -> Result<Option<Tree>, AllocError>
         ensures { IfOk result (λ found. found ≡ of_two_trees or_tree
             (trees_in self.now.store.now left.now (places_in frame.now)) (trees_in self.now.store.now right.now (places_in frame.now))) }
     {

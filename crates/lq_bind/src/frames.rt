@@ -47,7 +47,10 @@ impl<'a> Frame<'a> {
     {
         match self {
             Frame::Top => Ok(0),
-            Frame::Item(outer, _) | Frame::Name(outer, _, _) => match outer.depth()?.checked_add(1) {
+            Frame::Item(outer, _) | Frame::Name(outer, _, _) => match outer
+                .depth()?
+                .checked_add(1)
+            {
                 Some(slots) => Ok(slots),
                 None => Err(AllocError),
             },
@@ -92,7 +95,10 @@ impl<'a> Frame<'a> {
                     return outer.find(alloc, name);
                 }
                 let ty = copy_ty(alloc, ty)?;
-                Ok(Some(Tree { ty, form: Form::Slot(outer.depth()?) }))
+                Ok(Some(Tree {
+                    ty,
+                    form: Form::Slot(outer.depth()?),
+                }))
             }
         }
     }

@@ -109,7 +109,7 @@ impl Binder<'_> {
     ) -> Result<Option<Tree>, AllocError>
         ensures { IfOk result (λ found. found
             ≡ option_and_then (enumerable_tree (schemas_of self.now.store.now) (trees_in self.now.store.now) (places_in frame.now) source of)
-                (enumerable_call name.now arguments.now)) }
+            (enumerable_call name.now arguments.now)) }
     {
         match arguments {
             [] => {
@@ -138,7 +138,7 @@ impl Binder<'_> {
     ) -> Result<Option<Tree>, AllocError>
         ensures { IfOk result (λ found. found
             ≡ option_and_then (enumerable_tree (schemas_of self.now.store.now) (trees_in self.now.store.now) (places_in frame.now) source of)
-                (option_map (λ method. With method argument.now) (method_with_value name.now))) }
+            (option_map (λ method. With method argument.now) (method_with_value name.now))) }
     {
         let Some(method) = method_with_value(name) else {
             return Ok(None);
@@ -162,7 +162,7 @@ impl Binder<'_> {
     ) -> Result<Option<Tree>, AllocError>
         ensures { IfOk result (λ found. found
             ≡ option_and_then (enumerable_tree (schemas_of self.now.store.now) (trees_in self.now.store.now) (places_in frame.now) source of)
-                (option_map (λ method. By method parameter.now body.now) (method_with_lambda name.now))) }
+            (option_map (λ method. By method parameter.now body.now) (method_with_lambda name.now))) }
     {
         let Some(method) = method_with_lambda(name) else {
             return Ok(None);

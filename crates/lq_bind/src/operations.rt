@@ -123,12 +123,7 @@ fn of_two(alloc: Global, op: Op, left: Form, right: Form) -> Result<Form, AllocE
 }
 
 /// `==` and `!=`.
-fn equality_form(
-    alloc: Global,
-    sign: Binary,
-    left: Tree,
-    right: Tree,
-) -> Result<Form, AllocError>
+fn equality_form(alloc: Global, sign: Binary, left: Tree, right: Tree) -> Result<Form, AllocError>
     ensures { IfOk result (λ made. made ≡ equality_form sign left right) }
 {
     if is_object(&left.ty) {
@@ -281,8 +276,14 @@ fn choice(
 ) -> Result<Option<Tree>, AllocError>
     ensures { IfOk result (λ found. found ≡ typed_tree (whole_chosen (out-Ty left.ty) (out-Ty right.ty)) (form.Conditional condition left.form right.form)) }
 {
-    let Tree { ty: left_type, form: left } = left;
-    let Tree { ty: right_type, form: right } = right;
+    let Tree {
+        ty: left_type,
+        form: left,
+    } = left;
+    let Tree {
+        ty: right_type,
+        form: right,
+    } = right;
     let Some(ty) = chosen(left_type, right_type) else {
         return Ok(None);
     };

@@ -11,14 +11,22 @@ use std::alloc::{AllocError, Global};
 pub(crate) fn within(tree: Tree) -> Option<Tree>
     ensures { result ≡ within_tree tree }
 {
-    if is_within(&tree.ty) { Some(tree) } else { None }
+    if is_within(&tree.ty) {
+        Some(tree)
+    } else {
+        None
+    }
 }
 
 /// The tree, where it is not null by its type.
 pub(crate) fn placed(tree: Tree) -> Option<Tree>
     ensures { result ≡ placed_tree tree }
 {
-    if has_place(&tree.ty) { Some(tree) } else { None }
+    if has_place(&tree.ty) {
+        Some(tree)
+    } else {
+        None
+    }
 }
 
 /// The tree, where it is a truth value.
@@ -32,7 +40,11 @@ pub(crate) fn condition(tree: Tree) -> Option<Tree>
 pub(crate) fn sortable(tree: Tree) -> Option<Tree>
     ensures { result ≡ sortable_tree tree }
 {
-    if is_sort_key(&tree.ty) { Some(tree) } else { None }
+    if is_sort_key(&tree.ty) {
+        Some(tree)
+    } else {
+        None
+    }
 }
 
 /// The tree, where its values are keys.

@@ -47,12 +47,7 @@ pub(crate) fn beside_source<T>(before: Behind, other: T) -> (Variables, Beside<T
 }
 
 /// A method with a lambda, where the types of items are of no account.
-fn through(
-    alloc: Global,
-    method: Through,
-    source: Form,
-    body: Form,
-) -> Result<Form, AllocError>
+fn through(alloc: Global, method: Through, source: Form, body: Form) -> Result<Form, AllocError>
     ensures { IfOk result (λ made. made ≡ form.Through method ty.Null ty.Null source body) }
 {
     let source = Held::new(alloc, source)?;
@@ -81,7 +76,11 @@ pub(crate) fn first(alloc: Global, name: &Txt, items: Tree) -> Result<Behind, Al
 }
 
 /// The item in this slot.
-pub(crate) fn item(alloc: Global, variables: &Variables, slot: usize) -> Result<Option<Tree>, AllocError>
+pub(crate) fn item(
+    alloc: Global,
+    variables: &Variables,
+    slot: usize,
+) -> Result<Option<Tree>, AllocError>
     ensures { IfOk result (λ made. made ≡ Some (tree_of (pattern_type (pattern_in variables.now)) (form.Slot slot))) }
 {
     let ty = variables.item_type(alloc)?;
@@ -135,12 +134,7 @@ pub(crate) fn selected(
 
 /// Variables with one more.
 #[tactic(auto, using(crate::proofs::FrameLemmas::patterns))]
-fn more(
-    alloc: Global,
-    variables: Variables,
-    name: &Txt,
-    ty: Ty,
-) -> Result<Variables, AllocError>
+fn more(alloc: Global, variables: Variables, name: &Txt, ty: Ty) -> Result<Variables, AllocError>
     ensures { IfOk result (λ made. pattern_in made ≡ With (pattern_in variables) name.now ty) }
 {
     let name = Txt::from_str(alloc, name.as_str())?;
@@ -166,7 +160,10 @@ fn named_items(
     ensures { IfOk result (λ made. stage_in made ≡ stage_of (With (pattern_in before.variables) name.now value.ty)
         (form.Through through.Select ty.Null ty.Null before.form (form.Pair (form.Slot item) value.form))) }
 {
-    let Behind { variables, form: source } = before;
+    let Behind {
+        variables,
+        form: source,
+    } = before;
     let Tree { ty, form: second } = value;
     let variables = more(alloc, variables, name, ty)?;
     let form = named_form(alloc, source, item, second)?;
@@ -183,7 +180,7 @@ pub(crate) fn named(
 ) -> Result<Option<Behind>, AllocError>
     ensures { IfOk result (λ made. found_stage made
         ≡ option_map (λ found. stage_of (With (pattern_in before.variables) name.now found.ty)
-            (form.Through through.Select ty.Null ty.Null before.form (form.Pair (form.Slot item) found.form))) (placed_tree value)) }
+        (form.Through through.Select ty.Null ty.Null before.form (form.Pair (form.Slot item) found.form))) (placed_tree value)) }
 {
     let Some(value) = placed::placed(value) else {
         return Ok(None);
@@ -218,12 +215,7 @@ pub(crate) fn paired(
 }
 
 /// The form of `SelectMany`.
-fn expanded_form(
-    alloc: Global,
-    source: Form,
-    inner: Form,
-    made: Form,
-) -> Result<Form, AllocError>
+fn expanded_form(alloc: Global, source: Form, inner: Form, made: Form) -> Result<Form, AllocError>
     ensures { IfOk result (λ found. found ≡ form.SelectMany source inner made) }
 {
     let source = Held::new(alloc, source)?;
@@ -258,7 +250,10 @@ pub(crate) fn expanded_pairs(
         (form.SelectMany before.form inner.form (form.Pair (form.Slot (places_in frame.now).depth) (form.Slot ((places_in frame.now).depth + 1)))))) }
 {
     let pair = pair_form(alloc, frame.depth()?)?;
-    let Behind { variables, form: source } = before;
+    let Behind {
+        variables,
+        form: source,
+    } = before;
     let Tree { ty, form: inner } = inner;
     let variables = more(alloc, variables, name, ty)?;
     let form = expanded_form(alloc, source, inner, pair)?;
@@ -315,8 +310,13 @@ pub(crate) fn joined(
     made: Behind,
 ) -> Result<Behind, AllocError>
     ensures { IfOk result (λ found. stage_in found ≡ stage_of (pattern_in made.variables)
-        (form.Join sources.source (record { inner = sources.other.inner; outer_key = sources.other.keys.0; inner_key = sources.other.keys.1;
-            grouped = grouped; result = made.form }))) }
+        (form.Join sources.source (record {
+          inner = sources.other.inner;
+          outer_key = sources.other.keys.0;
+          inner_key = sources.other.keys.1;
+          grouped = grouped;
+          result = made.form;
+        }))) }
 {
     let Behind { variables, form } = made;
     let Beside { source, other } = sources;
@@ -366,8 +366,14 @@ fn groups_of(alloc: Global, key: Ty, element: Ty) -> Result<Variables, AllocErro
 fn group_items(alloc: Global, source: Form, key: Tree, element: Tree) -> Result<Behind, AllocError>
     ensures { IfOk result (λ made. stage_in made ≡ stage_of (unnamed (ty.Group key.ty element.ty)) (form.GroupBy source key.form element.form)) }
 {
-    let Tree { ty: key_type, form: key } = key;
-    let Tree { ty: element_type, form: element } = element;
+    let Tree {
+        ty: key_type,
+        form: key,
+    } = key;
+    let Tree {
+        ty: element_type,
+        form: element,
+    } = element;
     let form = groups(alloc, source, key, element)?;
     let variables = groups_of(alloc, key_type, element_type)?;
     Ok(Behind { variables, form })

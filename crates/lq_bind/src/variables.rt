@@ -82,7 +82,10 @@ impl Variables {
                     return before.get().find(alloc, name, Form::First(item));
                 }
                 let ty = copy_ty(alloc, ty)?;
-                Ok(Some(Tree { ty, form: Form::Second(item) }))
+                Ok(Some(Tree {
+                    ty,
+                    form: Form::Second(item),
+                }))
             }
         }
     }

@@ -142,12 +142,7 @@ fn unary_of(alloc: Global, sign: Unary, operand: &Expr) -> Result<Term, AllocErr
 
 #[cycle(translating)]
 #[inline(never)]
-fn binary_of(
-    alloc: Global,
-    sign: Binary,
-    left: &Expr,
-    right: &Expr,
-) -> Result<Term, AllocError>
+fn binary_of(alloc: Global, sign: Binary, left: &Expr, right: &Expr) -> Result<Term, AllocError>
     ensures { IfOk result (λ made. made ≡ term.Node (node.Binary sign (translated left.now) (translated right.now))) }
 {
     let left = held(alloc, left)?;
