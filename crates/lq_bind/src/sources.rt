@@ -72,7 +72,9 @@ fn through_form(
     let source = Held::new(alloc, source)?;
     let Tree { ty, form } = body;
     let body = Held::new(alloc, form)?;
-    Ok(Form::Through(method, of, ty, source, body))
+    let of = Held::new(alloc, of)?;
+    let to = Held::new(alloc, ty)?;
+    Ok(Form::Through(method, of, to, source, body))
 }
 
 /// A method with a lambda, whose body is given, on items of this type.

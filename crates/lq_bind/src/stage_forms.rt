@@ -52,7 +52,9 @@ fn through(alloc: Global, method: Through, source: Form, body: Form) -> Result<F
 {
     let source = Held::new(alloc, source)?;
     let body = Held::new(alloc, body)?;
-    Ok(Form::Through(method, Ty::Null, Ty::Null, source, body))
+    let of = Held::new(alloc, Ty::Null)?;
+    let to = Held::new(alloc, Ty::Null)?;
+    Ok(Form::Through(method, of, to, source, body))
 }
 
 /// A pair of an item and of what the second form means.

@@ -147,7 +147,7 @@ impl<'a, R: TableRow> Running<'a, R> {
                 self.given(*method, source.get(), argument.get(), slots)
             }
             Form::Through(method, of, to, source, body) => {
-                self.through(*method, of, to, source.get(), body.get(), slots)
+                self.through(*method, of.get(), to.get(), source.get(), body.get(), slots)
             }
             Form::SelectMany(source, inner, body) => {
                 self.select_many(source.get(), inner.get(), body.get(), slots)
