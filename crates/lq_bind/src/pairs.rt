@@ -86,7 +86,7 @@ impl Binder<'_> {
     ghost use Rattle.lq_model.specs.ClauseTyping.{joined_name};
     ghost use Rattle.lq_model.specs.Machine.{schemas_of};
     ghost use Rattle.lq_model.specs.Operators.{unnamed};
-    ghost use Rattle.lq_tree.specs.Binding.{expanded_stage, if_fresh, join_keys, joined_stage, paired_stage, placed_tree, source_tree, stage_of};
+    ghost use Rattle.lq_tree.specs.Binding.{expanded_stage, if_fresh, join_keys, join_stage, joined_stage, paired_stage, placed_tree, select_many_stage, source_tree, stage_of};
     ghost use Rattle.lq_tree.specs.Places.{with_item, with_name};
     ghost use Rattle.lq_tree.specs.declared.tree.Form.TheVariants as form;
     ghost use Rattle.lq_bind.specs.Bound.{matched_in, trees_in};
@@ -110,6 +110,25 @@ impl Binder<'_> {
             return Ok(None);
         }
         self.source(source, &inner)
+    }
+
+    /// `SelectMany`
+    #[cycle(binding)]
+    pub(crate) fn select_many(
+        &self,
+        pair: &Paired<Term>,
+        source: &Term,
+        name: &Txt,
+        before: Behind,
+        frame: &Frame<'_>,
+    ) -> Result<Option<Behind>, AllocError>
+        ensures { IfOk result (λ found. found_stage found ≡ select_many_stage (schemas_of self.now.store.now) (trees_in self.now.store.now) (places_in frame.now)
+            name.now source.now pair.now (stage_in before)) }
+    {
+        let Some(inner) = self.inner(source, name, &before.variables, frame)? else {
+            return Ok(None);
+        };
+        self.expanded(pair, name, before, inner, frame)
     }
 
     /// `SelectMany` with this inner sequence.
@@ -254,6 +273,25 @@ impl Binder<'_> {
         };
         let scope = (&*frame).with(&*variables);
         matched_by(self.alloc, &join.into, inner, keys, &scope)
+    }
+
+    /// `Join` or `GroupJoin`
+    #[cycle(binding)]
+    #[tactic(auto, using(crate::proofs::TermLemmas::joins))]
+    pub(crate) fn join(
+        &self,
+        pair: &Paired<Term>,
+        join: &Join<Term>,
+        before: Behind,
+        frame: &Frame<'_>,
+    ) -> Result<Option<Behind>, AllocError>
+        ensures { IfOk result (λ found. found_stage found ≡ join_stage (schemas_of self.now.store.now) (trees_in self.now.store.now) (places_in frame.now)
+            join.now pair.now (stage_in before)) }
+    {
+        let Some(matched) = self.matched(join, &before.variables, frame)? else {
+            return Ok(None);
+        };
+        self.joined(pair, join, before, matched, frame)
     }
 
     /// A join with this inner side.

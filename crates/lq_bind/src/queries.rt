@@ -117,7 +117,6 @@ impl Binder<'_> {
 
     /// What stands behind a call.
     #[cycle(binding)]
-    #[tactic(auto, using(crate::proofs::TermLemmas::joins))]
     fn operator(
         &self,
         operator: &Operator<Term>,
@@ -132,17 +131,9 @@ impl Binder<'_> {
             Operator::Select(value) => self.selected(value, before, frame),
             Operator::Let(name, value) => self.named(value, name, before, frame),
             Operator::SelectMany(name, source, result) => {
-                let Some(inner) = self.inner(source, name, &before.variables, frame)? else {
-                    return Ok(None);
-                };
-                self.expanded(result, name, before, inner, frame)
+                self.select_many(result, source, name, before, frame)
             }
-            Operator::Join(join, result) => {
-                let Some(matched) = self.matched(join, &before.variables, frame)? else {
-                    return Ok(None);
-                };
-                self.joined(result, join, before, matched, frame)
-            }
+            Operator::Join(join, result) => self.join(result, join, before, frame),
             Operator::OrderBy(keys) => self.ordered(keys.as_slice(), before, frame),
             Operator::GroupBy(key, element) => {
                 let Some(key) = self.key(key, &before.variables, frame)? else {

@@ -4,7 +4,7 @@ ghost use Rattle.std.specs.Prelude.{◌≡◌, ◌+◌, IfOk, Some, option_map};
 ghost use Rattle.lq_model.specs.Operators.{One, With, pattern_type, unnamed};
 ghost use Rattle.lq_model.specs.declared.methods.Through.TheVariants as through;
 ghost use Rattle.lq_value.specs.declared.ty.Ty.TheVariants as ty;
-ghost use Rattle.lq_tree.specs.Binding.{condition_tree, items_of_stage, joined_form, placed_tree, stage_of, tree_of};
+ghost use Rattle.lq_tree.specs.Binding.{condition_tree, items_of_stage, placed_tree, stage_of, tree_of};
 ghost use Rattle.lq_model.specs.Types.{are_join_keys, is_within, when};
 ghost use Rattle.lq_tree.specs.declared.tree.Form.TheVariants as form;
 ghost use Rattle.lq_bind.specs.Frames.{found_stage, pattern_in, places_in, stage_in};
@@ -346,8 +346,14 @@ pub(crate) fn joined_if(
     grouped: bool,
     made: Option<Behind>,
 ) -> Result<Option<Behind>, AllocError>
-    ensures { IfOk result (λ found. found_stage found ≡ option_map (λ made. stage_of made.pattern
-        (joined_form sources.source sources.other.inner sources.other.keys grouped made.form)) (found_stage made)) }
+    ensures { IfOk result (λ found. found_stage found ≡ option_map (λ stage. stage_of stage.pattern
+        (form.Join sources.source (record {
+          inner = sources.other.inner;
+          outer_key = sources.other.keys.0;
+          inner_key = sources.other.keys.1;
+          grouped = grouped;
+          result = stage.form;
+        }))) (found_stage made)) }
 {
     match made {
         Some(made) => Ok(Some(joined(alloc, sources, grouped, made)?)),
