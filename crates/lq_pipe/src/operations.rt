@@ -47,9 +47,15 @@ impl<'a, R: TableRow> Running<'a, R> {
     ) -> Result<Value<R>, RunError>
         ensures { IsAnswer (meant (world_of R.table_of R.shown self.now.tables.now) (form.Binary op left.now right.now) slots.now) result }
     {
+        if let (Some(left), Some(right)) = (
+            (&*self).there(&*left, &*slots),
+            (&*self).there(&*right, &*slots),
+        ) {
+            return scalars::of_two(self.alloc, op, left, right);
+        }
         let left = self.scalar(left, slots)?;
         let right = self.scalar(right, slots)?;
-        scalars::of_two(self.alloc, op, left, right)
+        scalars::of_two(self.alloc, op, &left, &right)
     }
 
     /// Whether both are true; the second is evaluated only where the first is.

@@ -1,6 +1,7 @@
 //! The running of forms.
 ghost use Rattle.std.specs.Prelude.{◌≡◌, IfSome, Ok};
 ghost use Rattle.lq_model.specs.Meaning.{World};
+ghost use Rattle.lq_value.specs.declared.value.Value.TheVariants as value;
 ghost use Rattle.lq_pipe.specs.Running.{meant};
 
 use crate::reached::Reached;
@@ -22,6 +23,16 @@ fn borrowed<'s, R: RowRef>(form: &Form, slots: &'s Slots<'_, R>) -> Option<&'s V
         Form::First(pair) => Some(parts::first(borrowed(pair.get(), slots)?)),
         Form::Second(pair) => Some(parts::second(borrowed(pair.get(), slots)?)),
         _ => None,
+    }
+}
+
+/// The scalar that a value is, if it is one.
+fn scalar_there<R: RowRef>(stands: &Value<R>) -> Option<&Scalar>
+    ensures { IfSome result (λ scalar. stands.now ≡ value.Scalar scalar.now) }
+{
+    match stands {
+        Value::Scalar(scalar) => Some(scalar),
+        Value::Row(_) | Value::Rec(_) | Value::Group(_, _) | Value::Seq(_, _) => None,
     }
 }
 
@@ -83,6 +94,32 @@ impl<'a, R: TableRow> Running<'a, R> {
             Value::Scalar(_) | Value::Rec(_) | Value::Group(_, _) | Value::Seq(_, _) => {
                 Err(RunError::Fault(Fault::NullReference))
             }
+        }
+    }
+
+    /// The cell of what is a row, by the number of its column.
+    fn cell_there<'s>(&'s self, row: &'s Value<R>, table: u16, column: u16) -> Option<&'s Scalar>
+        ensures { IfSome result (λ scalar. cell_in (world_of R.table_of R.shown self.now.tables.now) table column (out-Value R row.now) ≡ Ok (value.Scalar scalar.now)) }
+    {
+        match row {
+            Value::Row(row) => cell(self.tables, row, table, column),
+            Value::Scalar(_) | Value::Rec(_) | Value::Group(_, _) | Value::Seq(_, _) => None,
+        }
+    }
+
+    /// The scalar that a form means, where it is a literal, a cell of a row in a slot, or a scalar
+    /// that stands in one: it stays there.
+    #[inline(never)]
+    #[tactic(auto, using(crate::proofs::Forms::form_literal, crate::proofs::Forms::form_column))]
+    pub(crate) fn there<'s>(&'s self, form: &'s Form, slots: &'s Slots<'_, R>) -> Option<&'s Scalar>
+        ensures { IfSome result (λ scalar. meant (world_of R.table_of R.shown self.now.tables.now) form.now slots.now ≡ Ok (value.Scalar scalar.now)) }
+    {
+        match form {
+            Form::Literal(scalar) => Some(scalar),
+            Form::Column(row, table, column) => {
+                self.cell_there(borrowed(row.get(), slots)?, *table, *column)
+            }
+            _ => scalar_there(borrowed(form, slots)?),
         }
     }
 
@@ -179,7 +216,10 @@ impl<'a, R: TableRow> Running<'a, R> {
     pub(crate) fn scalar(&self, form: &Form, slots: &Slots<'_, R>) -> Result<Scalar, RunError>
         ensures { Answers (scalar_in (world_of R.table_of R.shown self.now.tables.now) (meant (world_of R.table_of R.shown self.now.tables.now) form.now slots.now)) result }
     {
-        scalars::scalar(self.evaluate(form, slots)?)
+        match (&*self).there(&*form, &*slots) {
+            Some(scalar) => Ok(copy_scalar(self.alloc, scalar)?),
+            None => scalars::scalar(self.evaluate(form, slots)?),
+        }
     }
 
     /// The truth value that a form means.
