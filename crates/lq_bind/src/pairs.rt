@@ -1,6 +1,6 @@
 //! The binding of calls that pair items: `SelectMany`, `Join` and `GroupJoin` (ECMA-334, from and join
 //! clauses).
-ghost use Rattle.std.specs.Prelude.{◌≡◌, IfOk};
+ghost use Rattle.std.specs.Prelude.{◌≡◌, IfOk, option_map};
 ghost use Rattle.lq_model.specs.ClauseTyping.{joined_name};
 ghost use Rattle.lq_bind.specs.Bound.{joined_type};
 ghost use Rattle.lq_bind.specs.Frames.{places_in};
@@ -42,6 +42,33 @@ fn joined_type(
         }
         None => Ok(Some(ty)),
     }
+}
+
+/// The inner side of a join, where the name that it leaves behind has a type.
+fn matched_if(sides: Sides, ty: Option<Ty>) -> Option<Matched>
+    ensures { result ≡ option_map (λ t. record { sides = sides; ty = t }) ty }
+{
+    match ty {
+        Some(ty) => Some(Matched { sides, ty }),
+        None => None,
+    }
+}
+
+/// The inner side of a join of these items by these keys.
+fn matched_by(
+    alloc: Global,
+    into: &Option<Txt>,
+    inner: Tree,
+    keys: (Form, Form),
+    scope: &Frame<'_>,
+) -> Result<Option<Matched>, AllocError>
+    ensures { IfOk result (λ found. found ≡ option_map (λ t. record { sides = record { inner = inner.form; keys = keys }; ty = t })
+        (joined_type (places_in scope.now) into.now inner.ty)) }
+{
+    let Tree { ty, form: inner } = inner;
+    let sides = Sides { inner, keys };
+    let ty = joined_type(alloc, into, ty, scope)?;
+    Ok(matched_if(sides, ty))
 }
 
 /// The name that a join leaves behind.
@@ -225,13 +252,8 @@ impl Binder<'_> {
         let Some(keys) = self.join_keys(join, variables, &inner.ty, frame)? else {
             return Ok(None);
         };
-        let Tree { ty, form: inner } = inner;
-        let sides = Sides { inner, keys };
         let scope = (&*frame).with(&*variables);
-        let Some(ty) = joined_type(self.alloc, &join.into, ty, &scope)? else {
-            return Ok(None);
-        };
-        Ok(Some(Matched { sides, ty }))
+        matched_by(self.alloc, &join.into, inner, keys, &scope)
     }
 
     /// A join with this inner side.
@@ -249,10 +271,7 @@ impl Binder<'_> {
     {
         let Matched { sides, ty } = matched;
         let (variables, sources) = stage_forms::beside_source(before, sides);
-        let Some(made) = self.paired(pair, joined_name(join), ty, variables, frame)? else {
-            return Ok(None);
-        };
-        let grouped = join.into.is_some();
-        Ok(Some(stage_forms::joined(self.alloc, sources, grouped, made)?))
+        let made = self.paired(pair, joined_name(join), ty, variables, frame)?;
+        stage_forms::joined_if(self.alloc, sources, join.into.is_some(), made)
     }
 }

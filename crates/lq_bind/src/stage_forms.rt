@@ -4,7 +4,7 @@ ghost use Rattle.std.specs.Prelude.{◌≡◌, ◌+◌, IfOk, Some, option_map};
 ghost use Rattle.lq_model.specs.Operators.{One, With, pattern_type, unnamed};
 ghost use Rattle.lq_model.specs.declared.methods.Through.TheVariants as through;
 ghost use Rattle.lq_value.specs.declared.ty.Ty.TheVariants as ty;
-ghost use Rattle.lq_tree.specs.Binding.{condition_tree, items_of_stage, placed_tree, stage_of, tree_of};
+ghost use Rattle.lq_tree.specs.Binding.{condition_tree, items_of_stage, joined_form, placed_tree, stage_of, tree_of};
 ghost use Rattle.lq_model.specs.Types.{are_join_keys, is_within, when};
 ghost use Rattle.lq_tree.specs.declared.tree.Form.TheVariants as form;
 ghost use Rattle.lq_bind.specs.Frames.{found_stage, pattern_in, places_in, stage_in};
@@ -240,7 +240,21 @@ pub(crate) fn expanded(
     Ok(Some(Behind { variables, form }))
 }
 
-/// `SelectMany` that makes pairs of the items, which stand in the next two slots.
+/// The form of `SelectMany` that makes pairs of the items, which stand in the next two slots.
+fn pairs_form(
+    alloc: Global,
+    source: Form,
+    inner: Form,
+    frame: &Frame<'_>,
+) -> Result<Form, AllocError>
+    ensures { IfOk result (λ made. made
+        ≡ form.SelectMany source inner (form.Pair (form.Slot (places_in frame.now).depth) (form.Slot ((places_in frame.now).depth + 1)))) }
+{
+    let pair = pair_form(alloc, frame.depth()?)?;
+    expanded_form(alloc, source, inner, pair)
+}
+
+/// The same with the variables behind it, of which the inner items' one is the last.
 pub(crate) fn expanded_pairs(
     alloc: Global,
     before: Behind,
@@ -251,14 +265,13 @@ pub(crate) fn expanded_pairs(
     ensures { IfOk result (λ found. found_stage found ≡ Some (stage_of (With (pattern_in before.variables) name.now inner.ty)
         (form.SelectMany before.form inner.form (form.Pair (form.Slot (places_in frame.now).depth) (form.Slot ((places_in frame.now).depth + 1)))))) }
 {
-    let pair = pair_form(alloc, frame.depth()?)?;
     let Behind {
         variables,
         form: source,
     } = before;
     let Tree { ty, form: inner } = inner;
+    let form = pairs_form(alloc, source, inner, frame)?;
     let variables = more(alloc, variables, name, ty)?;
-    let form = expanded_form(alloc, source, inner, pair)?;
     Ok(Some(Behind { variables, form }))
 }
 
@@ -324,6 +337,22 @@ pub(crate) fn joined(
     let Beside { source, other } = sources;
     let form = join_form(alloc, source, join_parts(other, grouped, form))?;
     Ok(Behind { variables, form })
+}
+
+/// The same, where something comes of each pair.
+pub(crate) fn joined_if(
+    alloc: Global,
+    sources: Beside<Sides>,
+    grouped: bool,
+    made: Option<Behind>,
+) -> Result<Option<Behind>, AllocError>
+    ensures { IfOk result (λ found. found_stage found ≡ option_map (λ made. stage_of made.pattern
+        (joined_form sources.source sources.other.inner sources.other.keys grouped made.form)) (found_stage made)) }
+{
+    match made {
+        Some(made) => Ok(Some(joined(alloc, sources, grouped, made)?)),
+        None => Ok(None),
+    }
 }
 
 /// `OrderBy`, with its keys.

@@ -10,6 +10,9 @@ use lq_value::{List, Scalar, Txt, Value};
 
 impl<'a, R: TableRow> Running<'a, R> {
     ghost use Rattle.std.specs.Prelude.{Ok, map};
+    ghost use Rattle.lq_value.specs.declared.value.Fault.TheVariants as fault;
+    ghost use Rattle.lq_model.specs.Meaning.{as_value, on_scalar};
+    ghost use Rattle.lq_model.specs.Operations.{of_two};
     ghost use Rattle.lq_operators.specs.Answers.{IsAnswer};
     ghost use Rattle.lq_tree.specs.FormMeaning.{members_of};
     ghost use Rattle.lq_pipe.specs.Lists.{field_means};
@@ -54,6 +57,23 @@ impl<'a, R: TableRow> Running<'a, R> {
             return scalars::of_two(self.alloc, op, left, right);
         }
         let left = self.scalar(left, slots)?;
+        self.binary_beside(op, left, right, slots)
+    }
+
+    /// The same beside the left operand: a function of its own, so that operators that stand one below the
+    /// other on their left take little of the stack.
+    #[cycle(running)]
+    #[inline(never)]
+    fn binary_beside(
+        &self,
+        op: Op,
+        left: Scalar,
+        right: &Form,
+        slots: &Slots<'_, R>,
+    ) -> Result<Value<R>, RunError>
+        ensures { IsAnswer (on_scalar (world_of R.table_of R.shown self.now.tables.now) (meant (world_of R.table_of R.shown self.now.tables.now) right.now slots.now)
+            (λ t. as_value (of_two fault.NullReference op left t))) result }
+    {
         let right = self.scalar(right, slots)?;
         scalars::of_two(self.alloc, op, &left, &right)
     }

@@ -76,6 +76,9 @@ decreases-unary g l = 8 * the_size l.operand.now + 5
 abbrev pub decreases-binary : goal.decreases-binary
 decreases-binary g l = 8 * max (the_size l.left.now) (the_size l.right.now) + 5
 
+abbrev pub decreases-binary_beside : goal.decreases-binary_beside
+decreases-binary_beside g l = 8 * the_size l.right.now + 4
+
 abbrev pub decreases-both : goal.decreases-both
 decreases-both g l = 8 * max (the_size l.left.now) (the_size l.right.now) + 5
 
