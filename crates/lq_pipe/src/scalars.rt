@@ -122,7 +122,7 @@ fn of_sign<R: RowRef>(
 
 /// Whether a text has the other where the operator looks for it.
 fn of_search<R: RowRef>(op: Op, text: &Scalar, needle: &Scalar) -> Result<Value<R>, RunError>
-    ensures { IsAnswer (as_value (of_truth (searched fault.NullReference op text.now needle.now))) result }
+    ensures { IsAnswer (as_value (of_truth fault.NullReference (searched fault.NullReference op text.now needle.now))) result }
 {
     match searched(op, ScalarRef::of(text), ScalarRef::of(needle)) {
         Ok(found) => Ok(Value::Scalar(Scalar::Bool(found))),

@@ -17,9 +17,9 @@ use Rattle.lq_pipe.proofs.running.Running.+running.Goals as goal
 pub stream-returns : goal.stream-returns
 stream-returns g t c = c.stream.ensures (world_of g.R.TableRow.table_of g.R.RowRef.shown c.args.self.now.tables.now) _ refl c.evaluate.ensures
 
-pub scalar-returns : goal.scalar-returns
-scalar-returns g t c =
-    subst (λ m. Answers (scalar_in (world_of g.R.TableRow.table_of g.R.RowRef.shown c.args.self.now.tables.now) m) c.scalar.result) (sym c.in_ok-evaluate.ensures)
+pub scalar-returns-in_ok-evaluate-in-None : goal.scalar-returns-in_ok-evaluate-in-None
+scalar-returns-in_ok-evaluate-in-None g t c =
+    subst (λ m. Answers (scalar_in (world_of g.R.TableRow.table_of g.R.RowRef.shown c.args.self.now.tables.now) m) c.scalar.result) (sym c.in_ok-evaluate-in-None.ensures)
     (c.scalar.ensures (world_of g.R.TableRow.table_of g.R.RowRef.shown c.args.self.now.tables.now) refl)
 
 pub of_item-returns : goal.of_item-returns
