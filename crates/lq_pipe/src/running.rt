@@ -54,6 +54,14 @@ impl<'a, R: TableRow> Running<'a, R> {
     ghost use Rattle.lq_pipe.specs.Slots.{values_in};
     ghost use Rattle.lq_pipe.specs.Worlds.{world_of};
 
+    /// A literal.
+    #[inline(never)]
+    fn literal(&self, scalar: &Scalar) -> Result<Value<R>, RunError>
+        ensures { IsAnswer (Ok (value.Scalar scalar.now)) result }
+    {
+        Ok(Value::Scalar(copy_scalar(self.alloc, scalar)?))
+    }
+
     /// What a slot holds.
     #[inline(never)]
     fn slot(&self, number: usize, slots: &Slots<'_, R>) -> Result<Value<R>, RunError>
@@ -159,7 +167,7 @@ impl<'a, R: TableRow> Running<'a, R> {
         ensures { IsAnswer (meant (world_of R.table_of R.shown self.now.tables.now) form.now slots.now) result }
     {
         match form {
-            Form::Literal(scalar) => Ok(Value::Scalar(copy_scalar(self.alloc, scalar)?)),
+            Form::Literal(scalar) => self.literal(scalar),
             Form::Slot(number) => self.slot(*number, slots),
             Form::First(pair) => self.first(pair.get(), slots),
             Form::Second(pair) => self.second(pair.get(), slots),
@@ -210,9 +218,9 @@ impl<'a, R: TableRow> Running<'a, R> {
         sequences::stream(self.alloc, self.evaluate(form, slots))
     }
 
-    /// The scalar that a form means.
+    /// The scalar that a form means. It has no place of its own on the stack.
     #[cycle(running)]
-    #[inline(never)]
+    #[inline(always)]
     pub(crate) fn scalar(&self, form: &Form, slots: &Slots<'_, R>) -> Result<Scalar, RunError>
         ensures { Answers (scalar_in (world_of R.table_of R.shown self.now.tables.now) (meant (world_of R.table_of R.shown self.now.tables.now) form.now slots.now)) result }
     {
