@@ -9,7 +9,7 @@ use lq_tree::Form;
 use lq_value::{List, Scalar, Txt, Value};
 
 impl<'a, R: TableRow> Running<'a, R> {
-    ghost use Rattle.std.specs.Prelude.{Ok, map};
+    ghost use Rattle.std.specs.Prelude.{IfSome, Ok, map};
     ghost use Rattle.lq_value.specs.declared.value.Fault.TheVariants as fault;
     ghost use Rattle.lq_model.specs.Meaning.{as_value, on_scalar};
     ghost use Rattle.lq_model.specs.Operations.{of_two};
@@ -37,6 +37,23 @@ impl<'a, R: TableRow> Running<'a, R> {
         scalars::of_one(self.alloc, op, operand)
     }
 
+    /// What an operator gives to two operands, if both stand where they are read.
+    #[inline(never)]
+    #[tactic(auto, using(crate::proofs::Forms::binary_of))]
+    fn binary_there(
+        &self,
+        op: Op,
+        left: &Form,
+        right: &Form,
+        slots: &Slots<'_, R>,
+    ) -> Option<Result<Value<R>, RunError>>
+        ensures { IfSome result (λ found. IsAnswer (meant (world_of R.table_of R.shown self.now.tables.now) (form.Binary op left.now right.now) slots.now) found) }
+    {
+        let left = self.there(left, slots)?;
+        let right = self.there(right, slots)?;
+        Some(scalars::of_two(self.alloc, op, left, right))
+    }
+
     /// What an operator gives to two operands, the left one of which is evaluated first.
     #[cycle(running)]
     #[inline(never)]
@@ -50,6 +67,9 @@ impl<'a, R: TableRow> Running<'a, R> {
     ) -> Result<Value<R>, RunError>
         ensures { IsAnswer (meant (world_of R.table_of R.shown self.now.tables.now) (form.Binary op left.now right.now) slots.now) result }
     {
+        if let Some(found) = (&*self).binary_there(op, &*left, &*right, &*slots) {
+            return found;
+        }
         let left = self.scalar(left, slots)?;
         self.binary_beside(op, left, right, slots)
     }
@@ -69,7 +89,7 @@ impl<'a, R: TableRow> Running<'a, R> {
             (λ t. as_value (of_two fault.NullReference op left t))) result }
     {
         let right = self.scalar(right, slots)?;
-        scalars::of_two(self.alloc, op, left, right)
+        scalars::of_two(self.alloc, op, &left, &right)
     }
 
     /// Whether both are true; the second is evaluated only where the first is.

@@ -1,6 +1,7 @@
 //! The running of forms.
 ghost use Rattle.std.specs.Prelude.{◌≡◌, IfSome, Ok};
 ghost use Rattle.lq_model.specs.Meaning.{World};
+ghost use Rattle.lq_value.specs.declared.value.Value.TheVariants as value;
 ghost use Rattle.lq_pipe.specs.Running.{meant};
 
 use crate::reached::Reached;
@@ -25,6 +26,16 @@ fn borrowed<'s, R: RowRef>(form: &Form, slots: &'s Slots<'_, R>) -> Option<&'s V
     }
 }
 
+/// The scalar that a value is, if it is one.
+fn scalar_there<R: RowRef>(stands: &Value<R>) -> Option<&Scalar>
+    ensures { IfSome result (λ scalar. stands.now ≡ value.Scalar scalar.now) }
+{
+    match stands {
+        Value::Scalar(scalar) => Some(scalar),
+        Value::Row(_) | Value::Rec(_) | Value::Group(_, _) | Value::Seq(_, _) => None,
+    }
+}
+
 /// What a form is run over: the tables that it may read, and what gives memory.
 #[derive(Clone, Copy)]
 pub(crate) struct Running<'a, R> {
@@ -42,6 +53,14 @@ impl<'a, R: TableRow> Running<'a, R> {
     ghost use Rattle.lq_pipe.specs.Running.{Answers, IsReached, meant, scalar_in, truth_in};
     ghost use Rattle.lq_pipe.specs.Slots.{values_in};
     ghost use Rattle.lq_pipe.specs.Worlds.{world_of};
+
+    /// A literal.
+    #[inline(never)]
+    fn literal(&self, scalar: &Scalar) -> Result<Value<R>, RunError>
+        ensures { IsAnswer (Ok (value.Scalar scalar.now)) result }
+    {
+        Ok(Value::Scalar(copy_scalar(self.alloc, scalar)?))
+    }
 
     /// What a slot holds.
     #[inline(never)]
@@ -86,6 +105,32 @@ impl<'a, R: TableRow> Running<'a, R> {
         }
     }
 
+    /// The cell of what is a row, by the number of its column.
+    fn cell_there<'s>(&'s self, row: &'s Value<R>, table: u16, column: u16) -> Option<&'s Scalar>
+        ensures { IfSome result (λ scalar. cell_in (world_of R.table_of R.shown self.now.tables.now) table column (out-Value R row.now) ≡ Ok (value.Scalar scalar.now)) }
+    {
+        match row {
+            Value::Row(row) => cell(self.tables, row, table, column),
+            Value::Scalar(_) | Value::Rec(_) | Value::Group(_, _) | Value::Seq(_, _) => None,
+        }
+    }
+
+    /// The scalar that a form means, where it is a literal, a cell of a row in a slot, or a scalar
+    /// that stands in one: it stays there.
+    #[inline(never)]
+    #[tactic(auto, using(crate::proofs::Forms::form_literal, crate::proofs::Forms::form_column))]
+    pub(crate) fn there<'s>(&'s self, form: &'s Form, slots: &'s Slots<'_, R>) -> Option<&'s Scalar>
+        ensures { IfSome result (λ scalar. meant (world_of R.table_of R.shown self.now.tables.now) form.now slots.now ≡ Ok (value.Scalar scalar.now)) }
+    {
+        match form {
+            Form::Literal(scalar) => Some(scalar),
+            Form::Column(row, table, column) => {
+                self.cell_there(borrowed(row.get(), slots)?, *table, *column)
+            }
+            _ => scalar_there(borrowed(form, slots)?),
+        }
+    }
+
     /// A member of a record, by its place.
     #[tactic(auto, using(crate::proofs::PartLemmas::layers))]
     fn member_at(&self, value: &Value<R>, place: usize) -> Result<Value<R>, RunError>
@@ -122,7 +167,7 @@ impl<'a, R: TableRow> Running<'a, R> {
         ensures { IsAnswer (meant (world_of R.table_of R.shown self.now.tables.now) form.now slots.now) result }
     {
         match form {
-            Form::Literal(scalar) => Ok(Value::Scalar(copy_scalar(self.alloc, scalar)?)),
+            Form::Literal(scalar) => self.literal(scalar),
             Form::Slot(number) => self.slot(*number, slots),
             Form::First(pair) => self.first(pair.get(), slots),
             Form::Second(pair) => self.second(pair.get(), slots),
@@ -173,13 +218,16 @@ impl<'a, R: TableRow> Running<'a, R> {
         sequences::stream(self.alloc, self.evaluate(form, slots))
     }
 
-    /// The scalar that a form means.
+    /// The scalar that a form means. It has no place of its own on the stack.
     #[cycle(running)]
-    #[inline(never)]
+    #[inline(always)]
     pub(crate) fn scalar(&self, form: &Form, slots: &Slots<'_, R>) -> Result<Scalar, RunError>
         ensures { Answers (scalar_in (world_of R.table_of R.shown self.now.tables.now) (meant (world_of R.table_of R.shown self.now.tables.now) form.now slots.now)) result }
     {
-        scalars::scalar(self.evaluate(form, slots)?)
+        match (&*self).there(&*form, &*slots) {
+            Some(scalar) => Ok(copy_scalar(self.alloc, scalar)?),
+            None => scalars::scalar(self.evaluate(form, slots)?),
+        }
     }
 
     /// The truth value that a form means.
