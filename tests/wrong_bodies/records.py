@@ -23,8 +23,10 @@ def files_below(folder):
                 yield os.path.relpath(f"{at}/{name}", folder), file.read()
 
 
-def version_of_rt():
-    return subprocess.run(["rt", "version"], stdin=subprocess.DEVNULL, stdout=subprocess.PIPE, check=False).stdout
+def logic_of_rt():
+    """The logic that proofs are checked in, as `rt version` names it. A kit with the same one can't prove what it doesn't have."""
+    said = subprocess.run(["rt", "version"], stdin=subprocess.DEVNULL, stdout=subprocess.PIPE, check=False).stdout
+    return said.partition(b" logic ")[2]
 
 
 class Record:
@@ -37,8 +39,8 @@ class Record:
         self.sum = self.sum_of_all()
 
     def sum_of_all(self):
-        """The checksum of the toolchain's version, what judges here, the lines of crates.txt, the sources and the edits."""
-        found = hashlib.sha256(version_of_rt())
+        """The checksum of the toolchain's logic, what judges here, the lines of crates.txt, the sources and the edits."""
+        found = hashlib.sha256(logic_of_rt())
         for name in JUDGES:
             with open(f"{HERE}/{name}", "rb") as file:
                 self.add(found, name, file.read())

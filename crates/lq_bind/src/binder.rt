@@ -42,10 +42,10 @@ impl Binder<'_> {
         ensures { IfOk result (λ found. found ≡ node_tree (schemas_of self.now.store.now) (trees_in self.now.store.now) node.now (places_in frame.now)) }
     {
         match node {
-            Node::Integer(number) => names::integer(*number),
+            Node::Integer(number) => names::integer(self.alloc, *number),
             Node::Text(text) => names::text(self.alloc, text),
-            Node::Bool(truth) => names::truth(*truth),
-            Node::Null => names::null(),
+            Node::Bool(truth) => names::truth(self.alloc, *truth),
+            Node::Null => names::null(self.alloc),
             Node::Name(name) => names::name(self.alloc, self.store, name.as_str(), frame),
             Node::Member(of, name) => self.member(of.get(), name.as_str(), frame),
             Node::Unary(sign, operand) => self.unary(operand.get(), *sign, frame),

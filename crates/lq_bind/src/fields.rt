@@ -7,7 +7,7 @@ use crate::operations::into_form;
 use lq_model::Field;
 use lq_tree::{Form, Tree};
 use lq_typing::copy_ty;
-use lq_value::{List, Txt, Ty};
+use lq_value::{Held, List, Txt, Ty};
 use std::alloc::{AllocError, Global};
 
 /// Whether none of the members has this name.
@@ -53,7 +53,7 @@ fn form_of(field: Field<Tree>) -> Field<Form>
     ensures { result ≡ form_of_field field }
 {
     let Field { name, value } = field;
-    let value = into_form(value);
+    let value = into_form(value).into_inner();
     Field { name, value }
 }
 
@@ -73,6 +73,6 @@ pub(crate) fn record(alloc: Global, fields: List<Field<Tree>>) -> Result<Tree, A
     ensures { IfOk result (λ made. made ≡ fields_tree fields) }
 {
     let ty = Ty::Rec(types_of(alloc, fields.as_slice())?);
-    let form = Form::Record(forms_of(alloc, fields)?);
+    let form = Held::new(alloc, Form::Record(forms_of(alloc, fields)?))?;
     Ok(Tree { ty, form })
 }

@@ -2,7 +2,7 @@
 use crate::variables::Variables;
 use lq_tree::{Form, Tree};
 use lq_typing::copy_ty;
-use lq_value::{Txt, Ty};
+use lq_value::{Held, Txt, Ty};
 use std::alloc::{AllocError, Global};
 
 /// The local names, as a chain from the innermost lambda outwards. One lambda more stands on the
@@ -88,17 +88,16 @@ impl<'a> Frame<'a> {
                 if !variables.has(name) {
                     return outer.find(alloc, name);
                 }
-                variables.find(alloc, name, Form::Slot(outer.depth()?))
+                let slot = Form::Slot(outer.depth()?);
+                variables.find(alloc, name, Held::new(alloc, slot)?)
             }
             Frame::Name(outer, known, ty) => {
                 if known.as_str() != name {
                     return outer.find(alloc, name);
                 }
                 let ty = copy_ty(alloc, ty)?;
-                Ok(Some(Tree {
-                    ty,
-                    form: Form::Slot(outer.depth()?),
-                }))
+                let form = Held::new(alloc, Form::Slot(outer.depth()?))?;
+                Ok(Some(Tree { ty, form }))
             }
         }
     }

@@ -43,7 +43,7 @@ fn column_named(columns: &[Column], name: &str) -> Option<usize>
 /// numbers reach; one that had is refused as past all memory.
 fn cell_at(
     alloc: Global,
-    row: Form,
+    row: Held<Form>,
     table: u16,
     number: usize,
     ty: ColumnType,
@@ -53,7 +53,7 @@ fn cell_at(
     let Ok(number) = u16::try_from(number) else {
         return Err(AllocError);
     };
-    let form = Form::Column(Held::new(alloc, row)?, table, number);
+    let form = Held::new(alloc, Form::Column(row, table, number))?;
     let ty = type_of_column(ty);
     Ok(Tree { ty, form })
 }
@@ -71,7 +71,7 @@ fn column(
     alloc: Global,
     name: &str,
     table: u16,
-    row: Form,
+    row: Held<Form>,
     schema: &Schema,
 ) -> Result<Option<Tree>, AllocError>
     ensures { IfOk result (λ found. found ≡ column_tree name.now table row schema.now) }
@@ -104,12 +104,11 @@ fn type_at(members: &[(Txt, Ty)], place: usize) -> Option<&Ty>
 }
 
 /// The member of a record in this place, which has this type.
-fn member_at(alloc: Global, of: Form, place: usize, ty: &Ty) -> Result<Tree, AllocError>
+fn member_at(alloc: Global, of: Held<Form>, place: usize, ty: &Ty) -> Result<Tree, AllocError>
     ensures { IfOk result (λ made. made ≡ tree_of ty.now (form.Member of place)) }
 {
-    let of = Held::new(alloc, of)?;
     let ty = copy_ty(alloc, ty)?;
-    let form = Form::Member(of, place);
+    let form = Held::new(alloc, Form::Member(of, place))?;
     Ok(Tree { ty, form })
 }
 
@@ -117,7 +116,7 @@ fn member_at(alloc: Global, of: Form, place: usize, ty: &Ty) -> Result<Tree, All
 fn record_member(
     alloc: Global,
     name: &str,
-    of: Form,
+    of: Held<Form>,
     members: &[(Txt, Ty)],
 ) -> Result<Option<Tree>, AllocError>
     ensures { IfOk result (λ found. found ≡ record_member_tree name.now of members.now) }
@@ -132,39 +131,44 @@ fn record_member(
 }
 
 /// A member of an `int?`.
-fn nullable(alloc: Global, name: &str, number: Form) -> Result<Option<Tree>, AllocError>
+fn nullable(alloc: Global, name: &str, number: Held<Form>) -> Result<Option<Tree>, AllocError>
     ensures { IfOk result (λ found. found ≡ nullable_tree name.now number) }
 {
     if name == "HasValue" {
-        let form = Form::Unary(Op::HasValue, Held::new(alloc, number)?);
+        let form = Held::new(alloc, Form::Unary(Op::HasValue, number))?;
         return Ok(Some(Tree { ty: Ty::Bool, form }));
     }
     if name == "Value" {
-        let form = Form::Unary(Op::Value, Held::new(alloc, number)?);
+        let form = Held::new(alloc, Form::Unary(Op::Value, number))?;
         return Ok(Some(Tree { ty: Ty::Int, form }));
     }
     Ok(None)
 }
 
 /// A member of a text.
-fn text(alloc: Global, name: &str, text: Form) -> Result<Option<Tree>, AllocError>
+fn text(alloc: Global, name: &str, text: Held<Form>) -> Result<Option<Tree>, AllocError>
     ensures { IfOk result (λ found. found ≡ text_tree name.now text) }
 {
     if name != "Length" {
         return Ok(None);
     }
-    let form = Form::Unary(Op::Length, Held::new(alloc, text)?);
+    let form = Held::new(alloc, Form::Unary(Op::Length, text))?;
     Ok(Some(Tree { ty: Ty::Int, form }))
 }
 
 /// The key of a group.
-fn group_key(alloc: Global, name: &str, key: Ty, group: Form) -> Result<Option<Tree>, AllocError>
+fn group_key(
+    alloc: Global,
+    name: &str,
+    key: Ty,
+    group: Held<Form>,
+) -> Result<Option<Tree>, AllocError>
     ensures { IfOk result (λ found. found ≡ group_key_tree name.now key group) }
 {
     if name != "Key" {
         return Ok(None);
     }
-    let form = Form::Key(Held::new(alloc, group)?);
+    let form = Held::new(alloc, Form::Key(group))?;
     Ok(Some(Tree { ty: key, form }))
 }
 
@@ -174,7 +178,7 @@ fn cell(
     store: &Store,
     name: &str,
     table: u16,
-    row: Form,
+    row: Held<Form>,
 ) -> Result<Option<Tree>, AllocError>
     ensures { IfOk result (λ found. found ≡ option_and_then (column_tree name.now table row) (slice_get (schemas_of store.now) table)) }
 {
@@ -190,7 +194,7 @@ fn member_of(
     alloc: Global,
     store: &Store,
     name: &str,
-    of: Form,
+    of: Held<Form>,
     ty: Ty,
 ) -> Result<Option<Tree>, AllocError>
     ensures { IfOk result (λ found. found ≡ member_layer (schemas_of store.now) name.now of (out-Ty ty)) }

@@ -6,7 +6,7 @@ use crate::{operations, placed, sources};
 use lq_model::{Argument, Term};
 use lq_tree::{Form, Tree};
 use lq_typing::is_text;
-use lq_value::{Txt, Ty};
+use lq_value::{Held, Txt, Ty};
 use std::alloc::AllocError;
 
 impl Binder<'_> {
@@ -20,6 +20,7 @@ impl Binder<'_> {
 
     /// A method of this name of what has this tree.
     #[cycle(binding)]
+    #[inline(never)]
     pub(crate) fn method(
         &self,
         arguments: &[Argument<Term>],
@@ -103,7 +104,7 @@ impl Binder<'_> {
         &self,
         arguments: &[Argument<Term>],
         name: &str,
-        source: Form,
+        source: Held<Form>,
         of: Ty,
         frame: &Frame<'_>,
     ) -> Result<Option<Tree>, AllocError>
@@ -132,7 +133,7 @@ impl Binder<'_> {
         &self,
         argument: &Term,
         name: &str,
-        source: Form,
+        source: Held<Form>,
         of: Ty,
         frame: &Frame<'_>,
     ) -> Result<Option<Tree>, AllocError>
@@ -156,7 +157,7 @@ impl Binder<'_> {
         body: &Term,
         parameter: &Txt,
         name: &str,
-        source: Form,
+        source: Held<Form>,
         of: Ty,
         frame: &Frame<'_>,
     ) -> Result<Option<Tree>, AllocError>

@@ -15,19 +15,19 @@ use lq_value::{Held, Scalar, Txt, Ty};
 use std::alloc::{AllocError, Global};
 
 /// A literal of this type.
-fn literal(of: Ty, value: Scalar) -> Result<Option<Tree>, AllocError>
+fn literal(alloc: Global, of: Ty, value: Scalar) -> Result<Option<Tree>, AllocError>
     ensures { IfOk result (λ found. found ≡ Some (literal_tree of value)) }
 {
-    let form = Form::Literal(value);
+    let form = Held::new(alloc, Form::Literal(value))?;
     Ok(Some(Tree { ty: of, form }))
 }
 
 /// An integer.
 #[inline(never)]
-pub(crate) fn integer(number: i32) -> Result<Option<Tree>, AllocError>
+pub(crate) fn integer(alloc: Global, number: i32) -> Result<Option<Tree>, AllocError>
     ensures { IfOk result (λ found. found ≡ Some (literal_tree ty.Int (scalar.Int number))) }
 {
-    literal(Ty::Int, Scalar::Int(number))
+    literal(alloc, Ty::Int, Scalar::Int(number))
 }
 
 /// A text.
@@ -36,23 +36,23 @@ pub(crate) fn text(alloc: Global, text: &Txt) -> Result<Option<Tree>, AllocError
     ensures { IfOk result (λ found. found ≡ Some (literal_tree ty.Str (scalar.Text text.now))) }
 {
     let text = Txt::from_str(alloc, text.as_str())?;
-    literal(Ty::Str, Scalar::Text(text))
+    literal(alloc, Ty::Str, Scalar::Text(text))
 }
 
 /// `true` or `false`.
 #[inline(never)]
-pub(crate) fn truth(truth: bool) -> Result<Option<Tree>, AllocError>
+pub(crate) fn truth(alloc: Global, truth: bool) -> Result<Option<Tree>, AllocError>
     ensures { IfOk result (λ found. found ≡ Some (literal_tree ty.Bool (scalar.Bool truth))) }
 {
-    literal(Ty::Bool, Scalar::Bool(truth))
+    literal(alloc, Ty::Bool, Scalar::Bool(truth))
 }
 
 /// `null`
 #[inline(never)]
-pub(crate) fn null() -> Result<Option<Tree>, AllocError>
+pub(crate) fn null(alloc: Global) -> Result<Option<Tree>, AllocError>
     ensures { IfOk result (λ found. found ≡ Some (literal_tree ty.Null scalar.Null)) }
 {
-    literal(Ty::Null, Scalar::Null)
+    literal(alloc, Ty::Null, Scalar::Null)
 }
 
 /// The rows of the table of this name.
@@ -64,10 +64,8 @@ fn rows(alloc: Global, store: &Store, name: &str) -> Result<Option<Tree>, AllocE
         return Ok(None);
     };
     let ty = Ty::Seq(Held::new(alloc, Ty::Row(table))?);
-    Ok(Some(Tree {
-        ty,
-        form: Form::Table(table),
-    }))
+    let form = Held::new(alloc, Form::Table(table))?;
+    Ok(Some(Tree { ty, form }))
 }
 
 /// What a name stands for: a local name, and else the rows of a table.

@@ -17,7 +17,7 @@ use lq_value::{Held, Ty};
 use std::alloc::{AllocError, Global};
 
 /// The form of a tree.
-pub(crate) fn into_form(tree: Tree) -> Form
+pub(crate) fn into_form(tree: Tree) -> Held<Form>
     ensures { result ≡ tree.form }
 {
     let Tree { form, .. } = tree;
@@ -78,52 +78,68 @@ fn told(sign: Binary) -> bool
 }
 
 /// A pair of two forms, which are both evaluated.
-fn pair(alloc: Global, left: Form, right: Form) -> Result<Held<Form>, AllocError>
+fn pair(alloc: Global, left: Held<Form>, right: Held<Form>) -> Result<Held<Form>, AllocError>
     ensures { IfOk result (λ made. made ≡ form.Pair left right) }
 {
-    let left = Held::new(alloc, left)?;
-    let right = Held::new(alloc, right)?;
     Held::new(alloc, Form::Pair(left, right))
 }
 
 /// The first operand, which is tested for null beside one that is null.
-fn tested_first(alloc: Global, left: Form, right: Form) -> Result<Form, AllocError>
+fn tested_first(
+    alloc: Global,
+    left: Held<Form>,
+    right: Held<Form>,
+) -> Result<Held<Form>, AllocError>
     ensures { IfOk result (λ made. made ≡ tested_first left right) }
 {
-    if is_literal(&right) {
+    if is_literal(right.get()) {
         return Ok(left);
     }
-    Ok(Form::First(pair(alloc, left, right)?))
+    let pair = pair(alloc, left, right)?;
+    Held::new(alloc, Form::First(pair))
 }
 
 /// The second operand, which is tested for null beside one that is null.
-fn tested_second(alloc: Global, left: Form, right: Form) -> Result<Form, AllocError>
+fn tested_second(
+    alloc: Global,
+    left: Held<Form>,
+    right: Held<Form>,
+) -> Result<Held<Form>, AllocError>
     ensures { IfOk result (λ made. made ≡ tested_second left right) }
 {
-    if is_literal(&left) {
+    if is_literal(left.get()) {
         return Ok(right);
     }
-    Ok(Form::Second(pair(alloc, left, right)?))
+    let pair = pair(alloc, left, right)?;
+    Held::new(alloc, Form::Second(pair))
 }
 
 /// Whether what a form means is null, or isn't.
-fn null_test(alloc: Global, sign: Binary, tested: Form) -> Result<Form, AllocError>
+fn null_test(alloc: Global, sign: Binary, tested: Held<Form>) -> Result<Held<Form>, AllocError>
     ensures { IfOk result (λ made. made ≡ form.IsNull (told sign true) tested) }
 {
-    Ok(Form::IsNull(told(sign), Held::new(alloc, tested)?))
+    Held::new(alloc, Form::IsNull(told(sign), tested))
 }
 
 /// An operation on two operands.
-fn of_two(alloc: Global, op: Op, left: Form, right: Form) -> Result<Form, AllocError>
+fn of_two(
+    alloc: Global,
+    op: Op,
+    left: Held<Form>,
+    right: Held<Form>,
+) -> Result<Held<Form>, AllocError>
     ensures { IfOk result (λ made. made ≡ form.Binary op left right) }
 {
-    let left = Held::new(alloc, left)?;
-    let right = Held::new(alloc, right)?;
-    Ok(Form::Binary(op, left, right))
+    Held::new(alloc, Form::Binary(op, left, right))
 }
 
 /// `==` and `!=`.
-fn equality_form(alloc: Global, sign: Binary, left: Tree, right: Tree) -> Result<Form, AllocError>
+fn equality_form(
+    alloc: Global,
+    sign: Binary,
+    left: Tree,
+    right: Tree,
+) -> Result<Held<Form>, AllocError>
     ensures { IfOk result (λ made. made ≡ equality_form sign left right) }
 {
     if is_object(&left.ty) {
@@ -138,7 +154,12 @@ fn equality_form(alloc: Global, sign: Binary, left: Tree, right: Tree) -> Result
 }
 
 /// The form of an operator over two operands.
-fn binary_form(alloc: Global, sign: Binary, left: Tree, right: Tree) -> Result<Form, AllocError>
+fn binary_form(
+    alloc: Global,
+    sign: Binary,
+    left: Tree,
+    right: Tree,
+) -> Result<Held<Form>, AllocError>
     ensures { IfOk result (λ made. made ≡ binary_form sign left right) }
 {
     if is_equality(sign) {
@@ -172,7 +193,7 @@ fn minus(alloc: Global, operand: Tree) -> Result<Option<Tree>, AllocError>
         return Ok(None);
     }
     let Tree { ty, form } = operand;
-    let form = Form::Unary(Op::Minus, Held::new(alloc, form)?);
+    let form = Held::new(alloc, Form::Unary(Op::Minus, form))?;
     Ok(Some(Tree { ty, form }))
 }
 
@@ -183,7 +204,7 @@ fn not(alloc: Global, operand: Tree) -> Result<Option<Tree>, AllocError>
     if !is_bool(&operand.ty) {
         return Ok(None);
     }
-    let form = Form::Unary(Op::Not, Held::new(alloc, into_form(operand))?);
+    let form = Held::new(alloc, Form::Unary(Op::Not, into_form(operand)))?;
     Ok(Some(Tree { ty: Ty::Bool, form }))
 }
 
@@ -198,12 +219,10 @@ pub(crate) fn unary(alloc: Global, sign: Unary, operand: Tree) -> Result<Option<
 }
 
 /// The form of `&&`.
-fn and_form(alloc: Global, left: Form, right: Form) -> Result<Form, AllocError>
+fn and_form(alloc: Global, left: Held<Form>, right: Held<Form>) -> Result<Held<Form>, AllocError>
     ensures { IfOk result (λ made. made ≡ form.And left right) }
 {
-    let left = Held::new(alloc, left)?;
-    let right = Held::new(alloc, right)?;
-    Ok(Form::And(left, right))
+    Held::new(alloc, Form::And(left, right))
 }
 
 /// `&&`
@@ -218,12 +237,10 @@ pub(crate) fn and(alloc: Global, left: Tree, right: Tree) -> Result<Option<Tree>
 }
 
 /// The form of `||`.
-fn or_form(alloc: Global, left: Form, right: Form) -> Result<Form, AllocError>
+fn or_form(alloc: Global, left: Held<Form>, right: Held<Form>) -> Result<Held<Form>, AllocError>
     ensures { IfOk result (λ made. made ≡ form.Or left right) }
 {
-    let left = Held::new(alloc, left)?;
-    let right = Held::new(alloc, right)?;
-    Ok(Form::Or(left, right))
+    Held::new(alloc, Form::Or(left, right))
 }
 
 /// `||`
@@ -238,12 +255,14 @@ pub(crate) fn or(alloc: Global, left: Tree, right: Tree) -> Result<Option<Tree>,
 }
 
 /// The form of `??`.
-fn coalesce_form(alloc: Global, left: Form, right: Form) -> Result<Form, AllocError>
+fn coalesce_form(
+    alloc: Global,
+    left: Held<Form>,
+    right: Held<Form>,
+) -> Result<Held<Form>, AllocError>
     ensures { IfOk result (λ made. made ≡ form.Coalesce left right) }
 {
-    let left = Held::new(alloc, left)?;
-    let right = Held::new(alloc, right)?;
-    Ok(Form::Coalesce(left, right))
+    Held::new(alloc, Form::Coalesce(left, right))
 }
 
 /// `??`
@@ -258,19 +277,21 @@ pub(crate) fn coalesce(alloc: Global, left: Tree, right: Tree) -> Result<Option<
 }
 
 /// The form of a conditional.
-fn choice_form(alloc: Global, condition: Form, left: Form, right: Form) -> Result<Form, AllocError>
+fn choice_form(
+    alloc: Global,
+    condition: Held<Form>,
+    left: Held<Form>,
+    right: Held<Form>,
+) -> Result<Held<Form>, AllocError>
     ensures { IfOk result (λ made. made ≡ form.Conditional condition left right) }
 {
-    let condition = Held::new(alloc, condition)?;
-    let left = Held::new(alloc, left)?;
-    let right = Held::new(alloc, right)?;
-    Ok(Form::Conditional(condition, left, right))
+    Held::new(alloc, Form::Conditional(condition, left, right))
 }
 
 /// A choice between two operands.
 fn choice(
     alloc: Global,
-    condition: Form,
+    condition: Held<Form>,
     left: Tree,
     right: Tree,
 ) -> Result<Option<Tree>, AllocError>

@@ -59,7 +59,7 @@ fn matched_by(
     alloc: Global,
     into: &Option<Txt>,
     inner: Tree,
-    keys: (Form, Form),
+    keys: (Held<Form>, Held<Form>),
     scope: &Frame<'_>,
 ) -> Result<Option<Matched>, AllocError>
     ensures { IfOk result (λ found. found ≡ option_map (λ t. record { sides = record { inner = inner.form; keys = keys }; ty = t })
@@ -86,7 +86,7 @@ impl Binder<'_> {
     ghost use Rattle.lq_model.specs.ClauseTyping.{joined_name};
     ghost use Rattle.lq_model.specs.Machine.{schemas_of};
     ghost use Rattle.lq_model.specs.Operators.{unnamed};
-    ghost use Rattle.lq_tree.specs.Binding.{expanded_stage, if_fresh, join_keys, join_stage, joined_stage, paired_stage, placed_tree, select_many_stage, source_tree, stage_of};
+    ghost use Rattle.lq_tree.specs.Binding.{expanded_stage, if_fresh, join_keys, joined_stage, paired_stage, placed_tree, select_many_stage, source_tree, stage_of};
     ghost use Rattle.lq_tree.specs.Places.{with_item, with_name};
     ghost use Rattle.lq_tree.specs.declared.tree.Form.TheVariants as form;
     ghost use Rattle.lq_bind.specs.Bound.{matched_in, trees_in};
@@ -240,7 +240,7 @@ impl Binder<'_> {
         variables: &Variables,
         ty: &Ty,
         frame: &Frame<'_>,
-    ) -> Result<Option<(Form, Form)>, AllocError>
+    ) -> Result<Option<(Held<Form>, Held<Form>)>, AllocError>
         ensures { IfOk result (λ found. found ≡ join_keys (schemas_of self.now.store.now) (trees_in self.now.store.now) (places_in frame.now)
             (pattern_in variables.now) join.now ty.now) }
     {
@@ -275,26 +275,7 @@ impl Binder<'_> {
         matched_by(self.alloc, &join.into, inner, keys, &scope)
     }
 
-    /// `Join` or `GroupJoin`
-    #[cycle(binding)]
-    #[tactic(auto, using(crate::proofs::TermLemmas::joins))]
-    pub(crate) fn join(
-        &self,
-        pair: &Paired<Term>,
-        join: &Join<Term>,
-        before: Behind,
-        frame: &Frame<'_>,
-    ) -> Result<Option<Behind>, AllocError>
-        ensures { IfOk result (λ found. found_stage found ≡ join_stage (schemas_of self.now.store.now) (trees_in self.now.store.now) (places_in frame.now)
-            join.now pair.now (stage_in before)) }
-    {
-        let Some(matched) = self.matched(join, &before.variables, frame)? else {
-            return Ok(None);
-        };
-        self.joined(pair, join, before, matched, frame)
-    }
-
-    /// A join with this inner side.
+    /// `Join` or `GroupJoin`, with this inner side.
     #[cycle(binding)]
     pub(crate) fn joined(
         &self,

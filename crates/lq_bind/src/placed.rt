@@ -72,6 +72,6 @@ pub(crate) fn settled(alloc: Global, tree: Tree) -> Result<Tree, AllocError>
         return Ok(tree);
     }
     let Tree { ty, form } = tree;
-    let form = Form::Sequence(Held::new(alloc, form)?);
+    let form = Held::new(alloc, Form::Sequence(form))?;
     Ok(Tree { ty, form })
 }

@@ -117,6 +117,7 @@ impl Binder<'_> {
 
     /// What stands behind a call.
     #[cycle(binding)]
+    #[tactic(auto, using(crate::proofs::TermLemmas::joins))]
     fn operator(
         &self,
         operator: &Operator<Term>,
@@ -133,7 +134,12 @@ impl Binder<'_> {
             Operator::SelectMany(name, source, result) => {
                 self.select_many(result, source, name, before, frame)
             }
-            Operator::Join(join, result) => self.join(result, join, before, frame),
+            Operator::Join(join, result) => {
+                let Some(matched) = self.matched(join, &before.variables, frame)? else {
+                    return Ok(None);
+                };
+                self.joined(result, join, before, matched, frame)
+            }
             Operator::OrderBy(keys) => self.ordered(keys.as_slice(), before, frame),
             Operator::GroupBy(key, element) => {
                 let Some(key) = self.key(key, &before.variables, frame)? else {

@@ -112,7 +112,7 @@ impl Binder<'_> {
             return Ok(None);
         };
         Ok(Some(SortKey {
-            value: form,
+            value: form.into_inner(),
             descending: key.descending,
         }))
     }

@@ -15,7 +15,7 @@ use std::alloc::{AllocError, Global};
 pub(crate) fn simple(
     alloc: Global,
     method: Simple,
-    source: Form,
+    source: Held<Form>,
     of: Ty,
 ) -> Result<Option<Tree>, AllocError>
     ensures { IfOk result (λ found. found ≡ typed_tree (simple_type method of) (form.Simple method of source)) }
@@ -23,8 +23,7 @@ pub(crate) fn simple(
     let Some(ty) = simple_type(alloc, method, &of)? else {
         return Ok(None);
     };
-    let source = Held::new(alloc, source)?;
-    let form = Form::Simple(method, of, source);
+    let form = Held::new(alloc, Form::Simple(method, of, source))?;
     Ok(Some(Tree { ty, form }))
 }
 
@@ -32,21 +31,19 @@ pub(crate) fn simple(
 fn given_form(
     alloc: Global,
     method: Given,
-    source: Form,
-    argument: Form,
-) -> Result<Form, AllocError>
+    source: Held<Form>,
+    argument: Held<Form>,
+) -> Result<Held<Form>, AllocError>
     ensures { IfOk result (λ made. made ≡ form.Given method source argument) }
 {
-    let source = Held::new(alloc, source)?;
-    let argument = Held::new(alloc, argument)?;
-    Ok(Form::Given(method, source, argument))
+    Held::new(alloc, Form::Given(method, source, argument))
 }
 
 /// A method with an argument, on items of this type.
 pub(crate) fn given(
     alloc: Global,
     method: Given,
-    source: Form,
+    source: Held<Form>,
     of: &Ty,
     argument: Tree,
 ) -> Result<Option<Tree>, AllocError>
@@ -63,25 +60,23 @@ pub(crate) fn given(
 fn through_form(
     alloc: Global,
     method: Through,
-    source: Form,
+    source: Held<Form>,
     of: Ty,
     body: Tree,
-) -> Result<Form, AllocError>
+) -> Result<Held<Form>, AllocError>
     ensures { IfOk result (λ made. made ≡ form.Through method of body.ty source body.form) }
 {
-    let source = Held::new(alloc, source)?;
-    let Tree { ty, form } = body;
-    let body = Held::new(alloc, form)?;
+    let Tree { ty, form: body } = body;
     let of = Held::new(alloc, of)?;
     let to = Held::new(alloc, ty)?;
-    Ok(Form::Through(method, of, to, source, body))
+    Held::new(alloc, Form::Through(method, of, to, source, body))
 }
 
 /// A method with a lambda, whose body is given, on items of this type.
 pub(crate) fn through(
     alloc: Global,
     method: Through,
-    source: Form,
+    source: Held<Form>,
     of: Ty,
     body: Tree,
 ) -> Result<Option<Tree>, AllocError>

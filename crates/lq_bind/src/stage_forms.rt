@@ -23,16 +23,16 @@ use std::alloc::{AllocError, Global};
 #[derive(Drop)]
 pub(crate) struct Sides {
     /// The inner sequence.
-    pub(crate) inner: Form,
+    pub(crate) inner: Held<Form>,
     /// The keys of an outer item and of an inner one.
-    pub(crate) keys: (Form, Form),
+    pub(crate) keys: (Held<Form>, Held<Form>),
 }
 
 /// A source, and what is known of how it is paired or grouped.
 #[derive(Drop)]
 pub(crate) struct Beside<T> {
     /// The source.
-    pub(crate) source: Form,
+    pub(crate) source: Held<Form>,
     /// What stands beside it.
     pub(crate) other: T,
 }
@@ -47,23 +47,25 @@ pub(crate) fn beside_source<T>(before: Behind, other: T) -> (Variables, Beside<T
 }
 
 /// A method with a lambda, where the types of items are of no account.
-fn through(alloc: Global, method: Through, source: Form, body: Form) -> Result<Form, AllocError>
+fn through(
+    alloc: Global,
+    method: Through,
+    source: Held<Form>,
+    body: Held<Form>,
+) -> Result<Held<Form>, AllocError>
     ensures { IfOk result (λ made. made ≡ form.Through method ty.Null ty.Null source body) }
 {
-    let source = Held::new(alloc, source)?;
-    let body = Held::new(alloc, body)?;
     let of = Held::new(alloc, Ty::Null)?;
     let to = Held::new(alloc, Ty::Null)?;
-    Ok(Form::Through(method, of, to, source, body))
+    Held::new(alloc, Form::Through(method, of, to, source, body))
 }
 
 /// A pair of an item and of what the second form means.
-fn item_beside(alloc: Global, item: usize, second: Form) -> Result<Form, AllocError>
+fn item_beside(alloc: Global, item: usize, second: Held<Form>) -> Result<Held<Form>, AllocError>
     ensures { IfOk result (λ made. made ≡ form.Pair (form.Slot item) second) }
 {
-    let second = Held::new(alloc, second)?;
     let item = Held::new(alloc, Form::Slot(item))?;
-    Ok(Form::Pair(item, second))
+    Held::new(alloc, Form::Pair(item, second))
 }
 
 /// The items of a body, under its range variable.
@@ -86,7 +88,7 @@ pub(crate) fn item(
     ensures { IfOk result (λ made. made ≡ Some (tree_of (pattern_type (pattern_in variables.now)) (form.Slot slot))) }
 {
     let ty = variables.item_type(alloc)?;
-    let form = Form::Slot(slot);
+    let form = Held::new(alloc, Form::Slot(slot))?;
     Ok(Some(Tree { ty, form }))
 }
 
@@ -121,7 +123,7 @@ pub(crate) fn filtered(
 /// `Select`, with its value.
 pub(crate) fn selected(
     alloc: Global,
-    source: Form,
+    source: Held<Form>,
     value: Tree,
 ) -> Result<Option<Behind>, AllocError>
     ensures { IfOk result (λ made. found_stage made
@@ -144,7 +146,12 @@ fn more(alloc: Global, variables: Variables, name: &Txt, ty: Ty) -> Result<Varia
 }
 
 /// Each item of the source, which stands in this slot, beside what the second form means.
-fn named_form(alloc: Global, source: Form, item: usize, second: Form) -> Result<Form, AllocError>
+fn named_form(
+    alloc: Global,
+    source: Held<Form>,
+    item: usize,
+    second: Held<Form>,
+) -> Result<Held<Form>, AllocError>
     ensures { IfOk result (λ made. made ≡ form.Through through.Select ty.Null ty.Null source (form.Pair (form.Slot item) second)) }
 {
     let pair = item_beside(alloc, item, second)?;
@@ -191,13 +198,14 @@ pub(crate) fn named(
 }
 
 /// A pair of what stands in this slot and in the next one.
-fn pair_form(alloc: Global, item: usize) -> Result<Form, AllocError>
+fn pair_form(alloc: Global, item: usize) -> Result<Held<Form>, AllocError>
     ensures { IfOk result (λ made. made ≡ form.Pair (form.Slot item) (form.Slot (item + 1))) }
 {
     let Some(next) = item.checked_add(1) else {
         return Err(AllocError);
     };
-    item_beside(alloc, item, Form::Slot(next))
+    let next = Held::new(alloc, Form::Slot(next))?;
+    item_beside(alloc, item, next)
 }
 
 /// A pair of the items in this slot and the next one.
@@ -217,13 +225,15 @@ pub(crate) fn paired(
 }
 
 /// The form of `SelectMany`.
-fn expanded_form(alloc: Global, source: Form, inner: Form, made: Form) -> Result<Form, AllocError>
+fn expanded_form(
+    alloc: Global,
+    source: Held<Form>,
+    inner: Held<Form>,
+    made: Held<Form>,
+) -> Result<Held<Form>, AllocError>
     ensures { IfOk result (λ found. found ≡ form.SelectMany source inner made) }
 {
-    let source = Held::new(alloc, source)?;
-    let inner = Held::new(alloc, inner)?;
-    let made = Held::new(alloc, made)?;
-    Ok(Form::SelectMany(source, inner, made))
+    Held::new(alloc, Form::SelectMany(source, inner, made))
 }
 
 /// `SelectMany`: what is made of each item, and of each item of the sequence that it leads to.
@@ -243,10 +253,10 @@ pub(crate) fn expanded(
 /// The form of `SelectMany` that makes pairs of the items, which stand in the next two slots.
 fn pairs_form(
     alloc: Global,
-    source: Form,
-    inner: Form,
+    source: Held<Form>,
+    inner: Held<Form>,
     frame: &Frame<'_>,
-) -> Result<Form, AllocError>
+) -> Result<Held<Form>, AllocError>
     ensures { IfOk result (λ made. made
         ≡ form.SelectMany source inner (form.Pair (form.Slot (places_in frame.now).depth) (form.Slot ((places_in frame.now).depth + 1)))) }
 {
@@ -276,7 +286,7 @@ pub(crate) fn expanded_pairs(
 }
 
 /// The form of what stands behind a call.
-pub(crate) fn source_of(behind: Behind) -> Form
+pub(crate) fn source_of(behind: Behind) -> Held<Form>
     ensures { result ≡ behind.form }
 {
     let Behind { form, .. } = behind;
@@ -284,7 +294,7 @@ pub(crate) fn source_of(behind: Behind) -> Form
 }
 
 /// The keys of a join, where they can be compared.
-pub(crate) fn keys(outer: Tree, inner: Tree) -> Option<(Form, Form)>
+pub(crate) fn keys(outer: Tree, inner: Tree) -> Option<(Held<Form>, Held<Form>)>
     ensures { result ≡ when (are_join_keys (Some outer.ty) (Some inner.ty)) (Some (outer.form, inner.form)) }
 {
     if !are_join_keys(&outer.ty, &inner.ty) {
@@ -294,27 +304,35 @@ pub(crate) fn keys(outer: Tree, inner: Tree) -> Option<(Form, Form)>
 }
 
 /// The form of a join.
-fn join_form(alloc: Global, source: Form, joined: Joined<Form>) -> Result<Form, AllocError>
+fn join_form(
+    alloc: Global,
+    source: Held<Form>,
+    joined: Held<Joined<Form>>,
+) -> Result<Held<Form>, AllocError>
     ensures { IfOk result (λ made. made ≡ form.Join source joined) }
 {
-    let source = Held::new(alloc, source)?;
-    let joined = Held::new(alloc, joined)?;
-    Ok(Form::Join(source, joined))
+    Held::new(alloc, Form::Join(source, joined))
 }
 
 /// The parts of a join.
-fn join_parts(sides: Sides, grouped: bool, pair: Form) -> Joined<Form>
-    ensures { result ≡ record { inner = sides.inner; outer_key = sides.keys.0; inner_key = sides.keys.1; grouped = grouped; result = pair } }
+fn join_parts(
+    alloc: Global,
+    sides: Sides,
+    grouped: bool,
+    pair: Held<Form>,
+) -> Result<Held<Joined<Form>>, AllocError>
+    ensures { IfOk result (λ made. made ≡ record { inner = sides.inner; outer_key = sides.keys.0; inner_key = sides.keys.1; grouped = grouped; result = pair }) }
 {
     let Sides { inner, keys } = sides;
     let (outer_key, inner_key) = keys;
-    Joined {
-        inner,
-        outer_key,
-        inner_key,
+    let parts = Joined {
+        inner: inner.into_inner(),
+        outer_key: outer_key.into_inner(),
+        inner_key: inner_key.into_inner(),
         grouped,
-        result: pair,
-    }
+        result: pair.into_inner(),
+    };
+    Held::new(alloc, parts)
 }
 
 /// A join of a source with this inner sequence.
@@ -335,7 +353,8 @@ pub(crate) fn joined(
 {
     let Behind { variables, form } = made;
     let Beside { source, other } = sources;
-    let form = join_form(alloc, source, join_parts(other, grouped, form))?;
+    let parts = join_parts(alloc, other, grouped, form)?;
+    let form = join_form(alloc, source, parts)?;
     Ok(Behind { variables, form })
 }
 
@@ -370,18 +389,20 @@ pub(crate) fn ordered(
     ensures { IfOk result (λ found. stage_in found ≡ stage_of (pattern_in before.variables) (form.OrderBy before.form keys)) }
 {
     let Behind { variables, form } = before;
-    let form = Form::OrderBy(Held::new(alloc, form)?, keys);
+    let form = Held::new(alloc, Form::OrderBy(form, keys))?;
     Ok(Behind { variables, form })
 }
 
 /// The form of groups by a key.
-fn groups(alloc: Global, source: Form, key: Form, element: Form) -> Result<Form, AllocError>
+fn groups(
+    alloc: Global,
+    source: Held<Form>,
+    key: Held<Form>,
+    element: Held<Form>,
+) -> Result<Held<Form>, AllocError>
     ensures { IfOk result (λ made. made ≡ form.GroupBy source key element) }
 {
-    let source = Held::new(alloc, source)?;
-    let key = Held::new(alloc, key)?;
-    let element = Held::new(alloc, element)?;
-    Ok(Form::GroupBy(source, key, element))
+    Held::new(alloc, Form::GroupBy(source, key, element))
 }
 
 /// The type of groups with keys of the first type.
@@ -400,7 +421,12 @@ fn groups_of(alloc: Global, key: Ty, element: Ty) -> Result<Variables, AllocErro
 }
 
 /// The groups of a source by a key.
-fn group_items(alloc: Global, source: Form, key: Tree, element: Tree) -> Result<Behind, AllocError>
+fn group_items(
+    alloc: Global,
+    source: Held<Form>,
+    key: Tree,
+    element: Tree,
+) -> Result<Behind, AllocError>
     ensures { IfOk result (λ made. stage_in made ≡ stage_of (unnamed (ty.Group key.ty element.ty)) (form.GroupBy source key.form element.form)) }
 {
     let Tree {
@@ -466,7 +492,7 @@ pub(crate) fn sequence(alloc: Global, source: Tree) -> Result<Tree, AllocError>
     ensures { IfOk result (λ made. made ≡ tree_of source.ty (form.Sequence source.form)) }
 {
     let Tree { ty, form } = source;
-    let form = Form::Sequence(Held::new(alloc, form)?);
+    let form = Held::new(alloc, Form::Sequence(form))?;
     Ok(Tree { ty, form })
 }
 

@@ -23,7 +23,7 @@ pub(crate) enum Variables {
 #[derive(Drop)]
 pub(crate) struct Behind {
     pub(crate) variables: Variables,
-    pub(crate) form: Form,
+    pub(crate) form: Held<Form>,
 }
 
 /// The type of a pair.
@@ -64,7 +64,7 @@ impl Variables {
         &self,
         alloc: Global,
         name: &str,
-        item: Form,
+        item: Held<Form>,
     ) -> Result<Option<Tree>, AllocError>
         ensures { IfOk result (λ found. found ≡ option_map tree_at (place_of name.now (places_of (pattern_in self.now) item []))) }
     {
@@ -77,15 +77,13 @@ impl Variables {
                 Ok(Some(Tree { ty, form: item }))
             }
             Variables::With(before, known, ty) => {
-                let item = Held::new(alloc, item)?;
                 if known.as_str() != name {
-                    return before.get().find(alloc, name, Form::First(item));
+                    let first = Held::new(alloc, Form::First(item))?;
+                    return before.get().find(alloc, name, first);
                 }
                 let ty = copy_ty(alloc, ty)?;
-                Ok(Some(Tree {
-                    ty,
-                    form: Form::Second(item),
-                }))
+                let form = Held::new(alloc, Form::Second(item))?;
+                Ok(Some(Tree { ty, form }))
             }
         }
     }

@@ -25,7 +25,7 @@ pub fn value<'a, R: TableRow>(
     ensures { IsAnswer (form_meaning (world_of R.table_of R.shown tables.now) tree.now.form []) result }
 {
     let running = Running { alloc, tables };
-    running.evaluate(&tree.form, &Slots::Empty)
+    running.evaluate(tree.form.get(), &Slots::Empty)
 }
 
 /// The items of a typed tree over these tables, and how they end: a fault that is met in making

@@ -83,8 +83,8 @@ pub enum Form {
 pub struct Tree {
     /// Its type.
     pub ty: Ty,
-    /// The form.
-    pub form: Form,
+    /// The form, in a box of its own: a tree is handed on with each step of binding, on a stack that is short.
+    pub form: Held<Form>,
 }
 
 /// The type of a tree.

@@ -34,10 +34,11 @@ sort_keys-returns-in_default t c =
     gather_stops (key_tree (schemas_of c.args.self.now.store.now) (trees_in c.args.self.now.store.now) (places_in c.args.frame.now)) c.args.keys.now _ _ _ _
     c.key-item.is c.loop-key-test.true (sym c.in_default.is ∙ c.in_ok-found.ensures) c.loop-key.invariant
 
-pub join-returns : goal.join-returns
-join-returns t c =
+pub operator-returns-in-Some : goal.operator-returns-in-Some
+operator-returns-in-Some t c =
     subst (λ made. IfOk c.joined.result (λ found. found_stage found ≡ made))
-    (sym (join_matched (schemas_of c.args.self.now.store.now) (trees_in c.args.self.now.store.now) (places_in c.args.frame.now) c.args.join.now c.args.pair.now (stage_in c.args.before)
-    ∙ ap (option_and_then (λ (m : Matched). joined_stage (schemas_of c.args.self.now.store.now) (trees_in c.args.self.now.store.now) (places_in c.args.frame.now) c.args.join.now c.args.pair.now
-    (stage_in c.args.before) m.sides.inner m.sides.keys m.ty)) (sym c.in_ok-matched.ensures ∙ c.in-Some.is)))
+    (sym (ap (λ (op : Operator Term). operator_stage (schemas_of c.args.self.now.store.now) (trees_in c.args.self.now.store.now) (places_in c.args.frame.now) op (stage_in c.args.before)) c.in-Join.is
+    ∙ join_matched (schemas_of c.args.self.now.store.now) (trees_in c.args.self.now.store.now) (places_in c.args.frame.now) c.in-Join.join c.in-Join.result (stage_in c.args.before)
+    ∙ ap (option_and_then (λ (m : Matched). joined_stage (schemas_of c.args.self.now.store.now) (trees_in c.args.self.now.store.now) (places_in c.args.frame.now) c.in-Join.join c.in-Join.result
+    (stage_in c.args.before) m.sides.inner m.sides.keys m.ty)) (sym c.in_ok-matched-in-Join.ensures ∙ c.in-Some.is)))
     c.joined.ensures

@@ -120,9 +120,6 @@ decreases-paired l = 32 * goal.size-paired l + 10
 abbrev pub decreases-paired_value : goal.decreases-paired_value
 decreases-paired_value l = 32 * goal.size-paired_value l + 5
 
-abbrev pub decreases-join : goal.decreases-join
-decreases-join l = 32 * goal.size-join l + 20
-
 abbrev pub decreases-select_many : goal.decreases-select_many
 decreases-select_many l = 32 * max (goal.size-select_many l) (the_size l.source.now) + 20
 
