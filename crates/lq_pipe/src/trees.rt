@@ -15,7 +15,7 @@ use lq_value::{End, List, Value};
 use std::alloc::{AllocError, Global};
 
 /// The value of a typed tree over these tables, or its first fault (ECMA-334, expressions; .NET,
-/// `Enumerable`). No other rows are read. `Memory` where none was left.
+/// `Enumerable`). `Memory` where none was left.
 #[tactic(auto, using(crate::proofs::SlotLemmas::no_values))]
 pub fn value<'a, R: TableRow>(
     alloc: Global,
