@@ -4,26 +4,26 @@ import random
 from dataclasses import dataclass, field
 
 import commandlines
+import company_examples
 import examples
 import files
 import policy_examples
 import policy_files
+import queries
+import query_lines
 import scalars
 import sentences
 import statements
-import whole_examples
-import whole_lines
-import whole_queries
 from tables import MARK
 
 FIRST_OF_SENTENCES = 4300
 FIRST_OF_SCALARS = 4600
 FIRST_OF_POLICIES = 4720
-CASES = 6020
-# Cases of the whole language, which is not served yet: first the fixed ones, then those by chance.
-FIRST_OF_QUERIES = CASES + len(whole_examples.by_file())
-WHOLE_CASES = 6320
-LINES_OF_WHOLE = 20
+# Known lines over the small company, and then queries by chance.
+FIRST_OF_COMPANY = 6020
+FIRST_OF_QUERIES = FIRST_OF_COMPANY + len(company_examples.by_file())
+CASES = 6820
+LINES_OF_QUERIES = 20
 NO_UTF8 = [
     b"\x80", b"\xff", b"\xc3", b"\xc0\x80", b"\xe2\x82", b"\xed\xa0\x80", b"\xf4\x90\x80\x80", b"\xf0\x9f\x98", b"\xef\xbb",
     b"\xf8\x88\x80\x80\x80",
@@ -265,28 +265,28 @@ def lines_case(dice, line):
     return Case([*OPTIONS, *(path.encode() for path in data)], POLICY | data, script_of(dice, tables, line, 60))
 
 
-def whole_case(number):
-    """Known lines of the whole language over the small company; then lines by chance, over small tables behind some policies."""
-    if number < FIRST_OF_QUERIES:
-        return of_company(policy_examples.COMPANY.encode(), script=whole_examples.scripts()[number - CASES])
-    dice = random.Random(number)
-    tables = whole_queries.tables(dice)
+def queries_case(dice):
+    """Queries by chance, over small tables behind some policies."""
+    tables = queries.tables(dice)
     file = policy_files.right_file(dice, tables)
     if dice.random() < 0.3:
         # Row security is off, so that there are rows to query.
         file["table"] = []
     role = dice.choice([entry["name"] for entry in file["role"]])
-    script = "".join(whole_lines.line(dice, tables).replace("\n", " ") + "\n" for _ in range(LINES_OF_WHOLE))
+    script = "".join(query_lines.line(dice, tables).replace("\n", " ") + "\n" for _ in range(LINES_OF_QUERIES))
     return call(dice, tables, policy_files.spelled_file(dice, file).encode(), role, script.encode())
 
 
 def case_of(number, fixed):
-    """The case of a number: first the fixed ones, then those by chance, whose number is the seed."""
+    """The case of a number: first the fixed ones, then those by chance, whose number is the seed. The known lines over the small
+    company stand between these."""
     if number < len(fixed):
         return fixed[number]
-    if number >= CASES:
-        return whole_case(number)
+    if FIRST_OF_COMPANY <= number < FIRST_OF_QUERIES:
+        return of_company(policy_examples.COMPANY.encode(), script=company_examples.scripts()[number - FIRST_OF_COMPANY])
     dice = random.Random(number)
+    if number >= FIRST_OF_QUERIES:
+        return queries_case(dice)
     if number >= FIRST_OF_POLICIES:
         return policy_case(dice)
     if number >= FIRST_OF_SENTENCES:

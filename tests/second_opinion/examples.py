@@ -1,15 +1,42 @@
 """Lines whose replies are known beforehand, over the table `t` of one column `c` with the rows 1 and 2.
 
 They hold for this reading as well as for the program: a reading that answers one of them otherwise compares nothing.
+
+Each file of the folder `known_lines` has pairs of lines, a statement and its reply, between empty lines; a line that begins
+with `#` tells of them. Those of `over_t.txt` are over the table `t`.
 """
+
+import json
+from pathlib import Path
 
 from scalar_examples import FAULT_ON_FIVE, FAULTS, FAULTS_OF_NULLS, ILL_TYPED, OF_NULLS, UNTYPED_OF_NULLS, VALUES
 from tables import Table
 
+FOLDER = Path(__file__).resolve().parent / "known_lines"
+OVER_T = "over_t.txt"
 NESTED = "run from x in t select {}{}{};"
 ACUTE = "\u0301"
 
-# The items of each line that is served.
+
+def pairs_in(path):
+    """The statements and replies of a file."""
+    pairs = []
+    for block in path.read_text(encoding="utf-8").split("\n\n"):
+        lines = [line for line in block.split("\n") if line and not line.startswith("#")]
+        if lines:
+            statement, reply = lines
+            pairs.append((statement, reply + "\n"))
+    return pairs
+
+
+def nested(depth, value):
+    """Records in one another, so deep."""
+    for _ in range(depth):
+        value = {"a": value}
+    return value
+
+
+# The items of each line.
 ITEMS = {
     "run from x in t select x.c;": [1, 2],
     "run(from x in(t)select(x).c);": [1, 2],
@@ -69,7 +96,7 @@ ITEMS = {
     "run from x in t select (x.c > 1 ? x : null) == null ? 0 : (x.c > 1 ? x : null).c;": [0, 2],
 }
 
-# The value of each expression that is served alone, and those that fault.
+# The value of each expression alone, and those that fault.
 RUN = {
     "run 1;": 1, "run -1;": -1, "run (1);": 1, "run((1));": 1, "run 1 - - 1;": 2, "run 4/2;": 2, "run 1<2;": True,
     "run true;": True,
@@ -81,6 +108,7 @@ RUN = {
     'run "a"' + '+"a"' * 254 + ";": "a" * 255, 'run "a"' + '??"b"' * 254 + ";": "a",
     "run " + "true?" * 127 + "1" + ":2" * 127 + ";": 1,
     "run " + "(" * 63 + '(true?null:"a")' + '??"b")' * 63 + ";": "b", "run null" + "==null" + "==true" * 253 + ";": True,
+    "run " + "new{a=" * 63 + "(1" + "+1" * 64 + ")" + "}" * 63 + ";": nested(63, 65),
 }
 OVERFLOW = ["run - -2147483648;", "run --2147483648;", "run 1--2147483648;", "run " + "(1+1)*" * 252 + "(1+1);"]
 
@@ -131,39 +159,26 @@ TOO_DEEP = [
 ]
 
 TYPE = [
-    "run (-2147483648).Foo;", "run 1.c;", "run t;", "run x;", "run null;",
-    "run a ? b : c ? d : e;", "run a ? b ? c : d : e;", "run a ?? b ?? c;", "run a || b && c == d < e + f * -!g;",
-    "run !!a;", "run !-a;", "run -a.b;", "run t.Select(x => x);",
-    "run t.Select(x => a ? b : c, y);", "run t.Count();", "run t . Count ( ) . x ;", "run 1.Foo();",
-    "run t.Select(x => t.Select(y => x));", "run (t).Select(x => (from y in t select y));", "run Host.f(x.c);",
-    "run Host.f((x.c));", "run Host.f(1).g;", "run Host.f(t.Select(x => x));", "run new {};", "run new { };",
-    "run new { a = 1, };", "run new { a, b.c, (d).e, f.g().h };", "run new { (a.b).c };", "run new { \"\".a };",
-    "run new { new {}.a };", "run new { a = new { b = 1 }, c = (from x in t select x) }.a;", "run new { 1.a };",
-    "run new { Host.f(1).g };", "run new { (1 + 2).a };", "run new { a = b == c }.d;", "run (from x in t select x.c).First();",
-    "run from x in (from y in t select y) select x.c;", "run from x in t select x.c into y select y;",
-    "run from x in t group x by x.c;", "run from x in t group x by x.c into g from y in g select g.Key;",
-    "run from x in t let y = x.c select y;", "run from x in t from y in t select x.c;",
-    "run from x in t join y in t on x.c equals y.c select x.c;",
-    "run from x in t join y in t on x.c equals y.c into g select x.c;", "run from x in t orderby x.c select x.c;",
-    "run from x in t orderby x.c, x.c descending, x.c ascending select x.c;",
-    "run from x in t orderby a ? b : c descending select x.c;", "run from x in t select x;", "run from x in t select t;",
-    "run from x in t select new { x.c };", "run from x in t where x.c select x.c;", "run from x in t where 1 select x.c;",
-    "run from x in t select -x;", "run from x in t select -(x.c > 1);", "run from x in t select x + 1;",
-    "run from x in t select !x.c;", "run from x in t where x.c < 1 < 2 select 1;",
-    "run from x in t where true && 1 select 1;", "run from x in u select 1;",
+    "run (-2147483648).Foo;", "run 1.c;", "run x;", "run null;", "run a ? b : c ? d : e;", "run a ? b ? c : d : e;",
+    "run a ?? b ?? c;", "run a || b && c == d < e + f * -!g;", "run !!a;", "run !-a;", "run -a.b;",
+    "run t.Select(x => a ? b : c, y);", "run t . Count ( ) . x ;", "run 1.Foo();", "run Host.f(x.c);", "run Host.f((x.c));",
+    "run Host.f(1).g;", "run Host.f(t.Select(x => x));", "run new { a, b.c, (d).e, f.g().h };", "run new { (a.b).c };",
+    "run new { \"\".a };", "run new { new {}.a };", "run new { 1.a };", "run new { Host.f(1).g };", "run new { (1 + 2).a };",
+    "run new { a = b == c }.d;", "run from x in t orderby a ? b : c descending select x.c;",
+    "run from x in t where x.c select x.c;", "run from x in t where 1 select x.c;", "run from x in t select -x;",
+    "run from x in t select -(x.c > 1);", "run from x in t select x + 1;", "run from x in t select !x.c;",
+    "run from x in t where x.c < 1 < 2 select 1;", "run from x in t where true && 1 select 1;", "run from x in u select 1;",
     "run from x in x select 1;", "run from x in t.c select 1;", "run from x in t select y.c;", "run from x in t select x.d;",
     "run from x in t select t.c;", "run from x in t where t.c > 1 select x.c;", "run from x in t select x.c.c;",
     "run from x in t select x.C;", f"run from é in t select e{ACUTE}.c;", f"run from e{ACUTE} in t select é.c;",
-    "run from ﬁ in t select fi.c;", "run from ª in t select a.c;", "var x = 1;", "var x = from y in t select y;", "var t = t;",
-    "_ = 1;", "x = from y in t select y.c;", "x = (1);", "as nobody;", "as reader;", "insert t (1);",
+    "run from ﬁ in t select fi.c;", "run from ª in t select a.c;", "var x = 1;", "var x = from y in t select y;",
+    "var t = t;", "_ = 1;", "x = from y in t select y.c;", "x = (1);", "as nobody;", "as reader;", "insert t (1);",
     "insert t (-2147483648);", "insert t (- 1, \"a\", true, false, null);", "insert none (1, 2);", "delete t x => x.c > 1;",
-    "delete t x => a ? b : c;", "delete none x => 1;", "run from x in t select Host.f(x.c);",
-    "run a" + ".a" * 254 + ";", "run " + "!" * 254 + "a;",
-    "run a" + "??a" * 254 + ";", "run a" + "?a:a" * 127 + ";",
-    "run t.f(" + "1," * 252 + "1);", "run t" + ".f()" * 253 + ";",
-    "run t" + ".f(1,1,1)" * 200 + ";", "run t.f(1+1).f(1+1);",
-    "insert t (" + "1," * 253 + "1);", "run " + "new{a=" * 63 + "(1" + "+1" * 64 + ")" + "}" * 63 + ";", "run xำ;", "run x‿y;",
-    "insert t (" + "-2147483648," * 126 + "-2147483648);",
+    "delete t x => a ? b : c;", "delete none x => 1;", "run from x in t select Host.f(x.c);", "run a" + ".a" * 254 + ";",
+    "run " + "!" * 254 + "a;", "run a" + "??a" * 254 + ";", "run a" + "?a:a" * 127 + ";", "run t.f(" + "1," * 252 + "1);",
+    "run t" + ".f()" * 253 + ";", "run t" + ".f(1,1,1)" * 200 + ";", "run t.f(1+1).f(1+1);",
+    "insert t (" + "1," * 253 + "1);", "run xำ;", "run x‿y;", "insert t (" + "-2147483648," * 126 + "-2147483648);",
+    "run true ? x : x;", "run false ? x : null;", "run true ? null : x;",
 ]
 
 NOTHING = [
@@ -203,7 +218,8 @@ def lines_of_nulls():
 
 def known_lines():
     """Each line with its reply's value; None where there is none."""
-    known = [(line, {"items": items}) for line, items in ITEMS.items()]
+    known = [(line, json.loads(reply)) for line, reply in pairs_in(FOLDER / OVER_T)]
+    known += [(line, {"items": items}) for line, items in ITEMS.items()]
     known += [(line, {"value": value}) for line, value in RUN.items()]
     known += [(line, {"fault": "Overflow"}) for line in OVERFLOW]
     for word, lines in {"syntax": SYNTAX, "too-deep": TOO_DEEP, "type": TYPE}.items():

@@ -1,162 +1,417 @@
-"""What a line means: the rows that a query selects, and the reply. None stands for null."""
+"""What a line means: values, streams of items, and the reply. None stands for null.
+
+A row and a record are dicts of their members in order. A sequence is a Stream, which begins anew each time that it is gone
+over, and raises the Fault that it ends in. So what isn't asked for is never evaluated.
+"""
 
 import json
-import operator
 from dataclasses import dataclass
 
 from depth import DepthFault, check_depth
 from grammar import parse
 from lexer import SyntaxFault, tokens_of
-from scopes import TypeFault, check, scope_of, source_of, type_of
+from scalar_meaning import LITERALS, Fault, checked, concatenated, member, operate, search
+from scalar_types import TypeFault
+from scopes import Group, Sequence, typed_run
 
-LITERALS = {"true": True, "false": False, "null": None}
-COMPARISONS = {
-    "<": operator.lt,
-    ">": operator.gt,
-    "<=": operator.le,
-    ">=": operator.ge,
-}
-SEARCHES = {"StartsWith": bytes.startswith, "EndsWith": bytes.endswith, "Contains": bytes.__contains__}
+DEFAULTS = {"int": 0, "bool": False}
 
 
-class Fault(Exception):
-    """An evaluation ends with this fault, which has the name of .NET's exception without its last word."""
+class Stream:
+    """A sequence: `start` begins it, and may fault itself; such a fault is the stream's ending before any item."""
+
+    def __init__(self, start):
+        self.start = start
+
+    def __iter__(self):
+        return iter(self.start())
 
 
-@dataclass(frozen=True)
-class Names:
-    """What names stand for where an expression is evaluated: the type of each, and its value."""
+@dataclass
+class Grouping:
+    """.NET, IGrouping: a key and its elements."""
 
-    scope: dict
-    values: dict
+    key: object
+    items: list
 
 
-def checked(number):
-    """ECMA-334, checked operators: a result that no int holds is an overflow."""
-    if not -2147483648 <= number <= 2147483647:
-        raise Fault("Overflow")
+def same_key(value):
+    """What two values have in common exactly where they are the same. Of records all members count."""
+    if isinstance(value, dict):
+        return tuple(map(same_key, value.values()))
+    return type(value).__name__, value
+
+
+def value_of(node, names):
+    """The value of a typed expression. A sequence never faults by itself: making it is put off until it is gone over."""
+    if isinstance(node.type, Sequence):
+        return Stream(lambda: found(node, names))
+    return found(node, names)
+
+
+def found(node, names):
+    return FORMS.get(node.kind, operation)(node, names)
+
+
+def literal(node, _):
+    return LITERALS[node.kind] if node.kind in LITERALS else node.parts[0]
+
+
+def member_of(node, names):
+    owner, name = node.parts
+    whole = value_of(owner, names)
+    return whole.key if isinstance(owner.type, Group) else member(whole, name, owner.type)
+
+
+def text_search(node, names):
+    name, text, part = node.parts
+    return search(value_of(text, names), name, value_of(part, names))
+
+
+def operation(node, names):
+    """ECMA-334, expressions: operands from left to right; of `&&`, `||`, `??` and `?:` only those that are needed."""
+    parts = node.parts
+    first = value_of(parts[0], names)
+    if node.kind in ("&&", "||"):
+        return value_of(parts[1], names) if first == (node.kind == "&&") else first
+    if node.kind == "??":
+        return value_of(parts[1], names) if first is None else first
+    if node.kind == "?":
+        return value_of(parts[1 if first else 2], names)
+    operands = [first, *(value_of(part, names) for part in parts[1:])]
+    if (node.kind, node.type) == ("+", "string"):
+        return concatenated(*operands)
+    return operate(node.kind, operands)
+
+
+def source_of(node, names):
+    """A sequence, or the elements of a group: the fault of a group that can't be had is the ending of its stream."""
+    if isinstance(node.type, Group):
+        return Stream(lambda: value_of(node, names).items)
+    return value_of(node, names)
+
+
+def each(part, names):
+    """What a lambda gives of an item."""
+    return lambda item: value_of(part.body, {**names, part.name: item})
+
+
+def call(node, names):
+    """.NET, Enumerable: a method of a sequence, of its items' type where this tells its result."""
+    method, owner, *arguments = node.parts
+    name, letter = method.split()
+    source = source_of(owner, names)
+    if letter == "-":
+        return METHODS[name](source, owner.type.item)
+    part, = arguments
+    if letter == "p":
+        return WITH_CONDITION[name](source, each(part, names), owner.type.item)
+    if letter == "f":
+        values = Stream(lambda: map(each(part, names), source))
+        return values if name == "Select" else METHODS[name](values, part.body.type)
+    if letter == "s":
+        return WITH_SECOND[name](source, source_of(part, names))
+    return WITH_VALUE[name](source, lambda: value_of(part, names))
+
+
+def where(source, holds, _=None):
+    return (item for item in source if holds(item))
+
+
+def filtered(source, holds):
+    return Stream(lambda: where(source, holds))
+
+
+def distinct(source, _=None):
+    """Each item at its first appearance."""
+    seen = set()
+    for item in source:
+        if same_key(item) not in seen:
+            seen.add(same_key(item))
+            yield item
+
+
+def concat(first, second):
+    yield from first
+    yield from second
+
+
+def chosen(source, second, are_in):
+    """The distinct items that are, or that aren't, in the second sequence, which is read first."""
+    others = {same_key(item) for item in second}
+    for item in distinct(source):
+        if (same_key(item) in others) == are_in:
+            yield item
+
+
+def backwards(source, _):
+    yield from reversed(list(source))
+
+
+def skip(source, number):
+    left = number()
+    for item in source:
+        if left <= 0:
+            yield item
+        left -= 1
+
+
+def take(source, number):
+    """Nothing is read for a number below one, nor behind the last item that is taken."""
+    left = number()
+    if left < 1:
+        return
+    for item in source:
+        yield item
+        left -= 1
+        if left == 0:
+            return
+
+
+def default_if_empty(source, its_type):
+    is_empty = True
+    for item in source:
+        is_empty = False
+        yield item
+    if is_empty:
+        yield DEFAULTS.get(its_type)
+
+
+def has_any(source, _):
+    return any(True for _ in source)
+
+
+def count(source, _):
+    return checked(sum(1 for _ in source))
+
+
+def first(source, _):
+    for item in source:
+        return item
+    raise Fault("InvalidOperation")
+
+
+def first_or_default(source, its_type):
+    for item in source:
+        return item
+    return DEFAULTS.get(its_type)
+
+
+def last(source, _):
+    items = list(source)
+    if not items:
+        raise Fault("InvalidOperation")
+    return items[-1]
+
+
+def at_most_one(source):
+    """The items, of which there is one at most: the second is a fault, and nothing behind it is read."""
+    items = []
+    for item in source:
+        if items:
+            raise Fault("InvalidOperation")
+        items.append(item)
+    return items
+
+
+def single(source, its_type):
+    return first(at_most_one(source), its_type)
+
+
+def single_or_default(source, its_type):
+    return first_or_default(at_most_one(source), its_type)
+
+
+def element_at(source, number):
+    left = number()
+    if left >= 0:
+        for item in source:
+            if left == 0:
+                return item
+            left -= 1
+    raise Fault("ArgumentOutOfRange")
+
+
+def contains(source, item):
+    wanted = same_key(item())
+    return any(same_key(other) == wanted for other in source)
+
+
+def total(source, _):
+    """The sum of what isn't null. It may leave the ints at any item."""
+    number = 0
+    for item in source:
+        number = checked(number + (item or 0))
     return number
 
 
-def quotient(left, right):
-    """ECMA-334, integer division: towards zero. The least int divided by -1 is an overflow."""
-    if right == 0:
-        raise Fault("DivideByZero")
-    return checked(abs(left) // abs(right) * (1 if (left < 0) == (right < 0) else -1))
+def extreme(choose):
+    """What Min and Max do: the least or the largest of what isn't null. Of no int there is none, and of no int? null."""
+
+    def method(source, its_type):
+        numbers = [item for item in source if item is not None]
+        if not numbers and its_type == "int":
+            raise Fault("InvalidOperation")
+        return choose(numbers, default=None)
+
+    return method
 
 
-# Operators on numbers, none of which is null.
-ARITHMETIC = {
-    "unary -": lambda number: checked(-number),
-    "*": lambda left, right: checked(left * right),
-    "/": quotient,
-    "%": lambda left, right: left - quotient(left, right) * right,
-    "+": lambda left, right: checked(left + right),
-    "-": lambda left, right: checked(left - right),
+METHODS = {
+    "Distinct": distinct, "Reverse": backwards, "DefaultIfEmpty": default_if_empty, "Any": has_any, "Count": count,
+    "First": first, "FirstOrDefault": first_or_default, "Last": last, "Single": single, "SingleOrDefault": single_or_default,
+    "Sum": total, "Min": extreme(min), "Max": extreme(max),
 }
 
 
-def operate(sign, operands):
-    """ECMA-334, lifted operators: arithmetic with null is null, by size null compares false, and null equals null alone."""
-    if sign == "unary !":
-        return not operands[0]
-    if sign in ("==", "!="):
-        return (operands[0] == operands[1]) == (sign == "==")
-    if None in operands:
-        return False if sign in COMPARISONS else None
-    return (COMPARISONS | ARITHMETIC)[sign](*operands)
+def of_those(method):
+    """The method of the items on which the condition is true."""
+    return lambda source, holds, its_type: method(filtered(source, holds), its_type)
 
 
-def concatenated(left, right):
-    """ECMA-334, string concatenation: null is as the empty text."""
-    return (left or "") + (right or "")
+WITH_CONDITION = {
+    "Where": where, "All": lambda source, holds, _: all(map(holds, source)),
+    **{name: of_those(METHODS[name]) for name in (
+        "Any", "Count", "First", "FirstOrDefault", "Last", "Single", "SingleOrDefault")},
+}
+WITH_SECOND = {
+    "Concat": concat, "Union": lambda first_items, second: distinct(concat(first_items, second)),
+    "Intersect": lambda first_items, second: chosen(first_items, second, True),
+    "Except": lambda first_items, second: chosen(first_items, second, False),
+}
+WITH_VALUE = {"Skip": skip, "Take": take, "ElementAt": element_at, "Contains": contains}
 
 
-def member(owner, name, its_type):
-    """.NET, Nullable<T>.HasValue and Value, String.Length: a text's length is that of its UTF-16. Null has HasValue alone."""
-    if its_type == "int?" and name == "HasValue":
-        return owner is not None
-    if owner is None:
-        raise Fault("InvalidOperation" if its_type == "int?" else "NullReference")
-    if its_type == "int?":
-        return owner
-    return len(owner.encode("utf-16-le")) // 2 if its_type == "string" else owner[name]
+def query(node, names):
+    """ECMA-334, query expressions: a stream of bindings, the names with their values, goes from clause to clause."""
+    steps, end, rest = node.parts
+    bindings = iter([names])
+    for kind, *parts in steps:
+        bindings = CLAUSES[kind](bindings, names, *parts)
+    items = ENDS[end.kind](bindings, *end.parts)
+    if rest is None:
+        return items
+    name, body = rest
+    return continued(items, name, body, names)
 
 
-def search(text, name, part):
-    """.NET, String.StartsWith, EndsWith and Contains, by bytes; of a null argument, too, the fault is that of a null text."""
-    if text is None or part is None:
-        raise Fault("NullReference")
-    return SEARCHES[name](text.encode(), part.encode())
+def continued(items, name, body, names):
+    """`into`: the clauses behind it see the items by this name, and no range variable before."""
+    steps, end, rest = body.parts
+    bindings = ({**names, name: item} for item in items)
+    for kind, *parts in steps:
+        bindings = CLAUSES[kind](bindings, names, *parts)
+    items = ENDS[end.kind](bindings, *end.parts)
+    return items if rest is None else continued(items, *rest, names)
 
 
-def is_sum_of_null_texts(tree, operands, names):
-    """Of two nulls their types alone tell whether they are texts."""
-    return operands == [None, None] and type_of(tree, names.scope) == "string"
+def from_clause(bindings, _, name, source):
+    for names in bindings:
+        for item in source_of(source, names):
+            yield {**names, name: item}
 
 
-def value_of(tree, names):
-    """The value of an expression that has a type. ECMA-334, expressions: operands are evaluated from left to right, and of `&&`,
-    `||`, `??` and `?:` only those that are needed."""
-    if tree.kind in ("integer", "text"):
-        return tree.parts[0]
-    if tree.kind in LITERALS:
-        return LITERALS[tree.kind]
-    if tree.kind == "name":
-        return names.values[tree.parts[0]]
-    if tree.kind == "call":
-        method, (argument,) = tree.parts
-        text = value_of(method.parts[0], names)
-        return search(text, method.parts[1], value_of(argument, names))
-    first = value_of(tree.parts[0], names)
-    if tree.kind == ".":
-        return member(first, tree.parts[1], type_of(tree.parts[0], names.scope))
-    if tree.kind in ("&&", "||"):
-        return value_of(tree.parts[1], names) if first == (tree.kind == "&&") else first
-    if tree.kind == "??":
-        return value_of(tree.parts[1], names) if first is None else first
-    if tree.kind == "?":
-        return value_of(tree.parts[1 if first else 2], names)
-    operands = [first, *(value_of(operand, names) for operand in tree.parts[1:])]
-    if tree.kind == "+" and (str in map(type, operands) or is_sum_of_null_texts(tree, operands, names)):
-        return concatenated(*operands)
-    return operate(tree.kind, operands)
+def let_clause(bindings, _, name, part):
+    for names in bindings:
+        yield {**names, name: value_of(part, names)}
 
 
-def items_of(query, tables):
-    """ECMA-334, where and select clauses: one row after the other, and of each on which all conditions are true, the value. The
-    tables are those that the role sees."""
-    clauses, end, _ = query.parts
-    for row in source_of(clauses[0], tables).rows:
-        names = Names(scope_of(clauses[0], tables), {clauses[0].parts[0]: row})
-        if all(value_of(clause.parts[0], names) for clause in clauses[1:]):
-            yield value_of(end.parts[0], names)
+def where_clause(bindings, _, part):
+    return (names for names in bindings if value_of(part, names))
 
 
-def stream_of(items):
-    """A reply's members: the items up to the end or the first fault."""
-    served = []
+def join_clause(bindings, outside, name, source, outer_key, inner_key, group=None):
+    """The inner items and their keys, item by item, come before the first binding. A key that is null matches nothing."""
+    places = {}
+    for item in source_of(source, outside):
+        key = value_of(inner_key, {**outside, name: item})
+        if key is not None:
+            places.setdefault(same_key(key), []).append(item)
+    for names in bindings:
+        key = value_of(outer_key, names)
+        matches = places.get(same_key(key), []) if key is not None else []
+        if group is None:
+            yield from ({**names, name: item} for item in matches)
+        else:
+            yield {**names, group: matches}
+
+
+def rank(key):
+    """Null before all, false before true, ints by size, texts by their bytes."""
+    return (key is not None, key.encode() if isinstance(key, str) else key or 0)
+
+
+def orderby_clause(bindings, _, keys):
+    """All bindings, then the first key of all, then the next of all. Sorting by the last key first keeps ties in order."""
+    bindings = list(bindings)
+    columns = [[rank(value_of(key, names)) for names in bindings] for key, _ in keys]
+    places = list(range(len(bindings)))
+    for column, (_, is_descending) in reversed(list(zip(columns, keys))):
+        places.sort(key=column.__getitem__, reverse=is_descending)
+    yield from (bindings[place] for place in places)
+
+
+def selected(bindings, part):
+    return (value_of(part, names) for names in bindings)
+
+
+def grouped(bindings, part, key_part):
+    """For each binding its key, then its element; the groups by the first appearance of their keys."""
+    groups = {}
+    for names in bindings:
+        key = value_of(key_part, names)
+        element = value_of(part, names)
+        groups.setdefault(same_key(key), Grouping(key, [])).items.append(element)
+    yield from groups.values()
+
+
+CLAUSES = {
+    "from": from_clause, "let": let_clause, "where": where_clause, "join": join_clause, "orderby": orderby_clause,
+}
+ENDS = {"select": selected, "group": grouped}
+FORMS = {
+    **{kind: literal for kind in ("integer", "text", *LITERALS)}, "name": lambda node, names: names[node.parts[0]],
+    "table": lambda node, _: node.parts[0].rows, ".": member_of, "search": text_search, "call": call, "query": query,
+    "new": lambda node, names: {name: value_of(part, names) for name, part in node.parts},
+}
+
+
+def data_of(value, its_type):
+    """What is served of a value. The first fault inside counts, depth first and members as written."""
+    if value is None or isinstance(its_type, str):
+        return value
+    if isinstance(its_type, Sequence):
+        return [data_of(item, its_type.item) for item in value]
+    if isinstance(its_type, Group):
+        return {"Key": data_of(value.key, its_type.key), "items": [data_of(item, its_type.item) for item in value.items]}
+    return {name: data_of(value[name], member_type) for name, member_type in its_type.members}
+
+
+def served(node):
+    """The members of the reply to `run`: items one by one, up to the end or the first fault, or one value."""
+    value = value_of(node, {})
+    if not isinstance(node.type, Sequence):
+        return {"value": data_of(value, node.type)}
+    items = []
     try:
-        for item in items:
-            served.append(item)
+        for item in value:
+            items.append(data_of(item, node.type.item))
     except Fault as fault:
-        return {"fault": str(fault), "items": served}
-    return {"items": served}
+        return {"fault": str(fault), "items": items}
+    return {"items": items}
 
 
-def served(top, tables):
-    """The members of the reply to `run`: the items of a query, and the value or the fault of an expression."""
-    if top.kind == "query":
-        return stream_of(items_of(top, tables))
+def compact(reply):
+    """RFC 8259: JSON without white space; members by their names' bytes, which go by their characters' numbers."""
+    return json.dumps(reply, separators=(",", ":"), ensure_ascii=False, sort_keys=True) + "\n"
+
+
+def run(statement, tables):
+    node = typed_run(statement, tables)
     try:
-        return {"value": value_of(top, Names({}, {}))}
+        return served(node)
     except Fault as fault:
         return {"fault": str(fault)}
-
-
-def compact(value):
-    """RFC 8259: the JSON of a value without white space, in which only what has to be escaped is, and a line's end."""
-    return json.dumps(value, separators=(",", ":"), ensure_ascii=False) + "\n"
 
 
 def reply_of(line, tables):
@@ -166,9 +421,7 @@ def reply_of(line, tables):
         if not tokens:
             return ""
         check_depth(tokens)
-        statement = parse(tokens)
-        check(statement, tables)
-        return compact(served(statement.parts[0], tables))
+        return compact(run(parse(tokens), tables))
     except SyntaxFault:
         return compact({"error": "syntax"})
     except DepthFault:

@@ -1,7 +1,6 @@
 """The whole program by this reading: words and a script give standard output, standard error and a status.
 
 It can be used in the place of `lq`, slowly: `python3 -B tests/second_opinion/program.py --role R --policy P T.csv .. <SCRIPT`.
-With `--whole` as its first word it answers every query of the language, and else what is served today.
 """
 
 import os
@@ -12,7 +11,6 @@ from commands import HelpWanted, UsageFault, options_of
 from meaning import reply_of
 from policies import PolicyFault, as_seen, read_policies
 from tables import TableFault, read_table, without_marks
-from whole_meaning import whole_reply_of
 
 MOST_SCRIPT_BYTES = 1_048_576
 MOST_LINE_BYTES = 65_536
@@ -105,13 +103,12 @@ def lines_of(script):
         raise Fault("lq: script: utf8", 4) from None
 
 
-def replies_of(words, read_script, whole):
+def replies_of(words, read_script):
     """Tables, policies and the role come before the script, and the whole script before its first line is answered."""
-    reply = whole_reply_of if whole else reply_of
     options = options_of(words)
     tables, views = seen_tables(options)
     script = script_of(options, read_script)
-    return "".join(reply(line, tables) for line in lines_of(script)).encode(), views
+    return "".join(reply_of(line, tables) for line in lines_of(script)).encode(), views
 
 
 def ended_by(fault):
@@ -119,11 +116,10 @@ def ended_by(fault):
     return Answer(fault.status, b"", f"{fault.line}\n".encode())
 
 
-def answer(words, read_script, can_write=True, whole=False):
-    """The answer to words and a script; `can_write` is whether standard output takes bytes, and `whole` whether every query is
-    served."""
+def answer(words, read_script, can_write=True):
+    """The answer to words and a script; `can_write` is whether standard output takes bytes."""
     try:
-        output, views = replies_of(words, read_script, whole)
+        output, views = replies_of(words, read_script)
         if output and not can_write:
             raise WRITE_FAULT
         return Answer(0, output, b"", views)
@@ -137,9 +133,8 @@ def answer(words, read_script, can_write=True, whole=False):
 
 def main():
     """The answer to this process's words and standard input, on its own standard streams."""
-    whole = sys.argv[1:2] == ["--whole"]
-    words = [os.fsencode(word) for word in sys.argv[1 + whole:]]
-    given = answer(words, lambda: open(0, "rb").read(), whole=whole)
+    words = [os.fsencode(word) for word in sys.argv[1:]]
+    given = answer(words, lambda: open(0, "rb").read())
     try:
         with open(1, "wb", closefd=False) as output:
             output.write(b"help\n" if given.output is SOME_TEXT else given.output)

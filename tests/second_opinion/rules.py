@@ -3,8 +3,8 @@
 from depth import DepthFault, check_depth
 from grammar import parse_condition
 from lexer import SyntaxFault, tokens_of
-from meaning import Names, value_of
-from scopes import TypeFault, type_of
+from scalar_meaning import Names, value_of
+from scalar_types import TypeFault, type_of
 
 MOST_RULE_BYTES = 65_536
 LITERALS = ("integer", "text", "true", "false", "null")

@@ -97,8 +97,7 @@ ILL_TYPED = [
     "1 ?? 2", "1 ?? null", "null ?? 1", 'null ?? "a"', "null ?? null", "true ?? false",
     '"a" ?? 1', '"a" ?? true', '"a" ?? null ?? "b"', '"a" ?? "b" == "a"', '"a" ?? "b" ? 1 : 2', "x ?? x", "x ?? null", "x.c ?? 1",
     "true ? 1 : null", "false ? null : 1", "true ? null : null", "true ? true : null", "false ? null : false", "true ? x : 1",
-    "true ? x : x.c", "true ? t : null", "true ? null : t", "true ? x : x", "false ? x : null", "true ? null : x", "x",
-    "x ? 1 : 2",
+    "true ? x : x.c", "true ? t : null", "true ? null : t", "x ? 1 : 2",
     "(true ? x : null) + null", "(true ? x : null) == x", "(true ? x : null) == 1", "(true ? x : null).d",
     "(true ? null : null).c",
     "(true ? x : null) ?? x", "(x == null) == null", "x == null == null", "x < null", "!(x ?? null)", "null.Length",
@@ -136,6 +135,7 @@ OF_NULLS = {
     "(x.b ? x : null) != null": [True, False], "x == null": [False, False], "null != x": [True, True], "(x.b ? x : x).s": [None,
     "ab"],
     "(x.b ? x : null) == null ? 1 : (x.b ? x : null).n": [None, 1],
+    "x.b ? x : null": [{"n": None, "s": None, "b": True}, None],
 }
 # What faults on its first row.
 FAULTS_OF_NULLS = {
@@ -155,6 +155,6 @@ UNTYPED_OF_NULLS = [
     "x.n ?? x.s", "x.n ?? true", "x.s ?? 1", "x.b ?? true", "null ?? x.n", "1 ?? x.n", "x.n ?? 1 ?? 2",
     "x.n.Length", "x.s.Value", "x.s.HasValue", "x.b.Value", "x.b.HasValue", "(x.n ?? 1).Value", "x.n.Value.Value", "x.n.value",
     "x.s.Contains(x.n)", "x.n.Contains(x.s)", "x.s.Contains(null)", "x.b.Contains(x.b)",
-    "x.b ? x.b : null", "x.b ? null : x.n == 5", "x.b ? x : x.n", "x.b ? x : null", "(x.b ? x : null).none", "x ?? null",
+    "x.b ? x.b : null", "x.b ? null : x.n == 5", "x.b ? x : x.n", "(x.b ? x : null).none", "x ?? null",
     "x.b == null",
 ]

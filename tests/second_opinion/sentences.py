@@ -167,7 +167,7 @@ def cell(dice):
 
 
 def sentence(dice):
-    """A statement of any kind that the grammar spells; most are not served yet."""
+    """A statement of any kind that the grammar spells; most have no type."""
     fuel = dice.choice([1, 2, 3, 4])
     return dice.choice([
         lambda: ["run", *query(dice, fuel), ";"],
@@ -187,7 +187,7 @@ def bracketed(dice, words):
 
 
 def number(dice, variable, table):
-    """An operand of a comparison that is served."""
+    """An operand of a comparison over the columns of a row."""
     column = dice.choice(number_columns(table))
     near = [str(row[column]) for row in table.rows if row[column] >= 0] or ["1"]
     return bracketed(dice, dice.choice([
@@ -201,7 +201,7 @@ def comparison(dice, variable, table):
 
 
 def served(dice, tables):
-    """A statement that is served, over one of the tables."""
+    """A query with conditions over one of the tables, and a scalar selected."""
     its_name, table = dice.choice(list(tables.items()))
     variable = dice.choice([its_name, *NAMES])
     words = ["from", variable, "in", *bracketed(dice, [its_name])]
@@ -212,7 +212,7 @@ def served(dice, tables):
 
 
 def untyped(dice, tables):
-    """A query of the forms that are served, whose parts are of any type."""
+    """A query with conditions, whose parts are of any type."""
     its_name, table = dice.choice(list(tables.items()))
     variable = dice.choice([its_name, *NAMES])
 

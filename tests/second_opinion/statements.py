@@ -1,4 +1,6 @@
-"""Lines of a script by chance: statements that are served, nearly right ones, and lines of nothing. `dice` is a random.Random."""
+"""Lines of a script by chance: queries over one table with conditions, nearly right ones, and lines of nothing. `dice` is a
+random.Random.
+"""
 
 import scalars
 from lexer import continues_name, is_name
@@ -105,7 +107,7 @@ def comparison(dice, variable, table):
 
 
 def statement(dice, tables):
-    """The spelled tokens of a statement that is served, over one of the tables."""
+    """The spelled tokens of a query with conditions over one of the tables."""
     name, table = dice.choice(list(tables.items()))
     variable = dice.choice(VARIABLES + [name])
     scope = scalars.Scope(variable, table)

@@ -59,3 +59,4 @@ pub mod ServedMeanings
 pub mod WithinLimits
 pub mod SequenceLemmas
 pub mod EnumerableLemmas
+pub mod MachineMeanings

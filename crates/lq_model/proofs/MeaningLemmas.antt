@@ -21,11 +21,11 @@ use Rattle.lq_value.specs.declared.value.Value.TheOpen.{Value-F}
 use Rattle.lq_value.specs.declared.value.Value.TheVariants as value
 use Rattle.lq_value.specs.declared.value.Value.TheVariants.{outs-Row as outs-value-Row, outs-Scalar, outs-Seq as outs-value-Seq}
 use Rattle.lq_model.specs.ClauseTyping.{element_type, expression_type, source_type}
-use Rattle.lq_model.specs.Machine.{State, cells_of, run_reply, schemas_of, seen_by_role, served, served_value, value_reply, world_by}
+use Rattle.lq_model.specs.Machine.{State, schemas_of, seen_by_role, world_by}
 use Rattle.lq_model.specs.Meaning.{Scope, World, binding_of, body_type_at, bound, bound_stream, cell_value, clause_meaning, clauses_meaning, comparand, compared_meaning, condition_at, continued, is_null, item_type_at, items_of, last_meaning, meaning, member_value, name_value, names_at, null_member, operated_meaning, same_values, told, as_value, on_scalar, or_null, query_meaning, scalar_of, source_scopes, stream_meaning, stream_of, table_value, truth_value}
 use Rattle.lq_model.specs.Operations.{negated, of_member, of_one, on_ok, truth_of}
 use Rattle.lq_model.specs.Members.{IsSearch, member_named}
-use Rattle.lq_model.specs.MeaningLaws.{Every, HasCells, HasMeaning, HasStream, HaveTypes, HoldsRows, SelectsScalars, ServesValues, IsOf, is_scalar as is_scalar_value, is_row, is_sequence, IsOfScope, IsScalarOf, IsTypedTable, ServesMeanings, assuming}
+use Rattle.lq_model.specs.MeaningLaws.{Every, HasCells, HasMeaning, HasStream, HaveTypes, HoldsRows, SelectsScalars, IsOf, is_scalar as is_scalar_value, is_row, is_sequence, IsOfScope, IsScalarOf, IsTypedTable, assuming}
 use Rattle.lq_model.specs.Served.{columns_in, stream_data, value_data}
 use Rattle.lq_model.specs.Stream.{Stream, kept, one}
 use Rattle.lq_model.specs.Typing.{Names, Claim, TypeOf, Leads, LeadAll, Selects, GivesItems, IsTyped, of_integer, of_local, of_table, of_column, of_text, of_null, of_has_value, of_value, of_length, of_search, of_ordering, of_equality, of_arithmetic, of_joined, of_coalesced, of_minus, of_choice, of_truth, of_not, of_both, of_either, by_where, by_none, by_first, by_select, by_query, HasType, column_named, column_type, are_comparable, are_joined, chosen, coalesced, if_scalar, is_comparison, is_equality, is_ordering, number_type, is_number, is_scalar, item_of, item_type, local_type, row_table, table_number, type_of, type_of_column, with_local}
@@ -710,7 +710,7 @@ module _ (s : State) (typed : Every IsTypedTable s.tables) (unknown : Fault) whe
         let cell = cell_there table.schema.columns row.cells fit c column is in
         (cell.0, ap cell_in at ∙ cell.1, subst (λ (u : Ty). IsScalarOf (out-Ty u) cell.0) (same_Some (type_of_column column.ty) t h) cell.2)
 
-  holds_seen : HoldsRows seen_world
+  pub holds_seen : HoldsRows seen_world
   unfolding tables_as_seen
   holds_seen n schema is =
       let found = table_with s.tables n schema is in
@@ -722,37 +722,3 @@ module _ (s : State) (typed : Every IsTypedTable s.tables) (unknown : Fault) whe
             (filter (λ row. visible_to s.policies s.role action.Select n row.cells) found.0.rows)
             (every_filter (λ row. HaveTypes found.0.schema.columns row.cells) (λ row. visible_to s.policies s.role action.Select n row.cells) found.0.rows (typed n found.0 found.1)),
       )
-
-pub serves_meanings : ServesMeanings
-unfolding run_reply
-serves_meanings s typed q unknown = by (item_type type_of q names) refl where
-  names : Names
-  names = record { tables = schemas_of s.tables; locals = [] }
-
-  world : World TableRow
-  world = world_by fault.NullReference (schemas_of s.tables) (seen_by_role s)
-
-  by : (o : Option Ty) → item_type type_of q names ≡ o → served world q o ≡ served (world_by unknown (schemas_of s.tables) (seen_by_role s)) q o
-  by None is = refl
-  by (Some t) is =
-      ap (stream_data world.schemas cells_of t) (has_stream world (holds_seen s typed fault.NullReference) [] (every_none (λ b. IsOf world b.ty b.value)) q t (item_type_sound names q t is) fault.NullReference unknown).0
-
--- what has the type of a scalar has a type
-typed_scalar : (o : Option Ty) (t : Ty) → if_scalar o ≡ Some t → (u : Ty) × (o ≡ Some u)
-typed_scalar None t h = absurd (none-some t h)
-typed_scalar (Some u) t h = (u, refl)
-
-pub serves_values : ServesValues
-unfolding value_reply
-serves_values s typed e unknown = by (if_scalar (type_of e names)) refl where
-  names : Names
-  names = record { tables = schemas_of s.tables; locals = [] }
-
-  world : World TableRow
-  world = world_by fault.NullReference (schemas_of s.tables) (seen_by_role s)
-
-  by : (o : Option Ty) → if_scalar (type_of e names) ≡ o → served_value world e o ≡ served_value (world_by unknown (schemas_of s.tables) (seen_by_role s)) e o
-  by None is = refl
-  by (Some t) is =
-      let found = typed_scalar (type_of e names) t is in
-      ap (value_data world.schemas cells_of t) (has_meaning world (holds_seen s typed fault.NullReference) [] (every_none (λ b. IsOf world b.ty b.value)) e found.0 (type_sound e names found.0 found.1) fault.NullReference unknown).0

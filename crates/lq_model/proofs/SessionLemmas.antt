@@ -4,31 +4,26 @@ use Rattle.serde_json.specs.Data.{Data}
 use Rattle.serde_json.proofs.OnLiterals.{serde_json_on_literals}
 use Rattle.lq_value.specs.declared.table.Schema.{Schema}
 use Rattle.lq_model.specs.HostCalls.{HostCall}
-use Rattle.lq_model.specs.Machine.{State, Reply, memory_line, perform, run_reply, schemas_of, seen_by_role, served_top, step, step_by, value_reply}
+use Rattle.lq_model.specs.Machine.{State, Reply, memory_line, perform, run_in, run_reply, schemas_of, seen_by_role, step, step_by}
 use Rattle.lq_model.specs.Output.{Answers, as_machine, no_memory, stepped}
 use Rattle.lq_model.specs.Reading.{Reading, Nothing, Says, IsNoSyntax, IsTooDeep, reading_of}
 use Rattle.lq_model.specs.Served.{line_of}
 use Rattle.lq_model.specs.SessionLaws.{AnswersAlike, AsksNoHost, IsOutput, IsSilentAlike, LeavesTheRest, LooksSame, MemoryLineIsServed, ScriptsAlike, end, answered, refused}
 use Rattle.lq_model.specs.Visible.{TableRow}
-use Rattle.lq_model.specs.declared.syntax.Expr.{Expr, out-Expr}
-use Rattle.lq_model.specs.declared.syntax.Expr.TheOpen.{Expr-F}
-use Rattle.lq_model.specs.declared.syntax.Expr.TheVariants as expr
+use Rattle.lq_model.specs.declared.syntax.Expr.{Expr}
 use Rattle.lq_model.specs.declared.syntax.Statement.{Statement}
 use Rattle.lq_model.specs.declared.syntax.Statement.TheVariants as statement
 
 -- ---- replies
 
 -- what is served reads the schemas and the tables as seen, and nothing else of the state
-served_alike : (a b : State) → LooksSame a b → (x : Expr-F Expr) → served_top a x ≡ served_top b x
-served_alike a b same (Expr-F.Query q) =
-    ap (λ (schemas : List Schema). run_reply schemas (seen_by_role a) q) same.schemas
-    ∙ ap (λ (rows : List (List TableRow)). run_reply (schemas_of b.tables) rows q) same.seen
-served_alike a b same (Expr-F.Node n) =
-    ap (λ (schemas : List Schema). value_reply schemas (seen_by_role a) (expr.Node n)) same.schemas
-    ∙ ap (λ (rows : List (List TableRow)). value_reply (schemas_of b.tables) rows (expr.Node n)) same.seen
+served_alike : (a b : State) → LooksSame a b → (e : Expr) → run_in a e ≡ run_in b e
+served_alike a b same e =
+    ap (λ (schemas : List Schema). run_reply schemas (seen_by_role a) e) same.schemas
+    ∙ ap (λ (rows : List (List TableRow)). run_reply (schemas_of b.tables) rows e) same.seen
 
 performed_alike : (a b : State) → LooksSame a b → (s : Statement) → ((perform a s).0 ≡ (perform b s).0) × LooksSame (perform a s).1 (perform b s).1
-performed_alike a b same (statement.Run x) = (served_alike a b same (out-Expr x), same)
+performed_alike a b same (statement.Run x) = (served_alike a b same x, same)
 performed_alike a b same statement = (refl, same)
 
 reading_alike : (a b : State) → LooksSame a b → (r : Reading Statement) → ((step_by a r).0 ≡ (step_by b r).0) × LooksSame (step_by a r).1 (step_by b r).1

@@ -1,22 +1,24 @@
 -- «Session machine»: a step of the session, a function of its state and a line to the reply and the new state.
-use Rattle.std.specs.Prelude.{◌∷◌, ◌++◌, List, [], map, ℕ, Option, Some, None, codes, slice_get}
+use Rattle.std.specs.Prelude.{◌∷◌, ◌++◌, List, [], map, ℕ, Option, Some, None, Result, codes, slice_get}
 use Rattle.serde_json.specs.Data.{Data}
 use Rattle.lq_value.specs.Tables.{Table}
 use Rattle.lq_value.specs.declared.scalar.Scalar.{Scalar}
 use Rattle.lq_value.specs.declared.table.Schema.{Schema}
-use Rattle.lq_value.specs.declared.ty.Ty.{Ty}
+use Rattle.lq_value.specs.declared.ty.Ty.{Ty, out-Ty}
+use Rattle.lq_value.specs.declared.ty.Ty.TheOpen.{Ty-F}
 use Rattle.lq_value.specs.declared.value.Fault.{Fault}
 use Rattle.lq_value.specs.declared.value.Fault.TheVariants as fault
-use Rattle.lq_model.specs.Meaning.{World, meaning, stream_meaning}
+use Rattle.lq_value.specs.declared.value.Value.{Value}
+use Rattle.lq_model.specs.ClauseTyping.{expression_type}
+use Rattle.lq_model.specs.Meaning.{World, stream_of}
 use Rattle.lq_model.specs.Reading.{Reading, Nothing, Says, IsNoSyntax, IsTooDeep, reading_of}
 use Rattle.lq_model.specs.Served.{columns_in, error_data, line_of, stream_data, value_data}
-use Rattle.lq_model.specs.Typing.{if_scalar, item_type, type_of}
+use Rattle.lq_model.specs.Types.{if_placed}
+use Rattle.lq_model.specs.Typing.{Names}
 use Rattle.lq_model.specs.Visible.{TableRow, cell_named, tables_as_seen}
 use Rattle.lq_model.specs.declared.policy.PolicyParts.{PolicyParts}
-use Rattle.lq_model.specs.declared.syntax.Expr.{Expr, out-Expr}
-use Rattle.lq_model.specs.declared.syntax.Expr.TheOpen.{Expr-F}
-use Rattle.lq_model.specs.declared.syntax.Expr.TheVariants as expr
-use Rattle.lq_model.specs.declared.syntax.Query.{Query}
+use Rattle.lq_model.specs.WholeMeaning.{expression_meaning}
+use Rattle.lq_model.specs.declared.syntax.Expr.{Expr}
 use Rattle.lq_model.specs.declared.syntax.Statement.{Statement}
 use Rattle.lq_model.specs.declared.syntax.Statement.TheVariants as statement
 
@@ -54,39 +56,35 @@ world_by unknown schemas rows =
 abbrev pub world_of : List Schema → List (List TableRow) → World TableRow
 world_of = world_by fault.NullReference
 
--- a query without a type is refused, any other serves its stream
-abbrev pub served : World TableRow → Query Expr → Option Ty → Data
-served world q None = error_data (codes "type")
-served world q (Some t) = stream_data world.schemas cells_of t (stream_meaning world q [])
+-- where a statement stands, no local name is known
+abbrev pub top_names : List Schema → Names
+top_names schemas = record { tables = schemas; locals = [] }
+
+-- a sequence is served item by item, and any other value as one
+abbrev pub served_as : World TableRow → Ty → Ty-F Ty → Result (Value TableRow) Fault → Data
+served_as world t (Ty-F.Seq item) found = stream_data world.schemas cells_of item (stream_of world found)
+served_as world t layer found = value_data world.schemas cells_of t found
+
+-- an expression without a type is refused
+abbrev pub served : World TableRow → Option Ty → Result (Value TableRow) Fault → Data
+served world None found = error_data (codes "type")
+served world (Some t) found = served_as world t (out-Ty t) found
+
+-- the type that an expression is served by: any but that of null, which has no place there
+abbrev pub served_type : List Schema → Expr → Option Ty
+served_type schemas e = if_placed (expression_type e (top_names schemas))
 
 -- the reply of `run` over these schemas and rows
-unfoldable pub run_reply : List Schema → List (List TableRow) → Query Expr → Data
-run_reply schemas rows q = served (world_of schemas rows) q (item_type type_of q (record { tables = schemas; locals = [] }))
+unfoldable pub run_reply : List Schema → List (List TableRow) → Expr → Data
+run_reply schemas rows e = served (world_of schemas rows) (served_type schemas e) (expression_meaning (world_of schemas rows) e [])
 
 -- the reply of `run` in a state
-abbrev pub run_in : State → Query Expr → Data
-run_in s q = run_reply (schemas_of s.tables) (seen_by_role s) q
-
--- an expression without the type of a scalar is refused, any other serves its value
-abbrev pub served_value : World TableRow → Expr → Option Ty → Data
-served_value world e None = error_data (codes "type")
-served_value world e (Some t) = value_data world.schemas cells_of t (meaning world e [])
-
--- the reply of `run` of an expression over these schemas and rows
-unfoldable pub value_reply : List Schema → List (List TableRow) → Expr → Data
-value_reply schemas rows e = served_value (world_of schemas rows) e (if_scalar (type_of e (record { tables = schemas; locals = [] })))
-
-abbrev pub value_in : State → Expr → Data
-value_in s e = value_reply (schemas_of s.tables) (seen_by_role s) e
-
--- a query is served item by item, and any other expression by its value
-abbrev pub served_top : State → Expr-F Expr → Data
-served_top s (Expr-F.Query q) = run_in s q
-served_top s (Expr-F.Node n) = value_in s (expr.Node n)
+abbrev pub run_in : State → Expr → Data
+run_in s e = run_reply (schemas_of s.tables) (seen_by_role s) e
 
 -- what a statement is answered, and the state behind it; `run` alone is served yet, and nothing changes the state
 abbrev pub perform : State → Statement → Data × State
-perform old (statement.Run x) = (served_top old (out-Expr x), old)
+perform old (statement.Run x) = (run_in old x, old)
 perform old statement = (error_data (codes "type"), old)
 
 abbrev pub replied : Data × State → Reply × State

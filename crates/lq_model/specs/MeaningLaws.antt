@@ -11,10 +11,11 @@ use Rattle.lq_value.specs.declared.value.End.{End}
 use Rattle.lq_value.specs.declared.value.Fault.{Fault}
 use Rattle.lq_value.specs.declared.value.Value.{Value}
 use Rattle.lq_value.specs.declared.value.Value.TheVariants as value
-use Rattle.lq_model.specs.Machine.{State, run_in, schemas_of, seen_by_role, served, served_value, value_in, world_by}
+use Rattle.lq_model.specs.Machine.{State, run_in, schemas_of, seen_by_role, served, served_type, world_by}
 use Rattle.lq_model.specs.Meaning.{Scope, World, meaning, names_at, stream_meaning}
-use Rattle.lq_model.specs.Typing.{HasItemType, HasType, column_type, if_scalar, item_of, item_type, row_table, type_of, type_of_column}
+use Rattle.lq_model.specs.Typing.{HasItemType, HasType, column_type, item_of, row_table, type_of_column}
 use Rattle.lq_model.specs.Visible.{TableRow}
+use Rattle.lq_model.specs.WholeMeaning.{expression_meaning}
 use Rattle.lq_model.specs.declared.syntax.Expr.{Expr}
 use Rattle.lq_model.specs.declared.syntax.Query.{Query}
 
@@ -96,11 +97,6 @@ IsTypedTable table = Every (λ row. HaveTypes table.schema.columns row.cells) ta
 -- over tables whose cells are of their columns' types, what a `run` serves is the same whatever stands where there is no meaning
 abbrev pub ServesMeanings : Type 0
 ServesMeanings =
-    (s : State) → Every IsTypedTable s.tables → (q : Query Expr) (unknown : Fault)
-    → run_in s q ≡ served (world_by unknown (schemas_of s.tables) (seen_by_role s)) q (item_type type_of q (record { tables = schemas_of s.tables; locals = [] }))
-
--- and so is what an expression that isn't a query serves
-abbrev pub ServesValues : Type 0
-ServesValues =
     (s : State) → Every IsTypedTable s.tables → (e : Expr) (unknown : Fault)
-    → value_in s e ≡ served_value (world_by unknown (schemas_of s.tables) (seen_by_role s)) e (if_scalar (type_of e (record { tables = schemas_of s.tables; locals = [] })))
+    → let world = world_by unknown (schemas_of s.tables) (seen_by_role s) in
+    run_in s e ≡ served world (served_type (schemas_of s.tables) e) (expression_meaning world e [])

@@ -1,7 +1,7 @@
 //! Laws of meaning. Each function's contract is the law that it is named for; the functions
 //! themselves do nothing.
 ghost use Rattle.lq_model.specs.ArrangementLaws.{ArrangesByKeys, KeepsTies};
-ghost use Rattle.lq_model.specs.MeaningLaws.{HasMeaning, HasStream, SelectsScalars, ServesMeanings, ServesValues};
+ghost use Rattle.lq_model.specs.MeaningLaws.{HasMeaning, HasStream, SelectsScalars, ServesMeanings};
 ghost use Rattle.lq_model.specs.WholeMeaningLaws.{HasWholeMeaning, HasWholeStream, KeepsMeanings, KeepsStreams, NeverFaults};
 
 /// Where local names have values of their types and tables have their rows, a typed expression has
@@ -14,10 +14,9 @@ pub fn typed_meanings()
 {}
 
 /// Over tables whose cells are of their columns' types, no reply to `run` depends on what stands
-/// where an expression has no meaning, neither that of a query nor that of another expression.
+/// where an expression has no meaning.
 pub fn served_meanings()
-    ensures queries { ServesMeanings }
-    ensures values { ServesValues }
+    ensures { ServesMeanings }
 {}
 
 /// `orderby` leaves the items sorted by their keys: none stands behind one that its keys put after

@@ -7,7 +7,7 @@ use Rattle.lq_value.specs.declared.value.Fault.{Fault}
 use Rattle.lq_value.specs.declared.value.Value.{Value, out-Value}
 use Rattle.lq_value.specs.declared.value.Value.TheVariants as value
 use Rattle.lq_model.specs.Arrangement.{order_by}
-use Rattle.lq_model.specs.Meaning.{World, as_group, as_value, is_null, on_scalar, on_truth, sequence, stream_of, table_value, truth_value}
+use Rattle.lq_model.specs.Meaning.{World, as_group, as_value, is_null, on_scalar, on_truth, sequence, scalar_of, stream_of, table_value, truth_value}
 use Rattle.lq_model.specs.Operations.{of_one, of_two, on_ok}
 use Rattle.lq_model.specs.Operators.{first, pair, second}
 use Rattle.lq_model.specs.Stream.{Stream, expand_by, group_by}
@@ -73,6 +73,19 @@ module _ {R : Type 0} (world : World R) where
       → form_meaning world (form.Binary o a b) slots
       ≡ on_scalar world (form_meaning world a slots) (λ s. on_scalar world (form_meaning world b slots) (λ t. as_value (of_two world.unknown o s t)))
   form_binary o a b slots = at _ _ slots (form.outs-Binary o a b)
+
+  of_scalar : (s : Scalar) (next : Scalar → Result (Value R) Fault) → on_scalar world (Ok (value.Scalar s)) next ≡ next s
+  of_scalar s next = ap (λ layer. on_ok (scalar_of world layer) next) (value.outs-Scalar s)
+
+  pub binary_of : (o : Op) (a b : Form) (slots : Slots R) (x y : Scalar)
+      → form_meaning world a slots ≡ Ok (value.Scalar x) → form_meaning world b slots ≡ Ok (value.Scalar y)
+      → form_meaning world (form.Binary o a b) slots ≡ as_value (of_two world.unknown o x y)
+  binary_of o a b slots x y left right =
+      form_binary o a b slots
+      ∙ ap (λ m. on_scalar world m (λ s. on_scalar world (form_meaning world b slots) (λ t. as_value (of_two world.unknown o s t)))) left
+      ∙ of_scalar x (λ s. on_scalar world (form_meaning world b slots) (λ t. as_value (of_two world.unknown o s t)))
+      ∙ ap (λ m. on_scalar world m (λ t. as_value (of_two world.unknown o x t))) right
+      ∙ of_scalar y (λ t. as_value (of_two world.unknown o x t))
 
   pub form_both : (a b : Form) (slots : Slots R)
       → form_meaning world (form.And a b) slots

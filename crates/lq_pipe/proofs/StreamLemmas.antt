@@ -4,13 +4,10 @@ use Rattle.std.proofs.lemmas.List.{drop_all}
 use Rattle.lq_value.specs.declared.value.End.{End}
 use Rattle.lq_value.specs.declared.value.End.TheVariants as end
 use Rattle.lq_value.specs.declared.value.Fault.{Fault}
-use Rattle.lq_value.specs.declared.value.Value.{Value}
 use Rattle.lq_model.specs.Enumerable.{all}
-use Rattle.lq_model.specs.Meaning.{World}
 use Rattle.lq_model.specs.Operations.{on_ok}
 use Rattle.lq_model.specs.Stream.{Stream, each, kept, one, select_by, then_ending, then_stream, where_by}
-use Rattle.lq_pipe.specs.Kept.{chosen, kept_by, truth_value_of, truths_of}
-use Rattle.lq_pipe.specs.Running.{truth_in}
+use Rattle.lq_pipe.specs.Kept.{chosen}
 
 -- one stream behind another, behind a third
 pub then_assoc : {A : Type 0} (xs : List A) (d : End) (ys : List A) (e : End) (c : Stream A) → then_ending xs d (then_ending ys e c) ≡ then_stream (then_ending xs d (ys, e)) c
@@ -94,63 +91,42 @@ module _ {A : Type 0} where
       one_longer [] = refl
       one_longer (z ∷ zs) = ap suc (one_longer zs)
 
-module _ {A R : Type 0} (world : World R) (f : A → Result (Value R) Fault) where
-  kept_step : (x : A) (xs : List A) (rest : Stream A) (found : Result (Value R) Fault) (more : Stream (Value R)) → rest ≡ kept_by world xs more
-      → then_stream (kept (truth_in world found) x) rest ≡ kept_by world (x ∷ xs) (then_stream (one found) more)
+module _ {A : Type 0} (holds : A → Result Bool Fault) where
+  kept_step : (x : A) (xs : List A) (rest : Stream A) (found : Result Bool Fault) (more : Stream Bool) → rest ≡ (chosen xs more.0, more.1)
+      → then_stream (kept found x) rest ≡ (chosen (x ∷ xs) (then_stream (one found) more).0, (then_stream (one found) more).1)
+  kept_step x xs rest (Ok true) more h = ap (λ (s : Stream A). (x ∷ s.0, s.1)) h
+  kept_step x xs rest (Ok false) more h = h
   kept_step x xs rest (Err g) more h = refl
-  kept_step x xs rest (Ok v) more h = by (truth_value_of world v) where
-    by : (b : Result Bool Fault)
-        → then_stream (kept b x) rest
-        ≡ (chosen (x ∷ xs) (then_stream (one b) (truths_of world more.0 more.1)).0, (then_stream (one b) (truths_of world more.0 more.1)).1)
-    by (Ok true) = ap (λ (s : Stream A). (x ∷ s.0, s.1)) h
-    by (Ok false) = h
-    by (Err g) = refl
 
-  -- a condition's values are met first, and then the items are kept by them
-  pub where_is_kept : (xs : List A) (e : End) → where_by (λ x. truth_in world (f x)) xs e ≡ kept_by world xs (select_by f xs e)
-  where_is_kept [] e = refl
-  where_is_kept (x ∷ xs) e = kept_step x xs (where_by (λ y. truth_in world (f y)) xs e) (f x) (select_by f xs e) (where_is_kept xs e)
+  -- the condition is read on all items first, and then these are kept by what it told
+  pub where_is_chosen : (xs : List A) (e : End) → where_by holds xs e ≡ (chosen xs (select_by holds xs e).0, (select_by holds xs e).1)
+  where_is_chosen [] e = refl
+  where_is_chosen (x ∷ xs) e = kept_step x xs (where_by holds xs e) (holds x) (select_by holds xs e) (where_is_chosen xs e)
 
-  all_step : (rest : Result Bool Fault) (found : Result (Value R) Fault) (more : Stream (Value R)) → rest ≡ all (λ b. Ok b) (truths_of world more.0 more.1).0 (truths_of world more.0 more.1).1
-      → on_ok (truth_in world found) (λ holds. if holds then rest else Ok false)
-      ≡ all (λ b. Ok b) (truths_of world (then_stream (one found) more).0 (then_stream (one found) more).1).0
-      (truths_of world (then_stream (one found) more).0 (then_stream (one found) more).1).1
+  all_step : (rest : Result Bool Fault) (found : Result Bool Fault) (more : Stream Bool) → rest ≡ all (λ b. Ok b) more.0 more.1
+      → on_ok found (λ h. if h then rest else Ok false) ≡ all (λ b. Ok b) (then_stream (one found) more).0 (then_stream (one found) more).1
+  all_step rest (Ok true) more h = h
+  all_step rest (Ok false) more h = refl
   all_step rest (Err g) more h = refl
-  all_step rest (Ok v) more h = by (truth_value_of world v) where
-    by : (b : Result Bool Fault)
-        → on_ok b (λ holds. if holds then rest else Ok false)
-        ≡ all (λ c. Ok c) (then_stream (one b) (truths_of world more.0 more.1)).0 (then_stream (one b) (truths_of world more.0 more.1)).1
-    by (Ok true) = h
-    by (Ok false) = refl
-    by (Err g) = refl
 
-  pub all_is_of_truths : (xs : List A) (e : End)
-      → all (λ x. truth_in world (f x)) xs e
-      ≡ all (λ b. Ok b) (truths_of world (select_by f xs e).0 (select_by f xs e).1).0 (truths_of world (select_by f xs e).0 (select_by f xs e).1).1
+  pub all_is_of_truths : (xs : List A) (e : End) → all holds xs e ≡ all (λ b. Ok b) (select_by holds xs e).0 (select_by holds xs e).1
   all_is_of_truths [] e = refl
-  all_is_of_truths (x ∷ xs) e = all_step (all (λ y. truth_in world (f y)) xs e) (f x) (select_by f xs e) (all_is_of_truths xs e)
+  all_is_of_truths (x ∷ xs) e = all_step (all holds xs e) (holds x) (select_by holds xs e) (all_is_of_truths xs e)
 
-module _ {R : Type 0} (world : World R) (f : Value R → Result (Value R) Fault) where
-  pub filtered_is : (S : Stream (Value R)) (xs xs' vs vs' : List (Value R)) (e e1 e2 : End) (bs bs' : List Bool) (left : List (Value R)) → (xs, e) ≡ S → xs' ≡ xs
-      → (vs, e1) ≡ select_by f xs' e → vs' ≡ vs → (bs, e2) ≡ truths_of world vs' e1 → bs' ≡ bs → left ≡ chosen xs bs'
-      → (left, e2) ≡ where_by (λ x. truth_in world (f x)) S.0 S.1
-  filtered_is S xs xs' vs vs' e e1 e2 bs bs' left is xs_is found vs_is truths bs_is left_is =
+  pub filtered_is : (S : Stream A) (xs xs' : List A) (e e2 : End) (bs bs' : List Bool) (left : List A) → (xs, e) ≡ S → xs' ≡ xs
+      → (bs, e2) ≡ select_by holds xs' e → bs' ≡ bs → left ≡ chosen xs bs' → (left, e2) ≡ where_by holds S.0 S.1
+  filtered_is S xs xs' e e2 bs bs' left is xs_is told bs_is left_is =
       ap (λ l. (l, e2)) (left_is ∙ ap (chosen xs) bs_is)
-      ∙ ap (λ (q : Stream Bool). (chosen xs q.0, q.1)) truths
-      ∙ ap (λ w. kept_by world xs (w, e1)) vs_is
-      ∙ ap (kept_by world xs) found
-      ∙ ap (λ w. kept_by world xs (select_by f w e)) xs_is
-      ∙ sym (where_is_kept world f xs e)
-      ∙ ap (λ (s : Stream (Value R)). where_by (λ x. truth_in world (f x)) s.0 s.1) is
+      ∙ ap (λ (q : Stream Bool). (chosen xs q.0, q.1)) told
+      ∙ ap (λ w. (chosen xs (select_by holds w e).0, (select_by holds w e).1)) xs_is
+      ∙ sym (where_is_chosen xs e)
+      ∙ ap (λ (s : Stream A). where_by holds s.0 s.1) is
 
-  pub all_is : (S : Stream (Value R)) (xs xs' vs vs' : List (Value R)) (e e1 e2 : End) (bs bs' : List Bool) → (xs, e) ≡ S → xs' ≡ xs
-      → (vs, e1) ≡ select_by f xs' e → vs' ≡ vs → (bs, e2) ≡ truths_of world vs' e1 → bs' ≡ bs
-      → all (λ b. Ok b) bs' e2 ≡ all (λ x. truth_in world (f x)) S.0 S.1
-  all_is S xs xs' vs vs' e e1 e2 bs bs' is xs_is found vs_is truths bs_is =
+  pub all_is : (S : Stream A) (xs xs' : List A) (e e2 : End) (bs bs' : List Bool) → (xs, e) ≡ S → xs' ≡ xs
+      → (bs, e2) ≡ select_by holds xs' e → bs' ≡ bs → all (λ b. Ok b) bs' e2 ≡ all holds S.0 S.1
+  all_is S xs xs' e e2 bs bs' is xs_is told bs_is =
       ap (λ l. all (λ b. Ok b) l e2) bs_is
-      ∙ ap (λ (q : Stream Bool). all (λ b. Ok b) q.0 q.1) truths
-      ∙ ap (λ w. all (λ b. Ok b) (truths_of world w e1).0 (truths_of world w e1).1) vs_is
-      ∙ ap (λ (s : Stream (Value R)). all (λ b. Ok b) (truths_of world s.0 s.1).0 (truths_of world s.0 s.1).1) found
-      ∙ ap (λ w. all (λ b. Ok b) (truths_of world (select_by f w e).0 (select_by f w e).1).0 (truths_of world (select_by f w e).0 (select_by f w e).1).1) xs_is
-      ∙ sym (all_is_of_truths world f xs e)
-      ∙ ap (λ (s : Stream (Value R)). all (λ x. truth_in world (f x)) s.0 s.1) is
+      ∙ ap (λ (q : Stream Bool). all (λ b. Ok b) q.0 q.1) told
+      ∙ ap (λ w. all (λ b. Ok b) (select_by holds w e).0 (select_by holds w e).1) xs_is
+      ∙ sym (all_is_of_truths xs e)
+      ∙ ap (λ (s : Stream A). all holds s.0 s.1) is

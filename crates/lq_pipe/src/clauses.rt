@@ -27,6 +27,7 @@ impl<'a, R: TableRow> Running<'a, R> {
 
     /// What comes of each item and of each item of what it leads to.
     #[cycle(running)]
+    #[inline(never)]
     pub(crate) fn select_many(
         &self,
         source: &Form,
@@ -83,6 +84,7 @@ impl<'a, R: TableRow> Running<'a, R> {
 
     /// The items grouped by a key.
     #[cycle(running)]
+    #[inline(never)]
     pub(crate) fn group_by(
         &self,
         source: &Form,
@@ -141,6 +143,7 @@ impl<'a, R: TableRow> Running<'a, R> {
 
     /// A join: the inner items and their keys are read first, and then the outer ones one by one.
     #[cycle(running)]
+    #[inline(never)]
     pub(crate) fn join(
         &self,
         joined: &Joined<Form>,
@@ -265,6 +268,7 @@ impl<'a, R: TableRow> Running<'a, R> {
 
     /// The items sorted by keys, which are met only where the items come to their end.
     #[cycle(running)]
+    #[inline(never)]
     pub(crate) fn order_by(
         &self,
         keys: &List<SortKey<Form>>,

@@ -1,47 +1,13 @@
 //! Items that are kept by what their condition gave.
 ghost use Rattle.std.specs.Prelude.{◌≡◌, ◌∷◌, ◌++◌, [], if◌then◌else◌, false, IfOk, Ok, OnOk, drop, get_or};
-ghost use Rattle.lq_value.specs.declared.value.Fault.TheVariants as fault;
 ghost use Rattle.lq_model.specs.Enumerable.{all};
-ghost use Rattle.lq_model.specs.Meaning.{World};
 ghost use Rattle.lq_model.specs.WholeMeaning.{as_truth};
 ghost use Rattle.lq_operators.specs.Answers.{IsAnswer};
-ghost use Rattle.lq_pipe.specs.Kept.{chosen, kept_by, truth_value_of, truths_of};
+ghost use Rattle.lq_pipe.specs.Kept.{chosen};
 
 use lq_operators::RunError;
 use lq_value::{End, Fault, List, RowRef, Scalar, Value};
 use std::alloc::{AllocError, Global};
-
-/// The truth value that a value is. No typed tree has another one in place of it.
-#[tactic(auto, using(crate::proofs::PartLemmas::layers))]
-fn truth<R: RowRef>(value: &Value<R>) -> Result<bool, Fault>
-    ensures { (world : World R) → world.unknown ≡ fault.NullReference → result ≡ truth_value_of world value.now }
-{
-    match value {
-        Value::Scalar(Scalar::Bool(truth)) => Ok(*truth),
-        Value::Scalar(Scalar::Null | Scalar::Int(_) | Scalar::Text(_)) => Err(Fault::NullReference),
-        Value::Row(_) | Value::Rec(_) | Value::Group(_, _) | Value::Seq(_, _) => {
-            Err(Fault::NullReference)
-        }
-    }
-}
-
-/// The truth values that these values are, up to the first that is none.
-pub(crate) fn truths<R: RowRef>(
-    alloc: Global,
-    values: &[Value<R>],
-    end: End,
-) -> Result<(List<bool>, End), AllocError>
-    ensures { (world : World R) → world.unknown ≡ fault.NullReference → IfOk result (λ s. s ≡ truths_of world values.now end) }
-{
-    let mut made = List::new(alloc);
-    for value in values {
-        match truth(value) {
-            Ok(truth) => made.push(truth)?,
-            Err(fault) => return Ok((made, End::Fault(fault))),
-        }
-    }
-    Ok((made, end))
-}
 
 /// Puts an item behind the others where it is wanted, and else lets it go.
 fn push_if<R: RowRef>(

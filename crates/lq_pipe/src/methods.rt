@@ -2,7 +2,7 @@
 use crate::running::Running;
 use crate::slots::Slots;
 use crate::tables::TableRow;
-use crate::{kept, sequences};
+use crate::{kept, scalars, sequences};
 use lq_model::{Given, Simple, Through};
 use lq_operators::{RunError, given, simple};
 use lq_tree::Form;
@@ -22,6 +22,7 @@ impl<'a, R: TableRow> Running<'a, R> {
 
     /// A sequence, of which a fault that is met in making it is the ending.
     #[cycle(running)]
+    #[inline(never)]
     #[tactic(auto, using(crate::proofs::Forms::form_sequence))]
     pub(crate) fn sequence(&self, source: &Form, slots: &Slots<'_, R>) -> Result<Value<R>, RunError>
         ensures { IsAnswer (meant (world_of R.table_of R.shown self.now.tables.now) (form.Sequence source.now) slots.now) result }
@@ -32,6 +33,7 @@ impl<'a, R: TableRow> Running<'a, R> {
 
     /// A method without an argument.
     #[cycle(running)]
+    #[inline(never)]
     #[tactic(auto, using(crate::proofs::Forms::form_simple))]
     pub(crate) fn simple(
         &self,
@@ -48,6 +50,7 @@ impl<'a, R: TableRow> Running<'a, R> {
 
     /// A method with an argument.
     #[cycle(running)]
+    #[inline(never)]
     #[tactic(auto, using(crate::proofs::Forms::form_given))]
     pub(crate) fn given(
         &self,
@@ -65,6 +68,7 @@ impl<'a, R: TableRow> Running<'a, R> {
 
     /// A method with a lambda.
     #[cycle(running)]
+    #[inline(never)]
     #[tactic(auto, using(crate::proofs::Forms::form_through))]
     pub(crate) fn through(
         &self,
@@ -109,8 +113,7 @@ impl<'a, R: TableRow> Running<'a, R> {
         ensures { IfOk result (λ s. s ≡ where_by (holds_of (world_of R.table_of R.shown self.now.tables.now) condition.now slots.now) (stream_of (world_of R.table_of R.shown self.now.tables.now) (meant (world_of R.table_of R.shown self.now.tables.now) source.now slots.now)).0 (stream_of (world_of R.table_of R.shown self.now.tables.now) (meant (world_of R.table_of R.shown self.now.tables.now) source.now slots.now)).1) }
     {
         let (items, end) = self.stream(source, slots)?;
-        let (values, end) = self.selected(condition, items.as_slice(), end, slots)?;
-        let (truths, end) = kept::truths(self.alloc, values.as_slice(), end)?;
+        let (truths, end) = self.truths(condition, items.as_slice(), end, slots)?;
         let items = kept::chosen(self.alloc, items, truths.as_slice())?;
         Ok((items, end))
     }
@@ -140,9 +143,42 @@ impl<'a, R: TableRow> Running<'a, R> {
         ensures { IsAnswer (as_truth (all (holds_of (world_of R.table_of R.shown self.now.tables.now) condition.now slots.now) (stream_of (world_of R.table_of R.shown self.now.tables.now) (meant (world_of R.table_of R.shown self.now.tables.now) source.now slots.now)).0 (stream_of (world_of R.table_of R.shown self.now.tables.now) (meant (world_of R.table_of R.shown self.now.tables.now) source.now slots.now)).1)) result }
     {
         let (items, end) = self.stream(source, slots)?;
-        let (values, end) = self.selected(condition, items.as_slice(), end, slots)?;
-        let (truths, end) = kept::truths(self.alloc, values.as_slice(), end)?;
+        let (truths, end) = self.truths(condition, items.as_slice(), end, slots)?;
         kept::all_told(truths.as_slice(), end)
+    }
+
+    /// Whether a condition is true of an item.
+    #[cycle(running)]
+    fn holds(
+        &self,
+        condition: &Form,
+        item: &Value<R>,
+        slots: &Slots<'_, R>,
+    ) -> Result<Result<bool, Fault>, AllocError>
+        ensures { IfOk result (λ found. found ≡ holds_of (world_of R.table_of R.shown self.now.tables.now) condition.now slots.now item.now) }
+    {
+        scalars::told(self.truth(condition, &(&*slots).with(&*item)))
+    }
+
+    /// Whether it is true of each item, up to the first fault.
+    #[cycle(running)]
+    fn truths(
+        &self,
+        condition: &Form,
+        items: &[Value<R>],
+        end: End,
+        slots: &Slots<'_, R>,
+    ) -> Result<(List<bool>, End), AllocError>
+        ensures { IfOk result (λ s. s ≡ select_by (holds_of (world_of R.table_of R.shown self.now.tables.now) condition.now slots.now) items.now end) }
+    {
+        let mut made = List::new(self.alloc);
+        for item in items {
+            match self.holds(condition, item, slots)? {
+                Ok(truth) => made.push(truth)?,
+                Err(fault) => return Ok((made, End::Fault(fault))),
+            }
+        }
+        Ok((made, end))
     }
 
     /// What a form gives of an item.

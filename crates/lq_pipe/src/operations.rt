@@ -9,7 +9,10 @@ use lq_tree::Form;
 use lq_value::{List, Scalar, Txt, Value};
 
 impl<'a, R: TableRow> Running<'a, R> {
-    ghost use Rattle.std.specs.Prelude.{Ok, map};
+    ghost use Rattle.std.specs.Prelude.{IfSome, Ok, map};
+    ghost use Rattle.lq_value.specs.declared.value.Fault.TheVariants as fault;
+    ghost use Rattle.lq_model.specs.Meaning.{as_value, on_scalar};
+    ghost use Rattle.lq_model.specs.Operations.{of_two};
     ghost use Rattle.lq_operators.specs.Answers.{IsAnswer};
     ghost use Rattle.lq_tree.specs.FormMeaning.{members_of};
     ghost use Rattle.lq_pipe.specs.Lists.{field_means};
@@ -20,6 +23,7 @@ impl<'a, R: TableRow> Running<'a, R> {
 
     /// What an operator gives to one operand.
     #[cycle(running)]
+    #[inline(never)]
     #[tactic(auto, using(crate::proofs::Forms::form_unary))]
     pub(crate) fn unary(
         &self,
@@ -33,8 +37,26 @@ impl<'a, R: TableRow> Running<'a, R> {
         scalars::of_one(self.alloc, op, operand)
     }
 
+    /// What an operator gives to two operands, if both stand where they are read.
+    #[inline(never)]
+    #[tactic(auto, using(crate::proofs::Forms::binary_of))]
+    fn binary_there(
+        &self,
+        op: Op,
+        left: &Form,
+        right: &Form,
+        slots: &Slots<'_, R>,
+    ) -> Option<Result<Value<R>, RunError>>
+        ensures { IfSome result (λ found. IsAnswer (meant (world_of R.table_of R.shown self.now.tables.now) (form.Binary op left.now right.now) slots.now) found) }
+    {
+        let left = self.there(left, slots)?;
+        let right = self.there(right, slots)?;
+        Some(scalars::of_two(self.alloc, op, left, right))
+    }
+
     /// What an operator gives to two operands, the left one of which is evaluated first.
     #[cycle(running)]
+    #[inline(never)]
     #[tactic(auto, using(crate::proofs::Forms::form_binary))]
     pub(crate) fn binary(
         &self,
@@ -45,13 +67,34 @@ impl<'a, R: TableRow> Running<'a, R> {
     ) -> Result<Value<R>, RunError>
         ensures { IsAnswer (meant (world_of R.table_of R.shown self.now.tables.now) (form.Binary op left.now right.now) slots.now) result }
     {
+        if let Some(found) = (&*self).binary_there(op, &*left, &*right, &*slots) {
+            return found;
+        }
         let left = self.scalar(left, slots)?;
+        self.binary_beside(op, left, right, slots)
+    }
+
+    /// The same beside the left operand: a function of its own, so that operators that stand one below the
+    /// other on their left take little of the stack.
+    #[cycle(running)]
+    #[inline(never)]
+    fn binary_beside(
+        &self,
+        op: Op,
+        left: Scalar,
+        right: &Form,
+        slots: &Slots<'_, R>,
+    ) -> Result<Value<R>, RunError>
+        ensures { IsAnswer (on_scalar (world_of R.table_of R.shown self.now.tables.now) (meant (world_of R.table_of R.shown self.now.tables.now) right.now slots.now)
+            (λ t. as_value (of_two fault.NullReference op left t))) result }
+    {
         let right = self.scalar(right, slots)?;
-        scalars::of_two(self.alloc, op, left, right)
+        scalars::of_two(self.alloc, op, &left, &right)
     }
 
     /// Whether both are true; the second is evaluated only where the first is.
     #[cycle(running)]
+    #[inline(never)]
     #[tactic(auto, using(crate::proofs::Forms::form_both))]
     pub(crate) fn both(
         &self,
@@ -69,6 +112,7 @@ impl<'a, R: TableRow> Running<'a, R> {
 
     /// Whether one is true; the second is evaluated only where the first isn't.
     #[cycle(running)]
+    #[inline(never)]
     #[tactic(auto, using(crate::proofs::Forms::form_either))]
     pub(crate) fn either(
         &self,
@@ -86,6 +130,7 @@ impl<'a, R: TableRow> Running<'a, R> {
 
     /// The first, or the second in place of null.
     #[cycle(running)]
+    #[inline(never)]
     #[tactic(auto, using(crate::proofs::Forms::form_coalesce))]
     pub(crate) fn coalesced(
         &self,
@@ -104,6 +149,7 @@ impl<'a, R: TableRow> Running<'a, R> {
 
     /// The one that the condition chooses; the other is not evaluated.
     #[cycle(running)]
+    #[inline(never)]
     #[tactic(auto, using(crate::proofs::Forms::form_choice))]
     pub(crate) fn chosen(
         &self,
@@ -122,6 +168,7 @@ impl<'a, R: TableRow> Running<'a, R> {
 
     /// A record.
     #[cycle(running)]
+    #[inline(never)]
     #[tactic(auto, using(crate::proofs::Forms::form_record))]
     pub(crate) fn record(
         &self,
@@ -152,6 +199,7 @@ impl<'a, R: TableRow> Running<'a, R> {
 
     /// A pair, the left part of which is evaluated first.
     #[cycle(running)]
+    #[inline(never)]
     #[tactic(auto, using(crate::proofs::Forms::form_pair))]
     pub(crate) fn pair(
         &self,

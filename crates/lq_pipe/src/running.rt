@@ -1,6 +1,7 @@
 //! The running of forms.
 ghost use Rattle.std.specs.Prelude.{◌≡◌, IfSome, Ok};
 ghost use Rattle.lq_model.specs.Meaning.{World};
+ghost use Rattle.lq_value.specs.declared.value.Value.TheVariants as value;
 ghost use Rattle.lq_pipe.specs.Running.{meant};
 
 use crate::reached::Reached;
@@ -25,6 +26,16 @@ fn borrowed<'s, R: RowRef>(form: &Form, slots: &'s Slots<'_, R>) -> Option<&'s V
     }
 }
 
+/// The scalar that a value is, if it is one.
+fn scalar_there<R: RowRef>(stands: &Value<R>) -> Option<&Scalar>
+    ensures { IfSome result (λ scalar. stands.now ≡ value.Scalar scalar.now) }
+{
+    match stands {
+        Value::Scalar(scalar) => Some(scalar),
+        Value::Row(_) | Value::Rec(_) | Value::Group(_, _) | Value::Seq(_, _) => None,
+    }
+}
+
 /// What a form is run over: the tables that it may read, and what gives memory.
 #[derive(Clone, Copy)]
 pub(crate) struct Running<'a, R> {
@@ -43,7 +54,16 @@ impl<'a, R: TableRow> Running<'a, R> {
     ghost use Rattle.lq_pipe.specs.Slots.{values_in};
     ghost use Rattle.lq_pipe.specs.Worlds.{world_of};
 
+    /// A literal.
+    #[inline(never)]
+    fn literal(&self, scalar: &Scalar) -> Result<Value<R>, RunError>
+        ensures { IsAnswer (Ok (value.Scalar scalar.now)) result }
+    {
+        Ok(Value::Scalar(copy_scalar(self.alloc, scalar)?))
+    }
+
     /// What a slot holds.
+    #[inline(never)]
     fn slot(&self, number: usize, slots: &Slots<'_, R>) -> Result<Value<R>, RunError>
         ensures { IsAnswer (if_there (world_of R.table_of R.shown self.now.tables.now) (slice_get (values_in slots.now) number)) result }
     {
@@ -54,6 +74,7 @@ impl<'a, R: TableRow> Running<'a, R> {
     }
 
     /// The rows of a table.
+    #[inline(never)]
     #[tactic(auto, using(crate::proofs::PartLemmas::places))]
     fn table(&self, number: u16) -> Result<Value<R>, RunError>
         ensures { IsAnswer (table_value (world_of R.table_of R.shown self.now.tables.now) (slice_get (world_of R.table_of R.shown self.now.tables.now).rows number)) result }
@@ -81,6 +102,32 @@ impl<'a, R: TableRow> Running<'a, R> {
             Value::Scalar(_) | Value::Rec(_) | Value::Group(_, _) | Value::Seq(_, _) => {
                 Err(RunError::Fault(Fault::NullReference))
             }
+        }
+    }
+
+    /// The cell of what is a row, by the number of its column.
+    fn cell_there<'s>(&'s self, row: &'s Value<R>, table: u16, column: u16) -> Option<&'s Scalar>
+        ensures { IfSome result (λ scalar. cell_in (world_of R.table_of R.shown self.now.tables.now) table column (out-Value R row.now) ≡ Ok (value.Scalar scalar.now)) }
+    {
+        match row {
+            Value::Row(row) => cell(self.tables, row, table, column),
+            Value::Scalar(_) | Value::Rec(_) | Value::Group(_, _) | Value::Seq(_, _) => None,
+        }
+    }
+
+    /// The scalar that a form means, where it is a literal, a cell of a row in a slot, or a scalar
+    /// that stands in one: it stays there.
+    #[inline(never)]
+    #[tactic(auto, using(crate::proofs::Forms::form_literal, crate::proofs::Forms::form_column))]
+    pub(crate) fn there<'s>(&'s self, form: &'s Form, slots: &'s Slots<'_, R>) -> Option<&'s Scalar>
+        ensures { IfSome result (λ scalar. meant (world_of R.table_of R.shown self.now.tables.now) form.now slots.now ≡ Ok (value.Scalar scalar.now)) }
+    {
+        match form {
+            Form::Literal(scalar) => Some(scalar),
+            Form::Column(row, table, column) => {
+                self.cell_there(borrowed(row.get(), slots)?, *table, *column)
+            }
+            _ => scalar_there(borrowed(form, slots)?),
         }
     }
 
@@ -120,7 +167,7 @@ impl<'a, R: TableRow> Running<'a, R> {
         ensures { IsAnswer (meant (world_of R.table_of R.shown self.now.tables.now) form.now slots.now) result }
     {
         match form {
-            Form::Literal(scalar) => Ok(Value::Scalar(copy_scalar(self.alloc, scalar)?)),
+            Form::Literal(scalar) => self.literal(scalar),
             Form::Slot(number) => self.slot(*number, slots),
             Form::First(pair) => self.first(pair.get(), slots),
             Form::Second(pair) => self.second(pair.get(), slots),
@@ -145,7 +192,7 @@ impl<'a, R: TableRow> Running<'a, R> {
                 self.given(*method, source.get(), argument.get(), slots)
             }
             Form::Through(method, of, to, source, body) => {
-                self.through(*method, of, to, source.get(), body.get(), slots)
+                self.through(*method, of.get(), to.get(), source.get(), body.get(), slots)
             }
             Form::SelectMany(source, inner, body) => {
                 self.select_many(source.get(), inner.get(), body.get(), slots)
@@ -160,6 +207,7 @@ impl<'a, R: TableRow> Running<'a, R> {
 
     /// The stream of a form.
     #[cycle(running)]
+    #[inline(never)]
     pub(crate) fn stream(
         &self,
         form: &Form,
@@ -170,16 +218,21 @@ impl<'a, R: TableRow> Running<'a, R> {
         sequences::stream(self.alloc, self.evaluate(form, slots))
     }
 
-    /// The scalar that a form means.
+    /// The scalar that a form means. It has no place of its own on the stack.
     #[cycle(running)]
+    #[inline(always)]
     pub(crate) fn scalar(&self, form: &Form, slots: &Slots<'_, R>) -> Result<Scalar, RunError>
         ensures { Answers (scalar_in (world_of R.table_of R.shown self.now.tables.now) (meant (world_of R.table_of R.shown self.now.tables.now) form.now slots.now)) result }
     {
-        scalars::scalar(self.evaluate(form, slots)?)
+        match (&*self).there(&*form, &*slots) {
+            Some(scalar) => Ok(copy_scalar(self.alloc, scalar)?),
+            None => scalars::scalar(self.evaluate(form, slots)?),
+        }
     }
 
     /// The truth value that a form means.
     #[cycle(running)]
+    #[inline(never)]
     pub(crate) fn truth(&self, form: &Form, slots: &Slots<'_, R>) -> Result<bool, RunError>
         ensures { Answers (truth_in (world_of R.table_of R.shown self.now.tables.now) (meant (world_of R.table_of R.shown self.now.tables.now) form.now slots.now)) result }
     {
@@ -199,6 +252,7 @@ impl<'a, R: TableRow> Running<'a, R> {
 
     /// The first part of a pair.
     #[cycle(running)]
+    #[inline(never)]
     #[tactic(auto, using(crate::proofs::Forms::form_first))]
     fn first(&self, pair: &Form, slots: &Slots<'_, R>) -> Result<Value<R>, RunError>
         ensures { IsAnswer (meant (world_of R.table_of R.shown self.now.tables.now) (form.First pair.now) slots.now) result }
@@ -209,6 +263,7 @@ impl<'a, R: TableRow> Running<'a, R> {
 
     /// The second part of a pair.
     #[cycle(running)]
+    #[inline(never)]
     #[tactic(auto, using(crate::proofs::Forms::form_second))]
     fn second(&self, pair: &Form, slots: &Slots<'_, R>) -> Result<Value<R>, RunError>
         ensures { IsAnswer (meant (world_of R.table_of R.shown self.now.tables.now) (form.Second pair.now) slots.now) result }
@@ -219,6 +274,7 @@ impl<'a, R: TableRow> Running<'a, R> {
 
     /// The cell of a row.
     #[cycle(running)]
+    #[inline(never)]
     #[tactic(auto, using(crate::proofs::Forms::form_column))]
     fn column(
         &self,
@@ -235,6 +291,7 @@ impl<'a, R: TableRow> Running<'a, R> {
 
     /// A member of a record.
     #[cycle(running)]
+    #[inline(never)]
     #[tactic(auto, using(crate::proofs::Forms::form_member))]
     fn member(&self, value: &Form, place: usize, slots: &Slots<'_, R>) -> Result<Value<R>, RunError>
         ensures { IsAnswer (meant (world_of R.table_of R.shown self.now.tables.now) (form.Member value.now place) slots.now) result }
@@ -245,6 +302,7 @@ impl<'a, R: TableRow> Running<'a, R> {
 
     /// The key of a group.
     #[cycle(running)]
+    #[inline(never)]
     #[tactic(auto, using(crate::proofs::Forms::form_key))]
     fn key(&self, group: &Form, slots: &Slots<'_, R>) -> Result<Value<R>, RunError>
         ensures { IsAnswer (meant (world_of R.table_of R.shown self.now.tables.now) (form.Key group.now) slots.now) result }
@@ -255,6 +313,7 @@ impl<'a, R: TableRow> Running<'a, R> {
 
     /// Whether a row, a record or a group is null, or isn't.
     #[cycle(running)]
+    #[inline(never)]
     #[tactic(auto, using(crate::proofs::Forms::form_is_null))]
     fn is_null(
         &self,

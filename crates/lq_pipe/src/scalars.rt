@@ -1,20 +1,20 @@
 //! Scalars: what operators and members give to them.
-ghost use Rattle.std.specs.Prelude.{◌≡◌, Result, Ok};
+ghost use Rattle.std.specs.Prelude.{◌≡◌, Bool, IfOk, IfSome, Result, Ok};
 ghost use Rattle.lq_value.specs.declared.scalar.Scalar.{Scalar};
 ghost use Rattle.lq_value.specs.declared.value.Fault.{Fault};
 ghost use Rattle.lq_value.specs.declared.value.Fault.TheVariants as fault;
 ghost use Rattle.lq_value.specs.declared.value.Value.{out-Value};
 ghost use Rattle.lq_model.specs.Meaning.{World, as_value, is_null, scalar_of};
-ghost use Rattle.lq_model.specs.Operations.{of_one, of_two, truth_of};
+ghost use Rattle.lq_model.specs.Operations.{of_one, of_two, operation_of, searched, truth as of_truth, truth_of};
 ghost use Rattle.lq_operators.specs.Answers.{IsAnswer};
 ghost use Rattle.lq_scalar.specs.Operands.{IsAnswer as IsScalar};
 ghost use Rattle.lq_pipe.specs.Running.{Answers};
 
-use lq_model::Op;
+use lq_model::{Binary, Op};
 use lq_operators::RunError;
-use lq_scalar::{ScalarError, apply};
-use lq_value::{Fault, RowRef, Scalar, Value};
-use std::alloc::Global;
+use lq_scalar::{ScalarError, ScalarRef, apply, operate, searched};
+use lq_value::{Fault, RowRef, Scalar, Value, copy_scalar};
+use std::alloc::{AllocError, Global};
 
 /// The scalar that a value is. No typed tree has another value where a scalar is asked for.
 #[tactic(auto, using(crate::proofs::PartLemmas::layers))]
@@ -41,6 +41,17 @@ pub(crate) fn truth(scalar: &Scalar) -> Result<bool, RunError>
     }
 }
 
+/// The truth value or the fault that was found, where memory wasn't refused.
+pub(crate) fn told(found: Result<bool, RunError>) -> Result<Result<bool, Fault>, AllocError>
+    ensures { (meant : Result Bool Fault) → Answers meant found → IfOk result (λ told. told ≡ meant) }
+{
+    match found {
+        Ok(truth) => Ok(Ok(truth)),
+        Err(RunError::Fault(fault)) => Ok(Err(fault)),
+        Err(RunError::Memory) => Err(AllocError),
+    }
+}
+
 /// Whether a scalar is null.
 pub(crate) fn is_null(scalar: &Scalar) -> bool
     ensures { result ≡ is_null scalar.now }
@@ -63,6 +74,7 @@ fn as_value<R: RowRef>(found: Result<Scalar, ScalarError>) -> Result<Value<R>, R
 }
 
 /// What an operator or member gives to one operand.
+#[inline(never)]
 pub(crate) fn of_one<R: RowRef>(
     alloc: Global,
     op: Op,
@@ -73,8 +85,53 @@ pub(crate) fn of_one<R: RowRef>(
     as_value(apply(alloc, op, &[operand]))
 }
 
-/// What an operator gives to two operands.
-pub(crate) fn of_two<R: RowRef>(
+/// The sign that an operator between two scalars is, where it is one that makes no text.
+fn sign_of(op: Op) -> Option<Binary>
+    ensures { IfSome result (λ sign. op ≡ operation_of sign) }
+{
+    match op {
+        Op::Multiply => Some(Binary::Multiply),
+        Op::Divide => Some(Binary::Divide),
+        Op::Remainder => Some(Binary::Remainder),
+        Op::Add => Some(Binary::Add),
+        Op::Subtract => Some(Binary::Subtract),
+        Op::Less => Some(Binary::Less),
+        Op::Greater => Some(Binary::Greater),
+        Op::LessOrEqual => Some(Binary::LessOrEqual),
+        Op::GreaterOrEqual => Some(Binary::GreaterOrEqual),
+        Op::Equal => Some(Binary::Equal),
+        Op::NotEqual => Some(Binary::NotEqual),
+        _ => None,
+    }
+}
+
+/// What a sign between two scalars gives. It is a number, a truth value or null.
+fn of_sign<R: RowRef>(
+    alloc: Global,
+    sign: Binary,
+    left: &Scalar,
+    right: &Scalar,
+) -> Result<Value<R>, RunError>
+    ensures { IsAnswer (as_value (of_two fault.NullReference (operation_of sign) left.now right.now)) result }
+{
+    match operate(sign, ScalarRef::of(left), ScalarRef::of(right)) {
+        Ok(scalar) => Ok(Value::Scalar(scalar.copied(alloc)?)),
+        Err(fault) => Err(RunError::Fault(fault)),
+    }
+}
+
+/// Whether a text has the other where the operator looks for it.
+fn of_search<R: RowRef>(op: Op, text: &Scalar, needle: &Scalar) -> Result<Value<R>, RunError>
+    ensures { IsAnswer (as_value (of_truth fault.NullReference (searched fault.NullReference op text.now needle.now))) result }
+{
+    match searched(op, ScalarRef::of(text), ScalarRef::of(needle)) {
+        Ok(found) => Ok(Value::Scalar(Scalar::Bool(found))),
+        Err(fault) => Err(RunError::Fault(fault)),
+    }
+}
+
+/// What an operator gives to two operands that are its own.
+fn of_copies<R: RowRef>(
     alloc: Global,
     op: Op,
     left: Scalar,
@@ -83,4 +140,26 @@ pub(crate) fn of_two<R: RowRef>(
     ensures { IsAnswer (as_value (of_two fault.NullReference op left right)) result }
 {
     as_value(apply(alloc, op, &[left, right]))
+}
+
+/// What an operator gives to two operands, which stay where they are.
+#[inline(never)]
+pub(crate) fn of_two<R: RowRef>(
+    alloc: Global,
+    op: Op,
+    left: &Scalar,
+    right: &Scalar,
+) -> Result<Value<R>, RunError>
+    ensures { IsAnswer (as_value (of_two fault.NullReference op left.now right.now)) result }
+{
+    if let Some(sign) = sign_of(op) {
+        return of_sign(alloc, sign, left, right);
+    }
+    match op {
+        Op::StartsWith | Op::EndsWith | Op::Contains => of_search(op, left, right),
+        _ => {
+            let left = copy_scalar(alloc, left)?;
+            of_copies(alloc, op, left, copy_scalar(alloc, right)?)
+        }
+    }
 }

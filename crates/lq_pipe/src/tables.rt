@@ -16,6 +16,7 @@ pub trait TableRow: RowRef {
     ghost table_of: { Self → ℕ };
 
     /// The number of the row's table.
+    #[inline(never)]
     fn table(&self) -> u16
         ensures { result ≡ table_of self.now };
 }

@@ -15,7 +15,7 @@ use lq_value::{End, List, Value};
 use std::alloc::{AllocError, Global};
 
 /// The value of a typed tree over these tables, or its first fault (ECMA-334, expressions; .NET,
-/// `Enumerable`). No other rows are read. Memory means that none was left, and nothing else.
+/// `Enumerable`). `Memory` where none was left.
 #[tactic(auto, using(crate::proofs::SlotLemmas::no_values))]
 pub fn value<'a, R: TableRow>(
     alloc: Global,
@@ -25,11 +25,11 @@ pub fn value<'a, R: TableRow>(
     ensures { IsAnswer (form_meaning (world_of R.table_of R.shown tables.now) tree.now.form []) result }
 {
     let running = Running { alloc, tables };
-    running.evaluate(&tree.form, &Slots::Empty)
+    running.evaluate(tree.form.get(), &Slots::Empty)
 }
 
 /// The items of a typed tree over these tables, and how they end: a fault that is met in making
-/// them is their ending. Refused where no memory was left, and only there.
+/// them is their ending. Refused where no memory was left.
 pub fn run<'a, R: TableRow>(
     alloc: Global,
     tree: &Tree,

@@ -1,6 +1,2 @@
-pub mod Given
-pub mod Items
-pub mod KnownTypes
-pub mod RunGives
 pub mod States
 pub mod StoredMeanings

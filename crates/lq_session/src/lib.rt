@@ -2,11 +2,7 @@
 #![tactic(auto)]
 
 pub mod meaning_laws;
-mod reply;
-mod row_names;
-mod running;
 mod session;
-mod typing;
 
 pub use lq_json::Line;
 pub use session::Session;

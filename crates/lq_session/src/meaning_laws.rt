@@ -1,10 +1,9 @@
 //! Laws of what sessions serve. Each function's contract is the law that it is named for; the
 //! functions themselves do nothing.
-ghost use Rattle.lq_session.specs.StoredMeanings.{ServesStoredMeanings, ServesStoredValues};
+ghost use Rattle.lq_session.specs.StoredMeanings.{ServesStoredMeanings};
 
 /// Over the tables that a store keeps, no reply to `run` depends on what stands where an expression
-/// has no meaning: what is served has one, be it a query or another expression.
+/// has no meaning: what is served has one.
 pub fn served_meanings()
-    ensures queries { ServesStoredMeanings }
-    ensures values { ServesStoredValues }
+    ensures { ServesStoredMeanings }
 {}

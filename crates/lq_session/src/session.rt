@@ -1,15 +1,11 @@
 //! The session and its step.
 ghost use Rattle.lq_policy.specs.Roles.{number_of};
 
-use crate::reply::{error_line, value_line};
-use crate::row_names::TopNames;
-use crate::running::Run;
-use crate::typing::{scalar_type, table_of};
 use lq_json::Line;
 use lq_lex::is_blank;
-use lq_model::{Expr, Query, Statement};
-use lq_policy::{Action, Policies, RoleId};
-use lq_scalar::{ScalarError, evaluate};
+use lq_model::{Expr, Statement};
+use lq_policy::{Policies, RoleId};
+use lq_run::{refusal, run_line};
 use lq_store::Store;
 use lq_syntax::{SyntaxError, parse_statement};
 use std::alloc::{AllocError, Global};
@@ -25,12 +21,10 @@ pub struct Session {
 }
 
 impl Session {
-    ghost use Rattle.std.specs.Prelude.{◌≡◌, ◌<◌, [], length, is_some, true, IfOk};
-    ghost use Rattle.lq_model.specs.Machine.{perform, run_in, schemas_of, step, step_by, value_in};
+    ghost use Rattle.std.specs.Prelude.{◌≡◌, [], IfOk};
+    ghost use Rattle.lq_model.specs.Machine.{perform, run_in, step, step_by};
     ghost use Rattle.lq_model.specs.Output.{Answers};
     ghost use Rattle.lq_model.specs.Served.{error_data, line_of};
-    ghost use Rattle.lq_model.specs.Typing.{if_scalar, type_of};
-    ghost use Rattle.lq_session.specs.Given.{IsOver, top_names};
     ghost use Rattle.lq_syntax.specs.Texts.{said};
     ghost use Rattle.lq_session.specs.States.{state_of};
 
@@ -86,78 +80,32 @@ impl Session {
     }
 
     /// The line that a statement is answered. What is run is served; all else has no type yet.
-    #[tactic(auto, using(crate::proofs::StepLemmas::performed))]
     fn perform(&self, statement: &Statement) -> Result<Line, AllocError>
         ensures { IfOk result (λ line. line ≡ line_of (perform (state_of self.now) statement.now).0) }
     {
         match statement {
-            Statement::Run(Expr::Query(query)) => self.run(query.get()),
-            Statement::Run(expression) => self.value(expression),
+            Statement::Run(expression) => self.run(expression),
             _ => self.refusal("type"),
         }
     }
 
-    /// Serves the value of an expression, or refuses one without the type of a scalar.
-    fn value(&self, expression: &Expr) -> Result<Line, AllocError>
-        ensures { IfOk result (λ line. line ≡ line_of (value_in (state_of self.now) expression.now)) }
+    /// Serves the value of an expression over the rows that the session's role sees, or refuses it.
+    fn run(&self, expression: &Expr) -> Result<Line, AllocError>
+        ensures { IfOk result (λ line. line ≡ line_of (run_in (state_of self.now) expression.now)) }
     {
-        match scalar_type(&self.store, expression) {
-            Some(_) => self.typed_value(expression),
-            None => self.refusal("type"),
-        }
-    }
-
-    /// The line of the value of an expression with the type of a scalar.
-    fn typed_value(&self, expression: &Expr) -> Result<Line, AllocError>
-        requires { is_some (if_scalar (type_of expression.now (top_names (schemas_of self.now.store)))) ≡ true }
-        ensures { IfOk result (λ line. line ≡ line_of (value_in (state_of self.now) expression.now)) }
-    {
-        let names = TopNames {
-            store: &self.store,
-            policies: &self.policies,
-            role: self.role,
-        };
-        match evaluate(self.alloc, &names, expression) {
-            Ok(found) => value_line(self.alloc, &self.store, Ok(found.scalar())),
-            Err(ScalarError::Fault(fault)) => value_line(self.alloc, &self.store, Err(fault)),
-            Err(ScalarError::Memory) => Err(AllocError),
-        }
-    }
-
-    /// Serves a query, or refuses one that has no type.
-    fn run(&self, query: &Query<Expr>) -> Result<Line, AllocError>
-        ensures { IfOk result (λ line. line ≡ line_of (run_in (state_of self.now) query.now)) }
-    {
-        match table_of(&self.store, query) {
-            Some(table) => self.run_over(table, query),
-            None => self.refusal("type"),
-        }
+        run_line(
+            self.alloc,
+            expression,
+            &self.store,
+            &self.policies,
+            self.role,
+        )
     }
 
     /// The line of a refusal.
     fn refusal(&self, word: &str) -> Result<Line, AllocError>
         ensures { IfOk result (λ line. line ≡ line_of (error_data word.now)) }
     {
-        error_line(self.alloc, word)
-    }
-
-    /// The line of a typed query over the table with this number.
-    fn run_over(&self, table: u16, query: &Query<Expr>) -> Result<Line, AllocError>
-        requires within { table < length self.now.store }
-        requires over { IsOver (schemas_of self.now.store) query.now table }
-        ensures { IfOk result (λ line. line ≡ line_of (run_in (state_of self.now) query.now)) }
-    {
-        let rules = self
-            .policies
-            .rules_for(self.alloc, self.role, Action::Select, table)?;
-        let run = Run {
-            store: &self.store,
-            policies: &self.policies,
-            role: self.role,
-            table,
-            query,
-        };
-        let (items, end) = run.items(self.alloc, &rules, self.store.rows(table))?;
-        items.finish(end)
+        refusal(self.alloc, word)
     }
 }

@@ -1,11 +1,15 @@
 //! Whole expressions translated: a copy of each, in which every query is the calls that it stands for.
 ghost use Rattle.std.specs.Prelude.{◌≡◌, IfOk, map};
+ghost use Rattle.lq_model.specs.declared.calls.Term.TheVariants as term;
+ghost use Rattle.lq_model.specs.declared.syntax.Expr.TheVariants as expr;
+ghost use Rattle.lq_model.specs.declared.syntax.Node.TheVariants as node;
 ghost use Rattle.lq_translate.specs.Maps.{map_argument, map_body, map_clause, map_field, map_join, map_key, map_last, map_next, map_node, map_query};
 ghost use Rattle.lq_translate.specs.Translated.{translated, translated_query};
 
 use crate::calls::{Named, call_of_query};
 use lq_model::{
-    Argument, Body, Call, Clause, Continuation, Expr, Field, Join, Last, Node, Query, SortKey, Term,
+    Argument, Binary, Body, Call, Clause, Continuation, Expr, Field, Join, Last, Node, Query,
+    SortKey, Term, Unary,
 };
 use lq_value::{Held, List, Txt};
 use std::alloc::{AllocError, Global};
@@ -38,21 +42,30 @@ pub fn translate(alloc: Global, query: &Query<Expr>) -> Result<Call<Term>, Alloc
 ///
 /// Refused where there is no memory for it, and only there.
 #[cycle(translating)]
-#[tactic(auto, using(crate::proofs::Alike::translated_node, crate::proofs::Alike::translated_to_call))]
+#[tactic(auto, using(crate::proofs::Alike::translated_node))]
 pub fn translate_expression(alloc: Global, expression: &Expr) -> Result<Term, AllocError>
     ensures { IfOk result (λ made. made ≡ translated expression.now) }
 {
     match expression {
-        Expr::Node(node) => Ok(Term::Node(node_of(alloc, node)?)),
-        Expr::Query(query) => {
-            let call = translate(alloc, query.get())?;
-            Ok(Term::Call(Held::new(alloc, call)?))
-        }
+        Expr::Node(node) => term_of(alloc, node),
+        Expr::Query(query) => call_of(alloc, query.get()),
     }
+}
+
+/// The calls of a query, as an expression.
+#[cycle(translating)]
+#[inline(never)]
+#[tactic(auto, using(crate::proofs::Alike::translated_to_call))]
+fn call_of(alloc: Global, query: &Query<Expr>) -> Result<Term, AllocError>
+    ensures { IfOk result (λ made. made ≡ translated (expr.Query query.now)) }
+{
+    let call = translate(alloc, query)?;
+    Ok(Term::Call(Held::new(alloc, call)?))
 }
 
 /// The expression in a box of its own.
 #[cycle(translating)]
+#[inline(never)]
 fn held(alloc: Global, expression: &Expr) -> Result<Held<Term>, AllocError>
     ensures { IfOk result (λ made. made ≡ translated expression.now) }
 {
@@ -66,53 +79,147 @@ fn copied(alloc: Global, text: &Txt) -> Result<Txt, AllocError>
     Txt::from_str(alloc, text.as_str())
 }
 
+/// An expression other than a query. Each form that holds expressions has a function of its own, which takes less of the
+/// stack than all forms together: expressions may be many thousand operators deep.
 #[cycle(translating)]
-fn node_of(alloc: Global, node: &Node<Expr>) -> Result<Node<Term>, AllocError>
-    ensures { IfOk result (λ made. made ≡ map_node translated node.now) }
+fn term_of(alloc: Global, form: &Node<Expr>) -> Result<Term, AllocError>
+    ensures { IfOk result (λ made. made ≡ term.Node (map_node translated form.now)) }
 {
-    match node {
-        Node::Integer(number) => Ok(Node::Integer(*number)),
-        Node::Text(text) => Ok(Node::Text(copied(alloc, text)?)),
-        Node::Bool(truth) => Ok(Node::Bool(*truth)),
-        Node::Null => Ok(Node::Null),
-        Node::Name(name) => Ok(Node::Name(copied(alloc, name)?)),
-        Node::Member(operand, member) => {
-            let operand = held(alloc, operand.get())?;
-            Ok(Node::Member(operand, copied(alloc, member)?))
-        }
-        Node::Unary(sign, operand) => Ok(Node::Unary(*sign, held(alloc, operand.get())?)),
-        Node::Binary(sign, left, right) => {
-            let left = held(alloc, left.get())?;
-            Ok(Node::Binary(*sign, left, held(alloc, right.get())?))
-        }
-        Node::And(left, right) => {
-            let left = held(alloc, left.get())?;
-            Ok(Node::And(left, held(alloc, right.get())?))
-        }
-        Node::Or(left, right) => {
-            let left = held(alloc, left.get())?;
-            Ok(Node::Or(left, held(alloc, right.get())?))
-        }
-        Node::Coalesce(left, right) => {
-            let left = held(alloc, left.get())?;
-            Ok(Node::Coalesce(left, held(alloc, right.get())?))
-        }
+    match form {
+        Node::Integer(number) => Ok(Term::Node(Node::Integer(*number))),
+        Node::Text(text) => text_of(alloc, text),
+        Node::Bool(truth) => Ok(Term::Node(Node::Bool(*truth))),
+        Node::Null => Ok(Term::Node(Node::Null)),
+        Node::Name(name) => name_of(alloc, name),
+        Node::Member(operand, member) => member_of(alloc, operand.get(), member),
+        Node::Unary(sign, operand) => unary_of(alloc, *sign, operand.get()),
+        Node::Binary(sign, left, right) => binary_of(alloc, *sign, left.get(), right.get()),
+        Node::And(left, right) => and_of(alloc, left.get(), right.get()),
+        Node::Or(left, right) => or_of(alloc, left.get(), right.get()),
+        Node::Coalesce(left, right) => coalesce_of(alloc, left.get(), right.get()),
         Node::Conditional(condition, left, right) => {
-            let condition = held(alloc, condition.get())?;
-            let left = held(alloc, left.get())?;
-            Ok(Node::Conditional(condition, left, held(alloc, right.get())?))
+            conditional_of(alloc, condition.get(), left.get(), right.get())
         }
-        Node::Host(predicate, asked) => {
-            let predicate = copied(alloc, predicate)?;
-            Ok(Node::Host(predicate, expressions_of(alloc, asked)?))
-        }
-        Node::New(fields) => Ok(Node::New(fields_of(alloc, fields)?)),
+        Node::Host(predicate, asked) => host_of(alloc, asked, predicate),
+        Node::New(fields) => record_of(alloc, fields),
         Node::Method(receiver, method, arguments) => {
             let receiver = held(alloc, receiver.get())?;
-            let method = copied(alloc, method)?;
-            Ok(Node::Method(receiver, method, arguments_of(alloc, arguments)?))
+            method_of(alloc, arguments, receiver, method)
         }
     }
+}
+
+#[inline(never)]
+fn text_of(alloc: Global, text: &Txt) -> Result<Term, AllocError>
+    ensures { IfOk result (λ made. made ≡ term.Node (node.Text text.now)) }
+{
+    Ok(Term::Node(Node::Text(copied(alloc, text)?)))
+}
+
+#[inline(never)]
+fn name_of(alloc: Global, name: &Txt) -> Result<Term, AllocError>
+    ensures { IfOk result (λ made. made ≡ term.Node (node.Name name.now)) }
+{
+    Ok(Term::Node(Node::Name(copied(alloc, name)?)))
+}
+
+#[cycle(translating)]
+#[inline(never)]
+fn member_of(alloc: Global, operand: &Expr, member: &Txt) -> Result<Term, AllocError>
+    ensures { IfOk result (λ made. made ≡ term.Node (node.Member (translated operand.now) member.now)) }
+{
+    let operand = held(alloc, operand)?;
+    Ok(Term::Node(Node::Member(operand, copied(alloc, member)?)))
+}
+
+#[cycle(translating)]
+#[inline(never)]
+fn unary_of(alloc: Global, sign: Unary, operand: &Expr) -> Result<Term, AllocError>
+    ensures { IfOk result (λ made. made ≡ term.Node (node.Unary sign (translated operand.now))) }
+{
+    Ok(Term::Node(Node::Unary(sign, held(alloc, operand)?)))
+}
+
+#[cycle(translating)]
+#[inline(never)]
+fn binary_of(alloc: Global, sign: Binary, left: &Expr, right: &Expr) -> Result<Term, AllocError>
+    ensures { IfOk result (λ made. made ≡ term.Node (node.Binary sign (translated left.now) (translated right.now))) }
+{
+    let left = held(alloc, left)?;
+    Ok(Term::Node(Node::Binary(sign, left, held(alloc, right)?)))
+}
+
+#[cycle(translating)]
+#[inline(never)]
+fn and_of(alloc: Global, left: &Expr, right: &Expr) -> Result<Term, AllocError>
+    ensures { IfOk result (λ made. made ≡ term.Node (node.And (translated left.now) (translated right.now))) }
+{
+    let left = held(alloc, left)?;
+    Ok(Term::Node(Node::And(left, held(alloc, right)?)))
+}
+
+#[cycle(translating)]
+#[inline(never)]
+fn or_of(alloc: Global, left: &Expr, right: &Expr) -> Result<Term, AllocError>
+    ensures { IfOk result (λ made. made ≡ term.Node (node.Or (translated left.now) (translated right.now))) }
+{
+    let left = held(alloc, left)?;
+    Ok(Term::Node(Node::Or(left, held(alloc, right)?)))
+}
+
+#[cycle(translating)]
+#[inline(never)]
+fn coalesce_of(alloc: Global, left: &Expr, right: &Expr) -> Result<Term, AllocError>
+    ensures { IfOk result (λ made. made ≡ term.Node (node.Coalesce (translated left.now) (translated right.now))) }
+{
+    let left = held(alloc, left)?;
+    Ok(Term::Node(Node::Coalesce(left, held(alloc, right)?)))
+}
+
+#[cycle(translating)]
+#[inline(never)]
+fn conditional_of(
+    alloc: Global,
+    condition: &Expr,
+    left: &Expr,
+    right: &Expr,
+) -> Result<Term, AllocError>
+    ensures { IfOk result (λ made. made ≡ term.Node (node.Conditional (translated condition.now) (translated left.now) (translated right.now))) }
+{
+    let condition = held(alloc, condition)?;
+    let left = held(alloc, left)?;
+    Ok(Term::Node(Node::Conditional(condition, left, held(alloc, right)?)))
+}
+
+#[cycle(translating)]
+#[inline(never)]
+fn host_of(alloc: Global, asked: &List<Expr>, predicate: &Txt) -> Result<Term, AllocError>
+    ensures { IfOk result (λ made. made ≡ term.Node (node.Host predicate.now (map translated asked.now))) }
+{
+    let predicate = copied(alloc, predicate)?;
+    Ok(Term::Node(Node::Host(predicate, expressions_of(alloc, asked)?)))
+}
+
+#[cycle(translating)]
+#[inline(never)]
+fn record_of(alloc: Global, fields: &List<Field<Expr>>) -> Result<Term, AllocError>
+    ensures { IfOk result (λ made. made ≡ term.Node (node.New (map (map_field translated) fields.now))) }
+{
+    Ok(Term::Node(Node::New(fields_of(alloc, fields)?)))
+}
+
+#[cycle(translating)]
+#[inline(never)]
+fn method_of(
+    alloc: Global,
+    arguments: &List<Argument<Expr>>,
+    receiver: Held<Term>,
+    method: &Txt,
+) -> Result<Term, AllocError>
+    ensures { IfOk result (λ made. made ≡ term.Node (node.Method receiver method.now (map (map_argument translated) arguments.now))) }
+{
+    let method = copied(alloc, method)?;
+    Ok(Term::Node(Node::Method(receiver, method, arguments_of(alloc, arguments)?)))
 }
 
 #[cycle(translating)]

@@ -66,7 +66,7 @@ pub enum Form {
     Given(Given, Held<Form>, Held<Form>),
     /// A method with a lambda, in one slot more, on items of the first type; the second is that of
     /// what the lambda gives.
-    Through(Through, Ty, Ty, Held<Form>, Held<Form>),
+    Through(Through, Held<Ty>, Held<Ty>, Held<Form>, Held<Form>),
     /// What comes of each item, in one slot more, and of each item of the sequence that it leads to,
     /// in two.
     SelectMany(Held<Form>, Held<Form>, Held<Form>),
@@ -83,8 +83,8 @@ pub enum Form {
 pub struct Tree {
     /// Its type.
     pub ty: Ty,
-    /// The form.
-    pub form: Form,
+    /// The form, in a box of its own: a tree is handed on with each step of binding, on a stack that is short.
+    pub form: Held<Form>,
 }
 
 /// The type of a tree.

@@ -1,5 +1,6 @@
 -- What each function goes down by: the depth of what it copies, and at one depth the part of a tree that it copies.
-use Rattle.std.proofs.Common.{◌≡◌, ◌+◌, ◌*◌, map, take}
+use Rattle.std.proofs.Common.{◌≡◌, ◌+◌, ◌*◌, map, max, take}
+use Rattle.lq_model.proofs.syntax.Expr.TheLaws.{the_size}
 use Rattle.lq_translate.specs.Maps.{map_argument, map_clause, map_field, map_key, map_next}
 use Rattle.lq_translate.specs.Translated.{translated}
 use Rattle.lq_translate.proofs.expressions.+translating.Given as goal
@@ -49,8 +50,41 @@ decreases-query_of l = 10 * goal.size-query_of l + 7
 abbrev pub decreases-translate : goal.decreases-translate
 decreases-translate l = 10 * goal.size-translate l + 8
 
-abbrev pub decreases-node_of : goal.decreases-node_of
-decreases-node_of l = 10 * goal.size-node_of l + 8
+abbrev pub decreases-term_of : goal.decreases-term_of
+decreases-term_of l = 10 * goal.size-term_of l + 8
+
+abbrev pub decreases-member_of : goal.decreases-member_of
+decreases-member_of l = 10 * goal.size-member_of l + 2
+
+abbrev pub decreases-unary_of : goal.decreases-unary_of
+decreases-unary_of l = 10 * goal.size-unary_of l + 2
+
+abbrev pub decreases-binary_of : goal.decreases-binary_of
+decreases-binary_of l = 10 * max (the_size l.left.now) (the_size l.right.now) + 2
+
+abbrev pub decreases-and_of : goal.decreases-and_of
+decreases-and_of l = 10 * max (the_size l.left.now) (the_size l.right.now) + 2
+
+abbrev pub decreases-or_of : goal.decreases-or_of
+decreases-or_of l = 10 * max (the_size l.left.now) (the_size l.right.now) + 2
+
+abbrev pub decreases-coalesce_of : goal.decreases-coalesce_of
+decreases-coalesce_of l = 10 * max (the_size l.left.now) (the_size l.right.now) + 2
+
+abbrev pub decreases-conditional_of : goal.decreases-conditional_of
+decreases-conditional_of l = 10 * max (the_size l.condition.now) (max (the_size l.left.now) (the_size l.right.now)) + 2
+
+abbrev pub decreases-host_of : goal.decreases-host_of
+decreases-host_of l = 10 * goal.size-host_of l + 5
+
+abbrev pub decreases-record_of : goal.decreases-record_of
+decreases-record_of l = 10 * goal.size-record_of l + 5
+
+abbrev pub decreases-method_of : goal.decreases-method_of
+decreases-method_of l = 10 * goal.size-method_of l + 5
+
+abbrev pub decreases-call_of : goal.decreases-call_of
+decreases-call_of l = 10 * goal.size-call_of l + 9
 
 -- ---- what is copied so far
 

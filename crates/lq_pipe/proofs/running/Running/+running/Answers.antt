@@ -7,7 +7,7 @@ use Rattle.lq_pipe.specs.Items.{expanded_of, joined_of, keyed_of, with_key_of}
 use Rattle.lq_pipe.specs.Slots.{values_in}
 use Rattle.lq_pipe.proofs.ArrangementLemmas.{all_goes, all_stops, counted_answer, key_answer, order_by_answer, sorted_answer}
 use Rattle.lq_pipe.proofs.ItemLemmas.{expanded_is, group_by_answer, join_answer, join_stops, joined_met, matched_is, select_many_answer}
-use Rattle.lq_pipe.specs.Running.{Answers, of_item, scalar_in}
+use Rattle.lq_pipe.specs.Running.{Answers, holds_of, of_item, scalar_in, truth_in}
 use Rattle.lq_pipe.specs.Worlds.{world_of}
 use Rattle.lq_model.specs.WholeMeaning.{as_truth}
 use Rattle.lq_pipe.proofs.Forms.{given_answer, is_null_answer, members_goes}
@@ -17,9 +17,9 @@ use Rattle.lq_pipe.proofs.running.Running.+running.Goals as goal
 pub stream-returns : goal.stream-returns
 stream-returns g t c = c.stream.ensures (world_of g.R.TableRow.table_of g.R.RowRef.shown c.args.self.now.tables.now) _ refl c.evaluate.ensures
 
-pub scalar-returns : goal.scalar-returns
-scalar-returns g t c =
-    subst (λ m. Answers (scalar_in (world_of g.R.TableRow.table_of g.R.RowRef.shown c.args.self.now.tables.now) m) c.scalar.result) (sym c.in_ok-evaluate.ensures)
+pub scalar-returns-in_ok-evaluate-in-None : goal.scalar-returns-in_ok-evaluate-in-None
+scalar-returns-in_ok-evaluate-in-None g t c =
+    subst (λ m. Answers (scalar_in (world_of g.R.TableRow.table_of g.R.RowRef.shown c.args.self.now.tables.now) m) c.scalar.result) (sym c.in_ok-evaluate-in-None.ensures)
     (c.scalar.ensures (world_of g.R.TableRow.table_of g.R.RowRef.shown c.args.self.now.tables.now) refl)
 
 pub of_item-returns : goal.of_item-returns
@@ -40,19 +40,31 @@ given-returns g t c =
 
 pub filtered-returns : goal.filtered-returns
 filtered-returns g t c =
-    filtered_is (world_of g.R.TableRow.table_of g.R.RowRef.shown c.args.self.now.tables.now)
-    (of_item (world_of g.R.TableRow.table_of g.R.RowRef.shown c.args.self.now.tables.now) c.args.condition.now c.args.slots.now) _ _ _ _ _ _ _ _ _ _ _
-    c.in_ok-items.ensures c.as_slice.ensures c.in_ok-values.ensures c.as_slice-2.ensures
-    (c.in_ok-truths.ensures (world_of g.R.TableRow.table_of g.R.RowRef.shown c.args.self.now.tables.now) refl) c.as_slice-3.ensures c.in_ok-items-2.ensures
+    filtered_is (holds_of (world_of g.R.TableRow.table_of g.R.RowRef.shown c.args.self.now.tables.now) c.args.condition.now c.args.slots.now) _ _ _ _ _ _ _ _
+    c.in_ok-items.ensures c.as_slice.ensures c.in_ok-truths.ensures c.as_slice-2.ensures c.in_ok-items-2.ensures
 
 pub all-returns : goal.all-returns
 all-returns g t c =
     subst (λ m. IsAnswer (as_truth m) c.all_told.result)
-    (all_is (world_of g.R.TableRow.table_of g.R.RowRef.shown c.args.self.now.tables.now)
-    (of_item (world_of g.R.TableRow.table_of g.R.RowRef.shown c.args.self.now.tables.now) c.args.condition.now c.args.slots.now) _ _ _ _ _ _ _ _ _ _
-    c.in_ok-items.ensures c.as_slice.ensures c.in_ok-values.ensures c.as_slice-2.ensures
-    (c.in_ok-truths.ensures (world_of g.R.TableRow.table_of g.R.RowRef.shown c.args.self.now.tables.now) refl) c.as_slice-3.ensures)
+    (all_is (holds_of (world_of g.R.TableRow.table_of g.R.RowRef.shown c.args.self.now.tables.now) c.args.condition.now c.args.slots.now) _ _ _ _ _ _ _
+    c.in_ok-items.ensures c.as_slice.ensures c.in_ok-truths.ensures c.as_slice-2.ensures)
     c.all_told.ensures
+
+pub holds-returns : goal.holds-returns
+holds-returns g t c =
+    c.told.ensures (holds_of (world_of g.R.TableRow.table_of g.R.RowRef.shown c.args.self.now.tables.now) c.args.condition.now c.args.slots.now c.args.item.now)
+    (subst (λ vs. Answers (truth_in (world_of g.R.TableRow.table_of g.R.RowRef.shown c.args.self.now.tables.now) (form_meaning (world_of g.R.TableRow.table_of g.R.RowRef.shown c.args.self.now.tables.now) c.args.condition.now vs)) c.truth.result) c.with.ensures
+    c.truth.ensures)
+
+pub truths-loop-item-preserved : goal.truths-loop-item-preserved
+truths-loop-item-preserved g t c =
+    select_goes (holds_of (world_of g.R.TableRow.table_of g.R.RowRef.shown c.args.self.now.tables.now) c.args.condition.now c.args.slots.now) c.args.items.now c.args.end _ c.loop-item.made _ _ _ _
+    c.item-item.is c.loop-item-test.true (sym c.in-Ok.is ∙ c.in_ok-truth.ensures) c.in_ok-push-in-Ok.ensures.ok c.loop-item.invariant
+
+pub truths-returns-in-Err : goal.truths-returns-in-Err
+truths-returns-in-Err g t c =
+    select_stops (holds_of (world_of g.R.TableRow.table_of g.R.RowRef.shown c.args.self.now.tables.now) c.args.condition.now c.args.slots.now) c.args.items.now c.args.end _ c.loop-item.made _ _ _
+    c.item-item.is c.loop-item-test.true (sym c.in-Err.is ∙ c.in_ok-truth.ensures) c.loop-item.invariant
 
 pub members-loop-field-preserved : goal.members-loop-field-preserved
 members-loop-field-preserved g t c =

@@ -10,7 +10,7 @@ use Rattle.lq_operators.specs.Matching.{pairs_of}
 use Rattle.lq_pipe.specs.Arrangements.{column_of, key_at}
 use Rattle.lq_pipe.specs.Items.{expanded_of, joined_of, keyed_of, with_key_of}
 use Rattle.lq_pipe.specs.Lists.{field_means}
-use Rattle.lq_pipe.specs.Running.{of_item}
+use Rattle.lq_pipe.specs.Running.{holds_of, of_item}
 use Rattle.lq_pipe.specs.Slots.{values_in}
 use Rattle.lq_pipe.specs.Worlds.{world_of}
 use Rattle.lq_pipe.proofs.StreamLemmas.{Goes}
@@ -37,14 +37,20 @@ decreases-of_item g l = 8 * the_size l.body.now + 1
 abbrev pub decreases-selected : goal.decreases-selected
 decreases-selected g l = 8 * the_size l.body.now + 2
 
+abbrev pub decreases-holds : goal.decreases-holds
+decreases-holds g l = 8 * the_size l.condition.now + 3
+
+abbrev pub decreases-truths : goal.decreases-truths
+decreases-truths g l = 8 * the_size l.condition.now + 4
+
 abbrev pub decreases-mapped : goal.decreases-mapped
 decreases-mapped g l = 8 * max (the_size l.source.now) (the_size l.body.now) + 3
 
 abbrev pub decreases-filtered : goal.decreases-filtered
-decreases-filtered g l = 8 * max (the_size l.source.now) (the_size l.condition.now) + 3
+decreases-filtered g l = 8 * max (the_size l.source.now) (the_size l.condition.now) + 5
 
 abbrev pub decreases-all : goal.decreases-all
-decreases-all g l = 8 * max (the_size l.source.now) (the_size l.condition.now) + 3
+decreases-all g l = 8 * max (the_size l.source.now) (the_size l.condition.now) + 5
 
 abbrev pub decreases-first : goal.decreases-first
 decreases-first g l = 8 * the_size l.pair.now + 5
@@ -69,6 +75,9 @@ decreases-unary g l = 8 * the_size l.operand.now + 5
 
 abbrev pub decreases-binary : goal.decreases-binary
 decreases-binary g l = 8 * max (the_size l.left.now) (the_size l.right.now) + 5
+
+abbrev pub decreases-binary_beside : goal.decreases-binary_beside
+decreases-binary_beside g l = 8 * the_size l.right.now + 4
 
 abbrev pub decreases-both : goal.decreases-both
 decreases-both g l = 8 * max (the_size l.left.now) (the_size l.right.now) + 5
@@ -101,7 +110,7 @@ abbrev pub decreases-given : goal.decreases-given
 decreases-given g l = 8 * max (the_size l.source.now) (the_size l.argument.now) + 5
 
 abbrev pub decreases-through : goal.decreases-through
-decreases-through g l = 8 * max (the_size l.source.now) (the_size l.body.now) + 5
+decreases-through g l = 8 * max (the_size l.source.now) (the_size l.body.now) + 6
 
 abbrev pub decreases-expanded_item : goal.decreases-expanded_item
 decreases-expanded_item g l = 8 * max (the_size l.inner.now) (the_size l.body.now) + 3
@@ -164,6 +173,12 @@ abbrev pub invariant-selected-loop-item : goal.invariant-selected-loop-item
 invariant-selected-loop-item g l =
     Goes (λ v. one (of_item (world_of g.R.TableRow.table_of g.R.RowRef.shown l.fn.self.tables.now) l.fn.body l.fn.slots v)) l.items l.fn.end
     (select_by (of_item (world_of g.R.TableRow.table_of g.R.RowRef.shown l.fn.self.tables.now) l.fn.body l.fn.slots) l.items l.fn.end) l.made l.item-index
+
+-- the truth values so far, and those of the items that are left
+abbrev pub invariant-truths-loop-item : goal.invariant-truths-loop-item
+invariant-truths-loop-item g l =
+    Goes (λ v. one (holds_of (world_of g.R.TableRow.table_of g.R.RowRef.shown l.fn.self.tables.now) l.fn.condition l.fn.slots v)) l.items l.fn.end
+    (select_by (holds_of (world_of g.R.TableRow.table_of g.R.RowRef.shown l.fn.self.tables.now) l.fn.condition l.fn.slots) l.items l.fn.end) l.made l.item-index
 
 -- the members so far, and those that are left
 abbrev pub invariant-members-loop-field : goal.invariant-members-loop-field

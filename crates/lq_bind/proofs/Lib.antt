@@ -1,0 +1,5 @@
+pub mod FrameLemmas
+pub mod Layers
+pub mod MethodLemmas
+pub mod TermLemmas
+pub mod WalkLemmas

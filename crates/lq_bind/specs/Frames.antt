@@ -1,0 +1,52 @@
+-- The places that a frame stands for, and what the variables of an item stand for.
+use Rattle.std.specs.Prelude.{◌||◌, [], List, ℕ, Bool, Option, option_map}
+use Rattle.std.specs.Str.{bytes_eq}
+use Rattle.lq_value.specs.declared.ty.Ty.{Ty}
+use Rattle.lq_model.specs.Operators.{Pattern, One, With}
+use Rattle.lq_model.specs.Types.{is_fresh}
+use Rattle.lq_tree.specs.Binding.{Stage, stage_of, tree_of}
+use Rattle.lq_tree.specs.Places.{Place, Places, names_of_places, place_of, with_item, with_name}
+use Rattle.lq_tree.specs.declared.tree.Tree.{Tree}
+use Rattle.lq_bind.specs.Outcomes.{no_places}
+use Rattle.lq_bind.specs.declared.frames.Frame.{Frame, fold-Frame}
+use Rattle.lq_bind.specs.declared.frames.Frame.TheOpen.{Frame-F}
+use Rattle.lq_bind.specs.declared.variables.Variables.{Variables, fold-Variables}
+use Rattle.lq_bind.specs.declared.variables.Variables.TheOpen.{Variables-F}
+use Rattle.lq_bind.specs.declared.variables.Behind.{Behind}
+
+abbrev pub pattern_step : Variables-F Pattern → Pattern
+pattern_step (Variables-F.One n t) = One n t
+pattern_step (Variables-F.With p n t) = With p n t
+
+-- what an item with these variables stands for
+unfoldable pub pattern_in : Variables → Pattern
+pattern_in = fold-Variables Pattern pattern_step
+
+-- whether the name is that of a variable
+abbrev pub is_among : List ℕ → Pattern → Bool
+is_among name (One n t) = bytes_eq n name
+is_among name (With p n t) = bytes_eq n name || is_among name p
+
+abbrev pub frame_step : Frame-F Places → Places
+frame_step Frame-F.Top = no_places
+frame_step (Frame-F.Item outer variables) = with_item outer.now (pattern_in variables.now)
+frame_step (Frame-F.Name outer name t) = with_name outer.now name.now t.now
+
+-- the places that a frame stands for
+unfoldable pub places_in : Frame → Places
+places_in = fold-Frame Places frame_step
+
+-- what is known by a place
+abbrev pub tree_at : Place → Tree
+tree_at place = tree_of place.ty place.form
+
+-- whether a name may be brought in there; tables hide no name
+abbrev pub is_fresh_in : Places → List ℕ → Bool
+is_fresh_in places name = is_fresh (names_of_places [] places) name
+
+-- what stands behind a call
+abbrev pub stage_in : Behind → Stage
+stage_in behind = stage_of (pattern_in behind.variables) behind.form
+
+abbrev pub found_stage : Option Behind → Option Stage
+found_stage found = option_map stage_in found

@@ -1,0 +1,4 @@
+pub mod Bound
+pub mod Frames
+pub mod MethodNames
+pub mod Outcomes

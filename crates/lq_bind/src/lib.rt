@@ -1,0 +1,23 @@
+//! The binding of terms: each is given its typed tree, or refused where it has no type.
+#![tactic(auto)]
+
+mod binder;
+mod bindings;
+mod error;
+mod fields;
+mod frames;
+mod members;
+mod method_names;
+mod methods;
+mod names;
+mod operations;
+mod pairs;
+mod placed;
+mod queries;
+mod records;
+mod sources;
+mod stage_forms;
+mod variables;
+
+pub use bindings::{Scope, bind, bind_term};
+pub use error::BindError;

@@ -1,0 +1,5 @@
+pub mod ReplyLemmas
+pub mod RowLemmas
+pub mod SeenLemmas
+pub mod StoredLemmas
+pub mod TableLemmas

@@ -1,0 +1,116 @@
+-- The reply that a tree gives is the machine's for each expression that is bound to it; and the reply of one without a tree is a refusal.
+use Rattle.std.proofs.Common.{◌≡◌, ◌∙◌, List, [], map, ℕ, Option, Some, None, Result, ap, sym, refl, codes, option_map, slice_get, Vec}
+use Rattle.std.specs.declared.alloc.Global.{Global}
+use Rattle.std.proofs.lemmas.Simd.{map-map}
+use Rattle.lq_value.specs.Tables.{Table}
+use Rattle.lq_value.specs.declared.table.Schema.{Schema}
+use Rattle.lq_value.specs.declared.ty.Ty.{Ty, out-Ty}
+use Rattle.lq_value.specs.declared.ty.Ty.TheOpen.{Ty-F}
+use Rattle.lq_value.specs.declared.value.Fault.{Fault}
+use Rattle.lq_value.specs.declared.value.Fault.TheVariants as fault
+use Rattle.lq_value.specs.declared.value.Value.{Value}
+use Rattle.lq_bind.specs.Outcomes.{no_places}
+use Rattle.lq_model.specs.ClauseTyping.{expression_type}
+use Rattle.lq_model.specs.Machine.{State, cells_of, run_reply, schemas_of, seen_by_role, served, served_as, served_type, top_names, world_of}
+use Rattle.lq_model.specs.Meaning.{World}
+use Rattle.lq_model.specs.MeaningLaws.{Every}
+use Rattle.lq_model.specs.Served.{columns_in, error_data, line_of}
+use Rattle.lq_model.specs.Types.{has_place, if_placed, when}
+use Rattle.lq_model.specs.Visible.{TableRow, cell_named, tables_as_seen}
+use Rattle.lq_model.specs.WholeMeaning.{expression_meaning}
+use Rattle.lq_model.specs.WholeMeaningLaws.{IsValueOf}
+use Rattle.lq_model.specs.declared.policy.PolicyParts.{PolicyParts}
+use Rattle.lq_model.specs.declared.calls.Term.{Term}
+use Rattle.lq_model.specs.declared.syntax.Expr.{Expr}
+use Rattle.lq_model.proofs.EveryItem.{every_none}
+use Rattle.lq_model.proofs.MeaningLemmas.{holds_seen}
+use Rattle.lq_store.specs.Rules.{IsTable}
+use Rattle.lq_pipe.specs.Worlds.{world_of as world_of_tables}
+use Rattle.lq_pipe.specs.declared.tables.TableRows.{TableRows}
+use Rattle.lq_translate.specs.Translated.{translated}
+use Rattle.lq_translate.proofs.Alike.{terms_mean, terms_typed}
+use Rattle.lq_tree.specs.Binding.{term_tree}
+use Rattle.lq_tree.specs.FormMeaning.{form_meaning}
+use Rattle.lq_tree.specs.Places.{names_of_places}
+use Rattle.lq_tree.specs.Rows.{OverRows}
+use Rattle.lq_tree.specs.declared.tree.Tree.{Tree}
+use Rattle.lq_tree.proofs.TermMeans.{meanings_same}
+use Rattle.lq_tree.proofs.TermTypes.{types_same}
+use Rattle.lq_run.specs.Replies.{AnswersTerm, AnswersTree, IsTreeOf, run_line}
+use Rattle.lq_run.specs.SeenRows.{AreSeen, cells_in, number_in, shown_row, shown_rows}
+use Rattle.lq_run.specs.TreeReply.{data_by, tree_data}
+use Rattle.lq_run.specs.declared.seen.SeenRow.{SeenRow}
+use Rattle.lq_run.proofs.RowLemmas.{same_reply}
+use Rattle.lq_run.proofs.StoredLemmas.{typed_tables}
+
+-- an expression's type is that of its tree, and it has none where it has no tree
+tree_type : (schemas : List Schema) (e : Expr) → option_map (λ tree. tree.ty) (term_tree schemas (translated e) no_places) ≡ expression_type e (top_names schemas)
+tree_type schemas e = types_same schemas (translated e) no_places ∙ terms_typed e (names_of_places schemas no_places)
+
+module _ (parts : PolicyParts) (role : ℕ) (tables : List Table) where
+  abbrev state : State
+  state = record { tables = tables; policies = parts; role = role }
+
+  abbrev schemas : List Schema
+  schemas = schemas_of tables
+
+  abbrev world : World TableRow
+  world = world_of schemas (seen_by_role state)
+
+  -- what is served of a value, by its type
+  by_layer : (t : Ty) (layer : Ty-F Ty) (found : Result (Value TableRow) Fault) → out-Ty t ≡ layer
+      → data_by cells_of schemas world t layer found ≡ served world (when (has_place layer) (Some t)) found
+  by_layer t Ty-F.Null found is = refl
+  by_layer t layer found is = sym (ap (λ (l : Ty-F Ty). served_as world t l found) is)
+
+  -- the tree means what the expression means
+  tree_means : Every IsTable tables → (e : Expr) (tree : Tree) → IsTreeOf parts role tables e tree → form_meaning world tree.form [] ≡ expression_meaning world e []
+  tree_means kept e tree is =
+      (meanings_same world (holds_seen state (typed_tables tables kept) fault.NullReference) (translated e) no_places [] [] (every_none (λ b. IsValueOf world b.ty b.value))
+      (refl, tt) tree is).0
+      ∙ terms_mean world e []
+
+  -- the reply of the tree is the machine's
+  pub tree_reply : Every IsTable tables → (e : Expr) (tree : Tree) → IsTreeOf parts role tables e tree
+      → tree_data cells_of schemas world tree ≡ run_reply schemas (tables_as_seen parts role tables) e
+  unfolding run_reply
+  tree_reply kept e tree is =
+      by_layer tree.ty (out-Ty tree.ty) (form_meaning world tree.form []) refl
+      ∙ ap (λ (o : Option Ty). served world (if_placed o) (form_meaning world tree.form [])) (ap (option_map (λ t. t.ty)) (sym is) ∙ tree_type schemas e)
+      ∙ ap (served world (served_type schemas e)) (tree_means kept e tree is)
+
+  -- the refusal of an expression that has no tree
+  pub no_tree : (e : Expr) → term_tree (schemas_of tables) (translated e) no_places ≡ None → line_of (error_data (codes "type")) ≡ run_line parts role tables e
+  unfolding run_reply
+  no_tree e none =
+      ap (λ (o : Option Ty). line_of (served world (if_placed o) (expression_meaning world e [])))
+      (ap (option_map (λ t. t.ty)) (sym none) ∙ tree_type schemas e)
+
+  -- a line for the tree of a term is one for the term
+  pub term_reply : (term : Term) (tree : Tree) (line : List ℕ) → term_tree (schemas_of tables) term no_places ≡ Some tree
+      → AnswersTree parts role tables tree line → AnswersTerm parts role tables term line
+  term_reply term tree line bound answers e is = answers e (ap (λ t. term_tree (schemas_of tables) t no_places) (sym is) ∙ bound)
+
+  -- and the refusal is one for a term without a tree
+  pub term_refused : (term : Term) (line : List ℕ) → term_tree (schemas_of tables) term no_places ≡ None → line ≡ line_of (error_data (codes "type"))
+      → AnswersTerm parts role tables term line
+  term_refused term line none so e is = so ∙ no_tree e (ap (λ t. term_tree (schemas_of tables) t no_places) (sym is) ∙ none)
+
+  -- the rows of the tables that a run reads are those that the machine reads
+  over : (seen : List (Vec SeenRow Global)) (made : List (TableRows SeenRow)) → map shown_rows seen ≡ tables_as_seen parts role tables → AreSeen tables seen made
+      → OverRows shown_row (world_of_tables number_in cells_in made) world
+  over seen made is with_them =
+      record {
+        schemas = sym with_them.schemas;
+        rows = sym is ∙ sym (map-map (map shown_row) (λ rows. rows.items) seen) ∙ ap (map (map shown_row)) (sym with_them.rows);
+        cells = λ r column. ap (λ (given : List Schema). cell_named (columns_in (slice_get given r.table)) r.row.now.cells column) (sym with_them.schemas);
+        unknown = refl;
+      }
+
+  -- so a run's line is the machine's
+  pub answers_tree : (seen : List (Vec SeenRow Global)) (made : List (TableRows SeenRow)) (tree : Tree) (line : List ℕ) → map shown_rows seen ≡ tables_as_seen parts role tables
+      → AreSeen tables seen made → line ≡ line_of (tree_data cells_in schemas (world_of_tables number_in cells_in made) tree) → AnswersTree parts role tables tree line
+  answers_tree seen made tree line is with_them so e bound =
+      so
+      ∙ ap line_of (sym (same_reply shown_row (world_of_tables number_in cells_in made) world (over seen made is with_them) cells_in cells_of (λ r. refl) schemas tree))
+      ∙ ap line_of (tree_reply with_them.kept e tree bound)

@@ -1,0 +1,3 @@
+pub mod Replies
+pub mod SeenRows
+pub mod TreeReply

@@ -1,0 +1,42 @@
+-- The rows that a role sees, as the code keeps them.
+use Rattle.std.specs.Prelude.{◌≡◌, List, Vec, map, ℕ, filter}
+use Rattle.std.specs.declared.alloc.Global.{Global}
+use Rattle.lq_value.specs.Tables.{Table}
+use Rattle.lq_value.specs.declared.scalar.Scalar.{Scalar}
+use Rattle.lq_value.specs.declared.table.Row.{Row}
+use Rattle.lq_store.specs.Rules.{IsTable}
+use Rattle.lq_model.specs.Machine.{schemas_of}
+use Rattle.lq_model.specs.MeaningLaws.{Every}
+use Rattle.lq_model.specs.Visible.{TableRow}
+use Rattle.lq_policy.specs.RowRules.{admits}
+use Rattle.lq_policy.specs.declared.row_rules.RowRules.{RowRules}
+use Rattle.lq_pipe.specs.Worlds.{rows_in, schemas_in}
+use Rattle.lq_pipe.specs.declared.tables.TableRows.{TableRows}
+use Rattle.lq_run.specs.declared.seen.SeenRow.{SeenRow}
+
+abbrev pub shown_row : SeenRow → TableRow
+shown_row r = record { table = r.table; row = r.row.now }
+
+-- the number of a row's table, and its cells
+abbrev pub number_in : SeenRow → ℕ
+number_in r = r.table
+
+abbrev pub cells_in : SeenRow → List Scalar
+cells_in r = r.row.now.cells
+
+-- the rows of a table that rules admit
+abbrev pub admitted_rows : RowRules → ℕ → List Row → List TableRow
+admitted_rows rules table rows = map (λ row. record { table = table; row = row }) (filter (λ row. admits rules row.cells) rows)
+
+abbrev pub shown_rows : Vec SeenRow Global → List TableRow
+shown_rows rows = map shown_row rows.items
+
+-- the rows of each table, as lists
+abbrev pub row_lists : List (Vec SeenRow Global) → List (List SeenRow)
+row_lists seen = map (λ rows. rows.items) seen
+
+-- Tables with the rows that are seen of them: the store's schemas in their order, each table with its rows. The store's tables keep their rules.
+pub record AreSeen (store : List Table) (seen : List (Vec SeenRow Global)) (tables : List (TableRows SeenRow)) : Type 0 where
+  pub schemas : schemas_in tables ≡ schemas_of store
+  pub rows : rows_in tables ≡ row_lists seen
+  pub kept : Every IsTable store
