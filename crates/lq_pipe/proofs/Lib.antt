@@ -4,3 +4,4 @@ pub mod ItemLemmas
 pub mod PartLemmas
 pub mod SlotLemmas
 pub mod StreamLemmas
+pub mod TruthLemmas
