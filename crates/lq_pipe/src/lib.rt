@@ -3,6 +3,7 @@
 
 mod arrangements;
 mod clauses;
+mod conditions;
 mod kept;
 mod methods;
 mod operations;

@@ -230,15 +230,6 @@ impl<'a, R: TableRow> Running<'a, R> {
         }
     }
 
-    /// The truth value that a form means.
-    #[cycle(running)]
-    #[inline(never)]
-    pub(crate) fn truth(&self, form: &Form, slots: &Slots<'_, R>) -> Result<bool, RunError>
-        ensures { Answers (truth_in (world_of R.table_of R.shown self.now.tables.now) (meant (world_of R.table_of R.shown self.now.tables.now) form.now slots.now)) result }
-    {
-        scalars::truth(&self.scalar(form, slots)?)
-    }
-
     /// What a form means, borrowed where it is a part of what stands in a slot.
     #[cycle(running)]
     fn reach<'s>(&self, form: &Form, slots: &'s Slots<'_, R>) -> Result<Reached<'s, R>, RunError>

@@ -190,3 +190,8 @@ columns-loop-key-preserved g t c =
 pub key_of-returns : goal.key_of-returns
 key_of-returns g t c =
     key_answer (world_of g.R.TableRow.table_of g.R.RowRef.shown c.args.self.now.tables.now) (values_in c.args.slots.now) _ c.args.item.now c.args.key.now c.scalar.result c.with.ensures c.scalar.ensures
+
+pub truth_of_two-returns-in_ok-binary-in-None : goal.truth_of_two-returns-in_ok-binary-in-None
+truth_of_two-returns-in_ok-binary-in-None g t c =
+    subst (λ m. Answers (truth_in (world_of g.R.TableRow.table_of g.R.RowRef.shown c.args.self.now.tables.now) m) c.truth_in.result) (sym c.in_ok-binary-in-None.ensures)
+    (c.truth_in.ensures (world_of g.R.TableRow.table_of g.R.RowRef.shown c.args.self.now.tables.now) refl)

@@ -28,6 +28,15 @@ decreases-scalar g l = 8 * the_size l.form.now + 1
 abbrev pub decreases-truth : goal.decreases-truth
 decreases-truth g l = 8 * the_size l.form.now + 2
 
+abbrev pub decreases-truth_of_both : goal.decreases-truth_of_both
+decreases-truth_of_both g l = 8 * max (the_size l.left.now) (the_size l.right.now) + 5
+
+abbrev pub decreases-truth_of_either : goal.decreases-truth_of_either
+decreases-truth_of_either g l = 8 * max (the_size l.left.now) (the_size l.right.now) + 5
+
+abbrev pub decreases-truth_of_two : goal.decreases-truth_of_two
+decreases-truth_of_two g l = 8 * max (the_size l.left.now) (the_size l.right.now) + 6
+
 abbrev pub decreases-reach : goal.decreases-reach
 decreases-reach g l = 8 * the_size l.form.now + 1
 
