@@ -1,12 +1,36 @@
 -- Items that are pulled one by one.
-use Rattle.std.proofs.Common.{◌≡◌, ◌∷◌, ◌++◌, ◌+◌, ◌<◌, List, [], ℕ, zero, suc, Bool, true, false, Result, Ok, Err, ap, ◌∙◌, sym, refl, subst, append-nil, length, reverse, arith}
+use Rattle.std.proofs.Common.{◌≡◌, ◌∷◌, ◌++◌, ◌+◌, ◌<◌, List, [], ℕ, zero, suc, Bool, true, false, Result, Ok, Err, ap, ◌∙◌, sym, refl, subst, append_assoc, append-nil, length, reverse, arith}
 use Rattle.std.proofs.lemmas.List.{reverse-append, reverse-reverse}
 use Rattle.lq_value.specs.declared.value.End.{End}
 use Rattle.lq_value.specs.declared.value.End.TheVariants as end
 use Rattle.lq_value.specs.declared.value.Fault.{Fault}
 use Rattle.lq_value.specs.declared.value.Value.{Value}
-use Rattle.lq_model.specs.Enumerable.{in_front}
+use Rattle.lq_model.specs.Enumerable.{in_front, take_first}
 use Rattle.lq_model.specs.Stream.{Stream, each, kept, one, select_by, then_ending, then_stream, where_by}
+use Rattle.lq_model.specs.declared.methods.Through.TheVariants as through
+use Rattle.lq_model.specs.Meaning.{World, stream_of}
+use Rattle.lq_model.specs.declared.methods.Given.{Given}
+use Rattle.lq_model.specs.declared.methods.Simple.{Simple}
+use Rattle.lq_model.specs.declared.operation.Op.{Op}
+use Rattle.lq_model.specs.declared.syntax.Field.{Field}
+use Rattle.lq_model.specs.declared.syntax.SortKey.{SortKey}
+use Rattle.lq_value.specs.declared.scalar.Scalar.{Scalar}
+use Rattle.lq_value.specs.declared.ty.Ty.{Ty}
+use Rattle.lq_tree.specs.FormMeaning.{Slots, form_meaning, is_true, with_item}
+use Rattle.lq_tree.specs.declared.tree.Form.{Form, map-Form, out-Form, para-Form, para-roll-Form, roll-Form}
+use Rattle.lq_tree.specs.declared.tree.Form.TheOpen.{Form-F}
+use Rattle.lq_tree.specs.declared.tree.Form.TheVariants as form
+use Rattle.lq_tree.specs.declared.tree.Form.TheViews.{roll-out-Form}
+use Rattle.lq_tree.specs.declared.tree.Joined.{Joined}
+use Rattle.lq_pipe.specs.Pulling.{Steps, base_stream, left, passed_at, passed_on, passed_step, pulled, staged}
+use Rattle.lq_pipe.specs.declared.bases.Base.{Base}
+use Rattle.lq_pipe.specs.declared.stages.Passed.{Passed}
+use Rattle.lq_pipe.specs.declared.stages.Passed.TheVariants as passed
+use Rattle.lq_pipe.specs.declared.stages.Stage.{Stage}
+use Rattle.lq_pipe.specs.declared.stages.Stage.TheVariants as stage
+use Rattle.lq_pipe.specs.declared.stages.Step.{Step}
+use Rattle.lq_pipe.specs.declared.stages.Step.TheVariants as step
+use Rattle.lq_pipe.proofs.Forms.{form_through}
 use Rattle.lq_pipe.proofs.StreamLemmas.{then_assoc}
 
 -- ---- bases
@@ -50,3 +74,216 @@ pub each_one : {A : Type 0} (f : A → Stream A) → ((x : A) → f x ≡ (x ∷
 each_one f same [] e = refl
 each_one f same (x ∷ xs) e =
     ap (λ (s : Stream _). then_stream s (each f xs e)) (same x) ∙ ap (λ (s : Stream _). (x ∷ s.0, s.1)) (each_one f same xs e)
+
+-- what was made of the items before, with what comes of those that are left
+module _ {A B : Type 0} (f : A → Stream B) where
+  abbrev pub Comes : Stream A → Stream B → List B → Type 0
+  Comes left all made = then_ending made end.Done (each f left.0 left.1) ≡ all
+
+  at_front : (old new : Stream A) (x : A) (all : Stream B) (made : List B) → old ≡ in_front x new → Comes old all made
+      → then_ending made end.Done (then_stream (f x) (each f new.0 new.1)) ≡ all
+  at_front old new x all made is comes = ap (λ (s : Stream A). then_ending made end.Done (each f s.0 s.1)) (sym is) ∙ comes
+
+  pub comes_on : (old new : Stream A) (x : A) (all : Stream B) (made more vs : List B) → old ≡ in_front x new → f x ≡ (vs, end.Done) → more ≡ made ++ vs
+      → Comes old all made → Comes new all more
+  comes_on old new x all made more vs is gives more_is comes =
+      ap (λ l. then_ending l end.Done (each f new.0 new.1)) more_is
+      ∙ sym (then_assoc made end.Done vs end.Done (each f new.0 new.1))
+      ∙ ap (λ (s : Stream B). then_ending made end.Done (then_stream s (each f new.0 new.1))) (sym gives)
+      ∙ at_front old new x all made is comes
+
+  pub comes_stopped : (old new : Stream A) (x : A) (all : Stream B) (made more vs : List B) (g : Fault) → old ≡ in_front x new → f x ≡ (vs, end.Fault g)
+      → more ≡ made ++ vs → Comes old all made → (more, end.Fault g) ≡ all
+  comes_stopped old new x all made more vs g is gives more_is comes =
+      ap (λ l. (l, end.Fault g)) more_is
+      ∙ ap (λ (s : Stream B). then_ending made end.Done (then_stream s (each f new.0 new.1))) (sym gives)
+      ∙ at_front old new x all made is comes
+
+  pub comes_ended : (old : Stream A) (all : Stream B) (made : List B) (e : End) → old ≡ ([], e) → Comes old all made → (made, e) ≡ all
+  comes_ended old all made e is comes =
+      ap (λ l. (l, e)) (sym (append-nil made)) ∙ ap (λ (s : Stream A). then_ending made end.Done (each f s.0 s.1)) (sym is) ∙ comes
+
+-- the same of items that are kept as they are
+module _ {A : Type 0} where
+  pub drained_on : (old new all : Stream A) (x : A) (made more : List A) → old ≡ in_front x new → more ≡ made ++ x ∷ []
+      → then_ending made end.Done old ≡ all → then_ending more end.Done new ≡ all
+  drained_on old new all x made more is more_is goes =
+      ap (λ l. (l ++ new.0, new.1)) more_is ∙ ap (λ l. (l, new.1)) (append_assoc made (x ∷ []) new.0)
+      ∙ ap (λ (s : Stream A). then_ending made end.Done s) (sym is) ∙ goes
+
+  pub drained_ended : (old all : Stream A) (made : List A) (e : End) → old ≡ ([], e) → then_ending made end.Done old ≡ all → (made, e) ≡ all
+  drained_ended old all made e is goes =
+      ap (λ l. (l, e)) (sym (append-nil made)) ∙ ap (λ (s : Stream A). then_ending made end.Done s) (sym is) ∙ goes
+
+  pub taken_on : (old new all : Stream A) (x : A) (made more : List A) (wanted n : ℕ) → old ≡ in_front x new → more ≡ made ++ x ∷ [] → wanted ≡ suc n
+      → then_ending made end.Done (take_first wanted old.0 old.1) ≡ all → then_ending more end.Done (take_first n new.0 new.1) ≡ all
+  taken_on old new all x made more wanted n is more_is counts goes =
+      ap (λ l. (l ++ (take_first n new.0 new.1).0, (take_first n new.0 new.1).1)) more_is
+      ∙ ap (λ l. (l, (take_first n new.0 new.1).1)) (append_assoc made (x ∷ []) (take_first n new.0 new.1).0)
+      ∙ ap (λ (s : Stream A). then_ending made end.Done (take_first (suc n) s.0 s.1)) (sym is)
+      ∙ ap (λ k. then_ending made end.Done (take_first k old.0 old.1)) (sym counts) ∙ goes
+
+  pub taken_ended : (old all : Stream A) (made : List A) (e : End) (wanted n : ℕ) → old ≡ ([], e) → wanted ≡ suc n
+      → then_ending made end.Done (take_first wanted old.0 old.1) ≡ all → (made, e) ≡ all
+  taken_ended old all made e wanted n is counts goes =
+      ap (λ l. (l, e)) (sym (append-nil made)) ∙ ap (λ (s : Stream A). then_ending made end.Done (take_first (suc n) s.0 s.1)) (sym is)
+      ∙ ap (λ k. then_ending made end.Done (take_first k old.0 old.1)) (sym counts) ∙ goes
+
+  pub taken_whole : (old all : Stream A) (made : List A) (wanted : ℕ) → wanted ≡ 0
+      → then_ending made end.Done (take_first wanted old.0 old.1) ≡ all → (made, end.Done) ≡ all
+  taken_whole old all made wanted none goes =
+      ap (λ l. (l, end.Done)) (sym (append-nil made)) ∙ ap (λ k. then_ending made end.Done (take_first k old.0 old.1)) (sym none) ∙ goes
+
+  pub fewer : (old new : Stream A) (x : A) → old ≡ in_front x new → length new.0 < length old.0
+  fewer old new x is = let same : length old.0 ≡ suc (length new.0) = ap (λ (s : Stream A). length s.0) is in omega (arith, same)
+
+
+-- ---- forms
+
+module _ {R : Type 0} (world : World R) (slots : Slots R) where
+  abbrev Passes : Type 0
+  Passes = Value R → Stream (Value R)
+
+  abbrev layer_passed : Form-F Form → Passes
+  layer_passed layer = passed_step world slots (map-Form Form (Form × Passes) (λ f. (f, passed_at world slots f)) layer)
+
+  rolled : (layer : Form-F Form) (x : Value R) → passed_at world slots (roll-Form layer) x ≡ layer_passed layer x
+  unfolding passed_at
+  rolled layer x = ap (λ (m : Passes). m x) (para-roll-Form Passes (passed_step world slots) layer)
+
+  passed_out : (f : Form) (x : Value R) → passed_at world slots f x ≡ layer_passed (out-Form f) x
+  passed_out f x = ap (λ g. passed_at world slots g x) (sym (roll-out-Form f)) ∙ rolled (out-Form f) x
+
+  at : (f : Form) (layer : Form-F Form) (x : Value R) → out-Form f ≡ layer → passed_at world slots f x ≡ layer_passed layer x
+  at f layer x h = passed_out f x ∙ ap (λ l. layer_passed l x) h
+
+  -- above a base an item is what it is
+  abbrev pub IsBase : Form → Type 0
+  IsBase f = (x : Value R) → passed_at world slots f x ≡ (x ∷ [], end.Done)
+
+  pub base_literal : (s : Scalar) → IsBase (form.Literal s)
+  base_literal s = λ x. at _ _ x (form.outs-Literal s)
+
+  pub base_slot : (n : ℕ) → IsBase (form.Slot n)
+  base_slot n = λ x. at _ _ x (form.outs-Slot n)
+
+  pub base_first : (a : Form) → IsBase (form.First a)
+  base_first a = λ x. at _ _ x (form.outs-First a)
+
+  pub base_second : (a : Form) → IsBase (form.Second a)
+  base_second a = λ x. at _ _ x (form.outs-Second a)
+
+  pub base_table : (n : ℕ) → IsBase (form.Table n)
+  base_table n = λ x. at _ _ x (form.outs-Table n)
+
+  pub base_column : (a : Form) (t c : ℕ) → IsBase (form.Column a t c)
+  base_column a t c = λ x. at _ _ x (form.outs-Column a t c)
+
+  pub base_member : (a : Form) (place : ℕ) → IsBase (form.Member a place)
+  base_member a place = λ x. at _ _ x (form.outs-Member a place)
+
+  pub base_key : (a : Form) → IsBase (form.Key a)
+  base_key a = λ x. at _ _ x (form.outs-Key a)
+
+  pub base_unary : (o : Op) (a : Form) → IsBase (form.Unary o a)
+  base_unary o a = λ x. at _ _ x (form.outs-Unary o a)
+
+  pub base_binary : (o : Op) (a b : Form) → IsBase (form.Binary o a b)
+  base_binary o a b = λ x. at _ _ x (form.outs-Binary o a b)
+
+  pub base_and : (a b : Form) → IsBase (form.And a b)
+  base_and a b = λ x. at _ _ x (form.outs-And a b)
+
+  pub base_or : (a b : Form) → IsBase (form.Or a b)
+  base_or a b = λ x. at _ _ x (form.outs-Or a b)
+
+  pub base_coalesce : (a b : Form) → IsBase (form.Coalesce a b)
+  base_coalesce a b = λ x. at _ _ x (form.outs-Coalesce a b)
+
+  pub base_conditional : (c a b : Form) → IsBase (form.Conditional c a b)
+  base_conditional c a b = λ x. at _ _ x (form.outs-Conditional c a b)
+
+  pub base_is_null : (wanted : Bool) (a : Form) → IsBase (form.IsNull wanted a)
+  base_is_null wanted a = λ x. at _ _ x (form.outs-IsNull wanted a)
+
+  pub base_record : (fields : List (Field Form)) → IsBase (form.Record fields)
+  base_record fields = λ x. at _ _ x (form.outs-Record fields)
+
+  pub base_pair : (a b : Form) → IsBase (form.Pair a b)
+  base_pair a b = λ x. at _ _ x (form.outs-Pair a b)
+
+  pub base_sequence : (a : Form) → IsBase (form.Sequence a)
+  base_sequence a = λ x. at _ _ x (form.outs-Sequence a)
+
+  pub base_simple : (method : Simple) (t : Ty) (a : Form) → IsBase (form.Simple method t a)
+  base_simple method t a = λ x. at _ _ x (form.outs-Simple method t a)
+
+  pub base_given : (method : Given) (a b : Form) → IsBase (form.Given method a b)
+  base_given method a b = λ x. at _ _ x (form.outs-Given method a b)
+
+  pub base_select_many : (a inner result : Form) → IsBase (form.SelectMany a inner result)
+  base_select_many a inner result = λ x. at _ _ x (form.outs-SelectMany a inner result)
+
+  pub base_join : (a : Form) (j : Joined Form) → IsBase (form.Join a j)
+  base_join a j = λ x. at _ _ x (form.outs-Join a j)
+
+  pub base_order_by : (a : Form) (ks : List (SortKey Form)) → IsBase (form.OrderBy a ks)
+  base_order_by a ks = λ x. at _ _ x (form.outs-OrderBy a ks)
+
+  pub base_group_by : (a key element : Form) → IsBase (form.GroupBy a key element)
+  base_group_by a key element = λ x. at _ _ x (form.outs-GroupBy a key element)
+
+  pub passed_where : (t u : Ty) (a f : Form) (x : Value R)
+      → passed_at world slots (form.Through through.Where t u a f) x ≡ staged world slots stage.Where f (passed_at world slots a x)
+  passed_where t u a f x = at _ _ x (form.outs-Through through.Where t u a f)
+
+  pub passed_select : (t u : Ty) (a f : Form) (x : Value R)
+      → passed_at world slots (form.Through through.Select t u a f) x ≡ staged world slots stage.Select f (passed_at world slots a x)
+  passed_select t u a f x = at _ _ x (form.outs-Through through.Select t u a f)
+
+  -- ---- bases of forms
+
+  -- what comes of the items of a base at a form
+  abbrev pub At : Form → Stream (Value R) → Stream (Value R)
+  At f b = each (passed_at world slots f) b.0 b.1
+
+  abbrev Kept : Form → Stream (Value R) → Stream (Value R)
+  Kept f s = staged world slots stage.Where f s
+
+  abbrev Made : Form → Stream (Value R) → Stream (Value R)
+  Made f s = staged world slots stage.Select f s
+
+  pub opens_base : (f : Form) (b s : Stream (Value R)) → IsBase f → b ≡ s → s ≡ stream_of world (form_meaning world f slots)
+      → At f b ≡ stream_of world (form_meaning world f slots)
+  opens_base f b s is same meant = each_one (passed_at world slots f) is b.0 b.1 ∙ same ∙ meant
+
+  pub opens_where : (t u : Ty) (a f : Form) (b : Stream (Value R)) → At a b ≡ stream_of world (form_meaning world a slots)
+      → At (form.Through through.Where t u a f) b ≡ stream_of world (form_meaning world (form.Through through.Where t u a f) slots)
+  opens_where t u a f b h =
+      (λ i. each (λ x. passed_where t u a f x i) b.0 b.1)
+      ∙ sym (each_each (λ v. kept (is_true world (form_meaning world f) (with_item world slots v)) v) (passed_at world slots a) b.0 b.1)
+      ∙ ap (Kept f) h
+      ∙ ap (stream_of world) (sym (form_through world through.Where t u a f slots))
+
+  pub opens_select : (t u : Ty) (a f : Form) (b : Stream (Value R)) → At a b ≡ stream_of world (form_meaning world a slots)
+      → At (form.Through through.Select t u a f) b ≡ stream_of world (form_meaning world (form.Through through.Select t u a f) slots)
+  opens_select t u a f b h =
+      (λ i. each (λ x. passed_select t u a f x i) b.0 b.1)
+      ∙ sym (each_each (λ v. one (form_meaning world f (with_item world slots v))) (passed_at world slots a) b.0 b.1)
+      ∙ ap (Made f) h
+      ∙ ap (stream_of world) (sym (form_through world through.Select t u a f slots))
+
+  -- ---- pulling
+
+  -- what is left of an opened base is all that is pulled
+  pub left_opened : (st : Stage) (a f : Form) (b : Base R) → At a (base_stream b) ≡ stream_of world (form_meaning world a slots)
+      → left world slots st a f b ≡ pulled world slots st a f
+  left_opened stage.Plain a f b h = h
+  left_opened stage.Where a f b h =
+      sym (each_each (λ v. kept (is_true world (form_meaning world f) (with_item world slots v)) v) (passed_at world slots a) (base_stream b).0 (base_stream b).1) ∙ ap (Kept f) h
+  left_opened stage.Select a f b h =
+      sym (each_each (λ v. one (form_meaning world f (with_item world slots v))) (passed_at world slots a) (base_stream b).0 (base_stream b).1) ∙ ap (Made f) h
+
+
+pub ruleset passes = (passed_where, passed_select, base_literal, base_slot, base_first, base_second, base_table, base_column, base_member, base_key, base_unary, base_binary, base_and, base_or, base_coalesce, base_conditional, base_is_null, base_record, base_pair, base_sequence, base_simple, base_given, base_select_many, base_join, base_order_by, base_group_by)
+pub ruleset opens = (opens_where, opens_select, opens_base, base_literal, base_slot, base_first, base_second, base_table, base_column, base_member, base_key, base_unary, base_binary, base_and, base_or, base_coalesce, base_conditional, base_is_null, base_record, base_pair, base_sequence, base_simple, base_given, base_select_many, base_join, base_order_by, base_group_by)

@@ -1,6 +1,6 @@
 pub mod Arrangements
+pub mod Counts
 pub mod Items
-pub mod Kept
 pub mod Lists
 pub mod Pulling
 pub mod Running

@@ -4,9 +4,9 @@ use Rattle.lq_value.specs.declared.value.End.TheVariants as end
 use Rattle.lq_value.specs.declared.value.Value.{Value}
 use Rattle.lq_value.specs.declared.value.Value.TheVariants as value
 use Rattle.lq_model.specs.Enumerable.{in_front}
-use Rattle.lq_model.specs.EnumerableCalls as of
 use Rattle.lq_model.specs.Meaning.{World, stream_of}
 use Rattle.lq_model.specs.Stream.{Stream, each, select_by, where_by}
+use Rattle.lq_model.specs.declared.methods.Through.TheVariants as through
 use Rattle.lq_tree.specs.FormMeaning.{Slots, form_meaning, is_true, with_item}
 use Rattle.lq_tree.specs.declared.tree.Form.{Form, para-Form}
 use Rattle.lq_tree.specs.declared.tree.Form.TheOpen.{Form-F}
@@ -45,8 +45,8 @@ module _ {R : Type 0} (world : World R) (slots : Slots R) where
 
   -- what an item of the base becomes at a form: it goes through each `Where` and `Select` above the base
   abbrev pub passed_step : Form-F (Form × (Value R → Stream (Value R))) → Value R → Stream (Value R)
-  passed_step (Form-F.Through of.Where t u a f) x = staged stage.Where f.0 (a.1 x)
-  passed_step (Form-F.Through of.Select t u a f) x = staged stage.Select f.0 (a.1 x)
+  passed_step (Form-F.Through through.Where t u a f) x = staged stage.Where f.0 (a.1 x)
+  passed_step (Form-F.Through through.Select t u a f) x = staged stage.Select f.0 (a.1 x)
   passed_step layer x = (x ∷ [], end.Done)
 
   unfoldable pub passed_at : Form → Value R → Stream (Value R)

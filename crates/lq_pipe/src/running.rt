@@ -6,6 +6,7 @@ ghost use Rattle.lq_pipe.specs.Running.{meant};
 
 use crate::reached::Reached;
 use crate::slots::Slots;
+use crate::stages::Stage;
 use crate::tables::{TableRow, TableRows, cell};
 use crate::{parts, scalars, sequences};
 use lq_operators::RunError;
@@ -162,7 +163,7 @@ impl<'a, R: TableRow> Running<'a, R> {
 
     /// What a form means, or its first fault.
     #[cycle(running)]
-    #[tactic(auto, using(crate::proofs::Forms::form_literal, crate::proofs::Forms::form_slot, crate::proofs::Forms::form_table))]
+    #[tactic(auto, using(crate::proofs::Forms::form_literal, crate::proofs::Forms::form_slot, crate::proofs::Forms::form_table, crate::proofs::Forms::form_simple))]
     pub(crate) fn evaluate(&self, form: &Form, slots: &Slots<'_, R>) -> Result<Value<R>, RunError>
         ensures { IsAnswer (meant (world_of R.table_of R.shown self.now.tables.now) form.now slots.now) result }
     {
@@ -187,7 +188,10 @@ impl<'a, R: TableRow> Running<'a, R> {
             Form::Record(fields) => self.record(fields, slots),
             Form::Pair(left, right) => self.pair(left.get(), right.get(), slots),
             Form::Sequence(source) => self.sequence(source.get(), slots),
-            Form::Simple(method, of, source) => self.simple(*method, of, source.get(), slots),
+            Form::Simple(method, of, source) => {
+                let source = source.get();
+                self.simple(*method, of, Stage::Plain, source, source, slots)
+            }
             Form::Given(method, source, argument) => {
                 self.given(*method, source.get(), argument.get(), slots)
             }

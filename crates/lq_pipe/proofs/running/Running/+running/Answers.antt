@@ -11,7 +11,7 @@ use Rattle.lq_pipe.specs.Running.{Answers, holds_of, of_item, scalar_in, truth_i
 use Rattle.lq_pipe.specs.Worlds.{world_of}
 use Rattle.lq_model.specs.WholeMeaning.{as_truth}
 use Rattle.lq_pipe.proofs.Forms.{given_answer, is_null_answer, members_goes}
-use Rattle.lq_pipe.proofs.StreamLemmas.{all_is, each_goes, each_stops, filtered_is, select_goes, select_stops}
+use Rattle.lq_pipe.proofs.StreamLemmas.{select_goes, select_stops}
 use Rattle.lq_pipe.proofs.running.Running.+running.Goals as goal
 
 pub stream-returns : goal.stream-returns
@@ -33,38 +33,11 @@ is_null-returns g t c =
     is_null_answer (world_of g.R.TableRow.table_of g.R.RowRef.shown c.args.self.now.tables.now) c.args.wanted c.args.operand.now _ _ _ _ c.in_ok-operand.ensures
     c.get.ensures (c.told_null-told.ensures (world_of g.R.TableRow.table_of g.R.RowRef.shown c.args.self.now.tables.now))
 
-pub given-returns : goal.given-returns
-given-returns g t c =
-    given_answer (world_of g.R.TableRow.table_of g.R.RowRef.shown c.args.self.now.tables.now) c.args.method c.args.source.now c.args.argument.now _ _ _ c.given.result
-    (c.in_ok-argument.ensures _ c.evaluate.ensures) c.in_ok-items.ensures (c.given.ensures (world_of g.R.TableRow.table_of g.R.RowRef.shown c.args.self.now.tables.now) refl)
-
-pub filtered-returns : goal.filtered-returns
-filtered-returns g t c =
-    filtered_is (holds_of (world_of g.R.TableRow.table_of g.R.RowRef.shown c.args.self.now.tables.now) c.args.condition.now c.args.slots.now) _ _ _ _ _ _ _ _
-    c.in_ok-items.ensures c.as_slice.ensures c.in_ok-truths.ensures c.as_slice-2.ensures c.in_ok-items-2.ensures
-
-pub all-returns : goal.all-returns
-all-returns g t c =
-    subst (λ m. IsAnswer (as_truth m) c.all_told.result)
-    (all_is (holds_of (world_of g.R.TableRow.table_of g.R.RowRef.shown c.args.self.now.tables.now) c.args.condition.now c.args.slots.now) _ _ _ _ _ _ _
-    c.in_ok-items.ensures c.as_slice.ensures c.in_ok-truths.ensures c.as_slice-2.ensures)
-    c.all_told.ensures
-
 pub holds-returns : goal.holds-returns
 holds-returns g t c =
     c.told.ensures (holds_of (world_of g.R.TableRow.table_of g.R.RowRef.shown c.args.self.now.tables.now) c.args.condition.now c.args.slots.now c.args.item.now)
     (subst (λ vs. Answers (truth_in (world_of g.R.TableRow.table_of g.R.RowRef.shown c.args.self.now.tables.now) (form_meaning (world_of g.R.TableRow.table_of g.R.RowRef.shown c.args.self.now.tables.now) c.args.condition.now vs)) c.truth.result) c.with.ensures
     c.truth.ensures)
-
-pub truths-loop-item-preserved : goal.truths-loop-item-preserved
-truths-loop-item-preserved g t c =
-    select_goes (holds_of (world_of g.R.TableRow.table_of g.R.RowRef.shown c.args.self.now.tables.now) c.args.condition.now c.args.slots.now) c.args.items.now c.args.end _ c.loop-item.made _ _ _ _
-    c.item-item.is c.loop-item-test.true (sym c.in-Ok.is ∙ c.in_ok-truth.ensures) c.in_ok-push-in-Ok.ensures.ok c.loop-item.invariant
-
-pub truths-returns-in-Err : goal.truths-returns-in-Err
-truths-returns-in-Err g t c =
-    select_stops (holds_of (world_of g.R.TableRow.table_of g.R.RowRef.shown c.args.self.now.tables.now) c.args.condition.now c.args.slots.now) c.args.items.now c.args.end _ c.loop-item.made _ _ _
-    c.item-item.is c.loop-item-test.true (sym c.in-Err.is ∙ c.in_ok-truth.ensures) c.loop-item.invariant
 
 pub members-loop-field-preserved : goal.members-loop-field-preserved
 members-loop-field-preserved g t c =
@@ -80,51 +53,6 @@ pub selected-returns-in-Err : goal.selected-returns-in-Err
 selected-returns-in-Err g t c =
     select_stops (of_item (world_of g.R.TableRow.table_of g.R.RowRef.shown c.args.self.now.tables.now) c.args.body.now c.args.slots.now) c.args.items.now c.args.end _ c.loop-item.made _ _ _
     c.item-item.is c.loop-item-test.true (sym c.in-Err.is ∙ c.in_ok-value.ensures) c.loop-item.invariant
-
-pub expanded-loop-item-preserved : goal.expanded-loop-item-preserved
-expanded-loop-item-preserved g t c =
-    each_goes (expanded_of (world_of g.R.TableRow.table_of g.R.RowRef.shown c.args.self.now.tables.now) (values_in c.args.slots.now) c.args.inner.now c.args.body.now) c.args.items.now c.args.end _ c.loop-item.made _ _ _ _
-    c.item-item.is c.loop-item-test.true (sym c.in_ok-values.ensures ∙ ap (λ d. (c.in_ok-values.values, d)) c.in-Done.is) c.in_ok-joined.ensures c.loop-item.invariant
-
-pub expanded-returns-in-Fault : goal.expanded-returns-in-Fault
-expanded-returns-in-Fault g t c =
-    each_stops (expanded_of (world_of g.R.TableRow.table_of g.R.RowRef.shown c.args.self.now.tables.now) (values_in c.args.slots.now) c.args.inner.now c.args.body.now) c.args.items.now c.args.end _ c.loop-item.made _ _ _ _ _
-    c.item-item.is c.loop-item-test.true (sym c.in_ok-values.ensures ∙ ap (λ d. (c.in_ok-values.values, d)) c.in-Fault.is) c.in_ok-joined.ensures c.loop-item.invariant
-
-pub joined-loop-item-preserved : goal.joined-loop-item-preserved
-joined-loop-item-preserved g t c =
-    each_goes (joined_of (world_of g.R.TableRow.table_of g.R.RowRef.shown c.args.self.now.tables.now) (values_in c.args.slots.now) c.args.joined.now (pairs_of c.args.matches.now)) c.args.items.now c.args.end _ c.loop-item.made _ _ _ _
-    c.item-item.is c.loop-item-test.true (sym c.in_ok-values.ensures ∙ ap (λ d. (c.in_ok-values.values, d)) c.in-Done.is) c.in_ok-all.ensures c.loop-item.invariant
-
-pub joined-returns-in-Fault : goal.joined-returns-in-Fault
-joined-returns-in-Fault g t c =
-    each_stops (joined_of (world_of g.R.TableRow.table_of g.R.RowRef.shown c.args.self.now.tables.now) (values_in c.args.slots.now) c.args.joined.now (pairs_of c.args.matches.now)) c.args.items.now c.args.end _ c.loop-item.made _ _ _ _ _
-    c.item-item.is c.loop-item-test.true (sym c.in_ok-values.ensures ∙ ap (λ d. (c.in_ok-values.values, d)) c.in-Fault.is) c.in_ok-all.ensures c.loop-item.invariant
-
-pub keyed-loop-item-preserved : goal.keyed-loop-item-preserved
-keyed-loop-item-preserved g t c =
-    select_goes (keyed_of (world_of g.R.TableRow.table_of g.R.RowRef.shown c.args.self.now.tables.now) (values_in c.args.slots.now) c.args.key.now c.args.element.now) c.args.items.now c.args.end _ c.loop-item.made _ _ _ _
-    c.item-item.is c.loop-item-test.true (sym c.in-Ok.is ∙ c.in_ok-pair.ensures) c.in_ok-push-in-Ok.ensures.ok c.loop-item.invariant
-
-pub keyed-returns-in-Err : goal.keyed-returns-in-Err
-keyed-returns-in-Err g t c =
-    select_stops (keyed_of (world_of g.R.TableRow.table_of g.R.RowRef.shown c.args.self.now.tables.now) (values_in c.args.slots.now) c.args.key.now c.args.element.now) c.args.items.now c.args.end _ c.loop-item.made _ _ _
-    c.item-item.is c.loop-item-test.true (sym c.in-Err.is ∙ c.in_ok-pair.ensures) c.loop-item.invariant
-
-pub with_keys-loop-item-preserved : goal.with_keys-loop-item-preserved
-with_keys-loop-item-preserved g t c =
-    select_goes (with_key_of (world_of g.R.TableRow.table_of g.R.RowRef.shown c.args.self.now.tables.now) (values_in c.args.slots.now) c.args.key.now) c.args.items.now c.args.end _ c.loop-item.made _ _ _ _
-    c.item-item.is c.loop-item-test.true (sym c.in-Ok.is ∙ c.in_ok-pair.ensures) c.in_ok-push-in-Ok.ensures.ok c.loop-item.invariant
-
-pub with_keys-returns-in-Err : goal.with_keys-returns-in-Err
-with_keys-returns-in-Err g t c =
-    select_stops (with_key_of (world_of g.R.TableRow.table_of g.R.RowRef.shown c.args.self.now.tables.now) (values_in c.args.slots.now) c.args.key.now) c.args.items.now c.args.end _ c.loop-item.made _ _ _
-    c.item-item.is c.loop-item-test.true (sym c.in-Err.is ∙ c.in_ok-pair.ensures) c.loop-item.invariant
-
-pub expanded_item-returns : goal.expanded_item-returns
-expanded_item-returns g t c =
-    expanded_is (world_of g.R.TableRow.table_of g.R.RowRef.shown c.args.self.now.tables.now) (values_in c.args.slots.now) c.args.item.now _ c.args.inner.now c.args.body.now _ _ _ _ c.selected.result
-    c.with-deeper.ensures c.in_ok-values.ensures c.as_slice.ensures c.selected.ensures
 
 pub matched_item-returns : goal.matched_item-returns
 matched_item-returns g t c =

@@ -1,0 +1,226 @@
+//! The pulling of items: one by one from a base, each through the conditions and lambdas above it.
+use crate::bases::Base;
+use crate::running::Running;
+use crate::slots::Slots;
+use crate::stages::{Passed, Stage, Step};
+use crate::tables::TableRow;
+use lq_model::Through;
+use lq_tree::Form;
+use lq_value::{End, Fault, List, Value};
+use std::alloc::AllocError;
+
+impl<'a, R: TableRow> Running<'a, R> {
+    ghost use Rattle.std.specs.Prelude.{◌≡◌, ◌∷◌, [], IfOk, slice_get};
+    ghost use Rattle.lq_value.specs.declared.value.End.TheVariants as end;
+    ghost use Rattle.lq_model.specs.Meaning.{stream_of, table_value};
+    ghost use Rattle.lq_model.specs.Enumerable.{take_first};
+    ghost use Rattle.lq_model.specs.Stream.{each};
+    ghost use Rattle.lq_pipe.specs.Pulling.{Steps, base_stream, left, passed_at, passed_on, pulled, staged};
+    ghost use Rattle.lq_pipe.specs.Running.{meant};
+    ghost use Rattle.lq_pipe.specs.declared.stages.Stage.TheVariants as stage;
+    ghost use Rattle.lq_pipe.specs.Slots.{values_in};
+    ghost use Rattle.lq_pipe.specs.Worlds.{world_of};
+
+    /// The rows of a table, where they stand; or the fault of a table that isn't there.
+    #[tactic(auto, using(crate::proofs::PartLemmas::places))]
+    fn rows_of(&self, number: u16) -> Base<'a, R>
+        ensures { base_stream result ≡ stream_of (world_of R.table_of R.shown self.now.tables.now)
+            (table_value (world_of R.table_of R.shown self.now.tables.now) (slice_get (world_of R.table_of R.shown self.now.tables.now).rows number)) }
+    {
+        match self.tables.get(number as usize) {
+            Some(table) => Base::Rows(table.rows),
+            None => Base::of_items(List::new(self.alloc), End::Fault(Fault::NullReference)),
+        }
+    }
+
+    /// The base of a form: what stands below its conditions and lambdas.
+    #[cycle(running)]
+    #[inline(never)]
+    #[tactic(auto, using(crate::proofs::PullLemmas::opens))]
+    pub(crate) fn open(
+        &self,
+        form: &Form,
+        slots: &Slots<'_, R>,
+    ) -> Result<Base<'a, R>, AllocError>
+        ensures { IfOk result (λ base. each (passed_at (world_of R.table_of R.shown self.now.tables.now) (values_in slots.now) form.now) (base_stream base).0 (base_stream base).1
+            ≡ stream_of (world_of R.table_of R.shown self.now.tables.now) (meant (world_of R.table_of R.shown self.now.tables.now) form.now slots.now)) }
+    {
+        match form {
+            Form::Through(Through::Where, _, _, source, _) => self.open(source.get(), slots),
+            Form::Through(Through::Select, _, _, source, _) => self.open(source.get(), slots),
+            Form::Table(number) => Ok(self.rows_of(*number)),
+            _ => {
+                let (items, end) = self.stream(form, slots)?;
+                Ok(Base::of_items(items, end))
+            }
+        }
+    }
+
+    /// What an item of the base becomes at a form.
+    #[cycle(running)]
+    #[tactic(auto, using(crate::proofs::PullLemmas::passes))]
+    fn pass(
+        &self,
+        form: &Form,
+        item: Value<R>,
+        slots: &Slots<'_, R>,
+    ) -> Result<Passed<R>, AllocError>
+        ensures { IfOk result (λ p. passed_on p ≡ passed_at (world_of R.table_of R.shown self.now.tables.now) (values_in slots.now) form.now item) }
+    {
+        match form {
+            Form::Through(Through::Where, _, _, source, body) => {
+                self.pass_through(Stage::Where, source.get(), body.get(), item, slots)
+            }
+            Form::Through(Through::Select, _, _, source, body) => {
+                self.pass_through(Stage::Select, source.get(), body.get(), item, slots)
+            }
+            _ => Ok(Passed::Item(item)),
+        }
+    }
+
+    /// What an item of the base becomes at a source and the stage behind it.
+    #[cycle(running)]
+    fn pass_through(
+        &self,
+        stage: Stage,
+        source: &Form,
+        body: &Form,
+        item: Value<R>,
+        slots: &Slots<'_, R>,
+    ) -> Result<Passed<R>, AllocError>
+        ensures { IfOk result (λ p. passed_on p ≡ staged (world_of R.table_of R.shown self.now.tables.now) (values_in slots.now) stage body.now
+            (passed_at (world_of R.table_of R.shown self.now.tables.now) (values_in slots.now) source.now item)) }
+    {
+        match self.pass(source, item, slots)? {
+            Passed::Item(item) => self.at_stage(stage, body, item, slots),
+            Passed::Dropped => Ok(Passed::Dropped),
+            Passed::Fault(fault) => Ok(Passed::Fault(fault)),
+        }
+    }
+
+    /// What an item becomes at a stage.
+    #[cycle(running)]
+    fn at_stage(
+        &self,
+        stage: Stage,
+        body: &Form,
+        item: Value<R>,
+        slots: &Slots<'_, R>,
+    ) -> Result<Passed<R>, AllocError>
+        ensures { IfOk result (λ p. passed_on p ≡ staged (world_of R.table_of R.shown self.now.tables.now) (values_in slots.now) stage body.now (item ∷ [], end.Done)) }
+    {
+        match stage {
+            Stage::Plain => Ok(Passed::Item(item)),
+            Stage::Where => self.kept(body, item, slots),
+            Stage::Select => self.made(body, &item, slots),
+        }
+    }
+
+    /// An item, if a condition is true of it.
+    #[cycle(running)]
+    fn kept(
+        &self,
+        condition: &Form,
+        item: Value<R>,
+        slots: &Slots<'_, R>,
+    ) -> Result<Passed<R>, AllocError>
+        ensures { IfOk result (λ p. passed_on p ≡ staged (world_of R.table_of R.shown self.now.tables.now) (values_in slots.now) stage.Where condition.now (item ∷ [], end.Done)) }
+    {
+        match self.holds(condition, &item, slots)? {
+            Ok(true) => Ok(Passed::Item(item)),
+            Ok(false) => Ok(Passed::Dropped),
+            Err(fault) => Ok(Passed::Fault(fault)),
+        }
+    }
+
+    /// What a lambda gives of an item.
+    #[cycle(running)]
+    fn made(
+        &self,
+        body: &Form,
+        item: &Value<R>,
+        slots: &Slots<'_, R>,
+    ) -> Result<Passed<R>, AllocError>
+        ensures { IfOk result (λ p. passed_on p ≡ staged (world_of R.table_of R.shown self.now.tables.now) (values_in slots.now) stage.Select body.now (item.now ∷ [], end.Done)) }
+    {
+        match self.of_item(body, item, slots)? {
+            Ok(value) => Ok(Passed::Item(value)),
+            Err(fault) => Ok(Passed::Fault(fault)),
+        }
+    }
+
+    /// The next item of a source behind its last stage, or how they end.
+    #[cycle(running)]
+    #[inline(never)]
+    pub(crate) fn next(
+        &self,
+        stage: Stage,
+        source: &Form,
+        body: &Form,
+        base: &mut Base<'a, R>,
+        slots: &Slots<'_, R>,
+    ) -> Result<Step<R>, AllocError>
+        ensures { IfOk result (λ step. Steps (left (world_of R.table_of R.shown self.now.tables.now) (values_in slots.now) stage source.now body.now base.old) step
+            (left (world_of R.table_of R.shown self.now.tables.now) (values_in slots.now) stage source.now body.now base.new)) }
+    {
+        loop {
+            match base.next() {
+                Step::Item(item) => match self.pass_through(stage, source, body, item, slots)? {
+                    Passed::Item(item) => return Ok(Step::Item(item)),
+                    Passed::Dropped => {}
+                    Passed::Fault(fault) => return Ok(Step::End(End::Fault(fault))),
+                },
+                Step::End(end) => return Ok(Step::End(end)),
+            }
+        }
+    }
+
+    /// All items of a source behind its last stage, and how they end.
+    #[cycle(running)]
+    #[inline(never)]
+    pub(crate) fn drained(
+        &self,
+        stage: Stage,
+        source: &Form,
+        body: &Form,
+        slots: &Slots<'_, R>,
+    ) -> Result<(List<Value<R>>, End), AllocError>
+        ensures { IfOk result (λ s. s ≡ pulled (world_of R.table_of R.shown self.now.tables.now) (values_in slots.now) stage source.now body.now) }
+    {
+        let mut base = self.open(source, slots)?;
+        let mut made = List::new(self.alloc);
+        loop {
+            match self.next(stage, source, body, &mut base, slots)? {
+                Step::Item(item) => made.push(item)?,
+                Step::End(end) => return Ok((made, end)),
+            }
+        }
+    }
+
+    /// So many of these items, and how they end: nothing is pulled behind the last of them.
+    #[cycle(running)]
+    #[inline(never)]
+    pub(crate) fn taken(
+        &self,
+        count: usize,
+        stage: Stage,
+        source: &Form,
+        body: &Form,
+        slots: &Slots<'_, R>,
+    ) -> Result<(List<Value<R>>, End), AllocError>
+        ensures { IfOk result (λ s. s ≡ take_first count (pulled (world_of R.table_of R.shown self.now.tables.now) (values_in slots.now) stage source.now body.now).0
+            (pulled (world_of R.table_of R.shown self.now.tables.now) (values_in slots.now) stage source.now body.now).1) }
+    {
+        let mut base = self.open(source, slots)?;
+        let mut made = List::new(self.alloc);
+        let mut wanted = count;
+        while wanted > 0 {
+            match self.next(stage, source, body, &mut base, slots)? {
+                Step::Item(item) => made.push(item)?,
+                Step::End(end) => return Ok((made, end)),
+            }
+            wanted -= 1;
+        }
+        Ok((made, End::Done))
+    }
+}
