@@ -5,10 +5,11 @@ use Rattle.lq_value.specs.declared.value.End.{End}
 use Rattle.lq_value.specs.declared.value.End.TheVariants as end
 use Rattle.lq_value.specs.declared.value.Fault.{Fault}
 use Rattle.lq_value.specs.declared.value.Value.{Value}
+use Rattle.lq_value.specs.declared.value.Value.TheVariants as value
 use Rattle.lq_model.specs.Enumerable.{in_front, take_first}
 use Rattle.lq_model.specs.Stream.{Stream, each, kept, one, select_by, then_ending, then_stream, where_by}
 use Rattle.lq_model.specs.declared.methods.Through.TheVariants as through
-use Rattle.lq_model.specs.Meaning.{World, stream_of}
+use Rattle.lq_model.specs.Meaning.{World, items_of, sequence, stream_of}
 use Rattle.lq_model.specs.declared.methods.Given.{Given}
 use Rattle.lq_model.specs.declared.methods.Simple.{Simple}
 use Rattle.lq_model.specs.declared.operation.Op.{Op}
@@ -39,8 +40,8 @@ use Rattle.lq_pipe.proofs.StreamLemmas.{then_assoc}
 pub last_first : {A : Type 0} (old new : List A) (x : A) (e : End) → old ≡ new ++ x ∷ [] → (reverse old, e) ≡ in_front x (reverse new, e)
 last_first old new x e is = ap (λ l. (reverse l, e)) is ∙ ap (λ l. (l, e)) (reverse-append new (x ∷ []))
 
-pub turned : {A : Type 0} (xs ys : List A) (e : End) → ys ≡ reverse xs → (reverse ys, e) ≡ (xs, e)
-turned xs ys e is = ap (λ l. (reverse l, e)) is ∙ ap (λ l. (l, e)) (reverse-reverse xs)
+pub turned : {A : Type 0} (xs ys : List A) (e : End) → ys ≡ reverse xs → ◌≡◌ {A = Stream A} (reverse ys, e) (xs, e)
+turned xs ys e is = ap (λ l. (reverse l, e)) is ∙ ap (λ (l : List _). (l, e)) (reverse-reverse xs)
 
 -- ---- streams
 
@@ -257,12 +258,16 @@ module _ {R : Type 0} (world : World R) (slots : Slots R) where
       → At f b ≡ stream_of world (form_meaning world f slots)
   opens_base f b s is same meant = each_one (passed_at world slots f) is b.0 b.1 ∙ same ∙ meant
 
+  stream_sequence : (s : Stream (Value R)) → stream_of world (Ok (sequence s)) ≡ s
+  stream_sequence s = ap (items_of world) (value.outs-Seq s.0 s.1)
+
   pub opens_where : (t u : Ty) (a f : Form) (b : Stream (Value R)) → At a b ≡ stream_of world (form_meaning world a slots)
       → At (form.Through through.Where t u a f) b ≡ stream_of world (form_meaning world (form.Through through.Where t u a f) slots)
   opens_where t u a f b h =
       (λ i. each (λ x. passed_where t u a f x i) b.0 b.1)
       ∙ sym (each_each (λ v. kept (is_true world (form_meaning world f) (with_item world slots v)) v) (passed_at world slots a) b.0 b.1)
       ∙ ap (Kept f) h
+      ∙ sym (stream_sequence (Kept f (stream_of world (form_meaning world a slots))))
       ∙ ap (stream_of world) (sym (form_through world through.Where t u a f slots))
 
   pub opens_select : (t u : Ty) (a f : Form) (b : Stream (Value R)) → At a b ≡ stream_of world (form_meaning world a slots)
@@ -271,6 +276,7 @@ module _ {R : Type 0} (world : World R) (slots : Slots R) where
       (λ i. each (λ x. passed_select t u a f x i) b.0 b.1)
       ∙ sym (each_each (λ v. one (form_meaning world f (with_item world slots v))) (passed_at world slots a) b.0 b.1)
       ∙ ap (Made f) h
+      ∙ sym (stream_sequence (Made f (stream_of world (form_meaning world a slots))))
       ∙ ap (stream_of world) (sym (form_through world through.Select t u a f slots))
 
   -- ---- pulling

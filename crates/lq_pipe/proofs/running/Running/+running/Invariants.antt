@@ -238,75 +238,75 @@ invariant-columns-loop-key g l =
 -- ---- loops that pull
 
 -- what is left at a stage is what was left before, an item that was dropped aside
-abbrev pub invariant-next-loop : goal.invariant-next-loop
-invariant-next-loop g l =
+abbrev pub invariant-next-loop-item : goal.invariant-next-loop-item
+invariant-next-loop-item g l =
     left (world_of g.R.TableRow.table_of g.R.RowRef.shown l.fn.self.tables.now) (values_in l.fn.slots) l.fn.stage l.fn.source l.fn.body l.base
     ≡ left (world_of g.R.TableRow.table_of g.R.RowRef.shown l.fn.self.tables.now) (values_in l.fn.slots) l.fn.stage l.fn.source l.fn.body l.fn.base
 
-abbrev pub decreases-next-loop : goal.decreases-next-loop
-decreases-next-loop g l = length (base_stream l.base).0
+abbrev pub decreases-next-loop-item : goal.decreases-next-loop-item
+decreases-next-loop-item g l = length (base_stream l.base).0
 
 -- the items so far, and those that are left
-abbrev pub invariant-drained-loop : goal.invariant-drained-loop
-invariant-drained-loop g l =
+abbrev pub invariant-drained-loop-made : goal.invariant-drained-loop-made
+invariant-drained-loop-made g l =
     then_ending l.made end.Done (left (world_of g.R.TableRow.table_of g.R.RowRef.shown l.fn.self.tables.now) (values_in l.fn.slots) l.fn.stage l.fn.source l.fn.body l.base)
     ≡ pulled (world_of g.R.TableRow.table_of g.R.RowRef.shown l.fn.self.tables.now) (values_in l.fn.slots) l.fn.stage l.fn.source l.fn.body
 
-abbrev pub decreases-drained-loop : goal.decreases-drained-loop
-decreases-drained-loop g l = length (left (world_of g.R.TableRow.table_of g.R.RowRef.shown l.fn.self.tables.now) (values_in l.fn.slots) l.fn.stage l.fn.source l.fn.body l.base).0
+abbrev pub decreases-drained-loop-made : goal.decreases-drained-loop-made
+decreases-drained-loop-made g l = length (left (world_of g.R.TableRow.table_of g.R.RowRef.shown l.fn.self.tables.now) (values_in l.fn.slots) l.fn.stage l.fn.source l.fn.body l.base).0
 
-abbrev pub invariant-taken-loop : goal.invariant-taken-loop
-invariant-taken-loop g l =
+abbrev pub invariant-taken-loop-wanted : goal.invariant-taken-loop-wanted
+invariant-taken-loop-wanted g l =
     then_ending l.made end.Done
     (take_first l.wanted (left (world_of g.R.TableRow.table_of g.R.RowRef.shown l.fn.self.tables.now) (values_in l.fn.slots) l.fn.stage l.fn.source l.fn.body l.base).0
     (left (world_of g.R.TableRow.table_of g.R.RowRef.shown l.fn.self.tables.now) (values_in l.fn.slots) l.fn.stage l.fn.source l.fn.body l.base).1)
     ≡ take_first l.fn.count (pulled (world_of g.R.TableRow.table_of g.R.RowRef.shown l.fn.self.tables.now) (values_in l.fn.slots) l.fn.stage l.fn.source l.fn.body).0
     (pulled (world_of g.R.TableRow.table_of g.R.RowRef.shown l.fn.self.tables.now) (values_in l.fn.slots) l.fn.stage l.fn.source l.fn.body).1
 
-abbrev pub decreases-taken-loop : goal.decreases-taken-loop
-decreases-taken-loop g l = l.wanted
+abbrev pub decreases-taken-loop-wanted : goal.decreases-taken-loop-wanted
+decreases-taken-loop-wanted g l = l.wanted
 
 -- the tally so far comes to the same over the items that are left
-abbrev pub invariant-tallied-loop : goal.invariant-tallied-loop
-invariant-tallied-loop g l =
+abbrev pub invariant-tallied-loop-base : goal.invariant-tallied-loop-base
+invariant-tallied-loop-base g l =
     tallied l.fn.of l.tally (left (world_of g.R.TableRow.table_of g.R.RowRef.shown l.fn.self.tables.now) (values_in l.fn.slots) l.fn.stage l.fn.source l.fn.body l.base)
     ≡ tallied l.fn.of l.fn.tally (pulled (world_of g.R.TableRow.table_of g.R.RowRef.shown l.fn.self.tables.now) (values_in l.fn.slots) l.fn.stage l.fn.source l.fn.body)
 
-abbrev pub decreases-tallied-loop : goal.decreases-tallied-loop
-decreases-tallied-loop g l = length (left (world_of g.R.TableRow.table_of g.R.RowRef.shown l.fn.self.tables.now) (values_in l.fn.slots) l.fn.stage l.fn.source l.fn.body l.base).0
+abbrev pub decreases-tallied-loop-base : goal.decreases-tallied-loop-base
+decreases-tallied-loop-base g l = length (left (world_of g.R.TableRow.table_of g.R.RowRef.shown l.fn.self.tables.now) (values_in l.fn.slots) l.fn.stage l.fn.source l.fn.body l.base).0
 
-abbrev pub invariant-all-loop : goal.invariant-all-loop
-invariant-all-loop g l =
+abbrev pub invariant-all-loop-base : goal.invariant-all-loop-base
+invariant-all-loop-base g l =
     all (holds_of (world_of g.R.TableRow.table_of g.R.RowRef.shown l.fn.self.tables.now) l.fn.condition l.fn.slots) (left (world_of g.R.TableRow.table_of g.R.RowRef.shown l.fn.self.tables.now) (values_in l.fn.slots) stage.Plain l.fn.source l.fn.source l.base).0 (left (world_of g.R.TableRow.table_of g.R.RowRef.shown l.fn.self.tables.now) (values_in l.fn.slots) stage.Plain l.fn.source l.fn.source l.base).1
     ≡ all (holds_of (world_of g.R.TableRow.table_of g.R.RowRef.shown l.fn.self.tables.now) l.fn.condition l.fn.slots) (items_meant (world_of g.R.TableRow.table_of g.R.RowRef.shown l.fn.self.tables.now) l.fn.source l.fn.slots).0 (items_meant (world_of g.R.TableRow.table_of g.R.RowRef.shown l.fn.self.tables.now) l.fn.source l.fn.slots).1
 
-abbrev pub decreases-all-loop : goal.decreases-all-loop
-decreases-all-loop g l = length (left (world_of g.R.TableRow.table_of g.R.RowRef.shown l.fn.self.tables.now) (values_in l.fn.slots) stage.Plain l.fn.source l.fn.source l.base).0
+abbrev pub decreases-all-loop-base : goal.decreases-all-loop-base
+decreases-all-loop-base g l = length (left (world_of g.R.TableRow.table_of g.R.RowRef.shown l.fn.self.tables.now) (values_in l.fn.slots) stage.Plain l.fn.source l.fn.source l.base).0
 
-abbrev pub invariant-expanded-loop : goal.invariant-expanded-loop
-invariant-expanded-loop g l =
+abbrev pub invariant-expanded-loop-made : goal.invariant-expanded-loop-made
+invariant-expanded-loop-made g l =
     Comes (expanded_of (world_of g.R.TableRow.table_of g.R.RowRef.shown l.fn.self.tables.now) (values_in l.fn.slots) l.fn.inner l.fn.body) (left (world_of g.R.TableRow.table_of g.R.RowRef.shown l.fn.self.tables.now) (values_in l.fn.slots) stage.Plain l.fn.source l.fn.source l.base) (each (expanded_of (world_of g.R.TableRow.table_of g.R.RowRef.shown l.fn.self.tables.now) (values_in l.fn.slots) l.fn.inner l.fn.body) (items_meant (world_of g.R.TableRow.table_of g.R.RowRef.shown l.fn.self.tables.now) l.fn.source l.fn.slots).0 (items_meant (world_of g.R.TableRow.table_of g.R.RowRef.shown l.fn.self.tables.now) l.fn.source l.fn.slots).1) l.made
 
-abbrev pub decreases-expanded-loop : goal.decreases-expanded-loop
-decreases-expanded-loop g l = length (left (world_of g.R.TableRow.table_of g.R.RowRef.shown l.fn.self.tables.now) (values_in l.fn.slots) stage.Plain l.fn.source l.fn.source l.base).0
+abbrev pub decreases-expanded-loop-made : goal.decreases-expanded-loop-made
+decreases-expanded-loop-made g l = length (left (world_of g.R.TableRow.table_of g.R.RowRef.shown l.fn.self.tables.now) (values_in l.fn.slots) stage.Plain l.fn.source l.fn.source l.base).0
 
-abbrev pub invariant-keyed-loop : goal.invariant-keyed-loop
-invariant-keyed-loop g l =
+abbrev pub invariant-keyed-loop-made : goal.invariant-keyed-loop-made
+invariant-keyed-loop-made g l =
     Comes (λ v. one (keyed_of (world_of g.R.TableRow.table_of g.R.RowRef.shown l.fn.self.tables.now) (values_in l.fn.slots) l.fn.key l.fn.element v)) (left (world_of g.R.TableRow.table_of g.R.RowRef.shown l.fn.self.tables.now) (values_in l.fn.slots) stage.Plain l.fn.source l.fn.source l.base) (each (λ v. one (keyed_of (world_of g.R.TableRow.table_of g.R.RowRef.shown l.fn.self.tables.now) (values_in l.fn.slots) l.fn.key l.fn.element v)) (items_meant (world_of g.R.TableRow.table_of g.R.RowRef.shown l.fn.self.tables.now) l.fn.source l.fn.slots).0 (items_meant (world_of g.R.TableRow.table_of g.R.RowRef.shown l.fn.self.tables.now) l.fn.source l.fn.slots).1) l.made
 
-abbrev pub decreases-keyed-loop : goal.decreases-keyed-loop
-decreases-keyed-loop g l = length (left (world_of g.R.TableRow.table_of g.R.RowRef.shown l.fn.self.tables.now) (values_in l.fn.slots) stage.Plain l.fn.source l.fn.source l.base).0
+abbrev pub decreases-keyed-loop-made : goal.decreases-keyed-loop-made
+decreases-keyed-loop-made g l = length (left (world_of g.R.TableRow.table_of g.R.RowRef.shown l.fn.self.tables.now) (values_in l.fn.slots) stage.Plain l.fn.source l.fn.source l.base).0
 
-abbrev pub invariant-with_keys-loop : goal.invariant-with_keys-loop
-invariant-with_keys-loop g l =
+abbrev pub invariant-with_keys-loop-made : goal.invariant-with_keys-loop-made
+invariant-with_keys-loop-made g l =
     Comes (λ v. one (with_key_of (world_of g.R.TableRow.table_of g.R.RowRef.shown l.fn.self.tables.now) (values_in l.fn.slots) l.fn.key v)) (left (world_of g.R.TableRow.table_of g.R.RowRef.shown l.fn.self.tables.now) (values_in l.fn.slots) stage.Plain l.fn.source l.fn.source l.base) (each (λ v. one (with_key_of (world_of g.R.TableRow.table_of g.R.RowRef.shown l.fn.self.tables.now) (values_in l.fn.slots) l.fn.key v)) (items_meant (world_of g.R.TableRow.table_of g.R.RowRef.shown l.fn.self.tables.now) l.fn.source l.fn.slots).0 (items_meant (world_of g.R.TableRow.table_of g.R.RowRef.shown l.fn.self.tables.now) l.fn.source l.fn.slots).1) l.made
 
-abbrev pub decreases-with_keys-loop : goal.decreases-with_keys-loop
-decreases-with_keys-loop g l = length (left (world_of g.R.TableRow.table_of g.R.RowRef.shown l.fn.self.tables.now) (values_in l.fn.slots) stage.Plain l.fn.source l.fn.source l.base).0
+abbrev pub decreases-with_keys-loop-made : goal.decreases-with_keys-loop-made
+decreases-with_keys-loop-made g l = length (left (world_of g.R.TableRow.table_of g.R.RowRef.shown l.fn.self.tables.now) (values_in l.fn.slots) stage.Plain l.fn.source l.fn.source l.base).0
 
-abbrev pub invariant-joined-loop : goal.invariant-joined-loop
-invariant-joined-loop g l =
+abbrev pub invariant-joined-loop-made : goal.invariant-joined-loop-made
+invariant-joined-loop-made g l =
     Comes (joined_of (world_of g.R.TableRow.table_of g.R.RowRef.shown l.fn.self.tables.now) (values_in l.fn.slots) l.fn.joined (pairs_of l.fn.matches)) (left (world_of g.R.TableRow.table_of g.R.RowRef.shown l.fn.self.tables.now) (values_in l.fn.slots) stage.Plain l.fn.source l.fn.source l.base) (each (joined_of (world_of g.R.TableRow.table_of g.R.RowRef.shown l.fn.self.tables.now) (values_in l.fn.slots) l.fn.joined (pairs_of l.fn.matches)) (items_meant (world_of g.R.TableRow.table_of g.R.RowRef.shown l.fn.self.tables.now) l.fn.source l.fn.slots).0 (items_meant (world_of g.R.TableRow.table_of g.R.RowRef.shown l.fn.self.tables.now) l.fn.source l.fn.slots).1) l.made
 
-abbrev pub decreases-joined-loop : goal.decreases-joined-loop
-decreases-joined-loop g l = length (left (world_of g.R.TableRow.table_of g.R.RowRef.shown l.fn.self.tables.now) (values_in l.fn.slots) stage.Plain l.fn.source l.fn.source l.base).0
+abbrev pub decreases-joined-loop-made : goal.decreases-joined-loop-made
+decreases-joined-loop-made g l = length (left (world_of g.R.TableRow.table_of g.R.RowRef.shown l.fn.self.tables.now) (values_in l.fn.slots) stage.Plain l.fn.source l.fn.source l.base).0
