@@ -1,15 +1,16 @@
 -- Items that are pulled one by one.
-use Rattle.std.proofs.Common.{◌≡◌, ◌∷◌, ◌++◌, ◌+◌, ◌<◌, List, [], ℕ, zero, suc, Bool, true, false, Result, Ok, Err, ap, ◌∙◌, sym, refl, subst, append_assoc, append-nil, length, reverse, arith}
+use Rattle.std.proofs.Common.{◌≡◌, ◌∷◌, ◌++◌, ◌+◌, ◌<◌, List, [], ℕ, zero, suc, Bool, true, false, Option, Some, None, Result, Ok, Err, ap, ◌∙◌, sym, refl, subst, append_assoc, append-nil, length, map, reverse, arith}
 use Rattle.std.proofs.lemmas.List.{reverse-append, reverse-reverse}
 use Rattle.lq_value.specs.declared.value.End.{End}
 use Rattle.lq_value.specs.declared.value.End.TheVariants as end
 use Rattle.lq_value.specs.declared.value.Fault.{Fault}
+use Rattle.lq_value.specs.declared.value.Fault.TheVariants as fault
 use Rattle.lq_value.specs.declared.value.Value.{Value}
 use Rattle.lq_value.specs.declared.value.Value.TheVariants as value
 use Rattle.lq_model.specs.Enumerable.{in_front, take_first}
 use Rattle.lq_model.specs.Stream.{Stream, each, kept, one, select_by, then_ending, then_stream, where_by}
 use Rattle.lq_model.specs.declared.methods.Through.TheVariants as through
-use Rattle.lq_model.specs.Meaning.{World, items_of, sequence, stream_of}
+use Rattle.lq_model.specs.Meaning.{World, items_of, sequence, stream_of, table_value}
 use Rattle.lq_model.specs.declared.methods.Given.{Given}
 use Rattle.lq_model.specs.declared.methods.Simple.{Simple}
 use Rattle.lq_model.specs.declared.operation.Op.{Op}
@@ -23,7 +24,7 @@ use Rattle.lq_tree.specs.declared.tree.Form.TheOpen.{Form-F}
 use Rattle.lq_tree.specs.declared.tree.Form.TheVariants as form
 use Rattle.lq_tree.specs.declared.tree.Form.TheViews.{roll-out-Form}
 use Rattle.lq_tree.specs.declared.tree.Joined.{Joined}
-use Rattle.lq_pipe.specs.Pulling.{Steps, base_stream, left, passed_at, passed_on, passed_step, pulled, staged}
+use Rattle.lq_pipe.specs.Pulling.{Steps, base_stream, end_of, rows_or_none, left, passed_at, passed_on, passed_step, pulled, staged}
 use Rattle.lq_pipe.specs.declared.bases.Base.{Base}
 use Rattle.lq_pipe.specs.declared.stages.Passed.{Passed}
 use Rattle.lq_pipe.specs.declared.stages.Passed.TheVariants as passed
@@ -36,12 +37,22 @@ use Rattle.lq_pipe.proofs.StreamLemmas.{then_assoc}
 
 -- ---- bases
 
--- the last of what is turned round is its first
-pub last_first : {A : Type 0} (old new : List A) (x : A) (e : End) → old ≡ new ++ x ∷ [] → (reverse old, e) ≡ in_front x (reverse new, e)
-last_first old new x e is = ap (λ l. (reverse l, e)) is ∙ ap (λ l. (l, e)) (reverse-append new (x ∷ []))
+module _ {R : Type 0} where
+  pub rows_alone : (rows : List R) (items : List (Value R)) (e : End) → items ≡ []
+      → ◌≡◌ {A = Stream (Value R)} (map value.Row rows ++ reverse items, e) (map value.Row rows, e)
+  rows_alone rows items e none =
+      ap (λ (l : List (Value R)). (map value.Row rows ++ reverse l, e)) none ∙ ap (λ (l : List (Value R)). (l, e)) (append-nil (map value.Row rows))
 
-pub turned : {A : Type 0} (xs ys : List A) (e : End) → ys ≡ reverse xs → ◌≡◌ {A = Stream A} (reverse ys, e) (xs, e)
-turned xs ys e is = ap (λ l. (reverse l, e)) is ∙ ap (λ (l : List _). (l, e)) (reverse-reverse xs)
+  -- the last of what is turned round is its first
+  pub last_first : (rows : List R) (old new : List (Value R)) (x : Value R) (e : End) → rows ≡ [] → old ≡ new ++ x ∷ []
+      → ◌≡◌ {A = Stream (Value R)} (map value.Row rows ++ reverse old, e) (in_front x (map value.Row rows ++ reverse new, e))
+  last_first rows old new x e none is =
+      ap (λ (l : List R). (map value.Row l ++ reverse old, e)) none
+      ∙ ap (λ (l : List (Value R)). (reverse l, e)) is ∙ ap (λ (l : List (Value R)). (l, e)) (reverse-append new (x ∷ []))
+      ∙ ap (λ (l : List R). in_front x (map value.Row l ++ reverse new, e)) (sym none)
+
+  pub turned : (xs ys : List (Value R)) (e : End) → ys ≡ reverse xs → ◌≡◌ {A = Stream (Value R)} (reverse ys, e) (xs, e)
+  turned xs ys e is = ap (λ (l : List (Value R)). (reverse l, e)) is ∙ ap (λ (l : List (Value R)). (l, e)) (reverse-reverse xs)
 
 -- ---- streams
 
@@ -258,8 +269,18 @@ module _ {R : Type 0} (world : World R) (slots : Slots R) where
       → At f b ≡ stream_of world (form_meaning world f slots)
   opens_base f b s is same meant = each_one (passed_at world slots f) is b.0 b.1 ∙ same ∙ meant
 
-  stream_sequence : (s : Stream (Value R)) → stream_of world (Ok (sequence s)) ≡ s
+  pub stream_sequence : (s : Stream (Value R)) → stream_of world (Ok (sequence s)) ≡ s
   stream_sequence s = ap (items_of world) (value.outs-Seq s.0 s.1)
+
+  found_or_not : world.unknown ≡ fault.NullReference → (found : Option (List R))
+      → ◌≡◌ {A = Stream (Value R)} (map value.Row (rows_or_none found), end_of found) (stream_of world (table_value world found))
+  found_or_not known (Some rows) = sym (stream_sequence (map value.Row rows, end.Done))
+  found_or_not known None = ap (λ (f : Fault). ([], end.Fault f)) (sym known)
+
+  pub rows_found : (b : Stream (Value R)) (rows : List R) (e : End) (found : Option (List R)) → world.unknown ≡ fault.NullReference
+      → rows ≡ rows_or_none found → e ≡ end_of found → b ≡ (map value.Row rows, e) → b ≡ stream_of world (table_value world found)
+  rows_found b rows e found known rows_are ends is =
+      is ∙ (λ i. (map value.Row (rows_are i), ends i)) ∙ found_or_not known found
 
   pub opens_where : (t u : Ty) (a f : Form) (b : Stream (Value R)) → At a b ≡ stream_of world (form_meaning world a slots)
       → At (form.Through through.Where t u a f) b ≡ stream_of world (form_meaning world (form.Through through.Where t u a f) slots)

@@ -1,6 +1,8 @@
 -- How items are pulled: one by one from a base, each through the conditions and lambdas that stand between the base and a form.
-use Rattle.std.specs.Prelude.{◌≡◌, ◌∷◌, List, [], map, Result, reverse}
+use Rattle.std.specs.Prelude.{◌≡◌, ◌∷◌, ◌++◌, List, [], Option, Some, None, map, reverse}
+use Rattle.lq_value.specs.declared.value.End.{End}
 use Rattle.lq_value.specs.declared.value.End.TheVariants as end
+use Rattle.lq_value.specs.declared.value.Fault.TheVariants as fault
 use Rattle.lq_value.specs.declared.value.Value.{Value}
 use Rattle.lq_value.specs.declared.value.Value.TheVariants as value
 use Rattle.lq_model.specs.Enumerable.{in_front}
@@ -11,7 +13,6 @@ use Rattle.lq_tree.specs.FormMeaning.{Slots, form_meaning, is_true, with_item}
 use Rattle.lq_tree.specs.declared.tree.Form.{Form, para-Form}
 use Rattle.lq_tree.specs.declared.tree.Form.TheOpen.{Form-F}
 use Rattle.lq_pipe.specs.declared.bases.Base.{Base}
-use Rattle.lq_pipe.specs.declared.bases.Base.TheVariants as base
 use Rattle.lq_pipe.specs.declared.stages.Passed.{Passed}
 use Rattle.lq_pipe.specs.declared.stages.Passed.TheVariants as passed
 use Rattle.lq_pipe.specs.declared.stages.Stage.{Stage}
@@ -22,8 +23,16 @@ use Rattle.lq_pipe.specs.declared.stages.Step.TheVariants as step
 module _ {R : Type 0} where
   -- the items that a base has left, and how they end
   abbrev pub base_stream : Base R → Stream (Value R)
-  base_stream (base.Rows rows) = (map value.Row rows.now, end.Done)
-  base_stream (base.Items left) = (reverse left.items.items, left.end)
+  base_stream base = (map value.Row base.rows.now ++ reverse base.items.items, base.end)
+
+  -- the rows of a table and how they end, where it may not be there
+  abbrev pub rows_or_none : Option (List R) → List R
+  rows_or_none (Some rows) = rows
+  rows_or_none None = []
+
+  abbrev pub end_of : Option (List R) → End
+  end_of (Some rows) = end.Done
+  end_of None = end.Fault fault.NullReference
 
   -- a step from what was left to what is left then: its first item, or its end
   abbrev pub Steps : Stream (Value R) → Step R → Stream (Value R) → Type 0

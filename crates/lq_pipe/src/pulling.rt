@@ -15,22 +15,42 @@ impl<'a, R: TableRow> Running<'a, R> {
     ghost use Rattle.lq_model.specs.Meaning.{stream_of, table_value};
     ghost use Rattle.lq_model.specs.Enumerable.{take_first};
     ghost use Rattle.lq_model.specs.Stream.{each};
-    ghost use Rattle.lq_pipe.specs.Pulling.{Steps, base_stream, left, passed_at, passed_on, pulled, staged};
+    ghost use Rattle.lq_pipe.specs.Pulling.{Steps, end_of, rows_or_none, base_stream, left, passed_at, passed_on, pulled, staged};
     ghost use Rattle.lq_pipe.specs.Running.{meant};
     ghost use Rattle.lq_pipe.specs.declared.stages.Stage.TheVariants as stage;
     ghost use Rattle.lq_pipe.specs.Slots.{values_in};
-    ghost use Rattle.lq_pipe.specs.Worlds.{world_of};
+    ghost use Rattle.lq_pipe.specs.Worlds.{rows_in, world_of};
+
+    /// The rows of a table; none of a table that isn't there.
+    #[tactic(auto, using(crate::proofs::PartLemmas::places))]
+    fn rows_at(&self, number: u16) -> &'a [R]
+        ensures { result.now ≡ rows_or_none (slice_get (rows_in self.now.tables.now) number) }
+    {
+        match self.tables.get(number as usize) {
+            Some(table) => table.rows,
+            None => &[],
+        }
+    }
+
+    /// How the rows of a table end: with a fault where it isn't there.
+    #[tactic(auto, using(crate::proofs::PartLemmas::places))]
+    fn end_at(&self, number: u16) -> End
+        ensures { result ≡ end_of (slice_get (rows_in self.now.tables.now) number) }
+    {
+        match self.tables.get(number as usize) {
+            Some(_) => End::Done,
+            None => End::Fault(Fault::NullReference),
+        }
+    }
 
     /// The rows of a table, where they stand; or the fault of a table that isn't there.
-    #[tactic(auto, using(crate::proofs::PartLemmas::places))]
+    #[tactic(auto, using(crate::proofs::PullLemmas::rows_found))]
     fn rows_of(&self, number: u16) -> Base<'a, R>
         ensures { base_stream result ≡ stream_of (world_of R.table_of R.shown self.now.tables.now)
             (table_value (world_of R.table_of R.shown self.now.tables.now) (slice_get (world_of R.table_of R.shown self.now.tables.now).rows number)) }
     {
-        match self.tables.get(number as usize) {
-            Some(table) => Base::Rows(table.rows),
-            None => Base::of_items(List::new(self.alloc), End::Fault(Fault::NullReference)),
-        }
+        let rows = self.rows_at(number);
+        Base::of_rows(self.alloc, rows, self.end_at(number))
     }
 
     /// The base of a form: what stands below its conditions and lambdas.
