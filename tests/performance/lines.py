@@ -62,6 +62,23 @@ def served_name(size):
     return f"run from {name} in t select {name}.c;"
 
 
+def side_by_side(piece):
+    """The sum of as many of these as there is room for, three in each bracket: a chain of all would be too deep."""
+    group = "(" + "+".join([piece] * 3) + ")"
+    return lambda size: "run " + "+".join([group] * ((size - 10) // len(group + "+"))) + ";"
+
+
+# A record of 100 members with names of their own, of which one is read: such a line has some 9,000 members.
+RECORD = "(new{" + ",".join(f"no{number}={number % 2}" for number in range(100)) + "}.no99)"
+# A query of 100 clauses: such a line has some 5,000 clauses.
+QUERY = "(from x in t " + "where true " * 100 + "select x).Count()"
+
+
+def counted(text, times=1):
+    """The value that is a number for each time that this text stands in the line."""
+    return lambda line: f'{{"value":{line.count(text) * times}}}'
+
+
 def sum_of_ones(line):
     return f'{{"value":{line.count("1")}}}'
 
@@ -91,6 +108,8 @@ KINDS = [
     ("functions in groups", groups("a.b(c", ",d=>c", ")", "||"), TYPE),
     ("members in groups", groups("new{a", ",a.b", "}", "+"), TYPE),
     ("clauses in groups", groups("(from x in t ", "where x ", "select x)", "+"), TYPE),
+    ("records of many members", side_by_side(RECORD), counted("new")),
+    ("queries of many clauses", side_by_side(QUERY), counted("from", 2)),
     ("calls in groups", groups("(a", ".b()", ")", "+"), TYPE),
     ("a deep tree of operators", to_the_left("&&ab"), TYPE),
     ("a deep tree of members", to_the_left(".abc"), TYPE),
