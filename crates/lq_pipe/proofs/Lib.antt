@@ -1,4 +1,6 @@
 pub mod ArrangementLemmas
+pub mod CellLemmas
+pub mod CountLemmas
 pub mod Forms
 pub mod ItemLemmas
 pub mod PartLemmas

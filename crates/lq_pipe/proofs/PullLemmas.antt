@@ -1,5 +1,5 @@
 -- Items that are pulled one by one.
-use Rattle.std.proofs.Common.{◌≡◌, ◌∷◌, ◌++◌, ◌+◌, ◌<◌, List, [], ℕ, zero, suc, Bool, true, false, Option, Some, None, Result, Ok, Err, ap, ◌∙◌, sym, refl, subst, append_assoc, append-nil, length, map, reverse, arith}
+use Rattle.std.proofs.Common.{◌≡◌, ◌∷◌, ◌++◌, ◌+◌, ◌<◌, List, [], ℕ, zero, suc, Bool, true, false, Option, Some, None, Result, Ok, Err, ap, ◌∙◌, sym, refl, subst, append_assoc, append-nil, length, map, reverse, slice_get, arith}
 use Rattle.std.proofs.lemmas.List.{reverse-append, reverse-reverse}
 use Rattle.lq_value.specs.declared.value.End.{End}
 use Rattle.lq_value.specs.declared.value.End.TheVariants as end
@@ -24,7 +24,7 @@ use Rattle.lq_tree.specs.declared.tree.Form.TheOpen.{Form-F}
 use Rattle.lq_tree.specs.declared.tree.Form.TheVariants as form
 use Rattle.lq_tree.specs.declared.tree.Form.TheViews.{roll-out-Form}
 use Rattle.lq_tree.specs.declared.tree.Joined.{Joined}
-use Rattle.lq_pipe.specs.Pulling.{Steps, base_stream, end_of, rows_or_none, left, passed_at, passed_on, passed_step, pulled, staged}
+use Rattle.lq_pipe.specs.Pulling.{At, Steps, base_stream, end_of, rows_or_none, left, passed_at, passed_on, passed_step, pulled, staged}
 use Rattle.lq_pipe.specs.declared.bases.Base.{Base}
 use Rattle.lq_pipe.specs.declared.stages.Passed.{Passed}
 use Rattle.lq_pipe.specs.declared.stages.Passed.TheVariants as passed
@@ -32,7 +32,7 @@ use Rattle.lq_pipe.specs.declared.stages.Stage.{Stage}
 use Rattle.lq_pipe.specs.declared.stages.Stage.TheVariants as stage
 use Rattle.lq_pipe.specs.declared.stages.Step.{Step}
 use Rattle.lq_pipe.specs.declared.stages.Step.TheVariants as step
-use Rattle.lq_pipe.proofs.Forms.{form_through}
+use Rattle.lq_pipe.proofs.Forms.{form_table, form_through}
 use Rattle.lq_pipe.proofs.StreamLemmas.{then_assoc}
 
 -- ---- bases
@@ -150,6 +150,24 @@ module _ {A : Type 0} where
   fewer old new x is = let same : length old.0 ≡ suc (length new.0) = ap (λ (s : Stream A). length s.0) is in omega (arith, same)
 
 
+-- what is made of each item
+module _ {A B : Type 0} (g : A → Result B Fault) where
+  pub selects_on : (old new : Stream A) (x : A) (v : B) → old ≡ in_front x new → Ok v ≡ g x
+      → select_by g old.0 old.1 ≡ in_front v (select_by g new.0 new.1)
+  selects_on old new x v is gives =
+      ap (λ (s : Stream A). select_by g s.0 s.1) is ∙ ap (λ (r : Result B Fault). then_stream (one r) (select_by g new.0 new.1)) (sym gives)
+
+  pub selects_stopped : (old new : Stream A) (x : A) (f : Fault) → old ≡ in_front x new → Err f ≡ g x
+      → ◌≡◌ {A = Stream B} (select_by g old.0 old.1) ([], end.Fault f)
+  selects_stopped old new x f is gives =
+      ap (λ (s : Stream A). select_by g s.0 s.1) is ∙ ap (λ (r : Result B Fault). then_stream (one r) (select_by g new.0 new.1)) (sym gives)
+
+  pub selects_ended : (old : Stream A) (e : End) → old ≡ ([], e) → ◌≡◌ {A = Stream B} (select_by g old.0 old.1) ([], e)
+  selects_ended old e is = ap (λ (s : Stream A). select_by g s.0 s.1) is
+
+  pub selects_same : (left all : Stream A) → left ≡ all → select_by g left.0 left.1 ≡ select_by g all.0 all.1
+  selects_same left all is = ap (λ (s : Stream A). select_by g s.0 s.1) is
+
 -- ---- forms
 
 module _ {R : Type 0} (world : World R) (slots : Slots R) where
@@ -245,6 +263,15 @@ module _ {R : Type 0} (world : World R) (slots : Slots R) where
   pub base_group_by : (a key element : Form) → IsBase (form.GroupBy a key element)
   base_group_by a key element = λ x. at _ _ x (form.outs-GroupBy a key element)
 
+  pub base_all : (t u : Ty) (a f : Form) → IsBase (form.Through through.All t u a f)
+  base_all t u a f = λ x. at _ _ x (form.outs-Through through.All t u a f)
+
+  pub base_those : (method : Simple) (t u : Ty) (a f : Form) → IsBase (form.Through (through.Those method) t u a f)
+  base_those method t u a f = λ x. at _ _ x (form.outs-Through (through.Those method) t u a f)
+
+  pub base_values : (method : Simple) (t u : Ty) (a f : Form) → IsBase (form.Through (through.Values method) t u a f)
+  base_values method t u a f = λ x. at _ _ x (form.outs-Through (through.Values method) t u a f)
+
   pub passed_where : (t u : Ty) (a f : Form) (x : Value R)
       → passed_at world slots (form.Through through.Where t u a f) x ≡ staged world slots stage.Where f (passed_at world slots a x)
   passed_where t u a f x = at _ _ x (form.outs-Through through.Where t u a f)
@@ -255,19 +282,123 @@ module _ {R : Type 0} (world : World R) (slots : Slots R) where
 
   -- ---- bases of forms
 
-  -- what comes of the items of a base at a form
-  abbrev pub At : Form → Stream (Value R) → Stream (Value R)
-  At f b = each (passed_at world slots f) b.0 b.1
-
   abbrev Kept : Form → Stream (Value R) → Stream (Value R)
   Kept f s = staged world slots stage.Where f s
 
   abbrev Made : Form → Stream (Value R) → Stream (Value R)
   Made f s = staged world slots stage.Select f s
 
-  pub opens_base : (f : Form) (b s : Stream (Value R)) → IsBase f → b ≡ s → s ≡ stream_of world (form_meaning world f slots)
-      → At f b ≡ stream_of world (form_meaning world f slots)
-  opens_base f b s is same meant = each_one (passed_at world slots f) is b.0 b.1 ∙ same ∙ meant
+  opens_base : (f : Form) (b : Stream (Value R)) → IsBase f → b ≡ stream_of world (form_meaning world f slots)
+      → At world slots f b ≡ stream_of world (form_meaning world f slots)
+  opens_base f b is same = each_one (passed_at world slots f) is b.0 b.1 ∙ same
+
+  pub opens_literal : (s : Scalar) (r : Base R) → base_stream r ≡ stream_of world (form_meaning world (form.Literal s) slots)
+      → At world slots (form.Literal s) (base_stream r) ≡ stream_of world (form_meaning world (form.Literal s) slots)
+  opens_literal s r h = opens_base (form.Literal s) (base_stream r) (base_literal s) h
+
+  pub opens_slot : (n : ℕ) (r : Base R) → base_stream r ≡ stream_of world (form_meaning world (form.Slot n) slots)
+      → At world slots (form.Slot n) (base_stream r) ≡ stream_of world (form_meaning world (form.Slot n) slots)
+  opens_slot n r h = opens_base (form.Slot n) (base_stream r) (base_slot n) h
+
+  pub opens_first : (a : Form) (r : Base R) → base_stream r ≡ stream_of world (form_meaning world (form.First a) slots)
+      → At world slots (form.First a) (base_stream r) ≡ stream_of world (form_meaning world (form.First a) slots)
+  opens_first a r h = opens_base (form.First a) (base_stream r) (base_first a) h
+
+  pub opens_second : (a : Form) (r : Base R) → base_stream r ≡ stream_of world (form_meaning world (form.Second a) slots)
+      → At world slots (form.Second a) (base_stream r) ≡ stream_of world (form_meaning world (form.Second a) slots)
+  opens_second a r h = opens_base (form.Second a) (base_stream r) (base_second a) h
+
+  pub opens_table : (n : ℕ) (r : Base R) → base_stream r ≡ stream_of world (form_meaning world (form.Table n) slots)
+      → At world slots (form.Table n) (base_stream r) ≡ stream_of world (form_meaning world (form.Table n) slots)
+  opens_table n r h = opens_base (form.Table n) (base_stream r) (base_table n) h
+
+  pub opens_column : (a : Form) (t c : ℕ) (r : Base R) → base_stream r ≡ stream_of world (form_meaning world (form.Column a t c) slots)
+      → At world slots (form.Column a t c) (base_stream r) ≡ stream_of world (form_meaning world (form.Column a t c) slots)
+  opens_column a t c r h = opens_base (form.Column a t c) (base_stream r) (base_column a t c) h
+
+  pub opens_member : (a : Form) (place : ℕ) (r : Base R) → base_stream r ≡ stream_of world (form_meaning world (form.Member a place) slots)
+      → At world slots (form.Member a place) (base_stream r) ≡ stream_of world (form_meaning world (form.Member a place) slots)
+  opens_member a place r h = opens_base (form.Member a place) (base_stream r) (base_member a place) h
+
+  pub opens_key : (a : Form) (r : Base R) → base_stream r ≡ stream_of world (form_meaning world (form.Key a) slots)
+      → At world slots (form.Key a) (base_stream r) ≡ stream_of world (form_meaning world (form.Key a) slots)
+  opens_key a r h = opens_base (form.Key a) (base_stream r) (base_key a) h
+
+  pub opens_unary : (o : Op) (a : Form) (r : Base R) → base_stream r ≡ stream_of world (form_meaning world (form.Unary o a) slots)
+      → At world slots (form.Unary o a) (base_stream r) ≡ stream_of world (form_meaning world (form.Unary o a) slots)
+  opens_unary o a r h = opens_base (form.Unary o a) (base_stream r) (base_unary o a) h
+
+  pub opens_binary : (o : Op) (a b : Form) (r : Base R) → base_stream r ≡ stream_of world (form_meaning world (form.Binary o a b) slots)
+      → At world slots (form.Binary o a b) (base_stream r) ≡ stream_of world (form_meaning world (form.Binary o a b) slots)
+  opens_binary o a b r h = opens_base (form.Binary o a b) (base_stream r) (base_binary o a b) h
+
+  pub opens_and : (a b : Form) (r : Base R) → base_stream r ≡ stream_of world (form_meaning world (form.And a b) slots)
+      → At world slots (form.And a b) (base_stream r) ≡ stream_of world (form_meaning world (form.And a b) slots)
+  opens_and a b r h = opens_base (form.And a b) (base_stream r) (base_and a b) h
+
+  pub opens_or : (a b : Form) (r : Base R) → base_stream r ≡ stream_of world (form_meaning world (form.Or a b) slots)
+      → At world slots (form.Or a b) (base_stream r) ≡ stream_of world (form_meaning world (form.Or a b) slots)
+  opens_or a b r h = opens_base (form.Or a b) (base_stream r) (base_or a b) h
+
+  pub opens_coalesce : (a b : Form) (r : Base R) → base_stream r ≡ stream_of world (form_meaning world (form.Coalesce a b) slots)
+      → At world slots (form.Coalesce a b) (base_stream r) ≡ stream_of world (form_meaning world (form.Coalesce a b) slots)
+  opens_coalesce a b r h = opens_base (form.Coalesce a b) (base_stream r) (base_coalesce a b) h
+
+  pub opens_conditional : (c a b : Form) (r : Base R) → base_stream r ≡ stream_of world (form_meaning world (form.Conditional c a b) slots)
+      → At world slots (form.Conditional c a b) (base_stream r) ≡ stream_of world (form_meaning world (form.Conditional c a b) slots)
+  opens_conditional c a b r h = opens_base (form.Conditional c a b) (base_stream r) (base_conditional c a b) h
+
+  pub opens_is_null : (wanted : Bool) (a : Form) (r : Base R) → base_stream r ≡ stream_of world (form_meaning world (form.IsNull wanted a) slots)
+      → At world slots (form.IsNull wanted a) (base_stream r) ≡ stream_of world (form_meaning world (form.IsNull wanted a) slots)
+  opens_is_null wanted a r h = opens_base (form.IsNull wanted a) (base_stream r) (base_is_null wanted a) h
+
+  pub opens_record : (fields : List (Field Form)) (r : Base R) → base_stream r ≡ stream_of world (form_meaning world (form.Record fields) slots)
+      → At world slots (form.Record fields) (base_stream r) ≡ stream_of world (form_meaning world (form.Record fields) slots)
+  opens_record fields r h = opens_base (form.Record fields) (base_stream r) (base_record fields) h
+
+  pub opens_pair : (a b : Form) (r : Base R) → base_stream r ≡ stream_of world (form_meaning world (form.Pair a b) slots)
+      → At world slots (form.Pair a b) (base_stream r) ≡ stream_of world (form_meaning world (form.Pair a b) slots)
+  opens_pair a b r h = opens_base (form.Pair a b) (base_stream r) (base_pair a b) h
+
+  pub opens_sequence : (a : Form) (r : Base R) → base_stream r ≡ stream_of world (form_meaning world (form.Sequence a) slots)
+      → At world slots (form.Sequence a) (base_stream r) ≡ stream_of world (form_meaning world (form.Sequence a) slots)
+  opens_sequence a r h = opens_base (form.Sequence a) (base_stream r) (base_sequence a) h
+
+  pub opens_simple : (method : Simple) (t : Ty) (a : Form) (r : Base R) → base_stream r ≡ stream_of world (form_meaning world (form.Simple method t a) slots)
+      → At world slots (form.Simple method t a) (base_stream r) ≡ stream_of world (form_meaning world (form.Simple method t a) slots)
+  opens_simple method t a r h = opens_base (form.Simple method t a) (base_stream r) (base_simple method t a) h
+
+  pub opens_given : (method : Given) (a b : Form) (r : Base R) → base_stream r ≡ stream_of world (form_meaning world (form.Given method a b) slots)
+      → At world slots (form.Given method a b) (base_stream r) ≡ stream_of world (form_meaning world (form.Given method a b) slots)
+  opens_given method a b r h = opens_base (form.Given method a b) (base_stream r) (base_given method a b) h
+
+  pub opens_select_many : (a inner result : Form) (r : Base R) → base_stream r ≡ stream_of world (form_meaning world (form.SelectMany a inner result) slots)
+      → At world slots (form.SelectMany a inner result) (base_stream r) ≡ stream_of world (form_meaning world (form.SelectMany a inner result) slots)
+  opens_select_many a inner result r h = opens_base (form.SelectMany a inner result) (base_stream r) (base_select_many a inner result) h
+
+  pub opens_join : (a : Form) (j : Joined Form) (r : Base R) → base_stream r ≡ stream_of world (form_meaning world (form.Join a j) slots)
+      → At world slots (form.Join a j) (base_stream r) ≡ stream_of world (form_meaning world (form.Join a j) slots)
+  opens_join a j r h = opens_base (form.Join a j) (base_stream r) (base_join a j) h
+
+  pub opens_order_by : (a : Form) (ks : List (SortKey Form)) (r : Base R) → base_stream r ≡ stream_of world (form_meaning world (form.OrderBy a ks) slots)
+      → At world slots (form.OrderBy a ks) (base_stream r) ≡ stream_of world (form_meaning world (form.OrderBy a ks) slots)
+  opens_order_by a ks r h = opens_base (form.OrderBy a ks) (base_stream r) (base_order_by a ks) h
+
+  pub opens_group_by : (a key element : Form) (r : Base R) → base_stream r ≡ stream_of world (form_meaning world (form.GroupBy a key element) slots)
+      → At world slots (form.GroupBy a key element) (base_stream r) ≡ stream_of world (form_meaning world (form.GroupBy a key element) slots)
+  opens_group_by a key element r h = opens_base (form.GroupBy a key element) (base_stream r) (base_group_by a key element) h
+
+  pub opens_all : (t u : Ty) (a f : Form) (r : Base R) → base_stream r ≡ stream_of world (form_meaning world (form.Through through.All t u a f) slots)
+      → At world slots (form.Through through.All t u a f) (base_stream r) ≡ stream_of world (form_meaning world (form.Through through.All t u a f) slots)
+  opens_all t u a f r h = opens_base (form.Through through.All t u a f) (base_stream r) (base_all t u a f) h
+
+  pub opens_those : (method : Simple) (t u : Ty) (a f : Form) (r : Base R) → base_stream r ≡ stream_of world (form_meaning world (form.Through (through.Those method) t u a f) slots)
+      → At world slots (form.Through (through.Those method) t u a f) (base_stream r) ≡ stream_of world (form_meaning world (form.Through (through.Those method) t u a f) slots)
+  opens_those method t u a f r h = opens_base (form.Through (through.Those method) t u a f) (base_stream r) (base_those method t u a f) h
+
+  pub opens_values : (method : Simple) (t u : Ty) (a f : Form) (r : Base R) → base_stream r ≡ stream_of world (form_meaning world (form.Through (through.Values method) t u a f) slots)
+      → At world slots (form.Through (through.Values method) t u a f) (base_stream r) ≡ stream_of world (form_meaning world (form.Through (through.Values method) t u a f) slots)
+  opens_values method t u a f r h = opens_base (form.Through (through.Values method) t u a f) (base_stream r) (base_values method t u a f) h
 
   pub stream_sequence : (s : Stream (Value R)) → stream_of world (Ok (sequence s)) ≡ s
   stream_sequence s = ap (items_of world) (value.outs-Seq s.0 s.1)
@@ -277,25 +408,28 @@ module _ {R : Type 0} (world : World R) (slots : Slots R) where
   found_or_not known (Some rows) = sym (stream_sequence (map value.Row rows, end.Done))
   found_or_not known None = ap (λ (f : Fault). ([], end.Fault f)) (sym known)
 
+  pub table_opened : (n : ℕ) (b : Stream (Value R)) → b ≡ stream_of world (table_value world (slice_get world.rows n)) → b ≡ stream_of world (form_meaning world (form.Table n) slots)
+  table_opened n b is = is ∙ ap (stream_of world) (sym (form_table world n slots))
+
   pub rows_found : (b : Stream (Value R)) (rows : List R) (e : End) (found : Option (List R)) → world.unknown ≡ fault.NullReference
       → rows ≡ rows_or_none found → e ≡ end_of found → b ≡ (map value.Row rows, e) → b ≡ stream_of world (table_value world found)
   rows_found b rows e found known rows_are ends is =
       is ∙ (λ i. (map value.Row (rows_are i), ends i)) ∙ found_or_not known found
 
-  pub opens_where : (t u : Ty) (a f : Form) (b : Stream (Value R)) → At a b ≡ stream_of world (form_meaning world a slots)
-      → At (form.Through through.Where t u a f) b ≡ stream_of world (form_meaning world (form.Through through.Where t u a f) slots)
-  opens_where t u a f b h =
-      (λ i. each (λ x. passed_where t u a f x i) b.0 b.1)
-      ∙ sym (each_each (λ v. kept (is_true world (form_meaning world f) (with_item world slots v)) v) (passed_at world slots a) b.0 b.1)
+  pub opens_where : (t u : Ty) (a f : Form) (r : Base R) → At world slots a (base_stream r) ≡ stream_of world (form_meaning world a slots)
+      → At world slots (form.Through through.Where t u a f) (base_stream r) ≡ stream_of world (form_meaning world (form.Through through.Where t u a f) slots)
+  opens_where t u a f r h =
+      (λ i. each (λ x. passed_where t u a f x i) (base_stream r).0 (base_stream r).1)
+      ∙ sym (each_each (λ v. kept (is_true world (form_meaning world f) (with_item world slots v)) v) (passed_at world slots a) (base_stream r).0 (base_stream r).1)
       ∙ ap (Kept f) h
       ∙ sym (stream_sequence (Kept f (stream_of world (form_meaning world a slots))))
       ∙ ap (stream_of world) (sym (form_through world through.Where t u a f slots))
 
-  pub opens_select : (t u : Ty) (a f : Form) (b : Stream (Value R)) → At a b ≡ stream_of world (form_meaning world a slots)
-      → At (form.Through through.Select t u a f) b ≡ stream_of world (form_meaning world (form.Through through.Select t u a f) slots)
-  opens_select t u a f b h =
-      (λ i. each (λ x. passed_select t u a f x i) b.0 b.1)
-      ∙ sym (each_each (λ v. one (form_meaning world f (with_item world slots v))) (passed_at world slots a) b.0 b.1)
+  pub opens_select : (t u : Ty) (a f : Form) (r : Base R) → At world slots a (base_stream r) ≡ stream_of world (form_meaning world a slots)
+      → At world slots (form.Through through.Select t u a f) (base_stream r) ≡ stream_of world (form_meaning world (form.Through through.Select t u a f) slots)
+  opens_select t u a f r h =
+      (λ i. each (λ x. passed_select t u a f x i) (base_stream r).0 (base_stream r).1)
+      ∙ sym (each_each (λ v. one (form_meaning world f (with_item world slots v))) (passed_at world slots a) (base_stream r).0 (base_stream r).1)
       ∙ ap (Made f) h
       ∙ sym (stream_sequence (Made f (stream_of world (form_meaning world a slots))))
       ∙ ap (stream_of world) (sym (form_through world through.Select t u a f slots))
@@ -303,7 +437,7 @@ module _ {R : Type 0} (world : World R) (slots : Slots R) where
   -- ---- pulling
 
   -- what is left of an opened base is all that is pulled
-  pub left_opened : (st : Stage) (a f : Form) (b : Base R) → At a (base_stream b) ≡ stream_of world (form_meaning world a slots)
+  pub left_opened : (st : Stage) (a f : Form) (b : Base R) → At world slots a (base_stream b) ≡ stream_of world (form_meaning world a slots)
       → left world slots st a f b ≡ pulled world slots st a f
   left_opened stage.Plain a f b h = h
   left_opened stage.Where a f b h =
@@ -311,6 +445,25 @@ module _ {R : Type 0} (world : World R) (slots : Slots R) where
   left_opened stage.Select a f b h =
       sym (each_each (λ v. one (form_meaning world f (with_item world slots v))) (passed_at world slots a) (base_stream b).0 (base_stream b).1) ∙ ap (Made f) h
 
+-- ---- where a loop begins
 
-pub ruleset passes = (passed_where, passed_select, base_literal, base_slot, base_first, base_second, base_table, base_column, base_member, base_key, base_unary, base_binary, base_and, base_or, base_coalesce, base_conditional, base_is_null, base_record, base_pair, base_sequence, base_simple, base_given, base_select_many, base_join, base_order_by, base_group_by)
-pub ruleset opens = (opens_where, opens_select, opens_base, base_literal, base_slot, base_first, base_second, base_table, base_column, base_member, base_key, base_unary, base_binary, base_and, base_or, base_coalesce, base_conditional, base_is_null, base_record, base_pair, base_sequence, base_simple, base_given, base_select_many, base_join, base_order_by, base_group_by)
+module _ {A : Type 0} where
+  pub begins : (left all : Stream A) (made : List A) → made ≡ [] → left ≡ all → then_ending made end.Done left ≡ all
+  begins left all made none is = ap (λ l. then_ending l end.Done left) none ∙ is
+
+  pub begins_taken : (left all : Stream A) (made : List A) (n : ℕ) → made ≡ [] → left ≡ all
+      → then_ending made end.Done (take_first n left.0 left.1) ≡ take_first n all.0 all.1
+  begins_taken left all made n none is =
+      ap (λ l. then_ending l end.Done (take_first n left.0 left.1)) none ∙ ap (λ (s : Stream A). take_first n s.0 s.1) is
+
+pub ruleset passes = (passed_where, passed_select, base_literal, base_slot, base_first, base_second, base_table, base_column, base_member, base_key, base_unary, base_binary, base_and, base_or, base_coalesce, base_conditional, base_is_null, base_record, base_pair, base_sequence, base_simple, base_given, base_select_many, base_join, base_order_by, base_group_by, base_all, base_those, base_values)
+
+pub ruleset opens = (opens_where, opens_select, opens_literal, opens_slot, opens_first, opens_second, opens_table, opens_column, opens_member, opens_key, opens_unary, opens_binary, opens_and, opens_or, opens_coalesce, opens_conditional, opens_is_null, opens_record, opens_pair, opens_sequence, opens_simple, opens_given, opens_select_many, opens_join, opens_order_by, opens_group_by, opens_all, opens_those, opens_values)
+
+pub ruleset drains = (left_opened, begins, drained_on, drained_ended, fewer)
+
+pub ruleset takes = (left_opened, begins_taken, taken_on, taken_ended, taken_whole)
+
+pub ruleset selects = (selects_on, selects_stopped, selects_ended)
+
+pub ruleset keeps = (selects_same, begins, drained_on, drained_ended, fewer)

@@ -1,5 +1,5 @@
 -- How items are pulled: one by one from a base, each through the conditions and lambdas that stand between the base and a form.
-use Rattle.std.specs.Prelude.{◌≡◌, ◌∷◌, ◌++◌, List, [], Option, Some, None, map, reverse}
+use Rattle.std.specs.Prelude.{◌≡◌, ◌∷◌, ◌++◌, List, [], Option, Result, Some, None, Ok, Err, map, reverse}
 use Rattle.lq_value.specs.declared.value.End.{End}
 use Rattle.lq_value.specs.declared.value.End.TheVariants as end
 use Rattle.lq_value.specs.declared.value.Fault.TheVariants as fault
@@ -19,6 +19,11 @@ use Rattle.lq_pipe.specs.declared.stages.Stage.{Stage}
 use Rattle.lq_pipe.specs.declared.stages.Stage.TheVariants as stage
 use Rattle.lq_pipe.specs.declared.stages.Step.{Step}
 use Rattle.lq_pipe.specs.declared.stages.Step.TheVariants as step
+
+-- a step from what is left of a stream to what is left of it then: what comes first, or how it ends
+abbrev pub StepsTo : {B : Type 0} → Stream B → Result B End → Stream B → Type 0
+StepsTo s (Ok x) t = s ≡ in_front x t
+StepsTo s (Err e) t = s ≡ ([], e)
 
 module _ {R : Type 0} where
   -- the items that a base has left, and how they end
@@ -60,6 +65,10 @@ module _ {R : Type 0} (world : World R) (slots : Slots R) where
 
   unfoldable pub passed_at : Form → Value R → Stream (Value R)
   passed_at = para-Form (Value R → Stream (Value R)) passed_step
+
+  -- what comes of the items of a base at a form
+  abbrev pub At : Form → Stream (Value R) → Stream (Value R)
+  At form items = each (passed_at form) items.0 items.1
 
   -- the items that are still to come of a source behind its last stage
   abbrev pub left : Stage → Form → Form → Base R → Stream (Value R)

@@ -1,4 +1,5 @@
 //! The running of what several sequences or keys take part in.
+use crate::bases::Base;
 use crate::running::Running;
 use crate::slots::Slots;
 use crate::stages::{Stage, Step};
@@ -23,7 +24,9 @@ impl<'a, R: TableRow> Running<'a, R> {
     ghost use Rattle.lq_tree.specs.declared.tree.Form.TheVariants as form;
     ghost use Rattle.lq_pipe.specs.Arrangements.{columns_of, key_at, sorted_by};
     ghost use Rattle.lq_pipe.specs.Running.{Answers, items_meant, meant};
+    ghost use Rattle.lq_pipe.specs.Pulling.{StepsTo, left};
     ghost use Rattle.lq_pipe.specs.Slots.{values_in};
+    ghost use Rattle.lq_pipe.specs.declared.stages.Stage.TheVariants as stage;
     ghost use Rattle.lq_pipe.specs.Worlds.{world_of};
 
     /// What comes of each item and of each item of what it leads to.
@@ -121,8 +124,33 @@ impl<'a, R: TableRow> Running<'a, R> {
         }
     }
 
+    /// The key of the next item of a source, and its element; or how they end.
+    #[cycle(running)]
+    #[tactic(auto, using(crate::proofs::PullLemmas::selects))]
+    fn next_keyed(
+        &self,
+        source: &Form,
+        key: &Form,
+        element: &Form,
+        base: &mut Base<'a, R>,
+        slots: &Slots<'_, R>,
+    ) -> Result<Result<(Value<R>, Value<R>), End>, AllocError>
+        ensures { IfOk result (λ found. StepsTo
+            (select_by (keyed_of (world_of R.table_of R.shown self.now.tables.now) (values_in slots.now) key.now element.now) (left (world_of R.table_of R.shown self.now.tables.now) (values_in slots.now) stage.Plain source.now source.now base.old).0 (left (world_of R.table_of R.shown self.now.tables.now) (values_in slots.now) stage.Plain source.now source.now base.old).1) found
+            (select_by (keyed_of (world_of R.table_of R.shown self.now.tables.now) (values_in slots.now) key.now element.now) (left (world_of R.table_of R.shown self.now.tables.now) (values_in slots.now) stage.Plain source.now source.now base.new).0 (left (world_of R.table_of R.shown self.now.tables.now) (values_in slots.now) stage.Plain source.now source.now base.new).1)) }
+    {
+        match self.next(Stage::Plain, source, source, base, slots)? {
+            Step::Item(item) => match self.keyed_item(key, element, &item, slots)? {
+                Ok(pair) => Ok(Ok(pair)),
+                Err(fault) => Ok(Err(End::Fault(fault))),
+            },
+            Step::End(end) => Ok(Err(end)),
+        }
+    }
+
     /// The keys of the items of a source with their elements, up to the first fault.
     #[cycle(running)]
+    #[tactic(auto, using(crate::proofs::PullLemmas::keeps))]
     fn keyed(
         &self,
         source: &Form,
@@ -136,12 +164,9 @@ impl<'a, R: TableRow> Running<'a, R> {
         let mut base = self.open(source, slots)?;
         let mut made = List::new(self.alloc);
         loop {
-            match self.next(Stage::Plain, source, source, &mut base, slots)? {
-                Step::Item(item) => match self.keyed_item(key, element, &item, slots)? {
-                    Ok(pair) => made.push(pair)?,
-                    Err(fault) => return Ok((made, End::Fault(fault))),
-                },
-                Step::End(end) => return Ok((made, end)),
+            match self.next_keyed(source, key, element, &mut base, slots)? {
+                Ok(pair) => made.push(pair)?,
+                Err(end) => return Ok((made, end)),
             }
         }
     }
@@ -184,8 +209,32 @@ impl<'a, R: TableRow> Running<'a, R> {
         }
     }
 
+    /// The next item of an inner source with its key, or how they end.
+    #[cycle(running)]
+    #[tactic(auto, using(crate::proofs::PullLemmas::selects))]
+    fn next_with_key(
+        &self,
+        source: &Form,
+        key: &Form,
+        base: &mut Base<'a, R>,
+        slots: &Slots<'_, R>,
+    ) -> Result<Result<(Value<R>, Value<R>), End>, AllocError>
+        ensures { IfOk result (λ found. StepsTo
+            (select_by (with_key_of (world_of R.table_of R.shown self.now.tables.now) (values_in slots.now) key.now) (left (world_of R.table_of R.shown self.now.tables.now) (values_in slots.now) stage.Plain source.now source.now base.old).0 (left (world_of R.table_of R.shown self.now.tables.now) (values_in slots.now) stage.Plain source.now source.now base.old).1) found
+            (select_by (with_key_of (world_of R.table_of R.shown self.now.tables.now) (values_in slots.now) key.now) (left (world_of R.table_of R.shown self.now.tables.now) (values_in slots.now) stage.Plain source.now source.now base.new).0 (left (world_of R.table_of R.shown self.now.tables.now) (values_in slots.now) stage.Plain source.now source.now base.new).1)) }
+    {
+        match self.next(Stage::Plain, source, source, base, slots)? {
+            Step::Item(item) => match self.with_key(key, item, slots)? {
+                Ok(pair) => Ok(Ok(pair)),
+                Err(fault) => Ok(Err(End::Fault(fault))),
+            },
+            Step::End(end) => Ok(Err(end)),
+        }
+    }
+
     /// The items of an inner source with their keys, up to the first fault.
     #[cycle(running)]
+    #[tactic(auto, using(crate::proofs::PullLemmas::keeps))]
     fn with_keys(
         &self,
         source: &Form,
@@ -198,12 +247,9 @@ impl<'a, R: TableRow> Running<'a, R> {
         let mut base = self.open(source, slots)?;
         let mut made = List::new(self.alloc);
         loop {
-            match self.next(Stage::Plain, source, source, &mut base, slots)? {
-                Step::Item(item) => match self.with_key(key, item, slots)? {
-                    Ok(pair) => made.push(pair)?,
-                    Err(fault) => return Ok((made, End::Fault(fault))),
-                },
-                Step::End(end) => return Ok((made, end)),
+            match self.next_with_key(source, key, &mut base, slots)? {
+                Ok(pair) => made.push(pair)?,
+                Err(end) => return Ok((made, end)),
             }
         }
     }

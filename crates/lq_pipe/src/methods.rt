@@ -13,15 +13,16 @@ use std::alloc::AllocError;
 
 impl<'a, R: TableRow> Running<'a, R> {
     ghost use Rattle.std.specs.Prelude.{◌≡◌, IfOk, Ok};
+    ghost use Rattle.lq_value.specs.declared.ty.Ty.{Ty};
     ghost use Rattle.lq_model.specs.Meaning.{as_value, stream_of};
     ghost use Rattle.lq_model.specs.Enumerable.{all};
     ghost use Rattle.lq_model.specs.Stream.{select_by};
     ghost use Rattle.lq_operators.specs.Answers.{IsAnswer};
     ghost use Rattle.lq_operators.specs.Tallies.{tallied};
-    ghost use Rattle.lq_model.specs.WholeMeaning.{as_truth, simple_meaning};
+    ghost use Rattle.lq_model.specs.WholeMeaning.{as_truth, given_meaning, simple_meaning};
     ghost use Rattle.lq_tree.specs.declared.tree.Form.TheVariants as form;
     ghost use Rattle.lq_pipe.specs.Pulling.{pulled};
-    ghost use Rattle.lq_pipe.specs.Running.{holds_of, meant, of_item};
+    ghost use Rattle.lq_pipe.specs.Running.{holds_of, items_meant, meant, of_item};
     ghost use Rattle.lq_pipe.specs.Slots.{values_in};
     ghost use Rattle.lq_pipe.specs.Worlds.{world_of};
 
@@ -39,6 +40,7 @@ impl<'a, R: TableRow> Running<'a, R> {
     /// A method without an argument, on the items of a source behind its last stage.
     #[cycle(running)]
     #[inline(never)]
+    #[tactic(auto, using(crate::proofs::CountLemmas::tally_answers))]
     pub(crate) fn simple(
         &self,
         method: Simple,
@@ -69,14 +71,32 @@ impl<'a, R: TableRow> Running<'a, R> {
     ) -> Result<Value<R>, RunError>
         ensures { IsAnswer (simple_meaning method of.now (pulled (world_of R.table_of R.shown self.now.tables.now) (values_in slots.now) stage source.now body.now)) result }
     {
+        let (items, end) = self.read_items(method, stage, source, body, slots)?;
+        simple(self.alloc, method, of, items, end)
+    }
+
+    /// The items that such a method reads, and how they end as far as it reads them.
+    #[cycle(running)]
+    #[tactic(auto, using(crate::proofs::CountLemmas::reads))]
+    fn read_items(
+        &self,
+        method: Simple,
+        stage: Stage,
+        source: &Form,
+        body: &Form,
+        slots: &Slots<'_, R>,
+    ) -> Result<(List<Value<R>>, End), AllocError>
+        ensures { IfOk result (λ s. (t : Ty) → simple_meaning method t s
+            ≡ simple_meaning method t (pulled (world_of R.table_of R.shown self.now.tables.now) (values_in slots.now) stage source.now body.now)) }
+    {
         match read(method) {
             Some(count) => {
-                let (items, end) = self.taken(count, stage, source, body, slots)?;
-                simple(self.alloc, method, of, items, end)
+                let items = self.taken(count, stage, source, body, slots)?;
+                Ok(items)
             }
             None => {
-                let (items, end) = self.drained(stage, source, body, slots)?;
-                simple(self.alloc, method, of, items, end)
+                let items = self.drained(stage, source, body, slots)?;
+                Ok(items)
             }
         }
     }
@@ -84,6 +104,7 @@ impl<'a, R: TableRow> Running<'a, R> {
     /// The number that a tally comes to over the items.
     #[cycle(running)]
     #[inline(never)]
+    #[tactic(auto, using(crate::proofs::CountLemmas::tallies))]
     fn tallied(
         &self,
         tally: Tally,
@@ -119,14 +140,31 @@ impl<'a, R: TableRow> Running<'a, R> {
         ensures { IsAnswer (meant (world_of R.table_of R.shown self.now.tables.now) (form.Given method source.now argument.now) slots.now) result }
     {
         let argument = sequences::settled(self.evaluate(argument, slots))?;
-        match needed(method, &argument) {
+        let (items, end) = self.needed_items(method, &argument, source, slots)?;
+        given(self.alloc, method, argument, items, end)
+    }
+
+    /// The items that such a method reads, and how they end as far as it reads them.
+    #[cycle(running)]
+    #[tactic(auto, using(crate::proofs::CountLemmas::needs))]
+    fn needed_items(
+        &self,
+        method: Given,
+        argument: &Result<Value<R>, Fault>,
+        source: &Form,
+        slots: &Slots<'_, R>,
+    ) -> Result<(List<Value<R>>, End), AllocError>
+        ensures { IfOk result (λ s. given_meaning (world_of R.table_of R.shown self.now.tables.now) method argument.now s
+            ≡ given_meaning (world_of R.table_of R.shown self.now.tables.now) method argument.now (items_meant (world_of R.table_of R.shown self.now.tables.now) source.now slots.now)) }
+    {
+        match needed(method, argument) {
             Some(count) => {
-                let (items, end) = self.taken(count, Stage::Plain, source, source, slots)?;
-                given(self.alloc, method, argument, items, end)
+                let items = self.taken(count, Stage::Plain, source, source, slots)?;
+                Ok(items)
             }
             None => {
-                let (items, end) = self.drained(Stage::Plain, source, source, slots)?;
-                given(self.alloc, method, argument, items, end)
+                let items = self.drained(Stage::Plain, source, source, slots)?;
+                Ok(items)
             }
         }
     }

@@ -14,8 +14,7 @@ impl<'a, R: TableRow> Running<'a, R> {
     ghost use Rattle.lq_value.specs.declared.value.End.TheVariants as end;
     ghost use Rattle.lq_model.specs.Meaning.{stream_of, table_value};
     ghost use Rattle.lq_model.specs.Enumerable.{take_first};
-    ghost use Rattle.lq_model.specs.Stream.{each};
-    ghost use Rattle.lq_pipe.specs.Pulling.{Steps, end_of, rows_or_none, base_stream, left, passed_at, passed_on, pulled, staged};
+    ghost use Rattle.lq_pipe.specs.Pulling.{At, Steps, end_of, rows_or_none, base_stream, left, passed_at, passed_on, pulled, staged};
     ghost use Rattle.lq_pipe.specs.Running.{meant};
     ghost use Rattle.lq_pipe.specs.declared.stages.Stage.TheVariants as stage;
     ghost use Rattle.lq_pipe.specs.Slots.{values_in};
@@ -53,6 +52,22 @@ impl<'a, R: TableRow> Running<'a, R> {
         Base::of_rows(self.alloc, rows, self.end_at(number))
     }
 
+    /// The items of a form, as they are where it is neither a condition nor a lambda.
+    #[cycle(running)]
+    #[tactic(auto, using(crate::proofs::PullLemmas::table_opened))]
+    fn opened(&self, form: &Form, slots: &Slots<'_, R>) -> Result<Base<'a, R>, AllocError>
+        ensures { IfOk result (λ base. base_stream base
+            ≡ stream_of (world_of R.table_of R.shown self.now.tables.now) (meant (world_of R.table_of R.shown self.now.tables.now) form.now slots.now)) }
+    {
+        match form {
+            Form::Table(number) => Ok(self.rows_of(*number)),
+            _ => {
+                let (items, end) = self.stream(form, slots)?;
+                Ok(Base::of_items(items, end))
+            }
+        }
+    }
+
     /// The base of a form: what stands below its conditions and lambdas.
     #[cycle(running)]
     #[inline(never)]
@@ -62,16 +77,45 @@ impl<'a, R: TableRow> Running<'a, R> {
         form: &Form,
         slots: &Slots<'_, R>,
     ) -> Result<Base<'a, R>, AllocError>
-        ensures { IfOk result (λ base. each (passed_at (world_of R.table_of R.shown self.now.tables.now) (values_in slots.now) form.now) (base_stream base).0 (base_stream base).1
+        ensures { IfOk result (λ base. At (world_of R.table_of R.shown self.now.tables.now) (values_in slots.now) form.now (base_stream base)
             ≡ stream_of (world_of R.table_of R.shown self.now.tables.now) (meant (world_of R.table_of R.shown self.now.tables.now) form.now slots.now)) }
     {
         match form {
-            Form::Through(Through::Where, _, _, source, _) => self.open(source.get(), slots),
-            Form::Through(Through::Select, _, _, source, _) => self.open(source.get(), slots),
-            Form::Table(number) => Ok(self.rows_of(*number)),
-            _ => {
-                let (items, end) = self.stream(form, slots)?;
-                Ok(Base::of_items(items, end))
+            Form::Through(Through::Where, _, _, source, _) => {
+                let base = self.open(source.get(), slots)?;
+                Ok(base)
+            }
+            Form::Through(Through::Select, _, _, source, _) => {
+                let base = self.open(source.get(), slots)?;
+                Ok(base)
+            }
+            Form::Literal(_)
+            | Form::Slot(_)
+            | Form::First(_)
+            | Form::Second(_)
+            | Form::Table(_)
+            | Form::Column(_, _, _)
+            | Form::Member(_, _)
+            | Form::Key(_)
+            | Form::Unary(_, _)
+            | Form::Binary(_, _, _)
+            | Form::And(_, _)
+            | Form::Or(_, _)
+            | Form::Coalesce(_, _)
+            | Form::Conditional(_, _, _)
+            | Form::IsNull(_, _)
+            | Form::Record(_)
+            | Form::Pair(_, _)
+            | Form::Sequence(_)
+            | Form::Simple(_, _, _)
+            | Form::Given(_, _, _)
+            | Form::Through(Through::All | Through::Those(_) | Through::Values(_), _, _, _, _)
+            | Form::SelectMany(_, _, _)
+            | Form::Join(_, _)
+            | Form::OrderBy(_, _)
+            | Form::GroupBy(_, _, _) => {
+                let base = self.opened(form, slots)?;
+                Ok(base)
             }
         }
     }
@@ -89,12 +133,38 @@ impl<'a, R: TableRow> Running<'a, R> {
     {
         match form {
             Form::Through(Through::Where, _, _, source, body) => {
-                self.pass_through(Stage::Where, source.get(), body.get(), item, slots)
+                let passed = self.pass_through(Stage::Where, source.get(), body.get(), item, slots)?;
+                Ok(passed)
             }
             Form::Through(Through::Select, _, _, source, body) => {
-                self.pass_through(Stage::Select, source.get(), body.get(), item, slots)
+                let passed = self.pass_through(Stage::Select, source.get(), body.get(), item, slots)?;
+                Ok(passed)
             }
-            _ => Ok(Passed::Item(item)),
+            Form::Literal(_)
+            | Form::Slot(_)
+            | Form::First(_)
+            | Form::Second(_)
+            | Form::Table(_)
+            | Form::Column(_, _, _)
+            | Form::Member(_, _)
+            | Form::Key(_)
+            | Form::Unary(_, _)
+            | Form::Binary(_, _, _)
+            | Form::And(_, _)
+            | Form::Or(_, _)
+            | Form::Coalesce(_, _)
+            | Form::Conditional(_, _, _)
+            | Form::IsNull(_, _)
+            | Form::Record(_)
+            | Form::Pair(_, _)
+            | Form::Sequence(_)
+            | Form::Simple(_, _, _)
+            | Form::Given(_, _, _)
+            | Form::Through(Through::All | Through::Those(_) | Through::Values(_), _, _, _, _)
+            | Form::SelectMany(_, _, _)
+            | Form::Join(_, _)
+            | Form::OrderBy(_, _)
+            | Form::GroupBy(_, _, _) => Ok(Passed::Item(item)),
         }
     }
 
@@ -198,6 +268,7 @@ impl<'a, R: TableRow> Running<'a, R> {
     /// All items of a source behind its last stage, and how they end.
     #[cycle(running)]
     #[inline(never)]
+    #[tactic(auto, using(crate::proofs::PullLemmas::drains))]
     pub(crate) fn drained(
         &self,
         stage: Stage,
@@ -220,6 +291,7 @@ impl<'a, R: TableRow> Running<'a, R> {
     /// So many of these items, and how they end: nothing is pulled behind the last of them.
     #[cycle(running)]
     #[inline(never)]
+    #[tactic(auto, using(crate::proofs::PullLemmas::takes))]
     pub(crate) fn taken(
         &self,
         count: usize,

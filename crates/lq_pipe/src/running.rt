@@ -3,6 +3,7 @@ ghost use Rattle.std.specs.Prelude.{◌≡◌, IfSome, Ok};
 ghost use Rattle.lq_model.specs.Meaning.{World};
 ghost use Rattle.lq_value.specs.declared.value.Value.TheVariants as value;
 ghost use Rattle.lq_pipe.specs.Running.{meant};
+ghost use Rattle.lq_pipe.specs.Worlds.{HaveDistinctColumns, schemas_in};
 
 use crate::reached::Reached;
 use crate::slots::Slots;
@@ -38,10 +39,11 @@ fn scalar_there<R: RowRef>(stands: &Value<R>) -> Option<&Scalar>
 }
 
 /// What a form is run over: the tables that it may read, and what gives memory.
-#[derive(Clone, Copy)]
+#[derive(Drop)]
 pub(crate) struct Running<'a, R> {
     pub(crate) alloc: Global,
     pub(crate) tables: &'a [TableRows<'a, R>],
+    ghost distinct: { HaveDistinctColumns (schemas_in tables.now) },
 }
 
 impl<'a, R: TableRow> Running<'a, R> {

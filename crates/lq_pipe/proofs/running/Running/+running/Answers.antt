@@ -1,12 +1,13 @@
 use Rattle.std.proofs.Common.{◌≡◌, Err, ap, refl, rules, subst, sym, ◌∙◌}
 use Rattle.lq_operators.specs.Answers.{IsAnswer}
+use Rattle.lq_model.specs.Meaning.{stream_of}
 use Rattle.lq_tree.specs.FormMeaning.{form_meaning}
 use Rattle.lq_operators.specs.Matching.{pairs_of}
 use Rattle.lq_pipe.specs.Arrangements.{column_of, columns_of, key_at}
 use Rattle.lq_pipe.specs.Items.{expanded_of, joined_of, keyed_of, with_key_of}
 use Rattle.lq_pipe.specs.Slots.{values_in}
 use Rattle.lq_pipe.proofs.ArrangementLemmas.{all_goes, all_stops, counted_answer, key_answer, order_by_answer, sorted_answer}
-use Rattle.lq_pipe.proofs.ItemLemmas.{expanded_is, group_by_answer, join_answer, join_stops, joined_met, matched_is, select_many_answer}
+use Rattle.lq_pipe.proofs.ItemLemmas.{expanded_pulled, group_by_answer, join_answer, join_stops, joined_met, matched_is, select_many_answer}
 use Rattle.lq_pipe.specs.Running.{Answers, holds_of, of_item, scalar_in, truth_in}
 use Rattle.lq_pipe.specs.Worlds.{world_of}
 use Rattle.lq_model.specs.WholeMeaning.{as_truth}
@@ -60,29 +61,18 @@ matched_item-returns g t c =
 
 pub select_many-returns : goal.select_many-returns
 select_many-returns g t c =
-    select_many_answer (world_of g.R.TableRow.table_of g.R.RowRef.shown c.args.self.now.tables.now) (values_in c.args.slots.now) c.args.source.now c.args.inner.now c.args.body.now _ _ _ _
-    c.in_ok-items.ensures c.as_slice.ensures c.in_ok-values.ensures
+    let all = (stream_of (world_of g.R.TableRow.table_of g.R.RowRef.shown c.args.self.now.tables.now) (form_meaning (world_of g.R.TableRow.table_of g.R.RowRef.shown c.args.self.now.tables.now) c.args.source.now (values_in c.args.slots.now))) in
+    select_many_answer (world_of g.R.TableRow.table_of g.R.RowRef.shown c.args.self.now.tables.now) (values_in c.args.slots.now) c.args.source.now c.args.inner.now c.args.body.now all.0 all.0 all.1 _ refl refl c.in_ok-values.ensures
 
 pub group_by-returns : goal.group_by-returns
 group_by-returns g t c =
-    group_by_answer (world_of g.R.TableRow.table_of g.R.RowRef.shown c.args.self.now.tables.now) (values_in c.args.slots.now) c.args.source.now c.args.key.now c.args.element.now _ _ _ _ _ _
-    c.in_ok-items.ensures c.as_slice.ensures c.in_ok-pairs.ensures c.in_ok-groups.ensures
+    let all = (stream_of (world_of g.R.TableRow.table_of g.R.RowRef.shown c.args.self.now.tables.now) (form_meaning (world_of g.R.TableRow.table_of g.R.RowRef.shown c.args.self.now.tables.now) c.args.source.now (values_in c.args.slots.now))) in
+    group_by_answer (world_of g.R.TableRow.table_of g.R.RowRef.shown c.args.self.now.tables.now) (values_in c.args.slots.now) c.args.source.now c.args.key.now c.args.element.now all.0 all.0 all.1 _ _ _ refl refl c.in_ok-pairs.ensures c.in_ok-groups.ensures
 
 pub joined_item-returns-in_ok-found-in-Ok : goal.joined_item-returns-in_ok-found-in-Ok
 joined_item-returns-in_ok-found-in-Ok g t c =
     joined_met (world_of g.R.TableRow.table_of g.R.RowRef.shown c.args.self.now.tables.now) (values_in c.args.slots.now) c.args.joined.now (pairs_of c.args.matches.now) c.args.item.now _ _ _ _ c.matched_item.result
     (sym c.in-Ok.is ∙ c.in_ok-key.ensures) (c.in_ok-found-in-Ok.ensures (world_of g.R.TableRow.table_of g.R.RowRef.shown c.args.self.now.tables.now)) c.as_slice.ensures c.matched_item.ensures
-
-pub join-returns-in-Done : goal.join-returns-in-Done
-join-returns-in-Done g t c =
-    join_answer (world_of g.R.TableRow.table_of g.R.RowRef.shown c.args.self.now.tables.now) (values_in c.args.slots.now) c.args.source.now c.args.joined.now _ _ _ _ _ _ _ _ _ (c.in_ok-values-in-Done.values, c.in_ok-values-in-Done.end)
-    c.in_ok-items.ensures c.as_slice-in-Done.ensures c.in_ok-inner.ensures c.as_slice.ensures c.in_ok-pairs.ensures c.in-Done.is c.in_ok-matches-in-Done.ensures
-    c.in_ok-values-in-Done.ensures
-
-pub join-returns : goal.join-returns
-join-returns g t c =
-    join_stops (world_of g.R.TableRow.table_of g.R.RowRef.shown c.args.self.now.tables.now) (values_in c.args.slots.now) c.args.source.now c.args.joined.now _ _ _ _ _ _ _ _ _
-    c.in_ok-items.ensures c.in_ok-inner.ensures c.as_slice.ensures c.in_ok-pairs.ensures c.in-Fault.is c.stopped.ensures
 
 pub order_by-returns : goal.order_by-returns
 order_by-returns g t c =
@@ -123,3 +113,30 @@ pub truth_of_two-returns-in_ok-binary-in-None : goal.truth_of_two-returns-in_ok-
 truth_of_two-returns-in_ok-binary-in-None g t c =
     subst (λ m. Answers (truth_in (world_of g.R.TableRow.table_of g.R.RowRef.shown c.args.self.now.tables.now) m) c.truth_in.result) (sym c.in_ok-binary-in-None.ensures)
     (c.truth_in.ensures (world_of g.R.TableRow.table_of g.R.RowRef.shown c.args.self.now.tables.now) refl)
+
+pub join-returns-in_ok-values-in-Done : goal.join-returns-in_ok-values-in-Done
+join-returns-in_ok-values-in-Done g t c =
+    let all = (stream_of (world_of g.R.TableRow.table_of g.R.RowRef.shown c.args.self.now.tables.now) (form_meaning (world_of g.R.TableRow.table_of g.R.RowRef.shown c.args.self.now.tables.now) c.args.source.now (values_in c.args.slots.now))) in
+    let inner = (stream_of (world_of g.R.TableRow.table_of g.R.RowRef.shown c.args.self.now.tables.now) (form_meaning (world_of g.R.TableRow.table_of g.R.RowRef.shown c.args.self.now.tables.now) c.args.joined.now.inner (values_in c.args.slots.now))) in
+    join_answer (world_of g.R.TableRow.table_of g.R.RowRef.shown c.args.self.now.tables.now) (values_in c.args.slots.now) c.args.source.now c.args.joined.now all.0 all.0 inner.0 inner.0 all.1 inner.1 _ _ _ (c.in_ok-values-in-Done.values, c.in_ok-values-in-Done.end)
+    refl refl refl refl c.in_ok-pairs.ensures c.in-Done.is c.in_ok-matches-in-Done.ensures c.in_ok-values-in-Done.ensures
+
+pub join-returns-in-Fault : goal.join-returns-in-Fault
+join-returns-in-Fault g t c =
+    let all = (stream_of (world_of g.R.TableRow.table_of g.R.RowRef.shown c.args.self.now.tables.now) (form_meaning (world_of g.R.TableRow.table_of g.R.RowRef.shown c.args.self.now.tables.now) c.args.source.now (values_in c.args.slots.now))) in
+    let inner = (stream_of (world_of g.R.TableRow.table_of g.R.RowRef.shown c.args.self.now.tables.now) (form_meaning (world_of g.R.TableRow.table_of g.R.RowRef.shown c.args.self.now.tables.now) c.args.joined.now.inner (values_in c.args.slots.now))) in
+    join_stops (world_of g.R.TableRow.table_of g.R.RowRef.shown c.args.self.now.tables.now) (values_in c.args.slots.now) c.args.source.now c.args.joined.now all.0 inner.0 inner.0 all.1 inner.1 _ _ _ _ refl refl refl c.in_ok-pairs.ensures c.in-Fault.is c.stopped.ensures
+
+pub expanded_item-returns : goal.expanded_item-returns
+expanded_item-returns g t c =
+    expanded_pulled (world_of g.R.TableRow.table_of g.R.RowRef.shown c.args.self.now.tables.now) (values_in c.args.slots.now) c.args.item.now _ c.args.inner.now c.args.body.now _ c.drained.result c.with-deeper.ensures c.drained.ensures
+
+pub listed-returns : goal.listed-returns
+listed-returns g t c =
+    subst (λ m. IsAnswer m c.simple.result) (c.in_ok-items.ensures c.args.of.now) c.simple.ensures
+
+pub given-returns : goal.given-returns
+given-returns g t c =
+    let all = (stream_of (world_of g.R.TableRow.table_of g.R.RowRef.shown c.args.self.now.tables.now) (form_meaning (world_of g.R.TableRow.table_of g.R.RowRef.shown c.args.self.now.tables.now) c.args.source.now (values_in c.args.slots.now))) in
+    given_answer (world_of g.R.TableRow.table_of g.R.RowRef.shown c.args.self.now.tables.now) c.args.method c.args.source.now c.args.argument.now (values_in c.args.slots.now) _ all c.given.result (c.in_ok-argument.ensures _ c.evaluate.ensures) refl
+    (subst (λ m. IsAnswer m c.given.result) c.in_ok-items.ensures (c.given.ensures (world_of g.R.TableRow.table_of g.R.RowRef.shown c.args.self.now.tables.now) refl))

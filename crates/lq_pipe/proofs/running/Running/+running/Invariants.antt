@@ -110,13 +110,13 @@ abbrev pub decreases-sequence : goal.decreases-sequence
 decreases-sequence g l = 16 * the_size l.source.now + 9
 
 abbrev pub decreases-simple : goal.decreases-simple
-decreases-simple g l = 16 * max (the_size l.source.now) (the_size l.body.now) + 10
+decreases-simple g l = 16 * max (the_size l.source.now) (the_size l.body.now) + 11
 
 abbrev pub decreases-given : goal.decreases-given
-decreases-given g l = 16 * max (the_size l.source.now) (the_size l.argument.now) + 9
+decreases-given g l = 16 * max (the_size l.source.now) (the_size l.argument.now) + 10
 
 abbrev pub decreases-through : goal.decreases-through
-decreases-through g l = 16 * max (the_size l.source.now) (the_size l.body.now) + 11
+decreases-through g l = 16 * max (the_size l.source.now) (the_size l.body.now) + 12
 
 abbrev pub decreases-expanded_item : goal.decreases-expanded_item
 decreases-expanded_item g l = 16 * max (the_size l.inner.now) (the_size l.body.now) + 9
@@ -130,14 +130,20 @@ decreases-select_many g l = 16 * max (the_size l.source.now) (max (the_size l.in
 abbrev pub decreases-keyed_item : goal.decreases-keyed_item
 decreases-keyed_item g l = 16 * max (the_size l.key.now) (the_size l.element.now) + 2
 
+abbrev pub decreases-next_keyed : goal.decreases-next_keyed
+decreases-next_keyed g l = 16 * max (the_size l.source.now) (max (the_size l.key.now) (the_size l.element.now)) + 8
+
+abbrev pub decreases-next_with_key : goal.decreases-next_with_key
+decreases-next_with_key g l = 16 * max (the_size l.source.now) (the_size l.key.now) + 8
+
 abbrev pub decreases-keyed : goal.decreases-keyed
-decreases-keyed g l = 16 * max (the_size l.source.now) (max (the_size l.key.now) (the_size l.element.now)) + 8
+decreases-keyed g l = 16 * max (the_size l.source.now) (max (the_size l.key.now) (the_size l.element.now)) + 9
 
 abbrev pub decreases-with_key : goal.decreases-with_key
 decreases-with_key g l = 16 * the_size l.key.now + 2
 
 abbrev pub decreases-with_keys : goal.decreases-with_keys
-decreases-with_keys g l = 16 * max (the_size l.source.now) (the_size l.key.now) + 8
+decreases-with_keys g l = 16 * max (the_size l.source.now) (the_size l.key.now) + 9
 
 abbrev pub decreases-matched_item : goal.decreases-matched_item
 decreases-matched_item g l = 16 * the_size l.body.now + 3
@@ -149,10 +155,10 @@ abbrev pub decreases-joined : goal.decreases-joined
 decreases-joined g l = 16 * max (goal.size-joined g l) (the_size l.source.now) + 8
 
 abbrev pub decreases-join : goal.decreases-join
-decreases-join g l = 16 * max (goal.size-join g l) (the_size l.source.now) + 9
+decreases-join g l = 16 * max (goal.size-join g l) (the_size l.source.now) + 10
 
 abbrev pub decreases-group_by : goal.decreases-group_by
-decreases-group_by g l = 16 * max (the_size l.source.now) (max (the_size l.key.now) (the_size l.element.now)) + 9
+decreases-group_by g l = 16 * max (the_size l.source.now) (max (the_size l.key.now) (the_size l.element.now)) + 10
 
 abbrev pub decreases-key_of : goal.decreases-key_of
 decreases-key_of g l = 16 * the_size l.key.now + 2
@@ -172,8 +178,11 @@ decreases-arranged g l = 16 * goal.size-arranged g l + 6
 abbrev pub decreases-order_by : goal.decreases-order_by
 decreases-order_by g l = 16 * max (goal.size-order_by g l) (the_size l.source.now) + 9
 
+abbrev pub decreases-opened : goal.decreases-opened
+decreases-opened g l = 16 * the_size l.form.now + 2
+
 abbrev pub decreases-open : goal.decreases-open
-decreases-open g l = 16 * the_size l.form.now + 2
+decreases-open g l = 16 * the_size l.form.now + 3
 
 abbrev pub decreases-pass : goal.decreases-pass
 decreases-pass g l = 16 * the_size l.form.now
@@ -202,8 +211,14 @@ decreases-taken g l = 16 * max (the_size l.source.now) (the_size l.body.now) + 8
 abbrev pub decreases-tallied : goal.decreases-tallied
 decreases-tallied g l = 16 * max (the_size l.source.now) (the_size l.body.now) + 8
 
+abbrev pub decreases-read_items : goal.decreases-read_items
+decreases-read_items g l = 16 * max (the_size l.source.now) (the_size l.body.now) + 9
+
+abbrev pub decreases-needed_items : goal.decreases-needed_items
+decreases-needed_items g l = 16 * the_size l.source.now + 9
+
 abbrev pub decreases-listed : goal.decreases-listed
-decreases-listed g l = 16 * max (the_size l.source.now) (the_size l.body.now) + 9
+decreases-listed g l = 16 * max (the_size l.source.now) (the_size l.body.now) + 10
 
 -- ---- loops
 
@@ -292,17 +307,17 @@ decreases-expanded-loop-made g l = length (left (world_of g.R.TableRow.table_of 
 
 abbrev pub invariant-keyed-loop-made : goal.invariant-keyed-loop-made
 invariant-keyed-loop-made g l =
-    Comes (λ v. one (keyed_of (world_of g.R.TableRow.table_of g.R.RowRef.shown l.fn.self.tables.now) (values_in l.fn.slots) l.fn.key l.fn.element v)) (left (world_of g.R.TableRow.table_of g.R.RowRef.shown l.fn.self.tables.now) (values_in l.fn.slots) stage.Plain l.fn.source l.fn.source l.base) (each (λ v. one (keyed_of (world_of g.R.TableRow.table_of g.R.RowRef.shown l.fn.self.tables.now) (values_in l.fn.slots) l.fn.key l.fn.element v)) (items_meant (world_of g.R.TableRow.table_of g.R.RowRef.shown l.fn.self.tables.now) l.fn.source l.fn.slots).0 (items_meant (world_of g.R.TableRow.table_of g.R.RowRef.shown l.fn.self.tables.now) l.fn.source l.fn.slots).1) l.made
+    then_ending l.made end.Done (select_by (keyed_of (world_of g.R.TableRow.table_of g.R.RowRef.shown l.fn.self.tables.now) (values_in l.fn.slots) l.fn.key l.fn.element) (left (world_of g.R.TableRow.table_of g.R.RowRef.shown l.fn.self.tables.now) (values_in l.fn.slots) stage.Plain l.fn.source l.fn.source l.base).0 (left (world_of g.R.TableRow.table_of g.R.RowRef.shown l.fn.self.tables.now) (values_in l.fn.slots) stage.Plain l.fn.source l.fn.source l.base).1) ≡ select_by (keyed_of (world_of g.R.TableRow.table_of g.R.RowRef.shown l.fn.self.tables.now) (values_in l.fn.slots) l.fn.key l.fn.element) (items_meant (world_of g.R.TableRow.table_of g.R.RowRef.shown l.fn.self.tables.now) l.fn.source l.fn.slots).0 (items_meant (world_of g.R.TableRow.table_of g.R.RowRef.shown l.fn.self.tables.now) l.fn.source l.fn.slots).1
 
 abbrev pub decreases-keyed-loop-made : goal.decreases-keyed-loop-made
-decreases-keyed-loop-made g l = length (left (world_of g.R.TableRow.table_of g.R.RowRef.shown l.fn.self.tables.now) (values_in l.fn.slots) stage.Plain l.fn.source l.fn.source l.base).0
+decreases-keyed-loop-made g l = length (select_by (keyed_of (world_of g.R.TableRow.table_of g.R.RowRef.shown l.fn.self.tables.now) (values_in l.fn.slots) l.fn.key l.fn.element) (left (world_of g.R.TableRow.table_of g.R.RowRef.shown l.fn.self.tables.now) (values_in l.fn.slots) stage.Plain l.fn.source l.fn.source l.base).0 (left (world_of g.R.TableRow.table_of g.R.RowRef.shown l.fn.self.tables.now) (values_in l.fn.slots) stage.Plain l.fn.source l.fn.source l.base).1).0
 
 abbrev pub invariant-with_keys-loop-made : goal.invariant-with_keys-loop-made
 invariant-with_keys-loop-made g l =
-    Comes (λ v. one (with_key_of (world_of g.R.TableRow.table_of g.R.RowRef.shown l.fn.self.tables.now) (values_in l.fn.slots) l.fn.key v)) (left (world_of g.R.TableRow.table_of g.R.RowRef.shown l.fn.self.tables.now) (values_in l.fn.slots) stage.Plain l.fn.source l.fn.source l.base) (each (λ v. one (with_key_of (world_of g.R.TableRow.table_of g.R.RowRef.shown l.fn.self.tables.now) (values_in l.fn.slots) l.fn.key v)) (items_meant (world_of g.R.TableRow.table_of g.R.RowRef.shown l.fn.self.tables.now) l.fn.source l.fn.slots).0 (items_meant (world_of g.R.TableRow.table_of g.R.RowRef.shown l.fn.self.tables.now) l.fn.source l.fn.slots).1) l.made
+    then_ending l.made end.Done (select_by (with_key_of (world_of g.R.TableRow.table_of g.R.RowRef.shown l.fn.self.tables.now) (values_in l.fn.slots) l.fn.key) (left (world_of g.R.TableRow.table_of g.R.RowRef.shown l.fn.self.tables.now) (values_in l.fn.slots) stage.Plain l.fn.source l.fn.source l.base).0 (left (world_of g.R.TableRow.table_of g.R.RowRef.shown l.fn.self.tables.now) (values_in l.fn.slots) stage.Plain l.fn.source l.fn.source l.base).1) ≡ select_by (with_key_of (world_of g.R.TableRow.table_of g.R.RowRef.shown l.fn.self.tables.now) (values_in l.fn.slots) l.fn.key) (items_meant (world_of g.R.TableRow.table_of g.R.RowRef.shown l.fn.self.tables.now) l.fn.source l.fn.slots).0 (items_meant (world_of g.R.TableRow.table_of g.R.RowRef.shown l.fn.self.tables.now) l.fn.source l.fn.slots).1
 
 abbrev pub decreases-with_keys-loop-made : goal.decreases-with_keys-loop-made
-decreases-with_keys-loop-made g l = length (left (world_of g.R.TableRow.table_of g.R.RowRef.shown l.fn.self.tables.now) (values_in l.fn.slots) stage.Plain l.fn.source l.fn.source l.base).0
+decreases-with_keys-loop-made g l = length (select_by (with_key_of (world_of g.R.TableRow.table_of g.R.RowRef.shown l.fn.self.tables.now) (values_in l.fn.slots) l.fn.key) (left (world_of g.R.TableRow.table_of g.R.RowRef.shown l.fn.self.tables.now) (values_in l.fn.slots) stage.Plain l.fn.source l.fn.source l.base).0 (left (world_of g.R.TableRow.table_of g.R.RowRef.shown l.fn.self.tables.now) (values_in l.fn.slots) stage.Plain l.fn.source l.fn.source l.base).1).0
 
 abbrev pub invariant-joined-loop-made : goal.invariant-joined-loop-made
 invariant-joined-loop-made g l =
