@@ -135,11 +135,11 @@ module _ {A : Type 0} where
       ∙ ap (λ (s : Stream A). then_ending made end.Done (take_first (suc n) s.0 s.1)) (sym is)
       ∙ ap (λ k. then_ending made end.Done (take_first k old.0 old.1)) (sym counts) ∙ goes
 
-  pub taken_ended : (old all : Stream A) (made : List A) (e : End) (wanted n : ℕ) → old ≡ ([], e) → wanted ≡ suc n
+  pub taken_ended : (old all : Stream A) (made : List A) (e : End) (wanted : ℕ) → old ≡ ([], e) → 0 < wanted
       → then_ending made end.Done (take_first wanted old.0 old.1) ≡ all → (made, e) ≡ all
-  taken_ended old all made e wanted n is counts goes =
-      ap (λ l. (l, e)) (sym (append-nil made)) ∙ ap (λ (s : Stream A). then_ending made end.Done (take_first (suc n) s.0 s.1)) (sym is)
-      ∙ ap (λ k. then_ending made end.Done (take_first k old.0 old.1)) (sym counts) ∙ goes
+  taken_ended old all made e zero is some goes = absurd (omega (arith, some))
+  taken_ended old all made e (suc n) is some goes =
+      ap (λ l. (l, e)) (sym (append-nil made)) ∙ ap (λ (s : Stream A). then_ending made end.Done (take_first (suc n) s.0 s.1)) (sym is) ∙ goes
 
   pub taken_whole : (old all : Stream A) (made : List A) (wanted : ℕ) → wanted ≡ 0
       → then_ending made end.Done (take_first wanted old.0 old.1) ≡ all → (made, end.Done) ≡ all
@@ -456,9 +456,13 @@ module _ {A : Type 0} where
   begins_taken left all made n none is =
       ap (λ l. then_ending l end.Done (take_first n left.0 left.1)) none ∙ ap (λ (s : Stream A). take_first n s.0 s.1) is
 
-pub ruleset passes = (passed_where, passed_select, base_literal, base_slot, base_first, base_second, base_table, base_column, base_member, base_key, base_unary, base_binary, base_and, base_or, base_coalesce, base_conditional, base_is_null, base_record, base_pair, base_sequence, base_simple, base_given, base_select_many, base_join, base_order_by, base_group_by, base_all, base_those, base_values)
+pub ruleset passes_methods = (passed_where, passed_select, base_all, base_those, base_values)
 
-pub ruleset opens = (opens_where, opens_select, opens_literal, opens_slot, opens_first, opens_second, opens_table, opens_column, opens_member, opens_key, opens_unary, opens_binary, opens_and, opens_or, opens_coalesce, opens_conditional, opens_is_null, opens_record, opens_pair, opens_sequence, opens_simple, opens_given, opens_select_many, opens_join, opens_order_by, opens_group_by, opens_all, opens_those, opens_values)
+pub ruleset passes_forms = (base_literal, base_slot, base_first, base_second, base_table, base_column, base_member, base_key, base_unary, base_binary, base_and, base_or, base_coalesce, base_conditional, base_is_null, base_record, base_pair, base_sequence, base_simple, base_given, base_select_many, base_join, base_order_by, base_group_by)
+
+pub ruleset opens_methods = (opens_where, opens_select, opens_all, opens_those, opens_values)
+
+pub ruleset opens_forms = (opens_literal, opens_slot, opens_first, opens_second, opens_table, opens_column, opens_member, opens_key, opens_unary, opens_binary, opens_and, opens_or, opens_coalesce, opens_conditional, opens_is_null, opens_record, opens_pair, opens_sequence, opens_simple, opens_given, opens_select_many, opens_join, opens_order_by, opens_group_by)
 
 pub ruleset drains = (left_opened, begins, drained_on, drained_ended, fewer)
 

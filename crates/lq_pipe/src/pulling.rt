@@ -3,10 +3,11 @@ use crate::bases::Base;
 use crate::running::Running;
 use crate::slots::Slots;
 use crate::stages::{Passed, Stage, Step};
+use crate::sequences;
 use crate::tables::TableRow;
 use lq_model::Through;
 use lq_tree::Form;
-use lq_value::{End, Fault, List, Value};
+use lq_value::{End, Fault, List, Ty, Value};
 use std::alloc::AllocError;
 
 impl<'a, R: TableRow> Running<'a, R> {
@@ -16,6 +17,7 @@ impl<'a, R: TableRow> Running<'a, R> {
     ghost use Rattle.lq_model.specs.Enumerable.{take_first};
     ghost use Rattle.lq_pipe.specs.Pulling.{At, Steps, end_of, rows_or_none, base_stream, left, passed_at, passed_on, pulled, staged};
     ghost use Rattle.lq_pipe.specs.Running.{meant};
+    ghost use Rattle.lq_tree.specs.declared.tree.Form.TheVariants as form;
     ghost use Rattle.lq_pipe.specs.declared.stages.Stage.TheVariants as stage;
     ghost use Rattle.lq_pipe.specs.Slots.{values_in};
     ghost use Rattle.lq_pipe.specs.Worlds.{rows_in, world_of};
@@ -68,10 +70,68 @@ impl<'a, R: TableRow> Running<'a, R> {
         }
     }
 
+    /// The items that a method makes, where it is neither a condition nor a lambda of each item.
+    #[cycle(running)]
+    fn method_opened(
+        &self,
+        method: Through,
+        of: &Ty,
+        to: &Ty,
+        source: &Form,
+        body: &Form,
+        slots: &Slots<'_, R>,
+    ) -> Result<Base<'a, R>, AllocError>
+        ensures { IfOk result (λ base. base_stream base
+            ≡ stream_of (world_of R.table_of R.shown self.now.tables.now) (meant (world_of R.table_of R.shown self.now.tables.now) (form.Through method of.now to.now source.now body.now) slots.now)) }
+    {
+        let made = self.through(method, of, to, source, body, slots);
+        let (items, end) = sequences::stream(self.alloc, made)?;
+        Ok(Base::of_items(items, end))
+    }
+
+    /// The base of a method with a lambda.
+    #[cycle(running)]
+    #[tactic(auto, using(crate::proofs::PullLemmas::opens_methods))]
+    fn open_method(
+        &self,
+        method: Through,
+        of: &Ty,
+        to: &Ty,
+        source: &Form,
+        body: &Form,
+        slots: &Slots<'_, R>,
+    ) -> Result<Base<'a, R>, AllocError>
+        ensures { IfOk result (λ base. At (world_of R.table_of R.shown self.now.tables.now) (values_in slots.now) (form.Through method of.now to.now source.now body.now) (base_stream base)
+            ≡ stream_of (world_of R.table_of R.shown self.now.tables.now) (meant (world_of R.table_of R.shown self.now.tables.now) (form.Through method of.now to.now source.now body.now) slots.now)) }
+    {
+        match method {
+            Through::Where => {
+                let base = self.open(source, slots)?;
+                Ok(base)
+            }
+            Through::Select => {
+                let base = self.open(source, slots)?;
+                Ok(base)
+            }
+            Through::All => {
+                let base = self.method_opened(method, of, to, source, body, slots)?;
+                Ok(base)
+            }
+            Through::Those(_) => {
+                let base = self.method_opened(method, of, to, source, body, slots)?;
+                Ok(base)
+            }
+            Through::Values(_) => {
+                let base = self.method_opened(method, of, to, source, body, slots)?;
+                Ok(base)
+            }
+        }
+    }
+
     /// The base of a form: what stands below its conditions and lambdas.
     #[cycle(running)]
     #[inline(never)]
-    #[tactic(auto, using(crate::proofs::PullLemmas::opens))]
+    #[tactic(auto, using(crate::proofs::PullLemmas::opens_forms))]
     pub(crate) fn open(
         &self,
         form: &Form,
@@ -81,48 +141,149 @@ impl<'a, R: TableRow> Running<'a, R> {
             ≡ stream_of (world_of R.table_of R.shown self.now.tables.now) (meant (world_of R.table_of R.shown self.now.tables.now) form.now slots.now)) }
     {
         match form {
-            Form::Through(Through::Where, _, _, source, _) => {
-                let base = self.open(source.get(), slots)?;
+            Form::Through(method, of, to, source, body) => {
+                let base = self.open_method(
+                    *method,
+                    of.get(),
+                    to.get(),
+                    source.get(),
+                    body.get(),
+                    slots,
+                )?;
                 Ok(base)
             }
-            Form::Through(Through::Select, _, _, source, _) => {
-                let base = self.open(source.get(), slots)?;
+            Form::Literal(_) => {
+                let base = self.opened(form, slots)?;
                 Ok(base)
             }
-            Form::Literal(_)
-            | Form::Slot(_)
-            | Form::First(_)
-            | Form::Second(_)
-            | Form::Table(_)
-            | Form::Column(_, _, _)
-            | Form::Member(_, _)
-            | Form::Key(_)
-            | Form::Unary(_, _)
-            | Form::Binary(_, _, _)
-            | Form::And(_, _)
-            | Form::Or(_, _)
-            | Form::Coalesce(_, _)
-            | Form::Conditional(_, _, _)
-            | Form::IsNull(_, _)
-            | Form::Record(_)
-            | Form::Pair(_, _)
-            | Form::Sequence(_)
-            | Form::Simple(_, _, _)
-            | Form::Given(_, _, _)
-            | Form::Through(Through::All | Through::Those(_) | Through::Values(_), _, _, _, _)
-            | Form::SelectMany(_, _, _)
-            | Form::Join(_, _)
-            | Form::OrderBy(_, _)
-            | Form::GroupBy(_, _, _) => {
+            Form::Slot(_) => {
+                let base = self.opened(form, slots)?;
+                Ok(base)
+            }
+            Form::First(_) => {
+                let base = self.opened(form, slots)?;
+                Ok(base)
+            }
+            Form::Second(_) => {
+                let base = self.opened(form, slots)?;
+                Ok(base)
+            }
+            Form::Table(_) => {
+                let base = self.opened(form, slots)?;
+                Ok(base)
+            }
+            Form::Column(_, _, _) => {
+                let base = self.opened(form, slots)?;
+                Ok(base)
+            }
+            Form::Member(_, _) => {
+                let base = self.opened(form, slots)?;
+                Ok(base)
+            }
+            Form::Key(_) => {
+                let base = self.opened(form, slots)?;
+                Ok(base)
+            }
+            Form::Unary(_, _) => {
+                let base = self.opened(form, slots)?;
+                Ok(base)
+            }
+            Form::Binary(_, _, _) => {
+                let base = self.opened(form, slots)?;
+                Ok(base)
+            }
+            Form::And(_, _) => {
+                let base = self.opened(form, slots)?;
+                Ok(base)
+            }
+            Form::Or(_, _) => {
+                let base = self.opened(form, slots)?;
+                Ok(base)
+            }
+            Form::Coalesce(_, _) => {
+                let base = self.opened(form, slots)?;
+                Ok(base)
+            }
+            Form::Conditional(_, _, _) => {
+                let base = self.opened(form, slots)?;
+                Ok(base)
+            }
+            Form::IsNull(_, _) => {
+                let base = self.opened(form, slots)?;
+                Ok(base)
+            }
+            Form::Record(_) => {
+                let base = self.opened(form, slots)?;
+                Ok(base)
+            }
+            Form::Pair(_, _) => {
+                let base = self.opened(form, slots)?;
+                Ok(base)
+            }
+            Form::Sequence(_) => {
+                let base = self.opened(form, slots)?;
+                Ok(base)
+            }
+            Form::Simple(_, _, _) => {
+                let base = self.opened(form, slots)?;
+                Ok(base)
+            }
+            Form::Given(_, _, _) => {
+                let base = self.opened(form, slots)?;
+                Ok(base)
+            }
+            Form::SelectMany(_, _, _) => {
+                let base = self.opened(form, slots)?;
+                Ok(base)
+            }
+            Form::Join(_, _) => {
+                let base = self.opened(form, slots)?;
+                Ok(base)
+            }
+            Form::OrderBy(_, _) => {
+                let base = self.opened(form, slots)?;
+                Ok(base)
+            }
+            Form::GroupBy(_, _, _) => {
                 let base = self.opened(form, slots)?;
                 Ok(base)
             }
         }
     }
 
+    /// What an item of the base becomes at a method with a lambda.
+    #[cycle(running)]
+    #[tactic(auto, using(crate::proofs::PullLemmas::passes_methods))]
+    fn pass_method(
+        &self,
+        method: Through,
+        of: &Ty,
+        to: &Ty,
+        source: &Form,
+        body: &Form,
+        item: Value<R>,
+        slots: &Slots<'_, R>,
+    ) -> Result<Passed<R>, AllocError>
+        ensures { IfOk result (λ p. passed_on p ≡ passed_at (world_of R.table_of R.shown self.now.tables.now) (values_in slots.now) (form.Through method of.now to.now source.now body.now) item) }
+    {
+        match method {
+            Through::Where => {
+                let passed = self.pass_through(Stage::Where, source, body, item, slots)?;
+                Ok(passed)
+            }
+            Through::Select => {
+                let passed = self.pass_through(Stage::Select, source, body, item, slots)?;
+                Ok(passed)
+            }
+            Through::All => Ok(Passed::Item(item)),
+            Through::Those(_) => Ok(Passed::Item(item)),
+            Through::Values(_) => Ok(Passed::Item(item)),
+        }
+    }
+
     /// What an item of the base becomes at a form.
     #[cycle(running)]
-    #[tactic(auto, using(crate::proofs::PullLemmas::passes))]
+    #[tactic(auto, using(crate::proofs::PullLemmas::passes_forms))]
     fn pass(
         &self,
         form: &Form,
@@ -132,39 +293,42 @@ impl<'a, R: TableRow> Running<'a, R> {
         ensures { IfOk result (λ p. passed_on p ≡ passed_at (world_of R.table_of R.shown self.now.tables.now) (values_in slots.now) form.now item) }
     {
         match form {
-            Form::Through(Through::Where, _, _, source, body) => {
-                let passed = self.pass_through(Stage::Where, source.get(), body.get(), item, slots)?;
+            Form::Through(method, of, to, source, body) => {
+                let passed = self.pass_method(
+                    *method,
+                    of.get(),
+                    to.get(),
+                    source.get(),
+                    body.get(),
+                    item,
+                    slots,
+                )?;
                 Ok(passed)
             }
-            Form::Through(Through::Select, _, _, source, body) => {
-                let passed = self.pass_through(Stage::Select, source.get(), body.get(), item, slots)?;
-                Ok(passed)
-            }
-            Form::Literal(_)
-            | Form::Slot(_)
-            | Form::First(_)
-            | Form::Second(_)
-            | Form::Table(_)
-            | Form::Column(_, _, _)
-            | Form::Member(_, _)
-            | Form::Key(_)
-            | Form::Unary(_, _)
-            | Form::Binary(_, _, _)
-            | Form::And(_, _)
-            | Form::Or(_, _)
-            | Form::Coalesce(_, _)
-            | Form::Conditional(_, _, _)
-            | Form::IsNull(_, _)
-            | Form::Record(_)
-            | Form::Pair(_, _)
-            | Form::Sequence(_)
-            | Form::Simple(_, _, _)
-            | Form::Given(_, _, _)
-            | Form::Through(Through::All | Through::Those(_) | Through::Values(_), _, _, _, _)
-            | Form::SelectMany(_, _, _)
-            | Form::Join(_, _)
-            | Form::OrderBy(_, _)
-            | Form::GroupBy(_, _, _) => Ok(Passed::Item(item)),
+            Form::Literal(_) => Ok(Passed::Item(item)),
+            Form::Slot(_) => Ok(Passed::Item(item)),
+            Form::First(_) => Ok(Passed::Item(item)),
+            Form::Second(_) => Ok(Passed::Item(item)),
+            Form::Table(_) => Ok(Passed::Item(item)),
+            Form::Column(_, _, _) => Ok(Passed::Item(item)),
+            Form::Member(_, _) => Ok(Passed::Item(item)),
+            Form::Key(_) => Ok(Passed::Item(item)),
+            Form::Unary(_, _) => Ok(Passed::Item(item)),
+            Form::Binary(_, _, _) => Ok(Passed::Item(item)),
+            Form::And(_, _) => Ok(Passed::Item(item)),
+            Form::Or(_, _) => Ok(Passed::Item(item)),
+            Form::Coalesce(_, _) => Ok(Passed::Item(item)),
+            Form::Conditional(_, _, _) => Ok(Passed::Item(item)),
+            Form::IsNull(_, _) => Ok(Passed::Item(item)),
+            Form::Record(_) => Ok(Passed::Item(item)),
+            Form::Pair(_, _) => Ok(Passed::Item(item)),
+            Form::Sequence(_) => Ok(Passed::Item(item)),
+            Form::Simple(_, _, _) => Ok(Passed::Item(item)),
+            Form::Given(_, _, _) => Ok(Passed::Item(item)),
+            Form::SelectMany(_, _, _) => Ok(Passed::Item(item)),
+            Form::Join(_, _) => Ok(Passed::Item(item)),
+            Form::OrderBy(_, _) => Ok(Passed::Item(item)),
+            Form::GroupBy(_, _, _) => Ok(Passed::Item(item)),
         }
     }
 

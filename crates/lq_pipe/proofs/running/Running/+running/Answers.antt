@@ -140,3 +140,6 @@ given-returns g t c =
     let all = (stream_of (world_of g.R.TableRow.table_of g.R.RowRef.shown c.args.self.now.tables.now) (form_meaning (world_of g.R.TableRow.table_of g.R.RowRef.shown c.args.self.now.tables.now) c.args.source.now (values_in c.args.slots.now))) in
     given_answer (world_of g.R.TableRow.table_of g.R.RowRef.shown c.args.self.now.tables.now) c.args.method c.args.source.now c.args.argument.now (values_in c.args.slots.now) _ all c.given.result (c.in_ok-argument.ensures _ c.evaluate.ensures) refl
     (subst (λ m. IsAnswer m c.given.result) c.in_ok-items.ensures (c.given.ensures (world_of g.R.TableRow.table_of g.R.RowRef.shown c.args.self.now.tables.now) refl))
+
+pub method_opened-returns : goal.method_opened-returns
+method_opened-returns g t c = c.of_items.ensures ∙ c.in_ok-items.ensures (world_of g.R.TableRow.table_of g.R.RowRef.shown c.args.self.now.tables.now) _ refl c.through-made.ensures

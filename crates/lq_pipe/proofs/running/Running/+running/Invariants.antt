@@ -178,6 +178,15 @@ decreases-arranged g l = 16 * goal.size-arranged g l + 6
 abbrev pub decreases-order_by : goal.decreases-order_by
 decreases-order_by g l = 16 * max (goal.size-order_by g l) (the_size l.source.now) + 9
 
+abbrev pub decreases-method_opened : goal.decreases-method_opened
+decreases-method_opened g l = 16 * max (the_size l.source.now) (the_size l.body.now) + 13
+
+abbrev pub decreases-open_method : goal.decreases-open_method
+decreases-open_method g l = 16 * max (the_size l.source.now) (the_size l.body.now) + 14
+
+abbrev pub decreases-pass_method : goal.decreases-pass_method
+decreases-pass_method g l = 16 * max (the_size l.source.now) (the_size l.body.now) + 7
+
 abbrev pub decreases-opened : goal.decreases-opened
 decreases-opened g l = 16 * the_size l.form.now + 2
 
