@@ -149,7 +149,6 @@ module _ {A : Type 0} where
   pub fewer : (old new : Stream A) (x : A) → old ≡ in_front x new → length new.0 < length old.0
   fewer old new x is = let same : length old.0 ≡ suc (length new.0) = ap (λ (s : Stream A). length s.0) is in omega (arith, same)
 
-
 -- what is made of each item
 module _ {A B : Type 0} (g : A → Result B Fault) where
   pub selects_on : (old new : Stream A) (x : A) (v : B) → old ≡ in_front x new → Ok v ≡ g x
@@ -466,7 +465,7 @@ pub ruleset opens_forms = (opens_literal, opens_slot, opens_first, opens_second,
 
 pub ruleset drains = (left_opened, begins, drained_on, drained_ended, fewer)
 
-pub ruleset takes = (left_opened, begins_taken, taken_on, taken_ended, taken_whole)
+pub ruleset takes = (left_opened, begins_taken, taken_on, taken_whole)
 
 pub ruleset selects = (selects_on, selects_stopped, selects_ended)
 

@@ -43,10 +43,7 @@ fn needed_by<R: RowRef>(method: Given, argument: &Value<R>) -> Option<usize>
 }
 
 /// So many items are read by a method with this argument, where there is a limit to them.
-pub(crate) fn needed<R: RowRef>(
-    method: Given,
-    argument: &Result<Value<R>, Fault>,
-) -> Option<usize>
+pub(crate) fn needed<R: RowRef>(method: Given, argument: &Result<Value<R>, Fault>) -> Option<usize>
     ensures { result ≡ needed method argument.now }
 {
     match argument {

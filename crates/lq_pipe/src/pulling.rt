@@ -1,9 +1,9 @@
 //! The pulling of items: one by one from a base, each through the conditions and lambdas above it.
 use crate::bases::Base;
 use crate::running::Running;
+use crate::sequences;
 use crate::slots::Slots;
 use crate::stages::{Passed, Stage, Step};
-use crate::sequences;
 use crate::tables::TableRow;
 use lq_model::Through;
 use lq_tree::Form;
@@ -132,11 +132,7 @@ impl<'a, R: TableRow> Running<'a, R> {
     #[cycle(running)]
     #[inline(never)]
     #[tactic(auto, using(crate::proofs::PullLemmas::opens_forms))]
-    pub(crate) fn open(
-        &self,
-        form: &Form,
-        slots: &Slots<'_, R>,
-    ) -> Result<Base<'a, R>, AllocError>
+    pub(crate) fn open(&self, form: &Form, slots: &Slots<'_, R>) -> Result<Base<'a, R>, AllocError>
         ensures { IfOk result (λ base. At (world_of R.table_of R.shown self.now.tables.now) (values_in slots.now) form.now (base_stream base)
             ≡ stream_of (world_of R.table_of R.shown self.now.tables.now) (meant (world_of R.table_of R.shown self.now.tables.now) form.now slots.now)) }
     {

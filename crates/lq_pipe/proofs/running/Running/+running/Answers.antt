@@ -1,4 +1,4 @@
-use Rattle.std.proofs.Common.{◌≡◌, Err, ap, refl, rules, subst, sym, ◌∙◌}
+use Rattle.std.proofs.Common.{◌≡◌, ◌<◌, Err, ap, arith, refl, rules, subst, sym, ◌∙◌}
 use Rattle.lq_operators.specs.Answers.{IsAnswer}
 use Rattle.lq_model.specs.Meaning.{stream_of}
 use Rattle.lq_tree.specs.FormMeaning.{form_meaning}
@@ -9,7 +9,10 @@ use Rattle.lq_pipe.specs.Slots.{values_in}
 use Rattle.lq_pipe.proofs.ArrangementLemmas.{all_goes, all_stops, counted_answer, key_answer, order_by_answer, sorted_answer}
 use Rattle.lq_pipe.proofs.ItemLemmas.{expanded_pulled, group_by_answer, join_answer, join_stops, joined_met, matched_is, select_many_answer}
 use Rattle.lq_pipe.specs.Running.{Answers, holds_of, of_item, scalar_in, truth_in}
+use Rattle.lq_pipe.specs.Pulling.{Steps, left}
+use Rattle.lq_pipe.specs.declared.stages.Step.TheVariants as step
 use Rattle.lq_pipe.specs.Worlds.{world_of}
+use Rattle.lq_pipe.proofs.PullLemmas.{taken_ended}
 use Rattle.lq_model.specs.WholeMeaning.{as_truth}
 use Rattle.lq_pipe.proofs.Forms.{given_answer, is_null_answer, members_goes}
 use Rattle.lq_pipe.proofs.StreamLemmas.{select_goes, select_stops}
@@ -143,3 +146,12 @@ given-returns g t c =
 
 pub method_opened-returns : goal.method_opened-returns
 method_opened-returns g t c = c.of_items.ensures ∙ c.in_ok-items.ensures (world_of g.R.TableRow.table_of g.R.RowRef.shown c.args.self.now.tables.now) _ refl c.through-made.ensures
+
+pub taken-returns-in-End : goal.taken-returns-in-End
+taken-returns-in-End g t c =
+    let world = world_of g.R.TableRow.table_of g.R.RowRef.shown c.args.self.now.tables.now in
+    let old = left world (values_in c.args.slots.now) c.args.stage c.args.source.now c.args.body.now c.loop-wanted.base in
+    let new = left world (values_in c.args.slots.now) c.args.stage c.args.source.now c.args.body.now c.next.new.base in
+    let ended : Steps old (step.End c.in-End.end) new = subst (λ s. Steps old s new) c.in-End.is c.in_ok-item.ensures in
+    let some : 0 < c.loop-wanted.wanted = omega (arith, c.loop-wanted-test.true) in
+    taken_ended old _ c.loop-wanted.made c.in-End.end c.loop-wanted.wanted ended some c.loop-wanted.invariant
