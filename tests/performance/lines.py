@@ -68,8 +68,8 @@ def side_by_side(piece):
     return lambda size: "run " + "+".join([group] * ((size - 10) // len(group + "+"))) + ";"
 
 
-# A record of 100 members with names of their own, of which one is read: such a line has some 9,000 members.
-RECORD = "(new{" + ",".join(f"no{number}={number % 2}" for number in range(100)) + "}.no99)"
+# A record of 100 members with names of their own, of which one is read: such a line has some 8,000 members.
+RECORD = "(new{" + ",".join(f"num{number}={number % 2}" for number in range(100)) + "}.num99)"
 # A query of 100 clauses: such a line has some 5,000 clauses.
 QUERY = "(from x in t " + "where true " * 100 + "select x).Count()"
 
