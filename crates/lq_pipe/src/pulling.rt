@@ -105,26 +105,11 @@ impl<'a, R: TableRow> Running<'a, R> {
             ≡ stream_of (world_of R.table_of R.shown self.now.tables.now) (meant (world_of R.table_of R.shown self.now.tables.now) (form.Through method of.now to.now source.now body.now) slots.now)) }
     {
         match method {
-            Through::Where => {
-                let base = self.open(source, slots)?;
-                Ok(base)
-            }
-            Through::Select => {
-                let base = self.open(source, slots)?;
-                Ok(base)
-            }
-            Through::All => {
-                let base = self.method_opened(method, of, to, source, body, slots)?;
-                Ok(base)
-            }
-            Through::Those(_) => {
-                let base = self.method_opened(method, of, to, source, body, slots)?;
-                Ok(base)
-            }
-            Through::Values(_) => {
-                let base = self.method_opened(method, of, to, source, body, slots)?;
-                Ok(base)
-            }
+            Through::Where => Ok(self.open(source, slots)?),
+            Through::Select => Ok(self.open(source, slots)?),
+            Through::All => Ok(self.method_opened(method, of, to, source, body, slots)?),
+            Through::Those(_) => Ok(self.method_opened(method, of, to, source, body, slots)?),
+            Through::Values(_) => Ok(self.method_opened(method, of, to, source, body, slots)?),
         }
     }
 
@@ -138,112 +123,33 @@ impl<'a, R: TableRow> Running<'a, R> {
     {
         match form {
             Form::Through(method, of, to, source, body) => {
-                let base = self.open_method(
-                    *method,
-                    of.get(),
-                    to.get(),
-                    source.get(),
-                    body.get(),
-                    slots,
-                )?;
-                Ok(base)
+                let (of, to) = (of.get(), to.get());
+                Ok(self.open_method(*method, of, to, source.get(), body.get(), slots)?)
             }
-            Form::Literal(_) => {
-                let base = self.opened(form, slots)?;
-                Ok(base)
-            }
-            Form::Slot(_) => {
-                let base = self.opened(form, slots)?;
-                Ok(base)
-            }
-            Form::First(_) => {
-                let base = self.opened(form, slots)?;
-                Ok(base)
-            }
-            Form::Second(_) => {
-                let base = self.opened(form, slots)?;
-                Ok(base)
-            }
-            Form::Table(_) => {
-                let base = self.opened(form, slots)?;
-                Ok(base)
-            }
-            Form::Column(_, _, _) => {
-                let base = self.opened(form, slots)?;
-                Ok(base)
-            }
-            Form::Member(_, _) => {
-                let base = self.opened(form, slots)?;
-                Ok(base)
-            }
-            Form::Key(_) => {
-                let base = self.opened(form, slots)?;
-                Ok(base)
-            }
-            Form::Unary(_, _) => {
-                let base = self.opened(form, slots)?;
-                Ok(base)
-            }
-            Form::Binary(_, _, _) => {
-                let base = self.opened(form, slots)?;
-                Ok(base)
-            }
-            Form::And(_, _) => {
-                let base = self.opened(form, slots)?;
-                Ok(base)
-            }
-            Form::Or(_, _) => {
-                let base = self.opened(form, slots)?;
-                Ok(base)
-            }
-            Form::Coalesce(_, _) => {
-                let base = self.opened(form, slots)?;
-                Ok(base)
-            }
-            Form::Conditional(_, _, _) => {
-                let base = self.opened(form, slots)?;
-                Ok(base)
-            }
-            Form::IsNull(_, _) => {
-                let base = self.opened(form, slots)?;
-                Ok(base)
-            }
-            Form::Record(_) => {
-                let base = self.opened(form, slots)?;
-                Ok(base)
-            }
-            Form::Pair(_, _) => {
-                let base = self.opened(form, slots)?;
-                Ok(base)
-            }
-            Form::Sequence(_) => {
-                let base = self.opened(form, slots)?;
-                Ok(base)
-            }
-            Form::Simple(_, _, _) => {
-                let base = self.opened(form, slots)?;
-                Ok(base)
-            }
-            Form::Given(_, _, _) => {
-                let base = self.opened(form, slots)?;
-                Ok(base)
-            }
-            Form::SelectMany(_, _, _) => {
-                let base = self.opened(form, slots)?;
-                Ok(base)
-            }
-            Form::Join(_, _) => {
-                let base = self.opened(form, slots)?;
-                Ok(base)
-            }
-            Form::OrderBy(_, _) => {
-                let base = self.opened(form, slots)?;
-                Ok(base)
-            }
-            Form::GroupBy(_, _, _) => {
-                let base = self.opened(form, slots)?;
-                Ok(base)
-            }
+            Form::Literal(_) => Ok(self.opened(form, slots)?),
+            Form::Slot(_) => Ok(self.opened(form, slots)?),
+            Form::First(_) => Ok(self.opened(form, slots)?),
+            Form::Second(_) => Ok(self.opened(form, slots)?),
+            Form::Table(_) => Ok(self.opened(form, slots)?),
+            Form::Column(_, _, _) => Ok(self.opened(form, slots)?),
+            Form::Member(_, _) => Ok(self.opened(form, slots)?),
+            Form::Key(_) => Ok(self.opened(form, slots)?),
+            Form::Unary(_, _) => Ok(self.opened(form, slots)?),
+            Form::Binary(_, _, _) => Ok(self.opened(form, slots)?),
+            Form::And(_, _) => Ok(self.opened(form, slots)?),
+            Form::Or(_, _) => Ok(self.opened(form, slots)?),
+            Form::Coalesce(_, _) => Ok(self.opened(form, slots)?),
+            Form::Conditional(_, _, _) => Ok(self.opened(form, slots)?),
+            Form::IsNull(_, _) => Ok(self.opened(form, slots)?),
+            Form::Record(_) => Ok(self.opened(form, slots)?),
+            Form::Pair(_, _) => Ok(self.opened(form, slots)?),
+            Form::Sequence(_) => Ok(self.opened(form, slots)?),
+            Form::Simple(_, _, _) => Ok(self.opened(form, slots)?),
+            Form::Given(_, _, _) => Ok(self.opened(form, slots)?),
+            Form::SelectMany(_, _, _) => Ok(self.opened(form, slots)?),
+            Form::Join(_, _) => Ok(self.opened(form, slots)?),
+            Form::OrderBy(_, _) => Ok(self.opened(form, slots)?),
+            Form::GroupBy(_, _, _) => Ok(self.opened(form, slots)?),
         }
     }
 
@@ -290,16 +196,8 @@ impl<'a, R: TableRow> Running<'a, R> {
     {
         match form {
             Form::Through(method, of, to, source, body) => {
-                let passed = self.pass_method(
-                    *method,
-                    of.get(),
-                    to.get(),
-                    source.get(),
-                    body.get(),
-                    item,
-                    slots,
-                )?;
-                Ok(passed)
+                let (of, to) = (of.get(), to.get());
+                Ok(self.pass_method(*method, of, to, source.get(), body.get(), item, slots)?)
             }
             Form::Literal(_) => Ok(Passed::Item(item)),
             Form::Slot(_) => Ok(Passed::Item(item)),
