@@ -62,7 +62,6 @@ fn cell_at(cells: &[Scalar], place: u16) -> Option<&Scalar>
 
 /// The cell of a row under the name of a column of a table, which the types of a tree make the
 /// row's own: there it stands at the column's place, since no two columns have the same name.
-
 pub(crate) fn cell<'r, R: TableRow>(
     tables: &[TableRows<'_, R>],
     row: &'r R,
