@@ -6,13 +6,11 @@ trial would only say the same again, which takes a processor some hours.
 
 import hashlib
 import os
-import re
 import subprocess
 
+from named import Named
+
 PARTS = ("src", "specs", "proofs")
-# A module of a crate's definitions or lemmas by the name that a file uses it by, as in `use Rattle.NAME.specs.Module.{item}` of
-# a definition and `using(NAME::proofs::Module::item)` of a function.
-MODULE = re.compile(r"\bRattle\.(\w+)\.(specs|proofs)((?:\.\w+)+)|\b(\w+)::(specs|proofs)((?:::\w+)+)")
 HERE = os.path.dirname(os.path.realpath(__file__))
 # What of this tool an answer depends on.
 JUDGES = ("answers.py", "edits.py", "functions.py", "rounds.py")
@@ -27,27 +25,6 @@ def files_below(folder):
                 yield os.path.relpath(f"{at}/{name}", folder), file.read()
 
 
-def modules_in(root, text):
-    """The files of definitions and lemmas that a text names. What is declared by a source is none of them: it has no file."""
-    for found in MODULE.finditer(text.decode(errors="replace")):
-        name, part, path = found.group(1, 2, 3) if found.group(1) else found.group(4, 5, 6)
-        words = re.findall(r"\w+", path)
-        files = [f"crates/{name}/{part}/{'/'.join(words[:upto])}.antt" for upto in range(1, len(words) + 1)]
-        yield from (it for it in files if os.path.isfile(f"{root}/{it}"))
-
-
-def named_files(root, texts):
-    """The definitions and lemmas that these texts name, and those that they name in turn, by their paths, each with its bytes."""
-    found, left = {}, list(texts)
-    while left:
-        for path in modules_in(root, left.pop()):
-            if path not in found:
-                with open(f"{root}/{path}", "rb") as file:
-                    found[path] = file.read()
-                left.append(found[path])
-    return found
-
-
 def logic_of_rt():
     """The logic that proofs are checked in, as `rt version` names it. A kit with the same one can't prove what it doesn't have."""
     said = subprocess.run(["rt", "version"], stdin=subprocess.DEVNULL, stdout=subprocess.PIPE, check=False).stdout
@@ -57,8 +34,7 @@ def logic_of_rt():
 class Record:
     """What is on record of a crate, over the crates `below` it.
 
-    An answer depends on the crate as it is, on the sources of the crates below it, and of their definitions and lemmas on those
-    that are named on the way from the one or the other: what no file names can't help a proof.
+    An answer depends on the crate as it is, and of the crates below it on what it names of them (`named`).
     """
 
     def __init__(self, root, name, crates, below):
@@ -67,21 +43,23 @@ class Record:
         self.below = below
         self.sum = self.sum_of_all()
 
-    def sources(self):
-        """The files that an answer depends on, by their paths, each with its bytes."""
-        found = {}
-        for folder in (*(f"crates/{it}/src" for it in self.below), *(f"crates/{self.name}/{part}" for part in (*PARTS, "wrong-bodies"))):
-            found.update((f"{folder}/{path}", text) for path, text in files_below(f"{self.root}/{folder}"))
-        return {**found, **named_files(self.root, found.values())}
+    def own_files(self, *parts):
+        """The files of these folders of the crate, by their paths, each with its bytes."""
+        at = [f"crates/{self.name}/{part}" for part in parts]
+        return {f"{folder}/{path}": text for folder in at for path, text in files_below(f"{self.root}/{folder}")}
 
     def sum_of_all(self):
-        """The checksum of the toolchain's logic, what judges here, the lines of crates.txt, the sources and the edits."""
+        """The checksum of the toolchain's logic, what judges here, the lines of crates.txt, what is named, the crate and its edits."""
         found = hashlib.sha256(logic_of_rt())
         for name in JUDGES:
             with open(f"{HERE}/{name}", "rb") as file:
                 self.add(found, name, file.read())
         self.add(found, "crates.txt", "\n".join(self.lines).encode())
-        for path, text in sorted(self.sources().items()):
+        own = self.own_files(*PARTS)
+        texts = {path: text.decode(errors="replace") for path, text in own.items()}
+        for path, text in Named(self.root, texts, self.below).items():
+            self.add(found, path, text.encode())
+        for path, text in {**own, **self.own_files("wrong-bodies")}.items():
             self.add(found, path, text)
         return found.hexdigest()
 
