@@ -35,6 +35,8 @@ pub mod Types
 pub mod Typing
 pub mod TypingLaws
 pub mod TypingRules
+pub mod Uses
+pub mod UsesOfCalls
 pub mod Visible
 pub mod WholeMeaning
 pub mod WholeMeaningLaws

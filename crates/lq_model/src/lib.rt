@@ -16,6 +16,7 @@ mod operation;
 pub mod operation_laws;
 mod policy;
 pub mod policy_laws;
+mod rights;
 pub mod session_laws;
 mod syntax;
 mod token;
@@ -26,6 +27,7 @@ pub use calls::{Call, Operator, Paired, Part, Term};
 pub use methods::{Given, Simple, Through};
 pub use operation::Op;
 pub use policy::{Action, Policy, PolicyParts, Role, TablePart};
+pub use rights::{RightRule, Use};
 pub use syntax::{
     Argument, Binary, Body, Clause, Continuation, Expr, Field, Infix, Join, Last, Level, Node,
     Query, SortKey, Statement, Unary,
