@@ -22,6 +22,8 @@ pub mod Output
 pub mod Parsing
 pub mod PolicyLaws
 pub mod Reading
+pub mod RightLaws
+pub mod Rights
 pub mod Script
 pub mod Served
 pub mod SessionLaws

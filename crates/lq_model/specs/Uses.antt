@@ -1,7 +1,6 @@
 -- «Uses»: which tables and columns an expression names, in the order of its text; and the columns of a type, all of which a reply shows.
 use Rattle.std.specs.Prelude.{◌∷◌, ◌++◌, ◌+◌, List, [], flat_map, length, map, ℕ, Option, Some, None, option_and_then, slice_get}
 use Rattle.lq_value.specs.Tables.{first_named}
-use Rattle.lq_value.specs.declared.table.Column.{Column}
 use Rattle.lq_value.specs.declared.table.Schema.{Schema}
 use Rattle.lq_value.specs.declared.ty.Ty.{Ty, fold-Ty, out-Ty}
 use Rattle.lq_value.specs.declared.ty.Ty.TheOpen.{Ty-F}
@@ -123,11 +122,12 @@ expression_uses = para-Expr (Names → List Use) uses_step
 
 -- ---- results
 
--- all columns of a table, in the order of its schema
-abbrev pub columns_from : ℕ → ℕ → List Column → List Use
+-- the columns of a table, from this number on
+abbrev pub columns_from : {A : Type 0} → ℕ → ℕ → List A → List Use
 columns_from t c [] = []
 columns_from t c (column ∷ columns) = of.Column t c ∷ columns_from t (c + 1) columns
 
+-- all of them, in the order of the schema
 abbrev pub all_columns : ℕ → Option Schema → List Use
 all_columns t table = under table (λ schema. columns_from t 0 schema.columns)
 

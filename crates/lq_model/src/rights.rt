@@ -2,7 +2,7 @@
 use lq_value::{List, Txt};
 
 /// What a statement uses of the tables, and what a right is for.
-#[derive(Clone, Copy, Debug, Drop, Eq, PartialEq)]
+#[derive(Clone, Copy, Debug, Drop, Eq, Hash, PartialEq)]
 pub enum Use {
     /// The table with this number.
     Table(u16),
