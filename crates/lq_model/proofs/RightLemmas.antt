@@ -1,7 +1,7 @@
 -- Proofs of the laws of rights: the function tells exactly what a role may use.
-use Rattle.std.proofs.Common.{◌≡◌, ◌==◌, ◌&&◌, ◌<◌, ◌+◌, ◌∷◌, ◌++◌, arith, not, if◌then◌else◌, List, [], ℕ, zero, suc, length, Bool, true, false, Option, Some, None, slice_get, ap, ◌∙◌, sym, refl, subst, inl, inr, true≢false}
-use Rattle.std.specs.List.{Contains, list_any, slice_index_or}
-use Rattle.std.proofs.lemmas.Bool.{and_from, and_parts, cases_Bool, eqb-true}
+use Rattle.std.proofs.Common.{◌≡◌, ◌==◌, ◌&&◌, ◌∷◌, ◌++◌, not, if◌then◌else◌, List, [], ℕ, Bool, true, false, Option, Some, None, ap, ◌∙◌, sym, refl, subst, inl, inr, true≢false}
+use Rattle.std.specs.List.{Contains, list_any}
+use Rattle.std.proofs.lemmas.Bool.{and_from, and_parts, eqb-true}
 use Rattle.std.proofs.lemmas.Bool.Decides.{Decides-eqb}
 use Rattle.std.proofs.lemmas.List.Elements.{Contains-append_cases, Contains-append_left, Contains-append_right}
 use Rattle.std.proofs.lemmas.List.Folds.{Any-from_list_any}
@@ -9,12 +9,10 @@ use Rattle.std.proofs.lemmas.Option.{none-some}
 use Rattle.lq_model.proofs.MembershipLemmas.{has_cases, has_first, has_later, none_in_nil}
 use Rattle.lq_model.proofs.PolicyLemmas.{found_at, found_where_listed, listed_where_found, not_false, not_true}
 use Rattle.lq_model.specs.RightLaws.{DeniesTheRest, DeniesWithoutGrants, GrantsMore, HasOneRule, TellsUses, WithholdsMore}
-use Rattle.lq_model.specs.Rights.{BearsOn, Denied, HasRight, MayUse, column, insertion, removal, table, bears, columns_of, covers, denial, denied_or, denier_of, first_concerning, has_right, is_same_use, may_use}
-use Rattle.lq_model.specs.Uses.{columns_from, under}
+use Rattle.lq_model.specs.Rights.{BearsOn, Denied, HasRight, MayUse, column, insertion, removal, table, bears, covers, denial, denied_or, denier_of, first_concerning, has_right, is_column_of, is_same_use, is_withheld, may_use, opens}
 use Rattle.lq_model.specs.Visible.{IsListed, is_listed}
 use Rattle.lq_model.specs.declared.policy.PolicyParts.{PolicyParts}
 use Rattle.lq_model.specs.declared.policy.Role.{Role}
-use Rattle.lq_model.specs.declared.policy.TablePart.{TablePart}
 use Rattle.lq_model.specs.declared.rights.RightRule.{RightRule}
 use Rattle.lq_model.specs.declared.rights.Use.{Use}
 use Rattle.lq_model.specs.declared.rights.Use.TheVariants as of
@@ -83,60 +81,56 @@ module _ (parts : PolicyParts) (role : ℕ) where
       (λ is. let found = passing (bears parts.roles role used) parts.withholds is in
       h.unwithheld found.0 found.1 (bearing_told parts.roles role used found.0 found.2))))
 
--- ---- columns
-
--- the columns of a table from a number on, and those alone
-column_in : {A : Type 0} (t k : ℕ) (xs : List A) (used : Use) → Contains (columns_from t k xs) used → (c : ℕ) × (c < k + length xs) × (of.Column t c ≡ used)
-column_in t k [] used has = absurd (none_in_nil used has)
-column_in t k (x ∷ xs) used has =
-    elim (has_cases (of.Column t k) (columns_from t (k + 1) xs) used has) [
-      | inl same ↦ (k, omega (arith), same)
-      | inr later ↦ let rest = column_in t (k + 1) xs used later in let below = rest.1 in (rest.0, omega (arith, below), rest.2)
-    ]
-
-column_there : {A : Type 0} (t k c : ℕ) (xs : List A) → c < length xs → Contains (columns_from t k xs) (of.Column t (k + c))
-column_there t k c [] below = absurd (omega (arith, below))
-column_there t k zero (x ∷ xs) below =
-    let same : k ≡ k + 0 = omega (arith) in
-    subst (λ n. Contains (columns_from t k (x ∷ xs)) (of.Column t n)) same (has_first (of.Column t k) (columns_from t (k + 1) xs))
-column_there t k (suc c) (x ∷ xs) below =
-    let less : c < length xs = omega (arith, below) in
-    let same : (k + 1) + c ≡ k + suc c = omega (arith) in
-    subst (λ n. Contains (columns_from t k (x ∷ xs)) (of.Column t n)) same
-    (has_later (of.Column t k) (columns_from t (k + 1) xs) (of.Column t ((k + 1) + c)) (column_there t (k + 1) c xs less))
-
-column_first : {A : Type 0} (t c : ℕ) (xs : List A) → c < length xs → Contains (columns_from t 0 xs) (of.Column t c)
-column_first t c xs below = let same : 0 + c ≡ c = omega arith in subst (λ n. Contains (columns_from t 0 xs) (of.Column t n)) same (column_there t 0 c xs below)
-
 -- ---- what a role may use
 
-module _ (parts : PolicyParts) (role : ℕ) where
-  table_told : (t : ℕ) (o : Option TablePart) → slice_get parts.tables t ≡ o
-      → list_any (has_right parts role) (under o (λ part. columns_from t 0 part.columns)) ≡ true → MayUse parts role (of.Table t)
-  table_told t None is h = absurd (true≢false (sym h))
-  table_told t (Some part) is h =
-      let found = passing (has_right parts role) (columns_from t 0 part.columns) h in
-      let there = column_in t 0 part.columns found.0 found.1 in
-      let below = there.1 in
-      table t there.0 part is (omega (arith, below)) (right_told parts role (of.Column t there.0) (ap (has_right parts role) there.2 ∙ found.2))
+is_column : (t : ℕ) (used : Use) → is_column_of t used ≡ true → (c : ℕ) × (of.Column t c ≡ used)
+is_column t (of.Column u c) h = (c, λ i. of.Column (eqb-true t u h i) c)
+is_column t used h = absurd (true≢false (sym h))
 
-  table_given : (t c : ℕ) (part : TablePart) → slice_get parts.tables t ≡ Some part → c < length part.columns → HasRight parts role (of.Column t c)
-      → list_any (has_right parts role) (columns_of parts t) ≡ true
-  table_given t c part is below right =
-      ap (λ (o : Option TablePart). list_any (has_right parts role) (under o (λ p. columns_from t 0 p.columns))) is
-      ∙ found_at (has_right parts role) (columns_from t 0 part.columns) (of.Column t c) (column_first t c part.columns below)
-      (right_given parts role (of.Column t c) right)
+module _ (parts : PolicyParts) (role : ℕ) where
+  -- whether a right is to a column of the table, which isn't withheld
+  abbrev is_open : ℕ → Use → Bool
+  is_open t right = is_column_of t right && not (is_withheld parts role right)
+
+  not_withheld : (used : Use) → not (is_withheld parts role used) ≡ true → (rule : RightRule) → Contains parts.withholds rule
+      → BearsOn parts.roles role used rule → ⊥
+  not_withheld used h rule has on =
+      true≢false (sym (bearing_given parts.roles role used rule on) ∙ failing (bears parts.roles role used) parts.withholds (not_false _ h) rule has)
+
+  table_told : (t : ℕ) → list_any (opens parts role t) parts.grants ≡ true → MayUse parts role (of.Table t)
+  table_told t h =
+      let found = passing (opens parts role t) parts.grants h in
+      let both = and_parts (is_listed parts.roles role found.0.to) (list_any (is_open t) found.0.rights) found.2 in
+      let right = passing (is_open t) found.0.rights both.1 in
+      let kinds = and_parts (is_column_of t right.0) (not (is_withheld parts role right.0)) right.2 in
+      let named = is_column t right.0 kinds.0 in
+      table t named.0 (subst (HasRight parts role) (sym named.1) (record {
+        grant = found.0;
+        among = found.1;
+        granting = record { to_role = listed_where_found parts.roles role found.0.to both.0; covering = right.1 };
+        unwithheld = not_withheld right.0 kinds.1;
+      }))
+
+  table_given : (t c : ℕ) → HasRight parts role (of.Column t c) → list_any (opens parts role t) parts.grants ≡ true
+  table_given t c right =
+      found_at (opens parts role t) parts.grants right.grant right.among
+      (and_from (is_listed parts.roles role right.grant.to) (list_any (is_open t) right.grant.rights)
+      (found_where_listed parts.roles role right.grant.to right.granting.to_role)
+      (found_at (is_open t) right.grant.rights (of.Column t c) right.granting.covering
+      (and_from (t == t) (not (is_withheld parts role (of.Column t c))) ((Decides-eqb t t).1 refl)
+      (and_parts (list_any (bears parts.roles role (of.Column t c)) parts.grants) (not (is_withheld parts role (of.Column t c)))
+      (right_given parts role (of.Column t c) right)).1)))
 
   pub use_told : (used : Use) → may_use parts role used ≡ true → MayUse parts role used
   unfolding may_use
-  use_told (of.Table t) h = table_told t (slice_get parts.tables t) refl h
+  use_told (of.Table t) h = table_told t h
   use_told (of.Column t c) h = column t c (right_told parts role (of.Column t c) h)
   use_told (of.Insert t) h = insertion t (right_told parts role (of.Insert t) h)
   use_told (of.Delete t) h = removal t (right_told parts role (of.Delete t) h)
 
   pub use_given : (used : Use) → MayUse parts role used → may_use parts role used ≡ true
   unfolding may_use
-  use_given used (table t c part is below right) = table_given t c part is below right
+  use_given used (table t c right) = table_given t c right
   use_given used (column t c right) = right_given parts role (of.Column t c) right
   use_given used (insertion t right) = right_given parts role (of.Insert t) right
   use_given used (removal t right) = right_given parts role (of.Delete t) right
@@ -151,14 +145,14 @@ module _ (parts : PolicyParts) (role : ℕ) where
   allowed_one : (used : Use) (rest : Option Denied) → denied_or used (denier_of parts role used) rest ≡ None → (may_use parts role used ≡ true) × (rest ≡ None)
   unfolding denier_of
   allowed_one used rest h = by (may_use parts role used) h where
-    by : (b : Bool) → denied_or used (if b then None else Some (first_concerning parts role used parts.withholds)) rest ≡ None → (b ≡ true) × (rest ≡ None)
+    by : (b : Bool) → denied_or used (if b then None else Some (first_concerning parts.roles role used parts.withholds)) rest ≡ None → (b ≡ true) × (rest ≡ None)
     by true is = (refl, is)
     by false is = absurd (none-some _ (sym is))
 
   one_allowed : (used : Use) (rest : Option Denied) → may_use parts role used ≡ true → denied_or used (denier_of parts role used) rest ≡ rest
   unfolding denier_of
   one_allowed used rest h =
-      ap (λ (b : Bool). denied_or used (if b then None else Some (first_concerning parts role used parts.withholds)) rest) h
+      ap (λ (b : Bool). denied_or used (if b then None else Some (first_concerning parts.roles role used parts.withholds)) rest) h
 
   pub none_denied : (uses : List Use) → denial parts role uses ≡ None → (used : Use) → Contains uses used → may_use parts role used ≡ true
   unfolding denial
@@ -195,9 +189,9 @@ module _ (fewer more : List RightRule) (rule : RightRule) (one : HasOneRule fewe
       ])
 
 -- what a role may use under some parts it may use under others, where its rights are kept
-module _ (here there : PolicyParts) (role : ℕ) (tables : there.tables ≡ here.tables) (kept : (used : Use) → HasRight here role used → HasRight there role used) where
+module _ (here there : PolicyParts) (role : ℕ) (kept : (used : Use) → HasRight here role used → HasRight there role used) where
   use_kept : (used : Use) → MayUse here role used → MayUse there role used
-  use_kept used (table t c part is below right) = table t c part (ap (λ l. slice_get l t) tables ∙ is) below (kept (of.Column t c) right)
+  use_kept used (table t c right) = table t c (kept (of.Column t c) right)
   use_kept used (column t c right) = column t c (kept (of.Column t c) right)
   use_kept used (insertion t right) = insertion t (kept (of.Insert t) right)
   use_kept used (removal t right) = removal t (kept (of.Delete t) right)
@@ -210,7 +204,7 @@ bears_there : (here there : List Role) (role : ℕ) (used : Use) (rule : RightRu
 bears_there here there role used rule same on = subst (λ roles. BearsOn roles role used rule) (sym same) on
 
 pub withholds_more : WithholdsMore
-withholds_more fewer more rule roles tables grants one role uses h = none_denied_there more fewer role (sym tables) kept uses h where
+withholds_more fewer more rule roles grants one role uses h = none_denied_there more fewer role kept uses h where
   kept : (used : Use) → HasRight more role used → HasRight fewer role used
   kept used right = record {
     grant = right.grant;
@@ -220,7 +214,7 @@ withholds_more fewer more rule roles tables grants one role uses h = none_denied
   }
 
 pub grants_more : GrantsMore
-grants_more fewer more rule roles tables withholds one role uses h = none_denied_there fewer more role tables kept uses h where
+grants_more fewer more rule roles withholds one role uses h = none_denied_there fewer more role kept uses h where
   kept : (used : Use) → HasRight fewer role used → HasRight more role used
   kept used right = record {
     grant = right.grant;
@@ -237,7 +231,7 @@ denies_without_grants parts role none uses used has h = by used (use_told parts 
   no_right u right = none right.grant right.among right.granting.to_role
 
   by : (u : Use) → MayUse parts role u → ⊥
-  by u (table t c part is below right) = no_right (of.Column t c) right
+  by u (table t c right) = no_right (of.Column t c) right
   by u (column t c right) = no_right (of.Column t c) right
   by u (insertion t right) = no_right (of.Insert t) right
   by u (removal t right) = no_right (of.Delete t) right

@@ -26,14 +26,14 @@ pub record HasOneRule (fewer more : List RightRule) (rule : RightRule) : Type 0 
 -- one withhold more never turns a denial into an answer
 abbrev pub WithholdsMore : Type 0
 WithholdsMore =
-    (fewer more : PolicyParts) (rule : RightRule) → more.roles ≡ fewer.roles → more.tables ≡ fewer.tables → more.grants ≡ fewer.grants
+    (fewer more : PolicyParts) (rule : RightRule) → more.roles ≡ fewer.roles → more.grants ≡ fewer.grants
     → HasOneRule fewer.withholds more.withholds rule
     → (role : ℕ) (uses : List Use) → denial more role uses ≡ None → denial fewer role uses ≡ None
 
 -- one grant more never turns an answer into a denial
 abbrev pub GrantsMore : Type 0
 GrantsMore =
-    (fewer more : PolicyParts) (rule : RightRule) → more.roles ≡ fewer.roles → more.tables ≡ fewer.tables → more.withholds ≡ fewer.withholds
+    (fewer more : PolicyParts) (rule : RightRule) → more.roles ≡ fewer.roles → more.withholds ≡ fewer.withholds
     → HasOneRule fewer.grants more.grants rule
     → (role : ℕ) (uses : List Use) → denial fewer role uses ≡ None → denial more role uses ≡ None
 
