@@ -35,7 +35,7 @@ same_itself (of.Insert t) = (Decides-eqb t t).1 refl
 same_itself (of.Delete t) = (Decides-eqb t t).1 refl
 
 -- an item that passes a test
-passing : {A : Type 0} (test : A → Bool) (xs : List A) → list_any test xs ≡ true → (x : A) × Contains xs x × (test x ≡ true)
+pub passing : {A : Type 0} (test : A → Bool) (xs : List A) → list_any test xs ≡ true → (x : A) × Contains xs x × (test x ≡ true)
 passing test xs h = let found = Any-from_list_any test xs h in (found.1, (found.0, found.2, found.3), found.4)
 
 -- no item passes a test that fails
