@@ -435,9 +435,8 @@ FAULTS = [
     (no_role_name, "shape"), (other_rules, "shape"), (with_rule(NO_RULES), "shape"), (no_table, "unknown-name"),
     (no_role, "unknown-name"), (with_rule(NO_COLUMNS), "unknown-name"), (with_rule(NO_PREDICATES), "unknown-name"),
     (with_right(NO_RIGHTS), "shape"), (with_right(NO_RIGHTS), "shape"), (with_right(UNKNOWN_RIGHTS), "unknown-name"),
-    (no_column, "unknown-name"),
-    (twice, "duplicate"), (twice, "duplicate"), (with_rule(NO_TRUTHS), "rule-type"), (with_rule(NO_TRUTHS), "rule-type"),
-    (with_rule(NO_TOTALS), "rule-not-total"), (with_rule(NO_TOTALS), "rule-not-total"),
+    (no_column, "unknown-name"), (twice, "duplicate"), (twice, "duplicate"), *[(with_rule(NO_TRUTHS), "rule-type")] * 3,
+    *[(with_rule(NO_TOTALS), "rule-not-total")] * 3,
 ]
 
 
