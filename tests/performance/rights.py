@@ -1,7 +1,7 @@
 """Decisions on rights: lines of 64 KiB with as many columns as there is room for, under 1,000 grants and withholds of 100 rights each.
 
-The statement's one table has no rows, so that a line is read, typed and decided, and then there is nothing to run. What is judged is
-what the line takes over a run without a line, under the same rules; what the same line takes under one grant is printed beside it.
+The line's one table has no rows, so that a line is read, typed and decided, and then there is nothing to run. What is judged is what
+it takes over a run without a line, under the same rules.
 """
 
 import measuring
@@ -10,16 +10,16 @@ from measuring import Failure
 # A line with its line feed, of the most bytes that a line may have.
 LINE = 65_536
 RUNS = 3
-# The most columns that a table has. Of these the last are withheld, and the others may be used by the last grant alone.
+# The most columns that a table has. The first of them are open: the last grant covers them alone, and no withhold does.
 COLUMNS = 100
 OPEN = 90
+# So many grants and as many withholds, each of so many rights.
 RULES = 500
 RIGHTS = 100
-# Of a line under these rules, the rules' own reading left out. A hundred milliseconds of processor time are wanted: to be measured, and
-# then set to some 1.3 times what the program takes.
+# Of a line, over a run without one. What is wanted is 100 ms of processor time. To be set to some 1.3 times what is measured.
 WANTED = 100
 MOST_INSTRUCTIONS_TO_DECIDE = 300_000_000
-# The rules' file is read once a run.
+# Of a run without a line, which reads the rules. To be set likewise.
 MOST_INSTRUCTIONS_TO_READ = 1_500_000_000
 TABLE = "w.csv"
 HEAD = "run from x in w select "
@@ -38,36 +38,30 @@ def rules():
     return 'role = [{name = "reader"}]\n' + "".join(grants + withholds)
 
 
-def filled(pieces, joint, end):
-    """As many pieces as there is room for; each is a bracket with some columns."""
-    size = LINE - 1 - len(HEAD) - len(end) - 1
-    taken = 0
-    while taken < len(pieces) and size >= len(pieces[taken]) + len(joint):
-        size -= len(pieces[taken]) + len(joint)
-        taken += 1
-    return HEAD + joint.join(pieces[:taken]) + end + ";"
+def sum_in_brackets(terms):
+    return "(" + "+".join(terms) + ")"
 
 
-def sum_of(places):
-    """A sum of open columns in brackets, sixteen and more brackets in one another: a chain of all would be too deep."""
-    return "(" + "+".join(f"x.c{place % OPEN}" for place in places) + ")"
+def filled(term, end):
+    """A line that selects a sum of as many of these terms as there is room for, and of what stands at its end."""
+    count = (LINE - 2 - len(HEAD + end)) // len(term + "+")
+    return HEAD + "+".join([term] * count) + end + ";"
 
 
 def sums(end=""):
-    """Columns summed. Brackets side by side hold brackets side by side, so that no place is too deep."""
-    groups = ["(" + "+".join(sum_of(range(first + part, first + part + 16)) for part in range(0, 256, 16)) + ")" for first in range(60)]
-    return filled(groups, "+", end)
+    """Columns summed, in brackets side by side in brackets side by side: a chain of all would be too deep."""
+    inner = [sum_in_brackets(f"x.c{place % OPEN}" for place in range(first, first + 16)) for first in range(0, 256, 16)]
+    return filled(sum_in_brackets(inner), end)
 
 
 def records(end=""):
     """The members of records: each has all open columns, and one of them is read."""
     record = "(new{" + ",".join(f"x.c{place}" for place in range(OPEN)) + "}.c7)"
-    groups = ["(" + "+".join([record] * 4) + ")"] * 60
-    return filled(groups, "+", end)
+    return filled(sum_in_brackets([record] * 4), end)
 
 
 SERVED, DENIED = '{"items":[]}', '{"denied":"w0","use":"w.c95"}'
-# What the lines are made of, the line, and its reply. Behind the last use of a denied one nothing is left to look at.
+# What the lines are made of, the line, and its reply. Of a denied one the last use has no right.
 KINDS = [
     ("columns summed", sums(), SERVED), ("members of records", records(), SERVED),
     ("columns summed, the last one withheld", sums("+x.c95"), DENIED), ("members of records, and a column that is withheld", records("+x.c95"), DENIED),
