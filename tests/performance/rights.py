@@ -1,4 +1,4 @@
-"""Decisions on rights: lines of 64 KiB with as many columns as there is room for, under 1,000 grants and withholds of 100 rights each.
+"""Decisions on rights: lines of 64 KiB with as many columns as there is room for, under 1,000 grants and withholds of 100 rights.
 
 The line's one table has no rows, so that a line is read, typed and decided, and then there is nothing to run. What is judged is what
 it takes over a run without a line, under the same rules.
@@ -64,7 +64,8 @@ SERVED, DENIED = '{"items":[]}', '{"denied":"w0","use":"w.c95"}'
 # What the lines are made of, the line, and its reply. Of a denied one the last use has no right.
 KINDS = [
     ("columns summed", sums(), SERVED), ("members of records", records(), SERVED),
-    ("columns summed, the last one withheld", sums("+x.c95"), DENIED), ("members of records, and a column that is withheld", records("+x.c95"), DENIED),
+    ("columns summed, the last one withheld", sums("+x.c95"), DENIED),
+    ("members of records, and a column that is withheld", records("+x.c95"), DENIED),
 ]
 
 

@@ -94,7 +94,8 @@ def of_many_tables(count, *more):
     data = {f"t{number}.csv": f"c:int\n{number}\n".encode() for number in range(count)}
     script = b"".join(b"run from x in t%d select x.c;\n" % number for number in range(count + 1))
     words = [*OPTIONS, *(name.encode() for name in data), *more]
-    return Case(words, policy_over(*(f"t{number}" for number in range(count))) | data | {"bad.csv": b"c\n", "sub/t0.csv": b"c:int\n"}, script)
+    data |= policy_over(*(f"t{number}" for number in range(count)))
+    return Case(words, data | {"bad.csv": b"c\n", "sub/t0.csv": b"c:int\n"}, script)
 
 
 def columns(count, kind=b":int"):

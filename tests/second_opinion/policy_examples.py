@@ -125,16 +125,19 @@ SHAPES = [
     policy("p", "", using="", check="'true'"), policy("p", "true", using="true"), policy("p", "row.id %"),
     policy("p", "true", check="''"),
     policy("p", "row.none") + policy("q", "true", kind='"x"'), ROLES.replace("eve", "dan") + policy("p", "("),
-    "grant = 1\n", 'grant = "all"\n', '[grant]\nname = "all"\nrights = []\n', "grant = [[]]\n", 'withhold = ["no-salary"]\n', "withhold = {}\n",
-    'grant = [{name = "all", rights = []}, 1]\n', "[[grant]]\n", right_rule("grant", "all", ""), right_rule("withhold", "no-salary", ""),
+    "grant = 1\n", 'grant = "all"\n', '[grant]\nname = "all"\nrights = []\n', "grant = [[]]\n", 'withhold = ["no-salary"]\n',
+    "withhold = {}\n", 'grant = [{name = "all", rights = []}, 1]\n', "[[grant]]\n", right_rule("grant", "all", ""),
+    right_rule("withhold", "no-salary", ""),
     right_rule("grant", "", name=""), right_rule("grant", "all", name="1"), right_rule("withhold", "w", "'employees.*'"),
-    right_rule("grant", "all", "[1]"), right_rule("grant", "all", "['employees.*', true]"), right_rule("grant", "all", "[['employees.*']]"),
+    right_rule("grant", "all", "[1]"), right_rule("grant", "all", "['employees.*', true]"),
+    right_rule("grant", "all", "[['employees.*']]"),
     right_rule("grant", "all", "{}"), right_rule("grant", "all", to='"public"'), right_rule("withhold", "w", to="[true]"),
     right_rule("grant", ""), right_rule("withhold", ""), right_rule("grant", "no-grant"), right_rule("withhold", "no-grant"),
     right_rule("grant", "default-deny"), right_rule("withhold", "default-deny"), right_rule("grant", "x" * 65),
     right_rule("withhold", "é" * 33), right_rule("grant", "all", using="'true'"), right_rule("grant", "all", table="'employees'"),
-    right_rule("withhold", "w", kind='"permissive"'), right_rule("withhold", "w", right="[]"), right_rule("grant", "all", member_of="[]"),
-    granting("none.*") + right_rule("withhold", "w", "['employees']"), policy("p", "1") + policy("p", "row.none") + granting("Host.*"),
+    right_rule("withhold", "w", kind='"permissive"'), right_rule("withhold", "w", right="[]"),
+    right_rule("grant", "all", member_of="[]"), granting("none.*") + right_rule("withhold", "w", "['employees']"),
+    policy("p", "1") + policy("p", "row.none") + granting("Host.*"),
     right_rule("grant", "all", "['none.*']") * 2 + right_rule("withhold", "w", nme="1"),
     "x = 9223372036854775807\n",
     "x = " + "[" * 80 + "]" * 80 + "\n", "#" * 1_048_577, "\x00" * 1_048_577,
@@ -154,8 +157,9 @@ UNKNOWN = [
     policy("p", "1 + 1 == 2") + policy("q", "1") + policy("r", "row.none"),
     granting("employees.title"), granting("employees.Id"), granting("Employees.id"), granting("depts.id", "marks.*", "marks.id"),
     granting("employees.csv"), granting("employees.public"), right_rule("withhold", "w", "['none insert']"),
-    right_rule("grant", "all", to='["nobody"]'), right_rule("withhold", "w", to='[""]'), right_rule("withhold", "w", to='["Dan", "public"]'),
-    ROLES + right_rule("withhold", "w", to='["dan", "kim"]'), ROLES.replace("eve", "dan") + right_rule("withhold", "all", "['none.*']"),
+    right_rule("grant", "all", to='["nobody"]'), right_rule("withhold", "w", to='[""]'),
+    right_rule("withhold", "w", to='["Dan", "public"]'), ROLES + right_rule("withhold", "w", to='["dan", "kim"]'),
+    ROLES.replace("eve", "dan") + right_rule("withhold", "all", "['none.*']"),
     policy("p", "1") + right_rule("withhold", "p", to='["nobody"]'),
 ]
 DUPLICATES = [
@@ -204,12 +208,15 @@ WORDS = {
     "rule-type": [*TYPES, *(policy("p", rule) for rule in NO_TRUTHS)],
     "rule-not-total": [*NOT_TOTAL, *(policy("p", rule, using=f"'''{rule}'''") for rule in NO_TOTALS)],
 }
-ACCEPTED = [COMPANY, WITH_MORE, "", "grant = []\n", "withhold = []\n", "grant = []\nwithhold = []\n"] + [policy("p", rule, using=f"'''\n{rule}'''") for rule in TOTALS_AT_THE_EDGE] + [
+ACCEPTED = [COMPANY, WITH_MORE, "", "grant = []\n", "withhold = []\n", "grant = []\nwithhold = []\n"]
+ACCEPTED += [policy("p", rule, using=f"'''\n{rule}'''") for rule in TOTALS_AT_THE_EDGE] + [
     policy("x" * 64, "true"), policy("é" * 32, "true"), policy(" ", "true"), "#" * 1_048_576, "\ufeff", "role = []\n" + OWN,
     policy("select", "true"), policy("p", "true", table='"marks"'),
     ROLES + policy("p", "true", to='["dan", "dan", "public"]'),
-    right_rule("grant", "all"), right_rule("withhold", "all", to="[]"), granting("employees.id", "employees.id", "employees.*", "marks insert"),
-    granting("depts delete", "depts insert", "depts.*") + right_rule("withhold", "x" * 64) + right_rule("withhold", " ", "['marks.ok']"),
+    right_rule("grant", "all"), right_rule("withhold", "all", to="[]"),
+    granting("employees.id", "employees.id", "employees.*", "marks insert"),
+    granting("depts delete", "depts insert", "depts.*") + right_rule("withhold", "x" * 64) + right_rule(
+        "withhold", " ", "['marks.ok']"),
     PLAIN_ROLES + right_rule("grant", "public", to='["dan", "dan", "public"]') + right_rule("withhold", "employees"),
     'role = [{name = "Public"}, {name = "reader", member_of = ["Public", "Public"]}]\n', "[[role]]\nname = 'é'\n",
 ]

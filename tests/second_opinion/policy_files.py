@@ -23,7 +23,9 @@ POLICY_NAMES = [
     "select", "a.b", "\u2028", "\x01", "1",
 ]
 # Those of grants and withholds; no policy by chance has one of these.
-RIGHT_NAMES = ["all", "pay", "no-pay", "no-salary", "keep", "default-deny ", "no grant", "of é", "grant", "withhold", "z" * 64, "2", "\r"]
+RIGHT_NAMES = [
+    "all", "pay", "no-pay", "no-salary", "keep", "default-deny ", "no grant", "of é", "grant", "withhold", "z" * 64, "2", "\r",
+]
 NO_RIGHTS = [
     "", " ", "t", "T.c.d", "t..c", "t.", ".c", ".*", "*", "*.*", "*.c", "t.**", "t. c", "t .c", " t.c", "t.c ", "t.1", "1.c", "t.from",
     "from.c", "from insert", "t  insert", "t insert ", "t\tinsert", "t Insert", "t select", "t update", "t insert delete", "t.insert",
@@ -608,7 +610,8 @@ def with_second_fault(dice, file, tables):
         more["using"] = dice.choice([NO_TRUTHS, NO_TOTALS, NO_COLUMNS][kind - 3])
     else:
         array = dice.choice(["grant", "withhold"])
-        more = {"name": "second", "rights": []} | dice.choice([{"nme": 1}, {"rights": ["t"]}, {"rights": ["none.*"]}, {"name": "shown0"}])
+        more = {"name": "second", "rights": []}
+        more |= dice.choice([{"nme": 1}, {"rights": ["t"]}, {"rights": ["none.*"]}, {"name": "shown0"}])
     if isinstance(file.get(array), list):
         file[array].append(more)
     return file
