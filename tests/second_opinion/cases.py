@@ -12,6 +12,7 @@ import policy_files
 import queries
 import query_lines
 import right_examples
+import right_lines
 import scalars
 import sentences
 import statements
@@ -277,7 +278,7 @@ def lines_case(dice, line):
     return Case([*OPTIONS, *(path.encode() for path in data)], policy_over(*tables) | data, script_of(dice, tables, line, 60))
 
 
-def queries_case(dice, rights_of=policy_files.open_rights):
+def queries_case(dice, line=query_lines.line, rights_of=policy_files.open_rights):
     """Queries by chance, over small tables behind some policies."""
     tables = queries.tables(dice)
     file = policy_files.right_file(dice, tables, rights_of)
@@ -285,8 +286,13 @@ def queries_case(dice, rights_of=policy_files.open_rights):
         # Row security is off, so that there are rows to query.
         file["table"] = []
     role = dice.choice([entry["name"] for entry in file["role"]])
-    script = "".join(query_lines.line(dice, tables).replace("\n", " ") + "\n" for _ in range(LINES_OF_QUERIES))
+    script = "".join(line(dice, tables).replace("\n", " ") + "\n" for _ in range(LINES_OF_QUERIES))
     return call(dice, tables, policy_files.spelled_file(dice, file).encode(), role, script.encode())
+
+
+def rights_case(dice):
+    """Such queries, and lines with several columns, of a role that may not use all of them."""
+    return queries_case(dice, lambda *those: dice.choice([query_lines, right_lines]).line(*those), policy_files.some_rights)
 
 
 def case_of(number, fixed):
@@ -298,7 +304,7 @@ def case_of(number, fixed):
         return of_company(policy_examples.COMPANY.encode(), script=company_examples.scripts()[number - FIRST_OF_COMPANY])
     dice = random.Random(number)
     if number >= FIRST_OF_QUERIES:
-        return queries_case(dice, policy_files.some_rights if number >= FIRST_OF_RIGHTS else policy_files.open_rights)
+        return rights_case(dice) if number >= FIRST_OF_RIGHTS else queries_case(dice)
     if number >= FIRST_OF_POLICIES:
         return policy_case(dice)
     if number >= FIRST_OF_SENTENCES:
