@@ -102,6 +102,19 @@ pub row_shows : (schemas : List Schema) (n : ℕ) → shown_columns schemas (ty.
 row_shows schemas n =
     type_out schemas (ty.Row n) ∙ ap (λ (layer : Ty-F Ty). shown_step schemas (map-Ty Ty (List Use) (shown_columns schemas) layer)) (outs-Row n)
 
+-- a form, behind the uses of its source and of its other parts
+module _ (old mid new : List Use) (f a : Form) where
+  behind_two : (more : List Use) → form_uses f ≡ form_uses a ++ more → mid ≡ old ++ form_uses a → new ≡ mid ++ more → new ≡ old ++ form_uses f
+  behind_two more is first second =
+      second ∙ ap (λ us. us ++ more) first ∙ append_behind old (form_uses a) more ∙ ap (λ us. old ++ us) (sym is)
+
+  pub sorted_behind : (ks : List (SortKey Form)) → f ≡ form.OrderBy a ks → mid ≡ old ++ form_uses a
+      → new ≡ mid ++ flat_map (λ (k : SortKey Form). form_uses k.value) ks → new ≡ old ++ form_uses f
+  sorted_behind ks is first second = behind_two _ (ap form_uses is ∙ sorted_uses a ks) first second
+
+  pub joined_behind : (j : Joined Form) → f ≡ form.Join a j → mid ≡ old ++ form_uses a → new ≡ mid ++ join_uses j → new ≡ old ++ form_uses f
+  joined_behind j is first second = behind_two (join_uses j) (ap form_uses is ∙ joined_uses a j) first second
+
 pub ruleset types = (record_shows, group_shows, sequence_shows, row_shows, type_out, of_ty.the_lemmas, append_none)
 
-pub ruleset forms = (of_and, of_binary, of_coalesce, of_column, of_conditional, of_first, of_given, of_group, of_is_null, of_key, of_literal, of_member, of_or, of_pair, of_second, of_select_many, of_sequence, of_simple, of_slot, of_table, of_through, of_unary, record_uses, sorted_uses, joined_uses, append_none)
+pub ruleset forms = (of_and, of_binary, of_coalesce, of_column, of_conditional, of_first, of_given, of_group, of_is_null, of_key, of_literal, of_member, of_or, of_pair, of_second, of_select_many, of_sequence, of_simple, of_slot, of_table, of_through, of_unary, record_uses, sorted_uses, joined_uses, sorted_behind, joined_behind, append_none)

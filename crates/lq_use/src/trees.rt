@@ -41,8 +41,14 @@ fn add_form(form: &Form, uses: &mut Vec<Use>) -> Result<(), AllocError>
         Form::Given(_, source, argument) => add_two(source.get(), argument.get(), uses),
         Form::Through(_, _, _, source, body) => add_two(source.get(), body.get(), uses),
         Form::SelectMany(a, inner, body) => add_three(a.get(), inner.get(), body.get(), uses),
-        Form::Join(source, joined) => add_join(source.get(), joined.get(), uses),
-        Form::OrderBy(source, keys) => add_sorted(source.get(), keys.as_slice(), uses),
+        Form::Join(source, joined) => {
+            add_form(source.get(), uses)?;
+            Ok(add_joined(joined.get(), uses)?)
+        }
+        Form::OrderBy(source, keys) => {
+            add_form(source.get(), uses)?;
+            Ok(add_keys(keys.as_slice(), uses)?)
+        }
         Form::GroupBy(source, key, element) => {
             add_three(source.get(), element.get(), key.get(), uses)
         }
@@ -92,15 +98,6 @@ fn add_fields(fields: &[Field<Form>], uses: &mut Vec<Use>) -> Result<(), AllocEr
     Ok(())
 }
 
-/// What a source uses, and the keys that it is sorted by.
-#[cycle(gathering)]
-fn add_sorted(source: &Form, keys: &[SortKey<Form>], uses: &mut Vec<Use>) -> Result<(), AllocError>
-    ensures { OnOk result (uses.new.items ≡ uses.old.items ++ (form_uses source.now ++ flat_map (λ key. form_uses key.value) keys.now)) }
-{
-    add_form(source, uses)?;
-    add_keys(keys, uses)
-}
-
 /// What keys use, in order.
 #[cycle(gathering)]
 fn add_keys(keys: &[SortKey<Form>], uses: &mut Vec<Use>) -> Result<(), AllocError>
@@ -125,15 +122,6 @@ fn add_four(
 {
     add_form(first, uses)?;
     add_three(second, third, fourth, uses)
-}
-
-/// What the outer source of a join uses, and its other parts.
-#[cycle(gathering)]
-fn add_join(source: &Form, joined: &Joined<Form>, uses: &mut Vec<Use>) -> Result<(), AllocError>
-    ensures { OnOk result (uses.new.items ≡ uses.old.items ++ (form_uses source.now ++ join_uses joined.now)) }
-{
-    add_form(source, uses)?;
-    add_joined(joined, uses)
 }
 
 /// What the parts of a join use, but for its outer source.

@@ -19,12 +19,6 @@ decreases-add_three l = 8 * max (the_size l.first.now) (max (the_size l.second.n
 abbrev pub decreases-add_fields : goal.decreases-add_fields
 decreases-add_fields l = 8 * goal.size-add_fields l + 1
 
-abbrev pub decreases-add_sorted : goal.decreases-add_sorted
-decreases-add_sorted l = 8 * (goal.size-add_sorted l + the_size l.source.now) + 2
-
-abbrev pub decreases-add_join : goal.decreases-add_join
-decreases-add_join l = 8 * (goal.size-add_join l + the_size l.source.now) + 5
-
 abbrev pub decreases-add_keys : goal.decreases-add_keys
 decreases-add_keys l = 8 * goal.size-add_keys l + 1
 
