@@ -152,13 +152,6 @@ are_new_step earlier name names new = by (is_among earlier name) refl where
   by true there = absurd (let h : not true ≡ true = subst (λ (b : Bool). not b ≡ true) there new in cc)
   by false other = ap (λ (ns : List (List ℕ)). are_new ns names) (new_name earlier name other)
 
--- a name that is new is put behind the earlier ones
-pub with_new : (earlier : List (List ℕ)) (name : List ℕ) → not (is_among earlier name) ≡ true → with_name earlier name ≡ earlier ++ name ∷ []
-with_new earlier name new = by (is_among earlier name) refl where
-  by : (b : Bool) → is_among earlier name ≡ b → with_name earlier name ≡ earlier ++ name ∷ []
-  by true there = absurd (let h : not true ≡ true = subst (λ (b : Bool). not b ≡ true) there new in cc)
-  by false other = new_name earlier name other
-
 -- names behind others are new where those are, and where they are behind them
 pub are_new_behind : (earlier names more : List (List ℕ)) → are_new earlier (names ++ more) ≡ (are_new earlier names && are_new (earlier ++ names) more)
 are_new_behind earlier [] more = ap (λ (ns : List (List ℕ)). are_new ns more) (sym (append-nil earlier))

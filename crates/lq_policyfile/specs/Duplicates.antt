@@ -21,9 +21,9 @@ abbrev pub right_names : List RightEntry → List (List ℕ)
 right_names rights = map (λ right. right.name) rights
 
 -- the names of policies, grants and withholds, under which they refuse: no two have one name, whichever of the three they are
-abbrev pub rule_names : FileEntries → List (List ℕ)
-rule_names file = policy_names file.policies ++ right_names file.grants ++ right_names file.withholds
+abbrev pub names_of_rules : FileEntries → List (List ℕ)
+names_of_rules file = policy_names file.policies ++ right_names file.grants ++ right_names file.withholds
 
 -- no two roles, no two tables and no two rules have one name
 abbrev pub has_no_duplicates : FileEntries → Bool
-has_no_duplicates file = are_new [] (role_names file.roles) && are_new [] (table_names file.tables) && are_new [] (rule_names file)
+has_no_duplicates file = are_new [] (role_names file.roles) && are_new [] (table_names file.tables) && are_new [] (names_of_rules file)

@@ -1,5 +1,5 @@
 -- What the rights of a file are for: the uses that each comes to, and the rules that grant or withhold them.
-use Rattle.std.specs.Prelude.{◌∷◌, List, [], ℕ, Option, flat_map, unwrap_or}
+use Rattle.std.specs.Prelude.{◌∷◌, List, [], ℕ, flat_map, unwrap_or}
 use Rattle.lq_value.specs.Tables.{Table, first_named}
 use Rattle.lq_value.specs.declared.table.Column.{Column}
 use Rattle.lq_store.specs.Rules.{name_of}

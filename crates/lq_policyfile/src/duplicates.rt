@@ -1,6 +1,6 @@
 //! Names that stand twice.
 ghost use Rattle.std.specs.Prelude.{◌≡◌, ◌++◌, [], map, true, IfOk};
-ghost use Rattle.lq_policyfile.specs.Duplicates.{are_new, has_no_duplicates, rule_names};
+ghost use Rattle.lq_policyfile.specs.Duplicates.{are_new, has_no_duplicates, names_of_rules};
 ghost use Rattle.lq_policyfile.specs.NameSets.{with_names};
 
 use crate::entry::FileEntries;
@@ -35,7 +35,7 @@ fn are_new<T: Named>(alloc: Global, entries: &[T]) -> Result<bool, AllocError>
 /// Whether the names of policies, grants and withholds are unlike one another.
 #[tactic(auto, using(crate::proofs::NameLemmas::are_new_behind))]
 fn rules_are_new(alloc: Global, file: &FileEntries) -> Result<bool, AllocError>
-    ensures { IfOk result (λ new. new ≡ are_new [] (rule_names file.now)) }
+    ensures { IfOk result (λ new. new ≡ are_new [] (names_of_rules file.now)) }
 {
     let mut earlier = NameSet::new(alloc);
     Ok(

@@ -1,4 +1,4 @@
-use Rattle.std.proofs.Common.{◌≡◌, ◌++◌, length, map, true}
+use Rattle.std.proofs.Common.{◌≡◌, ◌++◌, length, map}
 use Rattle.lq_policyfile.specs.Duplicates.{are_new}
 use Rattle.lq_policyfile.proofs.duplicates.add_new.Given as goal
 
