@@ -1,10 +1,9 @@
 //! Files with grants and withholds over one table of employees: which are refused, and why.
 use crate::files::{refusal, store};
+use PolicyFileError::{Duplicate, RuleNotTotal, RuleType, Shape, UnknownName};
 use lq_policyfile::PolicyFileError;
 use std::alloc::{AllocError, Global};
 use std::test::Fail;
-
-use PolicyFileError::{Duplicate, RuleNotTotal, RuleType, Shape, UnknownName};
 
 /// The grant and the withhold of a file as one has them.
 const RULES: &str = r#"
@@ -87,13 +86,22 @@ const RIGHTS: &[(&str, Option<PolicyFileError>)] = &[
 const KEYS: &[(&str, Option<PolicyFileError>)] = &[
     ("name = \"n\"\nrights = []", None),
     ("name = \"n\"\nrights = []\nto = []", None),
-    ("name = \"n\"\nrights = [\"employees.id\"]\nto = [\"public\"]", None),
+    (
+        "name = \"n\"\nrights = [\"employees.id\"]\nto = [\"public\"]",
+        None,
+    ),
     (
         "name = \"n\"\nrights = [\"employees.id\", \"employees.*\", \"employees.id\"]\nto = [\"public\", \"public\"]",
         None,
     ),
-    ("name = \"n\"\nrights = []\nto = [\"nobody\"]", Some(UnknownName)),
-    ("name = \"n\"\nrights = []\nto = [\"a b\"]", Some(UnknownName)),
+    (
+        "name = \"n\"\nrights = []\nto = [\"nobody\"]",
+        Some(UnknownName),
+    ),
+    (
+        "name = \"n\"\nrights = []\nto = [\"a b\"]",
+        Some(UnknownName),
+    ),
     ("name = \"n\"\nrights = []\nto = [\"\"]", Some(UnknownName)),
     ("rights = []", Some(Shape)),
     ("name = \"n\"", Some(Shape)),
@@ -104,7 +112,10 @@ const KEYS: &[(&str, Option<PolicyFileError>)] = &[
     ("name = \"n\"\nrights = [[\"employees.id\"]]", Some(Shape)),
     ("name = \"n\"\nrights = []\nto = \"public\"", Some(Shape)),
     ("name = \"n\"\nrights = []\nto = [1]", Some(Shape)),
-    ("name = \"n\"\nrights = []\ntable = \"employees\"", Some(Shape)),
+    (
+        "name = \"n\"\nrights = []\ntable = \"employees\"",
+        Some(Shape),
+    ),
     ("name = \"n\"\nrights = []\nfor = \"all\"", Some(Shape)),
     ("name = \"\"\nrights = []", Some(Shape)),
     ("name = \"no-grant\"\nrights = []", Some(Shape)),
