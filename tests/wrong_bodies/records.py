@@ -8,6 +8,8 @@ import hashlib
 import os
 import subprocess
 
+from named import Named
+
 PARTS = ("src", "specs", "proofs")
 HERE = os.path.dirname(os.path.realpath(__file__))
 # What of this tool an answer depends on.
@@ -30,24 +32,35 @@ def logic_of_rt():
 
 
 class Record:
-    """What is on record of a crate, over the crates `below` it."""
+    """What is on record of a crate, over the crates `below` it.
+
+    An answer depends on the crate as it is, and of the crates below it on what it names of them (`named`).
+    """
 
     def __init__(self, root, name, crates, below):
         self.root, self.name, self.file = root, name, f"{root}/tests/wrong_bodies/refused/{name}"
         self.lines = [f"{it}: {' '.join(crates[it])}" for it in (*below, name)]
-        self.folders = [f"crates/{it}/{part}" for it in (*below, name) for part in PARTS]
+        self.below = below
         self.sum = self.sum_of_all()
 
+    def own_files(self, *parts):
+        """The files of these folders of the crate, by their paths, each with its bytes."""
+        at = [f"crates/{self.name}/{part}" for part in parts]
+        return {f"{folder}/{path}": text for folder in at for path, text in files_below(f"{self.root}/{folder}")}
+
     def sum_of_all(self):
-        """The checksum of the toolchain's logic, what judges here, the lines of crates.txt, the sources and the edits."""
+        """The checksum of the toolchain's logic, what judges here, the lines of crates.txt, what is named, the crate and its edits."""
         found = hashlib.sha256(logic_of_rt())
         for name in JUDGES:
             with open(f"{HERE}/{name}", "rb") as file:
                 self.add(found, name, file.read())
         self.add(found, "crates.txt", "\n".join(self.lines).encode())
-        for folder in (*self.folders, f"crates/{self.name}/wrong-bodies"):
-            for path, text in files_below(f"{self.root}/{folder}"):
-                self.add(found, f"{folder}/{path}", text)
+        own = self.own_files(*PARTS)
+        texts = {path: text.decode(errors="replace") for path, text in own.items()}
+        for path, text in Named(self.root, texts, self.below).items():
+            self.add(found, path, text.encode())
+        for path, text in {**own, **self.own_files("wrong-bodies")}.items():
+            self.add(found, path, text)
         return found.hexdigest()
 
     @staticmethod

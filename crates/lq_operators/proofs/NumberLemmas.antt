@@ -1,11 +1,26 @@
--- Sums and counts, and the best of numbers that were read in part.
-use Rattle.std.proofs.Common.{◌≡◌, ◌∷◌, ◌+◌, ◌<◌, ◌≤◌, ◌&&◌, if◌then◌else◌, List, [], ℕ, suc, ℤ, pos, negsuc, ◌+ℤ◌, Bool, true, false, Ok, Err, map, length, ap, ◌∙◌, sym, refl, arith, int_le, SFits, w32, true≢false}
+-- Sums, counts and the best of numbers, item by item.
+use Rattle.std.proofs.Common.{◌≡◌, ◌∷◌, ◌+◌, ◌<◌, ◌≤◌, ◌&&◌, if◌then◌else◌, List, [], ℕ, suc, ℤ, pos, negsuc, ◌+ℤ◌, Bool, true, false, Option, Some, None, Result, Ok, Err, map, drop, drop-cons, get_or, length, ap, ◌∙◌, sym, refl, subst, arith, int_le, SFits, w32, true≢false}
+use Rattle.std.specs.List.{cons_option}
 use Rattle.std.proofs.lemmas.Bool.{le-leb, leb-true, leb-false}
-use Rattle.lq_value.specs.declared.scalar.Scalar.TheVariants as scalar
+use Rattle.std.proofs.lemmas.List.{drop_all}
+use Rattle.lq_value.specs.declared.scalar.Scalar.{Scalar}
+use Rattle.lq_value.specs.declared.ty.Ty.{Ty}
 use Rattle.lq_value.specs.declared.value.End.{End}
+use Rattle.lq_value.specs.declared.value.Fault.{Fault}
 use Rattle.lq_value.specs.declared.value.Fault.TheVariants as fault
-use Rattle.lq_model.specs.Enumerable.{at_end, count, summed}
-use Rattle.lq_model.specs.Operations.{is_int}
+use Rattle.lq_value.specs.declared.value.Value.{Value, out-Value}
+use Rattle.lq_model.specs.Enumerable.{at_end, in_front, summed}
+use Rattle.lq_model.specs.declared.methods.Simple.{Simple}
+use Rattle.lq_model.specs.declared.methods.Simple.TheVariants as simple
+use Rattle.lq_model.specs.Meaning.{as_value}
+use Rattle.lq_model.specs.Operations.{is_int, on_ok}
+use Rattle.lq_model.specs.Stream.{Stream}
+use Rattle.lq_model.specs.WholeMeaning.{no_number, number_in, numbers, simple_meaning}
+use Rattle.lq_operators.specs.Numbers.{best_more, best_with, sum_more}
+use Rattle.lq_operators.specs.Tallies.{begins, goes_on, tallied, told}
+use Rattle.lq_operators.specs.declared.numbers.Extreme.{Extreme}
+use Rattle.lq_operators.specs.declared.numbers.Tally.{Tally}
+use Rattle.lq_operators.specs.declared.numbers.Tally.TheVariants as tally
 
 -- ---- an int holds a number exactly where its 32 bits do
 
@@ -24,50 +39,114 @@ fit_is (negsuc n) h = ap (λ b. b && true) (le-leb n 2147483647 (omega (arith, h
 -- ---- sums
 
 -- a number more, where checked arithmetic gave the sum, and where it gave none
-pub summed_on : (total n more : ℤ) (ns : List ℤ) (e : End) → SFits w32 (total +ℤ n) × (more ≡ total +ℤ n) → summed total (n ∷ ns) e ≡ summed more ns e
-summed_on total n more ns e h =
-    ap (λ (b : Bool). if b then summed (total +ℤ n) ns e else Err fault.Overflow) (fit_is (total +ℤ n) h.0) ∙ ap (λ (z : ℤ). summed z ns e) (sym h.1)
+pub sum_held : (total n more : ℤ) → SFits w32 (total +ℤ n) × (more ≡ total +ℤ n) → Ok more ≡ sum_more total n
+sum_held total n more h =
+    ap (λ m. Ok m) h.1 ∙ ap (λ (b : Bool). if b then Ok (total +ℤ n) else Err fault.Overflow) (sym (fit_is (total +ℤ n) h.0))
 
-pub summed_past : (total n : ℤ) (ns : List ℤ) (e : End) → (SFits w32 (total +ℤ n) → ⊥) → Err fault.Overflow ≡ summed total (n ∷ ns) e
-summed_past total n ns e h = by (is_int (total +ℤ n)) refl where
-  by : (b : Bool) → is_int (total +ℤ n) ≡ b → Err fault.Overflow ≡ (if b then summed (total +ℤ n) ns e else Err fault.Overflow)
+pub sum_past : (total n : ℤ) → (SFits w32 (total +ℤ n) → ⊥) → Err fault.Overflow ≡ sum_more total n
+sum_past total n h = by (is_int (total +ℤ n)) refl where
+  by : (b : Bool) → is_int (total +ℤ n) ≡ b → Err fault.Overflow ≡ (if b then Ok (total +ℤ n) else Err fault.Overflow)
   by true is = absurd (h (is_fit (total +ℤ n) is))
   by false is = refl
 
--- ---- counts
+pub ruleset sums = (sum_held, sum_past)
 
-module _ {A : Type 0} where
-  abbrev ones : List A → List ℤ
-  ones xs = map (λ x. pos 1) xs
+none_some : {A : Type 0} {x : A} → None ≡ Some x → ⊥
+none_some {A} {x} is = subst (λ (o : Option A). is_none o) is tt where
+  is_none : Option A → Type 0
+  is_none None = Unit {0}
+  is_none (Some y) = ⊥
 
-  -- so many ones, behind n of them
-  ones_within : (n : ℕ) (xs : List A) (e : End) → n + length xs ≤ 2147483647 → summed (pos n) (ones xs) e ≡ at_end e (Ok (scalar.Int (pos (n + length xs))))
-  ones_within n [] e h = let same : n ≡ n + 0 = omega arith in ap (λ (k : ℕ). at_end e (Ok (scalar.Int (pos k)))) same
-  ones_within n (x ∷ xs) e h =
-      let fits : is_int (pos (n + 1)) ≡ true = le-leb (n + 1) 2147483647 (omega arith) in
-      let same : n + 1 + length xs ≡ n + suc (length xs) = omega arith in
-      ap (λ (b : Bool). if b then summed (pos (n + 1)) (ones xs) e else Err fault.Overflow) fits
-      ∙ ones_within (n + 1) xs e (omega arith) ∙ ap (λ (k : ℕ). at_end e (Ok (scalar.Int (pos k)))) same
+some_is : {A : Type 0} {x y : A} → Some x ≡ Some y → x ≡ y
+some_is {A} {x} is = ap (λ (o : Option A). get_or_else o) is where
+  get_or_else : Option A → A
+  get_or_else None = x
+  get_or_else (Some z) = z
 
-  ones_past : (n : ℕ) (xs : List A) (e : End) → n ≤ 2147483647 → 2147483647 < n + length xs → summed (pos n) (ones xs) e ≡ Err fault.Overflow
-  ones_past n [] e within past = absurd (omega arith)
-  ones_past n (x ∷ xs) e within past = by (is_int (pos (n + 1))) refl (λ fits. ones_past (n + 1) xs e fits (omega arith)) where
-    by : (b : Bool) → is_int (pos (n + 1)) ≡ b → (n + 1 ≤ 2147483647 → summed (pos (n + 1)) (ones xs) e ≡ Err fault.Overflow)
-        → (if b then summed (pos (n + 1)) (ones xs) e else Err fault.Overflow) ≡ Err fault.Overflow
-    by true is rest = rest (leb-true (n + 1) 2147483647 is)
-    by false is rest = refl
+-- ---- tallies
 
-  pub counted : (xs : List A) (e : End) → SFits w32 (pos (length xs)) → at_end e (Ok (scalar.Int (pos (length xs)))) ≡ count xs e
-  counted xs e h =
-      let same : 0 + length xs ≡ length xs = omega arith in
-      sym (ones_within 0 xs e (omega (arith, h.sfits)) ∙ ap (λ (k : ℕ). at_end e (Ok (scalar.Int (pos k)))) same)
+summed_by : (b : Bool) (m : ℤ) (ns : List ℤ) (e : End)
+    → (if b then summed m ns e else Err fault.Overflow) ≡ on_ok (if b then Ok m else Err fault.Overflow) (λ k. summed k ns e)
+summed_by true m ns e = refl
+summed_by false m ns e = refl
 
-  pub not_counted : (xs : List A) (e : End) → (SFits w32 (pos (length xs)) → ⊥) → Err fault.Overflow ≡ count xs e
-  not_counted xs e h = by (is_int (pos (length xs))) refl where
-    by : (b : Bool) → is_int (pos (length xs)) ≡ b → Err fault.Overflow ≡ count xs e
-    by true is = absurd (h (is_fit (pos (length xs)) is))
-    by false is = sym (ones_past 0 xs e (omega arith) (omega (arith, leb-false (length xs) 2147483647 is)))
+-- a sum goes on from what it is with the next number
+summed_on : (total n : ℤ) (ns : List ℤ) (e : End) (found : Result ℤ Fault) → found ≡ sum_more total n → summed total (n ∷ ns) e ≡ on_ok found (λ m. summed m ns e)
+summed_on total n ns e found is = summed_by (is_int (total +ℤ n)) (total +ℤ n) ns e ∙ ap (λ m. on_ok m (λ k. summed k ns e)) (sym is)
 
-pub ruleset counts = (counted, not_counted)
+best_by : (which : Extreme) (none : Result Scalar Fault) (best found : Option ℤ) (ns : List ℤ)
+    → best_with which none best (cons_option found ns) ≡ best_with which none (best_more which best found) ns
+best_by which none None None ns = refl
+best_by which none None (Some n) ns = refl
+best_by which none (Some m) None ns = refl
+best_by which none (Some m) (Some n) ns = refl
 
-pub ruleset sums = (summed_on, summed_past)
+told_is : (R : Type 0) (t : Ty) (k : Tally) (e : End) → told t k e ≡ tallied {R = R} t k ([], e)
+told_is R t (tally.Count n) e = refl
+told_is R t (tally.Sum n) e = refl
+told_is R t (tally.Best which best) e = refl
+
+module _ {R : Type 0} where
+  numbers_on : (x : Value R) (xs : List (Value R)) (found : Option ℤ) → found ≡ number_in (out-Value R x) → numbers (x ∷ xs) ≡ cons_option found (numbers xs)
+  numbers_on x xs found is = ap (λ o. cons_option o (numbers xs)) (sym is)
+
+  pub counts_on : (n more : ℤ) (x : Value R) → Ok more ≡ sum_more n (pos 1) → (t : Ty) (s : Stream (Value R))
+      → tallied t (tally.Count n) (in_front x s) ≡ goes_on t (Ok (tally.Count more)) s
+  counts_on n more x is t s = summed_on n (pos 1) (map (λ y. pos 1) s.0) s.1 (Ok more) is
+
+  pub counts_past : (n : ℤ) (f : Fault) (x : Value R) → Err f ≡ sum_more n (pos 1) → (t : Ty) (s : Stream (Value R))
+      → tallied t (tally.Count n) (in_front x s) ≡ goes_on t (Err f) s
+  counts_past n f x is t s = summed_on n (pos 1) (map (λ y. pos 1) s.0) s.1 (Err f) is
+
+  pub sums_on : (total more n : ℤ) (x : Value R) → Some n ≡ number_in (out-Value R x) → Ok more ≡ sum_more total n → (t : Ty) (s : Stream (Value R))
+      → tallied t (tally.Sum total) (in_front x s) ≡ goes_on t (Ok (tally.Sum more)) s
+  sums_on total more n x number is t s =
+      ap (λ ns. summed total ns s.1) (numbers_on x s.0 (Some n) number) ∙ summed_on total n (numbers s.0) s.1 (Ok more) is
+
+  pub sums_past : (total n : ℤ) (f : Fault) (x : Value R) → Some n ≡ number_in (out-Value R x) → Err f ≡ sum_more total n → (t : Ty) (s : Stream (Value R))
+      → tallied t (tally.Sum total) (in_front x s) ≡ goes_on t (Err f) s
+  sums_past total n f x number is t s =
+      ap (λ ns. summed total ns s.1) (numbers_on x s.0 (Some n) number) ∙ summed_on total n (numbers s.0) s.1 (Err f) is
+
+  pub sums_stay : (total : ℤ) (x : Value R) → None ≡ number_in (out-Value R x) → (t : Ty) (s : Stream (Value R))
+      → tallied t (tally.Sum total) (in_front x s) ≡ goes_on t (Ok (tally.Sum total)) s
+  sums_stay total x none t s = ap (λ ns. summed total ns s.1) (numbers_on x s.0 None none)
+
+  pub bests_on : (which : Extreme) (best more found : Option ℤ) (x : Value R) → found ≡ number_in (out-Value R x) → more ≡ best_more which best found
+      → (t : Ty) (s : Stream (Value R)) → tallied t (tally.Best which best) (in_front x s) ≡ goes_on t (Ok (tally.Best which more)) s
+  bests_on which best more found x number is t s =
+      ap (λ ns. at_end s.1 (best_with which (no_number t) best ns)) (numbers_on x s.0 found number)
+      ∙ ap (at_end s.1) (best_by which (no_number t) best found (numbers s.0))
+      ∙ ap (λ b. at_end s.1 (best_with which (no_number t) b (numbers s.0))) (sym is)
+
+  -- one item more, and all of them
+  pub tallied_next : (t : Ty) (k : Tally) (found : Result Tally Fault) (x : Value R) (items : List (Value R)) (i : ℕ) (e : End) (all : Result Scalar Fault)
+      → x ≡ get_or items i x → i < length items → ((u : Ty) (s : Stream (Value R)) → tallied u k (in_front x s) ≡ goes_on u found s)
+      → tallied t k (drop i items, e) ≡ all → goes_on t found (drop (i + 1) items, e) ≡ all
+  tallied_next t k found x items i e all is below steps goes =
+      let next : suc i ≡ i + 1 = omega arith in
+      ap (λ n. goes_on t found (drop n items, e)) (sym next) ∙ sym (steps t (drop (suc i) items, e))
+      ∙ ap (λ y. tallied t k (y ∷ drop (suc i) items, e)) is ∙ ap (λ l. tallied t k (l, e)) (sym (drop-cons items i x below)) ∙ goes
+
+  pub tallied_whole : (t : Ty) (k : Tally) (items : List (Value R)) (i : ℕ) (e : End) (answer all : Result Scalar Fault) → length items ≤ i
+      → answer ≡ told t k e → tallied t k (drop i items, e) ≡ all → answer ≡ all
+  tallied_whole t k items i e answer all over is goes = is ∙ told_is R t k e ∙ ap (λ l. tallied t k (l, e)) (sym (drop_all i items over)) ∙ goes
+
+  -- a method's answer is its tally's
+  pub begun : (method : Simple) (tally : Tally) → begins method ≡ Some tally → (t : Ty) (s : Stream (Value R))
+      → simple_meaning method t s ≡ as_value (tallied t tally s)
+  begun simple.Count tally is t s = ap (λ k. as_value (tallied t k s)) (some_is is)
+  begun simple.Sum tally is t s = ap (λ k. as_value (tallied t k s)) (some_is is)
+  begun simple.Min tally is t s = ap (λ k. as_value (tallied t k s)) (some_is is)
+  begun simple.Max tally is t s = ap (λ k. as_value (tallied t k s)) (some_is is)
+  begun simple.Distinct tally is t s = absurd (none_some is)
+  begun simple.Reverse tally is t s = absurd (none_some is)
+  begun simple.DefaultIfEmpty tally is t s = absurd (none_some is)
+  begun simple.Any tally is t s = absurd (none_some is)
+  begun simple.First tally is t s = absurd (none_some is)
+  begun simple.FirstOrDefault tally is t s = absurd (none_some is)
+  begun simple.Last tally is t s = absurd (none_some is)
+  begun simple.Single tally is t s = absurd (none_some is)
+  begun simple.SingleOrDefault tally is t s = absurd (none_some is)
+
+pub ruleset steps = (counts_on, counts_past, sums_on, sums_past, sums_stay, bests_on)

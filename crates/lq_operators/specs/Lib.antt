@@ -4,3 +4,4 @@ pub mod Matching
 pub mod Moves
 pub mod Numbers
 pub mod Places
+pub mod Tallies

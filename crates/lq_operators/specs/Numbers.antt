@@ -1,9 +1,11 @@
 -- The least and the greatest of numbers, under one name.
-use Rattle.std.specs.Prelude.{List, ℤ, Result, Option, Some, None, Ok, fold}
+use Rattle.std.specs.Prelude.{List, ℤ, ◌+ℤ◌, if◌then◌else◌, Result, Option, Some, None, Ok, Err, fold}
 use Rattle.lq_value.specs.declared.scalar.Scalar.{Scalar}
 use Rattle.lq_value.specs.declared.scalar.Scalar.TheVariants as scalar
 use Rattle.lq_value.specs.declared.value.Fault.{Fault}
+use Rattle.lq_value.specs.declared.value.Fault.TheVariants as fault
 use Rattle.lq_model.specs.Enumerable.{extreme, greater, lesser}
+use Rattle.lq_model.specs.Operations.{is_int}
 use Rattle.lq_operators.specs.declared.numbers.Extreme.{Extreme}
 use Rattle.lq_operators.specs.declared.numbers.Extreme.TheVariants.{Least, Greatest}
 
@@ -19,3 +21,13 @@ best_of which none ns = extreme (chosen which) none ns
 abbrev pub best_with : Extreme → Result Scalar Fault → Option ℤ → List ℤ → Result Scalar Fault
 best_with which none None ns = best_of which none ns
 best_with which none (Some n) ns = Ok (scalar.Int (fold (chosen which) n ns))
+
+-- the best of numbers with one more, where there is one
+abbrev pub best_more : Extreme → Option ℤ → Option ℤ → Option ℤ
+best_more which best None = best
+best_more which None (Some n) = Some n
+best_more which (Some m) (Some n) = Some (chosen which m n)
+
+-- a sum that an int holds, or an overflow
+abbrev pub sum_more : ℤ → ℤ → Result ℤ Fault
+sum_more total n = if is_int (total +ℤ n) then Ok (total +ℤ n) else Err fault.Overflow

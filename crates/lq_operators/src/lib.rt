@@ -23,5 +23,6 @@ pub use error::RunError;
 pub use given_methods::given;
 pub use groups::grouped;
 pub use matches::Matches;
+pub use numbers::{Extreme, Tally};
 pub use order::sorted;
 pub use simple_methods::simple;

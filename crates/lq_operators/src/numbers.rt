@@ -1,29 +1,37 @@
-//! Numbers of a sequence: how many items, the sum, the least and the greatest.
-ghost use Rattle.std.specs.Prelude.{◌≡◌, pos};
-ghost use Rattle.lq_value.specs.declared.value.Value.{out-Value};
-ghost use Rattle.lq_model.specs.Enumerable.{at_end, count, summed};
-ghost use Rattle.lq_model.specs.WholeMeaning.{number_in, numbers};
-ghost use Rattle.lq_operators.specs.Numbers.{best_of, chosen};
+//! Numbers of a sequence: how many items, the sum, the least and the greatest, item by item.
+ghost use Rattle.std.specs.Prelude.{◌≡◌};
+ghost use Rattle.lq_value.specs.declared.ty.Ty.{Ty};
+ghost use Rattle.lq_value.specs.declared.value.Value.{Value, out-Value};
+ghost use Rattle.lq_model.specs.Enumerable.{in_front};
+ghost use Rattle.lq_model.specs.Stream.{Stream};
+ghost use Rattle.lq_model.specs.WholeMeaning.{number_in};
+ghost use Rattle.lq_operators.specs.Numbers.{best_more, chosen, sum_more};
+ghost use Rattle.lq_operators.specs.Tallies.{begins, goes_on, tallied, told};
 
+use crate::defaults::no_number;
 use crate::ending::at_end;
-use lq_value::{End, Fault, List, RowRef, Scalar, Value};
+use lq_model::Simple;
+use lq_value::{End, Fault, RowRef, Scalar, Ty, Value};
 
-// Which of two numbers is looked for.
+/// Which of two numbers is looked for.
 #[derive(Clone, Copy)]
-pub(crate) enum Extreme {
+pub enum Extreme {
+    /// The lesser one.
     Least,
+    /// The greater one.
     Greatest,
 }
 
-// How many items there are; more than an int holds are an overflow.
-#[tactic(auto, using(crate::proofs::NumberLemmas::counts))]
-pub(crate) fn count<T: Drop>(items: List<T>, end: End) -> Result<Scalar, Fault>
-    ensures { result ≡ count items end }
-{
-    match i32::try_from(items.len()) {
-        Ok(number) => at_end(end, Ok(Scalar::Int(number))),
-        Err(_) => Err(Fault::Overflow),
-    }
+/// What a method that makes a number of its items has of those that it read (.NET,
+/// Enumerable.Count, Sum, Min and Max).
+#[derive(Clone, Copy)]
+pub enum Tally {
+    /// So many items.
+    Count(i32),
+    /// Numbers of this sum.
+    Sum(i32),
+    /// Numbers the best of which is this one; none where no number was read.
+    Best(Extreme, Option<i32>),
 }
 
 // The number that an item is; null is none.
@@ -41,23 +49,6 @@ fn number_in<R: RowRef>(item: &Value<R>) -> Option<i32>
     }
 }
 
-// The sum of the numbers, which may leave int at an item, before the ending.
-#[tactic(auto, using(crate::proofs::NumberLemmas::sums))]
-pub(crate) fn sum<R: RowRef>(items: &[Value<R>], end: End) -> Result<Scalar, Fault>
-    ensures { result ≡ summed (pos 0) (numbers items.now) end }
-{
-    let mut total: i32 = 0;
-    for item in items {
-        if let Some(number) = number_in(item) {
-            match total.checked_add(number) {
-                Some(more) => total = more,
-                None => return Err(Fault::Overflow),
-            }
-        }
-    }
-    at_end(end, Ok(Scalar::Int(total)))
-}
-
 // The number itself, or the one that was there.
 fn chosen(extreme: Extreme, best: i32, number: i32) -> i32
     ensures { result ≡ chosen extreme best number }
@@ -70,26 +61,85 @@ fn chosen(extreme: Extreme, best: i32, number: i32) -> i32
     }
 }
 
-// The least or the greatest of the numbers; `none` is the answer where there is none.
-pub(crate) fn best_of<R: RowRef>(
-    extreme: Extreme,
-    none: Result<Scalar, Fault>,
+// The best of the numbers, with one more.
+fn best_more(extreme: Extreme, best: Option<i32>, number: Option<i32>) -> Option<i32>
+    ensures { result ≡ best_more extreme best number }
+{
+    match (best, number) {
+        (Some(best), Some(number)) => Some(chosen(extreme, best, number)),
+        (None, Some(number)) => Some(number),
+        (best, None) => best,
+    }
+}
+
+// The sum of two numbers; past what an int holds it is an overflow.
+#[tactic(auto, using(crate::proofs::NumberLemmas::sums))]
+fn sum_more(total: i32, number: i32) -> Result<i32, Fault>
+    ensures { result ≡ sum_more total number }
+{
+    match total.checked_add(number) {
+        Some(sum) => Ok(sum),
+        None => Err(Fault::Overflow),
+    }
+}
+
+impl Tally {
+    /// The tally that a method begins with; none where it makes no number of its items.
+    pub fn of(method: Simple) -> Option<Tally>
+        ensures { result ≡ begins method }
+    {
+        match method {
+            Simple::Count => Some(Tally::Count(0)),
+            Simple::Sum => Some(Tally::Sum(0)),
+            Simple::Min => Some(Tally::Best(Extreme::Least, None)),
+            Simple::Max => Some(Tally::Best(Extreme::Greatest, None)),
+            _ => None,
+        }
+    }
+
+    /// The tally with one item more. A count or a sum past what an int holds is an overflow, at
+    /// that item.
+    #[tactic(auto, using(crate::proofs::NumberLemmas::steps))]
+    pub fn with<R: RowRef>(self, item: &Value<R>) -> Result<Tally, Fault>
+        ensures { (t : Ty) (s : Stream (Value R)) → tallied t self (in_front item.now s) ≡ goes_on t result s }
+    {
+        match self {
+            Tally::Count(count) => Ok(Tally::Count(sum_more(count, 1)?)),
+            Tally::Sum(total) => match number_in(item) {
+                Some(number) => Ok(Tally::Sum(sum_more(total, number)?)),
+                None => Ok(Tally::Sum(total)),
+            },
+            Tally::Best(extreme, best) => {
+                Ok(Tally::Best(extreme, best_more(extreme, best, number_in(item))))
+            }
+        }
+    }
+
+    /// What the method answers on items of this type, where they end so.
+    pub fn told(self, ty: &Ty, end: End) -> Result<Scalar, Fault>
+        ensures { result ≡ told ty.now self end }
+    {
+        match self {
+            Tally::Count(number) => at_end(end, Ok(Scalar::Int(number))),
+            Tally::Sum(number) => at_end(end, Ok(Scalar::Int(number))),
+            Tally::Best(_, Some(number)) => at_end(end, Ok(Scalar::Int(number))),
+            Tally::Best(_, None) => at_end(end, no_number(ty)),
+        }
+    }
+}
+
+// What a tally comes to over these items.
+pub(crate) fn tallied<R: RowRef>(
+    tally: Tally,
+    ty: &Ty,
     items: &[Value<R>],
     end: End,
 ) -> Result<Scalar, Fault>
-    ensures { result ≡ at_end end (best_of extreme none (numbers items.now)) }
+    ensures { result ≡ tallied ty.now tally (items.now, end) }
 {
-    let mut best: Option<i32> = None;
+    let mut tally = tally;
     for item in items {
-        if let Some(number) = number_in(item) {
-            best = match best {
-                Some(other) => Some(chosen(extreme, other, number)),
-                None => Some(number),
-            };
-        }
+        tally = tally.with(item)?;
     }
-    match best {
-        Some(number) => at_end(end, Ok(Scalar::Int(number))),
-        None => at_end(end, none),
-    }
+    tally.told(ty, end)
 }

@@ -1,12 +1,14 @@
 //! Methods without an argument.
 ghost use Rattle.lq_model.specs.WholeMeaning.{simple_meaning};
+ghost use Rattle.lq_model.specs.Meaning.{as_value};
 ghost use Rattle.lq_operators.specs.Answers.{IsAnswer};
+ghost use Rattle.lq_operators.specs.Tallies.{tallied};
 
-use crate::defaults::{default_of, no_number};
+use crate::defaults::default_of;
 use crate::error::RunError;
 use crate::firsts::distinct;
 use crate::items::{any, first, last, single};
-use crate::numbers::{Extreme, best_of, count, sum};
+use crate::numbers::{Extreme, Tally, tallied};
 use crate::sequences::{default_if_empty, reversed, sequence};
 use lq_model::Simple;
 use lq_value::{End, Fault, List, RowRef, Scalar, Ty, Value};
@@ -28,24 +30,31 @@ pub fn simple<R: RowRef>(
         Simple::Reverse => Ok(sequence(reversed(alloc, items, end))),
         Simple::DefaultIfEmpty => Ok(sequence(default_if_empty(default_of(ty), items, end)?)),
         Simple::Any => Ok(Value::Scalar(Scalar::Bool(any(items, end)?))),
-        Simple::Count => Ok(Value::Scalar(count(items, end)?)),
+        Simple::Count => number(Tally::Count(0), ty, items.as_slice(), end),
         Simple::First => Ok(first(Err(Fault::InvalidOperation), items, end)?),
         Simple::FirstOrDefault => Ok(first(Ok(default_of(ty)), items, end)?),
         Simple::Last => Ok(last(Err(Fault::InvalidOperation), items, end)?),
         Simple::Single => Ok(single(Err(Fault::InvalidOperation), items, end)?),
         Simple::SingleOrDefault => Ok(single(Ok(default_of(ty)), items, end)?),
-        Simple::Sum => Ok(Value::Scalar(sum(items.as_slice(), end)?)),
-        Simple::Min => Ok(Value::Scalar(best_of(
-            Extreme::Least,
-            no_number(ty),
+        Simple::Sum => number(Tally::Sum(0), ty, items.as_slice(), end),
+        Simple::Min => number(Tally::Best(Extreme::Least, None), ty, items.as_slice(), end),
+        Simple::Max => number(
+            Tally::Best(Extreme::Greatest, None),
+            ty,
             items.as_slice(),
             end,
-        )?)),
-        Simple::Max => Ok(Value::Scalar(best_of(
-            Extreme::Greatest,
-            no_number(ty),
-            items.as_slice(),
-            end,
-        )?)),
+        ),
     }
+}
+
+// The number that a tally comes to over the items.
+fn number<R: RowRef>(
+    tally: Tally,
+    ty: &Ty,
+    items: &[Value<R>],
+    end: End,
+) -> Result<Value<R>, RunError>
+    ensures { IsAnswer (as_value (tallied ty.now tally (items.now, end))) result }
+{
+    Ok(Value::Scalar(tallied(tally, ty, items, end)?))
 }

@@ -12,6 +12,8 @@ use Rattle.lq_tree.specs.declared.tree.Form.{Form}
 use Rattle.lq_tree.specs.declared.tree.Joined.{Joined}
 use Rattle.lq_tree.specs.declared.tree.Form.TheVariants as form
 use Rattle.lq_pipe.specs.Items.{expanded_of, groups_in, joined_of, keyed_of, with_key_of}
+use Rattle.lq_pipe.specs.Pulling.{pulled}
+use Rattle.lq_pipe.specs.declared.stages.Stage.TheVariants as stage
 use Rattle.lq_pipe.proofs.Forms.{form_group_by, form_join, form_select_many}
 
 module _ {R : Type 0} (world : World R) (S : Slots R) (x : Value R) (D : Slots R) where
@@ -30,6 +32,13 @@ module _ {R : Type 0} (world : World R) (S : Slots R) (x : Value R) (D : Slots R
       (ap (λ l. select_by (λ w. form_meaning world result (with_item world D w)) l e) same
       ∙ ap (λ (d : Slots R). select_by (λ w. form_meaning world result (with_item world d w)) vs e) slots ∙ two_slots result vs e
       ∙ ap (made (λ w. form_meaning world result (with_items world S x w))) (is ∙ ap (λ (d : Slots R). stream_of world (form_meaning world inner d)) slots)) h
+
+  -- and so are those that are pulled with the item in its slot
+  pub expanded_pulled : (inner result : Form) (E : Type 0) (answer : Result (Stream (Value R)) E) → D ≡ S ++ x ∷ []
+      → IfOk answer (λ s. s ≡ pulled world D stage.Select inner result) → IfOk answer (λ s. s ≡ expanded_of world S inner result x)
+  expanded_pulled inner result E answer slots h =
+      let all = stream_of world (form_meaning world inner D) in
+      expanded_is inner result all.0 all.0 all.1 E answer slots refl refl h
 
   pub matched_is : (result : Form) (vs : List (Value R)) (E : Type 0) (answer : Result (Stream (Value R)) E) → D ≡ S ++ x ∷ []
       → IfOk answer (λ s. s ≡ select_by (λ w. form_meaning world result (with_item world D w)) vs end.Done)

@@ -1,6 +1,10 @@
 pub mod ArrangementLemmas
+pub mod CellLemmas
+pub mod CountLemmas
 pub mod Forms
 pub mod ItemLemmas
 pub mod PartLemmas
+pub mod PullLemmas
 pub mod SlotLemmas
 pub mod StreamLemmas
+pub mod TruthLemmas

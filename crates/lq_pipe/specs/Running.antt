@@ -3,8 +3,9 @@ use Rattle.std.specs.Prelude.{◌≡◌, Bool, Result, Ok, Err}
 use Rattle.lq_value.specs.declared.scalar.Scalar.{Scalar}
 use Rattle.lq_value.specs.declared.value.Fault.{Fault}
 use Rattle.lq_value.specs.declared.value.Value.{Value, out-Value}
-use Rattle.lq_model.specs.Meaning.{World, scalar_of}
+use Rattle.lq_model.specs.Meaning.{World, scalar_of, stream_of}
 use Rattle.lq_model.specs.Operations.{on_ok, truth_of}
+use Rattle.lq_model.specs.Stream.{Stream}
 use Rattle.lq_operators.specs.declared.error.RunError.{RunError}
 use Rattle.lq_operators.specs.declared.error.RunError.TheVariants as error
 use Rattle.lq_tree.specs.FormMeaning.{form_meaning, is_true, with_item}
@@ -35,6 +36,10 @@ module _ {R : Type 0} (world : World R) where
   -- the value of a form, or its first fault
   abbrev pub meant : Form → Slots R → Result (Value R) Fault
   meant form slots = form_meaning world form (values_in slots)
+
+  -- the items that it is enumerated as, and how they end
+  abbrev pub items_meant : Form → Slots R → Stream (Value R)
+  items_meant form slots = stream_of world (meant form slots)
 
   -- the scalar that a value is
   abbrev pub scalar_in : Result (Value R) Fault → Result Scalar Fault

@@ -1,11 +1,13 @@
 -- What a tree reads: the schemas and rows of the tables that it is given, and the cells of rows by the names of their columns.
-use Rattle.std.specs.Prelude.{List, map, ℕ, slice_get}
+use Rattle.std.specs.Prelude.{◌≡◌, List, map, ℕ, true, slice_get}
 use Rattle.lq_value.specs.declared.scalar.Scalar.{Scalar}
 use Rattle.lq_value.specs.declared.table.Schema.{Schema}
 use Rattle.lq_value.specs.declared.value.Fault.TheVariants as fault
 use Rattle.lq_model.specs.Meaning.{World}
+use Rattle.lq_model.specs.MeaningLaws.{Every}
 use Rattle.lq_model.specs.Served.{columns_in}
 use Rattle.lq_model.specs.Visible.{cell_named}
+use Rattle.lq_model.specs.WholeTyping.{are_distinct}
 use Rattle.lq_pipe.specs.declared.tables.TableRows.{TableRows}
 
 module _ {R : Type 0} where
@@ -24,3 +26,7 @@ module _ {R : Type 0} where
         cell = λ r. cell_named (columns_in (slice_get (schemas_in tables) (table_of r))) (shown r);
         unknown = fault.NullReference;
       }
+
+-- no two columns of a table have the same name, so that a name stands for one column
+abbrev pub HaveDistinctColumns : List Schema → Type 0
+HaveDistinctColumns schemas = Every (λ schema. are_distinct (map (λ column. column.name) schema.columns) ≡ true) schemas

@@ -1,12 +1,14 @@
 //! The running of what several sequences or keys take part in.
+use crate::bases::Base;
 use crate::running::Running;
 use crate::slots::Slots;
+use crate::stages::{Stage, Step};
 use crate::tables::TableRow;
 use crate::{arrangements, sequences};
 use lq_model::SortKey;
 use lq_operators::{Matches, RunError};
 use lq_tree::{Form, Joined};
-use lq_value::{End, Fault, List, Scalar, Value, copy};
+use lq_value::{End, Fault, List, Scalar, Value};
 use std::alloc::AllocError;
 
 impl<'a, R: TableRow> Running<'a, R> {
@@ -21,8 +23,10 @@ impl<'a, R: TableRow> Running<'a, R> {
     ghost use Rattle.lq_tree.specs.FormMeaning.{form_meaning, with_items};
     ghost use Rattle.lq_tree.specs.declared.tree.Form.TheVariants as form;
     ghost use Rattle.lq_pipe.specs.Arrangements.{columns_of, key_at, sorted_by};
-    ghost use Rattle.lq_pipe.specs.Running.{Answers, meant};
+    ghost use Rattle.lq_pipe.specs.Running.{Answers, items_meant, meant};
+    ghost use Rattle.lq_pipe.specs.Pulling.{StepsTo, left};
     ghost use Rattle.lq_pipe.specs.Slots.{values_in};
+    ghost use Rattle.lq_pipe.specs.declared.stages.Stage.TheVariants as stage;
     ghost use Rattle.lq_pipe.specs.Worlds.{world_of};
 
     /// What comes of each item and of each item of what it leads to.
@@ -37,8 +41,7 @@ impl<'a, R: TableRow> Running<'a, R> {
     ) -> Result<Value<R>, RunError>
         ensures { IsAnswer (meant (world_of R.table_of R.shown self.now.tables.now) (form.SelectMany source.now inner.now body.now) slots.now) result }
     {
-        let (items, end) = self.stream(source, slots)?;
-        let (values, end) = self.expanded(inner, body, items.as_slice(), end, slots)?;
+        let (values, end) = self.expanded(source, inner, body, slots)?;
         Ok(Value::Seq(values, end))
     }
 
@@ -54,32 +57,35 @@ impl<'a, R: TableRow> Running<'a, R> {
         ensures { IfOk result (λ s. s ≡ expanded_of (world_of R.table_of R.shown self.now.tables.now) (values_in slots.now) inner.now body.now item.now) }
     {
         let deeper = (&*slots).with(&*item);
-        let (values, end) = self.stream(inner, &deeper)?;
-        self.selected(body, values.as_slice(), end, &deeper)
+        self.drained(Stage::Select, inner, body, &deeper)
     }
 
-    /// The same of each item, up to the first fault.
+    /// The same of each item of a source, up to the first fault.
     #[cycle(running)]
     fn expanded(
         &self,
+        source: &Form,
         inner: &Form,
         body: &Form,
-        items: &[Value<R>],
-        end: End,
         slots: &Slots<'_, R>,
     ) -> Result<(List<Value<R>>, End), AllocError>
-        ensures { IfOk result (λ s. s ≡ each (expanded_of (world_of R.table_of R.shown self.now.tables.now) (values_in slots.now) inner.now body.now) items.now end) }
+        ensures { IfOk result (λ s. s ≡ each (expanded_of (world_of R.table_of R.shown self.now.tables.now) (values_in slots.now) inner.now body.now)
+            (items_meant (world_of R.table_of R.shown self.now.tables.now) source.now slots.now).0 (items_meant (world_of R.table_of R.shown self.now.tables.now) source.now slots.now).1) }
     {
+        let mut base = self.open(source, slots)?;
         let mut made = List::new(self.alloc);
-        for item in items {
-            let (values, ending) = self.expanded_item(inner, body, item, slots)?;
-            let joined = sequences::joined(made, values)?;
-            match ending {
-                End::Done => made = joined,
-                End::Fault(fault) => return Ok((joined, End::Fault(fault))),
+        loop {
+            match self.next(Stage::Plain, source, source, &mut base, slots)? {
+                Step::Item(item) => {
+                    let (values, ending) = self.expanded_item(inner, body, &item, slots)?;
+                    made = sequences::joined(made, values)?;
+                    if let End::Fault(fault) = ending {
+                        return Ok((made, End::Fault(fault)));
+                    }
+                }
+                Step::End(end) => return Ok((made, end)),
             }
         }
-        Ok((made, end))
     }
 
     /// The items grouped by a key.
@@ -94,8 +100,7 @@ impl<'a, R: TableRow> Running<'a, R> {
     ) -> Result<Value<R>, RunError>
         ensures { IsAnswer (meant (world_of R.table_of R.shown self.now.tables.now) (form.GroupBy source.now key.now element.now) slots.now) result }
     {
-        let (items, end) = self.stream(source, slots)?;
-        let (pairs, end) = self.keyed(key, element, items.as_slice(), end, slots)?;
+        let (pairs, end) = self.keyed(source, key, element, slots)?;
         Ok(sequences::groups(self.alloc, pairs, end)?)
     }
 
@@ -119,26 +124,51 @@ impl<'a, R: TableRow> Running<'a, R> {
         }
     }
 
-    /// The keys of items with their elements, up to the first fault.
+    /// The key of the next item of a source, and its element; or how they end.
     #[cycle(running)]
-    fn keyed(
+    #[tactic(auto, using(crate::proofs::PullLemmas::selects))]
+    fn next_keyed(
         &self,
+        source: &Form,
         key: &Form,
         element: &Form,
-        items: &[Value<R>],
-        end: End,
+        base: &mut Base<'a, R>,
+        slots: &Slots<'_, R>,
+    ) -> Result<Result<(Value<R>, Value<R>), End>, AllocError>
+        ensures { IfOk result (λ found. StepsTo
+            (select_by (keyed_of (world_of R.table_of R.shown self.now.tables.now) (values_in slots.now) key.now element.now) (left (world_of R.table_of R.shown self.now.tables.now) (values_in slots.now) stage.Plain source.now source.now base.old).0 (left (world_of R.table_of R.shown self.now.tables.now) (values_in slots.now) stage.Plain source.now source.now base.old).1) found
+            (select_by (keyed_of (world_of R.table_of R.shown self.now.tables.now) (values_in slots.now) key.now element.now) (left (world_of R.table_of R.shown self.now.tables.now) (values_in slots.now) stage.Plain source.now source.now base.new).0 (left (world_of R.table_of R.shown self.now.tables.now) (values_in slots.now) stage.Plain source.now source.now base.new).1)) }
+    {
+        match self.next(Stage::Plain, source, source, base, slots)? {
+            Step::Item(item) => match self.keyed_item(key, element, &item, slots)? {
+                Ok(pair) => Ok(Ok(pair)),
+                Err(fault) => Ok(Err(End::Fault(fault))),
+            },
+            Step::End(end) => Ok(Err(end)),
+        }
+    }
+
+    /// The keys of the items of a source with their elements, up to the first fault.
+    #[cycle(running)]
+    #[tactic(auto, using(crate::proofs::PullLemmas::keeps))]
+    fn keyed(
+        &self,
+        source: &Form,
+        key: &Form,
+        element: &Form,
         slots: &Slots<'_, R>,
     ) -> Result<(List<(Value<R>, Value<R>)>, End), AllocError>
-        ensures { IfOk result (λ s. s ≡ select_by (keyed_of (world_of R.table_of R.shown self.now.tables.now) (values_in slots.now) key.now element.now) items.now end) }
+        ensures { IfOk result (λ s. s ≡ select_by (keyed_of (world_of R.table_of R.shown self.now.tables.now) (values_in slots.now) key.now element.now)
+            (items_meant (world_of R.table_of R.shown self.now.tables.now) source.now slots.now).0 (items_meant (world_of R.table_of R.shown self.now.tables.now) source.now slots.now).1) }
     {
+        let mut base = self.open(source, slots)?;
         let mut made = List::new(self.alloc);
-        for item in items {
-            match self.keyed_item(key, element, item, slots)? {
+        loop {
+            match self.next_keyed(source, key, element, &mut base, slots)? {
                 Ok(pair) => made.push(pair)?,
-                Err(fault) => return Ok((made, End::Fault(fault))),
+                Err(end) => return Ok((made, end)),
             }
         }
-        Ok((made, end))
     }
 
     /// A join: the inner items and their keys are read first, and then the outer ones one by one.
@@ -152,18 +182,11 @@ impl<'a, R: TableRow> Running<'a, R> {
     ) -> Result<Value<R>, RunError>
         ensures { IsAnswer (meant (world_of R.table_of R.shown self.now.tables.now) (form.Join source.now joined.now) slots.now) result }
     {
-        let (items, end) = self.stream(source, slots)?;
-        let (inner, inner_end) = self.stream(&joined.inner, slots)?;
-        let (pairs, pairs_end) = self.with_keys(
-            &joined.inner_key,
-            inner.as_slice(),
-            inner_end,
-            slots,
-        )?;
+        let (pairs, pairs_end) = self.with_keys(&joined.inner, &joined.inner_key, slots)?;
         match pairs_end {
             End::Done => {
                 let matches = Matches::build(self.alloc, pairs)?;
-                let (values, end) = self.joined(joined, &matches, items.as_slice(), end, slots)?;
+                let (values, end) = self.joined(joined, &matches, source, slots)?;
                 Ok(Value::Seq(values, end))
             }
             End::Fault(fault) => Ok(sequences::stopped(self.alloc, fault)),
@@ -175,36 +198,60 @@ impl<'a, R: TableRow> Running<'a, R> {
     fn with_key(
         &self,
         key: &Form,
-        item: &Value<R>,
+        item: Value<R>,
         slots: &Slots<'_, R>,
     ) -> Result<Result<(Value<R>, Value<R>), Fault>, AllocError>
-        ensures { IfOk result (λ found. found ≡ with_key_of (world_of R.table_of R.shown self.now.tables.now) (values_in slots.now) key.now item.now) }
+        ensures { IfOk result (λ found. found ≡ with_key_of (world_of R.table_of R.shown self.now.tables.now) (values_in slots.now) key.now item) }
     {
-        match self.of_item(key, item, slots)? {
-            Ok(key) => Ok(Ok((key, copy(self.alloc, item)?))),
+        match self.of_item(key, &item, slots)? {
+            Ok(key) => Ok(Ok((key, item))),
             Err(fault) => Ok(Err(fault)),
         }
     }
 
-    /// Inner items with their keys, up to the first fault.
+    /// The next item of an inner source with its key, or how they end.
     #[cycle(running)]
+    #[tactic(auto, using(crate::proofs::PullLemmas::selects))]
+    fn next_with_key(
+        &self,
+        source: &Form,
+        key: &Form,
+        base: &mut Base<'a, R>,
+        slots: &Slots<'_, R>,
+    ) -> Result<Result<(Value<R>, Value<R>), End>, AllocError>
+        ensures { IfOk result (λ found. StepsTo
+            (select_by (with_key_of (world_of R.table_of R.shown self.now.tables.now) (values_in slots.now) key.now) (left (world_of R.table_of R.shown self.now.tables.now) (values_in slots.now) stage.Plain source.now source.now base.old).0 (left (world_of R.table_of R.shown self.now.tables.now) (values_in slots.now) stage.Plain source.now source.now base.old).1) found
+            (select_by (with_key_of (world_of R.table_of R.shown self.now.tables.now) (values_in slots.now) key.now) (left (world_of R.table_of R.shown self.now.tables.now) (values_in slots.now) stage.Plain source.now source.now base.new).0 (left (world_of R.table_of R.shown self.now.tables.now) (values_in slots.now) stage.Plain source.now source.now base.new).1)) }
+    {
+        match self.next(Stage::Plain, source, source, base, slots)? {
+            Step::Item(item) => match self.with_key(key, item, slots)? {
+                Ok(pair) => Ok(Ok(pair)),
+                Err(fault) => Ok(Err(End::Fault(fault))),
+            },
+            Step::End(end) => Ok(Err(end)),
+        }
+    }
+
+    /// The items of an inner source with their keys, up to the first fault.
+    #[cycle(running)]
+    #[tactic(auto, using(crate::proofs::PullLemmas::keeps))]
     fn with_keys(
         &self,
+        source: &Form,
         key: &Form,
-        items: &[Value<R>],
-        end: End,
         slots: &Slots<'_, R>,
     ) -> Result<(List<(Value<R>, Value<R>)>, End), AllocError>
-        ensures { IfOk result (λ s. s ≡ select_by (with_key_of (world_of R.table_of R.shown self.now.tables.now) (values_in slots.now) key.now) items.now end) }
+        ensures { IfOk result (λ s. s ≡ select_by (with_key_of (world_of R.table_of R.shown self.now.tables.now) (values_in slots.now) key.now)
+            (items_meant (world_of R.table_of R.shown self.now.tables.now) source.now slots.now).0 (items_meant (world_of R.table_of R.shown self.now.tables.now) source.now slots.now).1) }
     {
+        let mut base = self.open(source, slots)?;
         let mut made = List::new(self.alloc);
-        for item in items {
-            match self.with_key(key, item, slots)? {
+        loop {
+            match self.next_with_key(source, key, &mut base, slots)? {
                 Ok(pair) => made.push(pair)?,
-                Err(fault) => return Ok((made, End::Fault(fault))),
+                Err(end) => return Ok((made, end)),
             }
         }
-        Ok((made, end))
     }
 
     /// What comes of an outer item and of each inner one that its key matches, or of all of them.
@@ -242,28 +289,32 @@ impl<'a, R: TableRow> Running<'a, R> {
         self.selected(body, found, End::Done, &deeper)
     }
 
-    /// What comes of each outer item, up to the first fault.
+    /// What comes of each item of an outer source, up to the first fault.
     #[cycle(running)]
     fn joined(
         &self,
         joined: &Joined<Form>,
         matches: &Matches<R>,
-        items: &[Value<R>],
-        end: End,
+        source: &Form,
         slots: &Slots<'_, R>,
     ) -> Result<(List<Value<R>>, End), AllocError>
-        ensures { IfOk result (λ s. s ≡ each (joined_of (world_of R.table_of R.shown self.now.tables.now) (values_in slots.now) joined.now (pairs_of matches.now)) items.now end) }
+        ensures { IfOk result (λ s. s ≡ each (joined_of (world_of R.table_of R.shown self.now.tables.now) (values_in slots.now) joined.now (pairs_of matches.now))
+            (items_meant (world_of R.table_of R.shown self.now.tables.now) source.now slots.now).0 (items_meant (world_of R.table_of R.shown self.now.tables.now) source.now slots.now).1) }
     {
+        let mut base = self.open(source, slots)?;
         let mut made = List::new(self.alloc);
-        for item in items {
-            let (values, ending) = self.joined_item(joined, matches, item, slots)?;
-            let all = sequences::joined(made, values)?;
-            match ending {
-                End::Done => made = all,
-                End::Fault(fault) => return Ok((all, End::Fault(fault))),
+        loop {
+            match self.next(Stage::Plain, source, source, &mut base, slots)? {
+                Step::Item(item) => {
+                    let (values, ending) = self.joined_item(joined, matches, &item, slots)?;
+                    made = sequences::joined(made, values)?;
+                    if let End::Fault(fault) = ending {
+                        return Ok((made, End::Fault(fault)));
+                    }
+                }
+                Step::End(end) => return Ok((made, end)),
             }
         }
-        Ok((made, end))
     }
 
     /// The items sorted by keys, which are met only where the items come to their end.
@@ -277,7 +328,7 @@ impl<'a, R: TableRow> Running<'a, R> {
     ) -> Result<Value<R>, RunError>
         ensures { IsAnswer (meant (world_of R.table_of R.shown self.now.tables.now) (form.OrderBy source.now keys.now) slots.now) result }
     {
-        let (items, end) = self.stream(source, slots)?;
+        let (items, end) = self.drained(Stage::Plain, source, source, slots)?;
         Ok(self.arranged(keys, items, end, slots)?)
     }
 

@@ -2,16 +2,20 @@
 #![tactic(auto)]
 
 mod arrangements;
+mod bases;
 mod clauses;
-mod kept;
+mod conditions;
+mod counts;
 mod methods;
 mod operations;
 mod parts;
+mod pulling;
 mod reached;
 mod running;
 mod scalars;
 mod sequences;
 mod slots;
+mod stages;
 mod tables;
 mod trees;
 

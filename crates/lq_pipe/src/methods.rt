@@ -1,23 +1,29 @@
 //! The running of methods of sequences.
+use crate::counts::{needed, read};
 use crate::running::Running;
 use crate::slots::Slots;
+use crate::stages::{Stage, Step};
 use crate::tables::TableRow;
-use crate::{kept, scalars, sequences};
+use crate::{parts, scalars, sequences};
 use lq_model::{Given, Simple, Through};
-use lq_operators::{RunError, given, simple};
+use lq_operators::{RunError, Tally, given, simple};
 use lq_tree::Form;
 use lq_value::{End, Fault, List, Ty, Value};
 use std::alloc::AllocError;
 
 impl<'a, R: TableRow> Running<'a, R> {
     ghost use Rattle.std.specs.Prelude.{◌≡◌, IfOk, Ok};
-    ghost use Rattle.lq_model.specs.Meaning.{stream_of};
+    ghost use Rattle.lq_value.specs.declared.ty.Ty.{Ty};
+    ghost use Rattle.lq_model.specs.Meaning.{as_value, stream_of};
     ghost use Rattle.lq_model.specs.Enumerable.{all};
-    ghost use Rattle.lq_model.specs.Stream.{select_by, where_by};
+    ghost use Rattle.lq_model.specs.Stream.{select_by};
     ghost use Rattle.lq_operators.specs.Answers.{IsAnswer};
-    ghost use Rattle.lq_model.specs.WholeMeaning.{as_truth};
+    ghost use Rattle.lq_operators.specs.Tallies.{tallied};
+    ghost use Rattle.lq_model.specs.WholeMeaning.{as_truth, given_meaning, simple_meaning};
     ghost use Rattle.lq_tree.specs.declared.tree.Form.TheVariants as form;
-    ghost use Rattle.lq_pipe.specs.Running.{holds_of, meant, of_item};
+    ghost use Rattle.lq_pipe.specs.Pulling.{pulled};
+    ghost use Rattle.lq_pipe.specs.Running.{holds_of, items_meant, meant, of_item};
+    ghost use Rattle.lq_pipe.specs.Slots.{values_in};
     ghost use Rattle.lq_pipe.specs.Worlds.{world_of};
 
     /// A sequence, of which a fault that is met in making it is the ending.
@@ -27,28 +33,100 @@ impl<'a, R: TableRow> Running<'a, R> {
     pub(crate) fn sequence(&self, source: &Form, slots: &Slots<'_, R>) -> Result<Value<R>, RunError>
         ensures { IsAnswer (meant (world_of R.table_of R.shown self.now.tables.now) (form.Sequence source.now) slots.now) result }
     {
-        let (items, end) = self.stream(source, slots)?;
+        let (items, end) = self.drained(Stage::Plain, source, source, slots)?;
         Ok(Value::Seq(items, end))
     }
 
-    /// A method without an argument.
+    /// A method without an argument, on the items of a source behind its last stage.
     #[cycle(running)]
     #[inline(never)]
-    #[tactic(auto, using(crate::proofs::Forms::form_simple))]
+    #[tactic(auto, using(crate::proofs::CountLemmas::tally_answers))]
     pub(crate) fn simple(
         &self,
         method: Simple,
         of: &Ty,
+        stage: Stage,
         source: &Form,
+        body: &Form,
         slots: &Slots<'_, R>,
     ) -> Result<Value<R>, RunError>
-        ensures { IsAnswer (meant (world_of R.table_of R.shown self.now.tables.now) (form.Simple method of.now source.now) slots.now) result }
+        ensures { IsAnswer (simple_meaning method of.now (pulled (world_of R.table_of R.shown self.now.tables.now) (values_in slots.now) stage source.now body.now)) result }
     {
-        let (items, end) = self.stream(source, slots)?;
+        match Tally::of(method) {
+            Some(tally) => self.tallied(tally, of, stage, source, body, slots),
+            None => self.listed(method, of, stage, source, body, slots),
+        }
+    }
+
+    /// The same of a method that makes no number: only the items that it reads are pulled.
+    #[cycle(running)]
+    fn listed(
+        &self,
+        method: Simple,
+        of: &Ty,
+        stage: Stage,
+        source: &Form,
+        body: &Form,
+        slots: &Slots<'_, R>,
+    ) -> Result<Value<R>, RunError>
+        ensures { IsAnswer (simple_meaning method of.now (pulled (world_of R.table_of R.shown self.now.tables.now) (values_in slots.now) stage source.now body.now)) result }
+    {
+        let (items, end) = self.read_items(method, stage, source, body, slots)?;
         simple(self.alloc, method, of, items, end)
     }
 
-    /// A method with an argument.
+    /// The items that such a method reads, and how they end as far as it reads them.
+    #[cycle(running)]
+    #[tactic(auto, using(crate::proofs::CountLemmas::reads))]
+    fn read_items(
+        &self,
+        method: Simple,
+        stage: Stage,
+        source: &Form,
+        body: &Form,
+        slots: &Slots<'_, R>,
+    ) -> Result<(List<Value<R>>, End), AllocError>
+        ensures { IfOk result (λ s. (t : Ty) → simple_meaning method t s
+            ≡ simple_meaning method t (pulled (world_of R.table_of R.shown self.now.tables.now) (values_in slots.now) stage source.now body.now)) }
+    {
+        match read(method) {
+            Some(count) => {
+                let items = self.taken(count, stage, source, body, slots)?;
+                Ok(items)
+            }
+            None => {
+                let items = self.drained(stage, source, body, slots)?;
+                Ok(items)
+            }
+        }
+    }
+
+    /// The number that a tally comes to over the items.
+    #[cycle(running)]
+    #[inline(never)]
+    #[tactic(auto, using(crate::proofs::CountLemmas::tallies))]
+    fn tallied(
+        &self,
+        tally: Tally,
+        of: &Ty,
+        stage: Stage,
+        source: &Form,
+        body: &Form,
+        slots: &Slots<'_, R>,
+    ) -> Result<Value<R>, RunError>
+        ensures { IsAnswer (as_value (tallied of.now tally (pulled (world_of R.table_of R.shown self.now.tables.now) (values_in slots.now) stage source.now body.now))) result }
+    {
+        let mut base = self.open(source, slots)?;
+        let mut tally = tally;
+        loop {
+            match self.next(stage, source, body, &mut base, slots)? {
+                Step::Item(item) => tally = tally.with(&item)?,
+                Step::End(end) => return Ok(Value::Scalar(tally.told(of, end)?)),
+            }
+        }
+    }
+
+    /// A method with an argument, of which only the items that it reads are pulled.
     #[cycle(running)]
     #[inline(never)]
     #[tactic(auto, using(crate::proofs::Forms::form_given))]
@@ -61,9 +139,34 @@ impl<'a, R: TableRow> Running<'a, R> {
     ) -> Result<Value<R>, RunError>
         ensures { IsAnswer (meant (world_of R.table_of R.shown self.now.tables.now) (form.Given method source.now argument.now) slots.now) result }
     {
-        let (items, end) = self.stream(source, slots)?;
         let argument = sequences::settled(self.evaluate(argument, slots))?;
+        let (items, end) = self.needed_items(method, &argument, source, slots)?;
         given(self.alloc, method, argument, items, end)
+    }
+
+    /// The items that such a method reads, and how they end as far as it reads them.
+    #[cycle(running)]
+    #[tactic(auto, using(crate::proofs::CountLemmas::needs))]
+    fn needed_items(
+        &self,
+        method: Given,
+        argument: &Result<Value<R>, Fault>,
+        source: &Form,
+        slots: &Slots<'_, R>,
+    ) -> Result<(List<Value<R>>, End), AllocError>
+        ensures { IfOk result (λ s. given_meaning (world_of R.table_of R.shown self.now.tables.now) method argument.now s
+            ≡ given_meaning (world_of R.table_of R.shown self.now.tables.now) method argument.now (items_meant (world_of R.table_of R.shown self.now.tables.now) source.now slots.now)) }
+    {
+        match needed(method, argument) {
+            Some(count) => {
+                let items = self.taken(count, Stage::Plain, source, source, slots)?;
+                Ok(items)
+            }
+            None => {
+                let items = self.drained(Stage::Plain, source, source, slots)?;
+                Ok(items)
+            }
+        }
     }
 
     /// A method with a lambda.
@@ -83,56 +186,20 @@ impl<'a, R: TableRow> Running<'a, R> {
     {
         match method {
             Through::Where => {
-                let (items, end) = self.filtered(source, body, slots)?;
+                let (items, end) = self.drained(Stage::Where, source, body, slots)?;
                 Ok(Value::Seq(items, end))
             }
             Through::Select => {
-                let (items, end) = self.mapped(source, body, slots)?;
+                let (items, end) = self.drained(Stage::Select, source, body, slots)?;
                 Ok(Value::Seq(items, end))
             }
             Through::All => self.all(source, body, slots),
-            Through::Those(method) => {
-                let (items, end) = self.filtered(source, body, slots)?;
-                simple(self.alloc, method, of, items, end)
-            }
-            Through::Values(method) => {
-                let (items, end) = self.mapped(source, body, slots)?;
-                simple(self.alloc, method, to, items, end)
-            }
+            Through::Those(method) => self.simple(method, of, Stage::Where, source, body, slots),
+            Through::Values(method) => self.simple(method, to, Stage::Select, source, body, slots),
         }
     }
 
-    /// The items of which a condition is true, up to the first fault.
-    #[cycle(running)]
-    fn filtered(
-        &self,
-        source: &Form,
-        condition: &Form,
-        slots: &Slots<'_, R>,
-    ) -> Result<(List<Value<R>>, End), AllocError>
-        ensures { IfOk result (λ s. s ≡ where_by (holds_of (world_of R.table_of R.shown self.now.tables.now) condition.now slots.now) (stream_of (world_of R.table_of R.shown self.now.tables.now) (meant (world_of R.table_of R.shown self.now.tables.now) source.now slots.now)).0 (stream_of (world_of R.table_of R.shown self.now.tables.now) (meant (world_of R.table_of R.shown self.now.tables.now) source.now slots.now)).1) }
-    {
-        let (items, end) = self.stream(source, slots)?;
-        let (truths, end) = self.truths(condition, items.as_slice(), end, slots)?;
-        let items = kept::chosen(self.alloc, items, truths.as_slice())?;
-        Ok((items, end))
-    }
-
-    /// What a lambda gives of the items, up to the first fault.
-    #[cycle(running)]
-    fn mapped(
-        &self,
-        source: &Form,
-        body: &Form,
-        slots: &Slots<'_, R>,
-    ) -> Result<(List<Value<R>>, End), AllocError>
-        ensures { IfOk result (λ s. s ≡ select_by (of_item (world_of R.table_of R.shown self.now.tables.now) body.now slots.now) (stream_of (world_of R.table_of R.shown self.now.tables.now) (meant (world_of R.table_of R.shown self.now.tables.now) source.now slots.now)).0 (stream_of (world_of R.table_of R.shown self.now.tables.now) (meant (world_of R.table_of R.shown self.now.tables.now) source.now slots.now)).1) }
-    {
-        let (items, end) = self.stream(source, slots)?;
-        self.selected(body, items.as_slice(), end, slots)
-    }
-
-    /// Whether a condition is true of all items.
+    /// Whether a condition is true of all items, up to the first of which it isn't.
     #[cycle(running)]
     fn all(
         &self,
@@ -142,14 +209,22 @@ impl<'a, R: TableRow> Running<'a, R> {
     ) -> Result<Value<R>, RunError>
         ensures { IsAnswer (as_truth (all (holds_of (world_of R.table_of R.shown self.now.tables.now) condition.now slots.now) (stream_of (world_of R.table_of R.shown self.now.tables.now) (meant (world_of R.table_of R.shown self.now.tables.now) source.now slots.now)).0 (stream_of (world_of R.table_of R.shown self.now.tables.now) (meant (world_of R.table_of R.shown self.now.tables.now) source.now slots.now)).1)) result }
     {
-        let (items, end) = self.stream(source, slots)?;
-        let (truths, end) = self.truths(condition, items.as_slice(), end, slots)?;
-        kept::all_told(truths.as_slice(), end)
+        let mut base = self.open(source, slots)?;
+        loop {
+            match self.next(Stage::Plain, source, source, &mut base, slots)? {
+                Step::Item(item) => match self.holds(condition, &item, slots)? {
+                    Ok(true) => {}
+                    Ok(false) => return Ok(parts::truth(false)),
+                    Err(fault) => return Err(RunError::Fault(fault)),
+                },
+                Step::End(end) => return parts::truth_at_end(end),
+            }
+        }
     }
 
     /// Whether a condition is true of an item.
     #[cycle(running)]
-    fn holds(
+    pub(crate) fn holds(
         &self,
         condition: &Form,
         item: &Value<R>,
@@ -158,27 +233,6 @@ impl<'a, R: TableRow> Running<'a, R> {
         ensures { IfOk result (λ found. found ≡ holds_of (world_of R.table_of R.shown self.now.tables.now) condition.now slots.now item.now) }
     {
         scalars::told(self.truth(condition, &(&*slots).with(&*item)))
-    }
-
-    /// Whether it is true of each item, up to the first fault.
-    #[cycle(running)]
-    fn truths(
-        &self,
-        condition: &Form,
-        items: &[Value<R>],
-        end: End,
-        slots: &Slots<'_, R>,
-    ) -> Result<(List<bool>, End), AllocError>
-        ensures { IfOk result (λ s. s ≡ select_by (holds_of (world_of R.table_of R.shown self.now.tables.now) condition.now slots.now) items.now end) }
-    {
-        let mut made = List::new(self.alloc);
-        for item in items {
-            match self.holds(condition, item, slots)? {
-                Ok(truth) => made.push(truth)?,
-                Err(fault) => return Ok((made, End::Fault(fault))),
-            }
-        }
-        Ok((made, end))
     }
 
     /// What a form gives of an item.

@@ -1,12 +1,16 @@
 //! Parts of values: those of pairs, members of records, keys of groups.
-ghost use Rattle.std.specs.Prelude.{◌≡◌, ◌∷◌, ◌++◌, [], if◌then◌else◌, not, IfOk, OnOk, option_map, slice_get};
+ghost use Rattle.std.specs.Prelude.{◌≡◌, ◌∷◌, ◌++◌, [], if◌then◌else◌, not, true, Ok, IfOk, OnOk, option_map, slice_get};
 ghost use Rattle.std.specs.Option.{option_copied};
 ghost use Rattle.lq_value.specs.declared.value.Value.{out-Value};
-ghost use Rattle.lq_model.specs.Meaning.{World};
+ghost use Rattle.lq_model.specs.Enumerable.{at_end};
+ghost use Rattle.lq_model.specs.Meaning.{World, truth_value};
 ghost use Rattle.lq_model.specs.Operators.{first, pair, second};
+ghost use Rattle.lq_model.specs.WholeMeaning.{as_truth};
+ghost use Rattle.lq_operators.specs.Answers.{IsAnswer};
 ghost use Rattle.lq_tree.specs.FormMeaning.{is_null_value};
 
-use lq_value::{List, RowRef, Scalar, Txt, Value};
+use lq_operators::RunError;
+use lq_value::{End, List, RowRef, Scalar, Txt, Value};
 use std::alloc::{AllocError, Global};
 
 /// The first part of a pair; of what is no pair, itself.
@@ -89,4 +93,21 @@ pub(crate) fn push_member<R: RowRef>(
     ensures { OnOk result (members.new ≡ members.old ++ (name.now, value) ∷ []) }
 {
     members.push((Txt::from_str(alloc, name.as_str())?, value))
+}
+
+/// A truth value.
+pub(crate) fn truth<R: RowRef>(truth: bool) -> Value<R>
+    ensures { result ≡ truth_value truth }
+{
+    Value::Scalar(Scalar::Bool(truth))
+}
+
+/// True where the items come to their end, or the fault that ends them.
+pub(crate) fn truth_at_end<R: RowRef>(end: End) -> Result<Value<R>, RunError>
+    ensures { IsAnswer (as_truth (at_end end (Ok true))) result }
+{
+    match end {
+        End::Done => Ok(truth(true)),
+        End::Fault(fault) => Err(RunError::Fault(fault)),
+    }
 }

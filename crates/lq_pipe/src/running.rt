@@ -3,9 +3,11 @@ ghost use Rattle.std.specs.Prelude.{◌≡◌, IfSome, Ok};
 ghost use Rattle.lq_model.specs.Meaning.{World};
 ghost use Rattle.lq_value.specs.declared.value.Value.TheVariants as value;
 ghost use Rattle.lq_pipe.specs.Running.{meant};
+ghost use Rattle.lq_pipe.specs.Worlds.{HaveDistinctColumns, schemas_in};
 
 use crate::reached::Reached;
 use crate::slots::Slots;
+use crate::stages::Stage;
 use crate::tables::{TableRow, TableRows, cell};
 use crate::{parts, scalars, sequences};
 use lq_operators::RunError;
@@ -37,10 +39,11 @@ fn scalar_there<R: RowRef>(stands: &Value<R>) -> Option<&Scalar>
 }
 
 /// What a form is run over: the tables that it may read, and what gives memory.
-#[derive(Clone, Copy)]
+#[derive(Drop)]
 pub(crate) struct Running<'a, R> {
     pub(crate) alloc: Global,
     pub(crate) tables: &'a [TableRows<'a, R>],
+    ghost distinct: { HaveDistinctColumns (schemas_in tables.now) },
 }
 
 impl<'a, R: TableRow> Running<'a, R> {
@@ -162,7 +165,7 @@ impl<'a, R: TableRow> Running<'a, R> {
 
     /// What a form means, or its first fault.
     #[cycle(running)]
-    #[tactic(auto, using(crate::proofs::Forms::form_literal, crate::proofs::Forms::form_slot, crate::proofs::Forms::form_table))]
+    #[tactic(auto, using(crate::proofs::Forms::form_literal, crate::proofs::Forms::form_slot, crate::proofs::Forms::form_table, crate::proofs::Forms::form_simple))]
     pub(crate) fn evaluate(&self, form: &Form, slots: &Slots<'_, R>) -> Result<Value<R>, RunError>
         ensures { IsAnswer (meant (world_of R.table_of R.shown self.now.tables.now) form.now slots.now) result }
     {
@@ -187,7 +190,10 @@ impl<'a, R: TableRow> Running<'a, R> {
             Form::Record(fields) => self.record(fields, slots),
             Form::Pair(left, right) => self.pair(left.get(), right.get(), slots),
             Form::Sequence(source) => self.sequence(source.get(), slots),
-            Form::Simple(method, of, source) => self.simple(*method, of, source.get(), slots),
+            Form::Simple(method, of, source) => {
+                let source = source.get();
+                self.simple(*method, of, Stage::Plain, source, source, slots)
+            }
             Form::Given(method, source, argument) => {
                 self.given(*method, source.get(), argument.get(), slots)
             }
@@ -228,15 +234,6 @@ impl<'a, R: TableRow> Running<'a, R> {
             Some(scalar) => Ok(copy_scalar(self.alloc, scalar)?),
             None => scalars::scalar(self.evaluate(form, slots)?),
         }
-    }
-
-    /// The truth value that a form means.
-    #[cycle(running)]
-    #[inline(never)]
-    pub(crate) fn truth(&self, form: &Form, slots: &Slots<'_, R>) -> Result<bool, RunError>
-        ensures { Answers (truth_in (world_of R.table_of R.shown self.now.tables.now) (meant (world_of R.table_of R.shown self.now.tables.now) form.now slots.now)) result }
-    {
-        scalars::truth(&self.scalar(form, slots)?)
     }
 
     /// What a form means, borrowed where it is a part of what stands in a slot.

@@ -5,9 +5,9 @@ ghost use Rattle.lq_value.specs.declared.value.Fault.{Fault};
 ghost use Rattle.lq_value.specs.declared.value.Fault.TheVariants as fault;
 ghost use Rattle.lq_value.specs.declared.value.Value.{out-Value};
 ghost use Rattle.lq_model.specs.Meaning.{World, as_value, is_null, scalar_of};
-ghost use Rattle.lq_model.specs.Operations.{of_one, of_two, operation_of, searched, truth as of_truth, truth_of};
+ghost use Rattle.lq_model.specs.Operations.{of_one, of_two, on_ok, operation_of, searched, truth as of_truth, truth_of};
 ghost use Rattle.lq_operators.specs.Answers.{IsAnswer};
-ghost use Rattle.lq_scalar.specs.Operands.{IsAnswer as IsScalar};
+ghost use Rattle.lq_scalar.specs.Operands.{IsAnswer as IsScalar, shown_scalar};
 ghost use Rattle.lq_pipe.specs.Running.{Answers};
 
 use lq_model::{Binary, Op};
@@ -36,6 +36,42 @@ pub(crate) fn truth(scalar: &Scalar) -> Result<bool, RunError>
     match scalar {
         Scalar::Bool(truth) => Ok(*truth),
         Scalar::Null | Scalar::Int(_) | Scalar::Text(_) => {
+            Err(RunError::Fault(Fault::NullReference))
+        }
+    }
+}
+
+/// The same of a scalar that is borrowed.
+fn truth_there(scalar: ScalarRef<'_>) -> Result<bool, RunError>
+    ensures { Answers (truth_of fault.NullReference (shown_scalar scalar.entry)) result }
+{
+    match scalar {
+        ScalarRef::Bool(truth) => Ok(truth),
+        ScalarRef::Null | ScalarRef::Int(_) | ScalarRef::Text(_) => {
+            Err(RunError::Fault(Fault::NullReference))
+        }
+    }
+}
+
+/// The truth value that a sign between two scalars gives.
+pub(crate) fn truth_of_sign(sign: Binary, left: &Scalar, right: &Scalar) -> Result<bool, RunError>
+    ensures { Answers (on_ok (of_two fault.NullReference (operation_of sign) left.now right.now) (truth_of fault.NullReference)) result }
+{
+    match operate(sign, ScalarRef::of(left), ScalarRef::of(right)) {
+        Ok(scalar) => truth_there(scalar),
+        Err(fault) => Err(RunError::Fault(fault)),
+    }
+}
+
+/// The truth value that a value is.
+#[tactic(auto, using(crate::proofs::PartLemmas::layers))]
+pub(crate) fn truth_in<R: RowRef>(value: Value<R>) -> Result<bool, RunError>
+    ensures { (world : World R) → world.unknown ≡ fault.NullReference
+        → Answers (on_ok (scalar_of world (out-Value R value)) (truth_of fault.NullReference)) result }
+{
+    match value {
+        Value::Scalar(scalar) => truth(&scalar),
+        Value::Row(_) | Value::Rec(_) | Value::Group(_, _) | Value::Seq(_, _) => {
             Err(RunError::Fault(Fault::NullReference))
         }
     }
@@ -86,7 +122,7 @@ pub(crate) fn of_one<R: RowRef>(
 }
 
 /// The sign that an operator between two scalars is, where it is one that makes no text.
-fn sign_of(op: Op) -> Option<Binary>
+pub(crate) fn sign_of(op: Op) -> Option<Binary>
     ensures { IfSome result (λ sign. op ≡ operation_of sign) }
 {
     match op {

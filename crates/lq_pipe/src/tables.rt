@@ -4,7 +4,7 @@ ghost use Rattle.std.specs.Option.{option_copied};
 ghost use Rattle.lq_model.specs.Served.{columns_in};
 ghost use Rattle.lq_model.specs.Visible.{cell_named};
 ghost use Rattle.lq_tree.specs.FormMeaning.{name_of_column};
-ghost use Rattle.lq_pipe.specs.Worlds.{schemas_in, world_of};
+ghost use Rattle.lq_pipe.specs.Worlds.{HaveDistinctColumns, schemas_in, world_of};
 
 use lq_scalar::cell_named;
 use lq_value::{Column, RowRef, Scalar, Schema};
@@ -53,17 +53,28 @@ fn column_name<'a, R: TableRow>(
     Some(column.name.as_str())
 }
 
+/// The cell at a place.
+fn cell_at(cells: &[Scalar], place: u16) -> Option<&Scalar>
+    ensures { option_copied result ≡ slice_get cells.now place }
+{
+    cells.get(place as usize)
+}
+
 /// The cell of a row under the name of a column of a table, which the types of a tree make the
-/// row's own.
+/// row's own: there it stands at the column's place, since no two columns have the same name.
 pub(crate) fn cell<'r, R: TableRow>(
     tables: &[TableRows<'_, R>],
     row: &'r R,
     table: u16,
     column: u16,
 ) -> Option<&'r Scalar>
+    requires { HaveDistinctColumns (schemas_in tables.now) }
     ensures { option_copied result
         ≡ option_and_then ((world_of R.table_of R.shown tables.now).cell row.now) (name_of_column (schemas_in tables.now) table column) }
 {
     let name = column_name(tables, table, column)?;
+    if row.table() == table {
+        return cell_at(row.cells(), column);
+    }
     cell_named(columns(tables, row.table()), row.cells(), name)
 }

@@ -3,7 +3,7 @@ ghost use Rattle.std.specs.Prelude.{◌≡◌, [], IfOk};
 ghost use Rattle.lq_model.specs.Meaning.{stream_of};
 ghost use Rattle.lq_operators.specs.Answers.{IsAnswer};
 ghost use Rattle.lq_tree.specs.FormMeaning.{form_meaning};
-ghost use Rattle.lq_pipe.specs.Worlds.{world_of};
+ghost use Rattle.lq_pipe.specs.Worlds.{HaveDistinctColumns, schemas_in, world_of};
 
 use crate::running::Running;
 use crate::sequences;
@@ -22,6 +22,7 @@ pub fn value<'a, R: TableRow>(
     tree: &Tree,
     tables: &'a [TableRows<'a, R>],
 ) -> Result<Value<R>, RunError>
+    requires { HaveDistinctColumns (schemas_in tables.now) }
     ensures { IsAnswer (form_meaning (world_of R.table_of R.shown tables.now) tree.now.form []) result }
 {
     let running = Running { alloc, tables };
@@ -35,6 +36,7 @@ pub fn run<'a, R: TableRow>(
     tree: &Tree,
     tables: &'a [TableRows<'a, R>],
 ) -> Result<(List<Value<R>>, End), AllocError>
+    requires { HaveDistinctColumns (schemas_in tables.now) }
     ensures { IfOk result (λ s. s
         ≡ stream_of (world_of R.table_of R.shown tables.now) (form_meaning (world_of R.table_of R.shown tables.now) tree.now.form [])) }
 {

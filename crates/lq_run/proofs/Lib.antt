@@ -1,3 +1,4 @@
+pub mod ColumnLemmas
 pub mod ReplyLemmas
 pub mod RowLemmas
 pub mod SeenLemmas

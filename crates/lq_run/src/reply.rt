@@ -3,7 +3,7 @@ ghost use Rattle.std.specs.Prelude.{◌≡◌, [], codes, IfOk};
 ghost use Rattle.lq_model.specs.Machine.{schemas_of};
 ghost use Rattle.lq_model.specs.Served.{error_data, line_of, stream_data, value_data};
 ghost use Rattle.lq_model.specs.Meaning.{stream_of};
-ghost use Rattle.lq_pipe.specs.Worlds.{world_of};
+ghost use Rattle.lq_pipe.specs.Worlds.{HaveDistinctColumns, schemas_in, world_of};
 ghost use Rattle.lq_tree.specs.FormMeaning.{form_meaning};
 ghost use Rattle.lq_run.specs.TreeReply.{tree_data};
 
@@ -31,6 +31,7 @@ fn items_line<R: TableRow>(
     tree: &Tree,
     tables: &[TableRows<'_, R>],
 ) -> Result<Line, AllocError>
+    requires { HaveDistinctColumns (schemas_in tables.now) }
     ensures { IfOk result (λ line. line ≡ line_of (stream_data (schemas_of store.now) R.shown item.now
         (stream_of (world_of R.table_of R.shown tables.now) (form_meaning (world_of R.table_of R.shown tables.now) tree.now.form [])))) }
 {
@@ -51,6 +52,7 @@ fn value_line<R: TableRow>(
     tree: &Tree,
     tables: &[TableRows<'_, R>],
 ) -> Result<Line, AllocError>
+    requires { HaveDistinctColumns (schemas_in tables.now) }
     ensures { IfOk result (λ line. line ≡ line_of (value_data (schemas_of store.now) R.shown tree.now.ty
         (form_meaning (world_of R.table_of R.shown tables.now) tree.now.form []))) }
 {
@@ -78,6 +80,7 @@ pub(crate) fn tree_line<R: TableRow>(
     tree: &Tree,
     tables: &[TableRows<'_, R>],
 ) -> Result<Line, AllocError>
+    requires { HaveDistinctColumns (schemas_in tables.now) }
     ensures { IfOk result (λ line. line ≡ line_of (tree_data R.shown (schemas_of store.now) (world_of R.table_of R.shown tables.now) tree.now)) }
 {
     match ty(tree) {

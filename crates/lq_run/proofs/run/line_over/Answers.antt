@@ -9,6 +9,7 @@ use Rattle.lq_run.specs.Replies.{AnswersRows}
 use Rattle.lq_run.specs.SeenRows.{AreSeen, cells_in, number_in}
 use Rattle.lq_run.specs.TreeReply.{tree_data}
 use Rattle.lq_run.specs.declared.seen.SeenRow.{SeenRow}
+use Rattle.lq_run.proofs.ColumnLemmas.{seen_distinct}
 use Rattle.lq_run.proofs.ReplyLemmas.{answers_tree}
 use Rattle.lq_run.proofs.run.line_over.Goals as goal
 
@@ -21,3 +22,9 @@ returns c =
     (AnswersRows c.args.store.now c.args.seen.now c.args.tree.now)
     (λ line so parts role is. answers_tree parts role c.args.store.now c.args.seen.now made c.args.tree.now line is with_them so)
     c.tree_line.ensures
+
+pub tree_line-requires : goal.tree_line-requires
+tree_line-requires c =
+    let made = c.as_slice.result.now in
+    seen_distinct c.args.store.now c.args.seen.now made
+    (subst (λ (ts : List (TableRows SeenRow)). AreSeen c.args.store.now c.args.seen.now ts) (sym c.as_slice.ensures.value) c.in_ok-tables.ensures)

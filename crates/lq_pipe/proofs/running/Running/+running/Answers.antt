@@ -1,17 +1,21 @@
-use Rattle.std.proofs.Common.{◌≡◌, Err, ap, refl, rules, subst, sym, ◌∙◌}
+use Rattle.std.proofs.Common.{◌≡◌, ◌<◌, Err, ap, arith, refl, rules, subst, sym, ◌∙◌}
 use Rattle.lq_operators.specs.Answers.{IsAnswer}
+use Rattle.lq_model.specs.Meaning.{stream_of}
 use Rattle.lq_tree.specs.FormMeaning.{form_meaning}
 use Rattle.lq_operators.specs.Matching.{pairs_of}
 use Rattle.lq_pipe.specs.Arrangements.{column_of, columns_of, key_at}
 use Rattle.lq_pipe.specs.Items.{expanded_of, joined_of, keyed_of, with_key_of}
 use Rattle.lq_pipe.specs.Slots.{values_in}
 use Rattle.lq_pipe.proofs.ArrangementLemmas.{all_goes, all_stops, counted_answer, key_answer, order_by_answer, sorted_answer}
-use Rattle.lq_pipe.proofs.ItemLemmas.{expanded_is, group_by_answer, join_answer, join_stops, joined_met, matched_is, select_many_answer}
+use Rattle.lq_pipe.proofs.ItemLemmas.{expanded_pulled, group_by_answer, join_answer, join_stops, joined_met, matched_is, select_many_answer}
 use Rattle.lq_pipe.specs.Running.{Answers, holds_of, of_item, scalar_in, truth_in}
+use Rattle.lq_pipe.specs.Pulling.{Steps, left}
+use Rattle.lq_pipe.specs.declared.stages.Step.TheVariants as step
 use Rattle.lq_pipe.specs.Worlds.{world_of}
+use Rattle.lq_pipe.proofs.PullLemmas.{taken_ended}
 use Rattle.lq_model.specs.WholeMeaning.{as_truth}
 use Rattle.lq_pipe.proofs.Forms.{given_answer, is_null_answer, members_goes}
-use Rattle.lq_pipe.proofs.StreamLemmas.{all_is, each_goes, each_stops, filtered_is, select_goes, select_stops}
+use Rattle.lq_pipe.proofs.StreamLemmas.{select_goes, select_stops}
 use Rattle.lq_pipe.proofs.running.Running.+running.Goals as goal
 
 pub stream-returns : goal.stream-returns
@@ -33,38 +37,11 @@ is_null-returns g t c =
     is_null_answer (world_of g.R.TableRow.table_of g.R.RowRef.shown c.args.self.now.tables.now) c.args.wanted c.args.operand.now _ _ _ _ c.in_ok-operand.ensures
     c.get.ensures (c.told_null-told.ensures (world_of g.R.TableRow.table_of g.R.RowRef.shown c.args.self.now.tables.now))
 
-pub given-returns : goal.given-returns
-given-returns g t c =
-    given_answer (world_of g.R.TableRow.table_of g.R.RowRef.shown c.args.self.now.tables.now) c.args.method c.args.source.now c.args.argument.now _ _ _ c.given.result
-    (c.in_ok-argument.ensures _ c.evaluate.ensures) c.in_ok-items.ensures (c.given.ensures (world_of g.R.TableRow.table_of g.R.RowRef.shown c.args.self.now.tables.now) refl)
-
-pub filtered-returns : goal.filtered-returns
-filtered-returns g t c =
-    filtered_is (holds_of (world_of g.R.TableRow.table_of g.R.RowRef.shown c.args.self.now.tables.now) c.args.condition.now c.args.slots.now) _ _ _ _ _ _ _ _
-    c.in_ok-items.ensures c.as_slice.ensures c.in_ok-truths.ensures c.as_slice-2.ensures c.in_ok-items-2.ensures
-
-pub all-returns : goal.all-returns
-all-returns g t c =
-    subst (λ m. IsAnswer (as_truth m) c.all_told.result)
-    (all_is (holds_of (world_of g.R.TableRow.table_of g.R.RowRef.shown c.args.self.now.tables.now) c.args.condition.now c.args.slots.now) _ _ _ _ _ _ _
-    c.in_ok-items.ensures c.as_slice.ensures c.in_ok-truths.ensures c.as_slice-2.ensures)
-    c.all_told.ensures
-
 pub holds-returns : goal.holds-returns
 holds-returns g t c =
     c.told.ensures (holds_of (world_of g.R.TableRow.table_of g.R.RowRef.shown c.args.self.now.tables.now) c.args.condition.now c.args.slots.now c.args.item.now)
     (subst (λ vs. Answers (truth_in (world_of g.R.TableRow.table_of g.R.RowRef.shown c.args.self.now.tables.now) (form_meaning (world_of g.R.TableRow.table_of g.R.RowRef.shown c.args.self.now.tables.now) c.args.condition.now vs)) c.truth.result) c.with.ensures
     c.truth.ensures)
-
-pub truths-loop-item-preserved : goal.truths-loop-item-preserved
-truths-loop-item-preserved g t c =
-    select_goes (holds_of (world_of g.R.TableRow.table_of g.R.RowRef.shown c.args.self.now.tables.now) c.args.condition.now c.args.slots.now) c.args.items.now c.args.end _ c.loop-item.made _ _ _ _
-    c.item-item.is c.loop-item-test.true (sym c.in-Ok.is ∙ c.in_ok-truth.ensures) c.in_ok-push-in-Ok.ensures.ok c.loop-item.invariant
-
-pub truths-returns-in-Err : goal.truths-returns-in-Err
-truths-returns-in-Err g t c =
-    select_stops (holds_of (world_of g.R.TableRow.table_of g.R.RowRef.shown c.args.self.now.tables.now) c.args.condition.now c.args.slots.now) c.args.items.now c.args.end _ c.loop-item.made _ _ _
-    c.item-item.is c.loop-item-test.true (sym c.in-Err.is ∙ c.in_ok-truth.ensures) c.loop-item.invariant
 
 pub members-loop-field-preserved : goal.members-loop-field-preserved
 members-loop-field-preserved g t c =
@@ -81,80 +58,24 @@ selected-returns-in-Err g t c =
     select_stops (of_item (world_of g.R.TableRow.table_of g.R.RowRef.shown c.args.self.now.tables.now) c.args.body.now c.args.slots.now) c.args.items.now c.args.end _ c.loop-item.made _ _ _
     c.item-item.is c.loop-item-test.true (sym c.in-Err.is ∙ c.in_ok-value.ensures) c.loop-item.invariant
 
-pub expanded-loop-item-preserved : goal.expanded-loop-item-preserved
-expanded-loop-item-preserved g t c =
-    each_goes (expanded_of (world_of g.R.TableRow.table_of g.R.RowRef.shown c.args.self.now.tables.now) (values_in c.args.slots.now) c.args.inner.now c.args.body.now) c.args.items.now c.args.end _ c.loop-item.made _ _ _ _
-    c.item-item.is c.loop-item-test.true (sym c.in_ok-values.ensures ∙ ap (λ d. (c.in_ok-values.values, d)) c.in-Done.is) c.in_ok-joined.ensures c.loop-item.invariant
-
-pub expanded-returns-in-Fault : goal.expanded-returns-in-Fault
-expanded-returns-in-Fault g t c =
-    each_stops (expanded_of (world_of g.R.TableRow.table_of g.R.RowRef.shown c.args.self.now.tables.now) (values_in c.args.slots.now) c.args.inner.now c.args.body.now) c.args.items.now c.args.end _ c.loop-item.made _ _ _ _ _
-    c.item-item.is c.loop-item-test.true (sym c.in_ok-values.ensures ∙ ap (λ d. (c.in_ok-values.values, d)) c.in-Fault.is) c.in_ok-joined.ensures c.loop-item.invariant
-
-pub joined-loop-item-preserved : goal.joined-loop-item-preserved
-joined-loop-item-preserved g t c =
-    each_goes (joined_of (world_of g.R.TableRow.table_of g.R.RowRef.shown c.args.self.now.tables.now) (values_in c.args.slots.now) c.args.joined.now (pairs_of c.args.matches.now)) c.args.items.now c.args.end _ c.loop-item.made _ _ _ _
-    c.item-item.is c.loop-item-test.true (sym c.in_ok-values.ensures ∙ ap (λ d. (c.in_ok-values.values, d)) c.in-Done.is) c.in_ok-all.ensures c.loop-item.invariant
-
-pub joined-returns-in-Fault : goal.joined-returns-in-Fault
-joined-returns-in-Fault g t c =
-    each_stops (joined_of (world_of g.R.TableRow.table_of g.R.RowRef.shown c.args.self.now.tables.now) (values_in c.args.slots.now) c.args.joined.now (pairs_of c.args.matches.now)) c.args.items.now c.args.end _ c.loop-item.made _ _ _ _ _
-    c.item-item.is c.loop-item-test.true (sym c.in_ok-values.ensures ∙ ap (λ d. (c.in_ok-values.values, d)) c.in-Fault.is) c.in_ok-all.ensures c.loop-item.invariant
-
-pub keyed-loop-item-preserved : goal.keyed-loop-item-preserved
-keyed-loop-item-preserved g t c =
-    select_goes (keyed_of (world_of g.R.TableRow.table_of g.R.RowRef.shown c.args.self.now.tables.now) (values_in c.args.slots.now) c.args.key.now c.args.element.now) c.args.items.now c.args.end _ c.loop-item.made _ _ _ _
-    c.item-item.is c.loop-item-test.true (sym c.in-Ok.is ∙ c.in_ok-pair.ensures) c.in_ok-push-in-Ok.ensures.ok c.loop-item.invariant
-
-pub keyed-returns-in-Err : goal.keyed-returns-in-Err
-keyed-returns-in-Err g t c =
-    select_stops (keyed_of (world_of g.R.TableRow.table_of g.R.RowRef.shown c.args.self.now.tables.now) (values_in c.args.slots.now) c.args.key.now c.args.element.now) c.args.items.now c.args.end _ c.loop-item.made _ _ _
-    c.item-item.is c.loop-item-test.true (sym c.in-Err.is ∙ c.in_ok-pair.ensures) c.loop-item.invariant
-
-pub with_keys-loop-item-preserved : goal.with_keys-loop-item-preserved
-with_keys-loop-item-preserved g t c =
-    select_goes (with_key_of (world_of g.R.TableRow.table_of g.R.RowRef.shown c.args.self.now.tables.now) (values_in c.args.slots.now) c.args.key.now) c.args.items.now c.args.end _ c.loop-item.made _ _ _ _
-    c.item-item.is c.loop-item-test.true (sym c.in-Ok.is ∙ c.in_ok-pair.ensures) c.in_ok-push-in-Ok.ensures.ok c.loop-item.invariant
-
-pub with_keys-returns-in-Err : goal.with_keys-returns-in-Err
-with_keys-returns-in-Err g t c =
-    select_stops (with_key_of (world_of g.R.TableRow.table_of g.R.RowRef.shown c.args.self.now.tables.now) (values_in c.args.slots.now) c.args.key.now) c.args.items.now c.args.end _ c.loop-item.made _ _ _
-    c.item-item.is c.loop-item-test.true (sym c.in-Err.is ∙ c.in_ok-pair.ensures) c.loop-item.invariant
-
-pub expanded_item-returns : goal.expanded_item-returns
-expanded_item-returns g t c =
-    expanded_is (world_of g.R.TableRow.table_of g.R.RowRef.shown c.args.self.now.tables.now) (values_in c.args.slots.now) c.args.item.now _ c.args.inner.now c.args.body.now _ _ _ _ c.selected.result
-    c.with-deeper.ensures c.in_ok-values.ensures c.as_slice.ensures c.selected.ensures
-
 pub matched_item-returns : goal.matched_item-returns
 matched_item-returns g t c =
     matched_is (world_of g.R.TableRow.table_of g.R.RowRef.shown c.args.self.now.tables.now) (values_in c.args.slots.now) c.args.item.now _ c.args.body.now _ _ c.selected.result c.with-deeper.ensures c.selected.ensures
 
 pub select_many-returns : goal.select_many-returns
 select_many-returns g t c =
-    select_many_answer (world_of g.R.TableRow.table_of g.R.RowRef.shown c.args.self.now.tables.now) (values_in c.args.slots.now) c.args.source.now c.args.inner.now c.args.body.now _ _ _ _
-    c.in_ok-items.ensures c.as_slice.ensures c.in_ok-values.ensures
+    let all = (stream_of (world_of g.R.TableRow.table_of g.R.RowRef.shown c.args.self.now.tables.now) (form_meaning (world_of g.R.TableRow.table_of g.R.RowRef.shown c.args.self.now.tables.now) c.args.source.now (values_in c.args.slots.now))) in
+    select_many_answer (world_of g.R.TableRow.table_of g.R.RowRef.shown c.args.self.now.tables.now) (values_in c.args.slots.now) c.args.source.now c.args.inner.now c.args.body.now all.0 all.0 all.1 _ refl refl c.in_ok-values.ensures
 
 pub group_by-returns : goal.group_by-returns
 group_by-returns g t c =
-    group_by_answer (world_of g.R.TableRow.table_of g.R.RowRef.shown c.args.self.now.tables.now) (values_in c.args.slots.now) c.args.source.now c.args.key.now c.args.element.now _ _ _ _ _ _
-    c.in_ok-items.ensures c.as_slice.ensures c.in_ok-pairs.ensures c.in_ok-groups.ensures
+    let all = (stream_of (world_of g.R.TableRow.table_of g.R.RowRef.shown c.args.self.now.tables.now) (form_meaning (world_of g.R.TableRow.table_of g.R.RowRef.shown c.args.self.now.tables.now) c.args.source.now (values_in c.args.slots.now))) in
+    group_by_answer (world_of g.R.TableRow.table_of g.R.RowRef.shown c.args.self.now.tables.now) (values_in c.args.slots.now) c.args.source.now c.args.key.now c.args.element.now all.0 all.0 all.1 _ _ _ refl refl c.in_ok-pairs.ensures c.in_ok-groups.ensures
 
 pub joined_item-returns-in_ok-found-in-Ok : goal.joined_item-returns-in_ok-found-in-Ok
 joined_item-returns-in_ok-found-in-Ok g t c =
     joined_met (world_of g.R.TableRow.table_of g.R.RowRef.shown c.args.self.now.tables.now) (values_in c.args.slots.now) c.args.joined.now (pairs_of c.args.matches.now) c.args.item.now _ _ _ _ c.matched_item.result
     (sym c.in-Ok.is ∙ c.in_ok-key.ensures) (c.in_ok-found-in-Ok.ensures (world_of g.R.TableRow.table_of g.R.RowRef.shown c.args.self.now.tables.now)) c.as_slice.ensures c.matched_item.ensures
-
-pub join-returns-in-Done : goal.join-returns-in-Done
-join-returns-in-Done g t c =
-    join_answer (world_of g.R.TableRow.table_of g.R.RowRef.shown c.args.self.now.tables.now) (values_in c.args.slots.now) c.args.source.now c.args.joined.now _ _ _ _ _ _ _ _ _ (c.in_ok-values-in-Done.values, c.in_ok-values-in-Done.end)
-    c.in_ok-items.ensures c.as_slice-in-Done.ensures c.in_ok-inner.ensures c.as_slice.ensures c.in_ok-pairs.ensures c.in-Done.is c.in_ok-matches-in-Done.ensures
-    c.in_ok-values-in-Done.ensures
-
-pub join-returns : goal.join-returns
-join-returns g t c =
-    join_stops (world_of g.R.TableRow.table_of g.R.RowRef.shown c.args.self.now.tables.now) (values_in c.args.slots.now) c.args.source.now c.args.joined.now _ _ _ _ _ _ _ _ _
-    c.in_ok-items.ensures c.in_ok-inner.ensures c.as_slice.ensures c.in_ok-pairs.ensures c.in-Fault.is c.stopped.ensures
 
 pub order_by-returns : goal.order_by-returns
 order_by-returns g t c =
@@ -190,3 +111,47 @@ columns-loop-key-preserved g t c =
 pub key_of-returns : goal.key_of-returns
 key_of-returns g t c =
     key_answer (world_of g.R.TableRow.table_of g.R.RowRef.shown c.args.self.now.tables.now) (values_in c.args.slots.now) _ c.args.item.now c.args.key.now c.scalar.result c.with.ensures c.scalar.ensures
+
+pub truth_of_two-returns-in_ok-binary-in-None : goal.truth_of_two-returns-in_ok-binary-in-None
+truth_of_two-returns-in_ok-binary-in-None g t c =
+    subst (λ m. Answers (truth_in (world_of g.R.TableRow.table_of g.R.RowRef.shown c.args.self.now.tables.now) m) c.truth_in.result) (sym c.in_ok-binary-in-None.ensures)
+    (c.truth_in.ensures (world_of g.R.TableRow.table_of g.R.RowRef.shown c.args.self.now.tables.now) refl)
+
+pub join-returns-in_ok-values-in-Done : goal.join-returns-in_ok-values-in-Done
+join-returns-in_ok-values-in-Done g t c =
+    let all = (stream_of (world_of g.R.TableRow.table_of g.R.RowRef.shown c.args.self.now.tables.now) (form_meaning (world_of g.R.TableRow.table_of g.R.RowRef.shown c.args.self.now.tables.now) c.args.source.now (values_in c.args.slots.now))) in
+    let inner = (stream_of (world_of g.R.TableRow.table_of g.R.RowRef.shown c.args.self.now.tables.now) (form_meaning (world_of g.R.TableRow.table_of g.R.RowRef.shown c.args.self.now.tables.now) c.args.joined.now.inner (values_in c.args.slots.now))) in
+    join_answer (world_of g.R.TableRow.table_of g.R.RowRef.shown c.args.self.now.tables.now) (values_in c.args.slots.now) c.args.source.now c.args.joined.now all.0 all.0 inner.0 inner.0 all.1 inner.1 _ _ _ (c.in_ok-values-in-Done.values, c.in_ok-values-in-Done.end)
+    refl refl refl refl c.in_ok-pairs.ensures c.in-Done.is c.in_ok-matches-in-Done.ensures c.in_ok-values-in-Done.ensures
+
+pub join-returns-in-Fault : goal.join-returns-in-Fault
+join-returns-in-Fault g t c =
+    let all = (stream_of (world_of g.R.TableRow.table_of g.R.RowRef.shown c.args.self.now.tables.now) (form_meaning (world_of g.R.TableRow.table_of g.R.RowRef.shown c.args.self.now.tables.now) c.args.source.now (values_in c.args.slots.now))) in
+    let inner = (stream_of (world_of g.R.TableRow.table_of g.R.RowRef.shown c.args.self.now.tables.now) (form_meaning (world_of g.R.TableRow.table_of g.R.RowRef.shown c.args.self.now.tables.now) c.args.joined.now.inner (values_in c.args.slots.now))) in
+    join_stops (world_of g.R.TableRow.table_of g.R.RowRef.shown c.args.self.now.tables.now) (values_in c.args.slots.now) c.args.source.now c.args.joined.now all.0 inner.0 inner.0 all.1 inner.1 _ _ _ _ refl refl refl c.in_ok-pairs.ensures c.in-Fault.is c.stopped.ensures
+
+pub expanded_item-returns : goal.expanded_item-returns
+expanded_item-returns g t c =
+    expanded_pulled (world_of g.R.TableRow.table_of g.R.RowRef.shown c.args.self.now.tables.now) (values_in c.args.slots.now) c.args.item.now _ c.args.inner.now c.args.body.now _ c.drained.result c.with-deeper.ensures c.drained.ensures
+
+pub listed-returns : goal.listed-returns
+listed-returns g t c =
+    subst (λ m. IsAnswer m c.simple.result) (c.in_ok-items.ensures c.args.of.now) c.simple.ensures
+
+pub given-returns : goal.given-returns
+given-returns g t c =
+    let all = (stream_of (world_of g.R.TableRow.table_of g.R.RowRef.shown c.args.self.now.tables.now) (form_meaning (world_of g.R.TableRow.table_of g.R.RowRef.shown c.args.self.now.tables.now) c.args.source.now (values_in c.args.slots.now))) in
+    given_answer (world_of g.R.TableRow.table_of g.R.RowRef.shown c.args.self.now.tables.now) c.args.method c.args.source.now c.args.argument.now (values_in c.args.slots.now) _ all c.given.result (c.in_ok-argument.ensures _ c.evaluate.ensures) refl
+    (subst (λ m. IsAnswer m c.given.result) c.in_ok-items.ensures (c.given.ensures (world_of g.R.TableRow.table_of g.R.RowRef.shown c.args.self.now.tables.now) refl))
+
+pub method_opened-returns : goal.method_opened-returns
+method_opened-returns g t c = c.of_items.ensures ∙ c.in_ok-items.ensures (world_of g.R.TableRow.table_of g.R.RowRef.shown c.args.self.now.tables.now) _ refl c.through-made.ensures
+
+pub taken-returns-in-End : goal.taken-returns-in-End
+taken-returns-in-End g t c =
+    let world = world_of g.R.TableRow.table_of g.R.RowRef.shown c.args.self.now.tables.now in
+    let old = left world (values_in c.args.slots.now) c.args.stage c.args.source.now c.args.body.now c.loop-wanted.base in
+    let new = left world (values_in c.args.slots.now) c.args.stage c.args.source.now c.args.body.now c.next.new.base in
+    let ended : Steps old (step.End c.in-End.end) new = subst (λ s. Steps old s new) c.in-End.is c.in_ok-item.ensures in
+    let some : 0 < c.loop-wanted.wanted = omega (arith, c.loop-wanted-test.true) in
+    taken_ended old _ c.loop-wanted.made c.in-End.end c.loop-wanted.wanted ended some c.loop-wanted.invariant

@@ -1,0 +1,43 @@
+-- What comes of the items that a method which makes a number of them has still to read.
+use Rattle.std.specs.Prelude.{List, [], map, pos, ℤ, Option, Some, None, Result, Ok, Err}
+use Rattle.lq_value.specs.declared.scalar.Scalar.{Scalar}
+use Rattle.lq_value.specs.declared.scalar.Scalar.TheVariants as scalar
+use Rattle.lq_value.specs.declared.ty.Ty.{Ty}
+use Rattle.lq_value.specs.declared.value.End.{End}
+use Rattle.lq_value.specs.declared.value.Fault.{Fault}
+use Rattle.lq_value.specs.declared.value.Value.{Value}
+use Rattle.lq_model.specs.Enumerable.{at_end, summed}
+use Rattle.lq_model.specs.declared.methods.Simple.{Simple}
+use Rattle.lq_model.specs.declared.methods.Simple.TheVariants as simple
+use Rattle.lq_model.specs.Stream.{Stream}
+use Rattle.lq_model.specs.WholeMeaning.{no_number, numbers}
+use Rattle.lq_operators.specs.Numbers.{best_with}
+use Rattle.lq_operators.specs.declared.numbers.Extreme.TheVariants as extreme
+use Rattle.lq_operators.specs.declared.numbers.Tally.{Tally}
+use Rattle.lq_operators.specs.declared.numbers.Tally.TheVariants as tally
+
+-- the tally that a method begins with
+abbrev pub begins : Simple → Option Tally
+begins simple.Count = Some (tally.Count (pos 0))
+begins simple.Sum = Some (tally.Sum (pos 0))
+begins simple.Min = Some (tally.Best extreme.Least None)
+begins simple.Max = Some (tally.Best extreme.Greatest None)
+begins method = None
+
+-- the answer where nothing is left to read
+abbrev pub told : Ty → Tally → End → Result Scalar Fault
+told t (tally.Count n) e = at_end e (Ok (scalar.Int n))
+told t (tally.Sum n) e = at_end e (Ok (scalar.Int n))
+told t (tally.Best which best) e = at_end e (best_with which (no_number t) best [])
+
+module _ {R : Type 0} where
+  -- the answer where a tally was made of the items before, on items of this type
+  abbrev pub tallied : Ty → Tally → Stream (Value R) → Result Scalar Fault
+  tallied t (tally.Count n) s = summed n (map (λ x. pos 1) s.0) s.1
+  tallied t (tally.Sum n) s = summed n (numbers s.0) s.1
+  tallied t (tally.Best which best) s = at_end s.1 (best_with which (no_number t) best (numbers s.0))
+
+  -- the same behind a step that gave the next tally, or met a fault
+  abbrev pub goes_on : Ty → Result Tally Fault → Stream (Value R) → Result Scalar Fault
+  goes_on t (Ok next) s = tallied t next s
+  goes_on t (Err f) s = Err f

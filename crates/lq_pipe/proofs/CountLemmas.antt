@@ -1,0 +1,170 @@
+-- What methods answer of the items that they read, and of tallies.
+use Rattle.std.proofs.Common.{◌≡◌, ◌∷◌, ◌+◌, List, [], ℕ, zero, suc, ℤ, pos, negsuc, Option, Some, None, Result, Ok, Err, ap, ◌∙◌, sym, refl, subst, arith}
+use Rattle.lq_value.specs.declared.scalar.Scalar.{Scalar}
+use Rattle.lq_value.specs.declared.scalar.Scalar.TheVariants as scalar
+use Rattle.lq_value.specs.declared.ty.Ty.{Ty}
+use Rattle.lq_value.specs.declared.value.End.{End}
+use Rattle.lq_value.specs.declared.value.Fault.{Fault}
+use Rattle.lq_value.specs.declared.value.Fault.TheVariants as fault
+use Rattle.lq_value.specs.declared.value.Value.{Value, out-Value}
+use Rattle.lq_value.specs.declared.value.Value.TheOpen.{Value-F}
+use Rattle.lq_model.specs.Enumerable.{as_count, element_at, first, in_front, item_behind, single, take_first}
+use Rattle.lq_model.specs.Meaning.{World, as_value, scalar_of}
+use Rattle.lq_model.specs.Operations.{on_ok}
+use Rattle.lq_model.specs.Stream.{Stream}
+use Rattle.lq_model.specs.WholeMeaning.{as_sequence, given_meaning, number_of, on_number, simple_meaning}
+use Rattle.lq_model.specs.declared.methods.Given.{Given}
+use Rattle.lq_model.specs.declared.methods.Given.TheVariants as given
+use Rattle.lq_model.specs.declared.methods.Simple.{Simple}
+use Rattle.lq_model.specs.declared.methods.Simple.TheVariants as simple
+use Rattle.lq_operators.specs.Tallies.{begins, goes_on, tallied, told}
+use Rattle.lq_operators.specs.declared.numbers.Tally.{Tally}
+use Rattle.lq_operators.specs.declared.numbers.Tally.TheVariants as tally
+use Rattle.lq_operators.proofs.NumberLemmas.{begun}
+use Rattle.lq_pipe.specs.Counts.{needed, needed_by, read, up_to}
+use Rattle.lq_pipe.proofs.PullLemmas.{left_opened}
+
+some_is : {A : Type 0} {x y : A} → Some x ≡ Some y → x ≡ y
+some_is {A} {x} is = ap (λ (o : Option A). get_or_else o) is where
+  get_or_else : Option A → A
+  get_or_else None = x
+  get_or_else (Some z) = z
+
+none_some : {A : Type 0} {x : A} → None ≡ Some x → ⊥
+none_some {A} {x} is = subst (λ (o : Option A). is_none o) is tt where
+  is_none : Option A → Type 0
+  is_none None = Unit {0}
+  is_none (Some y) = ⊥
+
+told_is : (R : Type 0) (t : Ty) (k : Tally) (e : End) → told t k e ≡ tallied {R = R} t k ([], e)
+told_is R t (tally.Count n) e = refl
+told_is R t (tally.Sum n) e = refl
+told_is R t (tally.Best which best) e = refl
+
+module _ {R : Type 0} where
+  -- one item settles `First`, and two settle `Single`
+  of_one : (none : Result (Value R) Fault) (xs : List (Value R)) (e : End) → first none (take_first 1 xs e).0 (take_first 1 xs e).1 ≡ first none xs e
+  of_one none [] e = refl
+  of_one none (x ∷ xs) e = refl
+
+  of_two : (none : Result (Value R) Fault) (xs : List (Value R)) (e : End) → single none (take_first 2 xs e).0 (take_first 2 xs e).1 ≡ single none xs e
+  of_two none [] e = refl
+  of_two none (x ∷ []) e = refl
+  of_two none (x ∷ y ∷ xs) e = refl
+
+  of_any : (t : Ty) (xs : List (Value R)) (e : End) → simple_meaning simple.Any t (take_first 1 xs e) ≡ simple_meaning simple.Any t (xs, e)
+  of_any t [] e = refl
+  of_any t (x ∷ xs) e = refl
+
+  read_is : (method : Simple) (n : ℕ) (t : Ty) (s : Stream (Value R)) → read method ≡ Some n → simple_meaning method t (take_first n s.0 s.1) ≡ simple_meaning method t s
+  read_is simple.Any n t s is = ap (λ k. simple_meaning simple.Any t (take_first k s.0 s.1)) (sym (some_is is)) ∙ of_any t s.0 s.1
+  read_is simple.First n t s is = ap (λ k. simple_meaning simple.First t (take_first k s.0 s.1)) (sym (some_is is)) ∙ of_one _ s.0 s.1
+  read_is simple.FirstOrDefault n t s is = ap (λ k. simple_meaning simple.FirstOrDefault t (take_first k s.0 s.1)) (sym (some_is is)) ∙ of_one _ s.0 s.1
+  read_is simple.Single n t s is = ap (λ k. simple_meaning simple.Single t (take_first k s.0 s.1)) (sym (some_is is)) ∙ of_two _ s.0 s.1
+  read_is simple.SingleOrDefault n t s is = ap (λ k. simple_meaning simple.SingleOrDefault t (take_first k s.0 s.1)) (sym (some_is is)) ∙ of_two _ s.0 s.1
+  read_is simple.Distinct n t s is = absurd (none_some is)
+  read_is simple.Reverse n t s is = absurd (none_some is)
+  read_is simple.DefaultIfEmpty n t s is = absurd (none_some is)
+  read_is simple.Count n t s is = absurd (none_some is)
+  read_is simple.Last n t s is = absurd (none_some is)
+  read_is simple.Sum n t s is = absurd (none_some is)
+  read_is simple.Min n t s is = absurd (none_some is)
+  read_is simple.Max n t s is = absurd (none_some is)
+
+  pub read_some : (method : Simple) (n : ℕ) (items s : Stream (Value R)) → read method ≡ Some n → items ≡ take_first n s.0 s.1
+      → (t : Ty) → simple_meaning method t items ≡ simple_meaning method t s
+  read_some method n items s is taken t = ap (simple_meaning method t) taken ∙ read_is method n t s is
+
+  pub read_all : (method : Simple) (items s : Stream (Value R)) → items ≡ s → (t : Ty) → simple_meaning method t items ≡ simple_meaning method t s
+  read_all method items s is t = ap (simple_meaning method t) is
+
+  -- ---- tallies
+
+  pub tally_answers : (method : Simple) (k : Tally) → begins method ≡ Some k → (t : Ty) (s : Stream (Value R)) → simple_meaning method t s ≡ as_value (tallied t k s)
+  tally_answers method k is t s = begun method k is t s
+
+  pub tally_begins : (t : Ty) (k : Tally) (left all : Stream (Value R)) → left ≡ all → tallied t k left ≡ tallied t k all
+  tally_begins t k left all is = ap (tallied t k) is
+
+  pub tally_on : (t : Ty) (k next : Tally) (old new : Stream (Value R)) (x : Value R) (all : Result Scalar Fault) → old ≡ in_front x new
+      → ((u : Ty) (s : Stream (Value R)) → tallied u k (in_front x s) ≡ goes_on u (Ok next) s) → tallied t k old ≡ all → tallied t next new ≡ all
+  tally_on t k next old new x all is steps goes = sym (steps t new) ∙ ap (tallied t k) (sym is) ∙ goes
+
+  pub tally_stopped : (t : Ty) (k : Tally) (f : Fault) (old new : Stream (Value R)) (x : Value R) (all : Result Scalar Fault) → old ≡ in_front x new
+      → ((u : Ty) (s : Stream (Value R)) → tallied u k (in_front x s) ≡ goes_on u (Err f) s) → tallied t k old ≡ all → all ≡ Err f
+  tally_stopped t k f old new x all is steps goes = sym goes ∙ ap (tallied t k) is ∙ steps t new
+
+  pub tally_ended : (t : Ty) (k : Tally) (old : Stream (Value R)) (e : End) (all : Result Scalar Fault) → old ≡ ([], e) → tallied t k old ≡ all → told t k e ≡ all
+  tally_ended t k old e all is goes = told_is R t k e ∙ ap (tallied t k) (sym is) ∙ goes
+
+module _ {R : Type 0} (world : World R) where
+  behind : (n : ℕ) (xs : List (Value R)) (e : End) → item_behind n (take_first (n + 1) xs e).0 (take_first (n + 1) xs e).1 ≡ item_behind n xs e
+  behind n xs e =
+      let same : n + 1 ≡ suc n = omega arith in
+      ap (λ k. item_behind n (take_first k xs e).0 (take_first k xs e).1) same ∙ at n xs
+    where
+      at : (m : ℕ) (ys : List (Value R)) → item_behind m (take_first (suc m) ys e).0 (take_first (suc m) ys e).1 ≡ item_behind m ys e
+      at m [] = refl
+      at zero (y ∷ ys) = refl
+      at (suc m) (y ∷ ys) = at m ys
+
+  taken_again : (n : ℕ) (xs : List (Value R)) (e : End) → take_first n (take_first n xs e).0 (take_first n xs e).1 ≡ take_first n xs e
+  taken_again zero xs e = refl
+  taken_again (suc n) [] e = refl
+  taken_again (suc n) (x ∷ xs) e = ap (in_front x) (taken_again n xs e)
+
+  placed : (n : ℤ) (xs : List (Value R)) (e : End) → element_at n (take_first (as_count n + 1) xs e).0 (take_first (as_count n + 1) xs e).1 ≡ element_at n xs e
+  placed (pos n) xs e = behind n xs e
+  placed (negsuc n) xs e = refl
+
+  of_number : (n : ℤ) (v : Value R) (f : ℤ → Result (Value R) Fault) → out-Value R v ≡ Value-F.Scalar (scalar.Int n) → on_number world (Ok v) f ≡ f n
+  of_number n v f is = ap (λ (layer : Value-F R (Value R)). on_ok (on_ok (scalar_of world layer) (number_of world)) f) is
+
+  up_to_is : (method : Given) (m : ℤ) (n : ℕ) (v : Value R) (s : Stream (Value R)) → out-Value R v ≡ Value-F.Scalar (scalar.Int m) → up_to method m ≡ Some n
+      → given_meaning world method (Ok v) (take_first n s.0 s.1) ≡ given_meaning world method (Ok v) s
+  up_to_is given.Take m n v s layer is =
+      ap (λ k. given_meaning world given.Take (Ok v) (take_first k s.0 s.1)) (sym (some_is is))
+      ∙ of_number m v (λ k. as_sequence (take_first (as_count k) (take_first (as_count m) s.0 s.1).0 (take_first (as_count m) s.0 s.1).1)) layer
+      ∙ ap as_sequence (taken_again (as_count m) s.0 s.1)
+      ∙ sym (of_number m v (λ k. as_sequence (take_first (as_count k) s.0 s.1)) layer)
+  up_to_is given.ElementAt m n v s layer is =
+      ap (λ k. given_meaning world given.ElementAt (Ok v) (take_first k s.0 s.1)) (sym (some_is is))
+      ∙ of_number m v (λ k. element_at k (take_first (as_count m + 1) s.0 s.1).0 (take_first (as_count m + 1) s.0 s.1).1) layer
+      ∙ placed m s.0 s.1
+      ∙ sym (of_number m v (λ k. element_at k s.0 s.1) layer)
+  up_to_is given.Concat m n v s layer is = absurd (none_some is)
+  up_to_is given.Union m n v s layer is = absurd (none_some is)
+  up_to_is given.Intersect m n v s layer is = absurd (none_some is)
+  up_to_is given.Except m n v s layer is = absurd (none_some is)
+  up_to_is given.Skip m n v s layer is = absurd (none_some is)
+  up_to_is given.Contains m n v s layer is = absurd (none_some is)
+
+  by_layer : (method : Given) (n : ℕ) (v : Value R) (s : Stream (Value R)) (layer : Value-F R (Value R)) → out-Value R v ≡ layer → needed_by method layer ≡ Some n
+      → given_meaning world method (Ok v) (take_first n s.0 s.1) ≡ given_meaning world method (Ok v) s
+  by_layer method n v s (Value-F.Scalar (scalar.Int m)) is needs = up_to_is method m n v s is needs
+  by_layer method n v s (Value-F.Scalar scalar.Null) is needs = absurd (none_some needs)
+  by_layer method n v s (Value-F.Scalar (scalar.Bool b)) is needs = absurd (none_some needs)
+  by_layer method n v s (Value-F.Scalar (scalar.Text t)) is needs = absurd (none_some needs)
+  by_layer method n v s (Value-F.Row r) is needs = absurd (none_some needs)
+  by_layer method n v s (Value-F.Rec ms) is needs = absurd (none_some needs)
+  by_layer method n v s (Value-F.Group k xs) is needs = absurd (none_some needs)
+  by_layer method n v s (Value-F.Seq xs e) is needs = absurd (none_some needs)
+
+  needed_is : (method : Given) (argument : Result (Value R) Fault) (n : ℕ) (s : Stream (Value R)) → needed method argument ≡ Some n
+      → given_meaning world method argument (take_first n s.0 s.1) ≡ given_meaning world method argument s
+  needed_is method (Ok v) n s is = by_layer method n v s (out-Value R v) refl is
+  needed_is method (Err f) n s is = absurd (none_some is)
+
+  pub needed_some : (method : Given) (argument : Result (Value R) Fault) (n : ℕ) (items s : Stream (Value R)) → needed method argument ≡ Some n
+      → items ≡ take_first n s.0 s.1 → given_meaning world method argument items ≡ given_meaning world method argument s
+  needed_some method argument n items s is taken = ap (given_meaning world method argument) taken ∙ needed_is method argument n s is
+
+  pub needed_all : (method : Given) (argument : Result (Value R) Fault) (items s : Stream (Value R)) → items ≡ s
+      → given_meaning world method argument items ≡ given_meaning world method argument s
+  needed_all method argument items s is = ap (given_meaning world method argument) is
+
+pub ruleset reads = (read_some, read_all)
+
+pub ruleset needs = (needed_some, needed_all)
+
+pub ruleset tallies = (left_opened, tally_begins, tally_on, tally_stopped, tally_ended)

@@ -1,0 +1,16 @@
+use Rattle.std.proofs.Common.{◌≡◌, Some, ap, option_and_then, slice_get, sym, ◌∙◌}
+use Rattle.lq_model.specs.Served.{columns_in}
+use Rattle.lq_model.specs.Visible.{cell_named}
+use Rattle.lq_tree.specs.FormMeaning.{name_of_column}
+use Rattle.lq_pipe.specs.Worlds.{schemas_in}
+use Rattle.lq_pipe.proofs.CellLemmas.{cell_found}
+use Rattle.lq_pipe.proofs.tables.cell.Goals as goal
+
+pub returns-then-table : goal.returns-then-table
+returns-then-table g c =
+    let schemas = schemas_in c.args.tables.now in
+    let row = g.R.TableRow.table_of c.args.row.now in
+    let cells = g.R.RowRef.shown c.args.row.now in
+    c.cell_at.ensures ∙ ap (λ l. slice_get l c.args.column) c.cells.ensures
+    ∙ sym (cell_found schemas c.args.table row c.args.column c.in_ok-name.name.now cells c.requires (sym c.table.ensures ∙ c.if-table.true) (sym c.in_ok-name.ensures))
+    ∙ ap (option_and_then (cell_named (columns_in (slice_get schemas row)) cells)) c.in_ok-name.ensures

@@ -1,0 +1,103 @@
+//! Conditions: truth values, which are evaluated without a value of their own.
+use crate::running::Running;
+use crate::scalars;
+use crate::slots::Slots;
+use crate::tables::TableRow;
+use lq_model::Op;
+use lq_operators::RunError;
+use lq_tree::Form;
+
+impl<'a, R: TableRow> Running<'a, R> {
+    ghost use Rattle.std.specs.Prelude.{IfSome};
+    ghost use Rattle.lq_tree.specs.declared.tree.Form.TheVariants as form;
+    ghost use Rattle.lq_pipe.specs.Running.{Answers, meant, truth_in};
+    ghost use Rattle.lq_pipe.specs.Worlds.{world_of};
+
+    /// The truth value that a form means.
+    #[cycle(running)]
+    #[inline(never)]
+    pub(crate) fn truth(&self, form: &Form, slots: &Slots<'_, R>) -> Result<bool, RunError>
+        ensures { Answers (truth_in (world_of R.table_of R.shown self.now.tables.now) (meant (world_of R.table_of R.shown self.now.tables.now) form.now slots.now)) result }
+    {
+        match form {
+            Form::And(left, right) => self.truth_of_both(left.get(), right.get(), slots),
+            Form::Or(left, right) => self.truth_of_either(left.get(), right.get(), slots),
+            Form::Binary(op, left, right) => {
+                self.truth_of_two(*op, left.get(), right.get(), slots)
+            }
+            _ => scalars::truth(&self.scalar(form, slots)?),
+        }
+    }
+
+    /// Whether both are true; the second is evaluated only where the first is.
+    #[cycle(running)]
+    #[inline(never)]
+    #[tactic(auto, using(crate::proofs::TruthLemmas::truth_both))]
+    fn truth_of_both(
+        &self,
+        left: &Form,
+        right: &Form,
+        slots: &Slots<'_, R>,
+    ) -> Result<bool, RunError>
+        ensures { Answers (truth_in (world_of R.table_of R.shown self.now.tables.now) (meant (world_of R.table_of R.shown self.now.tables.now) (form.And left.now right.now) slots.now)) result }
+    {
+        match self.truth(left, slots)? {
+            true => self.truth(right, slots),
+            false => Ok(false),
+        }
+    }
+
+    /// Whether one is true; the second is evaluated only where the first isn't.
+    #[cycle(running)]
+    #[inline(never)]
+    #[tactic(auto, using(crate::proofs::TruthLemmas::truth_either))]
+    fn truth_of_either(
+        &self,
+        left: &Form,
+        right: &Form,
+        slots: &Slots<'_, R>,
+    ) -> Result<bool, RunError>
+        ensures { Answers (truth_in (world_of R.table_of R.shown self.now.tables.now) (meant (world_of R.table_of R.shown self.now.tables.now) (form.Or left.now right.now) slots.now)) result }
+    {
+        match self.truth(left, slots)? {
+            true => Ok(true),
+            false => self.truth(right, slots),
+        }
+    }
+
+    /// The truth value that an operator gives to two operands, if both stand where they are read.
+    #[tactic(auto, using(crate::proofs::TruthLemmas::truth_binary))]
+    fn truth_there(
+        &self,
+        op: Op,
+        left: &Form,
+        right: &Form,
+        slots: &Slots<'_, R>,
+    ) -> Option<Result<bool, RunError>>
+        ensures { IfSome result (λ found. Answers (truth_in (world_of R.table_of R.shown self.now.tables.now)
+            (meant (world_of R.table_of R.shown self.now.tables.now) (form.Binary op left.now right.now) slots.now)) found) }
+    {
+        let sign = scalars::sign_of(op)?;
+        let left = self.there(left, slots)?;
+        let right = self.there(right, slots)?;
+        Some(scalars::truth_of_sign(sign, left, right))
+    }
+
+    /// The truth value that an operator gives to two operands.
+    #[cycle(running)]
+    #[inline(never)]
+    fn truth_of_two(
+        &self,
+        op: Op,
+        left: &Form,
+        right: &Form,
+        slots: &Slots<'_, R>,
+    ) -> Result<bool, RunError>
+        ensures { Answers (truth_in (world_of R.table_of R.shown self.now.tables.now) (meant (world_of R.table_of R.shown self.now.tables.now) (form.Binary op left.now right.now) slots.now)) result }
+    {
+        match (&*self).truth_there(op, &*left, &*right, &*slots) {
+            Some(found) => found,
+            None => scalars::truth_in(self.binary(op, left, right, slots)?),
+        }
+    }
+}

@@ -1,0 +1,53 @@
+//! How many items a method reads at most.
+ghost use Rattle.std.specs.Prelude.{◌≡◌};
+ghost use Rattle.lq_value.specs.declared.value.Value.{out-Value};
+ghost use Rattle.lq_pipe.specs.Counts.{needed, needed_by, read, up_to};
+
+use lq_model::{Given, Simple};
+use lq_value::{Fault, RowRef, Scalar, Value};
+
+/// So many items are read by a method without an argument, where there is a limit to them: the
+/// first decides, or it is a second one that is a fault.
+pub(crate) fn read(method: Simple) -> Option<usize>
+    ensures { result ≡ read method }
+{
+    match method {
+        Simple::Any | Simple::First | Simple::FirstOrDefault => Some(1),
+        Simple::Single | Simple::SingleOrDefault => Some(2),
+        _ => None,
+    }
+}
+
+/// The items up to a number, or up to the place that it is.
+fn up_to(method: Given, number: i32) -> Option<usize>
+    ensures { result ≡ up_to method number }
+{
+    let count = if number < 0 { 0 } else { number as usize };
+    match method {
+        Given::Take => Some(count),
+        Given::ElementAt => Some(count + 1),
+        _ => None,
+    }
+}
+
+/// The same by a value, if it is a number.
+#[tactic(auto, using(crate::proofs::PartLemmas::layers))]
+fn needed_by<R: RowRef>(method: Given, argument: &Value<R>) -> Option<usize>
+    ensures { result ≡ needed_by method (out-Value R argument.now) }
+{
+    match argument {
+        Value::Scalar(Scalar::Int(number)) => up_to(method, *number),
+        Value::Scalar(_) => None,
+        Value::Row(_) | Value::Rec(_) | Value::Group(_, _) | Value::Seq(_, _) => None,
+    }
+}
+
+/// So many items are read by a method with this argument, where there is a limit to them.
+pub(crate) fn needed<R: RowRef>(method: Given, argument: &Result<Value<R>, Fault>) -> Option<usize>
+    ensures { result ≡ needed method argument.now }
+{
+    match argument {
+        Ok(value) => needed_by(method, value),
+        Err(_) => None,
+    }
+}
