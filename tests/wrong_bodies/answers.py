@@ -74,6 +74,8 @@ class Answer:
     def error_of(self, function):
         """The error in the function's proof that isn't one of a name alone, if there is one."""
         errors = [it for it in self.errors if is_of(it, function) and not ONLY_A_NAME.search(it[2])]
+        if function.cycle:
+            errors = [it for it in errors if it[2].startswith(f"`{function.name.split('::')[-1]}-")]
         return told(errors[0]) if errors else None
 
     def lines_of(self, function):
