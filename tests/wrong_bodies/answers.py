@@ -56,11 +56,26 @@ class Answer:
 
     def own_failure(self, function):
         """The goal that keeps the function itself, or a closure in it, from being proved, if there is one."""
+        if function.cycle:
+            return self.failure_in_cycle(function)
         for name in self.lines_of(function):
             failure = self.failures[name]
             if failure.searched or failure.goals:
                 return failure.searched or f"not proved: {', '.join(failure.goals)}"
+        return self.error_of(function)
+
+    def failure_in_cycle(self, function):
+        """The goals of a function of a cycle that are open. All functions of a cycle have one proof, in which each goal has the name
+        of its function in front; each function's line names all goals that are open."""
+        searched = [self.failures[it].searched or "" for it in self.lines_of(function)]
+        own = [it for it in re.findall(r"`([^`]*)`", "".join(searched)) if it.startswith(f"{function.name.split('::')[-1]}-")]
+        return f"`search` did not prove {', '.join(f'`{it}`' for it in own)}" if own else self.error_of(function)
+
+    def error_of(self, function):
+        """The error in the function's proof that isn't one of a name alone, if there is one."""
         errors = [it for it in self.errors if is_of(it, function) and not ONLY_A_NAME.search(it[2])]
+        if function.cycle:
+            errors = [it for it in errors if it[2].startswith(f"`{function.name.split('::')[-1]}-")]
         return told(errors[0]) if errors else None
 
     def lines_of(self, function):

@@ -65,7 +65,7 @@ class Edit:
             self.spans[path] = [(it.first, it.last) for it in around if it]
             self.is_alone |= path.startswith("specs/") or None in around
             touched += [it for it in dict.fromkeys(around) if it and it not in touched]
-        self.touched = {it.cycle or it.name for it in touched}
+        self.touched = {it.name for it in touched}
         own = touched
         if self.named:
             own = [it for it in crate.all_functions() if f"::{it.name}".endswith(f"::{self.named}")]

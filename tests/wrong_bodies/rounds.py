@@ -83,6 +83,8 @@ class Rounds:
 
     def __init__(self, copy, edits, logs=None):
         self.copy, self.logs, self.results, self.count = copy, logs, {}, 0
+        # The edits of the round that is judged.
+        self.together = []
         for edit in edits:
             if edit.problem:
                 self.results[edit.label] = (False, f"cannot be applied: {edit.problem}")
@@ -103,7 +105,7 @@ class Rounds:
         answer = self.copy.check(edits)
         if not answer.has_verdict or answer.refused_early:
             return self.blame(edits, answer)
-        self.count += 1
+        self.count, self.together = self.count + 1, edits
         self.log(answer)
         if len(edits) > 1 and self.reaches_others(edits, answer):
             return self.try_together(edits[:1])
@@ -114,8 +116,12 @@ class Rounds:
     def reaches_others(self, edits, answer):
         """Whether a function that none of the edits changes has a failure of its own: then the edits are not apart."""
         changed = {it for edit in edits for it in edit.touched}
-        others = [it for it in self.copy.crate.all_functions() if not {it.name, it.cycle} & changed]
+        others = [it for it in self.copy.crate.all_functions() if it.name not in changed]
         return any(answer.own_failure(it) for it in others)
+
+    def has_neighbours(self, edit):
+        """Whether the round has another edit of the same cycle, which keeps this one's function from being proved, too."""
+        return any(it.own.cycle == edit.own.cycle for it in self.together if it is not edit and it.own)
 
     def settle_one(self, edits):
         """Where every edit waits for what its function calls, one is tried by itself, and its answer stands."""
@@ -132,7 +138,7 @@ class Rounds:
             return self.decide(edit, True, f"{edit.own.name}: {failure}")
         if answer.is_proved(edit.own):
             return self.decide(edit, False, f"{edit.own.name} is still proved")
-        if answer.waits(edit.own):
+        if answer.waits(edit.own) or edit.own.cycle and self.has_neighbours(edit):
             return False
         return self.decide(edit, False, f"{edit.own.name}: {answer.other_reason(edit.own)}")
 

@@ -32,7 +32,7 @@ use Rattle.lq_pipe.specs.declared.stages.Stage.{Stage}
 use Rattle.lq_pipe.specs.declared.stages.Stage.TheVariants as stage
 use Rattle.lq_pipe.specs.declared.stages.Step.{Step}
 use Rattle.lq_pipe.specs.declared.stages.Step.TheVariants as step
-use Rattle.lq_pipe.proofs.Forms.{form_table, form_through}
+use Rattle.lq_pipe.proofs.Forms.{form_sequence, form_table, form_through}
 use Rattle.lq_pipe.proofs.StreamLemmas.{then_assoc}
 
 -- ---- bases
@@ -241,8 +241,8 @@ module _ {R : Type 0} (world : World R) (slots : Slots R) where
   pub base_pair : (a b : Form) → IsBase (form.Pair a b)
   base_pair a b = λ x. at _ _ x (form.outs-Pair a b)
 
-  pub base_sequence : (a : Form) → IsBase (form.Sequence a)
-  base_sequence a = λ x. at _ _ x (form.outs-Sequence a)
+  pub passed_sequence : (a : Form) (x : Value R) → passed_at world slots (form.Sequence a) x ≡ passed_at world slots a x
+  passed_sequence a x = at _ _ x (form.outs-Sequence a)
 
   pub base_simple : (method : Simple) (t : Ty) (a : Form) → IsBase (form.Simple method t a)
   base_simple method t a = λ x. at _ _ x (form.outs-Simple method t a)
@@ -359,10 +359,6 @@ module _ {R : Type 0} (world : World R) (slots : Slots R) where
       → At world slots (form.Pair a b) (base_stream r) ≡ stream_of world (form_meaning world (form.Pair a b) slots)
   opens_pair a b r h = opens_base (form.Pair a b) (base_stream r) (base_pair a b) h
 
-  pub opens_sequence : (a : Form) (r : Base R) → base_stream r ≡ stream_of world (form_meaning world (form.Sequence a) slots)
-      → At world slots (form.Sequence a) (base_stream r) ≡ stream_of world (form_meaning world (form.Sequence a) slots)
-  opens_sequence a r h = opens_base (form.Sequence a) (base_stream r) (base_sequence a) h
-
   pub opens_simple : (method : Simple) (t : Ty) (a : Form) (r : Base R) → base_stream r ≡ stream_of world (form_meaning world (form.Simple method t a) slots)
       → At world slots (form.Simple method t a) (base_stream r) ≡ stream_of world (form_meaning world (form.Simple method t a) slots)
   opens_simple method t a r h = opens_base (form.Simple method t a) (base_stream r) (base_simple method t a) h
@@ -415,6 +411,14 @@ module _ {R : Type 0} (world : World R) (slots : Slots R) where
   rows_found b rows e found known rows_are ends is =
       is ∙ (λ i. (map value.Row (rows_are i), ends i)) ∙ found_or_not known found
 
+  pub opens_sequence : (a : Form) (r : Base R) → At world slots a (base_stream r) ≡ stream_of world (form_meaning world a slots)
+      → At world slots (form.Sequence a) (base_stream r) ≡ stream_of world (form_meaning world (form.Sequence a) slots)
+  opens_sequence a r h =
+      (λ i. each (λ x. passed_sequence a x i) (base_stream r).0 (base_stream r).1)
+      ∙ h
+      ∙ sym (stream_sequence (stream_of world (form_meaning world a slots)))
+      ∙ ap (stream_of world) (sym (form_sequence world a slots))
+
   pub opens_where : (t u : Ty) (a f : Form) (r : Base R) → At world slots a (base_stream r) ≡ stream_of world (form_meaning world a slots)
       → At world slots (form.Through through.Where t u a f) (base_stream r) ≡ stream_of world (form_meaning world (form.Through through.Where t u a f) slots)
   opens_where t u a f r h =
@@ -457,7 +461,7 @@ module _ {A : Type 0} where
 
 pub ruleset passes_methods = (passed_where, passed_select, base_all, base_those, base_values)
 
-pub ruleset passes_forms = (base_literal, base_slot, base_first, base_second, base_table, base_column, base_member, base_key, base_unary, base_binary, base_and, base_or, base_coalesce, base_conditional, base_is_null, base_record, base_pair, base_sequence, base_simple, base_given, base_select_many, base_join, base_order_by, base_group_by)
+pub ruleset passes_forms = (base_literal, base_slot, base_first, base_second, base_table, base_column, base_member, base_key, base_unary, base_binary, base_and, base_or, base_coalesce, base_conditional, base_is_null, base_record, base_pair, passed_sequence, base_simple, base_given, base_select_many, base_join, base_order_by, base_group_by)
 
 pub ruleset opens_methods = (opens_where, opens_select, opens_all, opens_those, opens_values)
 

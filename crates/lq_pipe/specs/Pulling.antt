@@ -57,10 +57,11 @@ module _ {R : Type 0} (world : World R) (slots : Slots R) where
   staged stage.Where body s = where_by (λ v. is_true world (form_meaning world body) (with_item world slots v)) s.0 s.1
   staged stage.Select body s = select_by (λ v. form_meaning world body (with_item world slots v)) s.0 s.1
 
-  -- what an item of the base becomes at a form: it goes through each `Where` and `Select` above the base
+  -- what an item of the base becomes at a form: it goes through each `Where` and `Select` above the base, and past what makes a sequence
   abbrev pub passed_step : Form-F (Form × (Value R → Stream (Value R))) → Value R → Stream (Value R)
   passed_step (Form-F.Through through.Where t u a f) x = staged stage.Where f.0 (a.1 x)
   passed_step (Form-F.Through through.Select t u a f) x = staged stage.Select f.0 (a.1 x)
+  passed_step (Form-F.Sequence a) x = a.1 x
   passed_step layer x = (x ∷ [], end.Done)
 
   unfoldable pub passed_at : Form → Value R → Stream (Value R)

@@ -11,7 +11,8 @@ use lq_value::{End, Fault, List, Ty, Value};
 use std::alloc::AllocError;
 
 impl<'a, R: TableRow> Running<'a, R> {
-    ghost use Rattle.std.specs.Prelude.{◌≡◌, ◌∷◌, [], IfOk, slice_get};
+    ghost use Rattle.std.specs.Prelude.{◌≡◌, ◌∷◌, [], true, IfOk, slice_get};
+    ghost use Rattle.lq_value.specs.declared.value.Value.{Value};
     ghost use Rattle.lq_value.specs.declared.value.End.TheVariants as end;
     ghost use Rattle.lq_model.specs.Meaning.{stream_of, table_value};
     ghost use Rattle.lq_model.specs.Enumerable.{take_first};
@@ -143,7 +144,7 @@ impl<'a, R: TableRow> Running<'a, R> {
             Form::IsNull(_, _) => Ok(self.opened(form, slots)?),
             Form::Record(_) => Ok(self.opened(form, slots)?),
             Form::Pair(_, _) => Ok(self.opened(form, slots)?),
-            Form::Sequence(_) => Ok(self.opened(form, slots)?),
+            Form::Sequence(source) => Ok(self.open(source.get(), slots)?),
             Form::Simple(_, _, _) => Ok(self.opened(form, slots)?),
             Form::Given(_, _, _) => Ok(self.opened(form, slots)?),
             Form::SelectMany(_, _, _) => Ok(self.opened(form, slots)?),
@@ -216,13 +217,39 @@ impl<'a, R: TableRow> Running<'a, R> {
             Form::IsNull(_, _) => Ok(Passed::Item(item)),
             Form::Record(_) => Ok(Passed::Item(item)),
             Form::Pair(_, _) => Ok(Passed::Item(item)),
-            Form::Sequence(_) => Ok(Passed::Item(item)),
+            Form::Sequence(source) => Ok(self.pass(source.get(), item, slots)?),
             Form::Simple(_, _, _) => Ok(Passed::Item(item)),
             Form::Given(_, _, _) => Ok(Passed::Item(item)),
             Form::SelectMany(_, _, _) => Ok(Passed::Item(item)),
             Form::Join(_, _) => Ok(Passed::Item(item)),
             Form::OrderBy(_, _) => Ok(Passed::Item(item)),
             Form::GroupBy(_, _, _) => Ok(Passed::Item(item)),
+        }
+    }
+
+    /// Whether a form is one of these, whose items nothing is made of.
+    #[tactic(auto, using(crate::proofs::PullLemmas::passes_forms))]
+    fn has_items(&self, form: &Form, slots: &Slots<'_, R>) -> bool
+        ensures { (item : Value R) → result ≡ true → passed_at (world_of R.table_of R.shown self.now.tables.now) (values_in slots.now) form.now item ≡ (item ∷ [], end.Done) }
+    {
+        match form {
+            Form::Table(_) => true,
+            Form::Slot(_) => true,
+            Form::First(_) => true,
+            Form::Second(_) => true,
+            _ => false,
+        }
+    }
+
+    /// Whether an item of the base is one of the form, since no condition and no lambda stands between.
+    /// Where it isn't told, `pass` finds out for each item.
+    #[tactic(auto, using(crate::proofs::PullLemmas::passes_forms))]
+    fn is_base(&self, form: &Form, slots: &Slots<'_, R>) -> bool
+        ensures { (item : Value R) → result ≡ true → passed_at (world_of R.table_of R.shown self.now.tables.now) (values_in slots.now) form.now item ≡ (item ∷ [], end.Done) }
+    {
+        match form {
+            Form::Sequence(source) => self.has_items(source.get(), slots),
+            _ => self.has_items(form, slots),
         }
     }
 
@@ -239,6 +266,9 @@ impl<'a, R: TableRow> Running<'a, R> {
         ensures { IfOk result (λ p. passed_on p ≡ staged (world_of R.table_of R.shown self.now.tables.now) (values_in slots.now) stage body.now
             (passed_at (world_of R.table_of R.shown self.now.tables.now) (values_in slots.now) source.now item)) }
     {
+        if self.is_base(source, slots) {
+            return Ok(self.at_stage(stage, body, item, slots)?);
+        }
         match self.pass(source, item, slots)? {
             Passed::Item(item) => self.at_stage(stage, body, item, slots),
             Passed::Dropped => Ok(Passed::Dropped),
