@@ -98,7 +98,7 @@ module _ (parts : PolicyParts) (role : ℕ) (tables : List Table) where
 
   -- nothing is denied of what has no place, and nothing of it is served
   pub null_refused : (tree : Tree) (line : List ℕ) → has_place (out-Ty tree.ty) ≡ false → line ≡ line_of (error_data (codes "type")) → AnswersTree parts role tables tree line
-  unfolding run_denial, run_reply
+  unfolding run_denial run_reply
   null_refused tree line null so e is =
       so
       ∙ ap (λ (o : Option Ty). line_of (unless_denied schemas (option_and_then (λ t. denial parts role (used_by schemas e t)) o) (served world o (expression_meaning world e []))))
@@ -122,7 +122,7 @@ module _ (parts : PolicyParts) (role : ℕ) (tables : List Table) where
 
   -- the refusal of an expression that has no tree
   pub no_tree : (e : Expr) → term_tree (schemas_of tables) (translated e) no_places ≡ None → line_of (error_data (codes "type")) ≡ run_line parts role tables e
-  unfolding run_denial, run_reply
+  unfolding run_denial run_reply
   no_tree e none =
       ap (λ (o : Option Ty). line_of (unless_denied schemas (option_and_then (λ t. denial parts role (used_by schemas e t)) (if_placed o)) (served world (if_placed o) (expression_meaning world e []))))
       (ap (option_map (λ t. t.ty)) (sym none) ∙ tree_type schemas e)
