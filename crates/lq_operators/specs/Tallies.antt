@@ -1,5 +1,5 @@
 -- What comes of the items that a method which makes a number of them has still to read.
-use Rattle.std.specs.Prelude.{List, [], map, pos, ℤ, Option, Some, None, Result, Ok, Err}
+use Rattle.std.specs.Prelude.{[], map, pos, Option, Some, None, Result, Ok, Err}
 use Rattle.lq_value.specs.declared.scalar.Scalar.{Scalar}
 use Rattle.lq_value.specs.declared.scalar.Scalar.TheVariants as scalar
 use Rattle.lq_value.specs.declared.ty.Ty.{Ty}

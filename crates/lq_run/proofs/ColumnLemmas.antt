@@ -1,5 +1,5 @@
 -- The tables of a store have columns of different names.
-use Rattle.std.proofs.Common.{◌≡◌, ◌&&◌, ◌||◌, ◌∙◌, ◌∷◌, not, List, [], map, ℕ, zero, suc, Bool, true, false, Some, ap, refl, slice_get, subst, sym}
+use Rattle.std.proofs.Common.{◌≡◌, ◌&&◌, ◌||◌, ◌∙◌, ◌∷◌, not, List, [], map, ℕ, zero, suc, Bool, true, false, ap, refl, subst, sym}
 use Rattle.std.specs.List.{list_all, list_any}
 use Rattle.std.specs.Str.{bytes_eq}
 use Rattle.std.proofs.lemmas.Bool.{and_parts}
@@ -9,7 +9,7 @@ use Rattle.std.specs.declared.alloc.Global.{Global}
 use Rattle.lq_value.specs.Tables.{Table}
 use Rattle.lq_value.specs.declared.table.Column.{Column}
 use Rattle.lq_value.specs.declared.table.Schema.{Schema}
-use Rattle.lq_store.specs.Rules.{IsTable, is_fair_range, keeps_rules}
+use Rattle.lq_store.specs.Rules.{is_fair_range, keeps_rules}
 use Rattle.lq_store.specs.Rules.{are_distinct as keep_distinct}
 use Rattle.lq_model.specs.MeaningLaws.{Every}
 use Rattle.lq_model.specs.WholeTyping.{are_distinct, is_new}
