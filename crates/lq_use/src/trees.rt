@@ -45,8 +45,8 @@ fn add_form(form: &Form, uses: &mut Vec<Use>) -> Result<(), AllocError>
             add_form(source.get(), uses)?;
             Ok(add_joined(joined.get(), uses)?)
         }
-        Form::OrderBy(source, keys) => {
-            add_form(source.get(), uses)?;
+        Form::OrderBy(sorted, keys) => {
+            add_form(sorted.get(), uses)?;
             Ok(add_keys(keys.as_slice(), uses)?)
         }
         Form::GroupBy(source, key, element) => {
