@@ -15,8 +15,8 @@ use lq_policy::{Policies, RoleId, Use};
 use lq_store::Store;
 use lq_translate::translate_expression;
 use lq_tree::{Tree, ty};
+use lq_typing::has_place;
 use lq_use::{DecideError, Denied, decide, uses};
-use lq_value::Ty;
 use std::alloc::{AllocError, Global};
 
 /// The line of a tree's reply over a store's tables, with these rows of each.
@@ -78,7 +78,7 @@ fn answer_line(
 ) -> Result<Line, AllocError>
     ensures { IfOk result (AnswersTree policies.now (number_of role) store.now tree.now) }
 {
-    if let Ty::Null = ty(tree) {
+    if !has_place(ty(tree)) {
         return refusal(alloc, "type");
     }
     let used = uses(alloc, tree, store, true)?;
