@@ -51,6 +51,10 @@ use Rattle.lq_run.proofs.StoredLemmas.{typed_tables}
 tree_type : (schemas : List Schema) (e : Expr) → option_map (λ tree. tree.ty) (term_tree schemas (translated e) no_places) ≡ expression_type e (top_names schemas)
 tree_type schemas e = types_same schemas (translated e) no_places ∙ terms_typed e (names_of_places schemas no_places)
 
+-- what is answered of a type is so of the tree's
+pub told_of : (b answer : Bool) (t u : Ty) → b ≡ has_place (out-Ty t) → t ≡ u → b ≡ answer → has_place (out-Ty u) ≡ answer
+told_of b answer t u is same answered = ap (λ (v : Ty). has_place (out-Ty v)) (sym same) ∙ sym is ∙ answered
+
 module _ (parts : PolicyParts) (role : ℕ) (tables : List Table) where
   abbrev schemas : List Schema
   schemas = schemas_of tables
