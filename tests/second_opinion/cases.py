@@ -15,6 +15,7 @@ import right_examples
 import right_lines
 import scalars
 import sentences
+import session_examples
 import statements
 from tables import MARK
 
@@ -25,7 +26,8 @@ FIRST_OF_POLICIES = 4720
 FIRST_OF_COMPANY = 6020
 FIRST_OF_QUERIES = FIRST_OF_COMPANY + len(company_examples.by_file())
 FIRST_OF_RIGHTS = 6820
-CASES = 7120
+FIRST_OF_KNOWN_SESSIONS = 7120
+CASES = FIRST_OF_KNOWN_SESSIONS + len(session_examples.KNOWN)
 LINES_OF_QUERIES = 20
 NO_UTF8 = [
     b"\x80", b"\xff", b"\xc3", b"\xc0\x80", b"\xe2\x82", b"\xed\xa0\x80", b"\xf4\x90\x80\x80", b"\xf0\x9f\x98", b"\xef\xbb",
@@ -302,6 +304,9 @@ def case_of(number, fixed):
         return fixed[number]
     if FIRST_OF_COMPANY <= number < FIRST_OF_QUERIES:
         return of_company(policy_examples.COMPANY.encode(), script=company_examples.scripts()[number - FIRST_OF_COMPANY])
+    if number >= FIRST_OF_KNOWN_SESSIONS:
+        text, pairs = session_examples.KNOWN[number - FIRST_OF_KNOWN_SESSIONS]
+        return of_company(text.encode(), script=session_examples.script_of(pairs))
     dice = random.Random(number)
     if number >= FIRST_OF_QUERIES:
         return rights_case(dice) if number >= FIRST_OF_RIGHTS else queries_case(dice)
