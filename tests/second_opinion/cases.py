@@ -323,8 +323,8 @@ def session_case(dice):
 
 
 def case_of(number, fixed):
-    """The case of a number: first the fixed ones, then those by chance, whose number is the seed. The known lines over the small
-    company stand between these."""
+    """The case of a number: first the fixed ones, then those by chance, whose number is the seed; that of a session is told from the
+    first session on. The known lines over the small company and the known sessions stand between these."""
     if number < len(fixed):
         return fixed[number]
     if FIRST_OF_COMPANY <= number < FIRST_OF_QUERIES:
@@ -332,9 +332,9 @@ def case_of(number, fixed):
     if FIRST_OF_KNOWN_SESSIONS <= number < FIRST_OF_SESSIONS:
         text, pairs = session_examples.KNOWN[number - FIRST_OF_KNOWN_SESSIONS]
         return of_company(text.encode(), script=session_examples.script_of(pairs))
-    dice = random.Random(number)
     if number >= FIRST_OF_SESSIONS:
-        return session_case(dice)
+        return session_case(random.Random(f"session {number - FIRST_OF_SESSIONS}"))
+    dice = random.Random(number)
     if number >= FIRST_OF_QUERIES:
         return rights_case(dice) if number >= FIRST_OF_RIGHTS else queries_case(dice)
     if number >= FIRST_OF_POLICIES:

@@ -9,6 +9,7 @@ statement and its reply in turn. A line that begins with `#` tells of them.
 
 from pathlib import Path
 
+from company_examples import records
 from lexer import tokens_of
 from opening import MOST_SIZE
 from policies import policies_of
@@ -211,6 +212,18 @@ def sizes():
     ]
 
 
+def wide_queries():
+    """Queries whose items have as many parts as a type may have, and one more; the type of r10 has 2,047."""
+    head = f"from m in marks {records(10)} "
+    return [
+        (f"var q = {head}select new {{ a = r10, b = r10 }};", '{"defined":"q"}'),
+        (f"var p = {head}select new {{ a = r10, b = r10, c = 1 }};", '{"error":"type"}'),
+        ("run q.Select(r => r.a.a.b.a.b.a.b.a.b.a.b);", values([1])), ("run new { q }.q.Count();", '{"error":"type"}'),
+        ("run new { n = q.Count() };", '{"value":{"n":1}}'), ("var p = q.Where(r => r.a != null);", '{"defined":"p"}'),
+        ("run q.Concat(p).Count();", '{"value":2}'), ("var g = from r in q group r by 1;", '{"error":"type"}'),
+    ]
+
+
 def large_queries():
     """Eight named queries of some 8,000 tokens each, opened side by side, and in one another."""
     condition = "(" + "&&".join(["(" + "&&".join(["(d.id>9)"] * 16) + ")"] * 62) + ")"
@@ -224,7 +237,7 @@ def large_queries():
 # Each known session: its policy file, and the pairs of statements and replies.
 KNOWN = [
     *((DESK, pairs) for path in sorted(FOLDER.glob("*.txt")) for pairs in blocks_in(path)), *UNDER_POLICIES,
-    (DESK, sizes()), (DESK, large_queries()),
+    (DESK, sizes()), (DESK, wide_queries()), (DESK, large_queries()),
 ]
 
 
