@@ -27,19 +27,17 @@ def run(writer):
     if kind < 0.65:
         return ["run", *clash(dice, writer.scope()).words, ";"]
     if writer.variables() and kind < 0.74:
-        return ["run", *of_variable(writer), ";"]
+        return ["run", *of_variable(writer, dice.choice(writer.variables())), ";"]
     return ["run", *queries.top(dice, writer.scope(), dice.choice([0, 1, 2, 2, 3])).words, ";"]
 
 
-def of_variable(writer):
+def of_variable(writer, name):
     """A variable in a form that its type decides; an int? tells by some of them that it is none of the ints."""
-    dice = writer.dice
-    name = dice.choice(writer.variables())
     forms = {
         "int": ["{} + 1", "10 / {}", "{}"], "bool": ["! {}", "{} ? 1 : 2"], "string": ["{} . Length", "{} + null", '{} ?? "none"'],
         "int?": ["{} . HasValue", "{} . HasValue", "{} ?? 7", "{} . Value", "true ? 1 : {}"],
     }
-    return dice.choice(forms[writer.given[name]]).format(name).split()
+    return writer.dice.choice(forms[writer.given[name]]).format(name).split()
 
 
 def of_query(writer, fuel):
@@ -189,7 +187,8 @@ def query_of_query(writer):
 def assign(writer):
     """A new value for a variable: a literal, a sum with the old one, null, or any scalar of a type that converts to its."""
     dice, scope = writer.dice, writer.scope()
-    name = dice.choice(writer.variables())
+    # An int? may be given an int, and stays an int?.
+    name = dice.choice([*writer.variables(), *[one for one in writer.variables() if writer.given[one] == "int?"] * 2])
     its_type = writer.given[name]
     kind = dice.random()
     if kind < 0.35:
@@ -204,8 +203,10 @@ def assign(writer):
 
 
 def look_again(writer, line):
-    """A query that reads the variable or the table that a line changes, if there is one; or any."""
+    """A query that reads the variable or the table that a line changes, if there is one; or the variable itself, or any line."""
     name = line[0] if line[1] == "=" else line[1]
+    if name in writer.variables() and writer.dice.random() < (0.8 if writer.given[name] == "int?" else 0.4):
+        return ["run", *of_variable(writer, name), ";"]
     fitting = [query for query in writer.queries() if name in writer.read_by(query.words[0])]
     return ["run", *writer.dice.choice(fitting).words, ";"] if fitting else run(writer)
 

@@ -69,6 +69,7 @@ def no_type(writer):
         ["delete", its_table, "x", "=>", *condition, ";"], ["delete", some_name(writer), "x", "=>", "true", ";"],
         ["insert", some_name(writer), "(", "1", ")", ";"], *[session_changes.other_cells(writer)] * 2,
     ]
+    lines += [[query.words[0], "=", dice.choice([its_table, *writer.session.queries]), ";"] for query in writer.queries()[-2:]]
     return dice.choice(lines)
 
 
@@ -88,13 +89,18 @@ def forbidden(writer):
     name, to = dice.choice(uses)
     if to == "insert":
         return dice.choice([session_changes.other_cells, session_changes.insert])(writer, name)
+    other = dice.choice(["1 / 0 == 1", "true", "1", "none"]).split()
+    columns = [use for use in uses if use[1] not in STATEMENTS]
     if to == "delete":
-        condition = dice.choice(["1 / 0 == 1", "true", "1", "x . none == 1"]).split()
-        return ["delete", name, "x", "=>", *condition, ";"]
-    other = dice.choice(["1 / 0 == 1 &&", "true ||", "1 &&", "none ||"]).split()
+        return ["delete", name, "x", "=>", *(reading(*dice.choice(columns)) if columns and dice.random() < 0.6 else other), ";"]
     heads = [["run"], ["var", writer.free_name(), "="], ["delete", table(writer), "x", "=>"]]
     heads += [[one, "="] for one in writer.variables() if writer.given[one] == "bool"]
-    return [*dice.choice(heads), *other, name, ".", "Any", "(", "y", "=>", "y", ".", to, "==", "y", ".", to, ")", ";"]
+    return [*dice.choice(heads), *other, dice.choice(["&&", "||"]), *reading(name, to), ";"]
+
+
+def reading(name, column):
+    """A condition that reads a column of a table."""
+    return [name, ".", "Any", "(", "y", "=>", "y", ".", column, "==", "y", ".", column, ")"]
 
 
 def no_role(writer):
@@ -131,7 +137,7 @@ def opening_too_much(writer):
         ["delete", name, "x", "=>", "true", ";"], [name, "=", "1", ";"], ["var", name, "=", "1", ";"],
         ["run", "new", "{", name, "=", "1", "}", ";"], ["run", table(writer), ".", "Any", "(", name, "=>", "true", ")", ";"],
         ["run", "from", "x", "in", table(writer), "let", name, "=", "1", "select", name, ";"],
-        ["run", "1", "+", name, ".", "Count", "(", ")", ";"],
+        ["run", "1", "+", name, ".", "Count", "(", ")", ";"], ["run", table(writer), ".", "First", "(", ")", ".", name, ";"],
         ["var", writer.free_name(), "=", name, ".", "Concat", "(", name, ")", ";"],
     ])
 

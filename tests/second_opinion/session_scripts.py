@@ -103,7 +103,7 @@ def script(dice, tables, policies, user):
     theme = chosen(dice, {name: weight for name, (weight, _) in THEMES.items()})
     look = None
     for place in range(STATEMENTS):
-        words = look(writer, words) if look and dice.random() < 0.35 else line_of_kind(writer, kind_of_line(writer, theme, place))
+        words = look(writer, words) if look and dice.random() < 0.45 else line_of_kind(writer, kind_of_line(writer, theme, place))
         look = look_behind(words, writer.write(words))
         if dice.random() < 0.03:
             writer.lines.append(dice.choice(NOTHING))
