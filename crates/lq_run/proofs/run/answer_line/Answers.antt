@@ -1,9 +1,9 @@
 -- A tree of the type of null is refused; of any other the first denial is told, or it is served where nothing of it is denied.
-use Rattle.std.proofs.Common.{◌≡◌, ◌∙◌, ◌<◌, IfOk, Some, ap, codes, slice_index_or, length, subst, sym, true, false}
-use Rattle.std.proofs.lemmas.Option.{get_or_from_slice_get, slice_get_within}
+use Rattle.std.proofs.Common.{◌≡◌, ◌∙◌, IfOk, ap, codes, slice_index_or, sym, true, false}
+use Rattle.std.proofs.lemmas.Option.{get_or_from_slice_get}
 use Rattle.std.proofs.lemmas.Result.{IfOk-weaker}
 use Rattle.lq_model.specs.Machine.{schemas_of}
-use Rattle.lq_model.specs.Rights.{Denied, denial}
+use Rattle.lq_model.specs.Rights.{denial}
 use Rattle.lq_model.specs.Served.{denied_data, error_data, line_of}
 use Rattle.lq_model.specs.declared.rights.Use.{Use}
 use Rattle.lq_policy.specs.Roles.{number_of}

@@ -1,5 +1,4 @@
-use Rattle.std.proofs.Common.{◌≡◌, ◌∙◌, ◌++◌, List, ap, flat_map}
-use Rattle.lq_model.specs.declared.rights.Use.{Use}
+use Rattle.std.proofs.Common.{◌∙◌, ◌++◌, List, ap, flat_map}
 use Rattle.lq_model.specs.declared.syntax.SortKey.{SortKey}
 use Rattle.lq_tree.specs.UsesOfForms.{form_uses}
 use Rattle.lq_tree.specs.declared.tree.Form.{Form}
