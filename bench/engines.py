@@ -47,14 +47,14 @@ def timed(words, script=None, cwd=None, check=None):
 
 
 class Lq:
-    """The program under test, over policies without row security."""
+    """The program under test, over policies without row security and with all rights."""
 
     name = "lq"
 
     def __init__(self, program, folder):
         self.program, self.folder = os.path.realpath(program), folder
         with open(f"{folder}/policy.toml", "w", encoding="utf-8") as file:
-            file.write('role = [{name = "reader"}]\n')
+            file.write('role = [{name = "reader"}]\ngrant = [{name = "all", rights = ["employees.*", "depts.*"]}]\n')
 
     def run(self, query, times):
         words = [self.program, "--role", "reader", "--policy", "policy.toml", "employees.csv", "depts.csv"]

@@ -8,8 +8,6 @@ import subprocess
 import tempfile
 
 SECONDS = 600
-# The policy file, in which no table has row security.
-POLICY = "p.toml"
 # Counts the instructions that a program executes, those of the system aside: the same count whatever else the machine does.
 COUNTER = ["valgrind", "--tool=cachegrind", "--cache-sim=no", "--cachegrind-out-file=/dev/null"]
 
@@ -18,9 +16,12 @@ class Failure(Exception):
     """The program did something else than it has to."""
 
 
-def write_policy():
-    with open(POLICY, "w") as file:
-        file.write('role = [{name = "reader"}]\n')
+def policy_over(table):
+    """A policy file in which no table has row security, and everybody all rights on the one of this file."""
+    name = table.removesuffix(".csv")
+    with open(name + ".toml", "w") as file:
+        file.write(f'role = [{{name = "reader"}}]\ngrant = [{{name = "all", rights = ["{name}.*"]}}]\n')
+    return name + ".toml"
 
 
 def check_counter():
@@ -45,16 +46,16 @@ def ended(words, script, reply):
 
 
 def words_of(program, table, policy):
-    return [program, "--role", "reader", "--policy", policy, table]
+    return [program, "--role", "reader", "--policy", policy or policy_over(table), table]
 
 
-def run(program, table, script, reply, policy=POLICY):
-    """A run over the table file `table`, with the script, the whole expected standard output and the policies in files: its processor
-    time in seconds and its peak of memory in bytes."""
+def run(program, table, script, reply, policy=None):
+    """A run over the table file `table`, with the script, the whole expected standard output and the policies in files (none: those
+    of `policy_over`): its processor time in seconds and its peak of memory in bytes."""
     return ended(words_of(program, table, policy), script, reply)
 
 
-def count(program, table, script, reply, policy=POLICY):
+def count(program, table, script, reply, policy=None):
     """The instructions of such a run."""
     return counted(lambda counter: ended([*counter, *words_of(program, table, policy)], script, reply))
 

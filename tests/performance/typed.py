@@ -37,6 +37,9 @@ name = "named"
 table = "staff"
 kind = "restrictive"
 using = "row.id > 0"
+[[grant]]
+name = "all"
+rights = ["staff.*"]
 """
 
 
@@ -94,7 +97,7 @@ def compare_loading(program):
 
 
 def compare_scans(program, count, time):
-    each, policies = ROWS * SCANS, {"open": measuring.POLICY, "guarded": "guarded.toml"}
+    each, policies = ROWS * SCANS, {"open": None, "guarded": "guarded.toml"}
     counts = {name: (measuring.count(program, *files("scan"), policy) - count) / each for name, policy in policies.items()}
     times = {name: (least_time(program, "scan", policy) - time) * 1e9 / each for name, policy in policies.items()}
     ratio = counts["guarded"] / counts["open"]
@@ -106,7 +109,7 @@ def compare_scans(program, count, time):
         raise Failure(f"a scan under row policies took more than {MOST_OF_OPEN} times the instructions without them")
 
 
-def least_time(program, name, policy=measuring.POLICY):
+def least_time(program, name, policy=None):
     return min(measuring.run(program, *files(name), policy)[0] for _ in range(RUNS))
 
 

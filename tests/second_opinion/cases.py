@@ -11,6 +11,8 @@ import policy_examples
 import policy_files
 import queries
 import query_lines
+import right_examples
+import right_lines
 import scalars
 import sentences
 import statements
@@ -19,10 +21,11 @@ from tables import MARK
 FIRST_OF_SENTENCES = 4300
 FIRST_OF_SCALARS = 4600
 FIRST_OF_POLICIES = 4720
-# Known lines over the small company, and then queries by chance.
+# Known lines over the small company, then queries by chance of those who have all rights, and of those who have some.
 FIRST_OF_COMPANY = 6020
 FIRST_OF_QUERIES = FIRST_OF_COMPANY + len(company_examples.by_file())
-CASES = 6820
+FIRST_OF_RIGHTS = 6820
+CASES = 7120
 LINES_OF_QUERIES = 20
 NO_UTF8 = [
     b"\x80", b"\xff", b"\xc3", b"\xc0\x80", b"\xe2\x82", b"\xed\xa0\x80", b"\xf4\x90\x80\x80", b"\xf0\x9f\x98", b"\xef\xbb",
@@ -30,9 +33,8 @@ NO_UTF8 = [
 ]
 RUN = b"run from x in t select x.c;\n"
 TABLE_OF_SCRIPT = b"c:int\n1\n2\n"
-# The options of most fixed cases, and their policy file.
+# The options of most fixed cases.
 OPTIONS = [b"--role", b"reader", b"--policy", b"p.toml"]
-POLICY = {"p.toml": b'role = [{name = "reader"}]\n'}
 POLICY_PATHS = ["p.toml", "p.toml", "./p.toml", "sub/p", "policy .toml", "é"]
 # What stands on standard input where the script is a file.
 NOT_READ = b"run 7;\n"
@@ -57,21 +59,29 @@ class Case:
         return self.files | ({self.script_file: self.script} if self.script_file else {})
 
 
+def policy_over(*tables):
+    """The policy file of a reader who has all rights on the tables."""
+    rights = ", ".join(f'"{name}.*"' for name in tables)
+    return {"p.toml": f'role = [{{name = "reader"}}]\ngrant = [{{name = "all", rights = [{rights}]}}]\n'.encode()}
+
+
 def of_script(script, **more):
     """A case of a script over one small table."""
-    return Case([*OPTIONS, b"t.csv"], POLICY | {"t.csv": TABLE_OF_SCRIPT}, script, **more)
+    return Case([*OPTIONS, b"t.csv"], policy_over("t") | {"t.csv": TABLE_OF_SCRIPT}, script, **more)
 
 
 def of_file(data, script=RUN + b"run from x in t where x.c > 1 select x.c;\n"):
     """A case of one table file."""
-    return Case([*OPTIONS, b"t.csv"], POLICY | {"t.csv": data}, script)
+    return Case([*OPTIONS, b"t.csv"], policy_over("t") | {"t.csv": data}, script)
 
 
 def of_words(*words):
     """A case of words over the same few files."""
     data = {"t.csv": b"c:int\n1\n", "u.csv": b"c:int\n2\n", "sub/t.csv": b"c:int\n3\n", "s.lq": b"run 4;\n"}
     data |= {"bad.csv": b"c\n", "sub/bad/t.csv": b"c\n", "from.csv": b"c:int\n", "bad.toml": b"x = 1\n"}
-    return Case(list(words), POLICY | data, RUN + b"run from x in u select x.c;\n")
+    ends = {word.rsplit(b"/", 1)[-1] for word in words}
+    loaded = [name for name in ("t", "u") if ends & {name.encode(), f"{name}.csv".encode()}]
+    return Case(list(words), policy_over(*loaded) | data, RUN + b"run from x in u select x.c;\n")
 
 
 def of_company(policies, role="dan", script=b"run from e in employees select e.name;\nrun from d in depts select d.id;\n"):
@@ -85,7 +95,8 @@ def of_many_tables(count, *more):
     data = {f"t{number}.csv": f"c:int\n{number}\n".encode() for number in range(count)}
     script = b"".join(b"run from x in t%d select x.c;\n" % number for number in range(count + 1))
     words = [*OPTIONS, *(name.encode() for name in data), *more]
-    return Case(words, POLICY | data | {"bad.csv": b"c\n", "sub/t0.csv": b"c:int\n"}, script)
+    data |= policy_over(*(f"t{number}" for number in range(count)))
+    return Case(words, data | {"bad.csv": b"c\n", "sub/t0.csv": b"c:int\n"}, script)
 
 
 def columns(count, kind=b":int"):
@@ -135,6 +146,7 @@ def company_cases():
     """Table files and policy files with known answers."""
     known = [of_company(text.encode(), role) for text, role, _ in policy_examples.SEEN]
     known += [of_company(policy_examples.bytes_of(text)) for texts in policy_examples.WORDS.values() for text in texts]
+    known += [of_company(text.encode(), role, right_examples.script_of(lines)) for text, role, lines in right_examples.KNOWN]
     # An accepted file may have other roles.
     known += [of_company(text.encode(), role) for text in policy_examples.ACCEPTED for role in ("dan", "reader")]
     files_of = policy_examples.TABLE_WORDS | policy_examples.TABLE_CELLS
@@ -180,7 +192,8 @@ def device_cases():
         of_script(RUN, can_read=False), of_script(RUN, can_read=False, can_write=False), of_script(RUN, can_write=False),
         of_script(b"", can_write=False), of_script(b"//\n", can_write=False), of_script(b";", can_write=False),
         of_script(b"\xff", can_write=False), of_script(RUN * 40_000, can_write=False),
-        Case([*OPTIONS, b"--script", b"s.lq", b"t.csv"], POLICY | {"t.csv": TABLE_OF_SCRIPT}, can_read=False, script_file="s.lq"),
+        Case([*OPTIONS, b"--script", b"s.lq", b"t.csv"], policy_over("t") | {"t.csv": TABLE_OF_SCRIPT}, can_read=False,
+             script_file="s.lq"),
     ]
 
 
@@ -262,19 +275,24 @@ def lines_case(dice, line):
     """A script of many lines of one kind."""
     tables = chosen_tables(dice)
     data = {f"{name}.csv": files.spelled_file(dice, files.records(dice, table)) for name, table in tables.items()}
-    return Case([*OPTIONS, *(path.encode() for path in data)], POLICY | data, script_of(dice, tables, line, 60))
+    return Case([*OPTIONS, *(path.encode() for path in data)], policy_over(*tables) | data, script_of(dice, tables, line, 60))
 
 
-def queries_case(dice):
+def queries_case(dice, line=query_lines.line, rights_of=policy_files.open_rights):
     """Queries by chance, over small tables behind some policies."""
     tables = queries.tables(dice)
-    file = policy_files.right_file(dice, tables)
+    file = policy_files.right_file(dice, tables, rights_of)
     if dice.random() < 0.3:
         # Row security is off, so that there are rows to query.
         file["table"] = []
     role = dice.choice([entry["name"] for entry in file["role"]])
-    script = "".join(query_lines.line(dice, tables).replace("\n", " ") + "\n" for _ in range(LINES_OF_QUERIES))
+    script = "".join(line(dice, tables).replace("\n", " ") + "\n" for _ in range(LINES_OF_QUERIES))
     return call(dice, tables, policy_files.spelled_file(dice, file).encode(), role, script.encode())
+
+
+def rights_case(dice):
+    """Such queries, and lines with several columns, of a role that may not use all of them."""
+    return queries_case(dice, lambda *those: dice.choice([query_lines, right_lines]).line(*those), policy_files.some_rights)
 
 
 def case_of(number, fixed):
@@ -286,7 +304,7 @@ def case_of(number, fixed):
         return of_company(policy_examples.COMPANY.encode(), script=company_examples.scripts()[number - FIRST_OF_COMPANY])
     dice = random.Random(number)
     if number >= FIRST_OF_QUERIES:
-        return queries_case(dice)
+        return rights_case(dice) if number >= FIRST_OF_RIGHTS else queries_case(dice)
     if number >= FIRST_OF_POLICIES:
         return policy_case(dice)
     if number >= FIRST_OF_SENTENCES:

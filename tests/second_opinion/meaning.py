@@ -10,9 +10,11 @@ from dataclasses import dataclass
 from depth import DepthFault, check_depth
 from grammar import parse
 from lexer import SyntaxFault, tokens_of
+from rights import nothing_denied, spelled
 from scalar_meaning import LITERALS, Fault, checked, concatenated, member, operate, search
 from scalar_types import TypeFault
 from scopes import Group, Sequence, typed_run
+from uses import uses_of_run
 
 DEFAULTS = {"int": 0, "bool": False}
 
@@ -406,22 +408,35 @@ def compact(reply):
     return json.dumps(reply, separators=(",", ":"), ensure_ascii=False, sort_keys=True) + "\n"
 
 
-def run(statement, tables):
+def denial_of(uses, denied):
+    """The reply to the first use that is denied, by its rule; None where there is none."""
+    for use in uses:
+        rule = denied(use)
+        if rule is not None:
+            return {"denied": rule, "use": spelled(use)}
+    return None
+
+
+def run(statement, tables, denied):
     node = typed_run(statement, tables)
+    reply = denial_of(uses_of_run(node), denied)
+    if reply is not None:
+        return reply
     try:
         return served(node)
     except Fault as fault:
         return {"fault": str(fault)}
 
 
-def reply_of(line, tables):
-    """The reply to a line of a script, and nothing to a line without tokens. The refusals come in the order of these calls."""
+def reply_of(line, tables, denied=nothing_denied):
+    """The reply to a line of a script, and nothing to a line without tokens. `denied` tells of a use the rule that denies it. The
+    refusals come in the order of these calls."""
     try:
         tokens = tokens_of(line)
         if not tokens:
             return ""
         check_depth(tokens)
-        return compact(run(parse(tokens), tables))
+        return compact(run(parse(tokens), tables, denied))
     except SyntaxFault:
         return compact({"error": "syntax"})
     except DepthFault:

@@ -1,4 +1,4 @@
-"""Policy files: TOML that names roles, tables with row security, and policies; and the rows that these show.
+"""Policy files: TOML that names roles, tables with row security, policies, grants and withholds; and the rows that policies show.
 
 The library `tomllib` reads TOML 1.0, and the program reads TOML 1.1. Files on which the two differ are no cases here: line ends
 and a comma behind the last key in an inline table, the escapes `\\e` and `\\x`, and times without seconds, which 1.1 has. Of what
@@ -11,6 +11,7 @@ from collections import Counter
 from dataclasses import dataclass, field
 
 from lexer import is_name
+from rights import NoRight, is_known, parted, rule_of as right_rule_of
 from rules import NoRule, UnknownName, check_names, holds, is_total, is_truth, rule_of
 from tables import MARK
 
@@ -30,7 +31,10 @@ ARRAYS = {
         "name": (TEXT, REQUIRED), "table": (TEXT, REQUIRED), "kind": (TEXT, "permissive"), "for": (TEXT, "all"),
         "to": (TEXTS, ["public"]), "using": (TEXT, None), "check": (TEXT, None),
     },
+    **dict.fromkeys(("grant", "withhold"), {"name": (TEXT, REQUIRED), "to": (TEXTS, ["public"]), "rights": (TEXTS, REQUIRED)}),
 }
+# The arrays of which no two entries have one name, be they of one array or of two.
+NAMED_APART = [("role",), ("table",), ("policy", "grant", "withhold")]
 
 
 class PolicyFault(Exception):
@@ -63,11 +67,13 @@ class Policy:
 
 @dataclass
 class Policies:
-    """`secured` are the names of the tables with row security."""
+    """`secured` are the names of the tables with row security. Policies, grants and withholds are in the order of the file."""
 
     roles: dict = field(default_factory=dict)
     secured: set = field(default_factory=set)
     policies: list = field(default_factory=list)
+    grants: list = field(default_factory=list)
+    withholds: list = field(default_factory=list)
 
 
 def depth_of(value):
@@ -126,10 +132,24 @@ def tree_of(text):
         raise PolicyFault("shape") from None
 
 
+def is_rule_name(name):
+    return 1 <= len(name.encode()) <= MOST_NAME_BYTES and name not in NO_POLICY_NAMES
+
+
+def check_right_shape(entry):
+    """The rights of a grant or a withhold become pairs."""
+    try:
+        entry["rights"] = [parted(text) for text in entry["rights"]]
+    except NoRight:
+        raise PolicyFault("shape") from None
+    if not is_rule_name(entry["name"]):
+        raise PolicyFault("shape")
+
+
 def check_policy_shape(entry):
     """What only some policies have: the rules by the action. Both become trees."""
     fits = entry["kind"] in ("permissive", "restrictive") and entry["for"] in ACTIONS
-    fits = fits and 1 <= len(entry["name"].encode()) <= MOST_NAME_BYTES and entry["name"] not in NO_POLICY_NAMES
+    fits = fits and is_rule_name(entry["name"])
     fits = fits and (entry["using"] is None) == (entry["for"] == "insert")
     fits = fits and (entry["check"] is None if entry["for"] in ("select", "delete") else True)
     fits = fits and (entry["check"] is not None if entry["for"] == "insert" else True)
@@ -139,7 +159,7 @@ def check_policy_shape(entry):
 
 
 def arrays_of(document):
-    """The entries of the three arrays, of the right shape."""
+    """The entries of each array, of the right shape."""
     if not document.keys() <= ARRAYS.keys():
         raise PolicyFault("shape")
     arrays = {}
@@ -152,7 +172,13 @@ def arrays_of(document):
         raise PolicyFault("shape")
     for entry in arrays["policy"]:
         check_policy_shape(entry)
+    for entry in right_entries(arrays):
+        check_right_shape(entry)
     return arrays
+
+
+def right_entries(arrays):
+    return [*arrays["grant"], *arrays["withhold"]]
 
 
 def rules_in(entry):
@@ -164,7 +190,9 @@ def check_known(arrays, tables):
     roles = [role["name"] for role in arrays["role"]]
     known = all(set(role["member_of"]) <= set(roles[:place]) for place, role in enumerate(arrays["role"]))
     known = known and all(entry["name"] in tables for entry in arrays["table"])
-    known = known and all(entry["table"] in tables and {*entry["to"]} <= {"public", *roles} for entry in arrays["policy"])
+    known = known and all(entry["table"] in tables for entry in arrays["policy"])
+    known = known and all({*entry["to"]} <= {"public", *roles} for entry in [*arrays["policy"], *right_entries(arrays)])
+    known = known and all(is_known(right, tables) for entry in right_entries(arrays) for right in entry["rights"])
     if not known:
         raise PolicyFault("unknown-name")
     try:
@@ -205,12 +233,13 @@ def policies_of(data, tables):
         raise PolicyFault("shape")
     arrays = arrays_of(document_of(data))
     check_known(arrays, tables)
-    for entries in arrays.values():
-        if max(Counter(entry["name"] for entry in entries).values(), default=0) > 1:
+    for names in NAMED_APART:
+        if max(Counter(entry["name"] for name in names for entry in arrays[name]).values(), default=0) > 1:
             raise PolicyFault("duplicate")
     check_rules(arrays, tables)
     secured = {entry["name"] for entry in arrays["table"] if entry["row_security"]}
-    return Policies(roles_of(arrays["role"]), secured, [policy_of(entry) for entry in arrays["policy"]])
+    rules = [[right_rule_of(entry, tables) for entry in arrays[name]] for name in ("grant", "withhold")]
+    return Policies(roles_of(arrays["role"]), secured, [policy_of(entry) for entry in arrays["policy"]], *rules)
 
 
 def read_policies(word, tables):

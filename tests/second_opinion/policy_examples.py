@@ -5,7 +5,8 @@ They hold for this reading as well as for the program: a reading that answers on
 
 from policies import as_seen, policies_of
 from policy_files import (
-    NO_COLUMNS, NO_PREDICATES, NO_RULES, NO_TOML, NO_TOTALS, NO_TRUTHS, TOTALS_AT_THE_EDGE, misread_faults, reason,
+    NO_COLUMNS, NO_PREDICATES, NO_RIGHTS, NO_RULES, NO_TOML, NO_TOTALS, NO_TRUTHS, TOTALS_AT_THE_EDGE, UNKNOWN_RIGHTS, misread_faults,
+    reason,
 )
 from tables import MARK, TableFault, table_of
 
@@ -19,9 +20,12 @@ DEPTS = b"id:int,title:string\n10,Sales\n20,Labs\n40,Void\n"
 MARKS = b"k:int[1..9],ok:bool\n3,true\n"
 FILES = {"employees.csv": EMPLOYEES, "depts.csv": DEPTS, "marks.csv": MARKS}
 
-ROLES = 'role = [{name = "dan"}, {name = "eve"}, {name = "root", bypass = true}]\n'
-MORE_ROLES = 'role = [{name = "dan"}, {name = "eve"}, {name = "root", bypass = true}, {name = "kim", member_of = ["dan"]},' \
+# The roles alone, and with all rights for each of them.
+PLAIN_ROLES = 'role = [{name = "dan"}, {name = "eve"}, {name = "root", bypass = true}]\n'
+MORE_PLAIN_ROLES = 'role = [{name = "dan"}, {name = "eve"}, {name = "root", bypass = true}, {name = "kim", member_of = ["dan"]},' \
     ' {name = "aid", member_of = ["root"]}, {name = "lee", member_of = ["eve", "kim"]}]\n'
+ALL_RIGHTS = 'grant = [{name = "all", rights = ["employees.*", "depts.*", "marks.*"]}]\n'
+ROLES, MORE_ROLES = PLAIN_ROLES + ALL_RIGHTS, MORE_PLAIN_ROLES + ALL_RIGHTS
 SECURED = 'table = [{name = "employees", row_security = true}]\n'
 DEPT10 = '[[policy]]\nname = "dept10"\ntable = "employees"\nto = ["dan"]\nusing = "row.dept == 10"\n'
 OWN = '[[policy]]\nname = "own"\ntable = "employees"\nusing = "row.name == user"\n'
@@ -34,6 +38,22 @@ def policy(title, rule, **more):
     """A policy of the employees with one rule; a key whose text is empty is left out."""
     lines = {"name": f'"{title}"', "table": '"employees"', "using": f"'{rule}'"} | more
     return "[[policy]]\n" + "".join(f"{key} = {value}\n" for key, value in lines.items() if value)
+
+
+def right_rule(array, title, rights="[]", **more):
+    """A grant or a withhold; a key whose text is empty is left out."""
+    lines = {"name": f'"{title}"', "rights": rights} | more
+    return f"[[{array}]]\n" + "".join(f"{key} = {value}\n" for key, value in lines.items() if value)
+
+
+def toml_text(text):
+    """A text in quotes; of what has to be escaped there are tabs and line ends."""
+    return '"' + text.replace("\t", "\\t").replace("\n", "\\n") + '"'
+
+
+def granting(*texts):
+    """A grant of some rights."""
+    return right_rule("grant", "all", "[" + ", ".join(map(toml_text, texts)) + "]")
 
 
 ALL = ["ann", "bob", "cyd", "dan"]
@@ -78,8 +98,7 @@ SEEN = [
 ]
 
 SHAPES = [
-    "grant = []\n", "withhold = []\n", '[[grant]]\nname = "all"\nrights = []\n', "roles = []\n", "x = 1\n", "[role]\n",
-    "role = 1\n",
+    "grants = []\n", "roles = []\n", "x = 1\n", "[role]\n", "role = 1\n",
     'role = "dan"\n', "role = [1]\n", 'role = ["dan"]\n', 'role = [{name = "dan"}, "eve"]\n', 'role = {name = "dan"}\n',
     '[policy]\nname = "p"\n',
     "[[role]]\n", 'role = [{nme = "dan"}]\n', 'role = [{name = "dan", nme = 1}]\n', 'role = [{name = 1}]\n',
@@ -106,6 +125,20 @@ SHAPES = [
     policy("p", "", using="", check="'true'"), policy("p", "true", using="true"), policy("p", "row.id %"),
     policy("p", "true", check="''"),
     policy("p", "row.none") + policy("q", "true", kind='"x"'), ROLES.replace("eve", "dan") + policy("p", "("),
+    "grant = 1\n", 'grant = "all"\n', '[grant]\nname = "all"\nrights = []\n', "grant = [[]]\n", 'withhold = ["no-salary"]\n',
+    "withhold = {}\n", 'grant = [{name = "all", rights = []}, 1]\n', "[[grant]]\n", right_rule("grant", "all", ""),
+    right_rule("withhold", "no-salary", ""),
+    right_rule("grant", "", name=""), right_rule("grant", "all", name="1"), right_rule("withhold", "w", "'employees.*'"),
+    right_rule("grant", "all", "[1]"), right_rule("grant", "all", "['employees.*', true]"),
+    right_rule("grant", "all", "[['employees.*']]"),
+    right_rule("grant", "all", "{}"), right_rule("grant", "all", to='"public"'), right_rule("withhold", "w", to="[true]"),
+    right_rule("grant", ""), right_rule("withhold", ""), right_rule("grant", "no-grant"), right_rule("withhold", "no-grant"),
+    right_rule("grant", "default-deny"), right_rule("withhold", "default-deny"), right_rule("grant", "x" * 65),
+    right_rule("withhold", "é" * 33), right_rule("grant", "all", using="'true'"), right_rule("grant", "all", table="'employees'"),
+    right_rule("withhold", "w", kind='"permissive"'), right_rule("withhold", "w", right="[]"),
+    right_rule("grant", "all", member_of="[]"), granting("none.*") + right_rule("withhold", "w", "['employees']"),
+    policy("p", "1") + policy("p", "row.none") + granting("Host.*"),
+    right_rule("grant", "all", "['none.*']") * 2 + right_rule("withhold", "w", nme="1"),
     "x = 9223372036854775807\n",
     "x = " + "[" * 80 + "]" * 80 + "\n", "#" * 1_048_577, "\x00" * 1_048_577,
 ]
@@ -122,6 +155,12 @@ UNKNOWN = [
     policy("p", "row.Id == 1"),
     policy("p", "1 + row.none") + policy("p", "1"), ROLES.replace("eve", "dan") + policy("p", "row.none"),
     policy("p", "1 + 1 == 2") + policy("q", "1") + policy("r", "row.none"),
+    granting("employees.title"), granting("employees.Id"), granting("Employees.id"), granting("depts.id", "marks.*", "marks.id"),
+    granting("employees.csv"), granting("employees.public"), right_rule("withhold", "w", "['none insert']"),
+    right_rule("grant", "all", to='["nobody"]'), right_rule("withhold", "w", to='[""]'),
+    right_rule("withhold", "w", to='["Dan", "public"]'), ROLES + right_rule("withhold", "w", to='["dan", "kim"]'),
+    ROLES.replace("eve", "dan") + right_rule("withhold", "all", "['none.*']"),
+    policy("p", "1") + right_rule("withhold", "p", to='["nobody"]'),
 ]
 DUPLICATES = [
     ROLES.replace("eve", "dan"), 'role = [{name = "dan"}, {name = "dan", member_of = ["dan"]}]\n',
@@ -129,6 +168,9 @@ DUPLICATES = [
     policy("p", "true") * 2,
     policy("p", "true") + policy("p", "true", table='"depts"'), policy("p", "1") + policy("p", "true"),
     policy("p", "1 + 1 == 2") + policy("q", "1") + policy("p", "true"),
+    right_rule("grant", "all") * 2, right_rule("withhold", "all") * 2, right_rule("grant", "all") + right_rule("withhold", "all"),
+    policy("all", "true") + right_rule("grant", "all"), policy("w", "1") + right_rule("withhold", "w", to="[]"),
+    ROLES + right_rule("withhold", "all", "['marks.k']"),
 ]
 TYPES = [
     policy("p", "row.id"), policy("p", "row.name"), policy("p", "row.boss == row.name"), policy("p", "employees.Any()"),
@@ -154,15 +196,28 @@ TOMLS += ["grant = [\n", ROLES + ROLES, "[[role]]\n[role]\n", "\ufeff\ufeff" + C
 "#" * 1_048_574 + "\n\x00"]
 
 WORDS = {
-    "toml": TOMLS, "shape": [*SHAPES, *(policy("p", rule, using=f"'''{rule}'''") for rule in NO_RULES)],
-    "unknown-name": [*UNKNOWN, *(policy("p", rule) for rule in NO_COLUMNS + NO_PREDICATES)], "duplicate": DUPLICATES,
+    "toml": TOMLS,
+    "shape": [
+        *SHAPES, *(policy("p", rule, using=f"'''{rule}'''") for rule in NO_RULES),
+        *(right_rule("withhold", "w", f"[{toml_text(text)}]") for text in NO_RIGHTS),
+    ],
+    "unknown-name": [
+        *UNKNOWN, *(policy("p", rule) for rule in NO_COLUMNS + NO_PREDICATES), *map(granting, UNKNOWN_RIGHTS),
+    ],
+    "duplicate": DUPLICATES,
     "rule-type": [*TYPES, *(policy("p", rule) for rule in NO_TRUTHS)],
     "rule-not-total": [*NOT_TOTAL, *(policy("p", rule, using=f"'''{rule}'''") for rule in NO_TOTALS)],
 }
-ACCEPTED = [COMPANY, WITH_MORE, ""] + [policy("p", rule, using=f"'''\n{rule}'''") for rule in TOTALS_AT_THE_EDGE] + [
+ACCEPTED = [COMPANY, WITH_MORE, "", "grant = []\n", "withhold = []\n", "grant = []\nwithhold = []\n"]
+ACCEPTED += [policy("p", rule, using=f"'''\n{rule}'''") for rule in TOTALS_AT_THE_EDGE] + [
     policy("x" * 64, "true"), policy("é" * 32, "true"), policy(" ", "true"), "#" * 1_048_576, "\ufeff", "role = []\n" + OWN,
     policy("select", "true"), policy("p", "true", table='"marks"'),
     ROLES + policy("p", "true", to='["dan", "dan", "public"]'),
+    right_rule("grant", "all"), right_rule("withhold", "all", to="[]"),
+    granting("employees.id", "employees.id", "employees.*", "marks insert"),
+    granting("depts delete", "depts insert", "depts.*") + right_rule("withhold", "x" * 64) + right_rule(
+        "withhold", " ", "['marks.ok']"),
+    PLAIN_ROLES + right_rule("grant", "public", to='["dan", "dan", "public"]') + right_rule("withhold", "employees"),
     'role = [{name = "Public"}, {name = "reader", member_of = ["Public", "Public"]}]\n', "[[role]]\nname = 'é'\n",
 ]
 

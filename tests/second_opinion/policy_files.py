@@ -22,6 +22,20 @@ POLICY_NAMES = [
     "'",
     "select", "a.b", "\u2028", "\x01", "1",
 ]
+# Those of grants and withholds; no policy by chance has one of these.
+RIGHT_NAMES = [
+    "all", "pay", "no-pay", "no-salary", "keep", "default-deny ", "no grant", "of é", "grant", "withhold", "z" * 64, "2", "\r",
+]
+NO_RIGHTS = [
+    "", " ", "t", "T.c.d", "t..c", "t.", ".c", ".*", "*", "*.*", "*.c", "t.**", "t. c", "t .c", " t.c", "t.c ", "t.1", "1.c", "t.from",
+    "from.c", "from insert", "t  insert", "t insert ", "t\tinsert", "t Insert", "t select", "t update", "t insert delete", "t.insert",
+    "t.* insert", "t.c insert", "Host", "Host.*", "Host insert", "Host.from", "Host.", "Host.p.q", "Host.p(1)", "t*", "t.c,t.d", "t-c",
+    "public", "t\n.c", "t.\u0301c", "no-grant",
+]
+UNKNOWN_RIGHTS = [
+    "none.*", "none.c", "none insert", "none delete", "Host.p", "Host.LeapYear", "Host.Watched", "host.p", "Public insert", "TABLE.*",
+    "column.c", "t_.*", "e\u0301.*",
+]
 TOTAL = {
     "int": ["bool ? int : int", "int? ?? int", "int DIVIDE DIVISOR", "row . COLUMN:int", "row . COLUMN:int"],
     "int?": [
@@ -185,7 +199,63 @@ def policy(dice, name, roles, tables):
     return made
 
 
-def right_file(dice, tables):
+def right(dice, tables):
+    """A right to a column, to all of a table's, or to a statement."""
+    name, table = dice.choice(list(tables.items()))
+    column = dice.choice(list(table.columns))
+    return dice.choice([f"{name}.{column}"] * 12 + [f"{name}.*", f"{name} insert", f"{name} delete"])
+
+
+def all_rights(dice, tables):
+    """The rights to all columns of the tables, in any order; some may stand twice."""
+    found = []
+    for name, table in tables.items():
+        each = [f"{name}.{column}" for column in table.columns]
+        found += dice.choice([[f"{name}.*"], [f"{name}.*"], each, [*each, f"{name}.*"]])
+    dice.shuffle(found)
+    return found
+
+
+def right_rule(dice, name, rights, roles):
+    """A grant or a withhold of the rights, to everybody or to some."""
+    made = {"name": name, "rights": rights}
+    if dice.random() < 0.7:
+        made["to"] = dice.choice([["public"], ["public"], [], *([role] for role in roles), [dice.choice(roles), dice.choice(roles)]])
+    return made
+
+
+def open_rights(dice, tables, roles):
+    """Grants of all rights to everybody, and withholds that nobody meets: these list nobody, or cover no column."""
+    names = dice.sample(RIGHT_NAMES, dice.choice([1, 1, 2, 3, 4]))
+    grants = [{"name": names[0], "rights": all_rights(dice, tables)}]
+    withholds = []
+    for name in names[1:]:
+        rights = [right(dice, tables) for _ in range(dice.choice([0, 1, 2, 3]))]
+        if dice.random() < 0.5:
+            grants.insert(dice.randrange(len(grants) + 1), right_rule(dice, name, rights, roles))
+        elif dice.random() < 0.5:
+            withholds.append({"name": name, "to": [], "rights": rights})
+        else:
+            withholds.append(right_rule(dice, name, [it for it in rights if " " in it], roles))
+    return {"grant": grants, "withhold": withholds}
+
+
+def some_rights(dice, tables, roles):
+    """Grants and withholds by which a role may use some columns and others not."""
+    names = dice.sample(RIGHT_NAMES, dice.choice([1, 2, 3, 3, 4, 5]))
+    grants = [{"name": "given", "rights": all_rights(dice, {name: tables[name] for name in tables if dice.random() < 0.95})}]
+    if dice.random() < 0.25:
+        grants = [right_rule(dice, "given", all_rights(dice, tables), roles)]
+    elif dice.random() < 0.2:
+        grants[0]["rights"] = [text for text in grants[0]["rights"] if "*" not in text and dice.random() < 0.8]
+    withholds = []
+    for name in names:
+        made = right_rule(dice, name, [right(dice, tables) for _ in range(dice.choice([0, 1, 1, 2, 3]))], roles)
+        (grants if dice.random() < 0.25 else withholds).append(made)
+    return {"grant": grants, "withhold": withholds}
+
+
+def right_file(dice, tables, rights_of=open_rights):
     """A file without faults, over the tables by name. Row security is on for most tables, and each has some policy then."""
     names = list(dict.fromkeys(dice.choices(ROLE_NAMES, k=dice.choice([1, 2, 3, 3, 4, 5]))))
     roles = [role(dice, name, names[:place]) for place, name in enumerate(names)]
@@ -200,7 +270,7 @@ def right_file(dice, tables):
         if dice.random() < 0.8:
             using = dice.choice(["true", shown(dice, tables[name]), shown(dice, tables[name])])
             policies.insert(dice.randrange(len(policies) + 1), {"name": f"shown{place}", "table": name, "using": using})
-    return {"role": roles, "table": entries, "policy": policies}
+    return {"role": roles, "table": entries, "policy": policies, **rights_of(dice, tables, names)}
 
 
 class Raw(str):
@@ -217,9 +287,9 @@ WRONG_VALUES = {
 KINDS = {
     "name": "text", "member_of": "texts", "bypass": "flag", "row_security": "flag", "table": "text", "kind": "text",
     "for": "text",
-    "to": "texts", "using": "text", "check": "text",
+    "to": "texts", "using": "text", "check": "text", "rights": "texts",
 }
-OTHER_KEYS = ["nme", "Name", "", "names", "rights", "member-of", "rowsecurity", "role", "policy", "with_check", "é", "name ",
+OTHER_KEYS = ["nme", "Name", "", "names", "right", "member-of", "rowsecurity", "role", "policy", "with_check", "é", "name ",
 "FOR"]
 
 
@@ -243,13 +313,15 @@ def any_policy(dice, file, tables, actions=ACTIONS):
 def other_key(dice, file, tables):
     value = dice.choice(["a", 1, True, [], {}, [{}], ["public"]])
     if dice.random() < 0.4:
-        file[dice.choice(["grant", "withhold", "roles", "", "public", "Role", "tables", "é"])] = value
+        file[dice.choice(["grants", "withholds", "roles", "", "public", "Role", "tables", "é"])] = value
+    elif dice.random() < 0.3:
+        dice.choice(entries_of(file, "grant", "withhold"))[dice.choice(["table", "using", "for", "kind", "bypass"])] = value
     else:
-        dice.choice(entries_of(file, "role", "table", "policy"))[dice.choice(OTHER_KEYS[:6])] = value
+        dice.choice(entries_of(file, *file))[dice.choice(OTHER_KEYS[:6])] = value
 
 
 def wrong_value(dice, file, tables):
-    entry = dice.choice(entries_of(file, "role", "table", "policy"))
+    entry = dice.choice(entries_of(file, *file))
     key = dice.choice(list(entry))
     entry[key] = dice.choice(WRONG_VALUES[KINDS[key]])
 
@@ -259,8 +331,11 @@ def wrong_array(dice, file, tables):
 
 
 def missing_key(dice, file, tables):
-    entry = dice.choice([file["role"][0], any_policy(dice, file, tables), any_policy(dice, file, tables, ("insert",))])
-    del entry[dice.choice([key for key in ("name", "table", "using" if "using" in entry else "check") if key in entry])]
+    entry = dice.choice([
+        file["role"][0], any_policy(dice, file, tables), any_policy(dice, file, tables, ("insert",)), any_right_rule(dice, file),
+    ])
+    keys = ("name", "table", "using" if "using" in entry else "check", "rights")
+    del entry[dice.choice([key for key in keys if key in entry])]
 
 
 def wrong_text(dice, file, tables):
@@ -269,7 +344,33 @@ def wrong_text(dice, file, tables):
         ("kind", ["", "Permissive", "all", "allow"]),
         ("for", ["", "update", "ALL", "selects", "public"]),
     ])
-    any_policy(dice, file, tables)[key] = dice.choice(texts)
+    rules = any_right_rule(dice, file) if key == "name" and dice.random() < 0.5 else any_policy(dice, file, tables)
+    rules[key] = dice.choice(texts)
+
+
+def any_right_rule(dice, file):
+    """A grant or a withhold of the file, or one more."""
+    array = dice.choice(["grant", "withhold"])
+    if not file[array] or dice.random() < 0.3:
+        file[array].append({"name": f"one {array} more", "rights": []})
+    return dice.choice(file[array])
+
+
+def with_right(texts):
+    """A text that is no right, or one to what isn't there, among those of a grant or a withhold."""
+
+    def change(dice, file, tables):
+        rights = any_right_rule(dice, file)["rights"]
+        rights.insert(dice.randrange(len(rights) + 1), dice.choice(texts))
+
+    return change
+
+
+def no_column(dice, file, tables):
+    """A right to a column that another table has, or none."""
+    name, table = dice.choice(list(tables.items()))
+    columns = [column for other in tables.values() for column in other.columns if column not in table.columns]
+    any_right_rule(dice, file)["rights"].append(f"{name}.{dice.choice([*columns, 'none', 'Insert', name + '_'])}")
 
 
 def no_role_name(dice, file, tables):
@@ -307,7 +408,8 @@ def no_table(dice, file, tables):
 def no_role(dice, file, tables):
     """A role that isn't there, or as one to be a member of, one that doesn't stand earlier."""
     if dice.random() < 0.4:
-        to = any_policy(dice, file, tables).setdefault("to", [])
+        entry = any_right_rule(dice, file) if dice.random() < 0.5 else any_policy(dice, file, tables)
+        to = entry.setdefault("to", [])
         to.insert(dice.randrange(len(to) + 1), dice.choice(["nobody", "", "Public_", "a b", "PUBLIC"]))
     else:
         place = dice.randrange(len(file["role"]))
@@ -319,19 +421,24 @@ def twice(dice, file, tables):
     """A second entry of one name. One of a role stands last, and is a member of others."""
     array = dice.choice([array for array in file if file[array]])
     entry = dict(dice.choice(file[array]))
-    if array == "policy":
-        entry = {"name": entry["name"], "table": dice.choice(list(tables)), "using": "true"}
+    if array in NAMED_ALIKE:
+        array = dice.choice(NAMED_ALIKE)
+        rule = {"table": dice.choice(list(tables)), "using": "true"} if array == "policy" else {"rights": []}
+        entry = {"name": entry["name"], **rule}
     entry.pop("member_of", None)
     file[array].append(entry)
 
 
+# The arrays no two entries of which may have one name.
+NAMED_ALIKE = ("policy", "grant", "withhold")
 # Each fault with the reason that a file with it alone is refused for.
 FAULTS = [
     (other_key, "shape"), (wrong_value, "shape"), (wrong_array, "shape"), (missing_key, "shape"), (wrong_text, "shape"),
     (no_role_name, "shape"), (other_rules, "shape"), (with_rule(NO_RULES), "shape"), (no_table, "unknown-name"),
     (no_role, "unknown-name"), (with_rule(NO_COLUMNS), "unknown-name"), (with_rule(NO_PREDICATES), "unknown-name"),
-    (twice, "duplicate"), (twice, "duplicate"), (with_rule(NO_TRUTHS), "rule-type"), (with_rule(NO_TRUTHS), "rule-type"),
-    (with_rule(NO_TOTALS), "rule-not-total"), (with_rule(NO_TOTALS), "rule-not-total"),
+    (with_right(NO_RIGHTS), "shape"), (with_right(NO_RIGHTS), "shape"), (with_right(UNKNOWN_RIGHTS), "unknown-name"),
+    (no_column, "unknown-name"), (twice, "duplicate"), (twice, "duplicate"), *[(with_rule(NO_TRUTHS), "rule-type")] * 3,
+    *[(with_rule(NO_TOTALS), "rule-not-total")] * 3,
 ]
 
 
@@ -416,7 +523,7 @@ def spelled_file(dice, file):
     return ("\ufeff" if dice.random() < 0.05 else "") + text
 
 
-KNOWN = ("role", "table", "policy")
+KNOWN = ("role", "table", "policy", "grant", "withhold")
 FAULTS_TRIED = 400
 NO_TOML = [
     b"x", b"x =", b"= 1", b"[x", b"[[x]", b"x = [", b"x = {", b'x = "', b"x = '", b'x = """', b"x = tru", b"x = 01",
@@ -491,16 +598,20 @@ def faulty_file(dice, tables):
 
 def with_second_fault(dice, file, tables):
     """One more fault that stands behind the others: another entry."""
-    more = {"name": "second", "table": dice.choice(list(tables)), "using": "true"}
-    kind = dice.randrange(6)
+    array, more = "policy", {"name": "second", "table": dice.choice(list(tables)), "using": "true"}
+    kind = dice.randrange(8)
     if kind == 0:
         more["nme"] = 1
     elif kind == 1:
         more["table"] = "none"
     elif kind == 2:
         file.setdefault("role", []).extend([{"name": "second"}, {"name": "second"}])
-    else:
+    elif kind < 6:
         more["using"] = dice.choice([NO_TRUTHS, NO_TOTALS, NO_COLUMNS][kind - 3])
-    if isinstance(file.get("policy"), list):
-        file["policy"].append(more)
+    else:
+        array = dice.choice(["grant", "withhold"])
+        more = {"name": "second", "rights": []}
+        more |= dice.choice([{"nme": 1}, {"rights": ["t"]}, {"rights": ["none.*"]}, {"name": "shown0"}])
+    if isinstance(file.get(array), list):
+        file[array].append(more)
     return file

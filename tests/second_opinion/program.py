@@ -10,6 +10,7 @@ from dataclasses import dataclass
 from commands import HelpWanted, UsageFault, options_of
 from meaning import reply_of
 from policies import PolicyFault, as_seen, read_policies
+from rights import denials
 from tables import TableFault, read_table, without_marks
 
 MOST_SCRIPT_BYTES = 1_048_576
@@ -56,9 +57,9 @@ def tables_of(words):
     return tables
 
 
-def seen_tables(options):
-    """The tables as the role sees them, and words for what it sees. The tables are read before the policies, and these before
-    the role is sought."""
+def started(options):
+    """The tables as the role sees them, what tells by which rule a use is denied, and words for what the role sees. The tables are
+    read before the policies, and these before the role is sought."""
     tables = tables_of(options.tables)
     word, user = options.values["--policy"], options.values["--role"]
     try:
@@ -68,7 +69,7 @@ def seen_tables(options):
     if user not in policies.roles:
         raise Fault(f"lq: {user}: role", 3)
     seen = as_seen(policies, tables, user)
-    return seen, views_of(policies, tables, seen, user)
+    return seen, denials(policies, tables, user), views_of(policies, tables, seen, user)
 
 
 def views_of(policies, tables, seen, user):
@@ -106,9 +107,9 @@ def lines_of(script):
 def replies_of(words, read_script):
     """Tables, policies and the role come before the script, and the whole script before its first line is answered."""
     options = options_of(words)
-    tables, views = seen_tables(options)
+    tables, denied, views = started(options)
     script = script_of(options, read_script)
-    return "".join(reply_of(line, tables) for line in lines_of(script)).encode(), views
+    return "".join(reply_of(line, tables, denied) for line in lines_of(script)).encode(), views
 
 
 def ended_by(fault):

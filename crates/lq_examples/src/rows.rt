@@ -1,6 +1,6 @@
 //! Sessions over tables that are written out here.
 use lq_load::table_from_csv;
-use lq_model::{Policy, PolicyParts, Role, TablePart};
+use lq_model::{Policy, PolicyParts, RightRule, Role, TablePart, Use};
 use lq_policy::{Action, Policies, rules_are_total};
 use lq_serve::{Device, serve};
 use lq_session::Session;
@@ -36,6 +36,19 @@ fn policy(alloc: Global, rule: &Rule) -> Result<Policy, Fail> {
     })
 }
 
+// A right to the column c, for all.
+fn grant(alloc: Global) -> Result<RightRule, Fail> {
+    let mut to = List::new(alloc);
+    to.push(text(alloc, "public")?)?;
+    let mut rights = List::new(alloc);
+    rights.push(Use::Column(0, 0))?;
+    Ok(RightRule {
+        name: text(alloc, "all")?,
+        to,
+        rights,
+    })
+}
+
 fn parts(alloc: Global, secured: bool, rules: &[Rule]) -> Result<PolicyParts, Fail> {
     let mut roles = List::new(alloc);
     for name in &["a", "b"] {
@@ -53,10 +66,14 @@ fn parts(alloc: Global, secured: bool, rules: &[Rule]) -> Result<PolicyParts, Fa
     for rule in rules {
         policies.push(policy(alloc, rule)?)?;
     }
+    let mut grants = List::new(alloc);
+    grants.push(grant(alloc)?)?;
     Ok(PolicyParts {
         roles,
         tables,
         policies,
+        grants,
+        withholds: List::new(alloc),
     })
 }
 

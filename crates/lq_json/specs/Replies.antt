@@ -5,7 +5,7 @@ use Rattle.lq_value.specs.declared.scalar.Scalar.{Scalar}
 use Rattle.lq_value.specs.declared.value.End.{End}
 use Rattle.lq_value.specs.declared.value.Value.{Value}
 use Rattle.lq_model.specs.Machine.{schemas_of}
-use Rattle.lq_model.specs.Served.{error_data, fault_data, nested_fault, stream_data, stream_members, unless_fault, value_data}
+use Rattle.lq_model.specs.Served.{denied_data, error_data, fault_data, nested_fault, stream_data, stream_members, unless_fault, value_data}
 use Rattle.lq_model.specs.Stream.{Stream, made}
 use Rattle.lq_json.specs.Forms.{data_by}
 use Rattle.lq_json.specs.Items.{bytes_before, tokens_in}
@@ -26,6 +26,7 @@ module _ {R : Type 0} (cells_of : R → List Scalar) where
   reply_data (reply.Value store t v) = value_data (schemas_of store.now) cells_of t.now (Ok v.now)
   reply_data (reply.Fault f) = fault_data f
   reply_data (reply.Error word) = error_data word.now
+  reply_data (reply.Denied store rule used) = denied_data (schemas_of store.now) rule.now used
 
   -- a stream of values as a form writes them, up to the first that holds a fault
   abbrev pub served_by : Form → Stream (Value R) → Stream Data

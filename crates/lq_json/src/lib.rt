@@ -1,6 +1,7 @@
 //! Reply lines: replies in JSON, with values of every type, as `serde_json` writes them.
 #![tactic(auto)]
 
+mod denial;
 mod fault;
 mod form;
 mod items;

@@ -8,12 +8,14 @@ ghost use Rattle.lq_json.specs.Forms.{data_by};
 ghost use Rattle.lq_json.specs.Replies.{ServesAll, reply_data, served_by, stream_reply};
 ghost use Rattle.lq_json.specs.Texts.{tokens_of};
 
+use crate::denial::denied_line;
 use crate::fault::{fault_name, nested_fault};
 use crate::form::{Form, form_of};
 use crate::items::ItemsLine;
 use crate::line::Line;
 use crate::write::write;
 use json::Writer;
+use lq_model::Use;
 use lq_store::Store;
 use lq_value::{End, Fault, RowRef, Ty, Value};
 use serde_json::Map;
@@ -41,6 +43,12 @@ pub enum Reply<'a, R> {
     Fault(Fault),
     /// The word of a refusal.
     Error(&'a str),
+    /// The name of the rule that denies a use, and that use.
+    Denied {
+        store: &'a Store,
+        rule: &'a str,
+        used: Use,
+    },
 }
 
 /// The line of a reply: its JSON, with the members of each object in the order of their names'
@@ -58,6 +66,7 @@ pub fn reply_line<R: RowRef>(alloc: Global, reply: &Reply<'_, R>) -> Result<Line
         Reply::Value { store, ty, value } => value_line(alloc, store, ty, value),
         Reply::Fault(fault) => word_line(alloc, "fault", fault_name(*fault)),
         Reply::Error(word) => word_line(alloc, "error", word),
+        Reply::Denied { store, rule, used } => denied_line(alloc, store, rule, *used),
     }
 }
 

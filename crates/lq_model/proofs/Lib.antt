@@ -24,6 +24,7 @@ pub mod ReadParts
 pub mod ReadPrimaries
 pub mod ReadQueries
 pub mod ReadStatements
+pub mod RightLemmas
 pub mod RuleTypes
 pub mod ScalarResults
 pub mod ScriptLemmas

@@ -1,7 +1,6 @@
 -- No reply to `run` depends on what stands where an expression has no meaning.
-use Rattle.std.proofs.Common.{◌≡◌, Bool, true, false, List, [], Option, Some, None, Result, Ok, Err, ap, ◌∙◌, sym, refl}
-use Rattle.std.proofs.lemmas.Option.{none-some, same_Some}
-use Rattle.serde_json.specs.Data.{Data}
+use Rattle.std.proofs.Common.{◌≡◌, Bool, true, false, [], Option, Some, None, Result, Ok, Err, ap, ◌∙◌, sym, refl}
+use Rattle.std.proofs.lemmas.Option.{none-some}
 use Rattle.lq_value.specs.declared.ty.Ty.{Ty, out-Ty}
 use Rattle.lq_value.specs.declared.ty.Ty.TheOpen.{Ty-F}
 use Rattle.lq_value.specs.declared.value.Fault.{Fault}
@@ -9,11 +8,10 @@ use Rattle.lq_value.specs.declared.value.Fault.TheVariants as fault
 use Rattle.lq_value.specs.declared.value.Value.{Value, out-Value}
 use Rattle.lq_value.specs.declared.value.Value.TheVariants.{outs-Seq as outs-value-Seq}
 use Rattle.lq_model.specs.ClauseTyping.{expression_type}
-use Rattle.lq_model.specs.Machine.{State, cells_of, run_reply, schemas_of, seen_by_role, served, served_as, served_type, top_names, world_by}
+use Rattle.lq_model.specs.Machine.{State, cells_of, run_denial, run_reply, schemas_of, seen_by_role, served, served_as, served_type, top_names, unless_denied, world_by}
 use Rattle.lq_model.specs.Meaning.{World, items_of, stream_of}
 use Rattle.lq_model.specs.MeaningLaws.{Every, IsTypedTable, ServesMeanings}
 use Rattle.lq_model.specs.Served.{stream_data, value_data}
-use Rattle.lq_model.specs.Stream.{Stream}
 use Rattle.lq_model.specs.Types.{has_place, if_placed, when}
 use Rattle.lq_model.specs.Typing.{Names}
 use Rattle.lq_model.specs.Visible.{TableRow}
@@ -74,4 +72,5 @@ module _ (s : State) (typed : Every IsTypedTable s.tables) (unknown : Fault) (e 
 
 pub serves_meanings : ServesMeanings
 unfolding run_reply
-serves_meanings s typed e unknown = by_type s typed unknown e (served_type (schemas_of s.tables) e) refl
+serves_meanings s typed e unknown =
+    ap (unless_denied (schemas_of s.tables) (run_denial s.policies s.role (schemas_of s.tables) e)) (by_type s typed unknown e (served_type (schemas_of s.tables) e) refl)

@@ -65,7 +65,7 @@ holds_where_it_is_true asked rule h =
 
 -- ---- tests on items, and truth values
 
-found_at : {A : Type 0} (test : A → Bool) (xs : List A) (x : A) → Contains xs x → test x ≡ true → list_any test xs ≡ true
+pub found_at : {A : Type 0} (test : A → Bool) (xs : List A) (x : A) → Contains xs x → test x ≡ true → list_any test xs ≡ true
 found_at test xs x has h = list_any_at test xs has.0 x has.1 (ap test has.2 ∙ h)
 
 all_pass : {A : Type 0} (test : A → Bool) (xs : List A) → ((x : A) → Contains xs x → test x ≡ true) → list_all test xs ≡ true
@@ -75,7 +75,7 @@ or_other : (a b : Bool) → a ≡ false → (a || b) ≡ true → b ≡ true
 or_other true b isnt h = absurd (cc)
 or_other false b isnt h = h
 
-not_false : (b : Bool) → not b ≡ true → b ≡ false
+pub not_false : (b : Bool) → not b ≡ true → b ≡ false
 not_false true h = absurd (cc)
 not_false false h = refl
 
@@ -102,7 +102,7 @@ module _ (roles : List Role) (role : ℕ) where
     by None none is = absurd (cc)
     by (Some other) some is = named found.1 other goes some (subst (λ n. Contains to n) (sym ((bytes_eq-Decides other.name name).0 is)) has)
 
-  listed_where_found : (to : List (List ℕ)) → is_listed roles role to ≡ true → IsListed roles role to
+  pub listed_where_found : (to : List (List ℕ)) → is_listed roles role to ≡ true → IsListed roles role to
   listed_where_found to h =
       let found = Any-from_list_any (λ name. bytes_eq name (codes "public") || is_one name) to h in
       elim (cases_Bool (bytes_eq found.1 (codes "public"))) [
@@ -110,7 +110,7 @@ module _ (roles : List Role) (role : ℕ) where
         | inr differ ↦ named_where_one to found.1 (found.0, found.2, found.3) (or_other (bytes_eq found.1 (codes "public")) (is_one found.1) differ found.4)
       ]
 
-  found_where_listed : (to : List (List ℕ)) → IsListed roles role to → is_listed roles role to ≡ true
+  pub found_where_listed : (to : List (List ℕ)) → IsListed roles role to → is_listed roles role to ≡ true
   found_where_listed to (all has) =
       found_at (λ name. bytes_eq name (codes "public") || is_one name) to (codes "public") has (or_left (bytes_eq (codes "public") (codes "public")) (is_one (codes "public")) refl)
   found_where_listed to (named number other goes some has) =

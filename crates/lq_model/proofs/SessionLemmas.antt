@@ -2,14 +2,12 @@
 use Rattle.std.proofs.Common.{◌≡◌, ◌≢◌, ◌∷◌, ◌++◌, List, [], ℕ, Some, None, IsSome, ap, ap₂, ◌∙◌, sym, refl, subst}
 use Rattle.serde_json.specs.Data.{Data}
 use Rattle.serde_json.proofs.OnLiterals.{serde_json_on_literals}
-use Rattle.lq_value.specs.declared.table.Schema.{Schema}
 use Rattle.lq_model.specs.HostCalls.{HostCall}
-use Rattle.lq_model.specs.Machine.{State, Reply, memory_line, perform, run_in, run_reply, schemas_of, seen_by_role, step, step_by}
+use Rattle.lq_model.specs.Machine.{State, Reply, memory_line, perform, run_denial, run_in, run_reply, step, step_by, unless_denied}
 use Rattle.lq_model.specs.Output.{Answers, as_machine, no_memory, stepped}
 use Rattle.lq_model.specs.Reading.{Reading, Nothing, Says, IsNoSyntax, IsTooDeep, reading_of}
 use Rattle.lq_model.specs.Served.{line_of}
 use Rattle.lq_model.specs.SessionLaws.{AnswersAlike, AsksNoHost, IsOutput, IsSilentAlike, LeavesTheRest, LooksSame, MemoryLineIsServed, ScriptsAlike, end, answered, refused}
-use Rattle.lq_model.specs.Visible.{TableRow}
 use Rattle.lq_model.specs.declared.syntax.Expr.{Expr}
 use Rattle.lq_model.specs.declared.syntax.Statement.{Statement}
 use Rattle.lq_model.specs.declared.syntax.Statement.TheVariants as statement
@@ -19,8 +17,7 @@ use Rattle.lq_model.specs.declared.syntax.Statement.TheVariants as statement
 -- what is served reads the schemas and the tables as seen, and nothing else of the state
 served_alike : (a b : State) → LooksSame a b → (e : Expr) → run_in a e ≡ run_in b e
 served_alike a b same e =
-    ap (λ (schemas : List Schema). run_reply schemas (seen_by_role a) e) same.schemas
-    ∙ ap (λ (rows : List (List TableRow)). run_reply (schemas_of b.tables) rows e) same.seen
+    λ i. unless_denied (same.schemas i) (run_denial (same.policies i) (same.role i) (same.schemas i) e) (run_reply (same.schemas i) (same.seen i) e)
 
 performed_alike : (a b : State) → LooksSame a b → (s : Statement) → ((perform a s).0 ≡ (perform b s).0) × LooksSame (perform a s).1 (perform b s).1
 performed_alike a b same (statement.Run x) = (served_alike a b same x, same)

@@ -22,6 +22,8 @@ pub mod Output
 pub mod Parsing
 pub mod PolicyLaws
 pub mod Reading
+pub mod RightLaws
+pub mod Rights
 pub mod Script
 pub mod Served
 pub mod SessionLaws
@@ -35,6 +37,8 @@ pub mod Types
 pub mod Typing
 pub mod TypingLaws
 pub mod TypingRules
+pub mod Uses
+pub mod UsesOfCalls
 pub mod Visible
 pub mod WholeMeaning
 pub mod WholeMeaningLaws

@@ -1,5 +1,5 @@
 -- «Session machine»: a step of the session, a function of its state and a line to the reply and the new state.
-use Rattle.std.specs.Prelude.{◌∷◌, ◌++◌, List, [], map, ℕ, Option, Some, None, Result, codes, slice_get}
+use Rattle.std.specs.Prelude.{◌∷◌, ◌++◌, List, [], map, ℕ, Option, Some, None, Result, codes, option_and_then, slice_get}
 use Rattle.serde_json.specs.Data.{Data}
 use Rattle.lq_value.specs.Tables.{Table}
 use Rattle.lq_value.specs.declared.scalar.Scalar.{Scalar}
@@ -12,12 +12,15 @@ use Rattle.lq_value.specs.declared.value.Value.{Value}
 use Rattle.lq_model.specs.ClauseTyping.{expression_type}
 use Rattle.lq_model.specs.Meaning.{World, stream_of}
 use Rattle.lq_model.specs.Reading.{Reading, Nothing, Says, IsNoSyntax, IsTooDeep, reading_of}
-use Rattle.lq_model.specs.Served.{columns_in, error_data, line_of, stream_data, value_data}
+use Rattle.lq_model.specs.Served.{columns_in, denied_data, error_data, line_of, stream_data, value_data}
+use Rattle.lq_model.specs.Rights.{Denied, denial}
 use Rattle.lq_model.specs.Types.{if_placed}
 use Rattle.lq_model.specs.Typing.{Names}
+use Rattle.lq_model.specs.Uses.{expression_uses, shown_columns}
 use Rattle.lq_model.specs.Visible.{TableRow, cell_named, tables_as_seen}
 use Rattle.lq_model.specs.declared.policy.PolicyParts.{PolicyParts}
 use Rattle.lq_model.specs.WholeMeaning.{expression_meaning}
+use Rattle.lq_model.specs.declared.rights.Use.{Use}
 use Rattle.lq_model.specs.declared.syntax.Expr.{Expr}
 use Rattle.lq_model.specs.declared.syntax.Statement.{Statement}
 use Rattle.lq_model.specs.declared.syntax.Statement.TheVariants as statement
@@ -74,13 +77,27 @@ served world (Some t) found = served_as world t (out-Ty t) found
 abbrev pub served_type : List Schema → Expr → Option Ty
 served_type schemas e = if_placed (expression_type e (top_names schemas))
 
--- the reply of `run` over these schemas and rows
+-- the reply of a `run` that isn't denied, over these schemas and rows
 unfoldable pub run_reply : List Schema → List (List TableRow) → Expr → Data
 run_reply schemas rows e = served (world_of schemas rows) (served_type schemas e) (expression_meaning (world_of schemas rows) e [])
 
+-- what a statement uses that serves an expression of this type: what its text names, and then each column that its reply may show
+abbrev pub used_by : List Schema → Expr → Ty → List Use
+used_by schemas e t = expression_uses e (top_names schemas) ++ shown_columns schemas t
+
+-- the first of these uses to which a role has no right; what has no type is refused before
+unfoldable pub run_denial : PolicyParts → ℕ → List Schema → Expr → Option Denied
+run_denial parts role schemas e = option_and_then (λ t. denial parts role (used_by schemas e t)) (served_type schemas e)
+
+-- what is denied isn't run
+abbrev pub unless_denied : List Schema → Option Denied → Data → Data
+unless_denied schemas None reply = reply
+unless_denied schemas (Some denied) reply = denied_data schemas denied.rule denied.used
+
 -- the reply of `run` in a state
 abbrev pub run_in : State → Expr → Data
-run_in s e = run_reply (schemas_of s.tables) (seen_by_role s) e
+run_in s e =
+    unless_denied (schemas_of s.tables) (run_denial s.policies s.role (schemas_of s.tables) e) (run_reply (schemas_of s.tables) (seen_by_role s) e)
 
 -- what a statement is answered, and the state behind it; `run` alone is served yet, and nothing changes the state
 abbrev pub perform : State → Statement → Data × State

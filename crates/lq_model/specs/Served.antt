@@ -18,6 +18,8 @@ use Rattle.lq_value.specs.declared.value.Value.{Value, fold-Value, out-Value}
 use Rattle.lq_value.specs.declared.value.Value.TheOpen.{Value-F}
 use Rattle.lq_model.specs.Operations.{on_ok}
 use Rattle.lq_model.specs.Stream.{Stream, made}
+use Rattle.lq_model.specs.declared.rights.Use.{Use}
+use Rattle.lq_model.specs.declared.rights.Use.TheVariants as of
 
 -- ---- the data of a value of a type
 
@@ -162,6 +164,30 @@ fault_data f = object (value_members (Err f))
 -- a refusal's reply
 abbrev pub error_data : List ℕ → Data
 error_data word = object (put (codes "error") (string word) no_members)
+
+-- ---- denials
+
+abbrev pub name_of_table : Option Schema → List ℕ
+name_of_table None = []
+name_of_table (Some schema) = schema.name
+
+-- the name of the column with this number
+abbrev pub name_at : Option (List ℕ) → List ℕ
+name_at None = []
+name_at (Some name) = name
+
+-- a use as it is named: `T`, `T.c`, `T insert`, `T delete`
+abbrev pub use_name : List Schema → Use → List ℕ
+use_name schemas (of.Table t) = name_of_table (slice_get schemas t)
+use_name schemas (of.Column t c) =
+    let table = slice_get schemas t in
+    name_of_table table ++ (codes "." ++ name_at (slice_get (columns_in table) c))
+use_name schemas (of.Insert t) = name_of_table (slice_get schemas t) ++ codes " insert"
+use_name schemas (of.Delete t) = name_of_table (slice_get schemas t) ++ codes " delete"
+
+-- a denial's reply: the rule that denies, and the use that it denies
+abbrev pub denied_data : List Schema → List ℕ → Use → Data
+denied_data schemas rule used = object (put (codes "denied") (string rule) (put (codes "use") (string (use_name schemas used)) no_members))
 
 -- the line of a reply
 abbrev pub line_of : Data → List ℕ

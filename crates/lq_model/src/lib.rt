@@ -1,7 +1,7 @@
 //! What every answer of the server means: tokens, grammar, types, meanings, policies, the session
 //! machine and its output. The definitions stand in `specs/`, the laws about them are the contracts
 //! of the functions of `lexing_laws`, `grammar_laws`, `typing_laws`, `operation_laws`,
-//! `meaning_laws`, `clause_laws`, `enumerable_laws`, `totality_laws`, `policy_laws` and `session_laws`,
+//! `meaning_laws`, `clause_laws`, `enumerable_laws`, `totality_laws`, `policy_laws`, `right_laws` and `session_laws`,
 //! and tokens, syntax trees, operator calls and policies are plain types.
 #![tactic(auto)]
 
@@ -16,6 +16,8 @@ mod operation;
 pub mod operation_laws;
 mod policy;
 pub mod policy_laws;
+pub mod right_laws;
+mod rights;
 pub mod session_laws;
 mod syntax;
 mod token;
@@ -26,6 +28,7 @@ pub use calls::{Call, Operator, Paired, Part, Term};
 pub use methods::{Given, Simple, Through};
 pub use operation::Op;
 pub use policy::{Action, Policy, PolicyParts, Role, TablePart};
+pub use rights::{RightRule, Use};
 pub use syntax::{
     Argument, Binary, Body, Clause, Continuation, Expr, Field, Infix, Join, Last, Level, Node,
     Query, SortKey, Statement, Unary,

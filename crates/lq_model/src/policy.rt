@@ -1,4 +1,5 @@
 //! Roles and row policies as plain data (PostgreSQL, CREATE POLICY and role membership).
+use crate::rights::RightRule;
 use crate::syntax::Expr;
 use lq_value::{List, Txt};
 
@@ -54,7 +55,7 @@ pub struct Policy {
     pub check: Option<Expr>,
 }
 
-/// Roles, tables by their number in the store, and policies in file order.
+/// Roles, tables by their number in the store, and policies, grants and withholds, each in file order.
 #[derive(Drop)]
 pub struct PolicyParts {
     /// The roles.
@@ -63,4 +64,8 @@ pub struct PolicyParts {
     pub tables: List<TablePart>,
     /// The policies.
     pub policies: List<Policy>,
+    /// The rules that grant rights.
+    pub grants: List<RightRule>,
+    /// The rules that withhold them.
+    pub withholds: List<RightRule>,
 }

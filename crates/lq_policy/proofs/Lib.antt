@@ -2,4 +2,5 @@ pub mod AdmissionLemmas
 pub mod GuardLemmas
 pub mod MembershipLemmas
 pub mod NameLemmas
+pub mod RightLemmas
 pub mod WordLemmas

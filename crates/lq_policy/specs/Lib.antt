@@ -1,6 +1,7 @@
 pub mod Asking
 pub mod Guards
 pub mod Memberships
+pub mod RoleRights
 pub mod Roles
 pub mod RowRules
 pub mod Rules

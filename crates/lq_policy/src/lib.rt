@@ -1,4 +1,5 @@
-//! Row policies: which roles there are, and what each may do with the rows of each table (PostgreSQL, CREATE POLICY).
+//! Policies: which roles there are, what each may do with the rows of each table (PostgreSQL, CREATE
+//! POLICY), and what it has a right to use.
 #![tactic(auto)]
 
 mod access;
@@ -7,11 +8,15 @@ mod asked;
 mod error;
 mod guard;
 mod policies;
+mod rights;
 mod role_set;
 mod row_rules;
+mod use_set;
 
 pub use access::RoleId;
 pub use error::PolicyError;
-pub use lq_model::Action;
+pub use lq_model::{Action, Use};
 pub use policies::{Policies, rules_are_total};
+pub use rights::RoleRights;
 pub use row_rules::RowRules;
+pub use use_set::UseSet;

@@ -26,7 +26,7 @@ const DEFAULT_DENY: &str = "default-deny";
 /// Roles, tables and row policies, which decide on each row. Each rule of theirs is total.
 #[derive(Drop)]
 pub struct Policies {
-    parts: PolicyParts,
+    pub(crate) parts: PolicyParts,
     /// For each role, those that it goes by beside itself.
     groups: Vec<RoleSet>,
     /// For each policy, its rules, prepared.
@@ -155,7 +155,7 @@ impl Policies {
     }
 
     /// Whether a list has `public`, or a name that the role goes by.
-    fn is_listed(&self, role: RoleId, to: &[Txt]) -> bool
+    pub(crate) fn is_listed(&self, role: RoleId, to: &[Txt]) -> bool
         ensures { result ≡ is_listed self.now.roles (number_of role) to.now }
     {
         let mut left = to;

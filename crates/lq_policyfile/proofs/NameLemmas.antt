@@ -3,12 +3,15 @@ use Rattle.std.proofs.Common.{append_assoc, ◌+◌, ◌<◌, drop, get_or, leng
 use Rattle.std.specs.List.{list_all, list_any, prefix_len}
 use Rattle.std.proofs.lemmas.List.{append-nil, drop_more, length-map, map-append}
 use Rattle.std.proofs.lemmas.List.Folds.{list_any-append}
+use Rattle.std.proofs.Math.Bool.{and_assoc}
 use Rattle.std.proofs.lemmas.Slice.Eq.{bytes_eq-Decides}
 use Rattle.lq_value.specs.Tables.{Table}
 use Rattle.lq_policyfile.specs.Duplicates.{are_new}
 use Rattle.lq_policyfile.specs.NameSets.{with_name, with_names}
-use Rattle.lq_policyfile.specs.Names.{is_addressee, is_among, memberships_are_known, policy_is_known}
+use Rattle.lq_policyfile.specs.Names.{entry_is_known, is_addressee, is_among, memberships_are_known, policy_is_known, rules_are_known}
+use Rattle.lq_policyfile.specs.declared.entry.FileEntries.{FileEntries}
 use Rattle.lq_policyfile.specs.declared.entry.PolicyEntry.{PolicyEntry}
+use Rattle.lq_policyfile.specs.declared.entry.RightEntry.{RightEntry}
 use Rattle.lq_policyfile.specs.declared.entry.RoleEntry.{RoleEntry}
 
 -- ---- the names that borrowed keys hold
@@ -93,14 +96,29 @@ pub memberships_go_on : (earlier : List (List ℕ)) (name : List ℕ) (roles : L
     → memberships_are_known (with_name earlier name) roles ≡ memberships_are_known (earlier ++ name ∷ []) roles
 memberships_go_on earlier name roles = same_memberships (earlier ++ name ∷ []) (with_name earlier name) (set_grows earlier earlier name (λ q. refl)) roles
 
+same_addressees : (names set : List (List ℕ)) → IsSetOf names set → (to : List (List ℕ)) → list_all (is_addressee set) to ≡ list_all (is_addressee names) to
+same_addressees names set same to = all_same (is_addressee set) (is_addressee names) (λ name. ap (λ (b : Bool). bytes_eq name (codes "public") || b) (same name)) to
+
 same_policy : (tables : List Table) (names set : List (List ℕ)) → IsSetOf names set → (policy : PolicyEntry)
     → policy_is_known tables set policy ≡ policy_is_known tables names policy
-same_policy tables names set same policy =
-    rw (all_same (is_addressee set) (is_addressee names) (λ name. ap (λ (b : Bool). bytes_eq name (codes "public") || b) (same name)) policy.to)
+same_policy tables names set same policy = rw (same_addressees names set same policy.to)
+
+same_entry : (tables : List Table) (names set : List (List ℕ)) → IsSetOf names set → (entry : RightEntry)
+    → entry_is_known tables set entry ≡ entry_is_known tables names entry
+same_entry tables names set same entry = rw (same_addressees names set same entry.to)
 
 same_policies : (tables : List Table) (names set : List (List ℕ)) → IsSetOf names set → (policies : List PolicyEntry)
     → list_all (policy_is_known tables set) policies ≡ list_all (policy_is_known tables names) policies
 same_policies tables names set same policies = all_same (policy_is_known tables set) (policy_is_known tables names) (same_policy tables names set same) policies
+
+same_entries : (tables : List Table) (names set : List (List ℕ)) → IsSetOf names set → (entries : List RightEntry)
+    → list_all (entry_is_known tables set) entries ≡ list_all (entry_is_known tables names) entries
+same_entries tables names set same entries = all_same (entry_is_known tables set) (entry_is_known tables names) (same_entry tables names set same) entries
+
+same_rules : (tables : List Table) (names set : List (List ℕ)) → IsSetOf names set → (file : FileEntries)
+    → rules_are_known tables set file ≡ rules_are_known tables names file
+same_rules tables names set same file =
+    rw (same_policies tables names set same file.policies, same_entries tables names set same file.grants, same_entries tables names set same file.withholds)
 
 -- ---- loops
 
@@ -120,9 +138,9 @@ more_set names set [] same q = same q ∙ ap (λ (ns : List (List ℕ)). is_amon
 more_set names set (name ∷ more) same q =
     more_set (names ++ name ∷ []) (with_name set name) more (set_grows names set name same) q ∙ ap (λ (ns : List (List ℕ)). is_among ns q) (append_assoc names (name ∷ []) more)
 
-pub policies_by_set : (tables : List Table) (names : List (List ℕ)) (policies : List PolicyEntry)
-    → list_all (policy_is_known tables (with_names [] names)) policies ≡ list_all (policy_is_known tables names) policies
-policies_by_set tables names policies = same_policies tables names (with_names [] names) (more_set [] [] names (λ q. refl)) policies
+pub rules_by_set : (tables : List Table) (names : List (List ℕ)) (file : FileEntries)
+    → rules_are_known tables (with_names [] names) file ≡ rules_are_known tables names file
+rules_by_set tables names file = same_rules tables names (with_names [] names) (more_set [] [] names (λ q. refl)) file
 
 new_name : (names : List (List ℕ)) (name : List ℕ) → is_among names name ≡ false → with_name names name ≡ names ++ name ∷ []
 new_name names name new = rw new
@@ -133,6 +151,15 @@ are_new_step earlier name names new = by (is_among earlier name) refl where
   by : (b : Bool) → is_among earlier name ≡ b → are_new (with_name earlier name) names ≡ (not b && are_new (earlier ++ name ∷ []) names)
   by true there = absurd (let h : not true ≡ true = subst (λ (b : Bool). not b ≡ true) there new in cc)
   by false other = ap (λ (ns : List (List ℕ)). are_new ns names) (new_name earlier name other)
+
+-- names behind others are new where those are, and where they are behind them
+pub are_new_behind : (earlier names more : List (List ℕ)) → are_new earlier (names ++ more) ≡ (are_new earlier names && are_new (earlier ++ names) more)
+are_new_behind earlier [] more = ap (λ (ns : List (List ℕ)). are_new ns more) (sym (append-nil earlier))
+are_new_behind earlier (name ∷ names) more =
+    ap (λ (b : Bool). not (is_among earlier name) && b)
+    (are_new_behind (earlier ++ name ∷ []) names more
+    ∙ ap (λ (ns : List (List ℕ)). are_new (earlier ++ name ∷ []) names && are_new ns more) (append_assoc earlier (name ∷ []) names))
+    ∙ sym (and_assoc (not (is_among earlier name)) (are_new (earlier ++ name ∷ []) names) (are_new (earlier ++ name ∷ names) more))
 
 -- a set of names that are new is their list
 new_names : (earlier names : List (List ℕ)) → are_new earlier names ≡ true → with_names earlier names ≡ earlier ++ names

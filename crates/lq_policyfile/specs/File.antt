@@ -4,9 +4,8 @@ use Rattle.std.specs.List.{list_any}
 use Rattle.std.specs.Str.{bytes_eq, is_utf8}
 use Rattle.toml.specs.Data.{Members}
 use Rattle.toml.specs.Parse.{parse_document}
-use Rattle.lq_value.specs.Tables.{Table, first_named}
+use Rattle.lq_value.specs.Tables.{Table}
 use Rattle.lq_value.specs.declared.table.Schema.{Schema}
-use Rattle.lq_store.specs.Rules.{name_of}
 use Rattle.lq_model.specs.declared.policy.Action.{Action}
 use Rattle.lq_model.specs.declared.policy.Action.TheVariants as action
 use Rattle.lq_model.specs.declared.policy.Policy.{Policy}
@@ -15,6 +14,7 @@ use Rattle.lq_model.specs.declared.policy.Role.{Role}
 use Rattle.lq_model.specs.declared.policy.TablePart.{TablePart}
 use Rattle.lq_policyfile.specs.Duplicates.{has_no_duplicates}
 use Rattle.lq_policyfile.specs.Names.{names_are_known, role_names}
+use Rattle.lq_policyfile.specs.RightUses.{right_rule, table_number}
 use Rattle.lq_policyfile.specs.RuleChecks.{rules_are_total, rules_are_typed}
 use Rattle.lq_policyfile.specs.Shape.{entries_of}
 use Rattle.lq_policyfile.specs.declared.entry.Actions.{Actions}
@@ -61,7 +61,7 @@ abbrev pub policy_part : List Table → PolicyEntry → Policy
 policy_part tables entry =
     record {
       name = entry.name;
-      table = unwrap_or (first_named name_of entry.table tables) 0;
+      table = table_number tables entry.table;
       restrictive = is_restrictive entry.kind;
       for_all = is_for_all entry.rules.actions;
       action = action_of entry.rules.actions;
@@ -70,13 +70,15 @@ policy_part tables entry =
       check = entry.rules.check;
     }
 
--- the roles and policies in the order of the file, and the tables by their numbers
+-- the roles, policies, grants and withholds in the order of the file, and the tables by their numbers
 abbrev pub parts_of : List Table → FileEntries → PolicyParts
 parts_of tables file =
     record {
       roles = map (role_part (role_names file.roles)) file.roles;
       tables = map (λ table. table_part file.tables table.schema) tables;
       policies = map (policy_part tables) file.policies;
+      grants = map (right_rule tables) file.grants;
+      withholds = map (right_rule tables) file.withholds;
     }
 
 -- ---- files

@@ -4,6 +4,8 @@ pub mod NameSets
 pub mod Names
 pub mod Outcome
 pub mod Reading
+pub mod RightUses
+pub mod Rights
 pub mod RuleChecks
 pub mod RuleNames
 pub mod Shape

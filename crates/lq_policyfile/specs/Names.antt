@@ -6,9 +6,12 @@ use Rattle.lq_value.specs.Tables.{Table, first_named}
 use Rattle.lq_value.specs.declared.table.Column.{Column}
 use Rattle.lq_store.specs.Rules.{name_of}
 use Rattle.lq_model.specs.declared.syntax.Expr.{Expr}
-use Rattle.lq_policyfile.specs.RuleNames.{knows}
+use Rattle.lq_policyfile.specs.RuleNames.{has_column, knows}
 use Rattle.lq_policyfile.specs.declared.entry.FileEntries.{FileEntries}
 use Rattle.lq_policyfile.specs.declared.entry.PolicyEntry.{PolicyEntry}
+use Rattle.lq_policyfile.specs.declared.entry.RightEntry.{RightEntry}
+use Rattle.lq_policyfile.specs.declared.entry.RightForm.{RightForm}
+use Rattle.lq_policyfile.specs.declared.entry.RightForm.TheVariants as form
 use Rattle.lq_policyfile.specs.declared.entry.RoleEntry.{RoleEntry}
 use Rattle.lq_policyfile.specs.declared.entry.Rules.{Rules}
 use Rattle.lq_policyfile.specs.declared.entry.TableEntry.{TableEntry}
@@ -64,6 +67,26 @@ abbrev pub policy_is_known : List Table → List (List ℕ) → PolicyEntry → 
 policy_is_known tables roles entry =
     is_table tables entry.table && list_all (is_addressee roles) entry.to && all_pass (λ rule. knows (columns_of tables entry.table) rule false) entry.rules
 
+-- ---- rights
+
+-- a right names a table that is there, and a column that the table has; no host predicate is there
+abbrev pub right_is_known : List Table → RightForm → Bool
+right_is_known tables (form.Column t c) = is_table tables t && has_column (columns_of tables t) c
+right_is_known tables (form.AllColumns t) = is_table tables t
+right_is_known tables (form.Insert t) = is_table tables t
+right_is_known tables (form.Delete t) = is_table tables t
+right_is_known tables (form.Host p) = false
+
+-- the roles that a grant or a withhold applies to, and its rights
+abbrev pub entry_is_known : List Table → List (List ℕ) → RightEntry → Bool
+entry_is_known tables roles entry = list_all (is_addressee roles) entry.to && list_all (right_is_known tables) entry.rights
+
+-- ---- files
+
+abbrev pub rules_are_known : List Table → List (List ℕ) → FileEntries → Bool
+rules_are_known tables roles file =
+    list_all (policy_is_known tables roles) file.policies && list_all (entry_is_known tables roles) file.grants && list_all (entry_is_known tables roles) file.withholds
+
 unfoldable pub names_are_known : List Table → FileEntries → Bool
 names_are_known tables file =
-    memberships_are_known [] file.roles && list_all (table_is_known tables) file.tables && list_all (policy_is_known tables (role_names file.roles)) file.policies
+    memberships_are_known [] file.roles && list_all (table_is_known tables) file.tables && rules_are_known tables (role_names file.roles) file

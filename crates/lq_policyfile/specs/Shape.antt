@@ -7,12 +7,14 @@ use Rattle.lq_model.specs.Reading.{Reading, Says, rule_reading_of}
 use Rattle.lq_model.specs.declared.policy.Action.TheVariants as action
 use Rattle.lq_model.specs.declared.syntax.Expr.{Expr}
 use Rattle.lq_policyfile.specs.Reading.{array_of, by_text, has_only, optional, passing, required, texts}
+use Rattle.lq_policyfile.specs.Rights.{right_of}
 use Rattle.lq_policyfile.specs.declared.entry.Actions.{Actions}
 use Rattle.lq_policyfile.specs.declared.entry.Actions.TheVariants as actions
 use Rattle.lq_policyfile.specs.declared.entry.FileEntries.{FileEntries}
 use Rattle.lq_policyfile.specs.declared.entry.Kind.{Kind}
 use Rattle.lq_policyfile.specs.declared.entry.Kind.TheVariants as kind
 use Rattle.lq_policyfile.specs.declared.entry.PolicyEntry.{PolicyEntry}
+use Rattle.lq_policyfile.specs.declared.entry.RightEntry.{RightEntry}
 use Rattle.lq_policyfile.specs.declared.entry.RoleEntry.{RoleEntry}
 use Rattle.lq_policyfile.specs.declared.entry.Rules.{Rules}
 use Rattle.lq_policyfile.specs.declared.entry.TableEntry.{TableEntry}
@@ -66,7 +68,7 @@ table_of d = option_and_then table_in (as_table d)
 abbrev pub policy_keys : List (List ℕ)
 policy_keys = codes "name" ∷ codes "table" ∷ codes "kind" ∷ codes "for" ∷ codes "to" ∷ codes "using" ∷ codes "check" ∷ []
 
--- The name of a policy, under which it refuses rows: 1 to 64 bytes, and none of those that stand for a refusal by no policy.
+-- The name of a policy, a grant or a withhold, under which it refuses: 1 to 64 bytes, and none of those that stand for a refusal by no rule.
 abbrev pub is_rule_name : List ℕ → Bool
 is_rule_name name =
     nat_le 1 (length name) && nat_le (length name) 64 && not (bytes_eq name (codes "no-grant")) && not (bytes_eq name (codes "default-deny"))
@@ -134,15 +136,37 @@ policy_in ms = if has_only policy_keys ms then policy_fields ms else None
 abbrev pub policy_of : Data → Option PolicyEntry
 policy_of d = option_and_then policy_in (as_table d)
 
+-- ---- grants and withholds
+
+abbrev pub right_keys : List (List ℕ)
+right_keys = codes "name" ∷ codes "to" ∷ codes "rights" ∷ []
+
+-- a rule that grants rights or withholds them, by default for all roles
+abbrev pub right_fields : Members → Option RightEntry
+right_fields ms =
+    option_and_then (λ name. option_and_then (λ to. option_map (λ rights. record { name = name; to = to; rights = rights })
+    (required (array_of (by_text right_of)) (codes "rights") ms))
+    (optional texts (codes "public" ∷ []) (codes "to") ms))
+    (rule_name ms)
+
+abbrev pub right_in : Members → Option RightEntry
+right_in ms = if has_only right_keys ms then right_fields ms else None
+
+abbrev pub right_entry_of : Data → Option RightEntry
+right_entry_of d = option_and_then right_in (as_table d)
+
 -- ---- files
 
 abbrev pub file_keys : List (List ℕ)
-file_keys = codes "role" ∷ codes "table" ∷ codes "policy" ∷ []
+file_keys = codes "role" ∷ codes "table" ∷ codes "policy" ∷ codes "grant" ∷ codes "withhold" ∷ []
 
--- a file: arrays of roles, tables and policies, each of which may be absent
+-- a file: arrays of roles, tables, policies, grants and withholds, each of which may be absent
 abbrev pub file_fields : Members → Option FileEntries
 file_fields ms =
-    option_and_then (λ roles. option_and_then (λ tables. option_map (λ policies. record { roles = roles; tables = tables; policies = policies })
+    option_and_then (λ roles. option_and_then (λ tables. option_and_then (λ policies. option_and_then (λ grants. option_map (λ withholds.
+    record { roles = roles; tables = tables; policies = policies; grants = grants; withholds = withholds })
+    (optional (array_of right_entry_of) [] (codes "withhold") ms))
+    (optional (array_of right_entry_of) [] (codes "grant") ms))
     (optional (array_of policy_of) [] (codes "policy") ms))
     (optional (array_of table_of) [] (codes "table") ms))
     (optional (array_of role_of) [] (codes "role") ms)

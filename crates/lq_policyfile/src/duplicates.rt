@@ -1,6 +1,6 @@
 //! Names that stand twice.
-ghost use Rattle.std.specs.Prelude.{◌≡◌, [], map, IfOk};
-ghost use Rattle.lq_policyfile.specs.Duplicates.{are_new, has_no_duplicates};
+ghost use Rattle.std.specs.Prelude.{◌≡◌, ◌++◌, [], map, true, IfOk};
+ghost use Rattle.lq_policyfile.specs.Duplicates.{are_new, has_no_duplicates, names_of_rules};
 ghost use Rattle.lq_policyfile.specs.NameSets.{with_names};
 
 use crate::entry::FileEntries;
@@ -8,12 +8,13 @@ use crate::name_set::NameSet;
 use crate::named::Named;
 use std::alloc::{AllocError, Global};
 
-/// Whether each entry's name is unlike those before it.
+/// Whether each entry's name is unlike the earlier ones and those before it. Where it is, they are
+/// earlier ones from now on.
 #[tactic(auto, using(crate::proofs::NameLemmas::are_new_step))]
-fn are_new<T: Named>(alloc: Global, entries: &[T]) -> Result<bool, AllocError>
-    ensures { IfOk result (λ new. new ≡ are_new [] (map T.name entries.now)) }
+fn add_new<'a, T: Named>(earlier: &mut NameSet<'a>, entries: &'a [T]) -> Result<bool, AllocError>
+    ensures new { IfOk result (λ new. new ≡ are_new earlier.old (map T.name entries.now)) }
+    ensures names { IfOk result (λ new. new ≡ true → earlier.new ≡ earlier.old ++ map T.name entries.now) }
 {
-    let mut earlier = NameSet::new(alloc);
     let mut left = entries;
     while let [entry, others @ ..] = left {
         if !earlier.add(entry.name())? {
@@ -22,6 +23,26 @@ fn are_new<T: Named>(alloc: Global, entries: &[T]) -> Result<bool, AllocError>
         left = others;
     }
     Ok(true)
+}
+
+/// Whether each entry's name is unlike those before it.
+fn are_new<T: Named>(alloc: Global, entries: &[T]) -> Result<bool, AllocError>
+    ensures { IfOk result (λ new. new ≡ are_new [] (map T.name entries.now)) }
+{
+    add_new(&mut NameSet::new(alloc), entries)
+}
+
+/// Whether the names of policies, grants and withholds are unlike one another.
+#[tactic(auto, using(crate::proofs::NameLemmas::are_new_behind))]
+fn rules_are_new(alloc: Global, file: &FileEntries) -> Result<bool, AllocError>
+    ensures { IfOk result (λ new. new ≡ are_new [] (names_of_rules file.now)) }
+{
+    let mut earlier = NameSet::new(alloc);
+    Ok(
+        add_new(&mut earlier, file.policies.as_slice())?
+            && add_new(&mut earlier, file.grants.as_slice())?
+            && add_new(&mut earlier, file.withholds.as_slice())?,
+    )
 }
 
 /// The names of entries, each once.
@@ -37,13 +58,13 @@ pub(crate) fn names_of<T: Named>(alloc: Global, entries: &[T]) -> Result<NameSet
     Ok(names)
 }
 
-/// Whether no two roles, no two tables and no two policies have one name.
+/// Whether no two roles, no two tables and no two rules have one name.
 pub(crate) fn has_no_duplicates(alloc: Global, file: &FileEntries) -> Result<bool, AllocError>
     ensures { IfOk result (λ holds. holds ≡ has_no_duplicates file.now) }
 {
     Ok(
         are_new(alloc, file.roles.as_slice())?
             && are_new(alloc, file.tables.as_slice())?
-            && are_new(alloc, file.policies.as_slice())?,
+            && rules_are_new(alloc, file)?,
     )
 }

@@ -66,6 +66,32 @@ pub(crate) struct PolicyEntry {
     pub rules: Rules,
 }
 
+/// What the text of a right says.
+#[derive(Drop)]
+pub(crate) enum RightForm {
+    /// A column: the name of its table, and its own.
+    Column(Txt, Txt),
+    /// All columns of the table of this name.
+    AllColumns(Txt),
+    /// New rows of the table of this name.
+    Insert(Txt),
+    /// The removal of rows of the table of this name.
+    Delete(Txt),
+    /// The host predicate of this name.
+    Host(Txt),
+}
+
+/// A rule that grants rights, or one that withholds them.
+#[derive(Drop)]
+pub(crate) struct RightEntry {
+    /// Its name.
+    pub name: Txt,
+    /// The names of the roles that it applies to, and to whose members; `public` stands for all.
+    pub to: List<Txt>,
+    /// The rights that it covers.
+    pub rights: List<RightForm>,
+}
+
 /// The entries of a file, each array in its order.
 #[derive(Drop)]
 pub(crate) struct FileEntries {
@@ -75,4 +101,8 @@ pub(crate) struct FileEntries {
     pub tables: List<TableEntry>,
     /// The policies.
     pub policies: List<PolicyEntry>,
+    /// The rules that grant rights.
+    pub grants: List<RightEntry>,
+    /// The rules that withhold them.
+    pub withholds: List<RightEntry>,
 }

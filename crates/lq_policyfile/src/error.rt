@@ -19,7 +19,7 @@ pub enum PolicyFileError {
     /// A table, a column, a host predicate or a role isn't there.
     #[error("unknown-name")]
     UnknownName,
-    /// Two roles, two tables or two policies have one name.
+    /// Two roles, two tables, or two of the policies, grants and withholds have one name.
     #[error("duplicate")]
     Duplicate,
     /// A rule is no truth value, or uses a name other than `row` and `user`.

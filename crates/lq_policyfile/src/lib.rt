@@ -1,5 +1,6 @@
-//! Policy files in TOML: roles, tables with row security, and row policies (PostgreSQL, CREATE
-//! POLICY). What a file says, and the least refusal that applies to it, is defined in `specs/`.
+//! Policy files in TOML: roles, tables with row security, row policies (PostgreSQL, CREATE POLICY),
+//! and rules that grant and withhold rights. What a file says, and the least refusal that applies to
+//! it, is defined in `specs/`.
 #![tactic(auto)]
 
 mod duplicates;
@@ -10,6 +11,8 @@ mod name_set;
 mod named;
 mod names;
 mod parts;
+mod right_uses;
+mod rights;
 mod rule_checks;
 mod rule_names;
 mod shape;

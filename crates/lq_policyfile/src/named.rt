@@ -1,5 +1,5 @@
 //! Entries that have names.
-use crate::entry::{PolicyEntry, RoleEntry, TableEntry};
+use crate::entry::{PolicyEntry, RightEntry, RoleEntry, TableEntry};
 
 /// What has a name.
 pub(crate) trait Named {
@@ -31,6 +31,14 @@ impl Named for TableEntry {
 
 impl Named for PolicyEntry {
     ghost name = { λ policy. policy.name };
+
+    fn name(&self) -> &str {
+        self.name.as_str()
+    }
+}
+
+impl Named for RightEntry {
+    ghost name = { λ right. right.name };
 
     fn name(&self) -> &str {
         self.name.as_str()

@@ -1,13 +1,14 @@
 //! Names of entries that aren't there.
-ghost use Rattle.std.specs.Prelude.{◌≡◌, [], false, IfOk, OnOk};
+ghost use Rattle.std.specs.Prelude.{◌≡◌, ◌≤◌, [], false, length, IfOk, OnOk};
 ghost use Rattle.std.specs.List.{list_all};
 ghost use Rattle.lq_policyfile.specs.NameSets.{with_name};
-ghost use Rattle.lq_policyfile.specs.Names.{all_pass, columns_of, is_addressee, is_among, is_table, memberships_are_known, names_are_known, passes, policy_is_known, table_is_known};
+ghost use Rattle.lq_policyfile.specs.Names.{all_pass, columns_of, is_addressee, is_among, is_table, memberships_are_known, names_are_known, passes, policy_is_known, rules_are_known, table_is_known};
 ghost use Rattle.lq_policyfile.specs.RuleNames.{knows};
 
 use crate::duplicates::names_of;
 use crate::entry::{FileEntries, PolicyEntry, RoleEntry, Rules, TableEntry};
 use crate::name_set::NameSet;
+use crate::rights::entries_are_known;
 use crate::rule_names::knows;
 use lq_model::Expr;
 use lq_store::{Column, Store};
@@ -38,7 +39,7 @@ fn memberships_are_known(alloc: Global, roles: &[RoleEntry]) -> Result<bool, All
 }
 
 /// Whether there is a table of this name.
-fn is_table(store: &Store, name: &str) -> bool
+pub(crate) fn is_table(store: &Store, name: &str) -> bool
     ensures { result ≡ is_table store.now name.now }
 {
     store.find(name).is_some()
@@ -54,8 +55,10 @@ fn tables_are_known(store: &Store, tables: &[TableEntry]) -> bool
 }
 
 /// The columns of the table of this name, none where it isn't there.
+#[tactic(auto, using(crate::proofs::RightLemmas::few_columns))]
 pub(crate) fn columns_of<'a>(store: &'a Store, table: &str) -> &'a [Column]
-    ensures { result.now ≡ columns_of store.now table.now }
+    ensures columns { result.now ≡ columns_of store.now table.now }
+    ensures few { length result.now ≤ 100 }
 {
     match store.find(table) {
         Some(number) => store.schema(number).columns.as_slice(),
@@ -81,7 +84,7 @@ fn knows_rules(columns: &[Column], rules: &Rules) -> bool
 }
 
 /// Whether each name is that of a role or `public`.
-fn are_addressees(roles: &NameSet<'_>, names: &[Txt]) -> bool
+pub(crate) fn are_addressees(roles: &NameSet<'_>, names: &[Txt]) -> bool
     ensures { result ≡ list_all (is_addressee roles.now) names.now }
 {
     names.iter().all(|name| name.as_str() == "public" || roles.has(name.as_str()))
@@ -105,8 +108,17 @@ fn policies_are_known(store: &Store, roles: &NameSet<'_>, policies: &[PolicyEntr
         .all(|policy| policy_is_known(store, roles, policy))
 }
 
+/// Whether each policy, grant and withhold names only what is there.
+fn rules_are_known(store: &Store, roles: &NameSet<'_>, file: &FileEntries) -> bool
+    ensures { result ≡ rules_are_known store.now roles.now file.now }
+{
+    policies_are_known(store, roles, file.policies.as_slice())
+        && entries_are_known(store, roles, file.grants.as_slice())
+        && entries_are_known(store, roles, file.withholds.as_slice())
+}
+
 /// Whether the file names only what is there.
-#[tactic(auto, using(crate::proofs::NameLemmas::policies_by_set), unfolding(crate::specs::Names::names_are_known))]
+#[tactic(auto, using(crate::proofs::NameLemmas::rules_by_set), unfolding(crate::specs::Names::names_are_known))]
 pub(crate) fn names_are_known(
     alloc: Global,
     store: &Store,
@@ -118,6 +130,6 @@ pub(crate) fn names_are_known(
     Ok(
         memberships_are_known(alloc, file.roles.as_slice())?
             && tables_are_known(store, file.tables.as_slice())
-            && policies_are_known(store, &roles, file.policies.as_slice()),
+            && rules_are_known(store, &roles, file),
     )
 }

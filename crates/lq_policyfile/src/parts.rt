@@ -1,15 +1,15 @@
 //! The parts of policies, from entries whose names are known.
-ghost use Rattle.std.specs.Prelude.{◌≡◌, [], map, true, unwrap_or, IfOk, Some, slice_get, option_map};
+ghost use Rattle.std.specs.Prelude.{◌≡◌, [], map, true, IfOk, Some, slice_get, option_map};
 ghost use Rattle.std.specs.List.{list_any};
-ghost use Rattle.lq_value.specs.Tables.{first_named};
-ghost use Rattle.lq_store.specs.Rules.{name_of};
 ghost use Rattle.lq_policyfile.specs.Duplicates.{are_new};
 ghost use Rattle.lq_policyfile.specs.File.{action_of, is_for_all, is_restrictive, is_secured, number_among, parts_of, policy_part, role_part, table_part};
 ghost use Rattle.lq_policyfile.specs.Names.{role_names};
+ghost use Rattle.lq_policyfile.specs.RightUses.{table_number};
 
 use crate::duplicates::names_of;
 use crate::entry::{Actions, FileEntries, Kind, PolicyEntry, RoleEntry, TableEntry};
 use crate::name_set::NameSet;
+use crate::right_uses::right_rules;
 use lq_model::{Action, Policy, PolicyParts, Role, TablePart};
 use lq_store::{Column, Schema, Store};
 use lq_value::{List, Txt};
@@ -157,8 +157,8 @@ fn action_of(actions: Actions) -> Action
 }
 
 /// The number of the table of this name, which is there.
-fn table_number(store: &Store, name: &str) -> u16
-    ensures { result ≡ unwrap_or (first_named name_of name.now store.now) 0 }
+pub(crate) fn table_number(store: &Store, name: &str) -> u16
+    ensures { result ≡ table_number store.now name.now }
 {
     store.find(name).unwrap_or(0)
 }
@@ -215,10 +215,14 @@ pub(crate) fn parts_of(
         roles,
         tables,
         policies,
+        grants,
+        withholds,
     } = file;
     Ok(PolicyParts {
         roles: roles_of(alloc, roles.as_slice())?,
         tables: tables_of(alloc, store, tables.as_slice())?,
         policies: policies_of(alloc, store, policies)?,
+        grants: right_rules(alloc, store, grants)?,
+        withholds: right_rules(alloc, store, withholds)?,
     })
 }

@@ -12,7 +12,7 @@ use lq_model::{
 use lq_store::Column;
 
 /// Whether there is a column of this name.
-fn has_column(columns: &[Column], name: &str) -> bool
+pub(crate) fn has_column(columns: &[Column], name: &str) -> bool
     ensures { result ≡ has_column columns.now name.now }
 {
     columns.iter().any(|column| column.name.as_str() == name)

@@ -5,6 +5,8 @@ ghost use Rattle.lq_policyfile.specs.Outcome.{Reads};
 ghost use Rattle.lq_policyfile.specs.Shape.{entries_of, file_fields};
 
 mod policies;
+mod right_forms;
+mod rights;
 mod roles;
 mod rules;
 mod tables;
@@ -25,10 +27,14 @@ fn file_fields(alloc: Global, table: &Table) -> Result<FileEntries, ShapeError>
     let roles = optional(alloc, table, "role", List::new(alloc))?;
     let tables = optional(alloc, table, "table", List::new(alloc))?;
     let policies = optional(alloc, table, "policy", List::new(alloc))?;
+    let grants = optional(alloc, table, "grant", List::new(alloc))?;
+    let withholds = optional(alloc, table, "withhold", List::new(alloc))?;
     Ok(FileEntries {
         roles,
         tables,
         policies,
+        grants,
+        withholds,
     })
 }
 
@@ -37,7 +43,7 @@ fn file_fields(alloc: Global, table: &Table) -> Result<FileEntries, ShapeError>
 pub(crate) fn entries_of(alloc: Global, table: &Table) -> Result<FileEntries, ShapeError>
     ensures { Reads (entries_of (table_view table.now)) result }
 {
-    if has_only(table, &["role", "table", "policy"]) {
+    if has_only(table, &["role", "table", "policy", "grant", "withhold"]) {
         file_fields(alloc, table)
     } else {
         Err(ShapeError::Shape)

@@ -37,7 +37,7 @@ fn schema(alloc: Global) -> Result<Schema, AllocError>
     })
 }
 
-fn store(rt: &impl Abort, alloc: Global) -> Result<Store, AllocError> {
+pub fn store(rt: &impl Abort, alloc: Global) -> Result<Store, AllocError> {
     let mut store = Store::new(alloc);
     assert!(rt; store.add(Table::new(alloc, schema(alloc)?, 1)).is_ok());
     Ok(store)
@@ -82,7 +82,7 @@ using = "row.year >= 1950"
 "#;
 
 /// The refusal of a file, if it has one.
-fn refusal(alloc: Global, store: &Store, bytes: &[u8]) -> Option<PolicyFileError> {
+pub fn refusal(alloc: Global, store: &Store, bytes: &[u8]) -> Option<PolicyFileError> {
     match policies_from_toml(alloc, bytes, store) {
         Ok(_policies) => None,
         Err(error) => Some(error),
@@ -126,15 +126,18 @@ use PolicyFileError::{Duplicate, RuleNotTotal, RuleType, Shape, Toml, UnknownNam
 /// Files, each with its refusal, if it has one.
 const FILES: &[(&str, Option<PolicyFileError>)] = &[
     ("", None),
-    ("role = []\ntable = []\npolicy = []", None),
+    (
+        "role = []\ntable = []\npolicy = []\ngrant = []\nwithhold = []",
+        None,
+    ),
     ("# nothing", None),
     // What is no TOML.
     ("[[policy", Some(Toml)),
     ("role = []\nrole = []", Some(Toml)),
     ("[[role]]\nname = \"a\"\nname = \"b\"", Some(Toml)),
     // Keys and values.
-    ("grant = []", Some(Shape)),
-    ("withhold = []", Some(Shape)),
+    ("grants = []", Some(Shape)),
+    ("right = []", Some(Shape)),
     ("other = 1", Some(Shape)),
     ("[role]\nname = \"a\"", Some(Shape)),
     ("role = [1]", Some(Shape)),

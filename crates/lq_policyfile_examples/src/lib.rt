@@ -4,3 +4,5 @@
 
 #[cfg(test)]
 mod files;
+#[cfg(test)]
+mod rights;

@@ -3,7 +3,7 @@ use Rattle.std.specs.Prelude.{◌≡◌, List, ℕ, Some, Vec, map}
 use Rattle.std.specs.declared.alloc.Global.{Global}
 use Rattle.lq_value.specs.Tables.{Table}
 use Rattle.lq_bind.specs.Outcomes.{no_places}
-use Rattle.lq_model.specs.Machine.{run_reply, schemas_of}
+use Rattle.lq_model.specs.Machine.{State, run_in, run_reply, schemas_of}
 use Rattle.lq_model.specs.Served.{line_of}
 use Rattle.lq_model.specs.Visible.{tables_as_seen}
 use Rattle.lq_model.specs.declared.policy.PolicyParts.{PolicyParts}
@@ -16,13 +16,24 @@ use Rattle.lq_run.specs.SeenRows.{shown_rows}
 use Rattle.lq_run.specs.declared.seen.SeenRow.{SeenRow}
 
 module _ (parts : PolicyParts) (role : ℕ) (tables : List Table) where
+  abbrev pub state : State
+  state = record { tables = tables; policies = parts; role = role }
+
   -- the machine's line of `run` of an expression
   abbrev pub run_line : Expr → List ℕ
-  run_line e = line_of (run_reply (schemas_of tables) (tables_as_seen parts role tables) e)
+  run_line e = line_of (run_in state e)
+
+  -- and of one that isn't denied
+  abbrev pub served_line : Expr → List ℕ
+  served_line e = line_of (run_reply (schemas_of tables) (tables_as_seen parts role tables) e)
 
   -- a tree is the expression's
   abbrev pub IsTreeOf : Expr → Tree → Type 0
   IsTreeOf e tree = term_tree (schemas_of tables) (translated e) no_places ≡ Some tree
+
+  -- a line is what is served of every expression that is bound to the tree
+  abbrev pub ServesTree : Tree → List ℕ → Type 0
+  ServesTree tree line = (e : Expr) → IsTreeOf e tree → line ≡ served_line e
 
   -- a line is the machine's for every expression that is bound to the tree
   abbrev pub AnswersTree : Tree → List ℕ → Type 0
@@ -32,7 +43,7 @@ module _ (parts : PolicyParts) (role : ℕ) (tables : List Table) where
   abbrev pub AnswersTerm : Term → List ℕ → Type 0
   AnswersTerm term line = (e : Expr) → term ≡ translated e → line ≡ run_line e
 
--- where these rows are those that a role sees, a line over them is the machine's
+-- where these rows are those that a role sees, a line over them is what is served
 abbrev pub AnswersRows : List Table → List (Vec SeenRow Global) → Tree → List ℕ → Type 0
 AnswersRows tables seen tree line =
-    (parts : PolicyParts) (role : ℕ) → map shown_rows seen ≡ tables_as_seen parts role tables → AnswersTree parts role tables tree line
+    (parts : PolicyParts) (role : ℕ) → map shown_rows seen ≡ tables_as_seen parts role tables → ServesTree parts role tables tree line

@@ -152,6 +152,8 @@ fn policies(rt: &impl Abort, alloc: Global, guards: &[Guard]) -> Result<Policies
         roles: roles(alloc)?,
         tables: tables(alloc)?,
         policies,
+        grants: List::new(alloc),
+        withholds: List::new(alloc),
     };
     assert!(rt; rules_are_total(&parts));
     match Policies::build(alloc, parts) {
@@ -358,6 +360,8 @@ fn memberships_are_worked_out_once(rt: HostRuntime) -> Result<(), Fail> {
         roles: ladder(alloc)?,
         tables: tables(alloc)?,
         policies,
+        grants: List::new(alloc),
+        withholds: List::new(alloc),
     };
     assert!(rt; rules_are_total(&parts));
     let Ok(policies) = Policies::build(alloc, parts) else {

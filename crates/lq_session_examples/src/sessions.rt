@@ -3,7 +3,7 @@
 ghost use Rattle.std.specs.Prelude.{◌≡◌, true, IfOk};
 ghost use Rattle.lq_store.specs.Rules.{keeps_rules};
 
-use lq_model::{Policy, PolicyParts, Role, TablePart};
+use lq_model::{Policy, PolicyParts, RightRule, Role, TablePart, Use};
 use lq_policy::{Action, Policies, rules_are_total};
 use lq_session::{Line, Session};
 use lq_store::{Column, ColumnType, Schema, Store, Table};
@@ -97,6 +97,15 @@ fn table_part(alloc: Global, secured: bool) -> Result<TablePart, AllocError> {
     })
 }
 
+// A right to the column c, for all.
+fn grant(alloc: Global) -> Result<RightRule, AllocError> {
+    Ok(RightRule {
+        name: Txt::from_str(alloc, "all")?,
+        to: one(alloc, Txt::from_str(alloc, "public")?)?,
+        rights: one(alloc, Use::Column(0, 0))?,
+    })
+}
+
 fn built(rt: &impl Abort, alloc: Global, parts: PolicyParts) -> Policies {
     if !rules_are_total(&parts) {
         panic!(rt; "a rule may fault");
@@ -107,7 +116,7 @@ fn built(rt: &impl Abort, alloc: Global, parts: PolicyParts) -> Policies {
     }
 }
 
-// The roles a and b, and one table with a column c.
+// The roles a and b, and one table with a column c to which each has a right.
 fn policies_of(
     rt: &impl Abort,
     alloc: Global,
@@ -118,6 +127,8 @@ fn policies_of(
         roles: two_roles(alloc)?,
         tables: one(alloc, table_part(alloc, secured)?)?,
         policies,
+        grants: one(alloc, grant(alloc)?)?,
+        withholds: List::new(alloc),
     };
     Ok(built(rt, alloc, parts))
 }
@@ -200,6 +211,8 @@ fn policies_for_all(rt: &impl Abort, alloc: Global) -> Result<Policies, Fail> {
         roles: List::new(alloc),
         tables,
         policies: one(alloc, policy(alloc, false, "public", "row.c >= 0")?)?,
+        grants: List::new(alloc),
+        withholds: List::new(alloc),
     };
     Ok(built(rt, alloc, parts))
 }

@@ -65,13 +65,13 @@ name_layer (Term-F.Node (node.Name used)) n h = (used, refl, h)
 name_layer (Term-F.Node other) n h = absurd (true≢false (sym h))
 name_layer (Term-F.Call c) n h = absurd (true≢false (sym h))
 
-named : (t : Term) (n : List ℕ) → is_name t n ≡ true → (used : List ℕ) × (t ≡ term.Node (node.Name used)) × (bytes_eq n used ≡ true)
+pub named : (t : Term) (n : List ℕ) → is_name t n ≡ true → (used : List ℕ) × (t ≡ term.Node (node.Name used)) × (bytes_eq n used ≡ true)
 named t n h =
     let found = name_layer (out-Term t) n h in
     (found.0, sym (roll-out-Term t) ∙ ap roll-Term found.1 ∙ rolls-Node (node.Name found.0), found.2)
 
 -- a name has the type of what it stands for
-names_typed : NamesTyped is_name term_type
+pub names_typed : NamesTyped is_name term_type
 names_typed t n h names s =
     let found = named t n h in
     ap (λ (x : Term). term_type x (with_local names n s)) found.1
@@ -80,7 +80,7 @@ names_typed t n h names s =
 
 -- ---- types
 
-abbrev TypesAlike : Expr → Type 0
+abbrev pub TypesAlike : Expr → Type 0
 TypesAlike e = term_type (translated e) ≡ expression_type e
 
 types_at_node : (n : Node (With TypesAlike)) → TypesAlike (expr.Node (map_node (base {P = TypesAlike}) n))
@@ -111,7 +111,7 @@ types_at_query q =
         ∙ (λ i. query_items (λ z. z.1 i) q names)
         ∙ sym (query_typed (base {P = TypesAlike}) expression_type q names)
 
-types_same : (e : Expr) → TypesAlike e
+pub types_same : (e : Expr) → TypesAlike e
 types_same = of_every TypesAlike types_at_node types_at_query
 
 pub terms_typed : (e : Expr) (names : Names) → term_type (translated e) names ≡ expression_type e names

@@ -6,3 +6,6 @@ pub mod NodePulls
 pub mod QueryPulls
 pub mod StreamLemmas
 pub mod TypingLemmas
+pub mod UseLemmas
+pub mod UsePulls
+pub mod UsesAlike

@@ -39,7 +39,7 @@ module _ {X Y : Type 0} (f : X → Y) (typed : Y → Names → Option Ty) where
   keys_typed [] names = refl
   keys_typed (k ∷ ks) names = ap (λ b. is_sort_key (typed (f k.value) names) && b) (keys_typed ks names)
 
-  clause_typed : (outer : Names) (c : Clause X) (names : Names) → names_after typed outer (map_clause f c) names ≡ names_after before outer c names
+  pub clause_typed : (outer : Names) (c : Clause X) (names : Names) → names_after typed outer (map_clause f c) names ≡ names_after before outer c names
   clause_typed outer (clause.From n x) names = refl
   clause_typed outer (clause.Let n x) names = refl
   clause_typed outer (clause.Where x) names = refl
@@ -68,7 +68,7 @@ module _ {X Y : Type 0} (f : X → Y) (typed : Y → Names → Option Ty) where
       λ i. option_and_then (λ t. option_and_then (λ u. next_typed outer q.rest u i) (option_and_then (λ names. body_typed outer q.body names i) (sole_name typed outer q.name t)))
       (source_type typed (f q.source) outer)
 
-  operator_typed : (outer : Names) (op : Operator X) (p : Pattern) → pattern_after typed outer (map_operator f op) p ≡ pattern_after before outer op p
+  pub operator_typed : (outer : Names) (op : Operator X) (p : Pattern) → pattern_after typed outer (map_operator f op) p ≡ pattern_after before outer op p
   operator_typed outer (operator.Where x) p = refl
   operator_typed outer (operator.Select x) p = refl
   operator_typed outer (operator.Let n x) p = refl

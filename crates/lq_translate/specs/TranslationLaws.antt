@@ -1,5 +1,5 @@
 -- Laws of the translation: calls mean what clauses mean, and have the types that they have.
-use Rattle.std.specs.Prelude.{◌≡◌, ◌∷◌, List, ℕ, Bool, true, Option, Some, Ok}
+use Rattle.std.specs.Prelude.{◌≡◌, ◌∷◌, List, [], ℕ, Bool, true, Option, Some, Ok}
 use Rattle.lq_value.specs.declared.ty.Ty.{Ty}
 use Rattle.lq_value.specs.declared.value.Value.{Value}
 use Rattle.lq_model.specs.ClauseTyping.{expression_type, query_items}
@@ -7,7 +7,10 @@ use Rattle.lq_model.specs.Meaning.{Meaning, Scope, World, query_meaning}
 use Rattle.lq_model.specs.Operators.{call_items, call_meaning}
 use Rattle.lq_model.specs.Terms.{term_meaning, term_type}
 use Rattle.lq_model.specs.Typing.{Names, with_local}
+use Rattle.lq_model.specs.Uses.{expression_uses, query_uses}
+use Rattle.lq_model.specs.UsesOfCalls.{call_uses, term_uses}
 use Rattle.lq_model.specs.WholeMeaning.{expression_meaning, items_meaning}
+use Rattle.lq_model.specs.declared.rights.Use.{Use}
 use Rattle.lq_model.specs.declared.syntax.Expr.{Expr}
 use Rattle.lq_model.specs.declared.syntax.Query.{Query}
 use Rattle.lq_translate.specs.Translated.{translated, translated_query}
@@ -23,6 +26,10 @@ module _ {X : Type 0} (is_name : X → List ℕ → Bool) where
   NamesMean {R} meant =
       (x : X) (n : List ℕ) → is_name x n ≡ true → (t : Ty) (v : Value R) (scope : Scope R) → meant x (record { name = n; ty = t; value = v } ∷ scope) ≡ Ok v
 
+  -- and uses nothing, being a local name
+  abbrev pub NamesUsed : (X → Names → List Use) → Type 0
+  NamesUsed uses = (x : X) (n : List ℕ) → is_name x n ≡ true → (names : Names) (t : Ty) → uses x (with_local names n t) ≡ []
+
 -- at the place of any scope the calls of a query have its stream: items and ending, faults alike
 abbrev pub MeansAlike : Type 0 → Type 0 → Type 0
 MeansAlike R X =
@@ -34,6 +41,12 @@ abbrev pub TypedAlike : Type 0 → Type 0
 TypedAlike X =
     (is_name : X → List ℕ → Bool) (typed : X → Names → Option Ty) → NamesTyped is_name typed
     → (q : Query X) (outer : Names) → call_items typed (call_of is_name q) outer ≡ query_items typed q outer
+
+-- and they use what its clauses use, in the same order
+abbrev pub UsedAlike : Type 0 → Type 0
+UsedAlike X =
+    (is_name : X → List ℕ → Bool) (typed : X → Names → Option Ty) (uses : X → Names → List Use) → NamesTyped is_name typed → NamesUsed is_name uses
+    → (q : Query X) (outer : Names) → call_uses typed uses (call_of is_name q) outer ≡ query_uses typed uses q outer
 
 -- ---- whole expressions
 
@@ -53,3 +66,12 @@ CallsTypedAlike = (q : Query Expr) (names : Names) → call_items term_type (tra
 abbrev pub CallsMeanAlike : Type 0 → Type 0
 CallsMeanAlike R =
     (world : World R) (q : Query Expr) (scope : Scope R) → call_meaning world term_type (term_meaning world) (translated_query q) scope ≡ items_meaning world q scope
+
+-- a translated expression uses what the expression uses, in the same order
+abbrev pub TermsUsedAlike : Type 0
+TermsUsedAlike = (e : Expr) (names : Names) → term_uses (translated e) names ≡ expression_uses e names
+
+-- and so do the calls of a query
+abbrev pub CallsUsedAlike : Type 0
+CallsUsedAlike =
+    (q : Query Expr) (names : Names) → call_uses term_type term_uses (translated_query q) names ≡ query_uses expression_type expression_uses q names

@@ -1,6 +1,7 @@
 //! Laws of the translation. Each function's contract is the law that it is named for; the functions
 //! themselves do nothing.
-ghost use Rattle.lq_translate.specs.TranslationLaws.{CallsMeanAlike, CallsTypedAlike, MeansAlike, TermsMeanAlike, TermsTypedAlike, TypedAlike};
+ghost use Rattle.lq_translate.specs.TranslationLaws.{CallsMeanAlike, CallsTypedAlike, MeansAlike};
+ghost use Rattle.lq_translate.specs.TranslationLaws.{CallsUsedAlike, TermsMeanAlike, TermsTypedAlike, TermsUsedAlike, TypedAlike, UsedAlike};
 
 /// The calls that a query is translated to mean under nested pairs what its clauses mean under names, items and ending alike,
 /// whatever its expressions are and mean, if only a name means what stands there; and they have its type, or none where it has none.
@@ -16,4 +17,17 @@ pub fn terms_and_expressions<R>()
     ensures meanings { TermsMeanAlike R }
     ensures items { CallsTypedAlike }
     ensures streams { CallsMeanAlike R }
+{}
+
+/// The calls that a query is translated to use what its clauses use, tables and columns in the order of the text, whatever its
+/// expressions are, if only a name uses nothing where it is a local one.
+pub fn uses_of_calls<X>()
+    ensures { UsedAlike X }
+{}
+
+/// The same for whole expressions, in which queries may hold queries: what an expression is translated to uses what it uses, and so
+/// do the calls of a query.
+pub fn uses_of_terms()
+    ensures terms { TermsUsedAlike }
+    ensures calls { CallsUsedAlike }
 {}

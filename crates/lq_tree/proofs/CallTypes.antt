@@ -84,11 +84,11 @@ module _ (schemas : List Schema) {X : Type 0} (tree : X → Binds) (typed : X �
   pub source_found : (places : Places) (x : X) → type_found (source_tree schemas tree x places) ≡ source_type typed x (names places)
   source_found places x = items_found (tree x places) ∙ ap (option_and_then (λ t. element_type (out-Ty t))) (alike x places)
 
-  source_at_item : (places : Places) (p : Pattern) (x : X) → type_found (source_tree schemas tree x (with_item places p))
+  pub source_at_item : (places : Places) (p : Pattern) (x : X) → type_found (source_tree schemas tree x (with_item places p))
       ≡ source_type typed x (names_of (names places) p)
   source_at_item places p x = items_found (tree x (with_item places p)) ∙ ap (option_and_then (λ t. element_type (out-Ty t))) (at_item places p x)
 
-  fresh_found : (places : Places) (p : Pattern) (n : List ℕ) (o : Option Tree)
+  pub fresh_found : (places : Places) (p : Pattern) (n : List ℕ) (o : Option Tree)
       → type_found (if_fresh schemas tree places p n o) ≡ when (is_fresh (names_of (names places) p) n) (type_found o)
   fresh_found places p n o =
       map_when (λ found. found.ty) (is_fresh (names (with_item places p)) n) o ∙ ap (λ (ns : Names). when (is_fresh ns n) (type_found o))
@@ -135,7 +135,7 @@ module _ (schemas : List Schema) {X : Type 0} (tree : X → Binds) (typed : X �
       map_two (λ s. s.pattern) _ (paired_stage schemas tree places stage.pattern (joined_name j) t result) ∙ paired_found places stage.pattern
       (joined_name j) t result
 
-  matched_found : (places : Places) (p : Pattern) (into : Option (List ℕ)) (t : Ty) → matched_type schemas tree places p into t
+  pub matched_found : (places : Places) (p : Pattern) (into : Option (List ℕ)) (t : Ty) → matched_type schemas tree places p into t
       ≡ matched typed (names_of (names places) p) into t
   matched_found places p None t = refl
   matched_found places p (Some g) t = ap (λ (ns : Names). when (is_fresh ns g) (Some (ty.Seq t))) (names_alike schemas places p)

@@ -1,6 +1,8 @@
 pub mod CallMeans
 pub mod CallTypes
+pub mod CallUses
 pub mod FormSteps
+pub mod FormUses
 pub mod Layers
 pub mod MappedItems
 pub mod MappedMethods
@@ -11,12 +13,14 @@ pub mod MeansMembers
 pub mod MeansOperators
 pub mod NodeMeans
 pub mod NodeTypes
+pub mod NodeUses
 pub mod Patterns
 pub mod RowForms
 pub mod RowMeanings
 pub mod Scopes
 pub mod TermMeans
 pub mod TermTypes
+pub mod TermUses
 pub mod TreePulls
 pub mod TypeLemmas
 pub mod Walks

@@ -9,6 +9,8 @@ use Rattle.lq_model.specs.Meaning.{names_at, Binding, Scope, World, sequence}
 use Rattle.lq_model.specs.MeaningLaws.{HoldsRows}
 use Rattle.lq_model.specs.Operators.{call_items, call_meaning}
 use Rattle.lq_model.specs.Terms.{term_meaning, term_type}
+use Rattle.lq_model.specs.Uses.{expression_uses}
+use Rattle.lq_model.specs.UsesOfCalls.{call_uses, term_uses}
 use Rattle.lq_model.specs.WholeMeaning.{expression_meaning, items_meaning}
 use Rattle.lq_model.specs.WholeMeaningLaws.{IsScopeOfValues, IsValueOf}
 use Rattle.lq_model.specs.declared.calls.Call.{Call}
@@ -19,6 +21,7 @@ use Rattle.lq_translate.specs.Translated.{translated, translated_query}
 use Rattle.lq_tree.specs.Binding.{call_tree, term_tree, tree_of}
 use Rattle.lq_tree.specs.FormMeaning.{Slots, form_meaning}
 use Rattle.lq_tree.specs.Places.{Place, Places, names_of_places}
+use Rattle.lq_tree.specs.UsesOfForms.{UseNothing, form_uses}
 use Rattle.lq_tree.specs.declared.tree.Form.{Form}
 use Rattle.lq_tree.specs.declared.tree.Tree.{Tree}
 
@@ -85,3 +88,23 @@ BindsQueries R =
     → Holds world slots places scope → (type : Ty) → query_items expression_type q (names_at world scope) ≡ Some type
     → (form : Form) × (call_tree world.schemas (term_tree world.schemas) (translated_query q) places ≡ Some (tree_of (ty.Seq type) form))
     × (form_meaning world form slots ≡ Ok (sequence (items_meaning world q scope)))
+
+-- ---- uses
+
+-- under local names, which use nothing, a tree uses what its term uses, in the same order
+abbrev pub UsesOfTrees : Type 0
+UsesOfTrees =
+    (schemas : List Schema) (t : Term) (places : Places) → UseNothing places → (tree : Tree) → term_tree schemas t places ≡ Some tree
+    → form_uses tree.form ≡ term_uses t (names_of_places schemas places)
+
+-- and so does the tree of the calls of a query
+abbrev pub UsesOfCalls : Type 0
+UsesOfCalls =
+    (schemas : List Schema) (c : Call Term) (places : Places) → UseNothing places → (tree : Tree) → call_tree schemas (term_tree schemas) c places ≡ Some tree
+    → form_uses tree.form ≡ call_uses term_type term_uses c (names_of_places schemas places)
+
+-- and of whole expressions, through the terms that they are translated to
+abbrev pub UsesOfExpressions : Type 0
+UsesOfExpressions =
+    (schemas : List Schema) (e : Expr) (places : Places) → UseNothing places → (tree : Tree) → term_tree schemas (translated e) places ≡ Some tree
+    → form_uses tree.form ≡ expression_uses e (names_of_places schemas places)

@@ -4,3 +4,4 @@ pub mod FormMeaning
 pub mod Places
 pub mod RowLaws
 pub mod Rows
+pub mod UsesOfForms

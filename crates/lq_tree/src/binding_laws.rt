@@ -1,7 +1,7 @@
 //! Laws of binding. Each function's contract is the law that it is named for; the functions
 //! themselves do nothing.
 ghost use Rattle.lq_tree.specs.BindingLaws.{BindsExpressions, BindsQueries, MeaningsOfCalls};
-ghost use Rattle.lq_tree.specs.BindingLaws.{MeaningsOfTrees, TypesOfCalls, TypesOfTrees};
+ghost use Rattle.lq_tree.specs.BindingLaws.{MeaningsOfTrees, TypesOfCalls, TypesOfTrees, UsesOfCalls, UsesOfExpressions, UsesOfTrees};
 
 /// A term is bound to a tree at a place exactly where it has a type there, and the tree's type is
 /// that; and so are the calls of a query, whose tree is of the type of a sequence of their items.
@@ -24,4 +24,12 @@ pub fn meanings_of_trees<R>()
 pub fn trees_of_expressions<R>()
     ensures expressions { BindsExpressions R }
     ensures queries { BindsQueries R }
+{}
+
+/// A tree uses what its term uses, tables and columns in the order of the text, and so what the
+/// expression uses that was translated to it; and so does the tree of the calls of a query.
+pub fn uses_of_trees()
+    ensures terms { UsesOfTrees }
+    ensures calls { UsesOfCalls }
+    ensures expressions { UsesOfExpressions }
 {}

@@ -37,6 +37,13 @@ FILES = {
     "brackets": filled(b"", b"["),
     "nul": filled(b"", b"\0"),
     "number_of_a_megabyte": filled(b"x = ", b"9"),
+    "right_of_a_megabyte": filled(b"[[grant]]\nname = 'all'\nrights = ['", b"a", b"']\n"),
+    "right_with_a_column_of_a_megabyte": filled(b"[[grant]]\nname = 'all'\nrights = ['employees.", b"a", b"']\n"),
+    "right_of_blanks": filled(b"[[withhold]]\nname = 'w'\nrights = ['employees", b" ", b"insert']\n"),
+    "right_of_dots": filled(b"[[withhold]]\nname = 'w'\nrights = ['employees", b".", b"id']\n"),
+    "rights_to_no_table": filled(b"[[grant]]\nname = 'all'\nrights = [", b"'a.*',", b"]\n"),
+    "grants_of_one_name": filled(b"", b"[[grant]]\nname='a'\nrights=[]\n"),
+    "empty_grants": filled(b"", b"[[grant]]\n"),
     "rule_of_brackets": POLICY + b"using = '" + b"(" * 65_536 + b"'\n",
     "rule_of_sums": POLICY + b"using = 'row.id" + b"+1" * 32_000 + b" > 0'\n",
 }

@@ -23,7 +23,7 @@ fn is_rule_name(name: &str) -> bool
 }
 
 /// The name of a rule.
-fn rule_name(alloc: Global, table: &Table) -> Result<Txt, ShapeError>
+pub(crate) fn rule_name(alloc: Global, table: &Table) -> Result<Txt, ShapeError>
     ensures { Reads (rule_name (table_view table.now)) result }
 {
     let name: Txt = required(alloc, table, "name")?;
@@ -35,7 +35,7 @@ fn rule_name(alloc: Global, table: &Table) -> Result<Txt, ShapeError>
 }
 
 /// The list of `public`, which stands for all roles.
-fn all_roles(alloc: Global) -> Result<List<Txt>, AllocError>
+pub(crate) fn all_roles(alloc: Global) -> Result<List<Txt>, AllocError>
     ensures { IfOk result (λ names. names ≡ codes "public" ∷ []) }
 {
     let mut names = List::new(alloc);

@@ -9,10 +9,10 @@ use Rattle.lq_run.proofs.run.term_line.Goals as goal
 
 pub returns-in-Ok : goal.returns-in-Ok
 returns-in-Ok c =
-    IfOk-weaker c.seen_line.result (AnswersTree c.args.policies.now (number_of c.args.role) c.args.store.now c.in-Ok.tree)
+    IfOk-weaker c.answer_line.result (AnswersTree c.args.policies.now (number_of c.args.role) c.args.store.now c.in-Ok.tree)
     (AnswersTerm c.args.policies.now (number_of c.args.role) c.args.store.now c.args.term.now)
     (λ line. term_reply c.args.policies.now (number_of c.args.role) c.args.store.now c.args.term.now c.in-Ok.tree line c.in-Ok.ensures.1)
-    c.seen_line.ensures
+    c.answer_line.ensures
 
 pub returns-in-Err-IllTyped : goal.returns-in-Err-IllTyped
 returns-in-Err-IllTyped c =

@@ -1,0 +1,74 @@
+//! The line of a denial: the rule that denies a use, and the use as it is named.
+ghost use Rattle.std.specs.Prelude.{◌≡◌, codes, slice_get, string_bytes, IfOk};
+ghost use Rattle.lq_model.specs.Machine.{schemas_of};
+ghost use Rattle.lq_model.specs.Served.{columns_in, denied_data, line_of, name_at, name_of_table, use_name};
+
+use crate::line::Line;
+use lq_model::Use;
+use lq_store::Store;
+use serde_json::Map;
+use std::alloc::{AllocError, Global};
+
+/// The name of a table; empty where there is no such table.
+fn table_name(store: &Store, table: u16) -> &str
+    ensures { result.now ≡ name_of_table (slice_get (schemas_of store.now) table) }
+{
+    if table as usize >= store.len() {
+        return "";
+    }
+    store.schema(table).name.as_str()
+}
+
+/// The name of a column; empty where there is no such column.
+fn column_name(store: &Store, table: u16, column: u16) -> &str
+    ensures { result.now ≡ name_at (slice_get (columns_in (slice_get (schemas_of store.now) table)) column) }
+{
+    if table as usize >= store.len() {
+        return "";
+    }
+    match store.schema(table).columns.as_slice().get(column as usize) {
+        Some(column) => column.name.as_str(),
+        None => "",
+    }
+}
+
+/// A use as it is named.
+fn use_name(alloc: Global, store: &Store, used: Use) -> Result<String, AllocError>
+    ensures { IfOk result (λ name. string_bytes name ≡ use_name (schemas_of store.now) used) }
+{
+    match used {
+        Use::Table(table) => Ok(String::from_str(alloc, table_name(store, table))?),
+        Use::Column(table, column) => {
+            let (table, column) = (table_name(store, table), column_name(store, table, column));
+            Ok(format!(in alloc; "{table}.{column}")?)
+        }
+        Use::Insert(table) => {
+            let table = table_name(store, table);
+            Ok(format!(in alloc; "{table} insert")?)
+        }
+        Use::Delete(table) => {
+            let table = table_name(store, table);
+            Ok(format!(in alloc; "{table} delete")?)
+        }
+    }
+}
+
+/// The line of a denial by a rule.
+pub(crate) fn denied_line(
+    alloc: Global,
+    store: &Store,
+    rule: &str,
+    used: Use,
+) -> Result<Line, AllocError>
+    ensures { IfOk result (λ line. line ≡ line_of (denied_data (schemas_of store.now) rule.now used)) }
+{
+    let name = use_name(alloc, store, used)?;
+    let name = serde_json::Value::try_from_str(alloc, name.as_str())?;
+    let rule = serde_json::Value::try_from_str(alloc, rule)?;
+    let mut members = Map::new(alloc);
+    serde_json::put(&mut members, alloc, "use", name)?;
+    serde_json::put(&mut members, alloc, "denied", rule)?;
+    let mut line = serde_json::Value::Object(members).to_vec(alloc)?;
+    line.push(b'\n')?;
+    Ok(Line::from_bytes(line))
+}

@@ -1,0 +1,23 @@
+//! Laws of rights. Each function's contract is the law that it is named for; the functions themselves
+//! do nothing.
+ghost use Rattle.lq_model.specs.RightLaws.{DeniesTheRest, DeniesWithoutGrants, GrantsMore, TellsUses, WithholdsMore};
+
+/// The function that decides on rights tells exactly what a role may use: what some grant that applies
+/// covers and no withhold that applies does, and a table where this is so of one of its columns. And
+/// nothing is denied exactly where the role may use each of the uses.
+pub fn rights_of_roles()
+    ensures uses { TellsUses }
+    ensures denials { DeniesTheRest }
+{}
+
+/// One withhold more never turns a denial into an answer, and one grant more never turns an answer
+/// into a denial.
+pub fn one_rule_more()
+    ensures withhold { WithholdsMore }
+    ensures grant { GrantsMore }
+{}
+
+/// A role to which no grant applies is denied whatever uses a table or a column.
+pub fn no_right_without_a_grant()
+    ensures { DeniesWithoutGrants }
+{}

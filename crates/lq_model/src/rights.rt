@@ -1,0 +1,26 @@
+//! Rights as plain data: what a statement uses, and the rules that grant or withhold it.
+use lq_value::{List, Txt};
+
+/// What a statement uses of the tables, and what a right is for.
+#[derive(Clone, Copy, Debug, Drop, Eq, Hash, PartialEq)]
+pub enum Use {
+    /// The table with this number.
+    Table(u16),
+    /// A column, by the numbers of its table and of its place there.
+    Column(u16, u16),
+    /// A new row of the table with this number.
+    Insert(u16),
+    /// The removal of rows of the table with this number.
+    Delete(u16),
+}
+
+/// A rule that grants rights, or one that withholds them.
+#[derive(Drop)]
+pub struct RightRule {
+    /// Its name.
+    pub name: Txt,
+    /// The names of the roles that it applies to, and to whose members; `public` stands for all.
+    pub to: List<Txt>,
+    /// The rights that it covers: columns, and the putting in and removal of rows.
+    pub rights: List<Use>,
+}

@@ -1,0 +1,246 @@
+//! Rights: what a role may use, and the name of the rule that denies it.
+ghost use Rattle.std.specs.Prelude.{◌≡◌, ◌||◌};
+ghost use Rattle.std.specs.List.{list_any};
+ghost use Rattle.lq_model.specs.Rights.{covers, is_column_of, is_same_use};
+ghost use Rattle.lq_policy.specs.RoleRights.{is_among};
+ghost use Rattle.lq_model.specs.declared.rights.Use.{Use};
+ghost use Rattle.std.specs.Prelude.{IfOk};
+
+use crate::access::RoleId;
+use crate::policies::Policies;
+use crate::use_set::UseSet;
+use lq_model::{RightRule, Use};
+use std::alloc::{AllocError, Global};
+
+/// The name under which a use is denied that no withhold bears on.
+const NO_GRANT: &str = "no-grant";
+
+/// What a role may use, worked out once from the rules that apply to it.
+#[derive(Drop)]
+pub struct RoleRights {
+    granted: UseSet,
+    withheld: UseSet,
+}
+
+/// Whether two uses are the same.
+fn is_same_use(a: Use, b: Use) -> bool
+    ensures { result ≡ is_same_use a b }
+{
+    a == b
+}
+
+/// Whether a use is that of a column of this table.
+fn is_column_of(table: u16, used: Use) -> bool
+    ensures { result ≡ is_column_of table used }
+{
+    match used {
+        Use::Column(of, _) => table == of,
+        Use::Table(_) | Use::Insert(_) | Use::Delete(_) => false,
+    }
+}
+
+/// Whether a rule has this use among its rights.
+fn covers(used: Use, rule: &RightRule) -> bool
+    ensures { result ≡ covers used rule.now }
+{
+    let rights = rule.rights.as_slice();
+    rights.iter().any(|right| is_same_use(used, *right))
+}
+
+/// Whether a rule has a column of this table among its rights.
+fn has_column(table: u16, rule: &RightRule) -> bool
+    ensures { result ≡ list_any (is_column_of table) rule.now.rights }
+{
+    let rights = rule.rights.as_slice();
+    rights.iter().any(|right| is_column_of(table, *right))
+}
+
+impl RoleRights {
+    ghost use Rattle.std.specs.Prelude.{◌≡◌, ◌&&◌, not};
+    ghost use Rattle.std.specs.List.{list_any};
+    ghost use Rattle.lq_policy.specs.RoleRights.{allows_use, has_right, is_among};
+
+    /// Whether a right is to a column of this table, and isn't withheld.
+    fn opens(&self, table: u16, right: Use) -> bool
+        ensures { result ≡ is_column_of table right && not (is_among self.now.withheld right) }
+    {
+        is_column_of(table, right) && !self.withheld.has(right)
+    }
+
+    /// Whether some column of this table is granted and not withheld.
+    fn has_column(&self, table: u16) -> bool
+        ensures { result ≡ list_any (λ right. is_column_of table right && not (is_among self.now.withheld right)) self.now.granted.uses.keys }
+    {
+        self.granted
+            .uses
+            .iter()
+            .any(|right| self.opens(table, *right))
+    }
+
+    /// Whether the role may use this: a table where it has a right to one of its columns, and
+    /// anything else where some grant that applies covers it and no withhold that applies does.
+    pub fn allows(&self, used: Use) -> bool
+        ensures { result ≡ allows_use self.now used }
+    {
+        match used {
+            Use::Table(table) => self.has_column(table),
+            Use::Column(_, _) | Use::Insert(_) | Use::Delete(_) => {
+                self.granted.has(used) && !self.withheld.has(used)
+            }
+        }
+    }
+}
+
+/// Puts rights into a set.
+fn add_rights(set: &mut UseSet, rights: &[Use]) -> Result<(), AllocError>
+    ensures { IfOk result (λ _. (other : Use) → is_among set.new other ≡ list_any (is_same_use other) rights.now || is_among set.old other) }
+{
+    for right in rights {
+        set.add(*right)?;
+    }
+    Ok(())
+}
+
+impl Policies {
+    ghost use Rattle.std.specs.Prelude.{◌≡◌, ◌&&◌, not, Some, IfOk};
+    ghost use Rattle.std.specs.List.{list_any};
+    ghost use Rattle.std.specs.Option.{option_copied};
+    ghost use Rattle.lq_model.specs.Rights.{bears, concerns, denier_of, first_concerning, is_withheld, may_use, opens};
+    ghost use Rattle.lq_policy.specs.RoleRights.{allows_use, is_among};
+    ghost use Rattle.lq_policy.specs.Roles.{number_of, refused_under};
+    ghost use Rattle.lq_model.specs.declared.rights.Use.{Use};
+
+    /// The rights that the rules which apply to a role cover.
+    fn covered(
+        &self,
+        alloc: Global,
+        role: RoleId,
+        rules: &[RightRule],
+    ) -> Result<UseSet, AllocError>
+        ensures { IfOk result (λ set. (used : Use) → is_among set used ≡ list_any (bears self.now.roles (number_of role) used) rules.now) }
+    {
+        let mut set = UseSet::new(alloc);
+        for rule in rules {
+            if self.is_listed(role, rule.to.as_slice()) {
+                add_rights(&mut set, rule.rights.as_slice())?;
+            }
+        }
+        Ok(set)
+    }
+
+    /// What a role may use, worked out once. It allows what `right` does.
+    pub fn rights_for(&self, alloc: Global, role: RoleId) -> Result<RoleRights, AllocError>
+        ensures { IfOk result (λ rights. (used : Use) → allows_use rights used ≡ may_use self.now (number_of role) used) }
+    {
+        Ok(RoleRights {
+            granted: self.covered(alloc, role, self.parts.grants.as_slice())?,
+            withheld: self.covered(alloc, role, self.parts.withholds.as_slice())?,
+        })
+    }
+
+    /// Whether a rule applies to the role and covers the use.
+    fn bears(&self, role: RoleId, used: Use, rule: &RightRule) -> bool
+        ensures { result ≡ bears self.now.roles (number_of role) used rule.now }
+    {
+        self.is_listed(role, rule.to.as_slice()) && covers(used, rule)
+    }
+
+    /// Whether one of these rules applies to the role and covers the use.
+    fn is_covered(&self, role: RoleId, used: Use, rules: &[RightRule]) -> bool
+        ensures { result ≡ list_any (bears self.now.roles (number_of role) used) rules.now }
+    {
+        rules.iter().any(|rule| self.bears(role, used, rule))
+    }
+
+    /// Whether some withhold that applies covers the use.
+    fn is_withheld(&self, role: RoleId, used: Use) -> bool
+        ensures { result ≡ is_withheld self.now (number_of role) used }
+    {
+        self.is_covered(role, used, self.parts.withholds.as_slice())
+    }
+
+    /// Whether a right is to a column of the table that isn't withheld.
+    fn is_open_column(&self, role: RoleId, table: u16, right: Use) -> bool
+        ensures { result ≡ is_column_of table right && not (is_withheld self.now (number_of role) right) }
+    {
+        is_column_of(table, right) && !self.is_withheld(role, right)
+    }
+
+    /// Whether one of these rights is.
+    fn has_open_column(&self, role: RoleId, table: u16, rights: &[Use]) -> bool
+        ensures { result ≡ list_any (λ right. is_column_of table right && not (is_withheld self.now (number_of role) right)) rights.now }
+    {
+        rights
+            .iter()
+            .any(|right| self.is_open_column(role, table, *right))
+    }
+
+    /// Whether a grant applies and covers a column of the table that isn't withheld.
+    fn opens(&self, role: RoleId, table: u16, rule: &RightRule) -> bool
+        ensures { result ≡ opens self.now (number_of role) table rule.now }
+    {
+        self.is_listed(role, rule.to.as_slice())
+            && self.has_open_column(role, table, rule.rights.as_slice())
+    }
+
+    /// Whether the role has a right to a column of the table.
+    fn has_open_grant(&self, role: RoleId, table: u16, grants: &[RightRule]) -> bool
+        ensures { result ≡ list_any (opens self.now (number_of role) table) grants.now }
+    {
+        grants.iter().any(|rule| self.opens(role, table, rule))
+    }
+
+    /// Whether the role may use this.
+    #[tactic(auto, unfolding(lq_model::specs::Rights::may_use))]
+    fn may_use(&self, role: RoleId, used: Use) -> bool
+        ensures { result ≡ may_use self.now (number_of role) used }
+    {
+        let grants = self.parts.grants.as_slice();
+        match used {
+            Use::Table(table) => self.has_open_grant(role, table, grants),
+            Use::Column(_, _) | Use::Insert(_) | Use::Delete(_) => {
+                self.is_covered(role, used, grants) && !self.is_withheld(role, used)
+            }
+        }
+    }
+
+    /// Whether a rule applies to the role and covers the use, or of a table any of its columns.
+    fn concerns(&self, role: RoleId, used: Use, rule: &RightRule) -> bool
+        ensures { result ≡ concerns self.now.roles (number_of role) used rule.now }
+    {
+        match used {
+            Use::Table(table) => {
+                self.is_listed(role, rule.to.as_slice()) && has_column(table, rule)
+            }
+            Use::Column(_, _) | Use::Insert(_) | Use::Delete(_) => self.bears(role, used, rule),
+        }
+    }
+
+    /// The name of the first of these rules that concerns the use.
+    fn first_concerning<'a>(&self, role: RoleId, used: Use, rules: &'a [RightRule]) -> &'a str
+        ensures { result.now ≡ first_concerning self.now.roles (number_of role) used rules.now }
+    {
+        for rule in rules {
+            if self.concerns(role, used, rule) {
+                return rule.name.as_str();
+            }
+        }
+        NO_GRANT
+    }
+
+    /// Whether the role has a right to this use: to a table where it has one to a column of it, and
+    /// to anything else where some grant that applies covers it and no withhold that applies does.
+    /// Takes no memory.
+    ///
+    /// A use is denied under the name of the first withhold that applies and covers it (of a table
+    /// any of its columns), or under `no-grant` where there is none.
+    #[tactic(auto, unfolding(lq_model::specs::Rights::denier_of))]
+    pub fn right(&self, role: RoleId, used: Use) -> Result<(), &str>
+        ensures { refused_under result ≡ denier_of self.now (number_of role) used }
+    {
+        if self.may_use(role, used) {
+            return Ok(());
+        }
+        Err(self.first_concerning(role, used, self.parts.withholds.as_slice()))
+    }
+}

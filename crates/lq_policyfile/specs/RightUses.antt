@@ -1,0 +1,33 @@
+-- What the rights of a file are for: the uses that each comes to, and the rules that grant or withhold them.
+use Rattle.std.specs.Prelude.{◌∷◌, List, [], ℕ, flat_map, unwrap_or}
+use Rattle.lq_value.specs.Tables.{Table, first_named}
+use Rattle.lq_value.specs.declared.table.Column.{Column}
+use Rattle.lq_store.specs.Rules.{name_of}
+use Rattle.lq_model.specs.Uses.{columns_from}
+use Rattle.lq_model.specs.declared.rights.RightRule.{RightRule}
+use Rattle.lq_model.specs.declared.rights.Use.{Use}
+use Rattle.lq_model.specs.declared.rights.Use.TheVariants as of
+use Rattle.lq_policyfile.specs.Names.{columns_of}
+use Rattle.lq_policyfile.specs.declared.entry.RightEntry.{RightEntry}
+use Rattle.lq_policyfile.specs.declared.entry.RightForm.{RightForm}
+use Rattle.lq_policyfile.specs.declared.entry.RightForm.TheVariants as form
+
+-- the number of the table of this name, which is there
+abbrev pub table_number : List Table → List ℕ → ℕ
+table_number tables name = unwrap_or (first_named name_of name tables) 0
+
+-- the number of the column of this name, which is there
+abbrev pub column_number : List Column → List ℕ → ℕ
+column_number columns name = unwrap_or (first_named (λ column. column.name) name columns) 0
+
+-- What a right is for. All columns of a table stand in the order of its schema; there is no host predicate yet.
+abbrev pub uses_of : List Table → RightForm → List Use
+uses_of tables (form.Column t c) = of.Column (table_number tables t) (column_number (columns_of tables t) c) ∷ []
+uses_of tables (form.AllColumns t) = columns_from (table_number tables t) 0 (columns_of tables t)
+uses_of tables (form.Insert t) = of.Insert (table_number tables t) ∷ []
+uses_of tables (form.Delete t) = of.Delete (table_number tables t) ∷ []
+uses_of tables (form.Host p) = []
+
+-- the rule of an entry, with what its rights are for in their order
+abbrev pub right_rule : List Table → RightEntry → RightRule
+right_rule tables entry = record { name = entry.name; to = entry.to; rights = flat_map (uses_of tables) entry.rights }

@@ -1,0 +1,49 @@
+//! Names in grants and withholds that aren't there.
+ghost use Rattle.std.specs.Prelude.{◌≡◌};
+ghost use Rattle.std.specs.List.{list_all};
+ghost use Rattle.lq_policyfile.specs.Names.{entry_is_known, right_is_known};
+
+use crate::entry::{RightEntry, RightForm};
+use crate::name_set::NameSet;
+use crate::names::{are_addressees, columns_of, is_table};
+use crate::rule_names::has_column;
+use lq_store::Store;
+
+/// Whether a right names only what is there. No host predicate is.
+fn right_is_known(store: &Store, right: &RightForm) -> bool
+    ensures { result ≡ right_is_known store.now right.now }
+{
+    match right {
+        RightForm::Column(table, column) => {
+            is_table(store, table.as_str())
+                && has_column(columns_of(store, table.as_str()), column.as_str())
+        }
+        RightForm::AllColumns(table) | RightForm::Insert(table) | RightForm::Delete(table) => {
+            is_table(store, table.as_str())
+        }
+        RightForm::Host(_) => false,
+    }
+}
+
+/// Whether each right names only what is there.
+fn rights_are_known(store: &Store, rights: &[RightForm]) -> bool
+    ensures { result ≡ list_all (right_is_known store.now) rights.now }
+{
+    rights.iter().all(|right| right_is_known(store, right))
+}
+
+/// Whether a grant or a withhold names only what is there.
+fn entry_is_known(store: &Store, roles: &NameSet<'_>, entry: &RightEntry) -> bool
+    ensures { result ≡ entry_is_known store.now roles.now entry.now }
+{
+    are_addressees(roles, entry.to.as_slice()) && rights_are_known(store, entry.rights.as_slice())
+}
+
+/// Whether each grant or withhold names only what is there.
+pub(crate) fn entries_are_known(store: &Store, roles: &NameSet<'_>, entries: &[RightEntry]) -> bool
+    ensures { result ≡ list_all (entry_is_known store.now roles.now) entries.now }
+{
+    entries
+        .iter()
+        .all(|entry| entry_is_known(store, roles, entry))
+}

@@ -1,0 +1,49 @@
+-- «Uses» of the forms of a typed tree: the tables and columns in it, in the order of the text that it comes from. A group's elements stand
+-- in that text before its key.
+use Rattle.std.specs.Prelude.{◌≡◌, ◌∷◌, ◌++◌, List, [], flat_map}
+use Rattle.lq_model.specs.MeaningLaws.{Every}
+use Rattle.lq_model.specs.declared.rights.Use.{Use}
+use Rattle.lq_model.specs.declared.rights.Use.TheVariants as of
+use Rattle.lq_tree.specs.Places.{Places}
+use Rattle.lq_tree.specs.declared.tree.Form.{Form, fold-Form}
+use Rattle.lq_tree.specs.declared.tree.Form.TheOpen.{Form-F}
+use Rattle.lq_tree.specs.declared.tree.Joined.{Joined}
+
+-- both sources and keys of a join, and what comes of each match
+abbrev pub joined_uses : Joined (List Use) → List Use
+joined_uses j = (j.inner ++ (j.outer_key ++ j.inner_key)) ++ j.result
+
+-- a form over the uses of the forms in it
+abbrev pub form_uses_step : Form-F (List Use) → List Use
+form_uses_step (Form-F.Literal s) = []
+form_uses_step (Form-F.Slot n) = []
+form_uses_step (Form-F.First a) = a
+form_uses_step (Form-F.Second a) = a
+form_uses_step (Form-F.Table t) = of.Table t ∷ []
+form_uses_step (Form-F.Column a t c) = a ++ of.Column t c ∷ []
+form_uses_step (Form-F.Member a place) = a
+form_uses_step (Form-F.Key a) = a
+form_uses_step (Form-F.Unary o a) = a
+form_uses_step (Form-F.Binary o a b) = a ++ b
+form_uses_step (Form-F.And a b) = a ++ b
+form_uses_step (Form-F.Or a b) = a ++ b
+form_uses_step (Form-F.Coalesce a b) = a ++ b
+form_uses_step (Form-F.Conditional c a b) = c ++ (a ++ b)
+form_uses_step (Form-F.IsNull wanted a) = a
+form_uses_step (Form-F.Record fields) = flat_map (λ field. field.value) fields
+form_uses_step (Form-F.Pair a b) = a ++ b
+form_uses_step (Form-F.Sequence a) = a
+form_uses_step (Form-F.Simple method t a) = a
+form_uses_step (Form-F.Given method a b) = a ++ b
+form_uses_step (Form-F.Through method t u a f) = a ++ f
+form_uses_step (Form-F.SelectMany a inner result) = a ++ (inner ++ result)
+form_uses_step (Form-F.Join a j) = a ++ joined_uses j
+form_uses_step (Form-F.OrderBy a ks) = a ++ flat_map (λ k. k.value) ks
+form_uses_step (Form-F.GroupBy a key element) = a ++ (element ++ key)
+
+unfoldable pub form_uses : Form → List Use
+form_uses = fold-Form (List Use) form_uses_step
+
+-- places of local names, whose forms use nothing: slots, and parts of what is in them
+abbrev pub UseNothing : Places → Type 0
+UseNothing places = Every (λ place. form_uses place.form ≡ []) places.locals

@@ -1,0 +1,152 @@
+//! The uses of typed trees.
+ghost use Rattle.std.specs.Prelude.{◌≡◌, ◌∷◌, ◌++◌, [], flat_map, IfOk, OnOk};
+ghost use Rattle.lq_model.specs.Machine.{schemas_of};
+ghost use Rattle.lq_tree.specs.UsesOfForms.{form_uses};
+ghost use Rattle.lq_use.specs.Served.{join_uses, uses_served};
+
+use crate::shown::add_columns;
+use lq_model::{Field, SortKey};
+use lq_policy::Use;
+use lq_store::Store;
+use lq_tree::{Form, Joined, Tree, ty};
+use std::alloc::{AllocError, Global};
+
+/// What a form uses, behind other uses.
+#[cycle(gathering)]
+#[inline(never)]
+#[tactic(auto, using(crate::proofs::UseLemmas::forms))]
+fn add_form(form: &Form, uses: &mut Vec<Use>) -> Result<(), AllocError>
+    ensures { OnOk result (uses.new.items ≡ uses.old.items ++ form_uses form.now) }
+{
+    match form {
+        Form::Literal(_) => Ok(()),
+        Form::Slot(_) => Ok(()),
+        Form::First(pair) => add_form(pair.get(), uses),
+        Form::Second(pair) => add_form(pair.get(), uses),
+        Form::Table(table) => Ok(uses.push(Use::Table(*table))?),
+        Form::Column(row, table, column) => add_column(row.get(), *table, *column, uses),
+        Form::Member(value, _) => add_form(value.get(), uses),
+        Form::Key(group) => add_form(group.get(), uses),
+        Form::Unary(_, operand) => add_form(operand.get(), uses),
+        Form::Binary(_, left, right) => add_two(left.get(), right.get(), uses),
+        Form::And(left, right) => add_two(left.get(), right.get(), uses),
+        Form::Or(left, right) => add_two(left.get(), right.get(), uses),
+        Form::Coalesce(left, right) => add_two(left.get(), right.get(), uses),
+        Form::Conditional(test, a, b) => add_three(test.get(), a.get(), b.get(), uses),
+        Form::IsNull(_, operand) => add_form(operand.get(), uses),
+        Form::Record(fields) => add_fields(fields.as_slice(), uses),
+        Form::Pair(first, second) => add_two(first.get(), second.get(), uses),
+        Form::Sequence(source) => add_form(source.get(), uses),
+        Form::Simple(_, _, source) => add_form(source.get(), uses),
+        Form::Given(_, source, argument) => add_two(source.get(), argument.get(), uses),
+        Form::Through(_, _, _, source, body) => add_two(source.get(), body.get(), uses),
+        Form::SelectMany(a, inner, body) => add_three(a.get(), inner.get(), body.get(), uses),
+        Form::Join(source, joined) => {
+            add_form(source.get(), uses)?;
+            Ok(add_joined(joined.get(), uses)?)
+        }
+        Form::OrderBy(sorted, keys) => {
+            add_form(sorted.get(), uses)?;
+            Ok(add_keys(keys.as_slice(), uses)?)
+        }
+        Form::GroupBy(source, key, element) => {
+            add_three(source.get(), element.get(), key.get(), uses)
+        }
+    }
+}
+
+/// A column, behind what its row uses.
+#[cycle(gathering)]
+fn add_column(row: &Form, table: u16, column: u16, uses: &mut Vec<Use>) -> Result<(), AllocError>
+    ensures { OnOk result (uses.new.items ≡ uses.old.items ++ (form_uses row.now ++ Use.Column table column ∷ [])) }
+{
+    add_form(row, uses)?;
+    Ok(uses.push(Use::Column(table, column))?)
+}
+
+/// What two forms use, one behind the other.
+#[cycle(gathering)]
+fn add_two(first: &Form, second: &Form, uses: &mut Vec<Use>) -> Result<(), AllocError>
+    ensures { OnOk result (uses.new.items ≡ uses.old.items ++ (form_uses first.now ++ form_uses second.now)) }
+{
+    add_form(first, uses)?;
+    add_form(second, uses)
+}
+
+/// What three forms use, one behind the other.
+#[cycle(gathering)]
+fn add_three(
+    first: &Form,
+    second: &Form,
+    third: &Form,
+    uses: &mut Vec<Use>,
+) -> Result<(), AllocError>
+    ensures { OnOk result (uses.new.items ≡ uses.old.items ++ (form_uses first.now ++ (form_uses second.now ++ form_uses third.now))) }
+{
+    add_form(first, uses)?;
+    add_two(second, third, uses)
+}
+
+/// What the members of a record use, in order.
+#[cycle(gathering)]
+fn add_fields(fields: &[Field<Form>], uses: &mut Vec<Use>) -> Result<(), AllocError>
+    ensures { OnOk result (uses.new.items ≡ uses.old.items ++ flat_map (λ field. form_uses field.value) fields.now) }
+{
+    for field in fields {
+        add_form(&field.value, uses)?;
+    }
+    Ok(())
+}
+
+/// What keys use, in order.
+#[cycle(gathering)]
+fn add_keys(keys: &[SortKey<Form>], uses: &mut Vec<Use>) -> Result<(), AllocError>
+    ensures { OnOk result (uses.new.items ≡ uses.old.items ++ flat_map (λ key. form_uses key.value) keys.now) }
+{
+    for key in keys {
+        add_form(&key.value, uses)?;
+    }
+    Ok(())
+}
+
+/// What four forms use, one behind the other.
+#[cycle(gathering)]
+fn add_four(
+    first: &Form,
+    second: &Form,
+    third: &Form,
+    fourth: &Form,
+    uses: &mut Vec<Use>,
+) -> Result<(), AllocError>
+    ensures { OnOk result (uses.new.items ≡ uses.old.items ++ (form_uses first.now ++ (form_uses second.now ++ (form_uses third.now ++ form_uses fourth.now)))) }
+{
+    add_form(first, uses)?;
+    add_three(second, third, fourth, uses)
+}
+
+/// What the parts of a join use, but for its outer source.
+#[cycle(gathering)]
+fn add_joined(joined: &Joined<Form>, uses: &mut Vec<Use>) -> Result<(), AllocError>
+    ensures { OnOk result (uses.new.items ≡ uses.old.items ++ join_uses joined.now) }
+{
+    add_four(
+        &joined.inner,
+        &joined.outer_key,
+        &joined.inner_key,
+        &joined.result,
+        uses,
+    )
+}
+
+/// What a tree uses of the tables, in the order of the text that it comes from: tables and columns; and where it is `served`,
+/// behind them each column of each row type in its type, all of which a reply shows. Refused where memory is.
+pub fn uses(alloc: Global, tree: &Tree, store: &Store, served: bool) -> Result<Vec<Use>, AllocError>
+    ensures { IfOk result (λ uses. uses.items ≡ form_uses tree.now.form ++ uses_served served (schemas_of store.now) tree.now.ty) }
+{
+    let mut uses = Vec::new(alloc);
+    add_form(tree.form.get(), &mut uses)?;
+    if served {
+        add_columns(store, ty(tree), &mut uses)?;
+    }
+    Ok(uses)
+}
