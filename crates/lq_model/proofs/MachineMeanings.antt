@@ -1,7 +1,6 @@
 -- No reply to `run` depends on what stands where an expression has no meaning.
-use Rattle.std.proofs.Common.{◌≡◌, Bool, true, false, List, [], Option, Some, None, Result, Ok, Err, ap, ◌∙◌, sym, refl}
-use Rattle.std.proofs.lemmas.Option.{none-some, same_Some}
-use Rattle.serde_json.specs.Data.{Data}
+use Rattle.std.proofs.Common.{◌≡◌, Bool, true, false, [], Option, Some, None, Result, Ok, Err, ap, ◌∙◌, sym, refl}
+use Rattle.std.proofs.lemmas.Option.{none-some}
 use Rattle.lq_value.specs.declared.ty.Ty.{Ty, out-Ty}
 use Rattle.lq_value.specs.declared.ty.Ty.TheOpen.{Ty-F}
 use Rattle.lq_value.specs.declared.value.Fault.{Fault}
@@ -13,7 +12,6 @@ use Rattle.lq_model.specs.Machine.{State, cells_of, run_denial, run_reply, schem
 use Rattle.lq_model.specs.Meaning.{World, items_of, stream_of}
 use Rattle.lq_model.specs.MeaningLaws.{Every, IsTypedTable, ServesMeanings}
 use Rattle.lq_model.specs.Served.{stream_data, value_data}
-use Rattle.lq_model.specs.Stream.{Stream}
 use Rattle.lq_model.specs.Types.{has_place, if_placed, when}
 use Rattle.lq_model.specs.Typing.{Names}
 use Rattle.lq_model.specs.Visible.{TableRow}

@@ -10,7 +10,7 @@ use Rattle.lq_model.proofs.MembershipLemmas.{has_cases, has_first, has_later, no
 use Rattle.lq_model.proofs.PolicyLemmas.{found_at, found_where_listed, listed_where_found, not_false, not_true}
 use Rattle.lq_model.specs.RightLaws.{DeniesTheRest, DeniesWithoutGrants, GrantsMore, HasOneRule, TellsUses, WithholdsMore}
 use Rattle.lq_model.specs.Rights.{BearsOn, Denied, HasRight, MayUse, column, insertion, removal, table, bears, covers, denial, denied_or, denier_of, first_concerning, has_right, is_column_of, is_same_use, is_withheld, may_use, opens}
-use Rattle.lq_model.specs.Visible.{IsListed, is_listed}
+use Rattle.lq_model.specs.Visible.{is_listed}
 use Rattle.lq_model.specs.declared.policy.PolicyParts.{PolicyParts}
 use Rattle.lq_model.specs.declared.policy.Role.{Role}
 use Rattle.lq_model.specs.declared.rights.RightRule.{RightRule}

@@ -1,5 +1,5 @@
 -- «Uses»: which tables and columns an expression names, in the order of its text; and the columns of a type, all of which a reply shows.
-use Rattle.std.specs.Prelude.{◌∷◌, ◌++◌, ◌+◌, List, [], flat_map, length, map, ℕ, Option, Some, None, option_and_then, slice_get}
+use Rattle.std.specs.Prelude.{◌∷◌, ◌++◌, ◌+◌, List, [], flat_map, ℕ, Option, Some, None, option_and_then, slice_get}
 use Rattle.lq_value.specs.Tables.{first_named}
 use Rattle.lq_value.specs.declared.table.Schema.{Schema}
 use Rattle.lq_value.specs.declared.ty.Ty.{Ty, fold-Ty, out-Ty}

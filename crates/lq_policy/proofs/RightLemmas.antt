@@ -7,7 +7,6 @@ use Rattle.lq_model.proofs.RightLemmas.{covering_told, passing, same_itself, sam
 use Rattle.lq_model.specs.Rights.{bears, covers, is_column_of, is_same_use, is_withheld, may_use, opens}
 use Rattle.lq_model.specs.Visible.{is_listed}
 use Rattle.lq_model.specs.declared.policy.PolicyParts.{PolicyParts}
-use Rattle.lq_model.specs.declared.rights.RightRule.{RightRule}
 use Rattle.lq_model.specs.declared.rights.Use.{Use}
 use Rattle.lq_model.specs.declared.rights.Use.TheVariants as of
 use Rattle.lq_policy.specs.RoleRights.{allows_use, is_among}

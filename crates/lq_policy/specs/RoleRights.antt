@@ -1,5 +1,5 @@
 -- What a role may use, by the rights that are granted to it and those that are withheld from it.
-use Rattle.std.specs.Prelude.{◌&&◌, not, List, ℕ, Bool}
+use Rattle.std.specs.Prelude.{◌&&◌, not, Bool}
 use Rattle.std.specs.List.{list_any}
 use Rattle.lq_model.specs.Rights.{is_column_of, is_same_use}
 use Rattle.lq_model.specs.declared.rights.Use.{Use}

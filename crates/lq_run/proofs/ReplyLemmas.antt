@@ -11,7 +11,7 @@ use Rattle.lq_value.specs.declared.value.Fault.TheVariants as fault
 use Rattle.lq_value.specs.declared.value.Value.{Value}
 use Rattle.lq_bind.specs.Outcomes.{no_places}
 use Rattle.lq_model.specs.ClauseTyping.{expression_type}
-use Rattle.lq_model.specs.Machine.{State, cells_of, run_denial, run_reply, schemas_of, seen_by_role, served, served_as, served_type, top_names, unless_denied, used_by, world_of}
+use Rattle.lq_model.specs.Machine.{cells_of, run_denial, run_reply, schemas_of, seen_by_role, served, served_as, served_type, top_names, unless_denied, used_by, world_of}
 use Rattle.lq_model.specs.Meaning.{World}
 use Rattle.lq_model.specs.MeaningLaws.{Every}
 use Rattle.lq_model.specs.Rights.{Denied, denial}
@@ -40,7 +40,7 @@ use Rattle.lq_tree.specs.declared.tree.Tree.{Tree}
 use Rattle.lq_tree.proofs.TermMeans.{meanings_same}
 use Rattle.lq_tree.proofs.TermTypes.{types_same}
 use Rattle.lq_tree.proofs.TermUses.{expression_uses_same}
-use Rattle.lq_run.specs.Replies.{AnswersTerm, AnswersTree, IsTreeOf, ServesTree, run_line, served_line, state}
+use Rattle.lq_run.specs.Replies.{AnswersTerm, AnswersTree, IsTreeOf, ServesTree, run_line, state}
 use Rattle.lq_run.specs.SeenRows.{AreSeen, cells_in, number_in, shown_row, shown_rows}
 use Rattle.lq_run.specs.TreeReply.{data_by, tree_data}
 use Rattle.lq_run.specs.declared.seen.SeenRow.{SeenRow}
@@ -50,6 +50,10 @@ use Rattle.lq_run.proofs.StoredLemmas.{typed_tables}
 -- an expression's type is that of its tree, and it has none where it has no tree
 tree_type : (schemas : List Schema) (e : Expr) → option_map (λ tree. tree.ty) (term_tree schemas (translated e) no_places) ≡ expression_type e (top_names schemas)
 tree_type schemas e = types_same schemas (translated e) no_places ∙ terms_typed e (names_of_places schemas no_places)
+
+-- what is answered of a type is so of the tree's
+pub told_of : (b answer : Bool) (t u : Ty) → b ≡ has_place (out-Ty t) → t ≡ u → b ≡ answer → has_place (out-Ty u) ≡ answer
+told_of b answer t u is same answered = ap (λ (v : Ty). has_place (out-Ty v)) (sym same) ∙ sym is ∙ answered
 
 module _ (parts : PolicyParts) (role : ℕ) (tables : List Table) where
   abbrev schemas : List Schema

@@ -1,5 +1,5 @@
 //! The answer to `run`.
-ghost use Rattle.std.specs.Prelude.{◌≡◌, length, slice_get, Some, IfOk};
+ghost use Rattle.std.specs.Prelude.{◌≡◌, length, IfOk};
 ghost use Rattle.lq_model.specs.Machine.{run_in, schemas_of};
 ghost use Rattle.lq_model.specs.Served.{denied_data, line_of};
 ghost use Rattle.lq_policy.specs.Roles.{number_of};
@@ -16,7 +16,7 @@ use lq_store::Store;
 use lq_translate::translate_expression;
 use lq_tree::{Tree, ty};
 use lq_typing::has_place;
-use lq_use::{DecideError, Denied, decide, uses};
+use lq_use::{DecideError, decide, uses};
 use std::alloc::{AllocError, Global};
 
 /// The line of a tree's reply over a store's tables, with these rows of each.
@@ -48,22 +48,11 @@ fn seen_line(
     line_over(alloc, tree, store, seen.as_slice())
 }
 
-/// The line of a denial of one of these uses.
-fn denied_line(
-    alloc: Global,
-    store: &Store,
-    denied: &Denied<'_>,
-    uses: &[Use],
-) -> Result<Line, AllocError>
-    requires { (used : Use) × (slice_get uses.now denied.place ≡ Some used) }
-    ensures { IfOk result (λ line. (used : Use) → slice_get uses.now denied.place ≡ Some used
-        → line ≡ line_of (denied_data (schemas_of store.now) denied.rule.now used)) }
+/// The line of a denial by a rule.
+fn denied_line(alloc: Global, store: &Store, rule: &str, used: Use) -> Result<Line, AllocError>
+    ensures { IfOk result (λ line. line ≡ line_of (denied_data (schemas_of store.now) rule.now used)) }
 {
-    let reply: Reply<'_, SeenRow<'_>> = Reply::Denied {
-        store,
-        rule: denied.rule,
-        used: uses[denied.place],
-    };
+    let reply: Reply<'_, SeenRow<'_>> = Reply::Denied { store, rule, used };
     reply_line(alloc, &reply)
 }
 
@@ -81,10 +70,13 @@ fn answer_line(
     if !has_place(ty(tree)) {
         return refusal(alloc, "type");
     }
-    let used = uses(alloc, tree, store, true)?;
-    match decide(alloc, used.as_slice(), role, policies) {
+    let gathered = uses(alloc, tree, store, true)?;
+    let used = gathered.as_slice();
+    match decide(alloc, used, role, policies) {
         Ok(()) => seen_line(alloc, tree, store, policies, role),
-        Err(DecideError::Denied(denied)) => denied_line(alloc, store, &denied, used.as_slice()),
+        Err(DecideError::Denied(denied)) => {
+            denied_line(alloc, store, denied.rule, used[denied.place])
+        }
         Err(DecideError::Memory) => Err(AllocError),
     }
 }

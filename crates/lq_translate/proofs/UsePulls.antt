@@ -1,8 +1,8 @@
 -- What a node, a query and calls use is a matter of what the expressions in them use: these may be replaced before or after.
-use Rattle.std.proofs.Common.{◌≡◌, ◌∷◌, ◌++◌, List, [], map, flat_map, ℕ, Option, Some, None, ap, ap₂, refl}
+use Rattle.std.proofs.Common.{◌≡◌, ◌∷◌, ◌++◌, List, [], map, flat_map, Option, Some, None, ap, refl}
 use Rattle.lq_value.specs.declared.ty.Ty.{Ty}
 use Rattle.lq_model.specs.ClauseTyping.{sole_name, source_type}
-use Rattle.lq_model.specs.Operators.{Pattern, One, operators_items, pattern_after, sole_pattern}
+use Rattle.lq_model.specs.Operators.{Pattern, sole_pattern}
 use Rattle.lq_model.specs.Typing.{Names}
 use Rattle.lq_model.specs.Uses.{argument_uses, body_uses, clause_uses, clauses_uses, continued_uses, last_uses, node_uses, query_uses, under}
 use Rattle.lq_model.specs.UsesOfCalls.{call_uses, operator_uses, operators_uses, parts_uses}

@@ -1,6 +1,5 @@
 -- Whole expressions: what one is translated to uses what it uses.
-use Rattle.std.proofs.Common.{◌≡◌, List, [], ℕ, true, Option, Some, ap, ◌∙◌, sym, if◌then◌else◌}
-use Rattle.lq_value.specs.declared.ty.Ty.{Ty}
+use Rattle.std.proofs.Common.{◌≡◌, List, Some, ap, ◌∙◌, sym, if◌then◌else◌}
 use Rattle.lq_model.specs.ClauseTyping.{expression_type}
 use Rattle.lq_model.specs.Terms.{term_type}
 use Rattle.lq_model.specs.Typing.{Names, local_type, with_local}
@@ -15,12 +14,11 @@ use Rattle.lq_model.specs.declared.syntax.Expr.TheVariants as expr
 use Rattle.lq_model.specs.declared.syntax.Node.{Node}
 use Rattle.lq_model.specs.declared.syntax.Node.TheVariants as node
 use Rattle.lq_model.specs.declared.syntax.Query.{Query}
-use Rattle.lq_translate.specs.Maps.{map_call, map_node, map_query}
+use Rattle.lq_translate.specs.Maps.{map_node, map_query}
 use Rattle.lq_translate.specs.Translated.{is_name, translated, translated_query}
 use Rattle.lq_translate.specs.TranslationLaws.{NamesUsed}
 use Rattle.lq_translate.proofs.Alike.{named, names_typed, translated_node, translated_to_call, types_same}
 use Rattle.lq_translate.proofs.Layers.{With, of_every, para_call, para_node, para_query, para_term_node}
-use Rattle.lq_translate.proofs.NodePulls.{map_nodes}
 use Rattle.lq_translate.proofs.UseLemmas.{used_alike}
 use Rattle.lq_translate.proofs.UsePulls.{call_pull, node_pull, query_pull}
 

@@ -2,7 +2,6 @@
 use Rattle.std.proofs.Common.{◌≡◌, ◌∷◌, ◌++◌, if◌then◌else◌, List, [], map, flat_map, ℕ, Bool, true, false, Option, Some, None, ap, ap₂, ◌∙◌, sym, refl, subst, bytes_eq, codes, true≢false, option_and_then, option_map, slice_get}
 use Rattle.std.proofs.lemmas.Option.{none-some, option_and_then_some, same_Some}
 use Rattle.lq_value.specs.Tables.{first_named}
-use Rattle.lq_value.specs.declared.scalar.Scalar.{Scalar}
 use Rattle.lq_value.specs.declared.scalar.Scalar.TheVariants as scalar
 use Rattle.lq_value.specs.declared.table.Schema.{Schema}
 use Rattle.lq_value.specs.declared.ty.Ty.{Ty, out-Ty}
@@ -17,11 +16,10 @@ use Rattle.lq_model.specs.Members.{search_named, sole_argument}
 use Rattle.lq_model.specs.Operations.{operation_of}
 use Rattle.lq_model.specs.Operators.{Pattern, One, With as Pair}
 use Rattle.lq_model.specs.Types.{element_type, is_fresh, is_within, when}
-use Rattle.lq_model.specs.Typing.{Names, coalesced, is_bool, is_equality, is_number, is_text, local_type, table_number, with_local}
+use Rattle.lq_model.specs.Typing.{Names, coalesced, is_bool, is_equality, is_number, is_text, table_number, with_local}
 use Rattle.lq_model.specs.Uses.{argument_uses, column_number, member_uses, name_uses, node_uses, table_uses, under}
 use Rattle.lq_model.specs.WholeMeaning.{is_sequence_layer}
 use Rattle.lq_model.specs.WholeTyping.{given_type, simple_type, through_type, whole_chosen, whole_operated_type}
-use Rattle.lq_model.specs.declared.operation.Op.{Op}
 use Rattle.lq_model.specs.declared.operation.Op.TheVariants as op
 use Rattle.lq_model.specs.declared.rights.Use.{Use}
 use Rattle.lq_model.specs.declared.rights.Use.TheVariants as of
@@ -34,8 +32,8 @@ use Rattle.lq_model.specs.declared.syntax.Node.TheVariants as node
 use Rattle.lq_model.specs.declared.syntax.Unary.{Unary}
 use Rattle.lq_model.specs.declared.syntax.Unary.TheVariants as unary
 use Rattle.lq_model.proofs.EveryItem.{every_more, first_of, others_of}
-use Rattle.lq_model.proofs.Findings.{if_by, map_by, when_by}
-use Rattle.lq_tree.specs.Binding.{Binds, and_tree, binary_form, binary_tree, called_tree, coalesce_tree, column_tree, conditional_tree, enumerable_tree, equality_form, field_tree, fields_tree, form_of_field, gathered, group_key_tree, is_literal, is_object, lambda_tree, member_layer, member_tree, name_tree, node_tree, nullable_tree, of_two_trees, operation_at, or_tree, placed_tree, record_member_tree, record_tree, search_form, search_tree, settled_form, settled_tree, tested_first, tested_second, text_tree, tree_of, unary_tree, within_tree}
+use Rattle.lq_model.proofs.Findings.{map_by, when_by}
+use Rattle.lq_tree.specs.Binding.{Binds, and_tree, binary_form, binary_tree, called_tree, coalesce_tree, column_tree, conditional_tree, enumerable_tree, field_tree, fields_tree, form_of_field, gathered, is_literal, is_object, lambda_tree, member_layer, member_tree, name_tree, node_tree, of_two_trees, operation_at, or_tree, placed_tree, record_tree, search_form, search_tree, settled_form, settled_tree, tested_first, tested_second, tree_of, unary_tree, within_tree}
 use Rattle.lq_tree.specs.Places.{Place, Places, names_of_places, place_of, places_of, with_item, with_name}
 use Rattle.lq_tree.specs.UsesOfForms.{UseNothing, form_uses}
 use Rattle.lq_tree.specs.declared.tree.Form.{Form, out-Form}

@@ -1,9 +1,9 @@
 -- Uses that are decided one by one: those so far are allowed, and so is what is in the set of them.
-use Rattle.std.proofs.Common.{◌≡◌, ◌∷◌, ◌||◌, ◌+◌, ◌<◌, ◌≤◌, if◌then◌else◌, List, [], ℕ, suc, zero, Bool, true, false, Option, Some, None, drop, drop-cons, get_or, length, not, option_map, slice_get, slice_index_or, ap, ◌∙◌, sym, refl, subst, true≢false, arith}
-use Rattle.std.proofs.lemmas.Option.{get_or_from_slice_get, none-some, same_Some, slice_get_within}
+use Rattle.std.proofs.Common.{◌≡◌, ◌∷◌, ◌||◌, ◌+◌, ◌<◌, ◌≤◌, if◌then◌else◌, List, [], ℕ, suc, zero, Bool, true, false, Option, Some, None, drop, drop-cons, length, not, option_map, slice_get, slice_index_or, ap, ◌∙◌, sym, refl, subst, true≢false, arith}
+use Rattle.std.proofs.lemmas.Option.{get_or_from_slice_get, none-some, slice_get_within}
 use Rattle.std.specs.Borrow.{Bor}
 use Rattle.lq_model.proofs.RightLemmas.{same_use}
-use Rattle.lq_model.specs.Rights.{Denied as Denial, denial, denied_or, denier_of, first_concerning, is_same_use, may_use}
+use Rattle.lq_model.specs.Rights.{denial, denied_or, denier_of, first_concerning, is_same_use, may_use}
 use Rattle.lq_model.specs.declared.policy.PolicyParts.{PolicyParts}
 use Rattle.lq_model.specs.declared.rights.Use.{Use}
 use Rattle.lq_policy.specs.RoleRights.{is_among}

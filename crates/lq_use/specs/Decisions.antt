@@ -1,6 +1,6 @@
 -- What a decision on uses answers: nothing is denied, or the first use to which the role has no right.
-use Rattle.std.specs.Prelude.{◌≡◌, ℕ, List, Option, Some, None, Result, Ok, Err, slice_get}
-use Rattle.lq_model.specs.Rights.{Denied as Denial, denial}
+use Rattle.std.specs.Prelude.{◌≡◌, ℕ, List, Some, None, Result, Ok, Err, slice_get}
+use Rattle.lq_model.specs.Rights.{denial}
 use Rattle.lq_model.specs.declared.policy.PolicyParts.{PolicyParts}
 use Rattle.lq_model.specs.declared.rights.Use.{Use}
 use Rattle.lq_use.specs.declared.decisions.DecideError.{DecideError}

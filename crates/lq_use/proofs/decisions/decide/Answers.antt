@@ -1,5 +1,4 @@
-use Rattle.std.proofs.Common.{◌≡◌, ◌∙◌, not, Bool, true, false, Some, None, ℕ, List, ap, sym, refl, arith}
-use Rattle.lq_policy.specs.RoleRights.{is_among}
+use Rattle.std.proofs.Common.{true, arith}
 use Rattle.lq_policy.specs.Roles.{number_of}
 use Rattle.lq_use.proofs.DecideLemmas.{denied_by, first_denied, found, known, no_more, one_more, unlisted}
 use Rattle.lq_use.proofs.decisions.decide.Goals as goal

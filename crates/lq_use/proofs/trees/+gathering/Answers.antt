@@ -1,5 +1,4 @@
-use Rattle.std.proofs.Common.{◌≡◌, ◌∙◌, ◌++◌, List, ap, flat_map}
-use Rattle.lq_model.specs.declared.rights.Use.{Use}
+use Rattle.std.proofs.Common.{◌∙◌, ◌++◌, List, ap, flat_map}
 use Rattle.lq_model.specs.declared.syntax.SortKey.{SortKey}
 use Rattle.lq_tree.specs.UsesOfForms.{form_uses}
 use Rattle.lq_tree.specs.declared.tree.Form.{Form}
@@ -16,7 +15,7 @@ add_form-returns-in_ok-add_joined-in-Join t c =
 
 pub add_form-returns-in_ok-add_keys-in-OrderBy : goal.add_form-returns-in_ok-add_keys-in-OrderBy
 add_form-returns-in_ok-add_keys-in-OrderBy t c =
-    sorted_behind c.args.uses.now.items c.add_form-in-OrderBy.new.uses.items c.add_keys.new.uses.items c.args.form.now c.in-OrderBy.source c.in-OrderBy.keys c.in-OrderBy.is
+    sorted_behind c.args.uses.now.items c.add_form-in-OrderBy.new.uses.items c.add_keys.new.uses.items c.args.form.now c.in-OrderBy.sorted c.in-OrderBy.keys c.in-OrderBy.is
     (c.in_ok-add_form-in-OrderBy.ensures ∙ ap (λ (s : Form). c.args.uses.now.items ++ form_uses s) c.get-in-OrderBy.ensures)
     (c.in_ok-add_keys-in-OrderBy.ensures
     ∙ ap (λ (ks : List (SortKey Form)). c.add_form-in-OrderBy.new.uses.items ++ flat_map (λ (k : SortKey Form). form_uses k.value) ks) c.as_slice-in-OrderBy.ensures)
