@@ -5,7 +5,7 @@ use Rattle.lq_value.specs.declared.scalar.Scalar.{Scalar}
 use Rattle.lq_value.specs.declared.table.Schema.{Schema}
 use Rattle.lq_value.specs.declared.ty.Ty.{Ty}
 use Rattle.lq_value.specs.declared.ty.Ty.TheVariants as ty
-use Rattle.lq_model.specs.Machine.{schemas_of}
+use Rattle.lq_model.specs.States.{schemas_of}
 use Rattle.lq_model.specs.Operators.{Pattern}
 use Rattle.lq_model.specs.Types.{when}
 use Rattle.lq_model.specs.declared.calls.Term.{Term}

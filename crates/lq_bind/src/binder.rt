@@ -16,7 +16,7 @@ pub(crate) struct Binder<'a> {
 
 impl Binder<'_> {
     ghost use Rattle.std.specs.Prelude.{◌≡◌, IfOk, option_and_then};
-    ghost use Rattle.lq_model.specs.Machine.{schemas_of};
+    ghost use Rattle.lq_model.specs.States.{schemas_of};
     ghost use Rattle.lq_tree.specs.Binding.{and_tree, binary_tree, coalesce_tree, conditional_tree, member_tree, node_tree, of_three_trees, of_two_trees};
     ghost use Rattle.lq_tree.specs.Binding.{method_tree, or_tree, unary_tree};
     ghost use Rattle.lq_bind.specs.Bound.{trees_in};

@@ -1,6 +1,6 @@
 //! The binding of whole expressions and queries.
 ghost use Rattle.std.specs.Prelude.{◌≡◌, false};
-ghost use Rattle.lq_model.specs.Machine.{schemas_of};
+ghost use Rattle.lq_model.specs.States.{schemas_of};
 ghost use Rattle.lq_tree.specs.Binding.{call_tree, term_tree};
 ghost use Rattle.lq_bind.specs.Outcomes.{IsBound, is_past, no_places};
 

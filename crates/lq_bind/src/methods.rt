@@ -12,7 +12,7 @@ use std::alloc::AllocError;
 impl Binder<'_> {
     ghost use Rattle.std.specs.Prelude.{◌≡◌, IfOk, option_and_then, option_map};
     ghost use Rattle.lq_model.specs.EnumerableCalls.{By, With, enumerable_call, method_with_lambda, method_with_value};
-    ghost use Rattle.lq_model.specs.Machine.{schemas_of};
+    ghost use Rattle.lq_model.specs.States.{schemas_of};
     ghost use Rattle.lq_model.specs.Members.{sole_argument};
     ghost use Rattle.lq_tree.specs.Binding.{called_tree, enumerable_tree, lambda_tree, method_tree, search_tree};
     ghost use Rattle.lq_bind.specs.Bound.{trees_in};

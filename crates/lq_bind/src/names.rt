@@ -2,7 +2,7 @@
 ghost use Rattle.std.specs.Prelude.{◌≡◌, IfOk, None, Some};
 ghost use Rattle.lq_value.specs.declared.scalar.Scalar.TheVariants as scalar;
 ghost use Rattle.lq_value.specs.declared.ty.Ty.TheVariants as ty;
-ghost use Rattle.lq_model.specs.Machine.{schemas_of};
+ghost use Rattle.lq_model.specs.States.{schemas_of};
 ghost use Rattle.lq_tree.specs.Binding.{name_tree};
 ghost use Rattle.lq_tree.specs.Places.{place_of};
 ghost use Rattle.lq_bind.specs.Bound.{literal_tree};

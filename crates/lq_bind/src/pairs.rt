@@ -84,7 +84,7 @@ fn joined_name(join: &Join<Term>) -> &Txt
 impl Binder<'_> {
     ghost use Rattle.std.specs.Prelude.{◌≡◌, IfOk, is_some, option_and_then, option_map};
     ghost use Rattle.lq_model.specs.ClauseTyping.{joined_name};
-    ghost use Rattle.lq_model.specs.Machine.{schemas_of};
+    ghost use Rattle.lq_model.specs.States.{schemas_of};
     ghost use Rattle.lq_model.specs.Operators.{unnamed};
     ghost use Rattle.lq_tree.specs.Binding.{expanded_stage, if_fresh, join_keys, joined_stage, paired_stage, placed_tree, select_many_stage, source_tree, stage_of};
     ghost use Rattle.lq_tree.specs.Places.{with_item, with_name};

@@ -10,7 +10,7 @@ use std::alloc::AllocError;
 
 impl Binder<'_> {
     ghost use Rattle.std.specs.Prelude.{◌≡◌, IfOk, option_and_then, option_map};
-    ghost use Rattle.lq_model.specs.Machine.{schemas_of};
+    ghost use Rattle.lq_model.specs.States.{schemas_of};
     ghost use Rattle.lq_tree.specs.Binding.{body_tree, call_items_tree, call_tree, grouped_stage, keyed_tree, let_stage, operator_stage, order_stage};
     ghost use Rattle.lq_tree.specs.Binding.{part_tree, placed_tree, element_tree, select_stage, source_tree, walked, where_stage};
     ghost use Rattle.lq_tree.specs.Places.{with_item};

@@ -10,7 +10,7 @@ use std::alloc::AllocError;
 
 impl Binder<'_> {
     ghost use Rattle.std.specs.Prelude.{◌≡◌, IfOk};
-    ghost use Rattle.lq_model.specs.Machine.{schemas_of};
+    ghost use Rattle.lq_model.specs.States.{schemas_of};
     ghost use Rattle.lq_tree.specs.Binding.{field_tree, gathered, key_tree, record_tree};
     ghost use Rattle.lq_bind.specs.Bound.{trees_in};
     ghost use Rattle.lq_bind.specs.Frames.{places_in};

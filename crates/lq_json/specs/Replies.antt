@@ -4,7 +4,7 @@ use Rattle.serde_json.specs.Data.{Data, object}
 use Rattle.lq_value.specs.declared.scalar.Scalar.{Scalar}
 use Rattle.lq_value.specs.declared.value.End.{End}
 use Rattle.lq_value.specs.declared.value.Value.{Value}
-use Rattle.lq_model.specs.Machine.{schemas_of}
+use Rattle.lq_model.specs.States.{schemas_of}
 use Rattle.lq_model.specs.Served.{denied_data, error_data, fault_data, nested_fault, stream_data, stream_members, unless_fault, value_data}
 use Rattle.lq_model.specs.Stream.{Stream, made}
 use Rattle.lq_json.specs.Forms.{data_by}

@@ -21,7 +21,7 @@ use Rattle.lq_value.specs.declared.value.Value.TheOpen.{Value-F}
 use Rattle.lq_value.specs.declared.value.Value.TheVariants as value
 use Rattle.lq_value.specs.declared.value.Value.TheVariants.{outs-Row as outs-value-Row, outs-Scalar, outs-Seq as outs-value-Seq}
 use Rattle.lq_model.specs.ClauseTyping.{element_type, expression_type, source_type}
-use Rattle.lq_model.specs.Machine.{State, schemas_of, seen_by_role, world_by}
+use Rattle.lq_model.specs.States.{State, schemas_of, seen_by_role, world_by}
 use Rattle.lq_model.specs.Meaning.{Scope, World, binding_of, body_type_at, bound, bound_stream, cell_value, clause_meaning, clauses_meaning, comparand, compared_meaning, condition_at, continued, is_null, item_type_at, items_of, last_meaning, meaning, member_value, name_value, names_at, null_member, operated_meaning, same_values, told, as_value, on_scalar, or_null, query_meaning, scalar_of, source_scopes, stream_meaning, stream_of, table_value, truth_value}
 use Rattle.lq_model.specs.Operations.{negated, of_member, of_one, on_ok, truth_of}
 use Rattle.lq_model.specs.Members.{IsSearch, member_named}

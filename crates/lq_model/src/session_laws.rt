@@ -1,12 +1,15 @@
 //! Laws of the session machine and of its output. Each function's contract is the law that it is
 //! named for; the functions themselves do nothing.
-ghost use Rattle.lq_model.specs.SessionLaws.{AnswersAlike, AsksNoHost, ScriptsAlike, IsOutput, LeavesTheRest, IsSilentAlike, MemoryLineIsServed};
+ghost use Rattle.lq_model.specs.SessionLaws.{AnswersAlike, AsksNoHost, LookAlikeBehind, NumberAlikeBehind, ScriptsAlike, IsOutput, LeavesTheRest, IsSilentAlike, MemoryLineIsServed};
 
-/// Hidden rows change no answer: two states whose roles see the same tables, under the same
-/// policies and schemas, give every line the same reply and every script the same replies, the
-/// memory line aside.
+/// Hidden rows change no answer: two states whose role sees the same tables, under the same policies,
+/// schemas, variables and named queries, give every line the same reply, and a script under that role the
+/// same replies, the memory line aside. An `insert` alone may tell them apart, as full, where they number
+/// the rows to come otherwise. Behind a line that takes another role they may look otherwise to that one.
 pub fn hidden_rows()
     ensures line { AnswersAlike }
+    ensures behind { LookAlikeBehind }
+    ensures numbers { NumberAlikeBehind }
     ensures script { ScriptsAlike }
 {}
 

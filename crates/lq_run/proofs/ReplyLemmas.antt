@@ -11,7 +11,9 @@ use Rattle.lq_value.specs.declared.value.Fault.TheVariants as fault
 use Rattle.lq_value.specs.declared.value.Value.{Value}
 use Rattle.lq_bind.specs.Outcomes.{no_places}
 use Rattle.lq_model.specs.ClauseTyping.{expression_type}
-use Rattle.lq_model.specs.Machine.{cells_of, run_denial, run_reply, schemas_of, seen_by_role, served, served_as, served_type, top_names, unless_denied, used_by, world_of}
+use Rattle.lq_model.specs.Machine.{top_names}
+use Rattle.lq_model.specs.Serving.{run_denial, run_reply, served, served_as, served_type, unless_denied, used_by}
+use Rattle.lq_model.specs.States.{cells_of, schemas_of, seen_by_role, world_of}
 use Rattle.lq_model.specs.Meaning.{World}
 use Rattle.lq_model.specs.MeaningLaws.{Every}
 use Rattle.lq_model.specs.Rights.{Denied, denial}

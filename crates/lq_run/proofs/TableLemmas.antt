@@ -6,7 +6,7 @@ use Rattle.std.proofs.lemmas.List.{map-append, take_all}
 use Rattle.std.proofs.lemmas.Option.{none-some, same_Some}
 use Rattle.lq_value.specs.Tables.{Table}
 use Rattle.lq_store.specs.Rules.{IsTable}
-use Rattle.lq_model.specs.Machine.{schemas_of}
+use Rattle.lq_model.specs.States.{schemas_of}
 use Rattle.lq_model.specs.MeaningLaws.{Every}
 use Rattle.lq_pipe.specs.Worlds.{rows_in, schemas_in}
 use Rattle.lq_pipe.specs.declared.tables.TableRows.{TableRows}

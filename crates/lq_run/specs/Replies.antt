@@ -3,7 +3,8 @@ use Rattle.std.specs.Prelude.{◌≡◌, List, ℕ, Some, Vec, map}
 use Rattle.std.specs.declared.alloc.Global.{Global}
 use Rattle.lq_value.specs.Tables.{Table}
 use Rattle.lq_bind.specs.Outcomes.{no_places}
-use Rattle.lq_model.specs.Machine.{State, run_in, run_reply, schemas_of}
+use Rattle.lq_model.specs.Serving.{run_in, run_reply}
+use Rattle.lq_model.specs.States.{State, schemas_of}
 use Rattle.lq_model.specs.Served.{line_of}
 use Rattle.lq_model.specs.Visible.{tables_as_seen}
 use Rattle.lq_model.specs.declared.policy.PolicyParts.{PolicyParts}

@@ -5,7 +5,7 @@ use Rattle.lq_value.specs.Tables.{Table}
 use Rattle.lq_value.specs.declared.scalar.Scalar.{Scalar}
 use Rattle.lq_value.specs.declared.table.Row.{Row}
 use Rattle.lq_store.specs.Rules.{IsTable}
-use Rattle.lq_model.specs.Machine.{schemas_of}
+use Rattle.lq_model.specs.States.{schemas_of}
 use Rattle.lq_model.specs.MeaningLaws.{Every}
 use Rattle.lq_model.specs.Visible.{TableRow}
 use Rattle.lq_policy.specs.RowRules.{admits}

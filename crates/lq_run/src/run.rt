@@ -1,6 +1,7 @@
 //! The answer to `run`.
 ghost use Rattle.std.specs.Prelude.{◌≡◌, length, IfOk};
-ghost use Rattle.lq_model.specs.Machine.{run_in, schemas_of};
+ghost use Rattle.lq_model.specs.Serving.{run_in};
+ghost use Rattle.lq_model.specs.States.{schemas_of};
 ghost use Rattle.lq_model.specs.Served.{denied_data, line_of};
 ghost use Rattle.lq_policy.specs.Roles.{number_of};
 ghost use Rattle.lq_run.specs.Replies.{AnswersRows, AnswersTerm, AnswersTree, ServesTree};

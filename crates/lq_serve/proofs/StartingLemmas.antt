@@ -1,7 +1,7 @@
 -- Sessions that start behind their tables, policies and role, and those that don't.
 use Rattle.std.proofs.Common.{◌≡◌, ◌≢◌, ℕ, List, [], ◌∷◌, ◌++◌, Option, Some, None, Result, Ok, Err, IfSome, refl, sym, ◌∙◌, ap, append_assoc, append-nil}
 use Rattle.lq_value.specs.Tables.{Table}
-use Rattle.lq_model.specs.Machine.{State}
+use Rattle.lq_model.specs.States.{State}
 use Rattle.lq_model.specs.declared.policy.PolicyParts.{PolicyParts}
 use Rattle.lq_policy.specs.Roles.{role_number}
 use Rattle.lq_policyfile.specs.Outcome.{Answers}

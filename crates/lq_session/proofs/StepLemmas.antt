@@ -1,6 +1,7 @@
 -- From what a statement's calls give to the machine's step.
 use Rattle.std.proofs.Common.{◌≡◌, ◌∷◌, List, [], ℕ, Bool, true, false, if◌then◌else◌, Option, Some, None, IsSome, ap, ap₂, sym, refl}
-use Rattle.lq_model.specs.Machine.{State, step, step_by}
+use Rattle.lq_model.specs.Machine.{step, step_by}
+use Rattle.lq_model.specs.States.{State}
 use Rattle.lq_model.specs.Depth.{is_deep}
 use Rattle.lq_model.specs.Reading.{Reading, IsTooDeep, reading_of, reading_of_tokens, says_or_not}
 use Rattle.lq_model.specs.Parsing.{statement_of}

@@ -1,5 +1,5 @@
 -- The state of the machine that a session is in.
-use Rattle.lq_model.specs.Machine.{State}
+use Rattle.lq_model.specs.States.{State}
 use Rattle.lq_policy.specs.Roles.{number_of}
 use Rattle.lq_session.specs.declared.session.Session.{Session}
 

@@ -2,7 +2,8 @@
 use Rattle.std.specs.Prelude.{◌≡◌, []}
 use Rattle.lq_value.specs.declared.value.Fault.{Fault}
 use Rattle.lq_store.specs.Rules.{IsTable}
-use Rattle.lq_model.specs.Machine.{State, run_denial, run_in, schemas_of, seen_by_role, served, served_type, unless_denied, world_by}
+use Rattle.lq_model.specs.Serving.{run_denial, run_in, served, served_type, unless_denied}
+use Rattle.lq_model.specs.States.{State, schemas_of, seen_by_role, world_by}
 use Rattle.lq_model.specs.MeaningLaws.{Every}
 use Rattle.lq_model.specs.WholeMeaning.{expression_meaning}
 use Rattle.lq_model.specs.declared.syntax.Expr.{Expr}

@@ -22,7 +22,8 @@ pub struct Session {
 
 impl Session {
     ghost use Rattle.std.specs.Prelude.{◌≡◌, [], IfOk};
-    ghost use Rattle.lq_model.specs.Machine.{perform, run_in, step, step_by};
+    ghost use Rattle.lq_model.specs.Machine.{perform, step, step_by};
+    ghost use Rattle.lq_model.specs.Serving.{run_in};
     ghost use Rattle.lq_model.specs.Output.{Answers};
     ghost use Rattle.lq_model.specs.Served.{error_data, line_of};
     ghost use Rattle.lq_syntax.specs.Texts.{said};

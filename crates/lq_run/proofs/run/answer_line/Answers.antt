@@ -2,7 +2,7 @@
 use Rattle.std.proofs.Common.{◌≡◌, ◌∙◌, IfOk, ap, codes, slice_index_or, sym, true, false}
 use Rattle.std.proofs.lemmas.Option.{get_or_from_slice_get}
 use Rattle.std.proofs.lemmas.Result.{IfOk-weaker}
-use Rattle.lq_model.specs.Machine.{schemas_of}
+use Rattle.lq_model.specs.States.{schemas_of}
 use Rattle.lq_model.specs.Rights.{denial}
 use Rattle.lq_model.specs.Served.{denied_data, error_data, line_of}
 use Rattle.lq_model.specs.declared.rights.Use.{Use}

@@ -1,7 +1,7 @@
 -- What is served of the tree over these rows is the machine's reply, where they are those that a role sees.
 use Rattle.std.proofs.Common.{◌≡◌, List, subst, sym}
 use Rattle.std.proofs.lemmas.Result.{IfOk-weaker}
-use Rattle.lq_model.specs.Machine.{schemas_of}
+use Rattle.lq_model.specs.States.{schemas_of}
 use Rattle.lq_model.specs.Served.{line_of}
 use Rattle.lq_pipe.specs.Worlds.{world_of}
 use Rattle.lq_pipe.specs.declared.tables.TableRows.{TableRows}

@@ -2,7 +2,7 @@
 -- what each loop keeps.
 use Rattle.std.proofs.Common.{◌+◌, ◌*◌, max}
 use Rattle.lq_model.proofs.calls.Term.TheLaws.{the_size}
-use Rattle.lq_model.specs.Machine.{schemas_of}
+use Rattle.lq_model.specs.States.{schemas_of}
 use Rattle.lq_tree.specs.Binding.{field_tree, gather_step, gathered, key_tree, operator_stage, part_tree, walked}
 use Rattle.lq_bind.specs.Bound.{trees_in}
 use Rattle.lq_bind.specs.Frames.{places_in, stage_in}
