@@ -16,11 +16,11 @@ OPEN = 90
 # So many grants and as many withholds, each of so many rights.
 RULES = 500
 RIGHTS = 100
-# Of a line, over a run without one. What is wanted is 100 ms of processor time. To be set to some 1.3 times what is measured.
+# Of a line, over a run without one. What is wanted is 100 ms of processor time. The bound is some 1.3 times what was measured.
 WANTED = 100
-MOST_INSTRUCTIONS_TO_DECIDE = 300_000_000
-# Of a run without a line, which reads the rules. To be set likewise.
-MOST_INSTRUCTIONS_TO_READ = 1_500_000_000
+MOST_INSTRUCTIONS_TO_DECIDE = 165_000_000
+# Of a run without a line, which reads the rules: likewise.
+MOST_INSTRUCTIONS_TO_READ = 940_000_000
 TABLE = "w.csv"
 HEAD = "run from x in w select "
 

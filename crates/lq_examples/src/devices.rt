@@ -21,7 +21,10 @@ const REPLIES: u64 = 4;
 
 const FILES: [(&str, &[u8]); 2] = [
     ("t.csv", b"c:int\n1\n2\n"),
-    ("p", b"role = [{name = \"a\"}]"),
+    (
+        "p",
+        b"role = [{name = \"a\"}]\ngrant = [{name = \"all\", rights = [\"t.*\"]}]",
+    ),
 ];
 
 fn session(alloc: Global) -> Result<Session, Fail> {

@@ -8,8 +8,9 @@ use std::alloc::Global;
 use std::process::Abort;
 use std::test::Fail;
 
-const FILES: [(&str, &[u8]); 16] = [
+const FILES: [(&str, &[u8]); 17] = [
     ("p.toml", POLICIES),
+    ("open.toml", OPEN),
     ("no.toml", b"role = ["),
     ("shape.toml", b"roles = []"),
     (
@@ -40,7 +41,13 @@ const FILES: [(&str, &[u8]); 16] = [
 const POLICIES: &[u8] = b"\
 role = [{name = \"low\"}, {name = \"sub\", member_of = [\"low\"]}, {name = \"all\", bypass = true}]\n\
 table = [{name = \"t\", row_security = true}]\n\
-[[policy]]\nname = \"one\"\ntable = \"t\"\nto = [\"low\"]\nusing = \"row.c < 2\"\n";
+[[policy]]\nname = \"one\"\ntable = \"t\"\nto = [\"low\"]\nusing = \"row.c < 2\"\n\
+[[grant]]\nname = \"all\"\nrights = [\"t.*\"]\n";
+
+// A right to every column of three tables, for all.
+const OPEN: &[u8] = b"\
+role = [{name = \"all\"}]\n\
+[[grant]]\nname = \"all\"\nrights = [\"t.*\", \"u.*\", \"v.*\"]\n";
 
 fn folder(alloc: Global) -> MemoryFiles<'static> {
     MemoryFiles::new(alloc, &FILES)
@@ -98,7 +105,7 @@ fn assert_refused_by(
 #[test]
 fn tables_load_by_their_names(rt: HostRuntime) -> Result<(), Fail> {
     let alloc = rt.alloc();
-    let options = options_of(alloc, "all", "p.toml", &["t.csv", "data/old/u.csv", "v"])?;
+    let options = options_of(alloc, "all", "open.toml", &["t.csv", "data/old/u.csv", "v"])?;
     let mut session = load(alloc, &options, &mut folder(alloc))?;
     for (line, reply) in &[
         ("run from x in t select x.c;", "{\"items\":[1,2]}\n"),

@@ -52,7 +52,7 @@ module _ (parts : PolicyParts) (role : ℕ) (rights : RoleRights)
       let right = passing (is_open t) rule.0.rights both.1 in
       let covers_it : covers right.0 rule.0 ≡ true = found_at (is_same_use right.0) rule.0.rights right.0 right.1 (same_itself right.0) in
       let bears_it : bears parts.roles role right.0 rule.0 ≡ true =
-          and_from (is_listed parts.roles role rule.0.to) (covers right.0 rule.0) both.0 covers_it in
+      and_from (is_listed parts.roles role rule.0.to) (covers right.0 rule.0) both.0 covers_it in
       let key = passing (is_same_use right.0) keys (granted right.0 ∙ found_at (bears parts.roles role right.0) parts.grants rule.0 rule.1 bears_it) in
       found_at (is_set_open t) keys right.0 (subst (λ u. Contains keys u) (sym (same_use right.0 key.0 key.2)) key.1) (open_alike t right.0 ∙ right.2)
 

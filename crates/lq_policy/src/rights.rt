@@ -111,7 +111,12 @@ impl Policies {
     ghost use Rattle.lq_model.specs.declared.rights.Use.{Use};
 
     /// The rights that the rules which apply to a role cover.
-    fn covered(&self, alloc: Global, role: RoleId, rules: &[RightRule]) -> Result<UseSet, AllocError>
+    fn covered(
+        &self,
+        alloc: Global,
+        role: RoleId,
+        rules: &[RightRule],
+    ) -> Result<UseSet, AllocError>
         ensures { IfOk result (λ set. (used : Use) → is_among set used ≡ list_any (bears self.now.roles (number_of role) used) rules.now) }
     {
         let mut set = UseSet::new(alloc);

@@ -60,11 +60,7 @@ fn add_both(store: &Store, key: &Ty, item: &Ty, uses: &mut Vec<Use>) -> Result<(
 
 /// The same of these members, in order.
 #[cycle(showing)]
-fn add_members(
-    store: &Store,
-    members: &[(Txt, Ty)],
-    uses: &mut Vec<Use>,
-) -> Result<(), AllocError>
+fn add_members(store: &Store, members: &[(Txt, Ty)], uses: &mut Vec<Use>) -> Result<(), AllocError>
     ensures { OnOk result (uses.new.items ≡ uses.old.items ++ flat_map (λ member. shown_columns (schemas_of store.now) member.1) members.now) }
 {
     for (_, ty) in members {

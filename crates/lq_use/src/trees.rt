@@ -140,12 +140,7 @@ fn add_joined(joined: &Joined<Form>, uses: &mut Vec<Use>) -> Result<(), AllocErr
 
 /// What a tree uses of the tables, in the order of the text that it comes from: tables and columns; and where it is `served`,
 /// behind them each column of each row type in its type, all of which a reply shows. Refused where memory is.
-pub fn uses(
-    alloc: Global,
-    tree: &Tree,
-    store: &Store,
-    served: bool,
-) -> Result<Vec<Use>, AllocError>
+pub fn uses(alloc: Global, tree: &Tree, store: &Store, served: bool) -> Result<Vec<Use>, AllocError>
     ensures { IfOk result (λ uses. uses.items ≡ form_uses tree.now.form ++ uses_served served (schemas_of store.now) tree.now.ty) }
 {
     let mut uses = Vec::new(alloc);

@@ -33,18 +33,18 @@ pub returns-in-Err-Denied : goal.returns-in-Err-Denied
 returns-in-Err-Denied c =
     let there = told_of c.has_place.result true c.ty.result.now c.args.tree.now.ty c.has_place.ensures c.ty.ensures c.if-not-has_place.false in
     let tells : Tells c.args.policies.now (number_of c.args.role) c.as_slice-used.result.now c.in-Err-Denied.denied.place c.in-Err-Denied.denied.rule.now =
-        rw c.in-Err-Denied.field-0-is at c.in-Err-Denied.ensures in
+    rw c.in-Err-Denied.field-0-is at c.in-Err-Denied.ensures in
     let some = sym (ap (denial c.args.policies.now (number_of c.args.role)) (c.as_slice-used.ensures.value ∙ c.in_ok-gathered.ensures)) ∙ tells.denied in
     let read = get_or_from_slice_get c.as_slice-used.result.now c.in-Err-Denied.denied.place tells.used _ tells.at in
     let told : IfOk c.denied_line.result
-        (λ line. line ≡ line_of (denied_data (schemas_of c.args.store.now) c.in-Err-Denied.denied.rule.now
-        (slice_index_or c.as_slice-used.result.now c.in-Err-Denied.denied.place _))) =
-        rw c.in-Err-Denied.denied-is at c.denied_line.ensures in
+    (λ line. line ≡ line_of (denied_data (schemas_of c.args.store.now) c.in-Err-Denied.denied.rule.now
+    (slice_index_or c.as_slice-used.result.now c.in-Err-Denied.denied.place _))) =
+    rw c.in-Err-Denied.denied-is at c.denied_line.ensures in
     IfOk-weaker c.denied_line.result
     (λ line. line ≡ line_of (denied_data (schemas_of c.args.store.now) c.in-Err-Denied.denied.rule.now
     (slice_index_or c.as_slice-used.result.now c.in-Err-Denied.denied.place _)))
     (AnswersTree c.args.policies.now (number_of c.args.role) c.args.store.now c.args.tree.now)
     (λ line so. denied_told c.args.policies.now (number_of c.args.role) c.args.store.now c.args.tree.now line
-        (record { used = tells.used; rule = c.in-Err-Denied.denied.rule.now }) there some
-        (so ∙ ap (λ (u : Use). line_of (denied_data (schemas_of c.args.store.now) c.in-Err-Denied.denied.rule.now u)) read))
+    (record { used = tells.used; rule = c.in-Err-Denied.denied.rule.now }) there some
+    (so ∙ ap (λ (u : Use). line_of (denied_data (schemas_of c.args.store.now) c.in-Err-Denied.denied.rule.now u)) read))
     told
