@@ -34,7 +34,7 @@ impl Model for Table {
 impl Table {
     ghost use Rattle.std.specs.Prelude.{◌≡◌, ◌==◌, ◌≤◌, [], true};
     ghost use Rattle.lq_store.specs.Rules.{keeps_rules, IsTable};
-    ghost use Rattle.lq_store.specs.Calls.{refusal_of, Pushes, shown_pushed};
+    ghost use Rattle.lq_store.specs.Calls.{refusal_of, Pushes, count_listed, shown_pushed, without_rows};
 
     /// A table with no rows, whose first row will have the number `next`. Takes no memory.
     pub fn new(alloc: Global, schema: Schema, next: u64) -> Table
@@ -82,6 +82,18 @@ impl Table {
             }
             Err(back) => Err((StoreError::Memory, cells_of(back.value))),
         }
+    }
+
+    /// Removes the rows of these numbers, and answers how many they were. Takes no memory. Where the
+    /// numbers rise it takes time in proportion to the rows, but for the logarithm of how many numbers
+    /// there are.
+    pub fn delete_rows(&mut self, numbers: &[u64]) -> u64
+        ensures count { result ≡ count_listed self.old numbers.now }
+        ensures rows { self.new ≡ without_rows self.old numbers.now }
+    {
+        let before = self.rows.len();
+        self.rows.retain(|row| !numbers.contains(&row.number));
+        (before - self.rows.len()) as u64
     }
 
     /// Why a row of `cells` would be refused, memory aside.

@@ -4,4 +4,5 @@ pub mod FormMeaning
 pub mod Places
 pub mod RowLaws
 pub mod Rows
+pub mod SessionPlaces
 pub mod UsesOfForms
