@@ -108,26 +108,25 @@ module _ {R : Type 0} (world : World R) (holds : HoldsRows world) (fits : IsSess
         (sequence_is world (ty.Row n) (map value.Row rows.0, end.Done)
         (every_map (HasCells world n) (Val (ty.Row n)) value.Row (λ r cells. by_row (ty.Row n) n r (outs-Row n) cells) rows.0 rows.2)))))
 
-    -- a name of the session
-    session_by : (x : List ℕ) (place : SessionPlace) (s : SessionValue R) (places : List SessionPlace) (others : List (SessionValue R)) (known : SessionPlace)
-        → Gives world place s → Val s.known.ty s.value
-        → (session_place x places ≡ Some known → (v : Value R) × (session_value world x others ≡ Ok v) × (mean (known.form places.depth) ≡ Ok v) × Val known.known.ty v)
-        → (b : Bool) → (if b then Some place else session_place x places) ≡ Some known
-        → (v : Value R) × ((if b then Ok s.value else session_value world x others) ≡ Ok v) × (mean (known.form places.depth) ≡ Ok v) × Val known.known.ty v
-    session_by x place s places others known gives typed later true h =
-        subst (λ (k : SessionPlace). (v : Value R) × (Ok s.value ≡ Ok v) × (mean (k.form places.depth) ≡ Ok v) × Val k.known.ty v) (same_Some place known h)
-        (s.value, refl, ap (λ (n : ℕ). mean (place.form n)) (sym at.1.0) ∙ gives.1 slots, subst (λ (k : SessionName). Val k.ty s.value) (sym gives.0) typed)
-    session_by x place s places others known gives typed later false h = later h
+    -- a name of the session: what its place gives is the value that is found, which is of its type
+    abbrev Given : SessionPlace → Result (Value R) Fault → Type 0
+    Given known found = (v : Value R) × (found ≡ Ok v) × (mean (known.form places.depth) ≡ Ok v) × Val known.known.ty v
 
-    session_there : (x : List ℕ) (places : List SessionPlace) (session : List (SessionValue R)) (known : SessionPlace) → GivesAll world places session
-        → Every (λ s. Val s.known.ty s.value) session → session_place x places ≡ Some known
-        → (v : Value R) × (session_value world x session ≡ Ok v) × (mean (known.form places.depth) ≡ Ok v) × Val known.known.ty v
+    session_by : (x : List ℕ) (place : SessionPlace) (s : SessionValue R) (those : List SessionPlace) (others : List (SessionValue R)) (known : SessionPlace)
+        → Gives world place s → Val s.known.ty s.value → (session_place x those ≡ Some known → Given known (session_value world x others))
+        → (b : Bool) → (if b then Some place else session_place x those) ≡ Some known → Given known (if b then Ok s.value else session_value world x others)
+    session_by x place s those others known gives typed later true h =
+        subst (λ (k : SessionPlace). Given k (Ok s.value)) (same_Some place known h)
+        (s.value, refl, ap (λ (n : ℕ). mean (place.form n)) (sym at.1.0) ∙ gives.1 slots, subst (λ (k : SessionName). Val k.ty s.value) (sym gives.0) typed)
+    session_by x place s those others known gives typed later false h = later h
+
+    session_there : (x : List ℕ) (those : List SessionPlace) (session : List (SessionValue R)) (known : SessionPlace) → GivesAll world those session
+        → Every (λ s. Val s.known.ty s.value) session → session_place x those ≡ Some known → Given known (session_value world x session)
     session_there x [] [] known gives typed h = absurd (none-some known h)
-    session_there x (place ∷ places) (s ∷ others) known gives typed h =
-        subst (λ (n : List ℕ). (v : Value R) × ((if bytes_eq n x then Ok s.value else session_value world x others) ≡ Ok v)
-        × (mean (known.form places.depth) ≡ Ok v) × Val known.known.ty v) (ap (λ (k : SessionName). k.name) gives.0.0)
-        (session_by x place s places others known gives.0 (first_of (λ (d : SessionValue R). Val d.known.ty d.value) s others typed)
-        (session_there x places others known gives.1 (others_of (λ (d : SessionValue R). Val d.known.ty d.value) s others typed))
+    session_there x (place ∷ those) (s ∷ others) known gives typed h =
+        subst (λ (n : List ℕ). Given known (if bytes_eq n x then Ok s.value else session_value world x others)) (ap (λ (k : SessionName). k.name) gives.0.0)
+        (session_by x place s those others known gives.0 (first_of (λ (d : SessionValue R). Val d.known.ty d.value) s others typed)
+        (session_there x those others known gives.1 (others_of (λ (d : SessionValue R). Val d.known.ty d.value) s others typed))
         (bytes_eq place.known.name x) h)
     session_there x [] (s ∷ others) known gives typed h = absurd gives
     session_there x (place ∷ places) [] known gives typed h = absurd gives
