@@ -1,5 +1,5 @@
 -- The names of a session: what is known of them, and their values.
-use Rattle.std.proofs.Common.{◌≡◌, ◌∷◌, ◌++◌, List, [], map, ℕ, Some, Result, Ok, ap, ◌∙◌, sym, refl, subst}
+use Rattle.std.proofs.Common.{◌≡◌, ◌∷◌, ◌++◌, List, [], ℕ, Some, Result, Ok, ap, ◌∙◌, sym, refl, subst}
 use Rattle.std.proofs.lemmas.List.{map-append}
 use Rattle.lq_value.specs.declared.ty.Ty.{Ty}
 use Rattle.lq_value.specs.declared.ty.Ty.TheVariants as ty

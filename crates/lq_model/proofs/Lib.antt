@@ -12,6 +12,7 @@ pub mod Findings
 pub mod FirstTokens
 pub mod Following
 pub mod Forwards
+pub mod KeptDefinitions
 pub mod Layers
 pub mod LexingLemmas
 pub mod LiteralLemmas

@@ -70,12 +70,12 @@ module _ (s : State) (typed : Every IsTypedTable s.tables) (all : AreDefined (sc
       ap₂ (λ (schemas : List Schema) (session : List SessionName). outer_names schemas session) schemas_same (names_are_known tables_alone s.definitions refl)
 
   -- the value of a typed expression, which is the same in both worlds
-  abbrev Agrees : Ty → Type 0
+  abbrev pub Agrees : Ty → Type 0
   Agrees t =
       (expression_meaning world e [] ≡ expression_meaning other e [])
       × ((v : Value TableRow) → expression_meaning world e [] ≡ Ok v → IsValueOf world t v)
 
-  agrees : (t : Ty) → expression_type e (names_in s) ≡ Some t → Agrees t
+  pub agrees : (t : Ty) → expression_type e (names_in s) ≡ Some t → Agrees t
   agrees t is =
       has_whole_meaning world holds_all (names_have_values tables_alone s.definitions (holds_seen s typed fault.NullReference) refl all) []
       (every_none (λ b. IsValueOf world b.ty b.value)) e t (ap (expression_type e) names_same ∙ is) world.unknown unknown

@@ -26,9 +26,9 @@ use Rattle.lq_model.specs.Meaning.{Scope, World, binding_of, body_type_at, bound
 use Rattle.lq_model.specs.Operations.{negated, of_member, of_one, on_ok, truth_of}
 use Rattle.lq_model.specs.Members.{IsSearch, member_named}
 use Rattle.lq_model.specs.MeaningLaws.{Every, HasCells, HasMeaning, HasStream, HaveTypes, HoldsRows, SelectsScalars, IsOf, is_scalar as is_scalar_value, is_row, is_sequence, IsOfScope, IsScalarOf, IsTypedTable, assuming}
-use Rattle.lq_model.specs.Served.{columns_in, stream_data, value_data}
+use Rattle.lq_model.specs.Served.{columns_in}
 use Rattle.lq_model.specs.Stream.{Stream, kept, one}
-use Rattle.lq_model.specs.Typing.{Names, Claim, TypeOf, Leads, LeadAll, Selects, GivesItems, IsTyped, of_integer, of_local, of_table, of_column, of_text, of_null, of_has_value, of_value, of_length, of_search, of_ordering, of_equality, of_arithmetic, of_joined, of_coalesced, of_minus, of_choice, of_truth, of_not, of_both, of_either, by_where, by_none, by_first, by_select, by_query, HasType, column_named, column_type, are_comparable, are_joined, chosen, coalesced, if_scalar, is_comparison, is_equality, is_ordering, number_type, is_number, is_scalar, item_of, item_type, local_type, row_table, table_number, type_of, type_of_column, with_local}
+use Rattle.lq_model.specs.Typing.{Names, Claim, TypeOf, Leads, LeadAll, Selects, GivesItems, IsTyped, of_integer, of_local, of_table, of_column, of_text, of_null, of_has_value, of_value, of_length, of_search, of_ordering, of_equality, of_arithmetic, of_joined, of_coalesced, of_minus, of_choice, of_truth, of_not, of_both, of_either, by_where, by_none, by_first, by_select, by_query, HasType, column_named, column_type, are_comparable, are_joined, chosen, coalesced, is_comparison, is_equality, is_ordering, number_type, is_number, is_scalar, item_of, local_type, row_table, table_number, type_of, type_of_column, with_local}
 use Rattle.lq_model.specs.Visible.{TableRow, cell_named, seen_from, seen_rows, tables_as_seen, visible_to}
 use Rattle.lq_model.specs.declared.policy.Action.TheVariants as action
 use Rattle.lq_model.specs.declared.operation.Op.{Op}
@@ -52,7 +52,7 @@ use Rattle.lq_model.proofs.Opens.{meaning_binary, meaning_both, meaning_coalesce
 use Rattle.lq_model.proofs.ScalarResults.{arithmetic_of, Coalesces, Gives, HasScalars, Widens, chosen_widens, coalesced_fits, faults, given_of, gives, has_value_given, joined_given, joined_scalars, length_given, looked_for, minus_given, no_items_before, no_items_behind, number_scalars, ordering_given, row_is_no_scalar, search_given, sequence_is_no_scalar, signed, value_given}
 use Rattle.lq_model.proofs.TypedValues.{IsRowOrNull, IsSequence, a_row, a_sequence, bool_value, comparand_there, decides_same, member_of_scalar, no_row, row_value, scalar_there, sequence_value, widened_value}
 use Rattle.lq_model.proofs.WholeTypes.{whole_type}
-use Rattle.lq_model.proofs.TypingLemmas.{item_type_sound, type_complete, type_sound}
+use Rattle.lq_model.proofs.TypingLemmas.{type_complete}
 
 -- ---- outcomes that are the same in both worlds
 

@@ -11,7 +11,6 @@ use Rattle.lq_value.specs.declared.value.End.{End}
 use Rattle.lq_value.specs.declared.value.Fault.{Fault}
 use Rattle.lq_value.specs.declared.value.Value.{Value}
 use Rattle.lq_value.specs.declared.value.Value.TheVariants as value
-use Rattle.lq_model.specs.Serving.{served}
 use Rattle.lq_model.specs.Meaning.{Scope, World, meaning, names_at, stream_meaning}
 use Rattle.lq_model.specs.Typing.{HasItemType, HasType, column_type, item_of, row_table, type_of_column}
 use Rattle.lq_model.specs.Visible.{TableRow}
@@ -92,4 +91,3 @@ HaveTypes (column ∷ columns) (cell ∷ cells) = IsScalarOf (out-Ty (type_of_co
 
 abbrev pub IsTypedTable : Table → Type 0
 IsTypedTable table = Every (λ row. HaveTypes table.schema.columns row.cells) table.rows
-

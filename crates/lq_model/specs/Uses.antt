@@ -16,7 +16,6 @@ use Rattle.lq_model.specs.declared.syntax.Clause.TheVariants as clause
 use Rattle.lq_model.specs.declared.syntax.Continuation.{Continuation}
 use Rattle.lq_model.specs.declared.syntax.Expr.{Expr, para-Expr}
 use Rattle.lq_model.specs.declared.syntax.Expr.TheOpen.{Expr-F}
-use Rattle.lq_model.specs.declared.syntax.Join.{Join}
 use Rattle.lq_model.specs.declared.syntax.Last.{Last}
 use Rattle.lq_model.specs.declared.syntax.Last.TheVariants as last
 use Rattle.lq_model.specs.declared.syntax.Node.{Node}

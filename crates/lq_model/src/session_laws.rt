@@ -1,5 +1,6 @@
 //! Laws of the session machine and of its output. Each function's contract is the law that it is
 //! named for; the functions themselves do nothing.
+ghost use Rattle.lq_model.specs.DefinitionLaws.{KeepsDefined};
 ghost use Rattle.lq_model.specs.SessionLaws.{AnswersAlike, AsksNoHost, LookAlikeBehind, NumberAlikeBehind, ScriptsAlike, IsOutput, LeavesTheRest, IsSilentAlike, MemoryLineIsServed};
 
 /// Hidden rows change no answer: two states whose role sees the same tables, under the same policies,
@@ -34,4 +35,11 @@ pub fn logged_calls()
 /// The memory line is served as any other refusal is.
 pub fn memory_line_is_served()
     ensures { MemoryLineIsServed }
+{}
+
+/// Over tables whose cells are of their columns' types, every line leaves the definitions as `var` makes
+/// them: a variable has a scalar's type and a value of it, a named query is of a sequence's type under
+/// the names before it, and each name is new to the tables and to the definitions before it.
+pub fn definitions_are_kept()
+    ensures { KeepsDefined }
 {}
