@@ -41,13 +41,13 @@ abbrev pub InsertsInto : List Table → ℕ → List Scalar → Result ℕ (Stor
 InsertsInto old t cells result new None = (result ≡ Err (UnknownTable, cells)) × (new ≡ old)
 InsertsInto old t cells result new (Some table) = (changed : Table) × Pushes table cells result changed × (new ≡ set old t changed)
 
--- whether a number is one of these
-abbrev pub is_listed : List ℕ → ℕ → Bool
-is_listed numbers number = list_any (λ other. other == number) numbers
-
 -- a row put into a table of a store, by the table's number: what the table answers, with the other tables as they were
 abbrev pub Inserts : List Table → ℕ → List Scalar → Result ℕ (StoreError × List Scalar) → List Table → Type 0
 Inserts old t cells result new = InsertsInto old t cells result new (slice_get old t)
+
+-- whether a number is one of these
+abbrev pub is_listed : List ℕ → ℕ → Bool
+is_listed numbers number = list_any (λ other. other == number) numbers
 
 -- the rows of a table without those of these numbers
 abbrev pub without_rows : Table → List ℕ → Table

@@ -116,15 +116,15 @@ impl Store {
         ensures { Inserts self.old t cells.items (shown_pushed result) self.new }
     {
         let place = t as usize;
-        if place >= self.tables.len() {
+        if place >= self.len() {
             return Err((StoreError::UnknownTable, cells));
         }
         self.tables[place].push(cells)
     }
 
-    /// Removes the rows of table `t` that have these numbers, and answers how many they were. Takes
-    /// no memory. Where the numbers rise it takes time in proportion to the rows, but for the
-    /// logarithm of how many numbers there are.
+    /// Removes the rows of table `t` that have these numbers, in any order, and answers how many they
+    /// were. Takes no memory. Where the numbers rise, each row costs one search by halves among them,
+    /// and else a comparison with each of them.
     pub fn delete_rows(&mut self, t: u16, numbers: &[u64]) -> u64
         requires { t < length self.old }
         ensures { IfSome (slice_get self.old t)
