@@ -111,7 +111,7 @@ pub Started-behind : (holds : List ℕ → Option (Option (List ℕ))) (before b
     (gave : Option (List ℕ)) (policies : PolicyParts) (number : ℕ) (state : State)
     → Loaded holds before between asked.tables tables → IfSome (holds asked.policy) (λ there. gave ≡ first_bytes policy_read_limit there)
     → Adds between after (policy_reading asked gave ∷ []) → policies_read tables gave ≡ Ok policies → role_number policies asked.role ≡ Some number
-    → state ≡ record { tables = tables; policies = policies; role = number } → Started holds before after asked state
+    → state ≡ record { tables = tables; policies = policies; role = number; definitions = [] } → Started holds before after asked state
 Started-behind holds before between after asked tables gave policies number state loaded agrees adds meant found first = record {
   tables = tables;
   gave = gave;

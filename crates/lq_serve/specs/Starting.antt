@@ -76,7 +76,7 @@ pub record Started (holds : List ℕ → Option (Option (List ℕ))) (before aft
   pub meant : policies_read tables gave ≡ Ok policies
   pub role : ℕ
   pub found : role_number policies asked.role ≡ Some role
-  pub first : state ≡ record { tables = tables; policies = policies; role = role }
+  pub first : state ≡ record { tables = tables; policies = policies; role = role; definitions = [] }
 
 -- The line tells of the first fault: of a table, then of the policies, then of the role.
 pub data Told (holds : List ℕ → Option (Option (List ℕ))) (before after : Option (List Reading)) (asked : Asked) (line : List ℕ) : Type 0 where
