@@ -50,6 +50,7 @@ pub mod ServedMeanings
 pub mod SessionLemmas
 pub mod Soundness
 pub mod SourceTypes
+pub mod StatementLemmas
 pub mod StatementsAlike
 pub mod TotalRules
 pub mod TotalityLemmas
