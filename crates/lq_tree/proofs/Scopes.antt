@@ -52,7 +52,7 @@ module _ {R : Type 0} (world : World R) where
   locals_same slots [] (b ∷ scope) reach = absurd reach
   locals_same slots (place ∷ places) [] reach = absurd reach
 
-  session_same : (places : List SessionPlace) (session : List (SessionValue R)) → GivesAll world places session
+  pub session_same : (places : List SessionPlace) (session : List (SessionValue R)) → GivesAll world places session
       → session_names session ≡ map (λ place. place.known) places
   session_same [] [] gives = refl
   session_same (place ∷ places) (s ∷ others) gives =

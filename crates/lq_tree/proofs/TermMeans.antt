@@ -110,7 +110,7 @@ call_meanings_same world holds kept c places slots scope fits reached tree h =
 -- ---- whole expressions
 
 -- a tree that is found with this type
-tree_there : (o : Option Tree) (t : Ty) → type_found o ≡ Some t → (f : Form) × (o ≡ Some (tree_of t f))
+pub tree_there : (o : Option Tree) (t : Ty) → type_found o ≡ Some t → (f : Form) × (o ≡ Some (tree_of t f))
 tree_there None t h = absurd (none-some t h)
 tree_there (Some tree) t h = (tree.form, ap (λ (u : Ty). Some (tree_of u tree.form)) (same_Some tree.ty t h))
 

@@ -124,7 +124,7 @@ then_if : {A B : Type 0} (f : A → Option B) (b : Bool) (x : A) (o : Option A) 
 then_if f true x o = refl
 then_if f false x o = refl
 
-later : {A : Type 0} (test : A → Bool) (start : ℕ) (xs : List A) → position_from test (start + 1) xs ≡ option_map suc (position_from test start xs)
+pub later : {A : Type 0} (test : A → Bool) (start : ℕ) (xs : List A) → position_from test (start + 1) xs ≡ option_map suc (position_from test start xs)
 later test start [] = refl
 later test start (x ∷ xs) =
     let next : start + 1 ≡ suc start = omega arith in

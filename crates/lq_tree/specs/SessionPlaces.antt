@@ -3,13 +3,14 @@
 use Rattle.std.specs.Prelude.{◌∷◌, ◌++◌, List, [], map, ℕ, Option, Some, None}
 use Rattle.lq_value.specs.declared.scalar.Scalar.TheVariants as scalar
 use Rattle.lq_value.specs.declared.table.Schema.{Schema}
+use Rattle.lq_value.specs.declared.ty.Ty.TheVariants as ty
 use Rattle.lq_model.specs.Definitions.{known_as}
 use Rattle.lq_model.specs.Typing.{SessionName}
 use Rattle.lq_model.specs.declared.session.Defined.{Defined}
 use Rattle.lq_model.specs.declared.session.Defined.TheVariants as of
 use Rattle.lq_model.specs.declared.session.Definition.{Definition}
 use Rattle.lq_translate.specs.Translated.{translated}
-use Rattle.lq_tree.specs.Binding.{term_tree}
+use Rattle.lq_tree.specs.Binding.{term_tree, tree_of}
 use Rattle.lq_tree.specs.Places.{Places, SessionPlace}
 use Rattle.lq_tree.specs.declared.tree.Form.{Form}
 use Rattle.lq_tree.specs.declared.tree.Form.TheVariants as form
@@ -23,10 +24,13 @@ known_of places = map (λ place. place.known) places
 abbrev pub places_outside : List SessionPlace → ℕ → Places
 places_outside session depth = record { session = session; locals = []; depth = depth }
 
--- a tree's form; what has no tree is null, as what has no type is
+-- what has no tree is null, as what has no type is
+abbrev pub tree_or_null : Option Tree → Tree
+tree_or_null None = tree_of ty.Null (form.Literal scalar.Null)
+tree_or_null (Some tree) = tree
+
 abbrev pub form_or_null : Option Tree → Form
-form_or_null None = form.Literal scalar.Null
-form_or_null (Some tree) = tree.form
+form_or_null found = (tree_or_null found).form
 
 module _ (schemas : List Schema) where
   -- the form of a name that was defined where these were known
