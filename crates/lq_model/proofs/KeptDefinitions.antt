@@ -74,7 +74,7 @@ module _ (name : List ℕ) where
     by true h rest = refl
     by false h rest = rest h
 
-  known_now : (names : List SessionName) (k : SessionName) → bytes_eq k.name name ≡ true → is_some (session_name name (names ++ k ∷ [])) ≡ true
+  pub known_now : (names : List SessionName) (k : SessionName) → bytes_eq k.name name ≡ true → is_some (session_name name (names ++ k ∷ [])) ≡ true
   known_now [] k is = ap (λ (b : Bool). is_some (if b then Some k else None)) is
   known_now (x ∷ xs) k is = by (bytes_eq x.name name) (known_now xs k is) where
     by : (b : Bool) → is_some (session_name name (xs ++ k ∷ [])) ≡ true → is_some (if b then Some x else session_name name (xs ++ k ∷ [])) ≡ true
@@ -104,7 +104,7 @@ module _ (name : List ℕ) where
 
     module _ (t : Ty) (s : Scalar) (old : State) where
       -- nothing behind a definition of the name is renewed
-      others_stay : (earlier : List SessionName) (ds : List Definition) → AreDefinedAfter schemas earlier ds → is_some (session_name name earlier) ≡ true
+      pub others_stay : (earlier : List SessionName) (ds : List Definition) → AreDefinedAfter schemas earlier ds → is_some (session_name name earlier) ≡ true
           → map (renewed old name t s) ds ≡ ds
       others_stay earlier [] all known = refl
       others_stay earlier (d ∷ ds) all known =
@@ -119,7 +119,7 @@ module _ (name : List ℕ) where
           by false is rest = ap (λ (more : List Definition). d ∷ more) rest
 
       -- a variable keeps its name and its type, and so what is known behind it
-      renewed_after : (earlier : List SessionName) (ds : List Definition) → AreDefinedAfter schemas earlier ds → (d : Definition) (before : Scalar)
+      pub renewed_after : (earlier : List SessionName) (ds : List Definition) → AreDefinedAfter schemas earlier ds → (d : Definition) (before : Scalar)
           → definition_of name ds ≡ Some d → d.defined ≡ of.Variable t before → IsScalarOf (out-Ty t) s
           → AreDefinedAfter schemas earlier (map (renewed old name t s) ds)
       renewed_after earlier [] all d before found is fits = absurd (none-some d found)
@@ -175,6 +175,20 @@ defined_behind : (schemas : List Schema) (earlier : List SessionName) (ds : List
 defined_behind schemas earlier [] d all is new = (is, tt, new)
 defined_behind schemas earlier (x ∷ ds) d all is new =
     (all.0, defined_behind schemas (earlier ++ known_as schemas earlier x.name x.defined ∷ []) ds d all.1 is new, all.2)
+
+module _ (old : State) (all : AreDefined (schemas_of old.tables) old.definitions) where
+  -- one more behind those of a state, whose name isn't taken
+  pub also_kept : (name : List ℕ) (new : Defined) → is_taken old name ≡ false → IsDefined (schemas_of old.tables) (known_names (schemas_of old.tables) old.definitions) new
+      → AreDefined (schemas_of old.tables) (old.definitions ++ (record { name = name; defined = new }) ∷ [])
+  unfolding known_names
+  also_kept name new free is =
+      defined_behind (schemas_of old.tables) [] old.definitions (record { name = name; defined = new }) all is (by (table_number name (schemas_of old.tables)) (definition_of name old.definitions) refl refl free)
+    where
+      by : (o : Option ℕ) (p : Option Definition) → table_number name (schemas_of old.tables) ≡ o → definition_of name old.definitions ≡ p → (is_some o || is_some p) ≡ false
+          → IsNew (schemas_of old.tables) (known_after (schemas_of old.tables) [] old.definitions) name
+      by None None table definition h = (table, unknown_name name (schemas_of old.tables) [] old.definitions refl definition)
+      by None (Some d) table definition h = absurd (true≢false h)
+      by (Some n) p table definition h = absurd (true≢false h)
 
 -- ---- types that a scalar's value has
 
@@ -343,28 +357,16 @@ module _ (old : State) (typed : Every IsTypedTable old.tables) (all : AreDefined
 
   -- ---- `var`
 
-  also_kept : (name : List ℕ) (new : Defined) → is_taken old name ≡ false → IsDefined (schemas_of old.tables) (known_names (schemas_of old.tables) old.definitions) new
-      → AreDefined (schemas_of old.tables) (old.definitions ++ (record { name = name; defined = new }) ∷ [])
-  unfolding known_names
-  also_kept name new free is =
-      defined_behind (schemas_of old.tables) [] old.definitions (record { name = name; defined = new }) all is (by (table_number name (schemas_of old.tables)) (definition_of name old.definitions) refl refl free)
-    where
-      by : (o : Option ℕ) (p : Option Definition) → table_number name (schemas_of old.tables) ≡ o → definition_of name old.definitions ≡ p → (is_some o || is_some p) ≡ false
-          → IsNew (schemas_of old.tables) (known_after (schemas_of old.tables) [] old.definitions) name
-      by None None table definition h = (table, unknown_name name (schemas_of old.tables) [] old.definitions refl definition)
-      by None (Some d) table definition h = absurd (true≢false h)
-      by (Some n) p table definition h = absurd (true≢false h)
-
   as_kept : (name : List ℕ) (opened : Opened) (e : Expr) (t : Ty) (layer : Ty-F Ty) → is_taken old name ≡ false → expression_type e (names_in old) ≡ Some t → out-Ty t ≡ layer
       → IsKept (defined_as old name opened e t layer)
-  as_kept name opened e t (Ty-F.Seq item) free is at = also_kept name (of.Query e opened) free (item, is ∙ ap Some (is_of_layer t ∙ ap type_with at))
+  as_kept name opened e t (Ty-F.Seq item) free is at = also_kept old all name (of.Query e opened) free (item, is ∙ ap Some (is_of_layer t ∙ ap type_with at))
   as_kept name opened e t layer free is at = by (is_scalar layer) refl where
     by : (b : Bool) → is_scalar layer ≡ b
         → IsKept (if b then evaluated old e (λ s. (defined_data name, defining_also old name (of.Variable t s))) else refused old (codes "type"))
     by true scalar_so =
         let so : is_scalar (out-Ty t) ≡ true = ap is_scalar at ∙ scalar_so in
         evaluated_kept e t is (scalar_plain (out-Ty t) so) (λ s. (defined_data name, defining_also old name (of.Variable t s)))
-        (λ s fits. also_kept name (of.Variable t s) free (so, fits))
+        (λ s fits. also_kept old all name (of.Variable t s) free (so, fits))
     by false other = all
 
   by_kept : (name : List ℕ) (opened : Opened) (e : Expr) (o : Option Ty) → is_taken old name ≡ false → expression_type e (names_in old) ≡ o

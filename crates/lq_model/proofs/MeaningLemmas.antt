@@ -695,7 +695,8 @@ module _ (s : State) (typed : Every IsTypedTable s.tables) (unknown : Fault) whe
   abbrev seen_world : World TableRow
   seen_world = world_by unknown (schemas_of s.tables) (seen_by_role s)
 
-  column_by : (n : ℕ) (table : Table) (row : Row) → slice_get (schemas_of s.tables) n ≡ Some table.schema → HaveTypes table.schema.columns row.cells → HasCells seen_world n (record { table = n; row = row })
+  -- a row of a table has its cells, whether it is seen or not
+  pub column_by : (n : ℕ) (table : Table) (row : Row) → slice_get (schemas_of s.tables) n ≡ Some table.schema → HaveTypes table.schema.columns row.cells → HasCells seen_world n (record { table = n; row = row })
   column_by n table row at fit c t found = under (column_named c table.schema.columns) refl (sym (ap (λ (o : Option Schema). column_in o) at) ∙ found) where
     column_in : Option Schema → Option Ty
     column_in o = option_and_then (λ schema. option_map (λ column. type_of_column column.ty) (column_named c schema.columns)) o
