@@ -17,6 +17,14 @@ refusal_of t cells =
     else (if t.next == 2 ^ 64 then Some Full
     else None)))
 
+-- the refusal of a row put into a table of a store, by the table's number, memory aside
+abbrev pub refusal_at : Option Table → List Scalar → Option StoreError
+refusal_at None cells = Some UnknownTable
+refusal_at (Some table) cells = refusal_of table cells
+
+abbrev pub insertion_refusal_of : List Table → ℕ → List Scalar → Option StoreError
+insertion_refusal_of tables t cells = refusal_at (slice_get tables t) cells
+
 -- the table with one more row of these cells
 abbrev pub with_row : Table → List Scalar → Table
 with_row t cells = record t { rows = t.rows ++ (record { number = t.next; cells = cells }) ∷ []; next = t.next + 1 }

@@ -32,7 +32,7 @@ impl Store {
     ghost use Rattle.std.specs.Prelude.{◌≡◌, ◌==◌, ◌<◌, [], length, option_map, IfSome, set, slice_get};
     ghost use Rattle.lq_value.specs.Tables.{first_named};
     ghost use Rattle.lq_store.specs.Rules.{IsStore, IsTable, name_of};
-    ghost use Rattle.lq_store.specs.Calls.{Adds, Inserts, count_listed, shown_pushed, without_rows};
+    ghost use Rattle.lq_store.specs.Calls.{Adds, Inserts, count_listed, insertion_refusal_of, shown_pushed, without_rows};
 
     /// A store of no tables. Takes no memory.
     pub fn new(alloc: Global) -> Store
@@ -120,6 +120,17 @@ impl Store {
             return Err((StoreError::UnknownTable, cells));
         }
         self.tables[place].push(cells)
+    }
+
+    /// Why table `t` would not take a row of `cells`, memory aside: `UnknownTable`, `Arity`, `CellType`,
+    /// `CellRange` or `Full`, the first of them in this order. Takes no memory.
+    pub fn refusal(&self, t: u16, cells: &[Scalar]) -> Option<StoreError>
+        ensures { result ≡ insertion_refusal_of self.now t cells.now }
+    {
+        match self.tables.as_slice().get(t as usize) {
+            Some(table) => table.refusal(cells),
+            None => Some(StoreError::UnknownTable),
+        }
     }
 
     /// Removes the rows of table `t` that have these numbers, in any order, and answers how many they

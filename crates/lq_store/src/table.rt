@@ -98,7 +98,7 @@ impl Table {
     }
 
     /// Why a row of `cells` would be refused, memory aside.
-    fn refusal(&self, cells: &[Scalar]) -> Option<StoreError>
+    pub(crate) fn refusal(&self, cells: &[Scalar]) -> Option<StoreError>
         ensures { result ≡ refusal_of self.now cells.now }
     {
         let columns = self.schema.columns.as_slice();
