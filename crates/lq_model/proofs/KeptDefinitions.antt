@@ -83,7 +83,7 @@ module _ (name : List ℕ) where
 
   module _ (schemas : List Schema) where
     -- a name that no definition has isn't known
-    unknown_name : (earlier : List SessionName) (ds : List Definition) → session_name name earlier ≡ None → definition_of name ds ≡ None
+    pub unknown_name : (earlier : List SessionName) (ds : List Definition) → session_name name earlier ≡ None → definition_of name ds ≡ None
         → session_name name (known_after schemas earlier ds) ≡ None
     unknown_name earlier [] none other = none
     unknown_name earlier (d ∷ ds) none other =
@@ -155,7 +155,7 @@ module _ (name : List ℕ) where
           by false same h rest = (all.0, rest h, all.2)
 
       -- a variable's type is that of a scalar
-      variable_scalar : (earlier : List SessionName) (ds : List Definition) → AreDefinedAfter schemas earlier ds → (d : Definition) (before : Scalar)
+      pub variable_scalar : (earlier : List SessionName) (ds : List Definition) → AreDefinedAfter schemas earlier ds → (d : Definition) (before : Scalar)
           → definition_of name ds ≡ Some d → d.defined ≡ of.Variable t before → is_scalar (out-Ty t) ≡ true
       variable_scalar earlier [] all d before found is = absurd (none-some d found)
       variable_scalar earlier (x ∷ ds) all d before found is =
@@ -200,7 +200,7 @@ scalar_plain Ty-F.Str h = refl
 scalar_plain layer h = absurd (true≢false (sym h))
 
 -- the values of one type have a place where the other type is
-record HasPlaceAt (x y : Ty-F Ty) : Type 0 where
+pub record HasPlaceAt (x y : Ty-F Ty) : Type 0 where
   pub plain : is_plain x ≡ true
   pub fits : (s : Scalar) → IsScalarOf x s → IsScalarOf y s
 
@@ -221,7 +221,7 @@ widened Ty-F.Int Ty-F.IntN is h = record { plain = refl; fits = int_widens }
 widened Ty-F.Null y is h = record { plain = refl; fits = null_widens y is h }
 widened x y is h = absurd (true≢false (sym h))
 
-converted : (u t : Ty) → is_scalar (out-Ty t) ≡ true → converts u t ≡ true → HasPlaceAt (out-Ty u) (out-Ty t)
+pub converted : (u t : Ty) → is_scalar (out-Ty t) ≡ true → converts u t ≡ true → HasPlaceAt (out-Ty u) (out-Ty t)
 converted u t is h = by (same_types u t) refl h where
   by : (b : Bool) → same_types u t ≡ b → (b || widens (out-Ty u) (out-Ty t)) ≡ true → HasPlaceAt (out-Ty u) (out-Ty t)
   by true same g =
