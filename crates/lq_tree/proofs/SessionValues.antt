@@ -142,7 +142,7 @@ first_defined : (schemas : List Schema) (names : List SessionName) (ds : List De
 first_defined schemas names [] all zero = tt
 first_defined schemas names [] all (suc n) = tt
 first_defined schemas names (d ∷ ds) all zero = tt
-first_defined schemas names (d ∷ ds) all (suc n) = (all.0, first_defined schemas (names ++ known_as schemas names d.name d.defined ∷ []) ds all.1 n)
+first_defined schemas names (d ∷ ds) all (suc n) = (all.0, first_defined schemas (names ++ known_as schemas names d.name d.defined ∷ []) ds all.1 n, all.2)
 
 pub places_give : {R : Type 0} → PlacesGive R
 unfolding session_places defining
