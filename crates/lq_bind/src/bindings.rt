@@ -39,8 +39,8 @@ pub struct Scope<'a> {
 impl Scope<'_> {
     /// What binds the terms of the statement.
     fn binder(&self, alloc: Global) -> Binder<'_>
-        ensures { result.store.now ≡ self.now.store.now }
-        ensures { result.known.now ≡ self.now.definitions.now }
+        ensures tables { result.store.now ≡ self.now.store.now }
+        ensures names { result.known.now ≡ self.now.definitions.now }
     {
         Binder {
             alloc,
