@@ -2,6 +2,7 @@
 //! a `delete` removes.
 #![tactic(auto)]
 
+mod definitions;
 mod denials;
 mod removals;
 mod reply;
@@ -16,6 +17,6 @@ pub use denials::denied;
 pub use removals::chosen_rows;
 pub use reply::refusal;
 pub use run::run_line;
-pub use scalars::{Evaluated, evaluated};
+pub use scalars::{Evaluated, evaluate};
 pub use state::State;
 pub use trees::{condition_of, tree_of};

@@ -1,4 +1,5 @@
 //! What a session is between two statements.
+use crate::definitions::{place_of, renew};
 use lq_model::{Defined, Definition};
 use lq_policy::{Policies, RoleId};
 use lq_store::{Store, StoreError};
@@ -7,8 +8,8 @@ use std::alloc::{AllocError, Global};
 use std::marker::Model;
 
 /// The tables of a session, the policies in front of them, the role that it runs under, and what its `var` statements
-/// defined, the oldest first. No two definitions have one name; each variable has a value of its type, and
-/// each named query the type of a sequence under the names that were defined before it.
+/// defined, the oldest first. No two definitions have one name, and none has a table's; each variable has a value of
+/// its type, and each named query the type of a sequence under the names that were defined before it.
 #[derive(Drop)]
 pub struct State {
     store: Store,
@@ -21,23 +22,23 @@ impl Model for State {
     ghost use Rattle.lq_model.specs.DefinitionLaws.{AreDefined};
     ghost use Rattle.lq_model.specs.States.{State, schemas_of};
     ghost use Rattle.lq_model.specs.contracts.syntax.Expr as expr;
+    ghost use Rattle.lq_value.specs.contracts.ty.Ty as ty;
     ghost use Rattle.lq_policy.specs.Roles.{number_of};
-    ghost use Rattle.lq_run.specs.States.{HaveNamesOfTheirOwn};
     ghost use Rattle.std.specs.Coded.{codes};
 
     ghost Value = { State };
 
-    ghost coded = { Prim.hlevel (codes, expr.the_row.coded) };
+    ghost coded = { Prim.hlevel (codes, expr.the_row.coded, ty.the_row.coded) };
 
     ghost view = { λ s. record { tables = s.store; policies = s.policies; role = number_of s.role; definitions = s.definitions.items } };
 
-    ghost invariant = { λ s. AreDefined (schemas_of s.store) s.definitions.items × HaveNamesOfTheirOwn s.definitions.items };
+    ghost invariant = { λ s. AreDefined (schemas_of s.store) s.definitions.items };
 }
 
 impl State {
-    ghost use Rattle.std.specs.Prelude.{◌≡◌, ◌×◌, ◌<◌, [], None, IfSome, IfErr, OnOk, length, set, slice_get};
-    ghost use Rattle.lq_model.specs.DefinitionLaws.{AreDefined, IsDefined};
-    ghost use Rattle.lq_model.specs.Definitions.{definition_of, known_names};
+    ghost use Rattle.std.specs.Prelude.{◌≡◌, ◌<◌, [], IfSome, IfErr, OnOk, length, set, slice_get};
+    ghost use Rattle.lq_model.specs.DefinitionLaws.{AreDefined, IsDefined, IsNew};
+    ghost use Rattle.lq_model.specs.Definitions.{known_names};
     ghost use Rattle.lq_model.specs.States.{schemas_of};
     ghost use Rattle.lq_model.specs.Statements.{defining_also};
     ghost use Rattle.lq_policy.specs.Roles.{number_of};
@@ -58,7 +59,8 @@ impl State {
 
     /// The tables.
     pub fn store(&self) -> &Store
-        ensures { result.now ≡ self.now.tables }
+        ensures value { result.now ≡ self.now.tables }
+        ensures kept { AreDefined (schemas_of self.now.tables) self.now.definitions }
     {
         &self.store
     }
@@ -85,9 +87,9 @@ impl State {
         self.definitions.as_slice()
     }
 
-    /// Defines a name that isn't defined yet, behind the others. Where memory is refused the state stays.
+    /// Defines a name that neither a table nor another definition has, behind the others. Where memory is refused the state stays.
     pub fn define(&mut self, name: Txt, defined: Defined) -> Result<(), AllocError>
-        requires new { definition_of name self.old.definitions ≡ None }
+        requires new { IsNew (schemas_of self.old.tables) (known_names (schemas_of self.old.tables) self.old.definitions) name }
         requires typed { IsDefined (schemas_of self.old.tables) (known_names (schemas_of self.old.tables) self.old.definitions) defined }
         ensures ok { OnOk result (self.new ≡ defining_also self.old name defined) }
         ensures err { IfErr result (λ _. self.new ≡ self.old) }
@@ -96,18 +98,13 @@ impl State {
         Ok(())
     }
 
-    /// Gives the variable of this name a new value, which is one of its type.
+    /// Gives the variable of this name a new value, which is one of its type. Takes no memory.
     pub fn assign(&mut self, name: &str, value: Scalar)
         requires { IsValueFor self.old.definitions name.now value }
         ensures { Assigns self.old name.now value self.new }
     {
-        for definition in self.definitions.iter_mut() {
-            if definition.name.as_str() == name {
-                if let Defined::Variable(_, old) = &mut definition.defined {
-                    *old = value;
-                }
-                return;
-            }
+        if let Some(place) = place_of(self.definitions.as_slice(), name) {
+            renew(&mut self.definitions[place], value);
         }
     }
 

@@ -1,0 +1,158 @@
+-- The definitions of a state, as an assignment and changes of its tables leave them.
+use Rattle.std.proofs.Common.{◌≡◌, ◌∙◌, ◌∷◌, ◌++◌, if◌then◌else◌, List, [], map, ℕ, zero, suc, Bool, true, false, Option, Some, None, IfSome, Result, Ok, Err, ap, sym, refl, subst, bytes_eq, option_and_then, option_map, set, slice_get}
+use Rattle.std.specs.List.{position_from}
+use Rattle.std.proofs.lemmas.Option.{none-some, same_Some}
+use Rattle.lq_value.specs.Tables.{Table, first_named}
+use Rattle.lq_value.specs.declared.scalar.Scalar.{Scalar}
+use Rattle.lq_value.specs.declared.table.Schema.{Schema}
+use Rattle.lq_value.specs.declared.ty.Ty.{Ty, out-Ty}
+use Rattle.lq_store.specs.Calls.{Inserts, InsertsInto, Pushes}
+use Rattle.lq_store.specs.declared.error.StoreError.{StoreError}
+use Rattle.lq_model.specs.DefinitionLaws.{AreDefined, AreDefinedAfter, IsDefined, IsNew}
+use Rattle.lq_model.specs.Definitions.{definition_of, known_after, known_as, known_names}
+use Rattle.lq_model.specs.MeaningLaws.{IsScalarOf}
+use Rattle.lq_model.specs.States.{State, schemas_of}
+use Rattle.lq_model.specs.Statements.{renewed}
+use Rattle.lq_model.specs.Typing.{SessionName}
+use Rattle.lq_model.specs.declared.session.Defined.{Defined}
+use Rattle.lq_model.specs.declared.session.Defined.TheVariants as of
+use Rattle.lq_model.specs.declared.session.Definition.{Definition}
+use Rattle.lq_model.proofs.KeptDefinitions.{known_now, others_stay, renewed_after}
+use Rattle.lq_tree.proofs.TypeLemmas.{later}
+use Rattle.lq_run.specs.States.{Assigns, IsValueFor, with_value}
+
+-- ---- assignments
+
+-- what is known of a definition has its name
+known_name : (schemas : List Schema) (earlier : List SessionName) (name : List ℕ) (defined : Defined) → (known_as schemas earlier name defined).name ≡ name
+known_name schemas earlier name (of.Variable t s) = refl
+known_name schemas earlier name (of.Query e opened) = refl
+
+module _ (name : List ℕ) where
+  abbrev named : Definition → Bool
+  named d = bytes_eq d.name name
+
+  there_later : (x : Definition) (ds : List Definition) (o : Option ℕ) → option_and_then (slice_get (x ∷ ds)) (option_map suc o) ≡ option_and_then (slice_get ds) o
+  there_later x ds None = refl
+  there_later x ds (Some i) = refl
+
+  -- the definition of a name stands at the first place of the name
+  definition_there : (ds : List Definition) → definition_of name ds ≡ option_and_then (slice_get ds) (first_named (λ d. d.name) name ds)
+  definition_there [] = refl
+  definition_there (x ∷ ds) = by (bytes_eq x.name name) (definition_there ds) where
+    by : (b : Bool) → definition_of name ds ≡ option_and_then (slice_get ds) (position_from named 0 ds)
+        → (if b then Some x else definition_of name ds) ≡ option_and_then (slice_get (x ∷ ds)) (if b then Some 0 else position_from named 1 ds)
+    by true rest = refl
+    by false rest = rest ∙ sym (there_later x ds (position_from named 0 ds)) ∙ ap (option_and_then (slice_get (x ∷ ds))) (sym (later named 0 ds))
+
+  module _ (t : Ty) (value : Scalar) (old : State) (schemas : List Schema) where
+    abbrev renewal : Definition
+    renewal = record { name = name; defined = of.Variable t value }
+
+    -- the first definition of the name is the only one
+    in_place : (earlier : List SessionName) (ds : List Definition) → AreDefinedAfter schemas earlier ds → (i : ℕ) → position_from named 0 ds ≡ Some i
+        → map (renewed old name t value) ds ≡ set ds i renewal
+    in_place earlier [] all i at = absurd (none-some i at)
+    in_place earlier (x ∷ ds) all i at =
+        by (bytes_eq x.name name) refl at (in_place (earlier ++ known_as schemas earlier x.name x.defined ∷ []) ds all.1)
+      where
+        over : (o : Option ℕ) → ((j : ℕ) → o ≡ Some j → map (renewed old name t value) ds ≡ set ds j renewal) → option_map suc o ≡ Some i
+            → x ∷ map (renewed old name t value) ds ≡ set (x ∷ ds) i renewal
+        over None rest h = absurd (none-some i h)
+        over (Some j) rest h = ap (λ (more : List Definition). x ∷ more) (rest j refl) ∙ ap (λ (k : ℕ). set (x ∷ ds) k renewal) (same_Some (suc j) i h)
+
+        by : (b : Bool) → bytes_eq x.name name ≡ b → (if b then Some 0 else position_from named 1 ds) ≡ Some i
+            → ((j : ℕ) → position_from named 0 ds ≡ Some j → map (renewed old name t value) ds ≡ set ds j renewal)
+            → (if b then renewal else x) ∷ map (renewed old name t value) ds ≡ set (x ∷ ds) i renewal
+        by true same h rest =
+            ap (λ (more : List Definition). renewal ∷ more)
+            (others_stay name schemas t value old (earlier ++ known_as schemas earlier x.name x.defined ∷ []) ds all.1
+            (known_now name earlier (known_as schemas earlier x.name x.defined)
+            (ap (λ (n : List ℕ). bytes_eq n name) (known_name schemas earlier x.name x.defined) ∙ same)))
+            ∙ ap (λ (k : ℕ). set (x ∷ ds) k renewal) (same_Some 0 i h)
+        by false same h rest = over (position_from named 0 ds) rest (sym (later named 0 ds) ∙ h)
+
+module _ (s : State) (defined : AreDefined (schemas_of s.tables) s.definitions) (name : List ℕ) (value : Scalar) where
+  -- the definition that is renewed is the variable's
+  variable_there : (t : Ty) (before : Scalar) → definition_of name s.definitions ≡ Some (record { name = name; defined = of.Variable t before }) → (i : ℕ) (d : Definition)
+      → first_named (λ d. d.name) name s.definitions ≡ Some i → slice_get s.definitions i ≡ Some d → d ≡ record { name = name; defined = of.Variable t before }
+  variable_there t before found i d at there =
+      same_Some d (record { name = name; defined = of.Variable t before })
+      (sym there ∙ sym (ap (option_and_then (slice_get s.definitions)) at) ∙ sym (definition_there name s.definitions) ∙ found)
+
+  renewed_there : (t : Ty) (before : Scalar) → definition_of name s.definitions ≡ Some (record { name = name; defined = of.Variable t before }) → (i : ℕ) (d : Definition)
+      → first_named (λ d. d.name) name s.definitions ≡ Some i → slice_get s.definitions i ≡ Some d
+      → set s.definitions i (with_value value d) ≡ map (renewed s name t value) s.definitions
+  renewed_there t before found i d at there =
+      ap (λ (e : Definition). set s.definitions i (with_value value e)) (variable_there t before found i d at there)
+      ∙ sym (in_place name t value s (schemas_of s.tables) [] s.definitions defined i at)
+
+  -- the variable of the name is renewed, and all else stays
+  pub assigns : (i : ℕ) (d : Definition) (definitions : List Definition) → first_named (λ d. d.name) name s.definitions ≡ Some i → slice_get s.definitions i ≡ Some d
+      → definitions ≡ set s.definitions i (with_value value d) → Assigns s name value (record s { definitions = definitions })
+  assigns i d definitions at there is t before found =
+      ap (λ (ds : List Definition). let new : State = record s { definitions = ds } in new) (is ∙ renewed_there t before found i d at there)
+
+  -- and the definitions are as `var` makes them
+  pub assigned_defined : IsValueFor s.definitions name value → (i : ℕ) (d : Definition) (definitions : List Definition)
+      → first_named (λ d. d.name) name s.definitions ≡ Some i → slice_get s.definitions i ≡ Some d → definitions ≡ set s.definitions i (with_value value d)
+      → AreDefined (schemas_of s.tables) definitions
+  assigned_defined for i d definitions at there is =
+      subst (λ (ds : List Definition). AreDefined (schemas_of s.tables) ds) (sym (is ∙ renewed_there for.0 for.1 for.2 i d at there))
+      (renewed_after name (schemas_of s.tables) for.0 value s [] s.definitions defined (record { name = name; defined = of.Variable for.0 for.1 }) for.1 for.2 refl for.3)
+
+  -- a variable has a place
+  pub nowhere : (new : State) → first_named (λ d. d.name) name s.definitions ≡ None → Assigns s name value new
+  nowhere new at t before found =
+      absurd (none-some (record { name = name; defined = of.Variable t before })
+      (sym (ap (option_and_then (slice_get s.definitions)) at) ∙ sym (definition_there name s.definitions) ∙ found))
+
+-- ---- one more definition
+
+defined_behind : (schemas : List Schema) (earlier : List SessionName) (ds : List Definition) (d : Definition) → AreDefinedAfter schemas earlier ds
+    → IsDefined schemas (known_after schemas earlier ds) d.defined → IsNew schemas (known_after schemas earlier ds) d.name
+    → AreDefinedAfter schemas earlier (ds ++ d ∷ [])
+defined_behind schemas earlier [] d all is new = (is, tt, new)
+defined_behind schemas earlier (x ∷ ds) d all is new =
+    (all.0, defined_behind schemas (earlier ++ known_as schemas earlier x.name x.defined ∷ []) ds d all.1 is new, all.2)
+
+-- a definition under a new name, behind others
+pub also_defined : (schemas : List Schema) (ds definitions : List Definition) (d : Definition) → AreDefined schemas ds
+    → IsDefined schemas (known_names schemas ds) d.defined → IsNew schemas (known_names schemas ds) d.name → definitions ≡ ds ++ d ∷ []
+    → AreDefined schemas definitions
+unfolding known_names
+also_defined schemas ds definitions d all is new so =
+    subst (λ (given : List Definition). AreDefined schemas given) (sym so) (defined_behind schemas [] ds d all is new)
+
+-- ---- changed tables
+
+-- a table with other rows has its schema
+pub schemas_set : (tables : List Table) (n : ℕ) (table next : Table) → slice_get tables n ≡ Some table → next.schema ≡ table.schema
+    → schemas_of (set tables n next) ≡ schemas_of tables
+schemas_set [] n table next there same = refl
+schemas_set (t ∷ tables) zero table next there same =
+    ap (λ (x : Schema). x ∷ schemas_of tables) (same ∙ ap (λ (u : Table). u.schema) (sym (same_Some t table there)))
+schemas_set (t ∷ tables) (suc n) table next there same = ap (λ (more : List Schema). t.schema ∷ more) (schemas_set tables n table next there same)
+
+pushed_schema : (table changed : Table) (cells : List Scalar) (result : Result ℕ (StoreError × List Scalar)) → Pushes table cells result changed
+    → changed.schema ≡ table.schema
+pushed_schema table changed cells (Ok number) pushes = ap (λ (u : Table). u.schema) pushes.2
+pushed_schema table changed cells (Err refused) pushes = ap (λ (u : Table). u.schema) pushes.2
+
+inserted_schemas : (old new : List Table) (t : ℕ) (cells : List Scalar) (result : Result ℕ (StoreError × List Scalar)) (o : Option Table) → slice_get old t ≡ o
+    → InsertsInto old t cells result new o → schemas_of new ≡ schemas_of old
+inserted_schemas old new t cells result None there inserts = ap schemas_of inserts.1
+inserted_schemas old new t cells result (Some table) there inserts =
+    ap schemas_of inserts.2 ∙ schemas_set old t table inserts.0 there (pushed_schema table inserts.0 cells result inserts.1)
+
+-- the definitions stay as they are over tables with one more row
+pub inserted_defined : (old new : List Table) (t : ℕ) (cells : List Scalar) (result : Result ℕ (StoreError × List Scalar)) (definitions : List Definition)
+    → Inserts old t cells result new → AreDefined (schemas_of old) definitions → AreDefined (schemas_of new) definitions
+inserted_defined old new t cells result definitions inserts defined =
+    subst (λ (schemas : List Schema). AreDefined schemas definitions) (sym (inserted_schemas old new t cells result (slice_get old t) refl inserts)) defined
+
+-- and over tables with other rows
+pub set_defined : (old new : List Table) (t : ℕ) (table next : Table) (definitions : List Definition) → slice_get old t ≡ Some table → next.schema ≡ table.schema
+    → new ≡ set old t next → AreDefined (schemas_of old) definitions → AreDefined (schemas_of new) definitions
+set_defined old new t table next definitions there same is defined =
+    subst (λ (schemas : List Schema). AreDefined schemas definitions) (sym (ap schemas_of is ∙ schemas_set old t table next there same)) defined
