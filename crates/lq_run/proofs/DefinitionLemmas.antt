@@ -1,18 +1,18 @@
 -- The definitions of a state, as an assignment and changes of its tables leave them.
-use Rattle.std.proofs.Common.{◌≡◌, ◌∙◌, ◌∷◌, ◌++◌, if◌then◌else◌, List, [], map, ℕ, zero, suc, Bool, true, false, Option, Some, None, IfSome, Result, Ok, Err, ap, sym, refl, subst, bytes_eq, option_and_then, option_map, set, slice_get}
+use Rattle.std.proofs.Common.{◌≡◌, ◌∙◌, ◌∷◌, ◌++◌, ◌<◌, if◌then◌else◌, arith, get_or, length, List, [], map, ℕ, zero, suc, Bool, true, false, Option, Some, None, IfSome, Result, Ok, Err, ap, sym, refl, subst, bytes_eq, option_and_then, option_map, set, slice_get}
 use Rattle.std.specs.List.{position_from}
-use Rattle.std.proofs.lemmas.Option.{none-some, same_Some}
+use Rattle.std.proofs.lemmas.Option.{get_or_from_slice_get, none-some, same_Some}
 use Rattle.lq_value.specs.Tables.{Table, first_named}
 use Rattle.lq_value.specs.declared.scalar.Scalar.{Scalar}
 use Rattle.lq_value.specs.declared.table.Schema.{Schema}
 use Rattle.lq_value.specs.declared.ty.Ty.{Ty, out-Ty}
-use Rattle.lq_store.specs.Calls.{Inserts, InsertsInto, Pushes}
+use Rattle.lq_store.specs.Calls.{Inserts, InsertsInto, Pushes, count_listed, without_rows}
 use Rattle.lq_store.specs.declared.error.StoreError.{StoreError}
 use Rattle.lq_model.specs.DefinitionLaws.{AreDefined, AreDefinedAfter, IsDefined, IsNew}
 use Rattle.lq_model.specs.Definitions.{definition_of, known_after, known_as, known_names}
 use Rattle.lq_model.specs.MeaningLaws.{IsScalarOf}
 use Rattle.lq_model.specs.States.{State, schemas_of}
-use Rattle.lq_model.specs.Statements.{renewed}
+use Rattle.lq_model.specs.Statements.{assigning, renewed}
 use Rattle.lq_model.specs.Typing.{SessionName}
 use Rattle.lq_model.specs.declared.session.Defined.{Defined}
 use Rattle.lq_model.specs.declared.session.Defined.TheVariants as of
@@ -72,38 +72,49 @@ module _ (name : List ℕ) where
             ∙ ap (λ (k : ℕ). set (x ∷ ds) k renewal) (same_Some 0 i h)
         by false same h rest = over (position_from named 0 ds) rest (sym (later named 0 ds) ∙ h)
 
+-- a place in a list is below its length
+within : {A : Type 0} (xs : List A) (k : ℕ) (x : A) → slice_get xs k ≡ Some x → k < length xs
+within [] k x is = absurd (none-some x is)
+within (y ∷ ys) zero x is = omega arith
+within (y ∷ ys) (suc k) x is = let less : k < length ys = within ys k x is in omega (arith, less)
+
 module _ (s : State) (defined : AreDefined (schemas_of s.tables) s.definitions) (name : List ℕ) (value : Scalar) where
-  -- the definition that is renewed is the variable's
-  variable_there : (t : Ty) (before : Scalar) → definition_of name s.definitions ≡ Some (record { name = name; defined = of.Variable t before }) → (i : ℕ) (d : Definition)
-      → first_named (λ d. d.name) name s.definitions ≡ Some i → slice_get s.definitions i ≡ Some d → d ≡ record { name = name; defined = of.Variable t before }
-  variable_there t before found i d at there =
-      same_Some d (record { name = name; defined = of.Variable t before })
-      (sym there ∙ sym (ap (option_and_then (slice_get s.definitions)) at) ∙ sym (definition_there name s.definitions) ∙ found)
+  -- the variable stands at the first place of its name
+  module _ (for : IsValueFor s.definitions name value) (i : ℕ) (at : first_named (λ d. d.name) name s.definitions ≡ Some i) where
+    abbrev before : Definition
+    before = record { name = name; defined = of.Variable for.0 for.1 }
 
-  renewed_there : (t : Ty) (before : Scalar) → definition_of name s.definitions ≡ Some (record { name = name; defined = of.Variable t before }) → (i : ℕ) (d : Definition)
-      → first_named (λ d. d.name) name s.definitions ≡ Some i → slice_get s.definitions i ≡ Some d
-      → set s.definitions i (with_value value d) ≡ map (renewed s name t value) s.definitions
-  renewed_there t before found i d at there =
-      ap (λ (e : Definition). set s.definitions i (with_value value e)) (variable_there t before found i d at there)
-      ∙ sym (in_place name t value s (schemas_of s.tables) [] s.definitions defined i at)
+    variable_there : slice_get s.definitions i ≡ Some (record { name = name; defined = of.Variable for.0 for.1 })
+    variable_there = sym (definition_there name s.definitions ∙ ap (option_and_then (slice_get s.definitions)) at) ∙ for.2
 
-  -- the variable of the name is renewed, and all else stays
-  pub assigns : (i : ℕ) (d : Definition) (definitions : List Definition) → first_named (λ d. d.name) name s.definitions ≡ Some i → slice_get s.definitions i ≡ Some d
-      → definitions ≡ set s.definitions i (with_value value d) → Assigns s name value (record s { definitions = definitions })
-  assigns i d definitions at there is t before found =
-      ap (λ (ds : List Definition). let new : State = record s { definitions = ds } in new) (is ∙ renewed_there t before found i d at there)
+    pub place_within : i < length s.definitions
+    place_within = within s.definitions i before variable_there
 
-  -- and the definitions are as `var` makes them
-  pub assigned_defined : IsValueFor s.definitions name value → (i : ℕ) (d : Definition) (definitions : List Definition)
-      → first_named (λ d. d.name) name s.definitions ≡ Some i → slice_get s.definitions i ≡ Some d → definitions ≡ set s.definitions i (with_value value d)
-      → AreDefined (schemas_of s.tables) definitions
-  assigned_defined for i d definitions at there is =
-      subst (λ (ds : List Definition). AreDefined (schemas_of s.tables) ds) (sym (is ∙ renewed_there for.0 for.1 for.2 i d at there))
-      (renewed_after name (schemas_of s.tables) for.0 value s [] s.definitions defined (record { name = name; defined = of.Variable for.0 for.1 }) for.1 for.2 refl for.3)
+    module _ (d : Definition) (read : d ≡ get_or s.definitions i d) (definitions : List Definition) (is : definitions ≡ set s.definitions i (with_value value d)) where
+      -- with its new value there, each of its name is renewed
+      renewed_there : definitions ≡ map (renewed s name for.0 value) s.definitions
+      renewed_there =
+          is
+          ∙ ap (λ (e : Definition). set s.definitions i (with_value value e)) (read ∙ get_or_from_slice_get s.definitions i before d variable_there)
+          ∙ sym (in_place name for.0 value s (schemas_of s.tables) [] s.definitions defined i at)
+
+      -- the variable of the name has its new value, and all else stays
+      pub assigns : Assigns s name value (record s { definitions = definitions })
+      assigns t old found =
+          let same : of.Variable for.0 for.1 ≡ of.Variable t old = ap (λ (e : Definition). e.defined) (same_Some before _ (sym for.2 ∙ found)) in
+          let typed : for.0 ≡ t = cc in
+          ap (λ (ds : List Definition). let new : State = record s { definitions = ds } in new) renewed_there
+          ∙ ap (λ (u : Ty). assigning s name u value) typed
+
+      -- and the definitions are as `var` makes them
+      pub assigned_defined : AreDefined (schemas_of s.tables) definitions
+      assigned_defined =
+          subst (λ (ds : List Definition). AreDefined (schemas_of s.tables) ds) (sym renewed_there)
+          (renewed_after name (schemas_of s.tables) for.0 value s [] s.definitions defined before for.1 for.2 refl for.3)
 
   -- a variable has a place
-  pub nowhere : (new : State) → first_named (λ d. d.name) name s.definitions ≡ None → Assigns s name value new
-  nowhere new at t before found =
+  pub nowhere : (after : State) → first_named (λ d. d.name) name s.definitions ≡ None → Assigns s name value after
+  nowhere after at t before found =
       absurd (none-some (record { name = name; defined = of.Variable t before })
       (sym (ap (option_and_then (slice_get s.definitions)) at) ∙ sym (definition_there name s.definitions) ∙ found))
 
@@ -152,7 +163,21 @@ inserted_defined old new t cells result definitions inserts defined =
     subst (λ (schemas : List Schema). AreDefined schemas definitions) (sym (inserted_schemas old new t cells result (slice_get old t) refl inserts)) defined
 
 -- and over tables with other rows
-pub set_defined : (old new : List Table) (t : ℕ) (table next : Table) (definitions : List Definition) → slice_get old t ≡ Some table → next.schema ≡ table.schema
+set_defined : (old new : List Table) (t : ℕ) (table next : Table) (definitions : List Definition) → slice_get old t ≡ Some table → next.schema ≡ table.schema
     → new ≡ set old t next → AreDefined (schemas_of old) definitions → AreDefined (schemas_of new) definitions
 set_defined old new t table next definitions there same is defined =
     subst (λ (schemas : List Schema). AreDefined schemas definitions) (sym (ap schemas_of is ∙ schemas_set old t table next there same)) defined
+
+table_there : (tables : List Table) (t : ℕ) → t < length tables → (table : Table) × (slice_get tables t ≡ Some table)
+table_there [] t below = absurd (omega (arith, below))
+table_there (x ∷ xs) zero below = (x, refl)
+table_there (x ∷ xs) (suc t) below = table_there xs t (omega (arith, below))
+
+pub removed_defined : (old new : List Table) (t : ℕ) (numbers : List ℕ) (count : ℕ) (definitions : List Definition) → t < length old
+    → IfSome (slice_get old t) (λ table. (count ≡ count_listed table numbers) × (new ≡ set old t (without_rows table numbers)))
+    → AreDefined (schemas_of old) definitions → AreDefined (schemas_of new) definitions
+removed_defined old new t numbers count definitions below removed defined =
+    let found = table_there old t below in
+    let given : (count ≡ count_listed found.0 numbers) × (new ≡ set old t (without_rows found.0 numbers)) =
+    subst (λ (o : Option Table). IfSome o (λ table. (count ≡ count_listed table numbers) × (new ≡ set old t (without_rows table numbers)))) found.1 removed in
+    set_defined old new t found.0 (without_rows found.0 numbers) definitions found.1 refl given.1 defined
