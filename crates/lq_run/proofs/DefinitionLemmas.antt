@@ -5,12 +5,11 @@ use Rattle.std.proofs.lemmas.Option.{get_or_from_slice_get, none-some, same_Some
 use Rattle.lq_value.specs.Tables.{Table, first_named}
 use Rattle.lq_value.specs.declared.scalar.Scalar.{Scalar}
 use Rattle.lq_value.specs.declared.table.Schema.{Schema}
-use Rattle.lq_value.specs.declared.ty.Ty.{Ty, out-Ty}
+use Rattle.lq_value.specs.declared.ty.Ty.{Ty}
 use Rattle.lq_store.specs.Calls.{Inserts, InsertsInto, Pushes, count_listed, without_rows}
 use Rattle.lq_store.specs.declared.error.StoreError.{StoreError}
 use Rattle.lq_model.specs.DefinitionLaws.{AreDefined, AreDefinedAfter, IsDefined, IsNew}
 use Rattle.lq_model.specs.Definitions.{definition_of, known_after, known_as, known_names}
-use Rattle.lq_model.specs.MeaningLaws.{IsScalarOf}
 use Rattle.lq_model.specs.States.{State, schemas_of}
 use Rattle.lq_model.specs.Statements.{assigning, renewed}
 use Rattle.lq_model.specs.Typing.{SessionName}

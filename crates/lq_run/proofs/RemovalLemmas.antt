@@ -3,8 +3,6 @@ use Rattle.std.proofs.Common.{◌≡◌, ◌∙◌, ◌∷◌, List, [], map, fi
 use Rattle.std.specs.declared.alloc.Global.{Global}
 use Rattle.std.proofs.lemmas.Option.{same_Some, slice_get-map}
 use Rattle.lq_value.specs.Tables.{Table}
-use Rattle.lq_value.specs.declared.table.Row.{Row}
-use Rattle.lq_value.specs.declared.table.Schema.{Schema}
 use Rattle.lq_value.specs.declared.ty.Ty.TheVariants as ty
 use Rattle.lq_value.specs.declared.value.End.{End}
 use Rattle.lq_value.specs.declared.value.End.TheVariants as end
@@ -16,7 +14,7 @@ use Rattle.lq_model.specs.ClauseTyping.{expression_type}
 use Rattle.lq_model.specs.Meaning.{World, bound, condition_at, on_scalar}
 use Rattle.lq_model.specs.MeaningLaws.{Every, HasCells, HaveTypes}
 use Rattle.lq_model.specs.Operations.{truth_of}
-use Rattle.lq_model.specs.States.{State, schemas_of, world_in}
+use Rattle.lq_model.specs.States.{State, schemas_of}
 use Rattle.lq_model.specs.Statements.{chosen, removable}
 use Rattle.lq_model.specs.Stream.{Stream, kept, where_by}
 use Rattle.lq_model.specs.Visible.{TableRow, visible_to}

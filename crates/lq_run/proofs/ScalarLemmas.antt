@@ -1,5 +1,5 @@
 -- The scalar that a tree gives is what the machine evaluates each expression to that is bound to the tree; and so are its faults.
-use Rattle.std.proofs.Common.{◌≡◌, ◌∙◌, ◌++◌, List, [], ℕ, Bool, true, Option, Some, None, Result, Ok, Err, ap, sym, refl, subst, codes, true≢false}
+use Rattle.std.proofs.Common.{◌≡◌, ◌∙◌, ◌++◌, List, [], ℕ, true, Option, Some, None, Result, Ok, Err, ap, sym, refl, subst, codes, true≢false}
 use Rattle.std.proofs.lemmas.Option.{none-some, same_Some}
 use Rattle.lq_value.specs.declared.scalar.Scalar.{Scalar}
 use Rattle.lq_value.specs.declared.ty.Ty.{Ty, out-Ty}
@@ -7,7 +7,6 @@ use Rattle.lq_value.specs.declared.ty.Ty.TheOpen.{Ty-F}
 use Rattle.lq_value.specs.declared.value.Fault.{Fault}
 use Rattle.lq_value.specs.declared.value.Value.{Value, out-Value}
 use Rattle.lq_value.specs.declared.value.Value.TheOpen.{Value-F}
-use Rattle.lq_value.specs.declared.value.Value.TheVariants as value
 use Rattle.lq_value.specs.declared.value.Value.TheVariants.{outs-Scalar}
 use Rattle.lq_model.specs.DefinitionLaws.{AreDefined}
 use Rattle.lq_model.specs.MeaningLaws.{IsScalarOf}

@@ -1,6 +1,5 @@
 -- What the trees of statements mean over the rows that a role sees: what their expressions mean to the machine.
 use Rattle.std.proofs.Common.{◌≡◌, ◌∙◌, ◌∷◌, List, [], ℕ, Some, Ok, ap, sym, refl, subst, slice_get}
-use Rattle.lq_value.specs.Tables.{Table}
 use Rattle.lq_value.specs.declared.table.Schema.{Schema}
 use Rattle.lq_value.specs.declared.ty.Ty.TheVariants as ty
 use Rattle.lq_value.specs.declared.ty.Ty.TheVariants.{outs-Row}
@@ -10,7 +9,7 @@ use Rattle.lq_value.specs.declared.value.Value.TheVariants as value
 use Rattle.lq_store.specs.Rules.{IsTable}
 use Rattle.lq_model.specs.DefinitionLaws.{AreDefined}
 use Rattle.lq_model.specs.Definitions.{with_session}
-use Rattle.lq_model.specs.Meaning.{Binding, Scope, World, bound}
+use Rattle.lq_model.specs.Meaning.{Binding, World, bound}
 use Rattle.lq_model.specs.MeaningLaws.{Every, HasCells, HoldsRows}
 use Rattle.lq_model.specs.Operators.{One}
 use Rattle.lq_model.specs.Served.{columns_in}

@@ -1,5 +1,5 @@
 -- What is told of the parts of statements in a state: the trees of their expressions, denials, scalars, and the rows that are removed.
-use Rattle.std.specs.Prelude.{◌≡◌, List, [], map, ℕ, Bool, true, false, Option, Some, None, Result, Ok, Err, IfOk, Vec, slice_get}
+use Rattle.std.specs.Prelude.{◌≡◌, List, [], map, ℕ, Bool, true, false, Option, Some, None, Result, IfOk, Vec, slice_get}
 use Rattle.std.specs.declared.alloc.AllocError.{AllocError}
 use Rattle.std.specs.declared.alloc.Global.{Global}
 use Rattle.serde_json.specs.Data.{Data}
@@ -10,7 +10,7 @@ use Rattle.lq_value.specs.declared.ty.Ty.TheOpen.{Ty-F}
 use Rattle.lq_value.specs.declared.ty.Ty.TheVariants as ty
 use Rattle.lq_value.specs.declared.value.End.{End}
 use Rattle.lq_value.specs.declared.value.Fault.{Fault}
-use Rattle.lq_value.specs.declared.value.Value.{Value, out-Value}
+use Rattle.lq_value.specs.declared.value.Value.{Value}
 use Rattle.lq_value.specs.declared.value.Value.TheOpen.{Value-F}
 use Rattle.lq_model.specs.MeaningLaws.{IsScalarOf}
 use Rattle.lq_model.specs.Rights.{Denied, denial}

@@ -17,7 +17,7 @@ fn numbers_of(alloc: Global, rows: &[SeenRow<'_>]) -> Result<Vec<u64>, AllocErro
 {
     let mut numbers = Vec::with_capacity(alloc, rows.len())?;
     for row in rows {
-        numbers.push(row.number())?;
+        numbers.push(row.row.number)?;
     }
     Ok(numbers)
 }

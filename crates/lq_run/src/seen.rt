@@ -12,8 +12,10 @@ use std::alloc::{AllocError, Global};
 /// A row that a role sees, with the number of its table.
 #[derive(Clone, Copy, Drop)]
 pub(crate) struct SeenRow<'a> {
-    table: u16,
-    row: &'a Row,
+    /// The number of its table.
+    pub(crate) table: u16,
+    /// The row.
+    pub(crate) row: &'a Row,
 }
 
 impl RowRef for SeenRow<'_> {
@@ -23,17 +25,6 @@ impl RowRef for SeenRow<'_> {
 
     fn cells(&self) -> &[Scalar] {
         self.row.cells.as_slice()
-    }
-}
-
-impl SeenRow<'_> {
-    ghost use Rattle.std.specs.Prelude.{◌≡◌};
-
-    /// The number of the row.
-    pub(crate) fn number(&self) -> u64
-        ensures { result ≡ self.now.row.now.number }
-    {
-        self.row.number
     }
 }
 
@@ -74,7 +65,9 @@ pub(crate) fn rows_for<'a>(
     ensures { IfOk result (λ rows. Some (map shown_row rows.items)
         ≡ option_map (λ t. visible_rows state.now action table t.rows) (slice_get state.now.tables table)) }
 {
-    let rules = state.policies().rules_for(alloc, state.role(), action, table)?;
+    let rules = state
+        .policies()
+        .rules_for(alloc, state.role(), action, table)?;
     admitted(alloc, &rules, table, state.store().rows(table))
 }
 

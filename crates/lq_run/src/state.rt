@@ -116,7 +116,11 @@ impl State {
     }
 
     /// Puts a row into a table, as `Store::insert` does, with its refusals.
-    pub fn insert(&mut self, table: u16, cells: Vec<Scalar>) -> Result<u64, (StoreError, Vec<Scalar>)>
+    pub fn insert(
+        &mut self,
+        table: u16,
+        cells: Vec<Scalar>,
+    ) -> Result<u64, (StoreError, Vec<Scalar>)>
         ensures tables { Inserts self.old.tables table cells.items (shown_pushed result) self.new.tables }
         ensures rest { self.new ≡ record self.old { tables = self.new.tables } }
     {

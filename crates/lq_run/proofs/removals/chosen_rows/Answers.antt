@@ -1,5 +1,5 @@
 -- The rows that are found are those that the machine chooses.
-use Rattle.std.proofs.Common.{◌≡◌, ◌∙◌, List, Some, ap, map, subst, sym}
+use Rattle.std.proofs.Common.{◌∙◌, List, Some, ap, map, subst, sym}
 use Rattle.lq_pipe.specs.declared.tables.TableRows.{TableRows}
 use Rattle.lq_run.specs.SeenRows.{AreSeen, shown_row}
 use Rattle.lq_run.specs.declared.seen.SeenRow.{SeenRow}

@@ -1,5 +1,5 @@
 -- A tree of the type of null is refused; of any other the first denial is told, or it is served where nothing of it is denied.
-use Rattle.std.proofs.Common.{◌≡◌, ◌∙◌, ◌++◌, List, Option, Some, None, ap, codes, subst, sym, true, false}
+use Rattle.std.proofs.Common.{◌≡◌, ◌∙◌, ◌++◌, List, Option, ap, codes, subst, true, false}
 use Rattle.std.proofs.lemmas.Result.{IfOk-weaker}
 use Rattle.lq_value.specs.Tables.{Table}
 use Rattle.lq_model.specs.States.{schemas_of}

@@ -1,5 +1,5 @@
 -- The variable is found by its name, and renewed in its place.
-use Rattle.std.proofs.Common.{◌≡◌, ◌∙◌, ◌<◌, Option, Some, None, ap, arith, length, set, subst, sym}
+use Rattle.std.proofs.Common.{◌∙◌, ◌<◌, ap, arith, length, set, subst, sym}
 use Rattle.lq_value.specs.Tables.{first_named}
 use Rattle.lq_model.specs.States.{State}
 use Rattle.lq_run.specs.States.{Assigns, IsValueFor}

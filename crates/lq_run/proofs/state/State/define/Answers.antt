@@ -1,4 +1,4 @@
-use Rattle.std.proofs.Common.{◌≡◌, subst, sym}
+use Rattle.std.proofs.Common.{subst, sym}
 use Rattle.lq_model.specs.DefinitionLaws.{IsDefined, IsNew}
 use Rattle.lq_model.specs.Definitions.{known_names}
 use Rattle.lq_model.specs.States.{State, schemas_of}
