@@ -100,7 +100,7 @@ module _ (old : State) where
           first_of (is_scalar layer) (evaluated old e (λ s. (defined_data name, defining_also old name (of.Variable t s)))) (refused old (codes "type")) so
 
       module _ (scalar : is_scalar (out-Ty t) ≡ true) where
-        evaluates : defined old name opened e ≡ evaluated old e (λ s. (defined_data name, defining_also old name (of.Variable t s)))
+        pub evaluates : defined old name opened e ≡ evaluated old e (λ s. (defined_data name, defining_also old name (of.Variable t s)))
         evaluates = typed_as (Some t) free is ∙ scalar_layer (out-Ty t) scalar
 
         pub defined_denied : (d : Denied) → denial old.policies old.role (expression_uses e (names_in old)) ≡ Some d → defined old name opened e ≡ denied d
@@ -142,7 +142,7 @@ module _ (old : State) where
           assigned_other isnt = assigned_typed (Some u) is ∙ second_of (converts u t) _ _ isnt
 
           module _ (place : converts u t ≡ true) where
-            assigns : assigned old name e ≡ evaluated old e (λ s. (assigned_data name, assigning old name t s))
+            pub assigns : assigned old name e ≡ evaluated old e (λ s. (assigned_data name, assigning old name t s))
             assigns = assigned_typed (Some u) is ∙ first_of (converts u t) _ _ place
 
             pub assigned_denied : (by : Denied) → denial old.policies old.role (expression_uses e (names_in old)) ≡ Some by → assigned old name e ≡ denied by
