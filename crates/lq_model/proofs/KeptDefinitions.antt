@@ -51,7 +51,7 @@ use Rattle.lq_model.proofs.ValuesOfTypes.{is_plain, plain_value}
 -- ---- names
 
 -- what is known of a definition has its name
-known_name : (schemas : List Schema) (earlier : List SessionName) (name : List ℕ) (defined : Defined) → (known_as schemas earlier name defined).name ≡ name
+pub known_name : (schemas : List Schema) (earlier : List SessionName) (name : List ℕ) (defined : Defined) → (known_as schemas earlier name defined).name ≡ name
 known_name schemas earlier name (of.Variable t s) = refl
 known_name schemas earlier name (of.Query e opened) = refl
 
@@ -169,26 +169,12 @@ module _ (name : List ℕ) where
 
 -- ---- one more definition
 
-defined_behind : (schemas : List Schema) (earlier : List SessionName) (ds : List Definition) (d : Definition) → AreDefinedAfter schemas earlier ds
+pub defined_behind : (schemas : List Schema) (earlier : List SessionName) (ds : List Definition) (d : Definition) → AreDefinedAfter schemas earlier ds
     → IsDefined schemas (known_after schemas earlier ds) d.defined → IsNew schemas (known_after schemas earlier ds) d.name
     → AreDefinedAfter schemas earlier (ds ++ d ∷ [])
 defined_behind schemas earlier [] d all is new = (is, tt, new)
 defined_behind schemas earlier (x ∷ ds) d all is new =
     (all.0, defined_behind schemas (earlier ++ known_as schemas earlier x.name x.defined ∷ []) ds d all.1 is new, all.2)
-
-module _ (old : State) (all : AreDefined (schemas_of old.tables) old.definitions) where
-  -- one more behind those of a state, whose name isn't taken
-  pub also_kept : (name : List ℕ) (new : Defined) → is_taken old name ≡ false → IsDefined (schemas_of old.tables) (known_names (schemas_of old.tables) old.definitions) new
-      → AreDefined (schemas_of old.tables) (old.definitions ++ (record { name = name; defined = new }) ∷ [])
-  unfolding known_names
-  also_kept name new free is =
-      defined_behind (schemas_of old.tables) [] old.definitions (record { name = name; defined = new }) all is (by (table_number name (schemas_of old.tables)) (definition_of name old.definitions) refl refl free)
-    where
-      by : (o : Option ℕ) (p : Option Definition) → table_number name (schemas_of old.tables) ≡ o → definition_of name old.definitions ≡ p → (is_some o || is_some p) ≡ false
-          → IsNew (schemas_of old.tables) (known_after (schemas_of old.tables) [] old.definitions) name
-      by None None table definition h = (table, unknown_name name (schemas_of old.tables) [] old.definitions refl definition)
-      by None (Some d) table definition h = absurd (true≢false h)
-      by (Some n) p table definition h = absurd (true≢false h)
 
 -- ---- types that a scalar's value has
 
@@ -357,16 +343,28 @@ module _ (old : State) (typed : Every IsTypedTable old.tables) (all : AreDefined
 
   -- ---- `var`
 
+  also_kept : (name : List ℕ) (new : Defined) → is_taken old name ≡ false → IsDefined (schemas_of old.tables) (known_names (schemas_of old.tables) old.definitions) new
+      → AreDefined (schemas_of old.tables) (old.definitions ++ (record { name = name; defined = new }) ∷ [])
+  unfolding known_names
+  also_kept name new free is =
+      defined_behind (schemas_of old.tables) [] old.definitions (record { name = name; defined = new }) all is (by (table_number name (schemas_of old.tables)) (definition_of name old.definitions) refl refl free)
+    where
+      by : (o : Option ℕ) (p : Option Definition) → table_number name (schemas_of old.tables) ≡ o → definition_of name old.definitions ≡ p → (is_some o || is_some p) ≡ false
+          → IsNew (schemas_of old.tables) (known_after (schemas_of old.tables) [] old.definitions) name
+      by None None table definition h = (table, unknown_name name (schemas_of old.tables) [] old.definitions refl definition)
+      by None (Some d) table definition h = absurd (true≢false h)
+      by (Some n) p table definition h = absurd (true≢false h)
+
   as_kept : (name : List ℕ) (opened : Opened) (e : Expr) (t : Ty) (layer : Ty-F Ty) → is_taken old name ≡ false → expression_type e (names_in old) ≡ Some t → out-Ty t ≡ layer
       → IsKept (defined_as old name opened e t layer)
-  as_kept name opened e t (Ty-F.Seq item) free is at = also_kept old all name (of.Query e opened) free (item, is ∙ ap Some (is_of_layer t ∙ ap type_with at))
+  as_kept name opened e t (Ty-F.Seq item) free is at = also_kept name (of.Query e opened) free (item, is ∙ ap Some (is_of_layer t ∙ ap type_with at))
   as_kept name opened e t layer free is at = by (is_scalar layer) refl where
     by : (b : Bool) → is_scalar layer ≡ b
         → IsKept (if b then evaluated old e (λ s. (defined_data name, defining_also old name (of.Variable t s))) else refused old (codes "type"))
     by true scalar_so =
         let so : is_scalar (out-Ty t) ≡ true = ap is_scalar at ∙ scalar_so in
         evaluated_kept e t is (scalar_plain (out-Ty t) so) (λ s. (defined_data name, defining_also old name (of.Variable t s)))
-        (λ s fits. also_kept old all name (of.Variable t s) free (so, fits))
+        (λ s fits. also_kept name (of.Variable t s) free (so, fits))
     by false other = all
 
   by_kept : (name : List ℕ) (opened : Opened) (e : Expr) (o : Option Ty) → is_taken old name ≡ false → expression_type e (names_in old) ≡ o
