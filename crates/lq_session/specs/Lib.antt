@@ -1,2 +1,4 @@
+pub mod Openings
+pub mod Performed
 pub mod States
 pub mod StoredMeanings

@@ -1,0 +1,31 @@
+-- What is told of rows that are put into a table and of those that are removed.
+use Rattle.std.specs.Prelude.{◌≡◌, List, ℕ, Option, Some, None, Result, slice_get}
+use Rattle.std.specs.declared.alloc.AllocError.{AllocError}
+use Rattle.lq_value.specs.Tables.{Table}
+use Rattle.lq_value.specs.declared.scalar.Scalar.{Scalar}
+use Rattle.lq_model.specs.Served.{denied_data, inserted_data, line_of}
+use Rattle.lq_model.specs.States.{State, schemas_of}
+use Rattle.lq_model.specs.Statements.{chosen, rows_removed, with_row, with_table}
+use Rattle.lq_model.specs.Visible.{refuser_of}
+use Rattle.lq_model.specs.declared.rights.Use.TheVariants as used
+use Rattle.lq_model.specs.declared.syntax.Expr.{Expr}
+use Rattle.lq_run.specs.Statements.{condition_in}
+use Rattle.lq_tree.specs.declared.tree.Tree.{Tree}
+use Rattle.lq_session.specs.Performed.{Performs}
+
+-- the line of the rule that refuses a new row, if one does
+abbrev pub TellsRefuser : State → ℕ → List Scalar → Option (List ℕ) → Type 0
+TellsRefuser s n cells None = refuser_of s.policies s.role n cells ≡ None
+TellsRefuser s n cells (Some line) =
+    (rule : List ℕ) × (refuser_of s.policies s.role n cells ≡ Some rule) × (line ≡ line_of (denied_data (schemas_of s.tables) rule (used.Insert n)))
+
+-- the table has one row more
+abbrev pub PutsRow : State → ℕ → List Scalar → Result (List ℕ) AllocError → State → Type 0
+PutsRow old n cells result new =
+    (table : Table) → slice_get old.tables n ≡ Some table → Performs (inserted_data, with_table old n (with_row old table cells)) old result new
+
+-- the rows on which a condition of this tree is true are removed, if it meets no fault
+abbrev pub RemovesRows : State → ℕ → Tree → Result (List ℕ) AllocError → State → Type 0
+RemovesRows old n tree result new =
+    (x : List ℕ) (e : Expr) (table : Table) → slice_get old.tables n ≡ Some table → condition_in old x n e ≡ Some tree
+    → Performs (rows_removed old n table (chosen old x e n table.rows).0 (chosen old x e n table.rows).1) old result new
