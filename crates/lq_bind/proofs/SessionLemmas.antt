@@ -1,5 +1,5 @@
 -- What the names of a session stand for: each name that is found, by the definition that it was found at and those before it.
-use Rattle.std.proofs.Common.{◌≡◌, ◌∷◌, ◌++◌, ◌+◌, if◌then◌else◌, List, [], map, ℕ, suc, take, slice_get, Bool, true, false, Option, Some, None, ap, ap₂, ◌∙◌, refl, sym, option_and_then, option_map}
+use Rattle.std.proofs.Common.{◌≡◌, ◌∷◌, ◌++◌, ◌+◌, if◌then◌else◌, List, [], map, ℕ, suc, take, slice_get, Bool, true, false, Option, Some, None, ap, ap₂, arith, ◌∙◌, refl, sym, option_and_then, option_map}
 use Rattle.std.specs.List.{position_from}
 use Rattle.std.specs.Str.{bytes_eq}
 use Rattle.lq_value.specs.Tables.{first_named}
@@ -22,7 +22,7 @@ use Rattle.lq_tree.specs.declared.tree.Form.{Form}
 use Rattle.lq_tree.specs.declared.tree.Tree.{Tree}
 use Rattle.lq_tree.proofs.TermTypes.{types_same}
 use Rattle.lq_tree.proofs.TypeLemmas.{type_found}
-use Rattle.lq_bind.specs.Bound.{defined_tree, opened_tree, session_tree, tree_or_null}
+use Rattle.lq_bind.specs.Bound.{defined_before, defined_tree, opened_tree, session_tree, tree_or_null}
 
 -- the first of a list's rest
 position_later : {A : Type 0} (test : A → Bool) (n : ℕ) (xs : List A) → position_from test (n + 1) xs ≡ option_map suc (position_from test n xs)
@@ -30,7 +30,7 @@ position_later test n [] = refl
 position_later test n (x ∷ xs) = at (test x) (position_later test (n + 1) xs) where
   at : (b : Bool) → position_from test (n + 1 + 1) xs ≡ option_map suc (position_from test (n + 1) xs)
       → (if b then Some (n + 1) else position_from test (n + 1 + 1) xs) ≡ option_map suc (if b then Some n else position_from test (n + 1) xs)
-  at true e = refl
+  at true e = let next : n + 1 ≡ suc n = omega arith in ap Some next
   at false e = e
 
 module _ (schemas : List Schema) where
@@ -68,7 +68,7 @@ module _ (schemas : List Schema) where
   -- ---- where a name is found
 
   -- the places of definitions behind others
-  places_behind : List SessionPlace → List Definition → List SessionPlace
+  abbrev places_behind : List SessionPlace → List Definition → List SessionPlace
   places_behind earlier [] = []
   places_behind earlier (d ∷ ds) = placed_as schemas earlier d ∷ places_behind (earlier ++ placed_as schemas earlier d ∷ []) ds
 
@@ -117,12 +117,37 @@ module _ (schemas : List Schema) where
         ∙ ap (option_and_then (tree_at_number earlier (d ∷ ds) depth)) (sym (position_later (is_named name) 0 ds))
 
   -- a name of the session stands for what its first definition does, behind those before it
-  pub name_placed : (name : List ℕ) (ds : List Definition) (depth : ℕ)
+  abbrev found_tree : ℕ → List Definition × Definition → Tree
+  found_tree depth found = defined_tree schemas (session_places schemas found.0) found.1.defined depth
+
+  beside : (ds : List Definition) (depth : ℕ) (o : Option ℕ)
+      → option_and_then (λ i. option_map (λ (d : Definition). defined_tree schemas (session_places schemas (take i ds)) d.defined depth) (slice_get ds i)) o
+      ≡ option_map (found_tree depth) (option_and_then (λ i. option_map (λ (d : Definition). (take i ds, d)) (slice_get ds i)) o)
+  beside ds depth None = refl
+  beside ds depth (Some i) = at (slice_get ds i) where
+    at : (o : Option Definition) → option_map (λ d. defined_tree schemas (session_places schemas (take i ds)) d.defined depth) o
+        ≡ option_map (found_tree depth) (option_map (λ (d : Definition). (take i ds, d)) o)
+    at None = refl
+    at (Some d) = refl
+
+  numbered : (name : List ℕ) (ds : List Definition) (depth : ℕ)
       → session_tree (session_places schemas ds) name depth
-      ≡ option_and_then (λ i. option_map (λ d. defined_tree schemas (session_places schemas (take i ds)) d.defined depth) (slice_get ds i))
-      (first_named (λ d. d.name) name ds)
+      ≡ option_and_then (λ i. option_map (λ (d : Definition). defined_tree schemas (session_places schemas (take i ds)) d.defined depth) (slice_get ds i))
+      (first_named (λ (d : Definition). d.name) name ds)
   unfolding session_places
-  name_placed name ds depth =
+  numbered name ds depth =
       ap (λ (places : List SessionPlace). option_map (tree_of_place depth) (session_place name places)) (after_is_behind [] ds) ∙ found_behind [] name ds depth
 
-pub ruleset places = (name_placed)
+  placed : (name : List ℕ) (ds : List Definition) (depth : ℕ)
+      → session_tree (session_places schemas ds) name depth ≡ option_map (found_tree depth) (defined_before name ds)
+  placed name ds depth = numbered name ds depth ∙ beside ds depth (first_named (λ d. d.name) name ds)
+
+  pub name_missing : (name : List ℕ) (ds : List Definition) (depth : ℕ) → None ≡ defined_before name ds → None ≡ session_tree (session_places schemas ds) name depth
+  name_missing name ds depth e = ap (option_map (found_tree depth)) e ∙ sym (placed name ds depth)
+
+  pub name_placed : (name : List ℕ) (ds earlier : List Definition) (d : Definition) (depth : ℕ)
+      → ◌≡◌ {A = Option (List Definition × Definition)} (Some (earlier, d)) (defined_before name ds)
+      → Some (defined_tree schemas (session_places schemas earlier) d.defined depth) ≡ session_tree (session_places schemas ds) name depth
+  name_placed name ds earlier d depth e = ap (option_map (found_tree depth)) e ∙ sym (placed name ds depth)
+
+pub ruleset places = (name_missing, name_placed)

@@ -1,6 +1,6 @@
 -- The trees that the terms in a statement are bound to, over the tables of a store and the names of a session.
-use Rattle.std.specs.Prelude.{List, ℕ, Option, Some, None, option_and_then, option_map}
-use Rattle.lq_value.specs.Tables.{Table}
+use Rattle.std.specs.Prelude.{List, ℕ, Option, Some, None, take, slice_get, option_and_then, option_map}
+use Rattle.lq_value.specs.Tables.{Table, first_named}
 use Rattle.lq_value.specs.declared.scalar.Scalar.{Scalar}
 use Rattle.lq_value.specs.declared.scalar.Scalar.TheVariants as scalar
 use Rattle.lq_value.specs.declared.table.Schema.{Schema}
@@ -54,6 +54,11 @@ session_tree session name depth = option_map (λ place. tree_of place.known.ty (
 abbrev pub tree_or_null : Option Tree → Tree
 tree_or_null None = literal_tree ty.Null scalar.Null
 tree_or_null (Some tree) = tree
+
+-- the definition of a name, and those before it
+abbrev pub defined_before : List ℕ → List Definition → Option (List Definition × Definition)
+defined_before name definitions =
+    option_and_then (λ i. option_map (λ d. (take i definitions, d)) (slice_get definitions i)) (first_named (λ d. d.name) name definitions)
 
 -- the tree of a named query's expression, which sees these names of the session and no local name
 abbrev pub opened_tree : List Schema → List SessionPlace → Expr → ℕ → Tree

@@ -1,7 +1,8 @@
 //! The binding of names: local names, tables, and the variables and named queries of a session
 //! (ECMA-334, simple names).
-ghost use Rattle.std.specs.Prelude.{◌≡◌, ◌≤◌, length, take};
+ghost use Rattle.std.specs.Prelude.{◌≡◌, ◌≤◌, length, option_map, take};
 ghost use Rattle.lq_value.specs.Tables.{first_named};
+ghost use Rattle.lq_bind.specs.Bound.{defined_before};
 
 use crate::binder::Binder;
 use crate::frames::Frame;
@@ -26,6 +27,18 @@ fn before(known: &[Definition], place: usize) -> &[Definition]
     ensures { result.now ≡ take place known.now }
 {
     &known[..place]
+}
+
+/// The definition of this name, and those before it.
+fn definition_of<'a>(
+    known: &'a [Definition],
+    name: &str,
+) -> Option<(&'a [Definition], &'a Definition)>
+    ensures { option_map (λ found. (found.0.now, found.1.now)) result ≡ defined_before name.now known.now }
+{
+    let place = place_of(known, name)?;
+    let definition = known.get(place)?;
+    Some((before(known, place), definition))
 }
 
 impl Binder<'_> {
@@ -67,20 +80,17 @@ impl Binder<'_> {
 
     /// What a name of the session stands for.
     #[cycle(binding)]
-    #[tactic(auto, using(crate::proofs::SessionLemmas::places))]
+    #[tactic(auto, using(crate::proofs::SessionLemmas::places, crate::proofs::Weights::weights))]
     fn session_name(&self, name: &str, frame: &Frame<'_>) -> Result<Option<Tree>, AllocError>
         ensures { IfOk result (λ found. found ≡ session_tree (session_in self.now) name.now (places_in frame.now).depth) }
     {
-        let Some(place) = place_of(self.known, name) else {
-            return Ok(None);
-        };
-        let Some(definition) = self.known.get(place) else {
+        let Some((known, definition)) = definition_of(self.known, name) else {
             return Ok(None);
         };
         let earlier = Binder {
             alloc: self.alloc,
             store: self.store,
-            known: before(self.known, place),
+            known,
         };
         Ok(Some(earlier.defined(&definition.defined, frame)?))
     }
