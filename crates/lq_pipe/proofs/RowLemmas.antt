@@ -30,4 +30,4 @@ module _ {A : Type 0} (holds : A → Result Bool Fault) (rows : List A) where
   pub rows_ended : (found : List A) (i : ℕ) → length rows ≤ i → Keeps found i → (found, end.Done) ≡ all
   rows_ended found i over keeps = each_ends (λ y. kept (holds y) y) rows end.Done all found i over keeps
 
-pub ruleset keeps_rows = (row_kept, row_dropped, rows_stopped, rows_ended)
+pub ruleset keeps_rows = (row_kept, row_dropped, rows_ended)

@@ -16,7 +16,6 @@ impl<'a, R: TableRow> Running<'a, R> {
     ghost use Rattle.lq_pipe.specs.Worlds.{world_of};
 
     /// Whether a condition is true on a row, which stands in its first slot.
-    #[tactic(auto, using(crate::proofs::SlotLemmas::no_values))]
     fn holds_on(&self, condition: &Form, row: &R) -> Result<Result<bool, Fault>, AllocError>
         ensures { IfOk result (λ found. found ≡ holds_on (world_of R.table_of R.shown self.now.tables.now) condition.now row.now) }
     {

@@ -1,4 +1,3 @@
-use Rattle.std.proofs.Common.{◌≡◌}
 use Rattle.lq_pipe.specs.Conditions.{holds_on}
 use Rattle.lq_pipe.specs.Worlds.{world_of}
 use Rattle.lq_pipe.proofs.RowLemmas.{Keeps}
