@@ -9,23 +9,18 @@ use Rattle.lq_value.specs.declared.ty.Ty.{Ty}
 use Rattle.lq_store.specs.Calls.{Inserts, InsertsInto, Pushes, count_listed, without_rows}
 use Rattle.lq_store.specs.declared.error.StoreError.{StoreError}
 use Rattle.lq_model.specs.DefinitionLaws.{AreDefined, AreDefinedAfter, IsDefined, IsNew}
-use Rattle.lq_model.specs.Definitions.{definition_of, known_after, known_as, known_names}
+use Rattle.lq_model.specs.Definitions.{definition_of, known_as, known_names}
 use Rattle.lq_model.specs.States.{State, schemas_of}
 use Rattle.lq_model.specs.Statements.{assigning, renewed}
 use Rattle.lq_model.specs.Typing.{SessionName}
-use Rattle.lq_model.specs.declared.session.Defined.{Defined}
 use Rattle.lq_model.specs.declared.session.Defined.TheVariants as of
 use Rattle.lq_model.specs.declared.session.Definition.{Definition}
-use Rattle.lq_model.proofs.KeptDefinitions.{known_now, others_stay, renewed_after}
+use Rattle.lq_model.proofs.KeptDefinitions.{defined_behind, known_name, known_now, others_stay, renewed_after}
 use Rattle.lq_tree.proofs.TypeLemmas.{later}
 use Rattle.lq_run.specs.States.{Assigns, IsValueFor, with_value}
+use Rattle.lq_run.proofs.TableLemmas.{within}
 
 -- ---- assignments
-
--- what is known of a definition has its name
-known_name : (schemas : List Schema) (earlier : List SessionName) (name : List ℕ) (defined : Defined) → (known_as schemas earlier name defined).name ≡ name
-known_name schemas earlier name (of.Variable t s) = refl
-known_name schemas earlier name (of.Query e opened) = refl
 
 module _ (name : List ℕ) where
   abbrev named : Definition → Bool
@@ -71,12 +66,6 @@ module _ (name : List ℕ) where
             ∙ ap (λ (k : ℕ). set (x ∷ ds) k renewal) (same_Some 0 i h)
         by false same h rest = over (position_from named 0 ds) rest (sym (later named 0 ds) ∙ h)
 
--- a place in a list is below its length
-within : {A : Type 0} (xs : List A) (k : ℕ) (x : A) → slice_get xs k ≡ Some x → k < length xs
-within [] k x is = absurd (none-some x is)
-within (y ∷ ys) zero x is = omega arith
-within (y ∷ ys) (suc k) x is = let less : k < length ys = within ys k x is in omega (arith, less)
-
 module _ (s : State) (defined : AreDefined (schemas_of s.tables) s.definitions) (name : List ℕ) (value : Scalar) where
   -- the variable stands at the first place of its name
   module _ (for : IsValueFor s.definitions name value) (i : ℕ) (at : first_named (λ d. d.name) name s.definitions ≡ Some i) where
@@ -118,13 +107,6 @@ module _ (s : State) (defined : AreDefined (schemas_of s.tables) s.definitions) 
       (sym (ap (option_and_then (slice_get s.definitions)) at) ∙ sym (definition_there name s.definitions) ∙ found))
 
 -- ---- one more definition
-
-defined_behind : (schemas : List Schema) (earlier : List SessionName) (ds : List Definition) (d : Definition) → AreDefinedAfter schemas earlier ds
-    → IsDefined schemas (known_after schemas earlier ds) d.defined → IsNew schemas (known_after schemas earlier ds) d.name
-    → AreDefinedAfter schemas earlier (ds ++ d ∷ [])
-defined_behind schemas earlier [] d all is new = (is, tt, new)
-defined_behind schemas earlier (x ∷ ds) d all is new =
-    (all.0, defined_behind schemas (earlier ++ known_as schemas earlier x.name x.defined ∷ []) ds d all.1 is new, all.2)
 
 -- a definition under a new name, behind others
 pub also_defined : (schemas : List Schema) (ds definitions : List Definition) (d : Definition) → AreDefined schemas ds

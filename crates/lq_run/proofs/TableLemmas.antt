@@ -48,7 +48,7 @@ kept_more n store kept at k lt = by (below_or_at n k lt) where
   by (inr same) = subst (λ m. IfSome (slice_get store m) IsTable) (sym same) at
 
 -- a place in a list is below its length
-within : {A : Type 0} (xs : List A) (k : ℕ) (x : A) → slice_get xs k ≡ Some x → k < length xs
+pub within : {A : Type 0} (xs : List A) (k : ℕ) (x : A) → slice_get xs k ≡ Some x → k < length xs
 within [] k x is = absurd (none-some x is)
 within (y ∷ ys) zero x is = omega (arith)
 within (y ∷ ys) (suc k) x is = let less : k < length ys = within ys k x is in omega (arith, less)

@@ -1,9 +1,9 @@
 //! The answer to `run`.
-ghost use Rattle.std.specs.Prelude.{◌≡◌, codes, false, IfOk};
+ghost use Rattle.std.specs.Prelude.{◌≡◌, false, IfOk};
 ghost use Rattle.lq_model.specs.Opening.{is_past_opening};
-ghost use Rattle.lq_model.specs.Served.{error_data, line_of};
-ghost use Rattle.lq_run.specs.Replies.{AnswersTree, ServesTree, run_line};
-ghost use Rattle.lq_run.specs.Statements.{tree_in};
+ghost use Rattle.lq_model.specs.Served.{line_of};
+ghost use Rattle.lq_model.specs.Serving.{run_in};
+ghost use Rattle.lq_run.specs.Replies.{AnswersTree, ServesTree};
 
 use crate::denials::denied;
 use crate::reply::{refusal, tree_line};
@@ -52,7 +52,7 @@ pub fn run_line(
     state: &State,
 ) -> Result<Line, AllocError>
     requires { is_past_opening opened ≡ false }
-    ensures { IfOk result (λ line. line ≡ run_line state.now expr.now) }
+    ensures { IfOk result (λ line. line ≡ line_of (run_in state.now expr.now)) }
 {
     match tree_of(alloc, expr, opened, state)? {
         Some(tree) => answer_line(alloc, &tree, state),
