@@ -2,7 +2,6 @@
 use Rattle.std.specs.Prelude.{List, ℕ, Option, Some, None, take, slice_get, option_and_then, option_map}
 use Rattle.lq_value.specs.Tables.{Table, first_named}
 use Rattle.lq_value.specs.declared.scalar.Scalar.{Scalar}
-use Rattle.lq_value.specs.declared.scalar.Scalar.TheVariants as scalar
 use Rattle.lq_value.specs.declared.table.Schema.{Schema}
 use Rattle.lq_value.specs.declared.ty.Ty.{Ty}
 use Rattle.lq_value.specs.declared.ty.Ty.TheVariants as ty
@@ -18,7 +17,7 @@ use Rattle.lq_model.specs.declared.syntax.Join.{Join}
 use Rattle.lq_translate.specs.Translated.{translated}
 use Rattle.lq_tree.specs.Binding.{Binds, if_fresh, join_keys, source_tree, term_tree, tree_of}
 use Rattle.lq_tree.specs.Places.{Places, SessionPlace, session_place, with_item}
-use Rattle.lq_tree.specs.SessionPlaces.{places_outside, session_places}
+use Rattle.lq_tree.specs.SessionPlaces.{places_outside, session_places, tree_or_null}
 use Rattle.lq_tree.specs.declared.tree.Form.{Form}
 use Rattle.lq_tree.specs.declared.tree.Form.TheVariants as form
 use Rattle.lq_tree.specs.declared.tree.Tree.{Tree}
@@ -49,11 +48,6 @@ rows_tree n = tree_of (ty.Seq (ty.Row n)) (form.Table n)
 -- what a name of the session stands for where so many slots are in use
 abbrev pub session_tree : List SessionPlace → List ℕ → ℕ → Option Tree
 session_tree session name depth = option_map (λ place. tree_of place.known.ty (place.form depth)) (session_place name session)
-
--- a tree; null, where there is none
-abbrev pub tree_or_null : Option Tree → Tree
-tree_or_null None = literal_tree ty.Null scalar.Null
-tree_or_null (Some tree) = tree
 
 -- the definition of a name, and those before it
 abbrev pub defined_before : List ℕ → List Definition → Option (List Definition × Definition)

@@ -1,11 +1,10 @@
 -- The places that a frame stands for, and what the variables of an item stand for.
 use Rattle.std.specs.Prelude.{◌||◌, [], List, ℕ, Bool, Option, option_map}
 use Rattle.std.specs.Str.{bytes_eq}
-use Rattle.lq_value.specs.declared.ty.Ty.{Ty}
 use Rattle.lq_model.specs.Operators.{Pattern, One, With}
 use Rattle.lq_model.specs.Types.{is_fresh}
 use Rattle.lq_tree.specs.Binding.{Stage, stage_of, tree_of}
-use Rattle.lq_tree.specs.Places.{Place, Places, SessionPlace, names_of_places, place_of, with_item, with_name}
+use Rattle.lq_tree.specs.Places.{Place, Places, SessionPlace, names_of_places, with_item, with_name}
 use Rattle.lq_tree.specs.SessionPlaces.{places_outside}
 use Rattle.lq_tree.specs.declared.tree.Tree.{Tree}
 use Rattle.lq_bind.specs.declared.frames.Frame.{Frame, fold-Frame}
