@@ -1,3 +1,3 @@
+pub mod OpeningLemmas
 pub mod StepLemmas
 pub mod StoredLemmas
-pub mod OpeningLemmas

@@ -17,7 +17,7 @@ use crate::opening::definition_of;
 use crate::replies::reply;
 use lq_json::{Line, Reply};
 use lq_model::{Defined, Expr, Opened};
-use lq_run::{Evaluated, State, evaluated, refusal, tree_of};
+use lq_run::{Evaluated, State, evaluate, refusal, tree_of};
 use lq_tree::ty;
 use lq_typing::converts;
 use lq_value::{Scalar, Ty, Txt};
@@ -68,7 +68,7 @@ pub(crate) fn define(
     };
     match ty(&tree) {
         Ty::Seq(_) => define_name(alloc, name, Defined::Query(expr, opened), state),
-        Ty::Int | Ty::IntN | Ty::Bool | Ty::Str => match evaluated(alloc, &tree, state)? {
+        Ty::Int | Ty::IntN | Ty::Bool | Ty::Str => match evaluate(alloc, &tree, state)? {
             Evaluated::Value(value) => {
                 let variable = Defined::Variable(tree.ty, value);
                 define_name(alloc, name, variable, state)
@@ -126,7 +126,7 @@ pub(crate) fn assign(
     if !converts(ty(&tree), place) {
         return refusal(alloc, "type");
     }
-    match evaluated(alloc, &tree, state)? {
+    match evaluate(alloc, &tree, state)? {
         Evaluated::Value(value) => assign_value(alloc, name, value, state),
         Evaluated::Told(line) => Ok(line),
     }
