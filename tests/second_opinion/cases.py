@@ -15,8 +15,12 @@ import right_examples
 import right_lines
 import scalars
 import sentences
+import session_examples
+import session_files
+import session_scripts
 import statements
-from tables import MARK
+from policies import policies_of
+from tables import MARK, table_of
 
 FIRST_OF_SENTENCES = 4300
 FIRST_OF_SCALARS = 4600
@@ -25,7 +29,11 @@ FIRST_OF_POLICIES = 4720
 FIRST_OF_COMPANY = 6020
 FIRST_OF_QUERIES = FIRST_OF_COMPANY + len(company_examples.by_file())
 FIRST_OF_RIGHTS = 6820
-CASES = 7120
+# Known sessions, and then sessions by chance.
+FIRST_OF_KNOWN_SESSIONS = 7120
+FIRST_OF_SESSIONS = FIRST_OF_KNOWN_SESSIONS + len(session_examples.KNOWN)
+SESSIONS = 600
+CASES = FIRST_OF_SESSIONS + SESSIONS
 LINES_OF_QUERIES = 20
 NO_UTF8 = [
     b"\x80", b"\xff", b"\xc3", b"\xc0\x80", b"\xe2\x82", b"\xed\xa0\x80", b"\xf4\x90\x80\x80", b"\xf0\x9f\x98", b"\xef\xbb",
@@ -224,10 +232,18 @@ def chosen_role(dice, roles):
     return dice.choice(roles) if dice.random() < 0.97 else dice.choice(["zed", "public", "", "Dan", "dan ", "-"])
 
 
+def filed(dice, tables):
+    """The word of each table, and the files that the words name."""
+    words = {name: files.word(dice, name) for name in tables}
+    return words, {words[name]: files.spelled_file(dice, files.records(dice, table)) for name, table in tables.items()}
+
+
 def call(dice, tables, policies, role, script):
     """A call over table files, a policy file and a script, which is standard input or a file."""
-    words = {name: files.word(dice, name) for name in tables}
-    data = {words[name]: files.spelled_file(dice, files.records(dice, table)) for name, table in tables.items()}
+    return call_over(dice, *filed(dice, tables), policies, role, script)
+
+
+def call_over(dice, words, data, policies, role, script):
     path = dice.choice(POLICY_PATHS)
     values = {"--role": role, "--policy": path}
     script_file = dice.choice(["s.lq", "./s", "sub/s.lq"]) if dice.random() < 0.15 else None
@@ -295,13 +311,29 @@ def rights_case(dice):
     return queries_case(dice, lambda *those: dice.choice([query_lines, right_lines]).line(*those), policy_files.some_rights)
 
 
+def session_case(dice):
+    """A session by chance, of a role that has some rights. Its script is made for the tables and the policies that the files give."""
+    words, data = filed(dice, session_files.tables(dice))
+    tables = {name: table_of(data[word]) for name, word in words.items()}
+    file = session_files.policy_file(dice, tables)
+    policies = policy_files.spelled_file(dice, file).encode()
+    role = dice.choice(file["role"])["name"]
+    lines = session_scripts.script(dice, tables, policies_of(policies, tables), role)
+    return call_over(dice, words, data, policies, role, ("\n".join(lines) + dice.choice(["\n", ""])).encode())
+
+
 def case_of(number, fixed):
-    """The case of a number: first the fixed ones, then those by chance, whose number is the seed. The known lines over the small
-    company stand between these."""
+    """The case of a number: first the fixed ones, then those by chance, whose number is the seed; that of a session is told from the
+    first session on. The known lines over the small company and the known sessions stand between these."""
     if number < len(fixed):
         return fixed[number]
     if FIRST_OF_COMPANY <= number < FIRST_OF_QUERIES:
         return of_company(policy_examples.COMPANY.encode(), script=company_examples.scripts()[number - FIRST_OF_COMPANY])
+    if FIRST_OF_KNOWN_SESSIONS <= number < FIRST_OF_SESSIONS:
+        text, pairs = session_examples.KNOWN[number - FIRST_OF_KNOWN_SESSIONS]
+        return of_company(text.encode(), script=session_examples.script_of(pairs))
+    if number >= FIRST_OF_SESSIONS:
+        return session_case(random.Random(f"session {number - FIRST_OF_SESSIONS}"))
     dice = random.Random(number)
     if number >= FIRST_OF_QUERIES:
         return rights_case(dice) if number >= FIRST_OF_RIGHTS else queries_case(dice)

@@ -3,9 +3,9 @@ folder `known_lines` but for `over_t.txt`, and some long and some deep ones.
 """
 
 from examples import FOLDER, OVER_T, pairs_in
-from meaning import reply_of
-from policies import as_seen, policies_of
+from policies import policies_of
 from policy_examples import COMPANY, FILES
+from sessions import reply_of
 from tables import table_of
 
 
@@ -78,5 +78,5 @@ def scripts():
 def misread_of_company():
     """The lines that this reading answers otherwise."""
     tables = {path[:-len(".csv")]: table_of(data) for path, data in FILES.items()}
-    seen = as_seen(policies_of(COMPANY.encode(), tables), tables, "dan")
-    return [line for pairs in by_file().values() for line, reply in pairs if reply_of(line, seen) != reply]
+    policies = policies_of(COMPANY.encode(), tables)
+    return [line for pairs in by_file().values() for line, reply in pairs if reply_of(line, tables, policies, "dan") != reply]

@@ -158,6 +158,7 @@ TOO_DEEP = [
     "run " + "new{a=" * 63 + "(1" + "+1" * 65 + ")" + "}" * 63 + ";", "run " + "(1+1)*" * 254 + "(1+1);", "(" * 65 + " // é",
 ]
 
+# A few of these lines are statements that are served: those of SERVED.
 TYPE = [
     "run (-2147483648).Foo;", "run 1.c;", "run x;", "run null;", "run a ? b : c ? d : e;", "run a ? b ? c : d : e;",
     "run a ?? b ?? c;", "run a || b && c == d < e + f * -!g;", "run !!a;", "run !-a;", "run -a.b;",
@@ -180,6 +181,13 @@ TYPE = [
     "insert t (" + "1," * 253 + "1);", "run xำ;", "run x‿y;", "insert t (" + "-2147483648," * 126 + "-2147483648);",
     "run true ? x : x;", "run false ? x : null;", "run true ? null : x;",
 ]
+
+# In a session of its own, of somebody who may do everything.
+SERVED = {
+    "var x = 1;": {"defined": "x"}, "var x = from y in t select y;": {"defined": "x"}, "as nobody;": {"error": "role"},
+    "as reader;": {"role": "reader"}, "insert t (1);": {"inserted": 1}, "insert t (-2147483648);": {"inserted": 1},
+    "delete t x => x.c > 1;": {"deleted": 1},
+}
 
 NOTHING = [
     "", " ", "\t\r", "//", "// run from x in t select x.c;", " //\r\x00\x0b\ufeff é",
@@ -223,5 +231,5 @@ def known_lines():
     known += [(line, {"value": value}) for line, value in RUN.items()]
     known += [(line, {"fault": "Overflow"}) for line in OVERFLOW]
     for word, lines in {"syntax": SYNTAX, "too-deep": TOO_DEEP, "type": TYPE}.items():
-        known += [(line, {"error": word}) for line in lines]
+        known += [(line, SERVED.get(line, {"error": word})) for line in lines]
     return known + scalar_lines() + [(line, None) for line in NOTHING]

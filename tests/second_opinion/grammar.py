@@ -75,31 +75,39 @@ def listed(reader, part):
 
 def statement(reader):
     """statement = "run" top ";" | "var" name "=" top ";" | name "=" top ";" | "as" name ";"
-    | "insert" name "(" cell {"," cell} ")" ";" | "delete" name name "=>" expression ";" """
-    kind = reader.take("run", "var", "name", "as", "insert", "delete").kind
-    if kind in ("var", "as", "insert", "delete"):
-        reader.take("name")
-    if kind in ("var", "name"):
+    | "insert" name "(" cell {"," cell} ")" ";" | "delete" name name "=>" expression ";"
+
+    The tree's parts are the names in front, and what stands behind them. An assignment's kind is "=".
+    """
+    first = reader.take("run", "var", "name", "as", "insert", "delete")
+    kind = "=" if first.kind == "name" else first.kind
+    parts = [] if kind == "run" else [first.value if kind == "=" else reader.take("name").value]
+    if kind in ("var", "="):
         reader.take("=")
     if kind == "insert":
         reader.take("(")
-        parts = listed(reader, cell)
+        parts += listed(reader, cell)
         reader.take(")")
     elif kind == "delete":
-        reader.take("name")
+        parts.append(reader.take("name").value)
         reader.take("=>")
-        parts = (expression(reader),)
-    else:
-        parts = () if kind == "as" else (top(reader),)
+        parts.append(expression(reader))
+    elif kind != "as":
+        parts.append(top(reader))
     reader.take(";")
-    return Tree(kind, parts)
+    return Tree(kind, tuple(parts))
 
 
 def cell(reader):
-    """cell = ["-"] integer | "-" least | text | "true" | "false" | "null" """
+    """cell = ["-"] integer | "-" least | text | "true" | "false" | "null"
+
+    The tree is a literal's; that of a number has its sign.
+    """
     if reader.skip("-"):
-        return Tree("cell", (reader.take("integer", "least"),))
-    return Tree("cell", (reader.take("integer", "text", "true", "false", "null"),))
+        token = reader.take("integer", "least")
+        return Tree("integer", (-(LARGEST_INT + 1) if token.kind == "least" else -token.value,))
+    token = reader.take("integer", "text", "true", "false", "null")
+    return Tree(token.kind, (token.value,))
 
 
 def top(reader):

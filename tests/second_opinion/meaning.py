@@ -1,20 +1,13 @@
-"""What a line means: values, streams of items, and the reply. None stands for null.
+"""What an expression means: values, streams of items, and what is served of them. None stands for null.
 
 A row and a record are dicts of their members in order. A sequence is a Stream, which begins anew each time that it is gone
 over, and raises the Fault that it ends in. So what isn't asked for is never evaluated.
 """
 
-import json
 from dataclasses import dataclass
 
-from depth import DepthFault, check_depth
-from grammar import parse
-from lexer import SyntaxFault, tokens_of
-from rights import nothing_denied, spelled
 from scalar_meaning import LITERALS, Fault, checked, concatenated, member, operate, search
-from scalar_types import TypeFault
-from scopes import Group, Sequence, typed_run
-from uses import uses_of_run
+from scopes import Group, Sequence
 
 DEFAULTS = {"int": 0, "bool": False}
 
@@ -374,6 +367,7 @@ ENDS = {"select": selected, "group": grouped}
 FORMS = {
     **{kind: literal for kind in ("integer", "text", *LITERALS)}, "name": lambda node, names: names[node.parts[0]],
     "table": lambda node, _: node.parts[0].rows, ".": member_of, "search": text_search, "call": call, "query": query,
+    "variable": lambda node, _: node.parts[0], "opened": lambda node, _: value_of(node.parts[0], {}),
     "new": lambda node, names: {name: value_of(part, names) for name, part in node.parts},
 }
 
@@ -401,45 +395,3 @@ def served(node):
     except Fault as fault:
         return {"fault": str(fault), "items": items}
     return {"items": items}
-
-
-def compact(reply):
-    """RFC 8259: JSON without white space; members by their names' bytes, which go by their characters' numbers."""
-    return json.dumps(reply, separators=(",", ":"), ensure_ascii=False, sort_keys=True) + "\n"
-
-
-def denial_of(uses, denied):
-    """The reply to the first use that is denied, by its rule; None where there is none."""
-    for use in uses:
-        rule = denied(use)
-        if rule is not None:
-            return {"denied": rule, "use": spelled(use)}
-    return None
-
-
-def run(statement, tables, denied):
-    node = typed_run(statement, tables)
-    reply = denial_of(uses_of_run(node), denied)
-    if reply is not None:
-        return reply
-    try:
-        return served(node)
-    except Fault as fault:
-        return {"fault": str(fault)}
-
-
-def reply_of(line, tables, denied=nothing_denied):
-    """The reply to a line of a script, and nothing to a line without tokens. `denied` tells of a use the rule that denies it. The
-    refusals come in the order of these calls."""
-    try:
-        tokens = tokens_of(line)
-        if not tokens:
-            return ""
-        check_depth(tokens)
-        return compact(run(parse(tokens), tables, denied))
-    except SyntaxFault:
-        return compact({"error": "syntax"})
-    except DepthFault:
-        return compact({"error": "too-deep"})
-    except TypeFault:
-        return compact({"error": "type"})

@@ -8,10 +8,10 @@ number with a fraction beyond the floats of 64 bits, the depth of inline tables 
 
 import tomllib
 from collections import Counter
-from dataclasses import dataclass, field
+from dataclasses import dataclass, field, replace
 
 from lexer import is_name
-from rights import NoRight, is_known, parted, rule_of as right_rule_of
+from rights import NO_GRANT, NoRight, RightRule, STATEMENTS, is_known, parted, rule_of as right_rule_of
 from rules import NoRule, UnknownName, check_names, holds, is_total, is_truth, rule_of
 from tables import MARK
 
@@ -19,7 +19,8 @@ MOST_BYTES = 1_048_576
 MOST_DEPTH = 80
 MOST_NAME_BYTES = 64
 ACTIONS = ("all", "select", "insert", "delete")
-NO_POLICY_NAMES = ("no-grant", "default-deny")
+DEFAULT_DENY = "default-deny"
+NO_POLICY_NAMES = (NO_GRANT, DEFAULT_DENY)
 
 REQUIRED = object()
 TEXT, FLAG, TEXTS = "a text", "a truth value", "an array of texts"
@@ -251,26 +252,42 @@ def read_policies(word, tables):
     return policies_of(data, tables)
 
 
-def passes(policies, name, action, rule_for, table, row, user):
-    """PostgreSQL, CREATE POLICY: one permissive policy that applies admits a row, and one restrictive one forbids it."""
+def forbidding(policies, name, action, rule_for, table, row, user):
+    """PostgreSQL, CREATE POLICY: what forbids a row, None where nothing does. One permissive policy that applies has to admit it, and
+    the first restrictive one, in the order of the file, that is false of it forbids it."""
+    if name not in policies.secured or policies.roles[user].bypass:
+        return None
     found = [policy for policy in policies.policies if policy.table == name and policy.applies(policies.roles[user], action)]
-    is_true = {True: [], False: []}
-    for policy in found:
-        is_true[policy.is_restrictive].append(holds(rule_for(policy), table, row, user))
-    return any(is_true[False]) and all(is_true[True])
+    true = {policy.name for policy in found if holds(rule_for(policy), table, row, user)}
+    if not any(policy.name in true for policy in found if not policy.is_restrictive):
+        return DEFAULT_DENY
+    return next((policy.name for policy in found if policy.is_restrictive and policy.name not in true), None)
 
 
-def is_open(policies, name, user):
-    return name not in policies.secured or policies.roles[user].bypass
+def is_visible(policies, name, table, row, user, action="select"):
+    """Whether the role sees a row; or for the action `delete`, as far as the policies for this tell it, may remove it."""
+    return forbidding(policies, name, action, lambda policy: policy.using, table, row, user) is None
 
 
-def is_visible(policies, name, table, row, user):
-    return is_open(policies, name, user) or passes(policies, name, "select", lambda policy: policy.using, table, row, user)
+def may_remove(policies, name, table, row, user):
+    """Whether the role sees a row and may remove it, too."""
+    return all(is_visible(policies, name, table, row, user, action) for action in ("select", "delete"))
+
+
+def failing_check(policies, name, table, row, user):
+    """What forbids that the role puts in a row; None where it may. Whether it sees the row makes no difference."""
+    return forbidding(policies, name, "insert", lambda policy: policy.check, table, row, user)
 
 
 def as_seen(policies, tables, user):
     """PostgreSQL, row security policies: the tables without the rows that the role may not see."""
     return {
-        name: type(table)(table.columns, [row for row in table.rows if is_visible(policies, name, table, row, user)])
+        name: replace(table, rows=[row for row in table.rows if is_visible(policies, name, table, row, user)])
         for name, table in tables.items()
     }
+
+
+def all_open(tables, user):
+    """The policies of a role that sees every row and has all rights."""
+    rights = {(name, to) for name, table in tables.items() for to in (*table.columns, *STATEMENTS)}
+    return Policies(roles_of([{"name": user, "member_of": [], "bypass": False}]), grants=[RightRule("all", ["public"], rights)])

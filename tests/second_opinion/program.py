@@ -8,9 +8,8 @@ import sys
 from dataclasses import dataclass
 
 from commands import HelpWanted, UsageFault, options_of
-from meaning import reply_of
 from policies import PolicyFault, as_seen, read_policies
-from rights import denials
+from sessions import Session
 from tables import TableFault, read_table, without_marks
 
 MOST_SCRIPT_BYTES = 1_048_576
@@ -58,8 +57,8 @@ def tables_of(words):
 
 
 def started(options):
-    """The tables as the role sees them, what tells by which rule a use is denied, and words for what the role sees. The tables are
-    read before the policies, and these before the role is sought."""
+    """The session in its first state, and words for what the role sees. The tables are read before the policies, and these before
+    the role is sought."""
     tables = tables_of(options.tables)
     word, user = options.values["--policy"], options.values["--role"]
     try:
@@ -68,8 +67,7 @@ def started(options):
         raise Fault(f"lq: {word}: {fault}", 3) from None
     if user not in policies.roles:
         raise Fault(f"lq: {user}: role", 3)
-    seen = as_seen(policies, tables, user)
-    return seen, denials(policies, tables, user), views_of(policies, tables, seen, user)
+    return Session(tables, policies, user), views_of(policies, tables, as_seen(policies, tables, user), user)
 
 
 def views_of(policies, tables, seen, user):
@@ -107,9 +105,9 @@ def lines_of(script):
 def replies_of(words, read_script):
     """Tables, policies and the role come before the script, and the whole script before its first line is answered."""
     options = options_of(words)
-    tables, denied, views = started(options)
+    session, views = started(options)
     script = script_of(options, read_script)
-    return "".join(reply_of(line, tables, denied) for line in lines_of(script)).encode(), views
+    return "".join(map(session.step, lines_of(script))).encode(), views
 
 
 def ended_by(fault):

@@ -62,18 +62,21 @@ class Signs:
 
 
 class Scope:
-    """The local names with their types, and the tables."""
+    """The local names with their types, and what they may hide: the tables, and the variables and named queries of a session with
+    their types."""
 
-    def __init__(self, names, tables):
+    def __init__(self, names, tables, given=None):
         self.names = names
         self.tables = tables
+        self.given = given or {}
         self.seen = {name: content for name, content in tables.items() if name not in names}
-        found = [path for name, its_type in names.items() for path in paths_from(Part(PRIMARY, [name], its_type), 3)]
+        visible = {name: its_type for name, its_type in self.given.items() if name not in names} | names
+        found = [path for name, its_type in visible.items() for path in paths_from(Part(PRIMARY, [name], its_type), 3)]
         self.paths = found
         self.has_nullable = any(path.type == "int?" for path in found) or bool(nullable_columns(self.seen))
 
     def plus(self, name, its_type):
-        return Scope({**self.names, name: its_type}, self.tables)
+        return Scope({**self.names, name: its_type}, self.tables, self.given)
 
     def paths_of(self, wanted):
         return [path for path in self.paths if path.type == wanted]
@@ -122,9 +125,9 @@ def tables(dice):
 
 
 def new_name(dice, *scopes):
-    """A name that no local one of the scopes has; it may hide a table."""
+    """A name that no local one of the scopes has; it may hide a table, a variable or a named query."""
     taken = {name for scope in scopes for name in scope.names}
-    free = [name for name in [*NAMES, *scopes[0].tables] if name not in taken]
+    free = [name for name in [*NAMES, *scopes[0].tables, *scopes[0].given] if name not in taken]
     return dice.choice(free) if free else "q" * len(taken)
 
 

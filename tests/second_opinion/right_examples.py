@@ -3,13 +3,12 @@
 They hold for this reading as well as for the program: a reading that answers one of them otherwise compares nothing.
 """
 
-from meaning import reply_of
-from policies import as_seen, policies_of
+from policies import policies_of
 from policy_examples import (
     ALL_RIGHTS, DEPT10, FILES, MORE_PLAIN_ROLES, OWN, PLAIN_ROLES, RECENT, RESTRICTIVE, SECURED, granting, policy, right_rule,
     toml_text,
 )
-from rights import denials
+from sessions import reply_of
 from tables import table_of
 
 RULES = SECURED + DEPT10 + OWN + RECENT
@@ -193,6 +192,5 @@ def misread_denials():
     misread = []
     for text, role, lines in KNOWN:
         policies = policies_of(text.encode(), tables)
-        seen, told = as_seen(policies, tables, role), denials(policies, tables, role)
-        misread += [line for line, reply in lines if reply_of(line, seen, told) != reply + "\n"]
+        misread += [line for line, reply in lines if reply_of(line, tables, policies, role) != reply + "\n"]
     return misread

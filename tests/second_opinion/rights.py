@@ -57,8 +57,10 @@ def rule_of(entry, tables):
 
 def spelled(use):
     """A use as a reply names it."""
-    table, column = use
-    return table if column is None else f"{table}.{column}"
+    table, to = use
+    if to is None:
+        return table
+    return f"{table} {to}" if to in STATEMENTS else f"{table}.{to}"
 
 
 def denying_rule(use, grants, withholds, tables):
@@ -82,7 +84,3 @@ def denials(policies, tables, user):
     role = policies.roles[user]
     grants, withholds = ([rule for rule in rules if rule.applies(role)] for rules in (policies.grants, policies.withholds))
     return lambda use: denying_rule(use, grants, withholds, tables)
-
-
-def nothing_denied(_):
-    """For lines of which each role has the rights."""

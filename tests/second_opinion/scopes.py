@@ -4,7 +4,7 @@ A scalar's type is its name, that of the literal `null` is "null", and the other
 type, there is no tree but a TypeFault.
 """
 
-from dataclasses import dataclass
+from dataclasses import dataclass, field, replace
 from functools import cached_property
 
 from scalar_types import LITERALS, OPERATORS, SCALARS, SEARCHES, TypeFault
@@ -73,16 +73,23 @@ class Lambda:
 
 @dataclass(frozen=True)
 class Scope:
-    """The types of the local names, range variables and parameters, and the tables."""
+    """The types of the local names, range variables and parameters, and the tables; and what a session has: of each scalar variable
+    its type and its value, and of each named query its tree."""
 
     names: dict
     tables: dict
+    variables: dict = field(default_factory=dict)
+    queries: dict = field(default_factory=dict)
 
     def with_name(self, name, its_type):
-        """ECMA-334, local variable scopes: a name may hide a table, but no local name that is in scope."""
+        """ECMA-334, local variable scopes: a name may hide what a session has, or a table, but no local name that is in scope."""
         if name in self.names:
             raise TypeFault(f"{name} is in scope")
-        return Scope({**self.names, name: its_type}, self.tables)
+        return replace(self, names={**self.names, name: its_type})
+
+    def without_names(self):
+        """What the names of a named query mean: never a local name of what uses it."""
+        return replace(self, names={})
 
 
 def parts_of(its_type):
@@ -156,10 +163,16 @@ def typed_literal(tree, _):
 
 
 def typed_name(tree, scope):
-    """A local name, or else a table, which is the sequence of its rows."""
+    """A local name, or else what the session has by it, or else a table, which is the sequence of its rows."""
     name, = tree.parts
     if name in scope.names:
         return Typed("name", scope.names[name], tree.parts)
+    if name in scope.variables:
+        its_type, content = scope.variables[name]
+        return Typed("variable", its_type, (content,))
+    if name in scope.queries:
+        opened = typed(scope.queries[name], scope.without_names())
+        return Typed("opened", opened.type, (opened,))
     needs(name in scope.tables)
     return Typed("table", Sequence(row_of(name, scope.tables[name])), (scope.tables[name],))
 
@@ -352,9 +365,3 @@ FORMS = {
     **{kind: typed_literal for kind in LITERALS}, "name": typed_name, ".": typed_member, "call": typed_call,
     "new": typed_record, "query": typed_query,
 }
-
-
-def typed_run(statement, tables):
-    """What a statement runs: anything but null alone. The other statements aren't served yet."""
-    needs(statement.kind == "run")
-    return value(statement.parts[0], Scope({}, tables))

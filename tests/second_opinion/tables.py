@@ -1,7 +1,7 @@
 """Table files: CSV with a header `NAME:TYPE`, and the first fault of a file."""
 
 import re
-from dataclasses import dataclass
+from dataclasses import dataclass, field
 
 from lexer import is_name
 
@@ -37,10 +37,12 @@ class Column:
 
 @dataclass
 class Table:
-    """`columns` is a dict of each column's name to its type; a row is a dict of each column's name to its cell, None for null."""
+    """`columns` is a dict of each column's name to its type; a row is a dict of each column's name to its cell, None for null. `ranges`
+    has the least and the largest that a column of integers takes, where its type tells them."""
 
     columns: dict
     rows: list
+    ranges: dict = field(default_factory=dict)
 
 
 def without_marks(data):
@@ -173,7 +175,8 @@ def table_of(data):
         raise TableFault("too-large")
     columns = columns_of(header)
     rows = [row_of(record, columns, number) for number, record in enumerate(records, 2)]
-    return Table({name: column.type for name, column in columns.items()}, rows)
+    ranges = {name: (column.least, column.largest) for name, column in columns.items() if column.type == "int"}
+    return Table({name: column.type for name, column in columns.items()}, rows, ranges)
 
 
 def name_of(word):

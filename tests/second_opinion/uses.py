@@ -2,7 +2,7 @@
 behind them, the columns of the rows in its result.
 
 A use is the pair of a table's name and a column's, or of a table's name and None for the table itself. Whether a part is ever
-evaluated makes no difference.
+evaluated makes no difference. A named query is opened in place: what it uses stands where its name does.
 """
 
 from scopes import Group, Lambda, Record, Row, Sequence, Typed

@@ -5,10 +5,10 @@ use Rattle.lq_value.specs.declared.ty.Ty.{Ty}
 use Rattle.lq_model.specs.Operators.{Pattern, One, With}
 use Rattle.lq_model.specs.Typing.{local_type}
 use Rattle.lq_tree.specs.Places.{Place, Places, place_of, places_of, with_item, with_name}
+use Rattle.lq_tree.specs.SessionPlaces.{places_outside}
 use Rattle.lq_tree.specs.declared.tree.Form.{Form}
 use Rattle.lq_tree.specs.declared.tree.Form.TheVariants as form
 use Rattle.lq_tree.specs.declared.tree.Tree.{Tree}
-use Rattle.lq_bind.specs.Outcomes.{no_places}
 use Rattle.lq_bind.specs.Frames.{frame_step, is_among, is_fresh_in, pattern_in, pattern_step, places_in, tree_at}
 use Rattle.lq_bind.specs.declared.frames.Frame.{Frame, fold_out-Frame, map-Frame, out-Frame}
 use Rattle.lq_bind.specs.declared.frames.Frame.TheVariants as frame
@@ -38,8 +38,8 @@ places_out : (f : Frame) → places_in f ≡ frame_step (map-Frame Frame Places 
 unfolding places_in
 places_out f = fold_out-Frame Places frame_step f
 
-pub places_top : places_in frame.Top ≡ no_places
-places_top = places_out frame.Top ∙ ap (λ layer. frame_step (map-Frame Frame Places places_in layer)) outs-Top
+pub places_top : (depth : ℕ) → places_in (frame.Top depth) ≡ places_outside [] depth
+places_top depth = places_out (frame.Top depth) ∙ ap (λ layer. frame_step (map-Frame Frame Places places_in layer)) (outs-Top depth)
 
 pub places_item : (outer : Bor Frame) (v : Bor Variables) → places_in (views.Item outer v) ≡ with_item (places_in outer.now) (pattern_in v.now)
 places_item outer v = places_out (views.Item outer v) ∙ ap (λ layer. frame_step (map-Frame Frame Places places_in layer)) (outs-Item outer v)

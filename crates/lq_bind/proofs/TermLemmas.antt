@@ -6,7 +6,7 @@ use Rattle.std.specs.Str.{bytes_eq}
 use Rattle.lq_value.specs.Tables.{Table, first_named}
 use Rattle.lq_value.specs.declared.table.Schema.{Schema}
 use Rattle.lq_value.specs.declared.ty.Ty.{Ty}
-use Rattle.lq_model.specs.Machine.{schemas_of}
+use Rattle.lq_model.specs.States.{schemas_of}
 use Rattle.lq_model.specs.Typing.{table_number}
 use Rattle.lq_model.specs.Operators.{Pattern}
 use Rattle.lq_model.specs.declared.calls.Call.{Call}
@@ -16,12 +16,12 @@ use Rattle.lq_model.specs.declared.calls.Term.TheVariants as term
 use Rattle.lq_model.specs.declared.syntax.Join.{Join}
 use Rattle.lq_model.specs.declared.syntax.Node.{Node}
 use Rattle.lq_store.specs.Rules.{name_of}
-use Rattle.lq_tree.specs.Binding.{Binds, Stage, call_items_tree, call_tree, if_fresh, join_keys, join_stage, joined_stage, matched_type, name_tree, node_tree, query_tree, source_tree}
+use Rattle.lq_tree.specs.Binding.{Binds, Stage, call_items_tree, call_tree, global_tree, if_fresh, join_keys, join_stage, joined_stage, matched_type, name_tree, node_tree, query_tree, source_tree}
 use Rattle.lq_tree.specs.Places.{Place, Places, with_item}
 use Rattle.lq_tree.specs.declared.tree.Form.{Form}
 use Rattle.lq_tree.specs.declared.tree.Tree.{Tree}
 use Rattle.lq_tree.proofs.TreePulls.{tree_of_call, tree_of_node}
-use Rattle.lq_bind.specs.Bound.{joined_type, matched_by, matched_in, matched_keys, trees_in}
+use Rattle.lq_bind.specs.Bound.{joined_type, matched_by, matched_in, matched_keys, rows_tree, session_tree, trees_in}
 use Rattle.lq_bind.specs.Frames.{tree_at}
 use Rattle.lq_bind.specs.declared.pairs.Matched.{Matched}
 
@@ -55,18 +55,31 @@ table_found name tables = position_mapped name tables 0
 
 pub ruleset tables = (table_found)
 
--- a local name hides a table
-pub name_found : (schemas : List Schema) (name : List ℕ) (place : Option Place) (found : Tree) → Some found ≡ option_map tree_at place
-    → Some found ≡ name_tree schemas name place
-name_found schemas name None found e = absurd (none-some found (sym e))
-name_found schemas name (Some place) found e = e
+-- a local name hides all others
+pub name_found : (schemas : List Schema) (places : Places) (name : List ℕ) (place : Option Place) (found : Tree) → Some found ≡ option_map tree_at place
+    → Some found ≡ name_tree schemas places name place
+name_found schemas places name None found e = absurd (none-some found (sym e))
+name_found schemas places name (Some place) found e = e
 
-pub name_missed : (schemas : List Schema) (name : List ℕ) (place : Option Place) → None ≡ option_map tree_at place
-    → name_tree schemas name place ≡ name_tree schemas name None
-name_missed schemas name None e = refl
-name_missed schemas name (Some place) e = absurd (none-some (tree_at place) e)
+pub name_missed : (schemas : List Schema) (places : Places) (name : List ℕ) (place : Option Place) → None ≡ option_map tree_at place
+    → name_tree schemas places name place ≡ global_tree schemas places name (table_number name schemas)
+name_missed schemas places name None e = refl
+name_missed schemas places name (Some place) e = absurd (none-some (tree_at place) e)
 
 pub ruleset named = (name_found, name_missed)
+
+-- and a table those of the session
+pub rows_found : (schemas : List Schema) (places : Places) (name : List ℕ) (table : Option ℕ) (found : Tree) → Some found ≡ option_map rows_tree table
+    → Some found ≡ global_tree schemas places name table
+rows_found schemas places name None found e = absurd (none-some found (sym e))
+rows_found schemas places name (Some n) found e = e
+
+pub rows_missed : (schemas : List Schema) (places : Places) (name : List ℕ) (table : Option ℕ) → None ≡ option_map rows_tree table
+    → global_tree schemas places name table ≡ session_tree places.session name places.depth
+rows_missed schemas places name None e = refl
+rows_missed schemas places name (Some n) e = absurd (none-some (rows_tree n) e)
+
+pub ruleset globals = (rows_found, rows_missed)
 
 -- ---- calls
 

@@ -1,13 +1,12 @@
 -- The places that a frame stands for, and what the variables of an item stand for.
 use Rattle.std.specs.Prelude.{◌||◌, [], List, ℕ, Bool, Option, option_map}
 use Rattle.std.specs.Str.{bytes_eq}
-use Rattle.lq_value.specs.declared.ty.Ty.{Ty}
 use Rattle.lq_model.specs.Operators.{Pattern, One, With}
 use Rattle.lq_model.specs.Types.{is_fresh}
 use Rattle.lq_tree.specs.Binding.{Stage, stage_of, tree_of}
-use Rattle.lq_tree.specs.Places.{Place, Places, names_of_places, place_of, with_item, with_name}
+use Rattle.lq_tree.specs.Places.{Place, Places, SessionPlace, names_of_places, with_item, with_name}
+use Rattle.lq_tree.specs.SessionPlaces.{places_outside}
 use Rattle.lq_tree.specs.declared.tree.Tree.{Tree}
-use Rattle.lq_bind.specs.Outcomes.{no_places}
 use Rattle.lq_bind.specs.declared.frames.Frame.{Frame, fold-Frame}
 use Rattle.lq_bind.specs.declared.frames.Frame.TheOpen.{Frame-F}
 use Rattle.lq_bind.specs.declared.variables.Variables.{Variables, fold-Variables}
@@ -28,13 +27,17 @@ is_among name (One n t) = bytes_eq n name
 is_among name (With p n t) = bytes_eq n name || is_among name p
 
 abbrev pub frame_step : Frame-F Places → Places
-frame_step Frame-F.Top = no_places
+frame_step (Frame-F.Top depth) = places_outside [] depth
 frame_step (Frame-F.Item outer variables) = with_item outer.now (pattern_in variables.now)
 frame_step (Frame-F.Name outer name t) = with_name outer.now name.now t.now
 
--- the places that a frame stands for
+-- the places that a frame stands for, where no name of the session is known
 unfoldable pub places_in : Frame → Places
 places_in = fold-Frame Places frame_step
+
+-- the same local names, where these names of the session are known
+abbrev pub within : List SessionPlace → Places → Places
+within session places = record { session = session; locals = places.locals; depth = places.depth }
 
 -- what is known by a place
 abbrev pub tree_at : Place → Tree

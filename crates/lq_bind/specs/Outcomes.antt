@@ -1,24 +1,13 @@
 -- What binding answers: a tree; or that there is none, as the expression has no type or the statement is past its limits.
-use Rattle.std.specs.Prelude.{◌≡◌, ◌||◌, [], ℕ, true, false, Bool, Option, Some, None, Result, Ok, Err, nat_lt}
-use Rattle.lq_tree.specs.Places.{Places}
+use Rattle.std.specs.Prelude.{◌≡◌, ◌||◌, ℕ, true, false, Bool, Option, Some, None, Result, Ok, Err, nat_lt}
+use Rattle.lq_model.specs.Opening.{rank_limit, size_limit}
 use Rattle.lq_tree.specs.declared.tree.Tree.{Tree}
 use Rattle.lq_bind.specs.declared.error.BindError.{BindError}
 use Rattle.lq_bind.specs.declared.error.BindError.TheVariants as error
 
--- the most tokens of a statement with all named queries that it opens, and the most levels of queries that open others
-abbrev pub size_limit : ℕ
-size_limit = 65536
-
-abbrev pub rank_limit : ℕ
-rank_limit = 8
-
 -- whether a statement is past the limits of opening
 abbrev pub is_past : ℕ → ℕ → Bool
 is_past size rank = nat_lt size_limit size || nat_lt rank_limit rank
-
--- where a statement stands, no local name is known and no slot in use
-abbrev pub no_places : Places
-no_places = record { locals = []; depth = 0 }
 
 -- The limits count before the type: a statement past them has no tree. Otherwise the tree is the one that the expression is bound to, and
 -- is refused for its type exactly where there is none. Memory may be refused at any time.

@@ -1,32 +1,34 @@
 //! The binding of terms (ECMA-334, expressions).
 use crate::frames::Frame;
 use crate::{members, names, operations};
-use lq_model::{Argument, Binary, Node, Term, Unary};
+use lq_model::{Argument, Binary, Definition, Node, Term, Unary};
 use lq_store::Store;
 use lq_tree::Tree;
 use lq_value::List;
 use std::alloc::{AllocError, Global};
 
-/// What terms are bound in: the tables whose names are known, and what gives memory.
+/// What terms are bound in: the tables and the names of the session that are known, and what gives
+/// memory.
 #[derive(Clone, Copy)]
 pub(crate) struct Binder<'a> {
     pub(crate) alloc: Global,
     pub(crate) store: &'a Store,
+    /// The names of the session, the oldest first.
+    pub(crate) known: &'a [Definition],
 }
 
 impl Binder<'_> {
     ghost use Rattle.std.specs.Prelude.{◌≡◌, IfOk, option_and_then};
-    ghost use Rattle.lq_model.specs.Machine.{schemas_of};
+    ghost use Rattle.lq_model.specs.States.{schemas_of};
     ghost use Rattle.lq_tree.specs.Binding.{and_tree, binary_tree, coalesce_tree, conditional_tree, member_tree, node_tree, of_three_trees, of_two_trees};
     ghost use Rattle.lq_tree.specs.Binding.{method_tree, or_tree, unary_tree};
-    ghost use Rattle.lq_bind.specs.Bound.{trees_in};
-    ghost use Rattle.lq_bind.specs.Frames.{places_in};
+    ghost use Rattle.lq_bind.specs.Bound.{places_at, trees_in};
 
     /// The tree of a term, where it has one.
     #[cycle(binding)]
     #[tactic(auto, using(crate::proofs::TermLemmas::terms))]
     pub(crate) fn term(&self, term: &Term, frame: &Frame<'_>) -> Result<Option<Tree>, AllocError>
-        ensures { IfOk result (λ found. found ≡ trees_in self.now.store.now term.now (places_in frame.now)) }
+        ensures { IfOk result (λ found. found ≡ trees_in self.now.store.now term.now (places_at self.now frame.now)) }
     {
         match term {
             Term::Node(node) => self.node(node, frame),
@@ -39,14 +41,14 @@ impl Binder<'_> {
     /// operators deep on their left.
     #[cycle(binding)]
     fn node(&self, node: &Node<Term>, frame: &Frame<'_>) -> Result<Option<Tree>, AllocError>
-        ensures { IfOk result (λ found. found ≡ node_tree (schemas_of self.now.store.now) (trees_in self.now.store.now) node.now (places_in frame.now)) }
+        ensures { IfOk result (λ found. found ≡ node_tree (schemas_of self.now.store.now) (trees_in self.now.store.now) node.now (places_at self.now frame.now)) }
     {
         match node {
             Node::Integer(number) => names::integer(self.alloc, *number),
             Node::Text(text) => names::text(self.alloc, text),
             Node::Bool(truth) => names::truth(self.alloc, *truth),
             Node::Null => names::null(self.alloc),
-            Node::Name(name) => names::name(self.alloc, self.store, name.as_str(), frame),
+            Node::Name(name) => self.name(name.as_str(), frame),
             Node::Member(of, name) => self.member(of.get(), name.as_str(), frame),
             Node::Unary(sign, operand) => self.unary(operand.get(), *sign, frame),
             Node::Binary(sign, left, right) => self.binary(left.get(), right.get(), *sign, frame),
@@ -69,7 +71,7 @@ impl Binder<'_> {
     #[inline(never)]
     fn member(&self, of: &Term, name: &str, frame: &Frame<'_>) -> Result<Option<Tree>, AllocError>
         ensures { IfOk result (λ found. found
-            ≡ option_and_then (member_tree (schemas_of self.now.store.now) name.now) (trees_in self.now.store.now of.now (places_in frame.now))) }
+            ≡ option_and_then (member_tree (schemas_of self.now.store.now) name.now) (trees_in self.now.store.now of.now (places_at self.now frame.now))) }
     {
         let Some(of) = self.term(of, frame)? else {
             return Ok(None);
@@ -86,7 +88,7 @@ impl Binder<'_> {
         sign: Unary,
         frame: &Frame<'_>,
     ) -> Result<Option<Tree>, AllocError>
-        ensures { IfOk result (λ found. found ≡ option_and_then (unary_tree sign) (trees_in self.now.store.now operand.now (places_in frame.now))) }
+        ensures { IfOk result (λ found. found ≡ option_and_then (unary_tree sign) (trees_in self.now.store.now operand.now (places_at self.now frame.now))) }
     {
         let Some(operand) = self.term(operand, frame)? else {
             return Ok(None);
@@ -105,7 +107,7 @@ impl Binder<'_> {
         frame: &Frame<'_>,
     ) -> Result<Option<Tree>, AllocError>
         ensures { IfOk result (λ found. found ≡ of_two_trees (binary_tree sign)
-            (trees_in self.now.store.now left.now (places_in frame.now)) (trees_in self.now.store.now right.now (places_in frame.now))) }
+            (trees_in self.now.store.now left.now (places_at self.now frame.now)) (trees_in self.now.store.now right.now (places_at self.now frame.now))) }
     {
         let Some(left) = self.term(left, frame)? else {
             return Ok(None);
@@ -123,7 +125,7 @@ impl Binder<'_> {
         left: Tree,
         frame: &Frame<'_>,
     ) -> Result<Option<Tree>, AllocError>
-        ensures { IfOk result (λ found. found ≡ option_and_then (binary_tree sign left) (trees_in self.now.store.now right.now (places_in frame.now))) }
+        ensures { IfOk result (λ found. found ≡ option_and_then (binary_tree sign left) (trees_in self.now.store.now right.now (places_at self.now frame.now))) }
     {
         let Some(right) = self.term(right, frame)? else {
             return Ok(None);
@@ -136,7 +138,7 @@ impl Binder<'_> {
     #[inline(never)]
     fn and(&self, left: &Term, right: &Term, frame: &Frame<'_>) -> Result<Option<Tree>, AllocError>
         ensures { IfOk result (λ found. found ≡ of_two_trees and_tree
-            (trees_in self.now.store.now left.now (places_in frame.now)) (trees_in self.now.store.now right.now (places_in frame.now))) }
+            (trees_in self.now.store.now left.now (places_at self.now frame.now)) (trees_in self.now.store.now right.now (places_at self.now frame.now))) }
     {
         let Some(left) = self.term(left, frame)? else {
             return Ok(None);
@@ -153,7 +155,7 @@ impl Binder<'_> {
         left: Tree,
         frame: &Frame<'_>,
     ) -> Result<Option<Tree>, AllocError>
-        ensures { IfOk result (λ found. found ≡ option_and_then (and_tree left) (trees_in self.now.store.now right.now (places_in frame.now))) }
+        ensures { IfOk result (λ found. found ≡ option_and_then (and_tree left) (trees_in self.now.store.now right.now (places_at self.now frame.now))) }
     {
         let Some(right) = self.term(right, frame)? else {
             return Ok(None);
@@ -166,7 +168,7 @@ impl Binder<'_> {
     #[inline(never)]
     fn or(&self, left: &Term, right: &Term, frame: &Frame<'_>) -> Result<Option<Tree>, AllocError>
         ensures { IfOk result (λ found. found ≡ of_two_trees or_tree
-            (trees_in self.now.store.now left.now (places_in frame.now)) (trees_in self.now.store.now right.now (places_in frame.now))) }
+            (trees_in self.now.store.now left.now (places_at self.now frame.now)) (trees_in self.now.store.now right.now (places_at self.now frame.now))) }
     {
         let Some(left) = self.term(left, frame)? else {
             return Ok(None);
@@ -183,7 +185,7 @@ impl Binder<'_> {
         left: Tree,
         frame: &Frame<'_>,
     ) -> Result<Option<Tree>, AllocError>
-        ensures { IfOk result (λ found. found ≡ option_and_then (or_tree left) (trees_in self.now.store.now right.now (places_in frame.now))) }
+        ensures { IfOk result (λ found. found ≡ option_and_then (or_tree left) (trees_in self.now.store.now right.now (places_at self.now frame.now))) }
     {
         let Some(right) = self.term(right, frame)? else {
             return Ok(None);
@@ -201,7 +203,7 @@ impl Binder<'_> {
         frame: &Frame<'_>,
     ) -> Result<Option<Tree>, AllocError>
         ensures { IfOk result (λ found. found ≡ of_two_trees coalesce_tree
-            (trees_in self.now.store.now left.now (places_in frame.now)) (trees_in self.now.store.now right.now (places_in frame.now))) }
+            (trees_in self.now.store.now left.now (places_at self.now frame.now)) (trees_in self.now.store.now right.now (places_at self.now frame.now))) }
     {
         let Some(left) = self.term(left, frame)? else {
             return Ok(None);
@@ -218,7 +220,7 @@ impl Binder<'_> {
         left: Tree,
         frame: &Frame<'_>,
     ) -> Result<Option<Tree>, AllocError>
-        ensures { IfOk result (λ found. found ≡ option_and_then (coalesce_tree left) (trees_in self.now.store.now right.now (places_in frame.now))) }
+        ensures { IfOk result (λ found. found ≡ option_and_then (coalesce_tree left) (trees_in self.now.store.now right.now (places_at self.now frame.now))) }
     {
         let Some(right) = self.term(right, frame)? else {
             return Ok(None);
@@ -236,8 +238,8 @@ impl Binder<'_> {
         right: &Term,
         frame: &Frame<'_>,
     ) -> Result<Option<Tree>, AllocError>
-        ensures { IfOk result (λ found. found ≡ of_three_trees conditional_tree (trees_in self.now.store.now condition.now (places_in frame.now))
-            (trees_in self.now.store.now left.now (places_in frame.now)) (trees_in self.now.store.now right.now (places_in frame.now))) }
+        ensures { IfOk result (λ found. found ≡ of_three_trees conditional_tree (trees_in self.now.store.now condition.now (places_at self.now frame.now))
+            (trees_in self.now.store.now left.now (places_at self.now frame.now)) (trees_in self.now.store.now right.now (places_at self.now frame.now))) }
     {
         let Some(condition) = self.term(condition, frame)? else {
             return Ok(None);
@@ -256,7 +258,7 @@ impl Binder<'_> {
         frame: &Frame<'_>,
     ) -> Result<Option<Tree>, AllocError>
         ensures { IfOk result (λ found. found ≡ of_two_trees (conditional_tree condition)
-            (trees_in self.now.store.now left.now (places_in frame.now)) (trees_in self.now.store.now right.now (places_in frame.now))) }
+            (trees_in self.now.store.now left.now (places_at self.now frame.now)) (trees_in self.now.store.now right.now (places_at self.now frame.now))) }
     {
         let Some(left) = self.term(left, frame)? else {
             return Ok(None);
@@ -275,7 +277,7 @@ impl Binder<'_> {
         frame: &Frame<'_>,
     ) -> Result<Option<Tree>, AllocError>
         ensures { IfOk result (λ found. found
-            ≡ option_and_then (conditional_tree condition left) (trees_in self.now.store.now right.now (places_in frame.now))) }
+            ≡ option_and_then (conditional_tree condition left) (trees_in self.now.store.now right.now (places_at self.now frame.now))) }
     {
         let Some(right) = self.term(right, frame)? else {
             return Ok(None);
@@ -294,8 +296,8 @@ impl Binder<'_> {
         frame: &Frame<'_>,
     ) -> Result<Option<Tree>, AllocError>
         ensures { IfOk result (λ found. found ≡ option_and_then
-            (λ found. method_tree (schemas_of self.now.store.now) (trees_in self.now.store.now) name.now arguments.now found (places_in frame.now))
-            (trees_in self.now.store.now of.now (places_in frame.now))) }
+            (λ found. method_tree (schemas_of self.now.store.now) (trees_in self.now.store.now) name.now arguments.now found (places_at self.now frame.now))
+            (trees_in self.now.store.now of.now (places_at self.now frame.now))) }
     {
         let Some(of) = self.term(of, frame)? else {
             return Ok(None);

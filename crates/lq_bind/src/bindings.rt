@@ -1,15 +1,19 @@
-//! The binding of whole expressions and queries.
+//! The binding of whole expressions, queries and conditions.
 ghost use Rattle.std.specs.Prelude.{◌≡◌, false};
-ghost use Rattle.lq_model.specs.Machine.{schemas_of};
+ghost use Rattle.lq_model.specs.States.{schemas_of};
+ghost use Rattle.lq_value.specs.declared.ty.Ty.TheVariants as ty;
 ghost use Rattle.lq_tree.specs.Binding.{call_tree, term_tree};
-ghost use Rattle.lq_bind.specs.Outcomes.{IsBound, is_past, no_places};
+ghost use Rattle.lq_tree.specs.Places.{with_name};
+ghost use Rattle.lq_tree.specs.SessionPlaces.{statement_places};
+ghost use Rattle.lq_bind.specs.Outcomes.{IsBound, is_past};
 
 use crate::binder::Binder;
 use crate::error::BindError;
 use crate::frames::Frame;
-use lq_model::{Call, Term};
+use lq_model::{Call, Definition, Term};
 use lq_store::Store;
 use lq_tree::Tree;
+use lq_value::{Txt, Ty};
 use std::alloc::Global;
 
 /// The most tokens of a statement, with those of all named queries that it opens.
@@ -23,6 +27,9 @@ const MOST_RANK: u32 = 8;
 pub struct Scope<'a> {
     /// The tables, whose names are known wherever no local name hides them.
     pub store: &'a Store,
+    /// The names of the session, the oldest first. Each is known wherever neither a local name nor a table
+    /// hides it, and in the named queries that come after it.
+    pub definitions: &'a [Definition],
     /// How many tokens the statement has, with those of all named queries that it opens; at most 65,536.
     pub size: u64,
     /// How many levels of named queries it opens; at most 8.
@@ -30,6 +37,18 @@ pub struct Scope<'a> {
 }
 
 impl Scope<'_> {
+    /// What binds the terms of the statement.
+    fn binder(&self, alloc: Global) -> Binder<'_>
+        ensures tables { result.store.now ≡ self.now.store.now }
+        ensures names { result.known.now ≡ self.now.definitions.now }
+    {
+        Binder {
+            alloc,
+            store: self.store,
+            known: self.definitions,
+        }
+    }
+
     /// Whether the statement is past the limits of opening.
     fn is_past(&self) -> bool
         ensures { result ≡ is_past self.now.size self.now.rank }
@@ -48,30 +67,54 @@ fn typed(found: Option<Tree>) -> Result<Tree, BindError>
     }
 }
 
-/// The typed tree of the calls of a query. Refuses with `TooDeep` where the statement is past the limits of opening, with
-/// `IllTyped` where the query has no type, in this order, and with `Memory`.
+/// The typed tree of the calls of a query: a variable of the session stands as the literal of its
+/// value, and a named query as the tree of its expression, bound anew where the name is opened with the
+/// names that were defined before it. Refuses with `TooDeep` where the statement is past the limits of
+/// opening, with `IllTyped` where the query has no type, in this order, and with `Memory`.
 #[tactic(auto, using(crate::proofs::FrameLemmas::chains))]
 pub fn bind(alloc: Global, call: &Call<Term>, scope: &Scope<'_>) -> Result<Tree, BindError>
     ensures { IsBound (is_past scope.now.size scope.now.rank)
-        (call_tree (schemas_of scope.now.store.now) (term_tree (schemas_of scope.now.store.now)) call.now no_places) result }
+        (call_tree (schemas_of scope.now.store.now) (term_tree (schemas_of scope.now.store.now)) call.now
+        (statement_places (schemas_of scope.now.store.now) scope.now.definitions.now)) result }
 {
     if scope.is_past() {
         return Err(BindError::TooDeep);
     }
-    let store = scope.store;
-    let binder = Binder { alloc, store };
-    typed(binder.call(call, &Frame::Top)?)
+    typed(scope.binder(alloc).call(call, &Frame::Top(0))?)
 }
 
 /// The typed tree of a term, with the same refusals.
 #[tactic(auto, using(crate::proofs::FrameLemmas::chains))]
 pub fn bind_term(alloc: Global, term: &Term, scope: &Scope<'_>) -> Result<Tree, BindError>
-    ensures { IsBound (is_past scope.now.size scope.now.rank) (term_tree (schemas_of scope.now.store.now) term.now no_places) result }
+    ensures { IsBound (is_past scope.now.size scope.now.rank)
+        (term_tree (schemas_of scope.now.store.now) term.now (statement_places (schemas_of scope.now.store.now) scope.now.definitions.now)) result }
 {
     if scope.is_past() {
         return Err(BindError::TooDeep);
     }
-    let store = scope.store;
-    let binder = Binder { alloc, store };
-    typed(binder.term(term, &Frame::Top)?)
+    typed(scope.binder(alloc).term(term, &Frame::Top(0))?)
+}
+
+/// The typed tree of a term in which `row` is a local name: that of a row of the table of this number,
+/// which stands in the first slot. The tree may be of any type, so that it is a condition on rows where
+/// its type is `bool`. The refusals are the same.
+#[tactic(auto, using(crate::proofs::FrameLemmas::chains))]
+pub fn bind_condition(
+    alloc: Global,
+    term: &Term,
+    row: &Txt,
+    table: u16,
+    scope: &Scope<'_>,
+) -> Result<Tree, BindError>
+    ensures { IsBound (is_past scope.now.size scope.now.rank)
+        (term_tree (schemas_of scope.now.store.now) term.now
+        (with_name (statement_places (schemas_of scope.now.store.now) scope.now.definitions.now) row.now (ty.Row table))) result }
+{
+    if scope.is_past() {
+        return Err(BindError::TooDeep);
+    }
+    let ty = Ty::Row(table);
+    let outside = Frame::Top(0);
+    let frame = outside.with_name(row, &ty);
+    typed(scope.binder(alloc).term(term, &frame)?)
 }

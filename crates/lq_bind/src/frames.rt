@@ -10,8 +10,8 @@ use std::alloc::{AllocError, Global};
 #[derive(Clone, Copy)]
 #[cycle(frames)]
 pub(crate) enum Frame<'a> {
-    /// No local name.
-    Top,
+    /// No local name, and so many slots in use.
+    Top(usize),
     /// These names, and those of an item in one slot more.
     Item(&'a Frame<'a>, &'a Variables),
     /// These names, and one more, with its type, for the value in one slot more.
@@ -46,7 +46,7 @@ impl<'a> Frame<'a> {
         ensures { IfOk result (λ slots. slots ≡ (places_in self.now).depth) }
     {
         match self {
-            Frame::Top => Ok(0),
+            Frame::Top(slots) => Ok(*slots),
             Frame::Item(outer, _) | Frame::Name(outer, _, _) => match outer
                 .depth()?
                 .checked_add(1)
@@ -63,7 +63,7 @@ impl<'a> Frame<'a> {
         ensures { result ≡ is_some (place_of name.now (places_in self.now).locals) }
     {
         match self {
-            Frame::Top => false,
+            Frame::Top(_) => false,
             Frame::Item(outer, variables) => variables.has(name) || outer.has(name),
             Frame::Name(outer, known, _) => known.as_str() == name || outer.has(name),
         }
@@ -83,7 +83,7 @@ impl<'a> Frame<'a> {
         ensures { IfOk result (λ found. found ≡ option_map tree_at (place_of name.now (places_in self.now).locals)) }
     {
         match self {
-            Frame::Top => Ok(None),
+            Frame::Top(_) => Ok(None),
             Frame::Item(outer, variables) => {
                 if !variables.has(name) {
                     return outer.find(alloc, name);

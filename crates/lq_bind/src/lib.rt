@@ -6,6 +6,7 @@ mod bindings;
 mod error;
 mod fields;
 mod frames;
+mod globals;
 mod members;
 mod method_names;
 mod methods;
@@ -19,5 +20,5 @@ mod sources;
 mod stage_forms;
 mod variables;
 
-pub use bindings::{Scope, bind, bind_term};
+pub use bindings::{Scope, bind, bind_condition, bind_term};
 pub use error::BindError;

@@ -12,11 +12,10 @@ use std::alloc::AllocError;
 impl Binder<'_> {
     ghost use Rattle.std.specs.Prelude.{◌≡◌, IfOk, option_and_then, option_map};
     ghost use Rattle.lq_model.specs.EnumerableCalls.{By, With, enumerable_call, method_with_lambda, method_with_value};
-    ghost use Rattle.lq_model.specs.Machine.{schemas_of};
+    ghost use Rattle.lq_model.specs.States.{schemas_of};
     ghost use Rattle.lq_model.specs.Members.{sole_argument};
     ghost use Rattle.lq_tree.specs.Binding.{called_tree, enumerable_tree, lambda_tree, method_tree, search_tree};
-    ghost use Rattle.lq_bind.specs.Bound.{trees_in};
-    ghost use Rattle.lq_bind.specs.Frames.{places_in};
+    ghost use Rattle.lq_bind.specs.Bound.{places_at, trees_in};
 
     /// A method of this name of what has this tree.
     #[cycle(binding)]
@@ -29,7 +28,7 @@ impl Binder<'_> {
         frame: &Frame<'_>,
     ) -> Result<Option<Tree>, AllocError>
         ensures { IfOk result (λ found. found
-            ≡ method_tree (schemas_of self.now.store.now) (trees_in self.now.store.now) name.now arguments.now of (places_in frame.now)) }
+            ≡ method_tree (schemas_of self.now.store.now) (trees_in self.now.store.now) name.now arguments.now of (places_at self.now frame.now)) }
     {
         if is_text(&of.ty) {
             return self.search(arguments, name, of, frame);
@@ -48,7 +47,7 @@ impl Binder<'_> {
         frame: &Frame<'_>,
     ) -> Result<Option<Tree>, AllocError>
         ensures { IfOk result (λ found. found
-            ≡ option_and_then (λ x. trees_in self.now.store.now x (places_in frame.now)) (sole_argument arguments.now)) }
+            ≡ option_and_then (λ x. trees_in self.now.store.now x (places_at self.now frame.now)) (sole_argument arguments.now)) }
     {
         match arguments {
             [Argument::Value(value)] => self.term(value, frame),
@@ -66,7 +65,7 @@ impl Binder<'_> {
         frame: &Frame<'_>,
     ) -> Result<Option<Tree>, AllocError>
         ensures { IfOk result (λ found. found
-            ≡ search_tree (schemas_of self.now.store.now) (trees_in self.now.store.now) name.now arguments.now text (places_in frame.now)) }
+            ≡ search_tree (schemas_of self.now.store.now) (trees_in self.now.store.now) name.now arguments.now text (places_at self.now frame.now)) }
     {
         let Some(op) = search_named(name) else {
             return Ok(None);
@@ -87,7 +86,7 @@ impl Binder<'_> {
         frame: &Frame<'_>,
     ) -> Result<Option<Tree>, AllocError>
         ensures { IfOk result (λ found. found ≡ called_tree (schemas_of self.now.store.now) (trees_in self.now.store.now)
-            (enumerable_call name.now arguments.now) of (places_in frame.now)) }
+            (enumerable_call name.now arguments.now) of (places_at self.now frame.now)) }
     {
         let Some(Tree { ty, form }) = placed::items(of) else {
             return Ok(None);
@@ -109,7 +108,7 @@ impl Binder<'_> {
         frame: &Frame<'_>,
     ) -> Result<Option<Tree>, AllocError>
         ensures { IfOk result (λ found. found
-            ≡ option_and_then (enumerable_tree (schemas_of self.now.store.now) (trees_in self.now.store.now) (places_in frame.now) source of)
+            ≡ option_and_then (enumerable_tree (schemas_of self.now.store.now) (trees_in self.now.store.now) (places_at self.now frame.now) source of)
             (enumerable_call name.now arguments.now)) }
     {
         match arguments {
@@ -138,7 +137,7 @@ impl Binder<'_> {
         frame: &Frame<'_>,
     ) -> Result<Option<Tree>, AllocError>
         ensures { IfOk result (λ found. found
-            ≡ option_and_then (enumerable_tree (schemas_of self.now.store.now) (trees_in self.now.store.now) (places_in frame.now) source of)
+            ≡ option_and_then (enumerable_tree (schemas_of self.now.store.now) (trees_in self.now.store.now) (places_at self.now frame.now) source of)
             (option_map (λ method. With method argument.now) (method_with_value name.now))) }
     {
         let Some(method) = method_with_value(name) else {
@@ -162,7 +161,7 @@ impl Binder<'_> {
         frame: &Frame<'_>,
     ) -> Result<Option<Tree>, AllocError>
         ensures { IfOk result (λ found. found
-            ≡ option_and_then (enumerable_tree (schemas_of self.now.store.now) (trees_in self.now.store.now) (places_in frame.now) source of)
+            ≡ option_and_then (enumerable_tree (schemas_of self.now.store.now) (trees_in self.now.store.now) (places_at self.now frame.now) source of)
             (option_map (λ method. By method parameter.now body.now) (method_with_lambda name.now))) }
     {
         let Some(method) = method_with_lambda(name) else {
@@ -184,7 +183,7 @@ impl Binder<'_> {
         frame: &Frame<'_>,
     ) -> Result<Option<Tree>, AllocError>
         ensures { IfOk result (λ found. found
-            ≡ lambda_tree (schemas_of self.now.store.now) (trees_in self.now.store.now) (places_in frame.now) of.now parameter.now body.now) }
+            ≡ lambda_tree (schemas_of self.now.store.now) (trees_in self.now.store.now) (places_at self.now frame.now) of.now parameter.now body.now) }
     {
         if !frame.is_fresh(parameter.as_str()) {
             return Ok(None);

@@ -1,25 +1,31 @@
-//! The trees of literals and of names (ECMA-334, literals and simple names).
-ghost use Rattle.std.specs.Prelude.{◌≡◌, IfOk, None, Some};
+//! The trees of literals, of tables and of variables (ECMA-334, literals and simple names).
+ghost use Rattle.std.specs.Prelude.{◌≡◌, IfOk, Some, option_map};
 ghost use Rattle.lq_value.specs.declared.scalar.Scalar.TheVariants as scalar;
 ghost use Rattle.lq_value.specs.declared.ty.Ty.TheVariants as ty;
-ghost use Rattle.lq_model.specs.Machine.{schemas_of};
-ghost use Rattle.lq_tree.specs.Binding.{name_tree};
-ghost use Rattle.lq_tree.specs.Places.{place_of};
-ghost use Rattle.lq_bind.specs.Bound.{literal_tree};
-ghost use Rattle.lq_bind.specs.Frames.{places_in};
+ghost use Rattle.lq_model.specs.States.{schemas_of};
+ghost use Rattle.lq_model.specs.Typing.{table_number};
+ghost use Rattle.lq_tree.specs.SessionPlaces.{tree_or_null};
+ghost use Rattle.lq_bind.specs.Bound.{literal_tree, rows_tree};
 
-use crate::frames::Frame;
 use lq_store::Store;
 use lq_tree::{Form, Tree};
-use lq_value::{Held, Scalar, Txt, Ty};
+use lq_typing::copy_ty;
+use lq_value::{Held, Scalar, Txt, Ty, copy_scalar};
 use std::alloc::{AllocError, Global};
 
 /// A literal of this type.
-fn literal(alloc: Global, of: Ty, value: Scalar) -> Result<Option<Tree>, AllocError>
-    ensures { IfOk result (λ found. found ≡ Some (literal_tree of value)) }
+fn literal_of(alloc: Global, ty: Ty, value: Scalar) -> Result<Tree, AllocError>
+    ensures { IfOk result (λ made. made ≡ literal_tree ty value) }
 {
     let form = Held::new(alloc, Form::Literal(value))?;
-    Ok(Some(Tree { ty: of, form }))
+    Ok(Tree { ty, form })
+}
+
+/// The same, as what an expression is bound to.
+fn literal(alloc: Global, ty: Ty, value: Scalar) -> Result<Option<Tree>, AllocError>
+    ensures { IfOk result (λ found. found ≡ Some (literal_tree ty value)) }
+{
+    Ok(Some(literal_of(alloc, ty, value)?))
 }
 
 /// An integer.
@@ -57,8 +63,8 @@ pub(crate) fn null(alloc: Global) -> Result<Option<Tree>, AllocError>
 
 /// The rows of the table of this name.
 #[tactic(auto, using(crate::proofs::TermLemmas::tables))]
-fn rows(alloc: Global, store: &Store, name: &str) -> Result<Option<Tree>, AllocError>
-    ensures { IfOk result (λ found. found ≡ name_tree (schemas_of store.now) name.now None) }
+pub(crate) fn rows(alloc: Global, store: &Store, name: &str) -> Result<Option<Tree>, AllocError>
+    ensures { IfOk result (λ found. found ≡ option_map rows_tree (table_number name.now (schemas_of store.now))) }
 {
     let Some(table) = store.find(name) else {
         return Ok(None);
@@ -68,19 +74,20 @@ fn rows(alloc: Global, store: &Store, name: &str) -> Result<Option<Tree>, AllocE
     Ok(Some(Tree { ty, form }))
 }
 
-/// What a name stands for: a local name, and else the rows of a table.
-#[inline(never)]
-#[tactic(auto, using(crate::proofs::TermLemmas::named))]
-pub(crate) fn name(
-    alloc: Global,
-    store: &Store,
-    name: &str,
-    frame: &Frame<'_>,
-) -> Result<Option<Tree>, AllocError>
-    ensures { IfOk result (λ found. found ≡ name_tree (schemas_of store.now) name.now (place_of name.now (places_in frame.now).locals)) }
+/// A variable of the session, which is its value.
+pub(crate) fn variable(alloc: Global, ty: &Ty, value: &Scalar) -> Result<Tree, AllocError>
+    ensures { IfOk result (λ made. made ≡ literal_tree ty.now value.now) }
 {
-    if let Some(found) = frame.find(alloc, name)? {
-        return Ok(Some(found));
+    let ty = copy_ty(alloc, ty)?;
+    literal_of(alloc, ty, copy_scalar(alloc, value)?)
+}
+
+/// The tree; that of null, where there is none.
+pub(crate) fn tree_or_null(alloc: Global, found: Option<Tree>) -> Result<Tree, AllocError>
+    ensures { IfOk result (λ made. made ≡ tree_or_null found) }
+{
+    match found {
+        Some(tree) => Ok(tree),
+        None => literal_of(alloc, Ty::Null, Scalar::Null),
     }
-    rows(alloc, store, name)
 }

@@ -84,13 +84,13 @@ fn joined_name(join: &Join<Term>) -> &Txt
 impl Binder<'_> {
     ghost use Rattle.std.specs.Prelude.{◌≡◌, IfOk, is_some, option_and_then, option_map};
     ghost use Rattle.lq_model.specs.ClauseTyping.{joined_name};
-    ghost use Rattle.lq_model.specs.Machine.{schemas_of};
+    ghost use Rattle.lq_model.specs.States.{schemas_of};
     ghost use Rattle.lq_model.specs.Operators.{unnamed};
     ghost use Rattle.lq_tree.specs.Binding.{expanded_stage, if_fresh, join_keys, joined_stage, paired_stage, placed_tree, select_many_stage, source_tree, stage_of};
     ghost use Rattle.lq_tree.specs.Places.{with_item, with_name};
     ghost use Rattle.lq_tree.specs.declared.tree.Form.TheVariants as form;
-    ghost use Rattle.lq_bind.specs.Bound.{matched_in, trees_in};
-    ghost use Rattle.lq_bind.specs.Frames.{found_stage, pattern_in, places_in, stage_in};
+    ghost use Rattle.lq_bind.specs.Bound.{matched_in, places_at, trees_in};
+    ghost use Rattle.lq_bind.specs.Frames.{found_stage, pattern_in, stage_in};
 
     /// The inner sequence of `SelectMany`, in the scope of an item; the name repeats none that is known.
     #[cycle(binding)]
@@ -101,9 +101,9 @@ impl Binder<'_> {
         variables: &Variables,
         frame: &Frame<'_>,
     ) -> Result<Option<Tree>, AllocError>
-        ensures { IfOk result (λ found. found ≡ if_fresh (schemas_of self.now.store.now) (trees_in self.now.store.now) (places_in frame.now)
+        ensures { IfOk result (λ found. found ≡ if_fresh (schemas_of self.now.store.now) (trees_in self.now.store.now) (places_at self.now frame.now)
             (pattern_in variables.now) name.now (source_tree (schemas_of self.now.store.now) (trees_in self.now.store.now) source.now
-            (with_item (places_in frame.now) (pattern_in variables.now)))) }
+            (with_item (places_at self.now frame.now) (pattern_in variables.now)))) }
     {
         let inner = (&*frame).with(&*variables);
         if !inner.is_fresh(name.as_str()) {
@@ -122,7 +122,7 @@ impl Binder<'_> {
         before: Behind,
         frame: &Frame<'_>,
     ) -> Result<Option<Behind>, AllocError>
-        ensures { IfOk result (λ found. found_stage found ≡ select_many_stage (schemas_of self.now.store.now) (trees_in self.now.store.now) (places_in frame.now)
+        ensures { IfOk result (λ found. found_stage found ≡ select_many_stage (schemas_of self.now.store.now) (trees_in self.now.store.now) (places_at self.now frame.now)
             name.now source.now pair.now (stage_in before)) }
     {
         let Some(inner) = self.inner(source, name, &before.variables, frame)? else {
@@ -141,7 +141,7 @@ impl Binder<'_> {
         inner: Tree,
         frame: &Frame<'_>,
     ) -> Result<Option<Behind>, AllocError>
-        ensures { IfOk result (λ found. found_stage found ≡ expanded_stage (schemas_of self.now.store.now) (trees_in self.now.store.now) (places_in frame.now)
+        ensures { IfOk result (λ found. found_stage found ≡ expanded_stage (schemas_of self.now.store.now) (trees_in self.now.store.now) (places_at self.now frame.now)
             name.now pair.now (stage_in before) inner) }
     {
         match pair {
@@ -162,7 +162,7 @@ impl Binder<'_> {
     ) -> Result<Option<Behind>, AllocError>
         ensures { IfOk result (λ found. found_stage found ≡ option_map (λ made. stage_of made.pattern (form.SelectMany before.form inner.form made.form))
             (option_map (λ found. stage_of (unnamed found.ty) found.form) (option_and_then placed_tree
-            (trees_in self.now.store.now value.now (with_name (with_item (places_in frame.now) (pattern_in before.variables)) name.now inner.ty))))) }
+            (trees_in self.now.store.now value.now (with_name (with_item (places_at self.now frame.now) (pattern_in before.variables)) name.now inner.ty))))) }
     {
         let Some(made) = self.paired_value(value, name, &inner.ty, &before.variables, frame)? else {
             return Ok(None);
@@ -180,7 +180,7 @@ impl Binder<'_> {
         variables: Variables,
         frame: &Frame<'_>,
     ) -> Result<Option<Behind>, AllocError>
-        ensures { IfOk result (λ found. found_stage found ≡ paired_stage (schemas_of self.now.store.now) (trees_in self.now.store.now) (places_in frame.now)
+        ensures { IfOk result (λ found. found_stage found ≡ paired_stage (schemas_of self.now.store.now) (trees_in self.now.store.now) (places_at self.now frame.now)
             (pattern_in variables) name.now ty pair.now) }
     {
         match pair {
@@ -203,7 +203,7 @@ impl Binder<'_> {
         frame: &Frame<'_>,
     ) -> Result<Option<Behind>, AllocError>
         ensures { IfOk result (λ found. found_stage found ≡ option_map (λ found. stage_of (unnamed found.ty) found.form) (option_and_then placed_tree
-            (trees_in self.now.store.now value.now (with_name (with_item (places_in frame.now) (pattern_in variables.now)) name.now ty.now)))) }
+            (trees_in self.now.store.now value.now (with_name (with_item (places_at self.now frame.now) (pattern_in variables.now)) name.now ty.now)))) }
     {
         let item = (&*frame).with(&*variables);
         let scope = (&item).with_name(&*name, &*ty);
@@ -222,9 +222,9 @@ impl Binder<'_> {
         variables: &Variables,
         frame: &Frame<'_>,
     ) -> Result<Option<Tree>, AllocError>
-        ensures { IfOk result (λ found. found ≡ if_fresh (schemas_of self.now.store.now) (trees_in self.now.store.now) (places_in frame.now)
+        ensures { IfOk result (λ found. found ≡ if_fresh (schemas_of self.now.store.now) (trees_in self.now.store.now) (places_at self.now frame.now)
             (pattern_in variables.now) join.now.name (source_tree (schemas_of self.now.store.now) (trees_in self.now.store.now) join.now.source
-            (places_in frame.now))) }
+            (places_at self.now frame.now))) }
     {
         if !(&*frame).with(&*variables).is_fresh(join.name.as_str()) {
             return Ok(None);
@@ -241,7 +241,7 @@ impl Binder<'_> {
         ty: &Ty,
         frame: &Frame<'_>,
     ) -> Result<Option<(Held<Form>, Held<Form>)>, AllocError>
-        ensures { IfOk result (λ found. found ≡ join_keys (schemas_of self.now.store.now) (trees_in self.now.store.now) (places_in frame.now)
+        ensures { IfOk result (λ found. found ≡ join_keys (schemas_of self.now.store.now) (trees_in self.now.store.now) (places_at self.now frame.now)
             (pattern_in variables.now) join.now ty.now) }
     {
         let Some(outer) = self.of_item(&join.outer_key, variables, frame)? else {
@@ -262,7 +262,7 @@ impl Binder<'_> {
         variables: &Variables,
         frame: &Frame<'_>,
     ) -> Result<Option<Matched>, AllocError>
-        ensures { IfOk result (λ found. found ≡ matched_in (schemas_of self.now.store.now) (trees_in self.now.store.now) (places_in frame.now)
+        ensures { IfOk result (λ found. found ≡ matched_in (schemas_of self.now.store.now) (trees_in self.now.store.now) (places_at self.now frame.now)
             (pattern_in variables.now) join.now) }
     {
         let Some(inner) = self.joined_source(join, variables, frame)? else {
@@ -285,7 +285,7 @@ impl Binder<'_> {
         matched: Matched,
         frame: &Frame<'_>,
     ) -> Result<Option<Behind>, AllocError>
-        ensures { IfOk result (λ found. found_stage found ≡ joined_stage (schemas_of self.now.store.now) (trees_in self.now.store.now) (places_in frame.now)
+        ensures { IfOk result (λ found. found_stage found ≡ joined_stage (schemas_of self.now.store.now) (trees_in self.now.store.now) (places_at self.now frame.now)
             join.now pair.now (stage_in before) matched.sides.inner matched.sides.keys matched.ty) }
     {
         let Matched { sides, ty } = matched;

@@ -10,12 +10,12 @@ use std::alloc::AllocError;
 
 impl Binder<'_> {
     ghost use Rattle.std.specs.Prelude.{◌≡◌, IfOk, option_and_then, option_map};
-    ghost use Rattle.lq_model.specs.Machine.{schemas_of};
+    ghost use Rattle.lq_model.specs.States.{schemas_of};
     ghost use Rattle.lq_tree.specs.Binding.{body_tree, call_items_tree, call_tree, grouped_stage, keyed_tree, let_stage, operator_stage, order_stage};
     ghost use Rattle.lq_tree.specs.Binding.{part_tree, placed_tree, element_tree, select_stage, source_tree, walked, where_stage};
     ghost use Rattle.lq_tree.specs.Places.{with_item};
-    ghost use Rattle.lq_bind.specs.Bound.{trees_in};
-    ghost use Rattle.lq_bind.specs.Frames.{found_stage, pattern_in, places_in, stage_in};
+    ghost use Rattle.lq_bind.specs.Bound.{places_at, trees_in};
+    ghost use Rattle.lq_bind.specs.Frames.{found_stage, pattern_in, stage_in};
 
     /// The calls of a query.
     #[cycle(binding)]
@@ -27,7 +27,7 @@ impl Binder<'_> {
         frame: &Frame<'_>,
     ) -> Result<Option<Tree>, AllocError>
         ensures { IfOk result (λ found. found
-            ≡ call_tree (schemas_of self.now.store.now) (trees_in self.now.store.now) call.now (places_in frame.now)) }
+            ≡ call_tree (schemas_of self.now.store.now) (trees_in self.now.store.now) call.now (places_at self.now frame.now)) }
     {
         let Some(items) = self.items(call, frame)? else {
             return Ok(None);
@@ -39,7 +39,7 @@ impl Binder<'_> {
     #[cycle(binding)]
     fn items(&self, call: &Call<Term>, frame: &Frame<'_>) -> Result<Option<Tree>, AllocError>
         ensures { IfOk result (λ found. found
-            ≡ call_items_tree (schemas_of self.now.store.now) (trees_in self.now.store.now) call.now (places_in frame.now)) }
+            ≡ call_items_tree (schemas_of self.now.store.now) (trees_in self.now.store.now) call.now (places_at self.now frame.now)) }
     {
         let Some(source) = self.source(&call.source, frame)? else {
             return Ok(None);
@@ -60,7 +60,7 @@ impl Binder<'_> {
         frame: &Frame<'_>,
     ) -> Result<Option<Tree>, AllocError>
         ensures { IfOk result (λ found. found
-            ≡ walked (part_tree (schemas_of self.now.store.now) (trees_in self.now.store.now) (places_in frame.now)) first parts.now) }
+            ≡ walked (part_tree (schemas_of self.now.store.now) (trees_in self.now.store.now) (places_at self.now frame.now)) first parts.now) }
     {
         let mut items = first;
         for part in parts {
@@ -82,7 +82,7 @@ impl Binder<'_> {
         frame: &Frame<'_>,
     ) -> Result<Option<Tree>, AllocError>
         ensures { IfOk result (λ found. found
-            ≡ body_tree (schemas_of self.now.store.now) (trees_in self.now.store.now) (places_in frame.now) name.now operators.now items) }
+            ≡ body_tree (schemas_of self.now.store.now) (trees_in self.now.store.now) (places_at self.now frame.now) name.now operators.now items) }
     {
         if !frame.is_fresh(name.as_str()) {
             return Ok(None);
@@ -103,7 +103,7 @@ impl Binder<'_> {
         frame: &Frame<'_>,
     ) -> Result<Option<Behind>, AllocError>
         ensures { IfOk result (λ found. found_stage found
-            ≡ walked (operator_stage (schemas_of self.now.store.now) (trees_in self.now.store.now) (places_in frame.now)) (stage_in first) operators.now) }
+            ≡ walked (operator_stage (schemas_of self.now.store.now) (trees_in self.now.store.now) (places_at self.now frame.now)) (stage_in first) operators.now) }
     {
         let mut behind = first;
         for operator in operators {
@@ -125,7 +125,7 @@ impl Binder<'_> {
         frame: &Frame<'_>,
     ) -> Result<Option<Behind>, AllocError>
         ensures { IfOk result (λ found. found_stage found
-            ≡ operator_stage (schemas_of self.now.store.now) (trees_in self.now.store.now) (places_in frame.now) operator.now (stage_in before)) }
+            ≡ operator_stage (schemas_of self.now.store.now) (trees_in self.now.store.now) (places_at self.now frame.now) operator.now (stage_in before)) }
     {
         match operator {
             Operator::Where(condition) => self.filtered(condition, before, frame),
@@ -158,7 +158,7 @@ impl Binder<'_> {
         variables: &Variables,
         frame: &Frame<'_>,
     ) -> Result<Option<Tree>, AllocError>
-        ensures { IfOk result (λ found. found ≡ trees_in self.now.store.now term.now (with_item (places_in frame.now) (pattern_in variables.now))) }
+        ensures { IfOk result (λ found. found ≡ trees_in self.now.store.now term.now (with_item (places_at self.now frame.now) (pattern_in variables.now))) }
     {
         let inner = (&*frame).with(&*variables);
         self.term(term, &inner)
@@ -172,7 +172,7 @@ impl Binder<'_> {
         frame: &Frame<'_>,
     ) -> Result<Option<Tree>, AllocError>
         ensures { IfOk result (λ found. found
-            ≡ source_tree (schemas_of self.now.store.now) (trees_in self.now.store.now) source.now (places_in frame.now)) }
+            ≡ source_tree (schemas_of self.now.store.now) (trees_in self.now.store.now) source.now (places_at self.now frame.now)) }
     {
         let Some(source) = self.term(source, frame)? else {
             return Ok(None);
@@ -189,7 +189,7 @@ impl Binder<'_> {
         frame: &Frame<'_>,
     ) -> Result<Option<Behind>, AllocError>
         ensures { IfOk result (λ found. found_stage found
-            ≡ where_stage (schemas_of self.now.store.now) (trees_in self.now.store.now) (places_in frame.now) condition.now (stage_in before)) }
+            ≡ where_stage (schemas_of self.now.store.now) (trees_in self.now.store.now) (places_at self.now frame.now) condition.now (stage_in before)) }
     {
         let Some(condition) = self.of_item(condition, &before.variables, frame)? else {
             return Ok(None);
@@ -206,7 +206,7 @@ impl Binder<'_> {
         frame: &Frame<'_>,
     ) -> Result<Option<Behind>, AllocError>
         ensures { IfOk result (λ found. found_stage found
-            ≡ select_stage (schemas_of self.now.store.now) (trees_in self.now.store.now) (places_in frame.now) value.now (stage_in before)) }
+            ≡ select_stage (schemas_of self.now.store.now) (trees_in self.now.store.now) (places_at self.now frame.now) value.now (stage_in before)) }
     {
         let Some(value) = self.of_item(value, &before.variables, frame)? else {
             return Ok(None);
@@ -225,7 +225,7 @@ impl Binder<'_> {
         frame: &Frame<'_>,
     ) -> Result<Option<Behind>, AllocError>
         ensures { IfOk result (λ found. found_stage found
-            ≡ let_stage (schemas_of self.now.store.now) (trees_in self.now.store.now) (places_in frame.now) name.now value.now (stage_in before)) }
+            ≡ let_stage (schemas_of self.now.store.now) (trees_in self.now.store.now) (places_at self.now frame.now) name.now value.now (stage_in before)) }
     {
         if !(&*frame).with(&before.variables).is_fresh(name.as_str()) {
             return Ok(None);
@@ -246,7 +246,7 @@ impl Binder<'_> {
         frame: &Frame<'_>,
     ) -> Result<Option<Behind>, AllocError>
         ensures { IfOk result (λ found. found_stage found
-            ≡ order_stage (schemas_of self.now.store.now) (trees_in self.now.store.now) (places_in frame.now) keys.now (stage_in before)) }
+            ≡ order_stage (schemas_of self.now.store.now) (trees_in self.now.store.now) (places_at self.now frame.now) keys.now (stage_in before)) }
     {
         let inner = (&*frame).with(&before.variables);
         let Some(keys) = self.sort_keys(keys, &inner)? else {
@@ -264,7 +264,7 @@ impl Binder<'_> {
         frame: &Frame<'_>,
     ) -> Result<Option<Tree>, AllocError>
         ensures { IfOk result (λ found. found ≡ option_and_then keyed_tree
-            (trees_in self.now.store.now key.now (with_item (places_in frame.now) (pattern_in variables.now)))) }
+            (trees_in self.now.store.now key.now (with_item (places_at self.now frame.now) (pattern_in variables.now)))) }
     {
         let Some(key) = self.of_item(key, variables, frame)? else {
             return Ok(None);
@@ -280,7 +280,7 @@ impl Binder<'_> {
         variables: &Variables,
         frame: &Frame<'_>,
     ) -> Result<Option<Tree>, AllocError>
-        ensures { IfOk result (λ found. found ≡ element_tree (schemas_of self.now.store.now) (trees_in self.now.store.now) (places_in frame.now)
+        ensures { IfOk result (λ found. found ≡ element_tree (schemas_of self.now.store.now) (trees_in self.now.store.now) (places_at self.now frame.now)
             (pattern_in variables.now) element.now) }
     {
         match element {
@@ -298,7 +298,7 @@ impl Binder<'_> {
         before: Behind,
         frame: &Frame<'_>,
     ) -> Result<Option<Behind>, AllocError>
-        ensures { IfOk result (λ found. found_stage found ≡ grouped_stage (schemas_of self.now.store.now) (trees_in self.now.store.now) (places_in frame.now)
+        ensures { IfOk result (λ found. found_stage found ≡ grouped_stage (schemas_of self.now.store.now) (trees_in self.now.store.now) (places_at self.now frame.now)
             element.now (stage_in before) key) }
     {
         let Some(element) = self.element(element, &before.variables, frame)? else {

@@ -10,10 +10,9 @@ use std::alloc::AllocError;
 
 impl Binder<'_> {
     ghost use Rattle.std.specs.Prelude.{◌≡◌, IfOk};
-    ghost use Rattle.lq_model.specs.Machine.{schemas_of};
+    ghost use Rattle.lq_model.specs.States.{schemas_of};
     ghost use Rattle.lq_tree.specs.Binding.{field_tree, gathered, key_tree, record_tree};
-    ghost use Rattle.lq_bind.specs.Bound.{trees_in};
-    ghost use Rattle.lq_bind.specs.Frames.{places_in};
+    ghost use Rattle.lq_bind.specs.Bound.{places_at, trees_in};
 
     /// A record of members with different names.
     #[cycle(binding)]
@@ -24,7 +23,7 @@ impl Binder<'_> {
         frame: &Frame<'_>,
     ) -> Result<Option<Tree>, AllocError>
         ensures { IfOk result (λ found. found
-            ≡ record_tree (schemas_of self.now.store.now) (trees_in self.now.store.now) fields.now (places_in frame.now)) }
+            ≡ record_tree (schemas_of self.now.store.now) (trees_in self.now.store.now) fields.now (places_at self.now frame.now)) }
     {
         if !fields::are_distinct(fields.as_slice()) {
             return Ok(None);
@@ -43,7 +42,7 @@ impl Binder<'_> {
         frame: &Frame<'_>,
     ) -> Result<Option<List<Field<Tree>>>, AllocError>
         ensures { IfOk result (λ found. found
-            ≡ gathered (field_tree (schemas_of self.now.store.now) (trees_in self.now.store.now) (places_in frame.now)) fields.now) }
+            ≡ gathered (field_tree (schemas_of self.now.store.now) (trees_in self.now.store.now) (places_at self.now frame.now)) fields.now) }
     {
         let mut members = List::new(self.alloc);
         for field in fields {
@@ -63,7 +62,7 @@ impl Binder<'_> {
         frame: &Frame<'_>,
     ) -> Result<Option<Field<Tree>>, AllocError>
         ensures { IfOk result (λ found. found
-            ≡ field_tree (schemas_of self.now.store.now) (trees_in self.now.store.now) (places_in frame.now) field.now) }
+            ≡ field_tree (schemas_of self.now.store.now) (trees_in self.now.store.now) (places_at self.now frame.now) field.now) }
     {
         let Some(value) = self.term(&field.value, frame)? else {
             return Ok(None);
@@ -83,7 +82,7 @@ impl Binder<'_> {
         frame: &Frame<'_>,
     ) -> Result<Option<List<SortKey<Form>>>, AllocError>
         ensures { IfOk result (λ found. found
-            ≡ gathered (key_tree (schemas_of self.now.store.now) (trees_in self.now.store.now) (places_in frame.now)) keys.now) }
+            ≡ gathered (key_tree (schemas_of self.now.store.now) (trees_in self.now.store.now) (places_at self.now frame.now)) keys.now) }
     {
         let mut bound = List::new(self.alloc);
         for key in keys {
@@ -103,7 +102,7 @@ impl Binder<'_> {
         frame: &Frame<'_>,
     ) -> Result<Option<SortKey<Form>>, AllocError>
         ensures { IfOk result (λ found. found
-            ≡ key_tree (schemas_of self.now.store.now) (trees_in self.now.store.now) (places_in frame.now) key.now) }
+            ≡ key_tree (schemas_of self.now.store.now) (trees_in self.now.store.now) (places_at self.now frame.now) key.now) }
     {
         let Some(value) = self.term(&key.value, frame)? else {
             return Ok(None);

@@ -4,8 +4,8 @@ use Rattle.serde_json.specs.Data.{Data, object}
 use Rattle.lq_value.specs.declared.scalar.Scalar.{Scalar}
 use Rattle.lq_value.specs.declared.value.End.{End}
 use Rattle.lq_value.specs.declared.value.Value.{Value}
-use Rattle.lq_model.specs.Machine.{schemas_of}
-use Rattle.lq_model.specs.Served.{denied_data, error_data, fault_data, nested_fault, stream_data, stream_members, unless_fault, value_data}
+use Rattle.lq_model.specs.States.{schemas_of}
+use Rattle.lq_model.specs.Served.{assigned_data, defined_data, deleted_data, denied_data, error_data, fault_data, inserted_data, nested_fault, role_data, stream_data, stream_members, unless_fault, value_data}
 use Rattle.lq_model.specs.Stream.{Stream, made}
 use Rattle.lq_json.specs.Forms.{data_by}
 use Rattle.lq_json.specs.Items.{bytes_before, tokens_in}
@@ -27,6 +27,11 @@ module _ {R : Type 0} (cells_of : R → List Scalar) where
   reply_data (reply.Fault f) = fault_data f
   reply_data (reply.Error word) = error_data word.now
   reply_data (reply.Denied store rule used) = denied_data (schemas_of store.now) rule.now used
+  reply_data (reply.Defined name) = defined_data name.now
+  reply_data (reply.Assigned name) = assigned_data name.now
+  reply_data (reply.Role name) = role_data name.now
+  reply_data reply.Inserted = inserted_data
+  reply_data (reply.Deleted n) = deleted_data n
 
   -- a stream of values as a form writes them, up to the first that holds a fault
   abbrev pub served_by : Form → Stream (Value R) → Stream Data

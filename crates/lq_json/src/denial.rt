@@ -1,6 +1,6 @@
 //! The line of a denial: the rule that denies a use, and the use as it is named.
 ghost use Rattle.std.specs.Prelude.{◌≡◌, codes, slice_get, string_bytes, IfOk};
-ghost use Rattle.lq_model.specs.Machine.{schemas_of};
+ghost use Rattle.lq_model.specs.States.{schemas_of};
 ghost use Rattle.lq_model.specs.Served.{columns_in, denied_data, line_of, name_at, name_of_table, use_name};
 
 use crate::line::Line;

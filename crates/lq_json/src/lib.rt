@@ -8,6 +8,7 @@ mod items;
 mod line;
 mod order;
 mod reply;
+mod sole;
 mod write;
 
 pub use items::ItemsLine;

@@ -1,8 +1,8 @@
 //! Replies and their lines.
 ghost use Rattle.std.specs.Prelude.{◌≡◌, ◌++◌, codes, IfOk, Ok, OnOk};
-ghost use Rattle.serde_json.specs.Data.{no_members, object, put, string};
+ghost use Rattle.serde_json.specs.Data.{no_members, object, put};
 ghost use Rattle.serde_json.specs.Written.{compact_text};
-ghost use Rattle.lq_model.specs.Machine.{schemas_of};
+ghost use Rattle.lq_model.specs.States.{schemas_of};
 ghost use Rattle.lq_model.specs.Served.{line_of, stream_data, value_data};
 ghost use Rattle.lq_json.specs.Forms.{data_by};
 ghost use Rattle.lq_json.specs.Replies.{ServesAll, reply_data, served_by, stream_reply};
@@ -13,12 +13,12 @@ use crate::fault::{fault_name, nested_fault};
 use crate::form::{Form, form_of};
 use crate::items::ItemsLine;
 use crate::line::Line;
+use crate::sole::{count_line, word_line};
 use crate::write::write;
 use json::Writer;
 use lq_model::Use;
 use lq_store::Store;
 use lq_value::{End, Fault, RowRef, Ty, Value};
-use serde_json::Map;
 use std::alloc::{AllocError, Global};
 
 /// What a statement is answered. A value stands in it with its type, and with the store whose
@@ -49,6 +49,16 @@ pub enum Reply<'a, R> {
         rule: &'a str,
         used: Use,
     },
+    /// The name that a statement defined: a variable's or a named query's.
+    Defined(&'a str),
+    /// The variable that was assigned to.
+    Assigned(&'a str),
+    /// The role that the session goes by from now on.
+    Role(&'a str),
+    /// One row was put into a table.
+    Inserted,
+    /// So many rows were removed from a table.
+    Deleted(u64),
 }
 
 /// The line of a reply: its JSON, with the members of each object in the order of their names'
@@ -67,19 +77,12 @@ pub fn reply_line<R: RowRef>(alloc: Global, reply: &Reply<'_, R>) -> Result<Line
         Reply::Fault(fault) => word_line(alloc, "fault", fault_name(*fault)),
         Reply::Error(word) => word_line(alloc, "error", word),
         Reply::Denied { store, rule, used } => denied_line(alloc, store, rule, *used),
+        Reply::Defined(name) => word_line(alloc, "defined", name),
+        Reply::Assigned(name) => word_line(alloc, "assigned", name),
+        Reply::Role(name) => word_line(alloc, "role", name),
+        Reply::Inserted => count_line(alloc, "inserted", 1),
+        Reply::Deleted(count) => count_line(alloc, "deleted", *count),
     }
-}
-
-/// The line of a reply with one member, a text.
-fn word_line(alloc: Global, name: &str, word: &str) -> Result<Line, AllocError>
-    ensures { IfOk result (λ line. line ≡ line_of (object (put name.now (string word.now) no_members))) }
-{
-    let mut members = Map::new(alloc);
-    let word = serde_json::Value::try_from_str(alloc, word)?;
-    serde_json::put(&mut members, alloc, name, word)?;
-    let mut line = serde_json::Value::Object(members).to_vec(alloc)?;
-    line.push(b'\n')?;
-    Ok(Line::from_bytes(line))
 }
 
 /// Writes items of a form behind others, up to the first that holds a fault, and tells how they end.

@@ -47,6 +47,7 @@ only_memory store.CellRange h = cc
 only_memory store.Full h = cc
 only_memory store.DuplicateTable h = cc
 only_memory store.TooMany h = cc
+only_memory store.UnknownTable h = cc
 
 above : (limit n : ℕ) → limit < n → nat_lt limit n ≡ true
 above limit n h = grind (arith, nat_tests)

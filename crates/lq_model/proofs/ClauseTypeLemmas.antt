@@ -16,10 +16,11 @@ use Rattle.lq_value.specs.declared.value.Value.TheOpen.{Value-F}
 use Rattle.lq_value.specs.declared.value.Value.TheVariants as value
 use Rattle.lq_model.specs.ClauseLaws.{RecordsMatch, TakesAllElse, AreIntAndNullable, BoundsParts, ComparesOneType, CountsParts, HidesTables, ReturnsItsName}
 use Rattle.lq_model.specs.ClauseTyping.{expression_step, expression_type, matched_type, source_type}
+use Rattle.lq_model.specs.WholeTyping.{whole_name_type}
 use Rattle.lq_model.specs.Meaning.{is_null_layer}
 use Rattle.lq_model.specs.Stream.{elements_of}
 use Rattle.lq_model.specs.Types.{are_join_keys, are_widened, element_type, fresh_type, has_place, if_key, if_placed, is_fresh, is_key, parts_of, parts_step, same_types, sum_of_members, when}
-use Rattle.lq_model.specs.Typing.{Names, local_type, name_type, with_local}
+use Rattle.lq_model.specs.Typing.{Names, local_type, with_local}
 use Rattle.lq_model.specs.declared.syntax.Expr.{Expr, fold_out-Expr, map-Expr}
 use Rattle.lq_model.specs.declared.syntax.Expr.TheOpen.{Expr-F}
 use Rattle.lq_model.specs.declared.syntax.Expr.TheVariants as expr
@@ -141,7 +142,7 @@ returns_its_name typed outer names n f k l t u free source outer_key inner_key k
     ap (λ (found : Option Ty). option_map (with_local names n) (compared typed outer names n k l found)) (fresh_by names n (source_type typed f outer) free ∙ source)
     ∙ ap (option_map (with_local names n)) (matched typed outer names n k l t u free outer_key inner_key key)
 
-name_out : (n : List ℕ) (names : Names) → expression_type (expr.Node (node.Name n)) names ≡ name_type names n (local_type n names.locals)
+name_out : (n : List ℕ) (names : Names) → expression_type (expr.Node (node.Name n)) names ≡ whole_name_type names n (local_type n names.locals)
 unfolding expression_type
 name_out n names =
     ap (λ (t : Names → Option Ty). t names) (fold_out-Expr (Names → Option Ty) expression_step (expr.Node (node.Name n)))
@@ -157,6 +158,6 @@ no_name false = refl
 pub hides_tables : HidesTables
 hides_tables outer names n m table there =
     ap (λ (found : Option Ty). option_map (with_local names m) (fresh_type names m (option_and_then (λ t. element_type (out-Ty t)) found)))
-    (name_out n names ∙ ap (name_type names n) there)
+    (name_out n names ∙ ap (whole_name_type names n) there)
     ∙ ap (λ (layer : Ty-F Ty). option_map (with_local names m) (fresh_type names m (element_type layer))) (outs-Row table)
     ∙ ap (option_map (with_local names m)) (no_name (is_fresh names m))

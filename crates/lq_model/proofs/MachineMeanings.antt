@@ -1,5 +1,5 @@
 -- No reply to `run` depends on what stands where an expression has no meaning.
-use Rattle.std.proofs.Common.{◌≡◌, Bool, true, false, [], Option, Some, None, Result, Ok, Err, ap, ◌∙◌, sym, refl}
+use Rattle.std.proofs.Common.{◌≡◌, Bool, true, false, [], Option, Some, None, Result, Ok, Err, ap, ◌∙◌, sym, refl, ap₂, ◌++◌, ◌∷◌, List}
 use Rattle.std.proofs.lemmas.Option.{none-some}
 use Rattle.lq_value.specs.declared.ty.Ty.{Ty, out-Ty}
 use Rattle.lq_value.specs.declared.ty.Ty.TheOpen.{Ty-F}
@@ -8,12 +8,13 @@ use Rattle.lq_value.specs.declared.value.Fault.TheVariants as fault
 use Rattle.lq_value.specs.declared.value.Value.{Value, out-Value}
 use Rattle.lq_value.specs.declared.value.Value.TheVariants.{outs-Seq as outs-value-Seq}
 use Rattle.lq_model.specs.ClauseTyping.{expression_type}
-use Rattle.lq_model.specs.Machine.{State, cells_of, run_denial, run_reply, schemas_of, seen_by_role, served, served_as, served_type, top_names, unless_denied, world_by}
-use Rattle.lq_model.specs.Meaning.{World, items_of, stream_of}
-use Rattle.lq_model.specs.MeaningLaws.{Every, IsTypedTable, ServesMeanings}
+use Rattle.lq_model.specs.Serving.{run_denial, run_reply, served, served_as, served_type, unless_denied}
+use Rattle.lq_model.specs.States.{State, cells_of, schemas_of, seen_by_role, world_by, names_in}
+use Rattle.lq_model.specs.Meaning.{World, items_of, stream_of, names_at}
+use Rattle.lq_model.specs.MeaningLaws.{Every, IsTypedTable, HoldsRows, assuming}
 use Rattle.lq_model.specs.Served.{stream_data, value_data}
 use Rattle.lq_model.specs.Types.{has_place, if_placed, when}
-use Rattle.lq_model.specs.Typing.{Names}
+use Rattle.lq_model.specs.Typing.{SessionName}
 use Rattle.lq_model.specs.Visible.{TableRow}
 use Rattle.lq_model.specs.WholeMeaning.{expression_meaning}
 use Rattle.lq_model.specs.WholeMeaningLaws.{IsValueOf}
@@ -22,6 +23,11 @@ use Rattle.lq_model.proofs.EveryItem.{every_none}
 use Rattle.lq_model.proofs.MeaningLemmas.{holds_seen}
 use Rattle.lq_model.proofs.ValuesOfTypes.{sequence_value}
 use Rattle.lq_model.proofs.WholeLaws.{has_whole_meaning}
+use Rattle.lq_model.specs.DefinitionLaws.{AreDefined, ServesMeanings}
+use Rattle.lq_model.specs.Definitions.{defining, outer_names, valued_as, with_session, world_after}
+use Rattle.lq_model.specs.declared.session.Definition.{Definition}
+use Rattle.lq_model.proofs.DefinitionLemmas.{names_are_known, names_have_meanings, names_have_values}
+use Rattle.lq_value.specs.declared.table.Schema.{Schema}
 
 -- what has a type that is no null's has that type
 pub placed : (o : Option Ty) (t : Ty) → if_placed o ≡ Some t → o ≡ Some t
@@ -31,25 +37,48 @@ placed (Some u) t h = by (has_place (out-Ty u)) h where
   by true g = g
   by false g = absurd (none-some t g)
 
-module _ (s : State) (typed : Every IsTypedTable s.tables) (unknown : Fault) (e : Expr) where
-  abbrev names : Names
-  names = top_names (schemas_of s.tables)
+module _ (s : State) (typed : Every IsTypedTable s.tables) (all : AreDefined (schemas_of s.tables) s.definitions) (unknown : Fault) (e : Expr) where
+  abbrev tables_alone : World TableRow
+  tables_alone = world_by fault.NullReference (schemas_of s.tables) (seen_by_role s)
 
+  -- what is read, and the same with the other fault
   abbrev world : World TableRow
-  world = world_by fault.NullReference (schemas_of s.tables) (seen_by_role s)
+  world = defining tables_alone s.definitions
 
   abbrev other : World TableRow
-  other = world_by unknown (schemas_of s.tables) (seen_by_role s)
+  other = assuming unknown world
+
+  -- the rows are those of the tables, whatever the names of the session are
+  holds : (w : World TableRow) → HoldsRows w → (ds : List Definition) → HoldsRows (world_after w ds)
+  holds w rows [] = rows
+  holds w rows (d ∷ ds) = holds (with_session w (w.session ++ valued_as w d.name d.defined ∷ [])) rows ds
+
+  holds_all : HoldsRows world
+  unfolding defining
+  holds_all = holds tables_alone (holds_seen s typed fault.NullReference) s.definitions
+
+  schemas_after : (w : World TableRow) (ds : List Definition) → (world_after w ds).schemas ≡ w.schemas
+  schemas_after w [] = refl
+  schemas_after w (d ∷ ds) = schemas_after (with_session w (w.session ++ valued_as w d.name d.defined ∷ [])) ds
+
+  schemas_same : world.schemas ≡ schemas_of s.tables
+  unfolding defining
+  schemas_same = schemas_after tables_alone s.definitions
+
+  names_same : names_at world [] ≡ names_in s
+  names_same =
+      ap₂ (λ (schemas : List Schema) (session : List SessionName). outer_names schemas session) schemas_same (names_are_known tables_alone s.definitions refl)
 
   -- the value of a typed expression, which is the same in both worlds
-  abbrev Agrees : Ty → Type 0
+  abbrev pub Agrees : Ty → Type 0
   Agrees t =
       (expression_meaning world e [] ≡ expression_meaning other e [])
       × ((v : Value TableRow) → expression_meaning world e [] ≡ Ok v → IsValueOf world t v)
 
-  agrees : (t : Ty) → expression_type e names ≡ Some t → Agrees t
+  pub agrees : (t : Ty) → expression_type e (names_in s) ≡ Some t → Agrees t
   agrees t is =
-      has_whole_meaning world (holds_seen s typed fault.NullReference) [] (every_none (λ b. IsValueOf world b.ty b.value)) e t is fault.NullReference unknown
+      has_whole_meaning world holds_all (names_have_values tables_alone s.definitions (holds_seen s typed fault.NullReference) refl all) []
+      (every_none (λ b. IsValueOf world b.ty b.value)) e t (ap (expression_type e) names_same ∙ is) world.unknown unknown
 
   -- a sequence has its items in both
   streams : (t u : Ty) → out-Ty t ≡ Ty-F.Seq u → (m : Result (Value TableRow) Fault) → ((v : Value TableRow) → m ≡ Ok v → IsValueOf world t v)
@@ -66,11 +95,16 @@ module _ (s : State) (typed : Every IsTypedTable s.tables) (unknown : Fault) (e 
       ap (stream_data world.schemas cells_of u) (streams t u is (expression_meaning world e []) same.1 ∙ ap (stream_of other) same.0)
   by_layer t layer is same = ap (value_data world.schemas cells_of t) same.0
 
-  by_type : (o : Option Ty) → served_type (schemas_of s.tables) e ≡ o → served world o (expression_meaning world e []) ≡ served other o (expression_meaning other e [])
+  by_type : (o : Option Ty) → served_type (names_in s) e ≡ o → served world o (expression_meaning world e []) ≡ served other o (expression_meaning other e [])
   by_type None is = refl
-  by_type (Some t) is = by_layer t (out-Ty t) refl (agrees t (placed (expression_type e names) t is))
+  by_type (Some t) is = by_layer t (out-Ty t) refl (agrees t (placed (expression_type e (names_in s)) t is))
+
+  other_same : other ≡ defining (world_by unknown (schemas_of s.tables) (seen_by_role s)) s.definitions
+  other_same = sym (names_have_meanings tables_alone s.definitions (holds_seen s typed fault.NullReference) refl all unknown)
 
 pub serves_meanings : ServesMeanings
 unfolding run_reply
-serves_meanings s typed e unknown =
-    ap (unless_denied (schemas_of s.tables) (run_denial s.policies s.role (schemas_of s.tables) e)) (by_type s typed unknown e (served_type (schemas_of s.tables) e) refl)
+serves_meanings s typed all e unknown =
+    ap (unless_denied (schemas_of s.tables) (run_denial s.policies s.role (names_in s) e))
+    (by_type s typed all unknown e (served_type (names_in s) e) refl
+    ∙ ap (λ (w : World TableRow). served w (served_type (names_in s) e) (expression_meaning w e [])) (other_same s typed all unknown e))

@@ -21,14 +21,14 @@ use Rattle.lq_value.specs.declared.value.Value.TheOpen.{Value-F}
 use Rattle.lq_value.specs.declared.value.Value.TheVariants as value
 use Rattle.lq_value.specs.declared.value.Value.TheVariants.{outs-Row as outs-value-Row, outs-Scalar, outs-Seq as outs-value-Seq}
 use Rattle.lq_model.specs.ClauseTyping.{element_type, expression_type, source_type}
-use Rattle.lq_model.specs.Machine.{State, schemas_of, seen_by_role, world_by}
+use Rattle.lq_model.specs.States.{State, schemas_of, seen_by_role, world_by}
 use Rattle.lq_model.specs.Meaning.{Scope, World, binding_of, body_type_at, bound, bound_stream, cell_value, clause_meaning, clauses_meaning, comparand, compared_meaning, condition_at, continued, is_null, item_type_at, items_of, last_meaning, meaning, member_value, name_value, names_at, null_member, operated_meaning, same_values, told, as_value, on_scalar, or_null, query_meaning, scalar_of, source_scopes, stream_meaning, stream_of, table_value, truth_value}
 use Rattle.lq_model.specs.Operations.{negated, of_member, of_one, on_ok, truth_of}
 use Rattle.lq_model.specs.Members.{IsSearch, member_named}
 use Rattle.lq_model.specs.MeaningLaws.{Every, HasCells, HasMeaning, HasStream, HaveTypes, HoldsRows, SelectsScalars, IsOf, is_scalar as is_scalar_value, is_row, is_sequence, IsOfScope, IsScalarOf, IsTypedTable, assuming}
-use Rattle.lq_model.specs.Served.{columns_in, stream_data, value_data}
+use Rattle.lq_model.specs.Served.{columns_in}
 use Rattle.lq_model.specs.Stream.{Stream, kept, one}
-use Rattle.lq_model.specs.Typing.{Names, Claim, TypeOf, Leads, LeadAll, Selects, GivesItems, IsTyped, of_integer, of_local, of_table, of_column, of_text, of_null, of_has_value, of_value, of_length, of_search, of_ordering, of_equality, of_arithmetic, of_joined, of_coalesced, of_minus, of_choice, of_truth, of_not, of_both, of_either, by_where, by_none, by_first, by_select, by_query, HasType, column_named, column_type, are_comparable, are_joined, chosen, coalesced, if_scalar, is_comparison, is_equality, is_ordering, number_type, is_number, is_scalar, item_of, item_type, local_type, row_table, table_number, type_of, type_of_column, with_local}
+use Rattle.lq_model.specs.Typing.{Names, Claim, TypeOf, Leads, LeadAll, Selects, GivesItems, IsTyped, of_integer, of_local, of_table, of_column, of_text, of_null, of_has_value, of_value, of_length, of_search, of_ordering, of_equality, of_arithmetic, of_joined, of_coalesced, of_minus, of_choice, of_truth, of_not, of_both, of_either, by_where, by_none, by_first, by_select, by_query, HasType, column_named, column_type, are_comparable, are_joined, chosen, coalesced, is_comparison, is_equality, is_ordering, number_type, is_number, is_scalar, item_of, local_type, row_table, table_number, type_of, type_of_column, with_local}
 use Rattle.lq_model.specs.Visible.{TableRow, cell_named, seen_from, seen_rows, tables_as_seen, visible_to}
 use Rattle.lq_model.specs.declared.policy.Action.TheVariants as action
 use Rattle.lq_model.specs.declared.operation.Op.{Op}
@@ -52,7 +52,7 @@ use Rattle.lq_model.proofs.Opens.{meaning_binary, meaning_both, meaning_coalesce
 use Rattle.lq_model.proofs.ScalarResults.{arithmetic_of, Coalesces, Gives, HasScalars, Widens, chosen_widens, coalesced_fits, faults, given_of, gives, has_value_given, joined_given, joined_scalars, length_given, looked_for, minus_given, no_items_before, no_items_behind, number_scalars, ordering_given, row_is_no_scalar, search_given, sequence_is_no_scalar, signed, value_given}
 use Rattle.lq_model.proofs.TypedValues.{IsRowOrNull, IsSequence, a_row, a_sequence, bool_value, comparand_there, decides_same, member_of_scalar, no_row, row_value, scalar_there, sequence_value, widened_value}
 use Rattle.lq_model.proofs.WholeTypes.{whole_type}
-use Rattle.lq_model.proofs.TypingLemmas.{item_type_sound, type_complete, type_sound}
+use Rattle.lq_model.proofs.TypingLemmas.{type_complete}
 
 -- ---- outcomes that are the same in both worlds
 
@@ -695,7 +695,8 @@ module _ (s : State) (typed : Every IsTypedTable s.tables) (unknown : Fault) whe
   abbrev seen_world : World TableRow
   seen_world = world_by unknown (schemas_of s.tables) (seen_by_role s)
 
-  column_by : (n : ℕ) (table : Table) (row : Row) → slice_get (schemas_of s.tables) n ≡ Some table.schema → HaveTypes table.schema.columns row.cells → HasCells seen_world n (record { table = n; row = row })
+  -- a row of a table has its cells, whether it is seen or not
+  pub column_by : (n : ℕ) (table : Table) (row : Row) → slice_get (schemas_of s.tables) n ≡ Some table.schema → HaveTypes table.schema.columns row.cells → HasCells seen_world n (record { table = n; row = row })
   column_by n table row at fit c t found = under (column_named c table.schema.columns) refl (sym (ap (λ (o : Option Schema). column_in o) at) ∙ found) where
     column_in : Option Schema → Option Ty
     column_in o = option_and_then (λ schema. option_map (λ column. type_of_column column.ty) (column_named c schema.columns)) o

@@ -1,7 +1,8 @@
 -- Lemmas on runs over lines, on replies joined, and on output that is cut short.
 use Rattle.std.proofs.Common.{◌≡◌, ◌+◌, ℕ, List, [], ◌∷◌, ◌++◌, refl, sym, ◌∙◌, ap, subst, append_assoc, append-nil, arith}
 use Rattle.lq_model.specs.HostCalls.{HostCall}
-use Rattle.lq_model.specs.Machine.{State, Reply}
+use Rattle.lq_model.specs.Machine.{Reply}
+use Rattle.lq_model.specs.States.{State}
 use Rattle.lq_model.specs.Output.{Answers, Runs, bytes_of, joined, one_if_some, count_of_replies, IsCutOff}
 
 -- a step after a run is a run over one more line

@@ -8,7 +8,7 @@ use Rattle.lq_value.specs.declared.table.Schema.{Schema}
 use Rattle.lq_value.specs.declared.ty.Ty.{Ty, out-Ty}
 use Rattle.lq_value.specs.declared.ty.Ty.TheOpen.{Ty-F}
 use Rattle.lq_value.specs.declared.ty.Ty.TheVariants as ty
-use Rattle.lq_value.specs.declared.ty.Ty.TheVariants.{outs-Bool, outs-Int, outs-IntN, outs-Null, outs-Row, outs-Str}
+use Rattle.lq_value.specs.declared.ty.Ty.TheVariants.{outs-Bool, outs-Int, outs-IntN, outs-Null, outs-Str}
 use Rattle.lq_model.specs.Meaning.{is_row_type}
 use Rattle.lq_model.specs.Totality.{Claim, Holds, Sure, Total, sure_coalesce, sure_conditional, sure_text, sure_user, total_and, total_coalesce, total_column, total_comparison, total_conditional, total_division, total_has_value, total_integer, total_minus, total_not, total_null, total_or, total_search, total_text, total_truth, total_user}
 use Rattle.lq_model.specs.Typing.{Names, are_comparable, are_joined, binary_type, choice_type, chosen, coalesced, column_named, if_number, is_equality, is_number, is_ordering, joined_type, member_type, number_type, of_operands, result_type, row_table, truth_type, type_of, type_of_column}
@@ -138,7 +138,7 @@ abbrev pub rule_locals : List (List ℕ × Ty)
 rule_locals = (codes "row", ty.Row 0) ∷ (codes "user", ty.Str) ∷ []
 
 abbrev rule_at : List Schema → Names
-rule_at tables = record { tables = tables; locals = rule_locals }
+rule_at tables = record { tables = tables; session = []; locals = rule_locals }
 
 module _ (tables : List Schema) where
   abbrev HasNoRow : Claim → Type 0
@@ -174,5 +174,5 @@ module _ (tables : List Schema) where
       no_row_by is (type_choice c a b _) (no_row_of_choice _ _ _ (has_no_row left) (has_no_row right))
 
 -- a total expression has no row's type
-pub total_no_row : (tables : List Schema) {e : Expr} → Holds (Total e) → is_row_type (type_of e (record { tables = tables; locals = rule_locals })) ≡ false
+pub total_no_row : (tables : List Schema) {e : Expr} → Holds (Total e) → is_row_type (type_of e (record { tables = tables; session = []; locals = rule_locals })) ≡ false
 total_no_row tables total = has_no_row tables total

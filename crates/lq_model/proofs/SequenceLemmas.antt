@@ -1,5 +1,5 @@
 -- An expression whose type is that of a sequence never faults.
-use Rattle.std.proofs.Common.{◌≡◌, if◌then◌else◌, List, map, ℕ, Option, Some, None, Result, Ok, ap, ◌∙◌, sym, refl, option_and_then, slice_get}
+use Rattle.std.proofs.Common.{◌≡◌, if◌then◌else◌, List, map, ℕ, Option, Some, None, Result, Ok, ap, ◌∙◌, sym, refl, option_and_then}
 use Rattle.std.proofs.lemmas.Option.{none-some}
 use Rattle.lq_value.specs.declared.ty.Ty.{Ty, out-Ty}
 use Rattle.lq_value.specs.declared.ty.Ty.TheOpen.{Ty-F}
@@ -12,14 +12,14 @@ use Rattle.lq_value.specs.declared.value.Value.TheVariants as value
 use Rattle.lq_model.specs.ClauseTyping.{expression_type}
 use Rattle.lq_model.specs.EnumerableCalls.{By, Plain, With}
 use Rattle.lq_model.specs.Maps.{map_node}
-use Rattle.lq_model.specs.Meaning.{Scope, World, name_value, names_at, sequence, stream_of, table_value}
+use Rattle.lq_model.specs.Meaning.{Scope, World, names_at, sequence, stream_of, table_value}
 use Rattle.lq_model.specs.MeaningLaws.{HoldsRows, assuming}
 use Rattle.lq_model.specs.Stream.{Stream}
-use Rattle.lq_model.specs.Typing.{Names, item_of, local_type, table_number}
-use Rattle.lq_model.specs.TypingRules.{TypeClaim, Has, Gives, Members, Sorts, Leads, LeadAll, Ends, BodyGives, Continues, QueryGives, IsRight}
+use Rattle.lq_model.specs.Typing.{Names, SessionName, item_of, local_type, session_name, table_number}
+use Rattle.lq_model.specs.TypingRules.{TypeClaim, Has, IsRight}
 use Rattle.lq_model.specs.TypingRules as rule
-use Rattle.lq_model.specs.WholeMeaning.{as_sequence, expression_meaning, is_sequence_layer, settled, whole_meaning}
-use Rattle.lq_model.specs.WholeMeaningLaws.{IsScopeOfValues, NeverFaults}
+use Rattle.lq_model.specs.WholeMeaning.{as_sequence, expression_meaning, global_value, is_sequence_layer, settled, whole_meaning, whole_name_value}
+use Rattle.lq_model.specs.WholeMeaningLaws.{IsScopeOfValues, IsSessionOfValues, NeverFaults}
 use Rattle.lq_model.specs.WholeTyping.{given_type, through_type, whole_chosen, whole_member_type}
 use Rattle.lq_model.specs.declared.syntax.Expr.{Expr}
 use Rattle.lq_model.specs.declared.syntax.Expr.TheVariants as expr
@@ -30,7 +30,7 @@ use Rattle.lq_model.proofs.Findings.{when_by}
 use Rattle.lq_model.proofs.SourceTypes.{HasNoItems, chosen_has_none, coalesced_has_none, columns_are_scalars, has_none, no_items_Bool, no_items_Int, no_items_Null, no_items_Str, number_has_none, numbers_have_none}
 use Rattle.lq_model.proofs.ValuesOfTypes.{sequence_value}
 use Rattle.lq_model.proofs.WholeCompleteness.{found, lambda_found}
-use Rattle.lq_model.proofs.WholeMeans.{beside, has_value, meaning_of_node, meaning_of_query, method_typed}
+use Rattle.lq_model.proofs.WholeMeans.{beside, has_session_value, has_value, meaning_of_node, meaning_of_query, method_typed}
 use Rattle.lq_model.proofs.WholeSoundness.{type_of_node, whole_sound}
 
 no_items_Rec : (ms : List (List ℕ × Ty)) → HasNoItems (ty.Rec ms)
@@ -42,7 +42,7 @@ choice_has_none (Ty-F.Rec ms) Ty-F.Null r h = has_none (ty.Rec ms) r (no_items_R
 choice_has_none Ty-F.Null (Ty-F.Rec ms) r h = has_none (ty.Rec ms) r (no_items_Rec ms) h
 choice_has_none k l r h = chosen_has_none k l r h
 
-module _ {R : Type 0} (world : World R) (holds : HoldsRows world) (unknown : Fault) where
+module _ {R : Type 0} (world : World R) (holds : HoldsRows world) (kept : IsSessionOfValues world) (unknown : Fault) where
   abbrev W : World R
   W = assuming unknown world
 
@@ -74,9 +74,9 @@ module _ {R : Type 0} (world : World R) (holds : HoldsRows world) (unknown : Fau
 
   local_streams : (names : Names) (e : Expr) (x : List ℕ) (t : Ty) → e ≡ expr.Node (node.Name x) → local_type x names.locals ≡ Some t → Streams (Has names e t)
   local_streams names e x t is local u t_is scope at =
-      let there = has_value world holds unknown unknown x scope t at.0 (ap (λ (ns : Names). local_type x ns.locals) at.1 ∙ local) in
+      let there = has_value world holds kept unknown unknown x scope t at.0 (ap (λ (ns : Names). local_type x ns.locals) at.1 ∙ local) in
       let items = sequence_value world t u there.0.value t_is there.2 in
-      at_node e (node.Name x) scope (items.0, items.1) is (ap (name_value W x) there.1 ∙ ap Ok items.2)
+      at_node e (node.Name x) scope (items.0, items.1) is (ap (whole_name_value W x) there.1 ∙ ap Ok items.2)
 
   table_streams : (names : Names) (e : Expr) (x : List ℕ) (n : ℕ) → e ≡ expr.Node (node.Name x) → local_type x names.locals ≡ None → table_number x names.tables ≡ Some n
       → Streams (Has names e (ty.Seq (ty.Row n)))
@@ -85,9 +85,19 @@ module _ {R : Type 0} (world : World R) (holds : HoldsRows world) (unknown : Fau
       let there = table_there x world.schemas n number in
       let rows = holds n there.0 there.1 in
       at_node e (node.Name x) scope (map value.Row rows.0, end.Done) is
-      (ap (name_value W x) (no_binding x scope (ap (λ (ns : Names). local_type x ns.locals) at.1 ∙ hidden))
-      ∙ ap (λ (o : Option ℕ). table_value W (option_and_then (λ k. slice_get world.rows k) o)) number
+      (ap (whole_name_value W x) (no_binding x scope (ap (λ (ns : Names). local_type x ns.locals) at.1 ∙ hidden))
+      ∙ ap (global_value W x) number
       ∙ ap (table_value W) rows.1)
+
+  session_streams : (names : Names) (e : Expr) (x : List ℕ) (known : SessionName) → e ≡ expr.Node (node.Name x) → local_type x names.locals ≡ None
+      → table_number x names.tables ≡ None → session_name x names.session ≡ Some known → Streams (Has names e known.ty)
+  session_streams names e x known is hidden no_table there u t_is scope at =
+      let found = has_session_value world holds kept unknown unknown x known (ap (λ (ns : Names). session_name x ns.session) at.1 ∙ there) in
+      let items = sequence_value world known.ty u found.0 t_is found.2 in
+      at_node e (node.Name x) scope (items.0, items.1) is
+      (ap (whole_name_value W x) (no_binding x scope (ap (λ (ns : Names). local_type x ns.locals) at.1 ∙ hidden))
+      ∙ ap (global_value W x) (ap (λ (ns : Names). table_number x ns.tables) at.1 ∙ no_table)
+      ∙ found.1 W refl ∙ ap Ok items.2)
 
   streams : {claim : TypeClaim} → IsRight claim → Streams claim
   streams (rule.of_integer names e n is) = none names e ty.Int no_items_Int
@@ -96,6 +106,7 @@ module _ {R : Type 0} (world : World R) (holds : HoldsRows world) (unknown : Fau
   streams (rule.of_null names e is) = none names e ty.Null no_items_Null
   streams (rule.of_local names e x t is local) = local_streams names e x t is local
   streams (rule.of_table names e x n is hidden table) = table_streams names e x n is hidden table
+  streams (rule.of_session names e x known is hidden no_table there) = session_streams names e x known is hidden no_table there
   streams (rule.of_column names e row c n t is typed column) = none names e t (columns_are_scalars names.tables n c t column)
   streams (rule.of_member names e a m members t is typed member) = member_streams names e a m t is (found (rule.of_member names e a m members t is typed member))
   streams (rule.of_key names e a k t is typed) = member_streams names e a _ k is (found (rule.of_key names e a k t is typed))
@@ -116,13 +127,13 @@ module _ {R : Type 0} (world : World R) (holds : HoldsRows world) (unknown : Fau
   streams (rule.of_search names e a b m is looks a_typed b_typed) = none names e ty.Bool no_items_Bool
   streams (rule.of_simple names e a m arguments method t r is called source gives within) = λ u r_is scope at.
       at_node e (node.Method a m arguments) scope _ is
-      (settles r u _ _ (method_typed world holds unknown unknown W names a m arguments (Plain method) t r scope at.1 called (found source) gives within) r_is)
+      (settles r u _ _ (method_typed world holds kept unknown unknown W names a m arguments (Plain method) t r scope at.1 called (found source) gives within) r_is)
   streams (rule.of_given names e a b m arguments method t u r is called source typed gives within) = λ v r_is scope at.
       at_node e (node.Method a m arguments) scope _ is
-      (settles r v _ _ (method_typed world holds unknown unknown W names a m arguments (With method b) t r scope at.1 called (found source) (ap (given_type method t) (found typed) ∙ gives) within) r_is)
+      (settles r v _ _ (method_typed world holds kept unknown unknown W names a m arguments (With method b) t r scope at.1 called (found source) (ap (given_type method t) (found typed) ∙ gives) within) r_is)
   streams (rule.of_lambda names e a b m n arguments method t u r is called source fresh typed gives within) = λ v r_is scope at.
       at_node e (node.Method a m arguments) scope _ is
-      (settles r v _ _ (method_typed world holds unknown unknown W names a m arguments (By method n b) t r scope at.1 called (found source)
+      (settles r v _ _ (method_typed world holds kept unknown unknown W names a m arguments (By method n b) t r scope at.1 called (found source)
       (ap (through_type method t) (lambda_found names n t u b fresh (found typed)) ∙ gives) within) r_is)
   streams (rule.of_query names e q t is gives) = λ u t_is scope at. (_, ap (λ (x : Expr). expression_meaning W x scope) is ∙ meaning_of_query W q scope)
   streams (rule.no_member names) = tt
@@ -146,4 +157,4 @@ module _ {R : Type 0} (world : World R) (holds : HoldsRows world) (unknown : Fau
   streams (rule.by_query outer q t u r source fresh body rest) = tt
 
 pub never_faults : {R : Type 0} → NeverFaults R
-never_faults world holds scope fits e t typed unknown = streams world holds unknown (whole_sound e (names_at world scope) (ty.Seq t) typed) t (outs-Seq t) scope (fits, refl)
+never_faults world holds kept scope fits e t typed unknown = streams world holds kept unknown (whole_sound e (names_at world scope) (ty.Seq t) typed) t (outs-Seq t) scope (fits, refl)

@@ -1,5 +1,5 @@
 -- What is served means in the whole language what it means as it is served.
-use Rattle.std.proofs.Common.{◌≡◌, ◌∷◌, if◌then◌else◌, List, [], ℕ, Bool, true, false, not, Option, Some, None, Result, Ok, Err, ap, ap₂, ◌∙◌, sym, refl, subst, codes, true≢false, option_and_then}
+use Rattle.std.proofs.Common.{◌≡◌, ◌∷◌, if◌then◌else◌, List, [], ℕ, Bool, true, false, not, Option, Some, None, Result, Ok, Err, ap, ap₂, ◌∙◌, sym, refl, subst, codes, true≢false, option_and_then, slice_get}
 use Rattle.std.proofs.lemmas.Bool.{and_from}
 use Rattle.std.proofs.lemmas.Option.{none-some}
 use Rattle.std.specs.Prelude.{is_some}
@@ -18,13 +18,13 @@ use Rattle.lq_value.specs.declared.value.Value.TheVariants.{outs-Row as outs-val
 use Rattle.lq_model.specs.ClauseTyping.{element_type, expression_type, source_type}
 use Rattle.lq_model.specs.EnumerableCalls.{enumerable_call}
 use Rattle.lq_model.specs.Maps.{map_node}
-use Rattle.lq_model.specs.Meaning.{Binding, Meaning, Meant, Scope, World, as_value, body_type_at, bound, bound_stream, clause_meaning, clauses_meaning, compared_meaning, condition_at, continued, is_null, item_type_at, items_of, last_meaning, meaning, meaning_step, member_value, names_at, node_meaning, on_comparand, on_scalar, on_truth, operated_meaning, or_null, query_meaning, same_values, source_scopes, stream_of, told, truth_value}
+use Rattle.lq_model.specs.Meaning.{Binding, Meaning, Meant, Scope, World, as_value, body_type_at, bound, bound_stream, clause_meaning, clauses_meaning, compared_meaning, condition_at, continued, is_null, item_type_at, items_of, last_meaning, meaning, meaning_step, member_value, name_value, names_at, node_meaning, on_comparand, on_scalar, on_truth, operated_meaning, or_null, query_meaning, same_values, source_scopes, stream_of, table_value, told, truth_value}
 use Rattle.lq_model.specs.MeaningLaws.{Every, HoldsRows, IsOf, is_scalar as is_scalar_value, is_row, is_sequence, IsOfScope, assuming}
 use Rattle.lq_model.specs.Members.{is_search, member_named}
 use Rattle.lq_model.specs.Operations.{negated, of_member, on_ok, truth_of}
 use Rattle.lq_model.specs.Stream.{Stream, kept, one}
-use Rattle.lq_model.specs.Typing.{Names, Claim, TypeOf, Leads, LeadAll, Selects, GivesItems, IsTyped, of_integer, of_local, of_table, of_column, of_text, of_null, of_has_value, of_value, of_length, of_search, of_ordering, of_equality, of_arithmetic, of_joined, of_coalesced, of_minus, of_choice, of_truth, of_not, of_both, of_either, by_where, by_none, by_first, by_select, by_query, HasType, is_equality, is_text, is_text_type, item_of, number_type, row_table, truth_type, type_of, with_local}
-use Rattle.lq_model.specs.WholeMeaning.{as_sequence, called_meaning, expression_meaning, has_members, is_sequence_layer, search_meaning, settled, whole_compared, whole_meaning, whole_member_value, whole_same}
+use Rattle.lq_model.specs.Typing.{Names, Claim, TypeOf, Leads, LeadAll, Selects, GivesItems, IsTyped, of_integer, of_local, of_table, of_column, of_text, of_null, of_has_value, of_value, of_length, of_search, of_ordering, of_equality, of_arithmetic, of_joined, of_coalesced, of_minus, of_choice, of_truth, of_not, of_both, of_either, by_where, by_none, by_first, by_select, by_query, HasType, is_equality, is_text, is_text_type, item_of, number_type, local_type, row_table, table_number, truth_type, type_of, with_local}
+use Rattle.lq_model.specs.WholeMeaning.{as_sequence, called_meaning, expression_meaning, global_value, has_members, is_sequence_layer, search_meaning, settled, whole_compared, whole_meaning, whole_member_value, whole_name_value, whole_same}
 use Rattle.lq_model.specs.WholeMeaningLaws.{KeepsMeanings, KeepsStreams}
 use Rattle.lq_model.specs.WholeTyping.{called_type, method_type, search_type, whole_member_type}
 use Rattle.lq_model.specs.declared.syntax.Argument.TheVariants as argument
@@ -39,7 +39,7 @@ use Rattle.lq_model.specs.declared.syntax.Node.{Node}
 use Rattle.lq_model.specs.declared.syntax.Node.TheVariants as node
 use Rattle.lq_model.specs.declared.syntax.Query.{Query}
 use Rattle.lq_model.specs.declared.syntax.Unary.TheVariants as unary
-use Rattle.lq_model.proofs.EveryItem.{each_same, every_kept, every_map, every_more, every_none}
+use Rattle.lq_model.proofs.EveryItem.{each_same, every_kept, every_map, every_more, every_none, has_binding, no_binding}
 use Rattle.lq_model.proofs.Layers.{para_node}
 use Rattle.lq_model.proofs.MeaningLemmas.{value_of_type}
 use Rattle.lq_model.proofs.MemberLemmas.{search_told}
@@ -284,8 +284,15 @@ module _ {R : Type 0} (world : World R) (holds : HoldsRows world) (unknown : Fau
 
   kept_meaning : {claim : Claim} → IsTyped claim → IsKept claim
   kept_meaning (of_integer names e n is) = λ scope at. node_kept e (node.Integer n) scope is refl
-  kept_meaning (of_local names e x t is local) = λ scope at. node_kept e (node.Name x) scope is refl
-  kept_meaning (of_table names e x n is hidden table) = λ scope at. node_kept e (node.Name x) scope is refl
+  kept_meaning (of_local names e x t is local) = λ scope at.
+      let there = has_binding world x scope t at.1 (ap (λ (ns : Names). local_type x ns.locals) (sym at.0) ∙ local) in
+      node_kept e (node.Name x) scope is (ap (whole_name_value W x) there.1 ∙ sym (ap (name_value W x) there.1))
+  kept_meaning (of_table names e x n is hidden table) = λ scope at.
+      let none = no_binding x scope (ap (λ (ns : Names). local_type x ns.locals) (sym at.0) ∙ hidden) in
+      let number = ap (λ (ns : Names). table_number x ns.tables) (sym at.0) ∙ table in
+      node_kept e (node.Name x) scope is
+      (ap (whole_name_value W x) none ∙ ap (global_value W x) number
+      ∙ sym (ap (name_value W x) none ∙ ap (λ (o : Option ℕ). table_value W (option_and_then (λ k. slice_get world.rows k) o)) number))
   kept_meaning (of_column names e row c n t is typed column) =
       member_kept names e row c (ty.Row n) t is (of_column names e row c n t is typed column) typed (columns_are_scalars names.tables n c t column) (ap is_known (outs-Row n)) (kept_meaning typed)
   kept_meaning (of_text names e x is) = λ scope at. node_kept e (node.Text x) scope is refl

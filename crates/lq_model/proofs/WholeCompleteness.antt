@@ -11,10 +11,10 @@ use Rattle.lq_model.specs.ClauseTyping.{are_join_keys, are_sort_keys, body_items
 use Rattle.lq_model.specs.EnumerableCalls.{EnumerableCall, enumerable_call}
 use Rattle.lq_model.specs.Maps.{map_argument, map_enumerable, map_field, map_node}
 use Rattle.lq_model.specs.Members.{is_search}
-use Rattle.lq_model.specs.Typing.{Names, are_comparable, coalesced, if_number, is_bool, is_bool_type, is_equality, is_text, is_text_type, local_type, name_type, number_type, of_operands, operated_type, truth_type, with_local}
+use Rattle.lq_model.specs.Typing.{Names, are_comparable, coalesced, if_number, is_bool, is_bool_type, is_equality, is_text, is_text_type, local_type, number_type, of_operands, operated_type, truth_type, with_local}
 use Rattle.lq_model.specs.TypingRules.{TypeClaim, Has, Gives, Members, Sorts, Leads, LeadAll, Ends, BodyGives, Continues, QueryGives, IsRight}
 use Rattle.lq_model.specs.TypingRules as rule
-use Rattle.lq_model.specs.WholeTyping.{are_distinct, are_null_tests, called_type, enumerable_type, given_type, if_limited, through_type, members_type, search_type, whole_choice_type, whole_member_type, whole_operated_type, whole_type}
+use Rattle.lq_model.specs.WholeTyping.{are_distinct, are_null_tests, called_type, enumerable_type, given_type, if_limited, through_type, members_type, search_type, whole_choice_type, whole_member_type, whole_operated_type, whole_type, global_type, whole_name_type}
 use Rattle.lq_model.specs.declared.syntax.Argument.{Argument}
 use Rattle.lq_model.specs.declared.syntax.Argument.TheVariants as argument
 use Rattle.lq_model.specs.declared.syntax.Binary.{Binary}
@@ -189,9 +189,11 @@ found (rule.of_integer names e n is) = node_is names e (node.Integer n) is
 found (rule.of_text names e x is) = node_is names e (node.Text x) is
 found (rule.of_truth names e b is) = node_is names e (node.Bool b) is
 found (rule.of_null names e is) = node_is names e node.Null is
-found (rule.of_local names e x t is local) = node_is names e (node.Name x) is ∙ ap (name_type names x) local
+found (rule.of_local names e x t is local) = node_is names e (node.Name x) is ∙ ap (whole_name_type names x) local
 found (rule.of_table names e x n is hidden table) =
-    node_is names e (node.Name x) is ∙ ap (name_type names x) hidden ∙ ap (λ (o : Option ℕ). option_map (λ m. ty.Seq (ty.Row m)) o) table
+    node_is names e (node.Name x) is ∙ ap (whole_name_type names x) hidden ∙ ap (global_type names x) table
+found (rule.of_session names e x known is hidden no_table there) =
+    node_is names e (node.Name x) is ∙ ap (whole_name_type names x) hidden ∙ ap (global_type names x) no_table ∙ ap (option_map (λ s. s.ty)) there
 found (rule.of_column names e row c n t is row_typed column) =
     node_is names e (node.Member row c) is ∙ member_found names c row (ty.Row n) (Ty-F.Row n) (Some t) (found row_typed) (outs-Row n) column
 found (rule.of_member names e a m members t is typed member) =

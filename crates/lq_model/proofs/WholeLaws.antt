@@ -21,7 +21,7 @@ pub finds_query_items : FindsQueryItems
 finds_query_items names q t = (items_sound names q t, items_complete names q t)
 
 pub has_whole_meaning : {R : Type 0} → HasWholeMeaning R
-has_whole_meaning world holds scope fits e t typed f g = expression_means world holds f g e t scope fits (whole_sound e (names_at world scope) t typed)
+has_whole_meaning world holds kept scope fits e t typed f g = expression_means world holds kept f g e t scope fits (whole_sound e (names_at world scope) t typed)
 
 pub has_whole_stream : {R : Type 0} → HasWholeStream R
-has_whole_stream world holds scope fits q t typed f g = query_agrees world holds f g q t scope fits (items_sound (names_at world scope) q t typed)
+has_whole_stream world holds kept scope fits q t typed f g = query_agrees world holds kept f g q t scope fits (items_sound (names_at world scope) q t typed)

@@ -1,6 +1,6 @@
 -- What is typed by the rules of the whole language means the same in two worlds that differ only in the fault that stands where there is
 -- no meaning, and gives values of its type.
-use Rattle.std.proofs.Common.{◌≡◌, ◌∷◌, if◌then◌else◌, List, [], map, ℕ, Bool, true, false, not, Option, Some, None, Result, Ok, ap, ap₂, ◌∙◌, sym, refl, subst, bytes_eq, codes, true≢false, option_and_then, option_map, slice_get}
+use Rattle.std.proofs.Common.{◌≡◌, ◌∷◌, if◌then◌else◌, List, [], map, ℕ, Bool, true, false, not, Option, Some, None, Result, Ok, ap, ap₂, ◌∙◌, sym, refl, subst, bytes_eq, codes, true≢false, option_and_then, option_map}
 use Rattle.std.proofs.lemmas.Bool.{and_from}
 use Rattle.std.proofs.lemmas.Option.{none-some, same_Some}
 use Rattle.lq_value.specs.SameAndOrder.{same_values as same_keys}
@@ -9,7 +9,7 @@ use Rattle.lq_value.specs.declared.scalar.Scalar.TheVariants as scalar
 use Rattle.lq_value.specs.declared.ty.Ty.{Ty, out-Ty}
 use Rattle.lq_value.specs.declared.ty.Ty.TheOpen.{Ty-F}
 use Rattle.lq_value.specs.declared.ty.Ty.TheVariants as ty
-use Rattle.lq_value.specs.declared.ty.Ty.TheVariants.{outs-Bool, outs-Group, outs-Int, outs-IntN, outs-Null, outs-Rec, outs-Row, outs-Seq, outs-Str}
+use Rattle.lq_value.specs.declared.ty.Ty.TheVariants.{outs-Bool, outs-Group, outs-Int, outs-IntN, outs-Null, outs-Rec, outs-Row, outs-Str}
 use Rattle.lq_value.specs.declared.value.End.TheVariants as end
 use Rattle.lq_value.specs.declared.value.Fault.{Fault}
 use Rattle.lq_value.specs.declared.value.Value.{Value, out-Value}
@@ -17,17 +17,17 @@ use Rattle.lq_value.specs.declared.value.Value.TheVariants as value
 use Rattle.lq_model.specs.ClauseTyping.{body_items, element_type, expression_type, joined_name, matched_name, source_type}
 use Rattle.lq_model.specs.EnumerableCalls.{EnumerableCall, By, Plain, With, enumerable_call}
 use Rattle.lq_model.specs.Maps.{map_argument, map_enumerable, map_field, map_node}
-use Rattle.lq_model.specs.Meaning.{Binding, Meaning, Meant, Scope, World, as_group, binding_of, body_meaning, bound, bound_stream, clause_meaning, clauses_meaning, compared_meaning, condition_at, continued, inner_items, is_null, is_null_layer, item_type_at, joined_type, joined_values, last_meaning, matches, name_value, names_at, operated_meaning, or_null, query_meaning, sequence, sort_key_at, stream_of, table_value, told, truth_value, typed_locals}
+use Rattle.lq_model.specs.Meaning.{Binding, Meaning, Meant, Scope, SessionValue, World, as_group, binding_of, body_meaning, bound, bound_stream, clause_meaning, clauses_meaning, compared_meaning, condition_at, continued, inner_items, is_null, is_null_layer, item_type_at, joined_type, joined_values, last_meaning, matches, names_at, operated_meaning, or_null, query_meaning, sequence, session_names, sort_key_at, stream_of, table_value, told, truth_value, typed_locals}
 use Rattle.lq_model.specs.MeaningLaws.{Every, HasCells, HoldsRows, IsScalarOf}
 use Rattle.lq_model.specs.Members.{is_search, member_named, search_named, sole_argument}
 use Rattle.lq_model.specs.Operations.{negated, of_member, of_search, on_ok}
 use Rattle.lq_model.specs.Stream.{Stream, elements_of}
 use Rattle.lq_model.specs.Types.{is_within}
-use Rattle.lq_model.specs.Typing.{Names, are_joined, coalesced, column_type, is_equality, is_scalar, is_text, is_text_type, local_type, number_type, table_number, truth_type, with_local}
+use Rattle.lq_model.specs.Typing.{Names, SessionName, are_joined, coalesced, column_type, is_equality, is_scalar, is_text, is_text_type, local_type, number_type, session_name, table_number, truth_type, with_local}
 use Rattle.lq_model.specs.TypingRules.{TypeClaim, Has, Gives, Members, Sorts, Leads, LeadAll, Ends, BodyGives, Continues, QueryGives, IsRight}
 use Rattle.lq_model.specs.TypingRules as rule
-use Rattle.lq_model.specs.WholeMeaning.{argument_meaning, as_sequence, given_meaning, is_sequence_layer, simple_meaning, through_meaning, called_meaning, enumerable_meaning, expression_meaning, expression_meaning_step, members_meaning, method_meaning, search_meaning, settled, whole_compared, whole_meaning, whole_member_value, whole_same}
-use Rattle.lq_model.specs.WholeMeaningLaws.{AreMembers, Fits, IsScopeOfValues, by_group, by_record, by_row, by_scalar, no_member, one_member}
+use Rattle.lq_model.specs.WholeMeaning.{argument_meaning, as_sequence, given_meaning, global_value, is_sequence_layer, simple_meaning, through_meaning, called_meaning, enumerable_meaning, expression_meaning, expression_meaning_step, members_meaning, method_meaning, search_meaning, session_value, settled, whole_compared, whole_meaning, whole_member_value, whole_name_value, whole_same}
+use Rattle.lq_model.specs.WholeMeaningLaws.{AreMembers, Fits, IsScopeOfValues, IsSessionOfValues, by_group, by_record, by_row, by_scalar, no_member, one_member}
 use Rattle.lq_model.specs.WholeTyping.{given_type, through_type, called_type, enumerable_type, method_type, search_type, whole_member_type}
 use Rattle.lq_model.specs.declared.syntax.Argument.{Argument}
 use Rattle.lq_model.specs.declared.syntax.Argument.TheVariants as argument
@@ -101,7 +101,7 @@ called_found typed names source t r call element gives within =
     limited_found _ r
     (called_by source (λ u. enumerable_type typed names u call) ∙ ap (λ (o : Option Ty). option_and_then (λ u. enumerable_type typed names u call) o) element ∙ gives) within
 
-module _ {R : Type 0} (world : World R) (holds : HoldsRows world) (f g : Fault) where
+module _ {R : Type 0} (world : World R) (holds : HoldsRows world) (kept : IsSessionOfValues world) (f g : Fault) where
   abbrev L : World R
   L = left world f g
 
@@ -195,23 +195,44 @@ module _ {R : Type 0} (world : World R) (holds : HoldsRows world) (f g : Fault) 
       (has_value x bs t (others_of (λ d. Val d.ty d.value) b bs fits)) (bytes_eq b.name x) h
 
   local_means : (x : List ℕ) (scope : Scope R) (t : Ty) → IsScopeOfValues world scope → local_type x (typed_locals scope) ≡ Some t
-      → Agree (Val t) (name_value L x (binding_of x scope)) (name_value M x (binding_of x scope))
+      → Agree (Val t) (whole_name_value L x (binding_of x scope)) (whole_name_value M x (binding_of x scope))
   local_means x scope t fits h =
       let there = has_value x scope t fits h in
-      subst (λ (o : Option (Binding R)). Agree (Val t) (name_value L x o) (name_value M x o)) (sym there.1) (agree_ok (Val t) there.0.value there.2)
+      subst (λ (o : Option (Binding R)). Agree (Val t) (whole_name_value L x o) (whole_name_value M x o)) (sym there.1) (agree_ok (Val t) there.0.value there.2)
 
   table_means : (x : List ℕ) (scope : Scope R) (n : ℕ) → local_type x (typed_locals scope) ≡ None → table_number x world.schemas ≡ Some n
-      → Agree (Val (ty.Seq (ty.Row n))) (name_value L x (binding_of x scope)) (name_value M x (binding_of x scope))
+      → Agree (Val (ty.Seq (ty.Row n))) (whole_name_value L x (binding_of x scope)) (whole_name_value M x (binding_of x scope))
   table_means x scope n hidden table =
       let there = table_there x world.schemas n table in
       let rows = holds n there.0 there.1 in
-      subst (λ (o : Option (Binding R)). Agree (Val (ty.Seq (ty.Row n))) (name_value L x o) (name_value M x o)) (sym (no_binding x scope hidden))
-      (subst (λ (o : Option ℕ). Agree (Val (ty.Seq (ty.Row n))) (table_value L (option_and_then (λ k. slice_get world.rows k) o)) (table_value M (option_and_then (λ k. slice_get world.rows k) o)))
+      subst (λ (o : Option (Binding R)). Agree (Val (ty.Seq (ty.Row n))) (whole_name_value L x o) (whole_name_value M x o)) (sym (no_binding x scope hidden))
+      (subst (λ (o : Option ℕ). Agree (Val (ty.Seq (ty.Row n))) (global_value L x o) (global_value M x o))
       (sym table)
       (subst (λ (o : Option (List R)). Agree (Val (ty.Seq (ty.Row n))) (table_value L o) (table_value M o)) (sym rows.1)
       (agree_ok (Val (ty.Seq (ty.Row n))) (value.Seq (map value.Row rows.0) end.Done)
       (sequence_is world (ty.Row n) (map value.Row rows.0, end.Done)
       (every_map (HasCells world n) (Val (ty.Row n)) value.Row (λ r cells. by_row (ty.Row n) n r (outs-Row n) cells) rows.0 rows.2)))))
+
+  -- a name of the session that is typed has a value of its type, which is the same in both
+  session_by : (x : List ℕ) (s : SessionValue R) (others : List (SessionValue R)) (known : SessionName) → Val s.known.ty s.value
+      → (session_name x (session_names others) ≡ Some known → (v : Value R) × ((w : World R) → session_value w x others ≡ Ok v) × Val known.ty v)
+      → (b : Bool) → (if b then Some s.known else session_name x (session_names others)) ≡ Some known
+      → (v : Value R) × ((w : World R) → (if b then Ok s.value else session_value w x others) ≡ Ok v) × Val known.ty v
+  session_by x s others known fits later true h = (s.value, λ w. refl, subst (λ (k : SessionName). Val k.ty s.value) (same_Some s.known known h) fits)
+  session_by x s others known fits later false h = later h
+
+  session_there : (x : List ℕ) (session : List (SessionValue R)) (known : SessionName) → Every (λ s. Val s.known.ty s.value) session
+      → session_name x (session_names session) ≡ Some known → (v : Value R) × ((w : World R) → session_value w x session ≡ Ok v) × Val known.ty v
+  session_there x [] known fits h = absurd (none-some known h)
+  session_there x (s ∷ others) known fits h =
+      session_by x s others known (first_of (λ (d : SessionValue R). Val d.known.ty d.value) s others fits)
+      (session_there x others known (others_of (λ (d : SessionValue R). Val d.known.ty d.value) s others fits)) (bytes_eq s.known.name x) h
+
+  pub has_session_value : (x : List ℕ) (known : SessionName) → session_name x (session_names world.session) ≡ Some known
+      → (v : Value R) × ((w : World R) → w.session ≡ world.session → session_value w x w.session ≡ Ok v) × Val known.ty v
+  has_session_value x known h =
+      let there = session_there x world.session known kept h in
+      (there.0, (λ w same. ap (session_value w x) same ∙ there.1 w), there.2)
 
   -- members
   member_means : (names : Names) (a : Expr) (m : List ℕ) (s t : Ty) → expression_type a names ≡ Some s → whole_member_type names m (out-Ty s) ≡ Some t
@@ -259,6 +280,15 @@ module _ {R : Type 0} (world : World R) (holds : HoldsRows world) (f g : Fault) 
 
   by_equals : (t : Ty) (m n k l : Result (Value R) Fault) → m ≡ k → n ≡ l → Agree (Val t) k l → Agree (Val t) m n
   by_equals t m n k l h i agree = subst (λ (o : Result (Value R) Fault). Agree (Val t) o n) (sym h) (subst (λ (o : Result (Value R) Fault). Agree (Val t) k o) (sym i) agree)
+
+  session_means : (x : List ℕ) (scope : Scope R) (known : SessionName) → local_type x (typed_locals scope) ≡ None → table_number x world.schemas ≡ None
+      → session_name x (session_names world.session) ≡ Some known
+      → Agree (Val known.ty) (whole_name_value L x (binding_of x scope)) (whole_name_value M x (binding_of x scope))
+  session_means x scope known hidden no_table h =
+      let there = has_session_value x known h in
+      subst (λ (o : Option (Binding R)). Agree (Val known.ty) (whole_name_value L x o) (whole_name_value M x o)) (sym (no_binding x scope hidden))
+      (subst (λ (o : Option ℕ). Agree (Val known.ty) (global_value L x o) (global_value M x o)) (sym no_table)
+      (by_equals known.ty _ _ _ _ (there.1 L refl) (there.1 M refl) (agree_ok (Val known.ty) there.0 there.2)))
 
   signed_means : (names : Names) (a b : Expr) (op : Binary) (r s t : Ty) → is_equality op ≡ false → is_plain (out-Ty s) ≡ true → is_plain (out-Ty t) ≡ true
       → ((x y : Scalar) → IsScalarOf (out-Ty s) x → IsScalarOf (out-Ty t) y → GivesScalar (out-Ty r) (signed op s t x y))
@@ -426,6 +456,10 @@ module _ {R : Type 0} (world : World R) (holds : HoldsRows world) (f g : Fault) 
   means (rule.of_table names e x n is hidden table) = λ scope at.
       of_node (ty.Seq (ty.Row n)) e (node.Name x) scope is
       (table_means x scope n (ap (λ (ns : Names). local_type x ns.locals) at.1 ∙ hidden) (ap (λ (ns : Names). table_number x ns.tables) at.1 ∙ table))
+  means (rule.of_session names e x known is hidden no_table there) = λ scope at.
+      of_node known.ty e (node.Name x) scope is
+      (session_means x scope known (ap (λ (ns : Names). local_type x ns.locals) at.1 ∙ hidden) (ap (λ (ns : Names). table_number x ns.tables) at.1 ∙ no_table)
+      (ap (λ (ns : Names). session_name x ns.session) at.1 ∙ there))
   means (rule.of_column names e row c n t is typed column) = λ scope at.
       of_node t e (node.Member row c) scope is
       (member_means names row c (ty.Row n) t (found typed) (ap (whole_member_type names c) (outs-Row n) ∙ column)

@@ -7,14 +7,14 @@ use Rattle.lq_value.specs.declared.ty.Ty.{Ty, out-Ty}
 use Rattle.lq_value.specs.declared.ty.Ty.TheOpen.{Ty-F}
 use Rattle.lq_value.specs.declared.ty.Ty.TheVariants as ty
 use Rattle.lq_model.specs.ClauseTyping.{are_join_keys, body_items, continued_items, element_type, expression_step, expression_type, has_place, if_placed, is_fresh, is_key, is_sort_key, is_within, last_type, are_sort_keys, matched_name, matched_type, names_after, names_after_all, query_items, sole_name, source_type, when}
-use Rattle.lq_model.specs.EnumerableCalls.{EnumerableCall, Given, Simple, Through, By, Plain, With, enumerable_call, method_with_lambda, method_with_value, simple_method}
+use Rattle.lq_model.specs.EnumerableCalls.{EnumerableCall, Given, Through, By, Plain, With, enumerable_call, method_with_lambda, method_with_value, simple_method}
 use Rattle.lq_model.specs.EnumerableCalls as called
 use Rattle.lq_model.specs.Maps.{map_argument, map_body, map_clause, map_field, map_join, map_key, map_last, map_next, map_node, map_query}
 use Rattle.lq_model.specs.Members.{is_search}
-use Rattle.lq_model.specs.Typing.{Names, are_comparable, are_joined, coalesced, if_number, is_bool_type, is_equality, is_number, is_ordering, is_text_type, joined_type, local_type, name_type, number_type, of_operands, result_type, table_number, truth_type, with_local}
-use Rattle.lq_model.specs.TypingRules.{TypeClaim, Has, Gives, Members, Sorts, Leads, LeadAll, Ends, BodyGives, Continues, QueryGives, IsRight, HasWholeType}
+use Rattle.lq_model.specs.Typing.{Names, are_comparable, are_joined, coalesced, if_number, is_bool_type, is_equality, is_number, is_ordering, is_text_type, joined_type, local_type, number_type, of_operands, result_type, table_number, truth_type, with_local, session_name}
+use Rattle.lq_model.specs.TypingRules.{Has, Gives, Members, Sorts, Leads, LeadAll, Ends, BodyGives, Continues, QueryGives, IsRight}
 use Rattle.lq_model.specs.TypingRules as rule
-use Rattle.lq_model.specs.WholeTyping.{are_distinct, are_null_tests, called_type, enumerable_type, given_type, members_type, search_type, through_type, whole_chosen, whole_choice_type, whole_member_type, whole_operated_type, whole_type}
+use Rattle.lq_model.specs.WholeTyping.{are_distinct, are_null_tests, called_type, enumerable_type, given_type, members_type, search_type, through_type, whole_chosen, whole_choice_type, whole_member_type, whole_operated_type, whole_type, global_type, whole_name_type}
 use Rattle.lq_model.specs.declared.syntax.Argument.{Argument}
 use Rattle.lq_model.specs.declared.syntax.Argument.TheVariants as argument
 use Rattle.lq_model.specs.declared.syntax.Binary.{Binary}
@@ -100,10 +100,16 @@ module _ (names : Names) (t : Ty) where
   same_type : (e : Expr) (s : Ty) → s ≡ t → Right e s → HasIt e
   same_type e s h right = subst (Right e) h right
 
-  name_sound : (x : List ℕ) (o : Option Ty) → local_type x names.locals ≡ o → name_type names x o ≡ Some t → HasIt (expr.Node (node.Name x))
+  global_sound : (x : List ℕ) → local_type x names.locals ≡ None → (o : Option ℕ) → table_number x names.tables ≡ o → global_type names x o ≡ Some t
+      → HasIt (expr.Node (node.Name x))
+  global_sound x hidden (Some n) is h = same_type _ (ty.Seq (ty.Row n)) (same_Some _ t h) (rule.of_table names _ x n refl hidden is)
+  global_sound x hidden None is h =
+      map_by (λ known. known.ty) (session_name x names.session) t h
+      (λ known there same. same_type _ known.ty same (rule.of_session names _ x known refl hidden is there))
+
+  name_sound : (x : List ℕ) (o : Option Ty) → local_type x names.locals ≡ o → whole_name_type names x o ≡ Some t → HasIt (expr.Node (node.Name x))
   name_sound x (Some s) is h = rule.of_local names _ x t refl (is ∙ h)
-  name_sound x None is h =
-      map_by (λ n. ty.Seq (ty.Row n)) (table_number x names.tables) t h (λ n table same. same_type _ (ty.Seq (ty.Row n)) same (rule.of_table names _ x n refl is table))
+  name_sound x None is h = global_sound x is (table_number x names.tables) refl h
 
   named : (a : Expr) (m n : List ℕ) → bytes_eq m n ≡ true → expr.Node (node.Member a m) ≡ expr.Node (node.Member a n)
   named a m n same = ap (λ (k : List ℕ). expr.Node (node.Member a k)) ((bytes_eq-Decides m n).0 same)

@@ -1,5 +1,5 @@
 -- What typing serves is a part of the types of whole expressions and queries.
-use Rattle.std.proofs.Common.{◌≡◌, ◌∷◌, ◌+◌, ◌&&◌, if◌then◌else◌, List, [], ℕ, Bool, true, false, not, Option, Some, None, codes, ap, ap₂, ◌∙◌, sym, refl, option_and_then, option_map, true≢false}
+use Rattle.std.proofs.Common.{◌≡◌, ◌∷◌, ◌+◌, ◌&&◌, if◌then◌else◌, List, [], ℕ, Bool, true, false, not, Option, Some, None, codes, ap, ap₂, ◌∙◌, sym, refl, option_and_then, true≢false}
 use Rattle.std.specs.Prelude.{is_some, nat_le}
 use Rattle.std.proofs.lemmas.Bool.{and_from}
 use Rattle.std.proofs.lemmas.Option.{none-some}
@@ -10,9 +10,9 @@ use Rattle.lq_value.specs.declared.ty.Ty.TheVariants.{outs-Bool, outs-IntN, outs
 use Rattle.lq_model.specs.ClauseTyping.{body_items, continued_items, element_type, expression_step, expression_type, has_place, if_placed, if_within, is_within, last_type, names_after, names_after_all, parts_of, parts_step, query_items, sole_name, when}
 use Rattle.lq_model.specs.EnumerableCalls.{enumerable_call}
 use Rattle.lq_model.specs.Members.{is_search}
-use Rattle.lq_model.specs.Typing.{Names, Claim, TypeOf, Leads, LeadAll, Selects, GivesItems, IsTyped, of_coalesced, of_equality, of_has_value, of_joined, of_length, of_null, of_ordering, of_search, of_text, of_value, of_integer, of_local, of_table, of_column, of_arithmetic, of_minus, of_choice, of_truth, of_not, of_both, of_either, by_where, by_none, by_first, by_select, by_query, HasType, chosen, coalesced, if_number, is_bool, is_bool_type, is_equality, is_scalar, is_text, is_text_type, local_type, name_type, number_type, of_operands, operated_type, truth_type, with_local}
+use Rattle.lq_model.specs.Typing.{Names, Claim, TypeOf, Leads, LeadAll, Selects, GivesItems, IsTyped, of_coalesced, of_equality, of_has_value, of_joined, of_length, of_null, of_ordering, of_search, of_text, of_value, of_integer, of_local, of_table, of_column, of_arithmetic, of_minus, of_choice, of_truth, of_not, of_both, of_either, by_where, by_none, by_first, by_select, by_query, HasType, chosen, coalesced, if_number, is_bool, is_bool_type, is_equality, is_scalar, is_text, is_text_type, local_type, number_type, of_operands, operated_type, truth_type, with_local}
 use Rattle.lq_model.specs.TypingLaws.{KeepsItemTypes, KeepsTypes}
-use Rattle.lq_model.specs.WholeTyping.{are_null_tests, called_type, search_type, whole_chosen, whole_choice_type, whole_member_type, whole_operated_type}
+use Rattle.lq_model.specs.WholeTyping.{are_null_tests, called_type, search_type, whole_chosen, whole_choice_type, whole_member_type, whole_operated_type, global_type, whole_name_type}
 use Rattle.lq_model.specs.declared.syntax.Argument.TheVariants as argument
 use Rattle.lq_model.specs.declared.syntax.Binary.{Binary}
 use Rattle.lq_model.specs.declared.syntax.Binary.TheVariants as binary
@@ -135,9 +135,9 @@ query_kept names behind q item t source fresh clauses selected scalar ended =
 
 kept : {claim : Claim} → IsTyped claim → IsKept claim
 kept (of_integer names e n is) = whole_is names e (node.Integer n) is
-kept (of_local names e x t is local) = whole_is names e (node.Name x) is ∙ ap (name_type names x) local
+kept (of_local names e x t is local) = whole_is names e (node.Name x) is ∙ ap (whole_name_type names x) local
 kept (of_table names e x n is hidden table) =
-    whole_is names e (node.Name x) is ∙ ap (name_type names x) hidden ∙ ap (λ (o : Option ℕ). option_map (λ m. ty.Seq (ty.Row m)) o) table
+    whole_is names e (node.Name x) is ∙ ap (whole_name_type names x) hidden ∙ ap (global_type names x) table
 kept (of_column names e row c n t is row_typed column) =
     whole_is names e (node.Member row c) is ∙ member_kept names c row (ty.Row n) (Ty-F.Row n) (Some t) (kept row_typed) (outs-Row n) column
 kept (of_text names e x is) = whole_is names e (node.Text x) is

@@ -157,7 +157,10 @@ bound_by t u rest within others true h = same_within u t h within
 bound_by t u rest within others false h = others h
 
 bound_within : (names : Names) (n : List ℕ) (u : Ty) → AreWithin names → is_within u ≡ true → AreWithin (with_local names n u)
-bound_within names n u all within x t h = bound_by t u (local_type x names.locals) within (all x t) (bytes_eq n x) h
+bound_within names n u all within = record {
+  locals = λ x t h. bound_by t u (local_type x names.locals) within (all.locals x t) (bytes_eq n x) h;
+  session = all.session;
+}
 
 -- ---- by the rules
 
@@ -178,8 +181,9 @@ limited (rule.of_integer names e n is) = λ all. at_layer ty.Int Ty-F.Int outs-I
 limited (rule.of_text names e x is) = λ all. at_layer ty.Str Ty-F.Str outs-Str refl
 limited (rule.of_truth names e b is) = λ all. at_layer ty.Bool Ty-F.Bool outs-Bool refl
 limited (rule.of_null names e is) = λ all. at_layer ty.Null Ty-F.Null outs-Null refl
-limited (rule.of_local names e x t is local) = λ all. all x t local
+limited (rule.of_local names e x t is local) = λ all. all.locals x t local
 limited (rule.of_table names e x n is hidden table) = λ all. rows_within n
+limited (rule.of_session names e x known is hidden no_table there) = λ all. all.session x known there
 limited (rule.of_column names e row c n t is typed column) = λ all. columns_within names.tables n c t column
 limited (rule.of_member names e a m members t is typed member) = λ all. member_within m members t member (limited typed all)
 limited (rule.of_key names e a k t is typed) = λ all. key_within k t (limited typed all)

@@ -1,6 +1,6 @@
 -- «Allowed calls»: the log of host calls, and which of them a statement may add to it.
 use Rattle.std.specs.Prelude.{◌≡◌, List, [], ℕ, ℤ, Bool}
-use Rattle.lq_model.specs.Machine.{State}
+use Rattle.lq_model.specs.States.{State}
 
 -- An entry of the log: which host predicate, by its number, was asked of which cell, by the number of its table, of its row
 -- and of its column; the argument that it got, and what it answered.

@@ -2,6 +2,8 @@ pub mod Arrangement
 pub mod ArrangementLaws
 pub mod ClauseLaws
 pub mod ClauseTyping
+pub mod DefinitionLaws
+pub mod Definitions
 pub mod Depth
 pub mod Enumerable
 pub mod EnumerableCalls
@@ -15,6 +17,7 @@ pub mod Maps
 pub mod Meaning
 pub mod MeaningLaws
 pub mod Members
+pub mod Opening
 pub mod OperationLaws
 pub mod Operations
 pub mod Operators
@@ -26,7 +29,10 @@ pub mod RightLaws
 pub mod Rights
 pub mod Script
 pub mod Served
+pub mod Serving
 pub mod SessionLaws
+pub mod Statements
+pub mod States
 pub mod Stream
 pub mod Terms
 pub mod TextLiterals

@@ -17,7 +17,7 @@ use Rattle.lq_model.specs.Operations.{negated, of_member, of_search, of_two, on_
 use Rattle.lq_model.specs.Arrangement.{order_by}
 use Rattle.lq_model.specs.ClauseTyping.{body_items, expression_type, joined_name, source_type}
 use Rattle.lq_model.specs.Stream.{Stream, elements_of, expand_by, group_by, join_by, select_by, where_by, with_keys}
-use Rattle.lq_model.specs.Typing.{Names, is_equality, is_text_type, row_table, table_number, type_of, with_local}
+use Rattle.lq_model.specs.Typing.{Names, SessionName, is_equality, is_text_type, row_table, table_number, type_of, with_local}
 use Rattle.lq_value.specs.SameAndOrder.{same_values as same_keys}
 use Rattle.lq_model.specs.declared.operation.Op.{Op}
 use Rattle.lq_model.specs.declared.operation.Op.TheVariants as op
@@ -48,10 +48,17 @@ pub record Binding (R : Type 0) : Type 0 where
 abbrev pub Scope : Type 0 → Type 0
 Scope R = List (Binding R)
 
--- what is read besides local names: the schemas and rows of the tables, by number, and a row's cell by its column's name
+-- a name of the session, and what it stands for at a statement
+pub record SessionValue (R : Type 0) : Type 0 where
+  pub known : SessionName
+  pub value : Value R
+
+-- what is read besides local names: the schemas and rows of the tables, by number, what the session's names stand for, and a row's cell by its
+-- column's name
 pub record World (R : Type 0) : Type 0 where
   pub schemas : List Schema
   pub rows : List (List R)
+  pub session : List (SessionValue R)
   pub cell : R → List ℕ → Option Scalar
   -- what stands where an expression has no meaning, since it has no type; nothing that is typed depends on it (MeaningLaws)
   pub unknown : Fault
@@ -74,8 +81,12 @@ module _ {R : Type 0} where
   abbrev pub typed_locals : Scope R → List (List ℕ × Ty)
   typed_locals scope = map (λ b. (b.name, b.ty)) scope
 
+  -- the names of the session with their types
+  abbrev pub session_names : List (SessionValue R) → List SessionName
+  session_names session = map (λ s. s.known) session
+
   abbrev pub names_at : World R → Scope R → Names
-  names_at world scope = record { tables = world.schemas; locals = typed_locals scope }
+  names_at world scope = record { tables = world.schemas; session = session_names world.session; locals = typed_locals scope }
 
   -- `from`: the range variable stands for each item of the source in turn
   abbrev pub bound : List ℕ → Ty → Scope R → Value R → Scope R

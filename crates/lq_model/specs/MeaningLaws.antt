@@ -11,11 +11,9 @@ use Rattle.lq_value.specs.declared.value.End.{End}
 use Rattle.lq_value.specs.declared.value.Fault.{Fault}
 use Rattle.lq_value.specs.declared.value.Value.{Value}
 use Rattle.lq_value.specs.declared.value.Value.TheVariants as value
-use Rattle.lq_model.specs.Machine.{State, run_denial, run_in, schemas_of, seen_by_role, served, served_type, unless_denied, world_by}
 use Rattle.lq_model.specs.Meaning.{Scope, World, meaning, names_at, stream_meaning}
 use Rattle.lq_model.specs.Typing.{HasItemType, HasType, column_type, item_of, row_table, type_of_column}
 use Rattle.lq_model.specs.Visible.{TableRow}
-use Rattle.lq_model.specs.WholeMeaning.{expression_meaning}
 use Rattle.lq_model.specs.declared.syntax.Expr.{Expr}
 use Rattle.lq_model.specs.declared.syntax.Query.{Query}
 
@@ -59,7 +57,7 @@ module _ {R : Type 0} (world : World R) where
 
 -- the same world with this fault where an expression has no meaning
 abbrev pub assuming : {R : Type 0} → Fault → World R → World R
-assuming unknown world = record { schemas = world.schemas; rows = world.rows; cell = world.cell; unknown = unknown }
+assuming unknown world = record { schemas = world.schemas; rows = world.rows; session = world.session; cell = world.cell; unknown = unknown }
 
 -- ---- the laws
 
@@ -93,12 +91,3 @@ HaveTypes (column ∷ columns) (cell ∷ cells) = IsScalarOf (out-Ty (type_of_co
 
 abbrev pub IsTypedTable : Table → Type 0
 IsTypedTable table = Every (λ row. HaveTypes table.schema.columns row.cells) table.rows
-
--- over tables whose cells are of their columns' types, what a `run` serves that isn't denied is the same whatever stands where there is no
--- meaning
-abbrev pub ServesMeanings : Type 0
-ServesMeanings =
-    (s : State) → Every IsTypedTable s.tables → (e : Expr) (unknown : Fault)
-    → let world = world_by unknown (schemas_of s.tables) (seen_by_role s) in
-    run_in s e ≡ unless_denied (schemas_of s.tables) (run_denial s.policies s.role (schemas_of s.tables) e)
-    (served world (served_type (schemas_of s.tables) e) (expression_meaning world e []))

@@ -1,7 +1,8 @@
 -- «Output»: the replies to the lines of a script, stepped in order.
 use Rattle.std.specs.Prelude.{◌≡◌, ◌+◌, ◌∷◌, ◌++◌, List, [], ℕ, Some, None, IsSome}
 use Rattle.lq_model.specs.HostCalls.{HostCall, MayCall}
-use Rattle.lq_model.specs.Machine.{State, Reply, step, memory_line}
+use Rattle.lq_model.specs.Machine.{Reply, step, memory_line}
+use Rattle.lq_model.specs.States.{State}
 
 -- The session does a step of the machine, or it answers the memory line in place of a reply and stays as it was. Either way it
 -- adds to the log only calls that the line allows.

@@ -1,6 +1,6 @@
 -- «Served bytes»: the line of a reply, which is the compact text of its JSON value and a line feed. The members of each object stand
 -- by the bytes of their names, which `put` keeps.
-use Rattle.std.specs.Prelude.{◌∷◌, ◌++◌, List, [], map, ℕ, Option, Some, None, Result, Ok, Err, codes, slice_get}
+use Rattle.std.specs.Prelude.{◌∷◌, ◌++◌, List, [], map, ℕ, Option, Some, None, Result, Ok, Err, codes, slice_get, pos}
 use Rattle.serde_json.specs.Data.{Data, Members, array, boolean, no_members, null, number, object, put, string}
 use Rattle.serde_json.specs.Find.{of_integer}
 use Rattle.serde_json.specs.View.{items_of}
@@ -188,6 +188,29 @@ use_name schemas (of.Delete t) = name_of_table (slice_get schemas t) ++ codes " 
 -- a denial's reply: the rule that denies, and the use that it denies
 abbrev pub denied_data : List Schema → List ℕ → Use → Data
 denied_data schemas rule used = object (put (codes "denied") (string rule) (put (codes "use") (string (use_name schemas used)) no_members))
+
+-- ---- other statements
+
+-- a reply of one member
+abbrev pub sole_member : List ℕ → Data → Data
+sole_member name d = object (put name d no_members)
+
+-- the name that was defined, the variable that was assigned to, and the role from now on
+abbrev pub defined_data : List ℕ → Data
+defined_data name = sole_member (codes "defined") (string name)
+
+abbrev pub assigned_data : List ℕ → Data
+assigned_data name = sole_member (codes "assigned") (string name)
+
+abbrev pub role_data : List ℕ → Data
+role_data name = sole_member (codes "role") (string name)
+
+-- how many rows were put in and removed
+abbrev pub inserted_data : Data
+inserted_data = sole_member (codes "inserted") (number (of_integer (pos 1)))
+
+abbrev pub deleted_data : ℕ → Data
+deleted_data n = sole_member (codes "deleted") (number (of_integer (pos n)))
 
 -- the line of a reply
 abbrev pub line_of : Data → List ℕ

@@ -1,10 +1,13 @@
 -- Laws of the session machine and of its output.
 use Rattle.std.specs.Prelude.{◌≡◌, ◌≢◌, ◌↔◌, ◌∷◌, List, [], ℕ, map, Some, None, codes}
 use Rattle.lq_model.specs.HostCalls.{HostCall}
-use Rattle.lq_model.specs.Machine.{State, Reply, memory_line, step}
+use Rattle.lq_model.specs.Machine.{Reply, memory_line, step}
+use Rattle.lq_model.specs.States.{State, schemas_of, seen_by_role}
 use Rattle.lq_model.specs.Output.{Answers, Runs, stepped}
 use Rattle.lq_model.specs.Served.{error_data, line_of}
-use Rattle.lq_model.specs.Visible.{tables_as_seen}
+use Rattle.lq_model.specs.Reading.{Says, reading_of}
+use Rattle.lq_value.specs.declared.scalar.Scalar.{Scalar}
+use Rattle.lq_model.specs.declared.syntax.Statement.TheVariants as statement
 
 -- ---- what hidden rows may change
 
@@ -13,12 +16,34 @@ use Rattle.lq_model.specs.Visible.{tables_as_seen}
 pub record LooksSame (a b : State) : Type 0 where
   pub role : a.role ≡ b.role
   pub policies : a.policies ≡ b.policies
-  pub schemas : map (λ table. table.schema) a.tables ≡ map (λ table. table.schema) b.tables
-  pub seen : tables_as_seen a.policies a.role a.tables ≡ tables_as_seen b.policies b.role b.tables
+  pub definitions : a.definitions ≡ b.definitions
+  pub schemas : schemas_of a.tables ≡ schemas_of b.tables
+  pub seen : seen_by_role a ≡ seen_by_role b
 
--- states that look the same give every line the same reply, and look the same behind it
+-- and the next row of each table gets the same number in both
+abbrev pub NumberAlike : State → State → Type 0
+NumberAlike a b = map (λ table. table.next) a.tables ≡ map (λ table. table.next) b.tables
+
+-- a line that puts in a row, and one that takes a role
+abbrev pub PutsIn : List ℕ → Type 0
+PutsIn line = (name : List ℕ) × (cells : List Scalar) × (reading_of line ≡ Says (statement.Insert name cells))
+
+abbrev pub TakesRole : List ℕ → Type 0
+TakesRole line = (name : List ℕ) × (reading_of line ≡ Says (statement.As name))
+
+-- States that look the same give every line the same reply. An `insert` alone tells them apart that number the rows to come otherwise: it
+-- is refused as full where no number is left.
 abbrev pub AnswersAlike : Type 0
-AnswersAlike = (a b : State) → LooksSame a b → (line : List ℕ) → ((step a line).0 ≡ (step b line).0) × LooksSame (step a line).1 (step b line).1
+AnswersAlike = (a b : State) → LooksSame a b → (line : List ℕ) → (PutsIn line → NumberAlike a b) → (step a line).0 ≡ (step b line).0
+
+-- And they look the same behind it, but behind a line that takes a role, to which they may look otherwise.
+abbrev pub LookAlikeBehind : Type 0
+LookAlikeBehind =
+    (a b : State) → LooksSame a b → (line : List ℕ) → (PutsIn line → NumberAlike a b) → (TakesRole line → ⊥) → LooksSame (step a line).1 (step b line).1
+
+-- states that look the same and number the rows to come alike do so behind every line
+abbrev pub NumberAlikeBehind : Type 0
+NumberAlikeBehind = (a b : State) → LooksSame a b → NumberAlike a b → (line : List ℕ) → NumberAlike (step a line).1 (step b line).1
 
 -- ---- the output of a script
 
@@ -27,11 +52,16 @@ abbrev pub HasNoMemoryLine : List Reply → Type 0
 HasNoMemoryLine [] = Unit {0}
 HasNoMemoryLine (reply ∷ replies) = (reply ≢ Some memory_line) × HasNoMemoryLine replies
 
--- and so do whole scripts where no reply is the memory line
+-- no line takes a role
+abbrev pub TakesNoRole : List (List ℕ) → Type 0
+TakesNoRole [] = Unit {0}
+TakesNoRole (line ∷ lines) = (TakesRole line → ⊥) × TakesNoRole lines
+
+-- whole scripts under one role are answered alike where no reply is the memory line
 abbrev pub ScriptsAlike : Type 0
 ScriptsAlike =
-    (a b after_a after_b : State) (lines : List (List ℕ)) (from_a from_b : List Reply) (calls_a calls_b : List HostCall) → LooksSame a b → Runs a lines from_a calls_a after_a
-    → Runs b lines from_b calls_b after_b
+    (a b after_a after_b : State) (lines : List (List ℕ)) (from_a from_b : List Reply) (calls_a calls_b : List HostCall) → LooksSame a b → NumberAlike a b
+    → TakesNoRole lines → Runs a lines from_a calls_a after_a → Runs b lines from_b calls_b after_b
     → HasNoMemoryLine from_a → HasNoMemoryLine from_b → (from_a ≡ from_b) × LooksSame after_a after_b
 
 -- where no reply is the memory line, the replies to the lines and the state behind them are the machine's

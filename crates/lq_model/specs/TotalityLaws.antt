@@ -27,7 +27,7 @@ TellsTotal = (e : Expr) → (is_total e ≡ true) ↔ IsTotal e
 -- the names of a rule: `row`, of the table with these columns, and `user`
 abbrev pub rule_names : List ℕ → List Column → Names
 rule_names table columns =
-    record { tables = record { name = table; columns = columns } ∷ []; locals = (codes "row", ty.Row 0) ∷ (codes "user", ty.Str) ∷ [] }
+    record { tables = record { name = table; columns = columns } ∷ []; session = []; locals = (codes "row", ty.Row 0) ∷ (codes "user", ty.Str) ∷ [] }
 
 -- An `i32` holds the number of a scalar. In the definitions numbers have no end, and the quotient of one past 32 bits may overflow;
 -- Rust holds cells and literals, so that no other scalar or rule is there.

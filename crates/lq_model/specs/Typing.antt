@@ -10,6 +10,7 @@ use Rattle.lq_value.specs.declared.ty.Ty.{Ty, out-Ty}
 use Rattle.lq_value.specs.declared.ty.Ty.TheOpen.{Ty-F}
 use Rattle.lq_value.specs.declared.ty.Ty.TheVariants as ty
 use Rattle.lq_model.specs.Members.{IsSearch, is_search, sole_argument}
+use Rattle.lq_model.specs.declared.rights.Use.{Use}
 use Rattle.lq_model.specs.declared.syntax.Argument.TheVariants as argument
 use Rattle.lq_model.specs.declared.syntax.Clause.{Clause}
 use Rattle.lq_model.specs.declared.syntax.Clause.TheVariants as clause
@@ -26,10 +27,22 @@ use Rattle.lq_model.specs.declared.syntax.Node.TheVariants as node
 use Rattle.lq_model.specs.declared.syntax.Query.{Query}
 use Rattle.lq_model.specs.declared.syntax.Unary.TheVariants as unary
 
--- what the names of a place stand for: the tables, by number, and the local names with their types
+-- a name of the session, which is that of a variable or of a named query: its type, and what the expression uses that it stands for
+pub record SessionName : Type 0 where
+  pub name : List ℕ
+  pub ty : Ty
+  pub uses : List Use
+
+-- what the names of a place stand for: the tables, by number, the names of the session, and the local names with their types
 pub record Names : Type 0 where
   pub tables : List Schema
+  pub session : List SessionName
   pub locals : List (List ℕ × Ty)
+
+-- the session's name that is spelled so
+abbrev pub session_name : List ℕ → List SessionName → Option SessionName
+session_name name [] = None
+session_name name (known ∷ others) = if bytes_eq known.name name then Some known else session_name name others
 
 -- the type of a local name
 abbrev pub local_type : List ℕ → List (List ℕ × Ty) → Option Ty
@@ -152,7 +165,7 @@ chosen s t = None
 
 -- the local names with one more
 abbrev pub with_local : Names → List ℕ → Ty → Names
-with_local names name t = record { tables = names.tables; locals = (name, t) ∷ names.locals }
+with_local names name t = record { tables = names.tables; session = names.session; locals = (name, t) ∷ names.locals }
 
 -- What is said of the types of an expression and of the parts of a query.
 pub data Claim : Type 0 where
@@ -166,7 +179,7 @@ pub data Claim : Type 0 where
   -- at the place of these names the items of the query have this type
   GivesItems : Names → Query Expr → Ty → Claim
 
--- Rule by rule, which of it is so. Forms that are spelled and have no rule here are served by a later version.
+-- Rule by rule, which of it is so. Forms that are spelled and have no rule here, and names of the session, have theirs in `TypingRules`.
 pub data IsTyped : Claim → Type 0 where
   of_integer : (names : Names) (e : Expr) (n : ℤ) → e ≡ expr.Node (node.Integer n) → IsTyped (TypeOf names e ty.Int)
   of_local : (names : Names) (e : Expr) (x : List ℕ) (t : Ty) → e ≡ expr.Node (node.Name x) → local_type x names.locals ≡ Some t → IsTyped (TypeOf names e t)

@@ -6,7 +6,7 @@ use Rattle.lq_value.specs.declared.ty.Ty.TheVariants as ty
 use Rattle.lq_model.specs.EnumerableCalls.{Given, Simple, Through, By, Plain, With, enumerable_call}
 use Rattle.lq_model.specs.Members.{IsSearch}
 use Rattle.lq_model.specs.Types.{are_join_keys, element_type, has_place, is_key, is_within}
-use Rattle.lq_model.specs.Typing.{Names, are_comparable, are_joined, coalesced, column_type, is_comparison, is_equality, is_number, is_ordering, is_scalar, local_type, number_type, table_number, with_local}
+use Rattle.lq_model.specs.Typing.{Names, SessionName, are_comparable, are_joined, coalesced, column_type, is_comparison, is_equality, is_number, is_ordering, is_scalar, local_type, number_type, session_name, table_number, with_local}
 use Rattle.lq_model.specs.WholeTyping.{are_distinct, are_null_tests, given_type, member_of, simple_type, through_type, whole_chosen}
 use Rattle.lq_model.specs.declared.syntax.Argument.{Argument}
 use Rattle.lq_model.specs.declared.syntax.Argument.TheVariants as argument
@@ -52,7 +52,7 @@ pub data TypeClaim : Type 0 where
 
 -- Rule by rule, which of it is so.
 pub data IsRight : TypeClaim → Type 0 where
-  -- literals and names; a local name hides a table of its name
+  -- literals and names; a local name hides a table of its name, and a variable or named query
   of_integer : (names : Names) (e : Expr) (n : ℤ) → e ≡ expr.Node (node.Integer n) → IsRight (Has names e ty.Int)
   of_text : (names : Names) (e : Expr) (x : List ℕ) → e ≡ expr.Node (node.Text x) → IsRight (Has names e ty.Str)
   of_truth : (names : Names) (e : Expr) (b : Bool) → e ≡ expr.Node (node.Bool b) → IsRight (Has names e ty.Bool)
@@ -60,6 +60,8 @@ pub data IsRight : TypeClaim → Type 0 where
   of_local : (names : Names) (e : Expr) (x : List ℕ) (t : Ty) → e ≡ expr.Node (node.Name x) → local_type x names.locals ≡ Some t → IsRight (Has names e t)
   of_table : (names : Names) (e : Expr) (x : List ℕ) (n : ℕ) → e ≡ expr.Node (node.Name x) → local_type x names.locals ≡ None
       → table_number x names.tables ≡ Some n → IsRight (Has names e (ty.Seq (ty.Row n)))
+  of_session : (names : Names) (e : Expr) (x : List ℕ) (known : SessionName) → e ≡ expr.Node (node.Name x) → local_type x names.locals ≡ None
+      → table_number x names.tables ≡ None → session_name x names.session ≡ Some known → IsRight (Has names e known.ty)
   -- members
   of_column : (names : Names) (e row : Expr) (c : List ℕ) (n : ℕ) (t : Ty) → e ≡ expr.Node (node.Member row c) → IsRight (Has names row (ty.Row n))
       → column_type names.tables n c ≡ Some t → IsRight (Has names e t)

@@ -5,7 +5,7 @@ use Rattle.lq_value.specs.declared.table.Schema.{Schema}
 use Rattle.lq_value.specs.declared.ty.Ty.{Ty, fold-Ty, out-Ty}
 use Rattle.lq_value.specs.declared.ty.Ty.TheOpen.{Ty-F}
 use Rattle.lq_model.specs.ClauseTyping.{body_items, expression_type, names_after, sole_name, source_type}
-use Rattle.lq_model.specs.Typing.{Names, local_type, table_number, with_local}
+use Rattle.lq_model.specs.Typing.{Names, local_type, session_name, table_number, with_local}
 use Rattle.lq_model.specs.declared.rights.Use.{Use}
 use Rattle.lq_model.specs.declared.rights.Use.TheVariants as of
 use Rattle.lq_model.specs.declared.syntax.Argument.{Argument}
@@ -16,7 +16,6 @@ use Rattle.lq_model.specs.declared.syntax.Clause.TheVariants as clause
 use Rattle.lq_model.specs.declared.syntax.Continuation.{Continuation}
 use Rattle.lq_model.specs.declared.syntax.Expr.{Expr, para-Expr}
 use Rattle.lq_model.specs.declared.syntax.Expr.TheOpen.{Expr-F}
-use Rattle.lq_model.specs.declared.syntax.Join.{Join}
 use Rattle.lq_model.specs.declared.syntax.Last.{Last}
 use Rattle.lq_model.specs.declared.syntax.Last.TheVariants as last
 use Rattle.lq_model.specs.declared.syntax.Node.{Node}
@@ -30,13 +29,15 @@ under (Some x) used = used x
 
 -- ---- names and members
 
--- a local name is no use; any other name is a table's
-abbrev pub table_uses : Option ℕ → List Use
-table_uses found = under found (λ t. of.Table t ∷ [])
+-- a table is a use, and a name of the session uses what the expression does that it stands for
+abbrev pub global_uses : Names → List ℕ → Option ℕ → List Use
+global_uses names x (Some t) = of.Table t ∷ []
+global_uses names x None = under (session_name x names.session) (λ known. known.uses)
 
+-- a local name is no use
 abbrev pub name_uses : Option Ty → List ℕ → Names → List Use
 name_uses (Some t) x names = []
-name_uses None x names = table_uses (table_number x names.tables)
+name_uses None x names = global_uses names x (table_number x names.tables)
 
 -- the number of the column of this name
 abbrev pub column_number : List ℕ → Option Schema → Option ℕ

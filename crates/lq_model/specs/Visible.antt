@@ -29,7 +29,7 @@ cell_named (column ∷ columns) (cell ∷ cells) name = if bytes_eq column name 
 
 -- a rule reads the cells of the row at hand, and no table; one without a meaning faults, and so is not true
 abbrev pub rule_world : List (List ℕ) → World (List Scalar)
-rule_world columns = record { schemas = []; rows = []; cell = cell_named columns; unknown = fault.NullReference }
+rule_world columns = record { schemas = []; rows = []; session = []; cell = cell_named columns; unknown = fault.NullReference }
 
 -- the names of a rule: `row`, of the one table that a rule is about, and `user`, which is the name of the role
 abbrev pub rule_scope : List Scalar → List ℕ → Scope (List Scalar)
@@ -174,7 +174,7 @@ pub record HasCell (columns : List (List ℕ)) (cells : List Scalar) (name : Lis
 -- A rule is true on a row: `row` stands for the row, and `user` for the name of the role.
 abbrev pub IsTrueOn : Asked → Expr → Type 0
 IsTrueOn asked rule =
-    let world : World (List Scalar) = record { schemas = []; rows = []; cell = cell_named asked.columns; unknown = fault.NullReference } in
+    let world : World (List Scalar) = record { schemas = []; rows = []; session = []; cell = cell_named asked.columns; unknown = fault.NullReference } in
     let row : Binding (List Scalar) = record { name = codes "row"; ty = ty.Row 0; value = value.Row asked.cells } in
     let user : Binding (List Scalar) = record { name = codes "user"; ty = ty.Str; value = value.Scalar (scalar.Text asked.user) } in
     let scope : Scope (List Scalar) = row ∷ user ∷ [] in

@@ -1,6 +1,6 @@
 -- «Scalar meaning» and «Operator meaning» of the whole language: records, groups, and methods of sequences, whose lambdas are functions
 -- of the scope (ECMA-334, expressions; .NET, Enumerable). What `Meaning` gives to what is served has the same meaning here.
-use Rattle.std.specs.Prelude.{◌∷◌, if◌then◌else◌, List, [], filter_map, ℕ, ℤ, Bool, true, false, Option, Some, None, Result, Ok, Err, pos, option_and_then}
+use Rattle.std.specs.Prelude.{◌∷◌, if◌then◌else◌, List, [], filter_map, ℕ, ℤ, Bool, true, false, Option, Some, None, Result, Ok, Err, pos, option_and_then, slice_get}
 use Rattle.std.specs.Str.{bytes_eq}
 use Rattle.lq_value.specs.SameAndOrder.{same_values as same_keys}
 use Rattle.lq_value.specs.declared.scalar.Scalar.{Scalar}
@@ -16,11 +16,11 @@ use Rattle.lq_model.specs.ClauseTyping.{expression_type}
 use Rattle.lq_model.specs.Enumerable.{all, any, as_count, concat, contains, count, default_if_empty, distinct, element_at, except, first, greatest, intersect, last, least, reversed, single, skip, summed, take_first, union}
 use Rattle.lq_model.specs.EnumerableCalls.{EnumerableCall, Given, Simple, Through, By, Plain, With, enumerable_call}
 use Rattle.lq_model.specs.EnumerableCalls as of
-use Rattle.lq_model.specs.Meaning.{Meaning, Meant, Scope, World, as_value, bound, condition_at, item_type_at, member_value, names_at, node_meaning, on_scalar, or_null, query_meaning, same_values, sequence, stream_of, told, truth_value}
+use Rattle.lq_model.specs.Meaning.{Binding, Meaning, Meant, Scope, SessionValue, World, as_value, binding_of, bound, condition_at, item_type_at, member_value, names_at, node_meaning, on_scalar, or_null, query_meaning, same_values, sequence, stream_of, table_value, told, truth_value}
 use Rattle.lq_model.specs.Members.{search_named, sole_argument}
 use Rattle.lq_model.specs.Operations.{of_search, on_ok}
 use Rattle.lq_model.specs.Stream.{Stream, select_by, where_by}
-use Rattle.lq_model.specs.Typing.{Names, is_equality, is_text_type, with_local}
+use Rattle.lq_model.specs.Typing.{Names, is_equality, is_text_type, table_number, with_local}
 use Rattle.lq_model.specs.WholeTyping.{is_int, method_type, whole_member_type}
 use Rattle.lq_model.specs.declared.syntax.Argument.{Argument}
 use Rattle.lq_model.specs.declared.syntax.Binary.{Binary}
@@ -138,6 +138,23 @@ module _ {R : Type 0} (world : World R) where
   member_in m [] = None
   member_in m (member ∷ members) = if bytes_eq m member.0 then Some member.1 else member_in m members
 
+  -- ---- names
+
+  -- what a name of the session stands for
+  abbrev pub session_value : List ℕ → List (SessionValue R) → Result (Value R) Fault
+  session_value x [] = Err world.unknown
+  session_value x (s ∷ others) = if bytes_eq s.known.name x then Ok s.value else session_value x others
+
+  -- a table's rows, else what the session says
+  abbrev pub global_value : List ℕ → Option ℕ → Result (Value R) Fault
+  global_value x (Some n) = table_value world (slice_get world.rows n)
+  global_value x None = session_value x world.session
+
+  -- a local name's value, else what its name stands for outside
+  abbrev pub whole_name_value : List ℕ → Option (Binding R) → Result (Value R) Fault
+  whole_name_value x (Some b) = Ok b.value
+  whole_name_value x None = global_value x (table_number x world.schemas)
+
   -- a member of a record, the key of a group, or what a row or a scalar of this type has; a null record or row has none
   abbrev pub whole_member_value : Option Ty → List ℕ → Value-F R (Value R) → Result (Value R) Fault
   whole_member_value t m (Value-F.Rec members) = member_found (member_in m members)
@@ -211,6 +228,7 @@ module _ {R E : Type 0} (world : World R) (type_of : E → Names → Option Ty) 
 
   -- the meaning of a form, over the meanings of what it holds; a form without a clause of its own here means what `Meaning` says
   abbrev pub whole_meaning : Node (E × Meaning R) → Meaning R
+  whole_meaning (node.Name x) scope = whole_name_value world x (binding_of x scope)
   whole_meaning (node.Member a m) scope =
       settled world (member_type_at a m scope) (on_ok (meant a scope) (λ v. whole_member_value world (typed a (names_at world scope)) m (out-Value R v)))
   whole_meaning (node.Method a m arguments) scope = settled world (method_type_at a m arguments scope) (method_meaning a m arguments scope)

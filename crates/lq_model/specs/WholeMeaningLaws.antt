@@ -43,6 +43,10 @@ module _ {R : Type 0} (world : World R) where
   abbrev pub IsValueOf : Ty → Value R → Type 0
   IsValueOf t v = Fits (IsA t v)
 
+  -- each name of the session has a value of its type
+  abbrev pub IsSessionOfValues : Type 0
+  IsSessionOfValues = Every (λ s. IsValueOf s.known.ty s.value) world.session
+
   -- each local name has a value of its type
   abbrev pub IsScopeOfValues : Scope R → Type 0
   IsScopeOfValues scope = Every (λ b. IsValueOf b.ty b.value) scope
@@ -50,7 +54,8 @@ module _ {R : Type 0} (world : World R) where
 -- what a typed expression means is the same whatever stands where there is no meaning, and if it is a value, then one of its type
 abbrev pub HasWholeMeaning : Type 0 → Type 0
 HasWholeMeaning R =
-    (world : World R) → HoldsRows world → (scope : Scope R) → IsScopeOfValues world scope → (e : Expr) (t : Ty) → expression_type e (names_at world scope) ≡ Some t
+    (world : World R) → HoldsRows world → IsSessionOfValues world → (scope : Scope R) → IsScopeOfValues world scope → (e : Expr) (t : Ty)
+    → expression_type e (names_at world scope) ≡ Some t
     → (f g : Fault)
     → (expression_meaning (assuming f world) e scope ≡ expression_meaning (assuming g world) e scope)
     × ((v : Value R) → expression_meaning (assuming f world) e scope ≡ Ok v → IsValueOf world t v)
@@ -58,7 +63,8 @@ HasWholeMeaning R =
 -- and so are a typed query's stream, and the items in it
 abbrev pub HasWholeStream : Type 0 → Type 0
 HasWholeStream R =
-    (world : World R) → HoldsRows world → (scope : Scope R) → IsScopeOfValues world scope → (q : Query Expr) (t : Ty) → query_items expression_type q (names_at world scope) ≡ Some t
+    (world : World R) → HoldsRows world → IsSessionOfValues world → (scope : Scope R) → IsScopeOfValues world scope → (q : Query Expr) (t : Ty)
+    → query_items expression_type q (names_at world scope) ≡ Some t
     → (f g : Fault)
     → (items_meaning (assuming f world) q scope ≡ items_meaning (assuming g world) q scope)
     × Every (IsValueOf world t) (items_meaning (assuming f world) q scope).0
@@ -66,7 +72,8 @@ HasWholeStream R =
 -- an expression of a sequence's type never faults: it is a stream, though this may end in a fault
 abbrev pub NeverFaults : Type 0 → Type 0
 NeverFaults R =
-    (world : World R) → HoldsRows world → (scope : Scope R) → IsScopeOfValues world scope → (e : Expr) (t : Ty) → expression_type e (names_at world scope) ≡ Some (ty.Seq t)
+    (world : World R) → HoldsRows world → IsSessionOfValues world → (scope : Scope R) → IsScopeOfValues world scope → (e : Expr) (t : Ty)
+    → expression_type e (names_at world scope) ≡ Some (ty.Seq t)
     → (unknown : Fault) → (s : Stream (Value R)) × (expression_meaning (assuming unknown world) e scope ≡ Ok (sequence s))
 
 -- ---- what is served

@@ -9,7 +9,7 @@ use Rattle.lq_model.specs.EnumerableCalls.{EnumerableCall, Given, Simple, Throug
 use Rattle.lq_model.specs.EnumerableCalls as of
 use Rattle.lq_model.specs.Members.{is_search, sole_argument}
 use Rattle.lq_model.specs.Types.{element_type, fresh_type, if_placed, is_key, is_within, same_types, when}
-use Rattle.lq_model.specs.Typing.{Names, chosen, is_bool_type, is_equality, is_number, is_text_type, member_type, node_type, of_operands, operated_type, truth_type, with_local}
+use Rattle.lq_model.specs.Typing.{Names, chosen, is_bool_type, is_equality, is_number, is_text_type, local_type, member_type, node_type, of_operands, operated_type, session_name, table_number, truth_type, with_local}
 use Rattle.lq_model.specs.declared.syntax.Argument.{Argument}
 use Rattle.lq_model.specs.declared.syntax.Binary.{Binary}
 use Rattle.lq_model.specs.declared.syntax.Field.{Field}
@@ -180,8 +180,19 @@ module _ {X : Type 0} (typed : X → Names → Option Ty) where
 
 -- ---- forms
 
+-- a table's type, else that of a name of the session; no table has the name of one
+abbrev pub global_type : Names → List ℕ → Option ℕ → Option Ty
+global_type names x (Some n) = Some (ty.Seq (ty.Row n))
+global_type names x None = option_map (λ known. known.ty) (session_name x names.session)
+
+-- a local name's type, else what its name stands for outside
+abbrev pub whole_name_type : Names → List ℕ → Option Ty → Option Ty
+whole_name_type names x (Some t) = Some t
+whole_name_type names x None = global_type names x (table_number x names.tables)
+
 -- the type of a form; a form without a clause of its own here has the type that `Typing` serves
 abbrev pub whole_type : Node (Names → Option Ty) → Names → Option Ty
+whole_type (node.Name x) names = whole_name_type names x (local_type x names.locals)
 whole_type (node.Member a m) names = option_and_then (λ t. whole_member_type names m (out-Ty t)) (a names)
 whole_type (node.Method a m arguments) names = method_type (λ typed. typed) a m arguments names
 whole_type (node.Binary op a b) names = of_operands (whole_operated_type op) (a names) (b names)

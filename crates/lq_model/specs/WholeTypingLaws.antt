@@ -5,7 +5,7 @@ use Rattle.lq_value.specs.declared.ty.Ty.{Ty}
 use Rattle.lq_value.specs.declared.ty.Ty.TheVariants as ty
 use Rattle.lq_model.specs.ClauseTyping.{expression_type, query_items}
 use Rattle.lq_model.specs.Types.{is_within}
-use Rattle.lq_model.specs.Typing.{Names, local_type}
+use Rattle.lq_model.specs.Typing.{Names, SessionName, local_type, session_name}
 use Rattle.lq_model.specs.TypingRules.{HasQueryItems, HasWholeType}
 use Rattle.lq_model.specs.declared.syntax.Expr.{Expr}
 use Rattle.lq_model.specs.declared.syntax.Query.{Query}
@@ -28,9 +28,10 @@ FindsQueryItems = (names : Names) (q : Query Expr) (t : Ty) → (query_items exp
 
 -- ---- how large types are
 
--- each local name has a type of at most 4,096 parts
-abbrev pub AreWithin : Names → Type 0
-AreWithin names = (x : List ℕ) (t : Ty) → local_type x names.locals ≡ Some t → is_within t ≡ true
+-- each local name has a type of at most 4,096 parts, and each name of the session
+pub record AreWithin (names : Names) : Type 0 where
+  pub locals : (x : List ℕ) (t : Ty) → local_type x names.locals ≡ Some t → is_within t ≡ true
+  pub session : (x : List ℕ) (known : SessionName) → session_name x names.session ≡ Some known → is_within known.ty ≡ true
 
 -- then so has every typed expression, though only records and methods of sequences are asked for it
 abbrev pub LimitsTypes : Type 0

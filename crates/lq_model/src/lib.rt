@@ -2,7 +2,7 @@
 //! machine and its output. The definitions stand in `specs/`, the laws about them are the contracts
 //! of the functions of `lexing_laws`, `grammar_laws`, `typing_laws`, `operation_laws`,
 //! `meaning_laws`, `clause_laws`, `enumerable_laws`, `totality_laws`, `policy_laws`, `right_laws` and `session_laws`,
-//! and tokens, syntax trees, operator calls and policies are plain types.
+//! and tokens, syntax trees, operator calls, policies and definitions are plain types.
 #![tactic(auto)]
 
 mod calls;
@@ -18,6 +18,7 @@ mod policy;
 pub mod policy_laws;
 pub mod right_laws;
 mod rights;
+mod session;
 pub mod session_laws;
 mod syntax;
 mod token;
@@ -29,6 +30,7 @@ pub use methods::{Given, Simple, Through};
 pub use operation::Op;
 pub use policy::{Action, Policy, PolicyParts, Role, TablePart};
 pub use rights::{RightRule, Use};
+pub use session::{Defined, Definition, Opened};
 pub use syntax::{
     Argument, Binary, Body, Clause, Continuation, Expr, Field, Infix, Join, Last, Level, Node,
     Query, SortKey, Statement, Unary,

@@ -1,7 +1,8 @@
 //! Laws of meaning. Each function's contract is the law that it is named for; the functions
 //! themselves do nothing.
 ghost use Rattle.lq_model.specs.ArrangementLaws.{ArrangesByKeys, KeepsTies};
-ghost use Rattle.lq_model.specs.MeaningLaws.{HasMeaning, HasStream, SelectsScalars, ServesMeanings};
+ghost use Rattle.lq_model.specs.MeaningLaws.{HasMeaning, HasStream, SelectsScalars};
+ghost use Rattle.lq_model.specs.DefinitionLaws.{NamesAreKnown, NamesHaveMeanings, NamesHaveValues, ServesMeanings};
 ghost use Rattle.lq_model.specs.WholeMeaningLaws.{HasWholeMeaning, HasWholeStream, KeepsMeanings, KeepsStreams, NeverFaults};
 
 /// Where local names have values of their types and tables have their rows, a typed expression has
@@ -13,8 +14,16 @@ pub fn typed_meanings()
     ensures items { SelectsScalars }
 {}
 
-/// Over tables whose cells are of their columns' types, no reply to `run` depends on what stands
-/// where an expression has no meaning.
+/// The names of a session are those that its definitions make known. Where tables have their rows, each
+/// has a value of its type, the same whatever stands where there is no meaning.
+pub fn session_values<R>()
+    ensures names { NamesAreKnown R }
+    ensures values { NamesHaveValues R }
+    ensures meanings { NamesHaveMeanings R }
+{}
+
+/// Over tables whose cells are of their columns' types, and under definitions as `var` makes them, no
+/// reply to `run` depends on what stands where an expression has no meaning.
 pub fn served_meanings()
     ensures { ServesMeanings }
 {}

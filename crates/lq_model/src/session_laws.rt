@@ -1,12 +1,16 @@
 //! Laws of the session machine and of its output. Each function's contract is the law that it is
 //! named for; the functions themselves do nothing.
-ghost use Rattle.lq_model.specs.SessionLaws.{AnswersAlike, AsksNoHost, ScriptsAlike, IsOutput, LeavesTheRest, IsSilentAlike, MemoryLineIsServed};
+ghost use Rattle.lq_model.specs.DefinitionLaws.{KeepsDefined};
+ghost use Rattle.lq_model.specs.SessionLaws.{AnswersAlike, AsksNoHost, LookAlikeBehind, NumberAlikeBehind, ScriptsAlike, IsOutput, LeavesTheRest, IsSilentAlike, MemoryLineIsServed};
 
-/// Hidden rows change no answer: two states whose roles see the same tables, under the same
-/// policies and schemas, give every line the same reply and every script the same replies, the
-/// memory line aside.
+/// Hidden rows change no answer: two states whose role sees the same tables, under the same policies,
+/// schemas, variables and named queries, give every line the same reply, and a script under that role the
+/// same replies, the memory line aside. An `insert` alone may tell them apart, as full, where they number
+/// the rows to come otherwise. Behind a line that takes another role they may look otherwise to that one.
 pub fn hidden_rows()
     ensures line { AnswersAlike }
+    ensures behind { LookAlikeBehind }
+    ensures numbers { NumberAlikeBehind }
     ensures script { ScriptsAlike }
 {}
 
@@ -31,4 +35,11 @@ pub fn logged_calls()
 /// The memory line is served as any other refusal is.
 pub fn memory_line_is_served()
     ensures { MemoryLineIsServed }
+{}
+
+/// Over tables whose cells are of their columns' types, every line leaves the definitions as `var` makes
+/// them: a variable has a scalar's type and a value of it, a named query is of a sequence's type under
+/// the names before it, and each name is new to the tables and to the definitions before it.
+pub fn definitions_are_kept()
+    ensures { KeepsDefined }
 {}

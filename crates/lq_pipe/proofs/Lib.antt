@@ -5,6 +5,7 @@ pub mod Forms
 pub mod ItemLemmas
 pub mod PartLemmas
 pub mod PullLemmas
+pub mod RowLemmas
 pub mod SlotLemmas
 pub mod StreamLemmas
 pub mod TruthLemmas

@@ -1,4 +1,5 @@
 pub mod Arrangements
+pub mod Conditions
 pub mod Counts
 pub mod Items
 pub mod Lists

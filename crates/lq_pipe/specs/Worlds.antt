@@ -1,5 +1,5 @@
 -- What a tree reads: the schemas and rows of the tables that it is given, and the cells of rows by the names of their columns.
-use Rattle.std.specs.Prelude.{◌≡◌, List, map, ℕ, true, slice_get}
+use Rattle.std.specs.Prelude.{◌≡◌, List, [], map, ℕ, true, slice_get}
 use Rattle.lq_value.specs.declared.scalar.Scalar.{Scalar}
 use Rattle.lq_value.specs.declared.table.Schema.{Schema}
 use Rattle.lq_value.specs.declared.value.Fault.TheVariants as fault
@@ -23,6 +23,7 @@ module _ {R : Type 0} where
       record {
         schemas = schemas_in tables;
         rows = rows_in tables;
+        session = [];
         cell = λ r. cell_named (columns_in (slice_get (schemas_in tables) (table_of r))) (shown r);
         unknown = fault.NullReference;
       }

@@ -11,6 +11,7 @@ mod operations;
 mod parts;
 mod pulling;
 mod reached;
+mod rows;
 mod running;
 mod scalars;
 mod sequences;
@@ -20,5 +21,6 @@ mod tables;
 mod trees;
 
 pub use lq_operators::RunError;
+pub use rows::rows_where;
 pub use tables::{TableRow, TableRows};
 pub use trees::{run, value};

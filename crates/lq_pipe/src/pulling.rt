@@ -57,6 +57,7 @@ impl<'a, R: TableRow> Running<'a, R> {
 
     /// The items of a form, as they are where it is neither a condition nor a lambda.
     #[cycle(running)]
+    #[inline(never)]
     #[tactic(auto, using(crate::proofs::PullLemmas::table_opened))]
     fn opened(&self, form: &Form, slots: &Slots<'_, R>) -> Result<Base<'a, R>, AllocError>
         ensures { IfOk result (λ base. base_stream base
@@ -73,6 +74,7 @@ impl<'a, R: TableRow> Running<'a, R> {
 
     /// The items that a method makes, where it is neither a condition nor a lambda of each item.
     #[cycle(running)]
+    #[inline(never)]
     fn method_opened(
         &self,
         method: Through,
@@ -92,6 +94,7 @@ impl<'a, R: TableRow> Running<'a, R> {
 
     /// The base of a method with a lambda.
     #[cycle(running)]
+    #[inline(never)]
     #[tactic(auto, using(crate::proofs::PullLemmas::opens_methods))]
     fn open_method(
         &self,

@@ -9,7 +9,7 @@ use Rattle.lq_model.specs.Meaning.{Scope, World}
 
 abbrev pub typed_world : List Column → World (Unit {0})
 typed_world columns =
-    record { schemas = record { name = []; columns = columns } ∷ []; rows = []; cell = λ row column. None; unknown = fault.NullReference }
+    record { schemas = record { name = []; columns = columns } ∷ []; rows = []; session = []; cell = λ row column. None; unknown = fault.NullReference }
 
 abbrev pub typed_scope : Scope (Unit {0})
 typed_scope =

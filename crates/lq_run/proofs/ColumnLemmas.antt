@@ -4,14 +4,14 @@ use Rattle.std.specs.List.{list_all, list_any}
 use Rattle.std.specs.Str.{bytes_eq}
 use Rattle.std.proofs.lemmas.Bool.{and_parts}
 use Rattle.std.proofs.lemmas.Option.{none-some, same_Some}
-use Rattle.std.specs.Prelude.{Vec, nat_le, length}
-use Rattle.std.specs.declared.alloc.Global.{Global}
+use Rattle.std.specs.Prelude.{nat_le, length}
 use Rattle.lq_value.specs.Tables.{Table}
 use Rattle.lq_value.specs.declared.table.Column.{Column}
 use Rattle.lq_value.specs.declared.table.Schema.{Schema}
 use Rattle.lq_store.specs.Rules.{is_fair_range, keeps_rules}
 use Rattle.lq_store.specs.Rules.{are_distinct as keep_distinct}
 use Rattle.lq_model.specs.MeaningLaws.{Every}
+use Rattle.lq_model.specs.States.{State}
 use Rattle.lq_model.specs.WholeTyping.{are_distinct, is_new}
 use Rattle.lq_pipe.specs.Worlds.{HaveDistinctColumns, schemas_in}
 use Rattle.lq_pipe.specs.declared.tables.TableRows.{TableRows}
@@ -51,7 +51,7 @@ schema_distinct schema kept =
     distinct names (and_parts many (keep_distinct names) (and_parts (many && keep_distinct names) fair kept).0).1
 
 -- so have those with the rows that are seen
-pub seen_distinct : (store : List Table) (seen : List (Vec SeenRow Global)) (tables : List (TableRows SeenRow)) → AreSeen store seen tables → HaveDistinctColumns (schemas_in tables)
-seen_distinct store seen tables with_them =
-    subst (Every Distinct) (sym with_them.schemas)
-    (every_mapped Distinct (λ (t : Table). t.schema) store (λ k table is. schema_distinct table.schema (with_them.kept k table is).rules))
+pub seen_distinct : (s : State) (tables : List (TableRows SeenRow)) → AreSeen s tables → HaveDistinctColumns (schemas_in tables)
+seen_distinct s tables seen =
+    subst (Every Distinct) (sym seen.schemas)
+    (every_mapped Distinct (λ (t : Table). t.schema) s.tables (λ k table is. schema_distinct table.schema (seen.kept k table is).rules))

@@ -1,6 +1,10 @@
 pub mod ColumnLemmas
+pub mod DefinitionLemmas
+pub mod RemovalLemmas
 pub mod ReplyLemmas
 pub mod RowLemmas
+pub mod ScalarLemmas
 pub mod SeenLemmas
 pub mod StoredLemmas
 pub mod TableLemmas
+pub mod WorldLemmas

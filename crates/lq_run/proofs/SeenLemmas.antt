@@ -9,7 +9,7 @@ use Rattle.lq_value.specs.Tables.{Table}
 use Rattle.lq_value.specs.declared.scalar.Scalar.{Scalar}
 use Rattle.lq_value.specs.declared.table.Row.{Row}
 use Rattle.lq_model.specs.Visible.{TableRow, seen_from, seen_rows, tables_as_seen, visible_to}
-use Rattle.lq_model.specs.declared.policy.Action.TheVariants as action
+use Rattle.lq_model.specs.declared.policy.Action.{Action}
 use Rattle.lq_model.specs.declared.policy.PolicyParts.{PolicyParts}
 use Rattle.lq_policy.specs.RowRules.{admits}
 use Rattle.lq_policy.specs.declared.row_rules.RowRules.{RowRules}
@@ -19,19 +19,24 @@ use Rattle.lq_run.specs.declared.seen.SeenRow.{SeenRow}
 same_place : (start n : ℕ) → start + suc n ≡ (start + 1) + n
 same_place start n = omega (arith)
 
+-- the rows of a table with which a role may do this
+abbrev pub visible : PolicyParts → ℕ → Action → ℕ → List Row → List TableRow
+visible parts role act table rows = map (λ row. record { table = table; row = row }) (filter (λ row. visible_to parts role act table row.cells) rows)
+
 module _ (parts : PolicyParts) (role : ℕ) where
-  -- rules that admit what is visible admit the rows that are seen
-  pub admitted_seen : (table : ℕ) (rules : RowRules) → ((cells : List Scalar) → admits rules cells ≡ visible_to parts role action.Select table cells)
-      → (rows : List Row) → admitted_rows rules table rows ≡ seen_rows parts role table rows
-  admitted_seen table rules same rows =
+  -- rules that admit what is visible admit the rows that are
+  pub admitted_seen : (table : ℕ) (act : Action) (rules : RowRules) → ((cells : List Scalar) → admits rules cells ≡ visible_to parts role act table cells)
+      → (rows : List Row) → admitted_rows rules table rows ≡ visible parts role act table rows
+  admitted_seen table act rules same rows =
       ap (λ (test : List Scalar → Bool). map (λ row. let r : TableRow = record { table = table; row = row } in r) (filter (λ row. test row.cells) rows))
       (λ i cells. same cells i)
 
   -- the rows of the table that is there
-  pub seen_there : (table : ℕ) (o : Option Table) (rows : List Row) (seen : List TableRow) → option_map (λ t. t.rows) o ≡ Some rows
-      → seen ≡ seen_rows parts role table rows → Some seen ≡ option_map (λ t. seen_rows parts role table t.rows) o
-  seen_there table None rows seen there is = absurd (none-some rows there)
-  seen_there table (Some t) rows seen there is = ap Some is ∙ ap (λ (given : List Row). Some (seen_rows parts role table given)) (sym (same_Some t.rows rows there))
+  seen_there : (table : ℕ) (act : Action) (o : Option Table) (rows : List Row) (seen : List TableRow) → option_map (λ t. t.rows) o ≡ Some rows
+      → seen ≡ visible parts role act table rows → Some seen ≡ option_map (λ t. visible parts role act table t.rows) o
+  seen_there table act None rows seen there is = absurd (none-some rows there)
+  seen_there table act (Some t) rows seen there is =
+      ap Some is ∙ ap (λ (given : List Row). Some (visible parts role act table given)) (sym (same_Some t.rows rows there))
 
   -- one table more
   pub one_more : (start n : ℕ) (tables : List Table) (seen : List TableRow)
@@ -44,13 +49,14 @@ module _ (parts : PolicyParts) (role : ℕ) where
       ap (λ (rest : List (List TableRow)). seen_rows parts role start t.rows ∷ rest)
       (one_more (start + 1) n tables seen (is ∙ ap (λ (m : ℕ). option_map (λ (u : Table). seen_rows parts role m u.rows) (slice_get tables n)) (same_place start n)))
 
-  -- what is admitted in a table is what is seen in it
-  pub seen_answer : (table : ℕ) (o : Option Table) (rules : RowRules) (rows : List Row) (result : Result (Vec SeenRow Global) AllocError)
-      → ((cells : List Scalar) → admits rules cells ≡ visible_to parts role action.Select table cells) → option_map (λ t. t.rows) o ≡ Some rows
+  -- what is admitted in a table is what is visible in it
+  pub seen_answer : (table : ℕ) (act : Action) (o : Option Table) (rules : RowRules) (rows : List Row) (result : Result (Vec SeenRow Global) AllocError)
+      → ((cells : List Scalar) → admits rules cells ≡ visible_to parts role act table cells) → option_map (λ t. t.rows) o ≡ Some rows
       → IfOk result (λ seen. map shown_row seen.items ≡ admitted_rows rules table rows)
-      → IfOk result (λ seen. Some (map shown_row seen.items) ≡ option_map (λ t. seen_rows parts role table t.rows) o)
-  seen_answer table o rules rows (Ok seen) same there is = seen_there table o rows (map shown_row seen.items) there (is ∙ admitted_seen table rules same rows)
-  seen_answer table o rules rows (Err e) same there is = tt
+      → IfOk result (λ seen. Some (map shown_row seen.items) ≡ option_map (λ t. visible parts role act table t.rows) o)
+  seen_answer table act o rules rows (Ok seen) same there is =
+      seen_there table act o rows (map shown_row seen.items) there (is ∙ admitted_seen table act rules same rows)
+  seen_answer table act o rules rows (Err e) same there is = tt
 
   -- the tables so far, and one more
   pub more : (n : ℕ) (tables : List Table) (before after : List (Vec SeenRow Global)) (rows : Vec SeenRow Global) → map shown_rows before ≡ seen_from parts role 0 (take n tables)

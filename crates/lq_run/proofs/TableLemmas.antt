@@ -4,13 +4,15 @@ use Rattle.std.specs.declared.alloc.Global.{Global}
 use Rattle.std.proofs.Math.Numerals.{suc-eq-add-one}
 use Rattle.std.proofs.lemmas.List.{map-append, take_all}
 use Rattle.std.proofs.lemmas.Option.{none-some, same_Some}
+use Rattle.std.proofs.lemmas.Simd.{map-map}
 use Rattle.lq_value.specs.Tables.{Table}
 use Rattle.lq_store.specs.Rules.{IsTable}
-use Rattle.lq_model.specs.Machine.{schemas_of}
+use Rattle.lq_model.specs.DefinitionLaws.{AreDefined}
+use Rattle.lq_model.specs.States.{State, schemas_of, seen_by_role}
 use Rattle.lq_model.specs.MeaningLaws.{Every}
 use Rattle.lq_pipe.specs.Worlds.{rows_in, schemas_in}
 use Rattle.lq_pipe.specs.declared.tables.TableRows.{TableRows}
-use Rattle.lq_run.specs.SeenRows.{AreSeen, row_lists}
+use Rattle.lq_run.specs.SeenRows.{AreSeen, row_lists, shown_row, shown_rows}
 use Rattle.lq_run.specs.declared.seen.SeenRow.{SeenRow}
 
 -- one item more of a list, each as another
@@ -46,7 +48,7 @@ kept_more n store kept at k lt = by (below_or_at n k lt) where
   by (inr same) = subst (λ m. IfSome (slice_get store m) IsTable) (sym same) at
 
 -- a place in a list is below its length
-within : {A : Type 0} (xs : List A) (k : ℕ) (x : A) → slice_get xs k ≡ Some x → k < length xs
+pub within : {A : Type 0} (xs : List A) (k : ℕ) (x : A) → slice_get xs k ≡ Some x → k < length xs
 within [] k x is = absurd (none-some x is)
 within (y ∷ ys) zero x is = omega (arith)
 within (y ∷ ys) (suc k) x is = let less : k < length ys = within ys k x is in omega (arith, less)
@@ -58,13 +60,15 @@ kept_all n store kept all k table is =
     subst (λ (o : Option Table). IfSome o IsTable) is (kept k (omega (arith, less, all)))
 
 -- the tables so far are those with their rows
-pub all_seen : (n : ℕ) (store : List Table) (seen : List (Vec SeenRow Global)) (tables : List (TableRows SeenRow)) → length store ≤ n → length seen ≡ length store
-    → schemas_in tables ≡ map (λ table. table.schema) (take n store) → rows_in tables ≡ row_lists (take n seen) → KeptBelow n store → AreSeen store seen tables
-all_seen n store seen tables all many schemas rows kept =
+pub all_seen : (n : ℕ) (s : State) (seen : List (Vec SeenRow Global)) (tables : List (TableRows SeenRow)) → length s.tables ≤ n
+    → map shown_rows seen ≡ seen_by_role s → length seen ≡ length s.tables → AreDefined (schemas_of s.tables) s.definitions
+    → schemas_in tables ≡ map (λ table. table.schema) (take n s.tables) → rows_in tables ≡ row_lists (take n seen) → KeptBelow n s.tables → AreSeen s tables
+all_seen n s seen tables all is many defined schemas rows kept =
     record {
-      schemas = schemas ∙ ap schemas_of (take_all n store all);
-      rows = rows ∙ ap row_lists (take_all n seen (omega (arith, all, many)));
-      kept = kept_all n store kept all;
+      schemas = schemas ∙ ap schemas_of (take_all n s.tables all);
+      rows = ap (map (map shown_row)) (rows ∙ ap row_lists (take_all n seen (omega (arith, all, many)))) ∙ map-map (map shown_row) (λ rows. rows.items) seen ∙ is;
+      kept = kept_all n s.tables kept all;
+      defined = defined;
     }
 
 -- one table more, with its schema

@@ -1,3 +1,5 @@
 pub mod Replies
 pub mod SeenRows
+pub mod States
+pub mod Statements
 pub mod TreeReply

@@ -1,13 +1,14 @@
 -- The rows that a role sees, as the code keeps them.
 use Rattle.std.specs.Prelude.{◌≡◌, List, Vec, map, ℕ, filter}
 use Rattle.std.specs.declared.alloc.Global.{Global}
-use Rattle.lq_value.specs.Tables.{Table}
 use Rattle.lq_value.specs.declared.scalar.Scalar.{Scalar}
 use Rattle.lq_value.specs.declared.table.Row.{Row}
 use Rattle.lq_store.specs.Rules.{IsTable}
-use Rattle.lq_model.specs.Machine.{schemas_of}
+use Rattle.lq_model.specs.DefinitionLaws.{AreDefined}
+use Rattle.lq_model.specs.States.{State, schemas_of, seen_by_role}
 use Rattle.lq_model.specs.MeaningLaws.{Every}
-use Rattle.lq_model.specs.Visible.{TableRow}
+use Rattle.lq_model.specs.Visible.{TableRow, visible_to}
+use Rattle.lq_model.specs.declared.policy.Action.{Action}
 use Rattle.lq_policy.specs.RowRules.{admits}
 use Rattle.lq_policy.specs.declared.row_rules.RowRules.{RowRules}
 use Rattle.lq_pipe.specs.Worlds.{rows_in, schemas_in}
@@ -28,6 +29,10 @@ cells_in r = r.row.now.cells
 abbrev pub admitted_rows : RowRules → ℕ → List Row → List TableRow
 admitted_rows rules table rows = map (λ row. record { table = table; row = row }) (filter (λ row. admits rules row.cells) rows)
 
+-- the rows of a table with which the role of a state may do this
+abbrev pub visible_rows : State → Action → ℕ → List Row → List TableRow
+visible_rows s act table rows = map (λ row. record { table = table; row = row }) (filter (λ row. visible_to s.policies s.role act table row.cells) rows)
+
 abbrev pub shown_rows : Vec SeenRow Global → List TableRow
 shown_rows rows = map shown_row rows.items
 
@@ -35,8 +40,9 @@ shown_rows rows = map shown_row rows.items
 abbrev pub row_lists : List (Vec SeenRow Global) → List (List SeenRow)
 row_lists seen = map (λ rows. rows.items) seen
 
--- Tables with the rows that are seen of them: the store's schemas in their order, each table with its rows. The store's tables keep their rules.
-pub record AreSeen (store : List Table) (seen : List (Vec SeenRow Global)) (tables : List (TableRows SeenRow)) : Type 0 where
-  pub schemas : schemas_in tables ≡ schemas_of store
-  pub rows : rows_in tables ≡ row_lists seen
-  pub kept : Every IsTable store
+-- The tables of a state with the rows that its role sees of them, in their order. The state's tables and definitions keep their rules.
+pub record AreSeen (s : State) (tables : List (TableRows SeenRow)) : Type 0 where
+  pub schemas : schemas_in tables ≡ schemas_of s.tables
+  pub rows : map (map shown_row) (rows_in tables) ≡ seen_by_role s
+  pub kept : Every IsTable s.tables
+  pub defined : AreDefined (schemas_of s.tables) s.definitions

@@ -1,6 +1,6 @@
 //! The line of a tree's reply.
 ghost use Rattle.std.specs.Prelude.{◌≡◌, [], codes, IfOk};
-ghost use Rattle.lq_model.specs.Machine.{schemas_of};
+ghost use Rattle.lq_model.specs.States.{schemas_of};
 ghost use Rattle.lq_model.specs.Served.{error_data, line_of, stream_data, value_data};
 ghost use Rattle.lq_model.specs.Meaning.{stream_of};
 ghost use Rattle.lq_pipe.specs.Worlds.{HaveDistinctColumns, schemas_in, world_of};

@@ -1,20 +1,21 @@
 //! The rows of tables that a role sees.
 ghost use Rattle.std.specs.Prelude.{◌≡◌, ◌<◌, Some, IfOk, length, map, option_map, slice_get};
-ghost use Rattle.lq_model.specs.Visible.{seen_rows, tables_as_seen};
-ghost use Rattle.lq_policy.specs.Roles.{number_of};
-ghost use Rattle.lq_run.specs.SeenRows.{admitted_rows, shown_row, shown_rows};
+ghost use Rattle.lq_model.specs.States.{seen_by_role};
+ghost use Rattle.lq_run.specs.SeenRows.{admitted_rows, shown_row, shown_rows, visible_rows};
 
+use crate::state::State;
 use lq_pipe::TableRow;
-use lq_policy::{Action, Policies, RoleId, RowRules};
-use lq_store::Store;
+use lq_policy::{Action, RowRules};
 use lq_value::{Row, RowRef, Scalar};
 use std::alloc::{AllocError, Global};
 
 /// A row that a role sees, with the number of its table.
 #[derive(Clone, Copy, Drop)]
 pub(crate) struct SeenRow<'a> {
-    table: u16,
-    row: &'a Row,
+    /// The number of its table.
+    pub(crate) table: u16,
+    /// The row.
+    pub(crate) row: &'a Row,
 }
 
 impl RowRef for SeenRow<'_> {
@@ -53,36 +54,35 @@ fn admitted<'a>(
     Ok(seen)
 }
 
-/// The rows of a table that a role may read.
-fn seen_in<'a>(
+/// The rows of a table that the session's role may do this with.
+pub(crate) fn rows_for<'a>(
     alloc: Global,
-    store: &'a Store,
-    policies: &Policies,
-    role: RoleId,
+    state: &'a State,
+    action: Action,
     table: u16,
 ) -> Result<Vec<SeenRow<'a>>, AllocError>
-    requires { table < length store.now }
-    ensures { IfOk result (λ seen. Some (map shown_row seen.items)
-        ≡ option_map (λ t. seen_rows policies.now (number_of role) table t.rows) (slice_get store.now table)) }
+    requires { table < length state.now.tables }
+    ensures { IfOk result (λ rows. Some (map shown_row rows.items)
+        ≡ option_map (λ t. visible_rows state.now action table t.rows) (slice_get state.now.tables table)) }
 {
-    let rules = policies.rules_for(alloc, role, Action::Select, table)?;
-    admitted(alloc, &rules, table, store.rows(table))
+    let rules = state
+        .policies()
+        .rules_for(alloc, state.role(), action, table)?;
+    admitted(alloc, &rules, table, state.store().rows(table))
 }
 
-/// For each table of the store, by number, its rows that the role may read.
+/// For each table, by number, its rows that the session's role may read.
 #[tactic(auto, using(crate::proofs::SeenLemmas::whole, crate::proofs::SeenLemmas::more))]
 pub(crate) fn seen_tables<'a>(
     alloc: Global,
-    store: &'a Store,
-    policies: &Policies,
-    role: RoleId,
+    state: &'a State,
 ) -> Result<Vec<Vec<SeenRow<'a>>>, AllocError>
-    ensures { IfOk result (λ tables. map shown_rows tables.items ≡ tables_as_seen policies.now (number_of role) store.now) }
+    ensures { IfOk result (λ tables. map shown_rows tables.items ≡ seen_by_role state.now) }
 {
-    let mut tables = Vec::with_capacity(alloc, store.len())?;
+    let mut tables = Vec::with_capacity(alloc, state.store().len())?;
     let mut table = 0u16;
-    while (table as usize) < store.len() {
-        tables.push(seen_in(alloc, store, policies, role, table)?)?;
+    while (table as usize) < state.store().len() {
+        tables.push(rows_for(alloc, state, Action::Select, table)?)?;
         table += 1;
     }
     Ok(tables)

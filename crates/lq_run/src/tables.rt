@@ -1,25 +1,28 @@
-//! The tables of a store, with the rows that a role sees of them.
-ghost use Rattle.std.specs.Prelude.{◌≡◌, length, IfOk};
-ghost use Rattle.lq_run.specs.SeenRows.{AreSeen};
+//! The tables of a state, with the rows that a role sees of them.
+ghost use Rattle.std.specs.Prelude.{◌≡◌, map, IfOk};
+ghost use Rattle.lq_model.specs.States.{seen_by_role};
+ghost use Rattle.lq_pipe.specs.Worlds.{HaveDistinctColumns, schemas_in};
+ghost use Rattle.lq_run.specs.SeenRows.{AreSeen, shown_rows};
 
 use crate::seen::SeenRow;
+use crate::state::State;
 use lq_pipe::TableRows;
-use lq_store::Store;
 use std::alloc::{AllocError, Global};
 
-/// The tables of a store, each with the rows that are seen of it.
+/// The tables of a state, each with the rows that are seen of it.
 pub(crate) fn with_rows<'a, 'b>(
     alloc: Global,
-    store: &'b Store,
+    state: &'b State,
     seen: &'b [Vec<SeenRow<'a>>],
 ) -> Result<Vec<TableRows<'b, SeenRow<'a>>>, AllocError>
-    requires { length seen.now ≡ length store.now }
-    ensures { IfOk result (λ tables. AreSeen store.now seen.now tables.items) }
+    requires { map shown_rows seen.now ≡ seen_by_role state.now }
+    ensures seen { IfOk result (λ tables. AreSeen state.now tables.items) }
+    ensures columns { IfOk result (λ tables. HaveDistinctColumns (schemas_in tables.items)) }
 {
     let mut tables = Vec::with_capacity(alloc, seen.len())?;
     let mut table = 0u16;
-    while (table as usize) < store.len() {
-        let schema = store.schema(table);
+    while (table as usize) < state.store().len() {
+        let schema = state.store().schema(table);
         let rows = seen[table as usize].as_slice();
         tables.push(TableRows { schema, rows })?;
         table += 1;

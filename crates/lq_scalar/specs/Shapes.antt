@@ -23,7 +23,7 @@ use Rattle.lq_scalar.specs.declared.operand.Operand.TheVariants as operand
 
 -- the same world, in which what has no meaning faults as a null row does
 abbrev pub faulting : {R : Type 0} → World R → World R
-faulting world = record { schemas = world.schemas; rows = world.rows; cell = world.cell; unknown = fault.NullReference }
+faulting world = record { schemas = world.schemas; rows = world.rows; session = world.session; cell = world.cell; unknown = fault.NullReference }
 
 -- ---- what forms make of operands
 

@@ -123,6 +123,7 @@ with_table-refused tables table read store.Arity is e ne = absurd (ne refl)
 with_table-refused tables table read store.CellType is e ne = absurd (ne refl)
 with_table-refused tables table read store.CellRange is e ne = absurd (ne refl)
 with_table-refused tables table read store.Full is e ne = absurd (ne refl)
+with_table-refused tables table read store.UnknownTable is e ne = absurd (ne refl)
 with_table-refused tables table read store.DuplicateTable is e ne = rw (is, e) refl
 with_table-refused tables table read store.TooMany is e ne = rw (is, e) refl
 

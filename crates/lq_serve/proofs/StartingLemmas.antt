@@ -1,7 +1,7 @@
 -- Sessions that start behind their tables, policies and role, and those that don't.
 use Rattle.std.proofs.Common.{◌≡◌, ◌≢◌, ℕ, List, [], ◌∷◌, ◌++◌, Option, Some, None, Result, Ok, Err, IfSome, refl, sym, ◌∙◌, ap, append_assoc, append-nil}
 use Rattle.lq_value.specs.Tables.{Table}
-use Rattle.lq_model.specs.Machine.{State}
+use Rattle.lq_model.specs.States.{State}
 use Rattle.lq_model.specs.declared.policy.PolicyParts.{PolicyParts}
 use Rattle.lq_policy.specs.Roles.{role_number}
 use Rattle.lq_policyfile.specs.Outcome.{Answers}
@@ -111,7 +111,7 @@ pub Started-behind : (holds : List ℕ → Option (Option (List ℕ))) (before b
     (gave : Option (List ℕ)) (policies : PolicyParts) (number : ℕ) (state : State)
     → Loaded holds before between asked.tables tables → IfSome (holds asked.policy) (λ there. gave ≡ first_bytes policy_read_limit there)
     → Adds between after (policy_reading asked gave ∷ []) → policies_read tables gave ≡ Ok policies → role_number policies asked.role ≡ Some number
-    → state ≡ record { tables = tables; policies = policies; role = number } → Started holds before after asked state
+    → state ≡ record { tables = tables; policies = policies; role = number; definitions = [] } → Started holds before after asked state
 Started-behind holds before between after asked tables gave policies number state loaded agrees adds meant found first = record {
   tables = tables;
   gave = gave;

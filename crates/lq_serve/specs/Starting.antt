@@ -1,7 +1,7 @@
 -- The session that the program starts with: over its tables, under its policies, in its role; or the line of the first fault.
 use Rattle.std.specs.Prelude.{◌≡◌, ◌≢◌, ◌+◌, ◌∷◌, ◌++◌, List, [], ℕ, map, string_bytes, Option, Some, None, IfSome, Result, Ok, Err}
 use Rattle.lq_value.specs.Tables.{Table}
-use Rattle.lq_model.specs.Machine.{State}
+use Rattle.lq_model.specs.States.{State}
 use Rattle.lq_model.specs.declared.policy.PolicyParts.{PolicyParts}
 use Rattle.lq_options.specs.declared.asked.Options.{Options}
 use Rattle.lq_policy.specs.Roles.{role_number}
@@ -76,7 +76,7 @@ pub record Started (holds : List ℕ → Option (Option (List ℕ))) (before aft
   pub meant : policies_read tables gave ≡ Ok policies
   pub role : ℕ
   pub found : role_number policies asked.role ≡ Some role
-  pub first : state ≡ record { tables = tables; policies = policies; role = role }
+  pub first : state ≡ record { tables = tables; policies = policies; role = role; definitions = [] }
 
 -- The line tells of the first fault: of a table, then of the policies, then of the role.
 pub data Told (holds : List ℕ → Option (Option (List ℕ))) (before after : Option (List Reading)) (asked : Asked) (line : List ℕ) : Type 0 where

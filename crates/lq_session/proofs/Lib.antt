@@ -1,2 +1,9 @@
+pub mod ConditionLemmas
+pub mod DeletionLemmas
+pub mod InsertLemmas
+pub mod OpeningLemmas
+pub mod Outcomes
 pub mod StepLemmas
 pub mod StoredLemmas
+pub mod TableLemmas
+pub mod VariableLemmas

@@ -4,4 +4,4 @@ use Rattle.lq_run.proofs.StoredLemmas.{typed_tables}
 use Rattle.lq_session.specs.StoredMeanings.{ServesStoredMeanings}
 
 pub serves_stored_meanings : ServesStoredMeanings
-serves_stored_meanings s kept e unknown = serves_meanings s (typed_tables s.tables kept) e unknown
+serves_stored_meanings s kept defined e unknown = serves_meanings s (typed_tables s.tables kept) defined e unknown

@@ -1,2 +1,6 @@
+pub mod Openings
+pub mod Performed
+pub mod Rows
 pub mod States
 pub mod StoredMeanings
+pub mod Variables

@@ -1,7 +1,6 @@
 -- The state of the machine that a session is in.
-use Rattle.lq_model.specs.Machine.{State}
-use Rattle.lq_policy.specs.Roles.{number_of}
+use Rattle.lq_model.specs.States.{State}
 use Rattle.lq_session.specs.declared.session.Session.{Session}
 
 abbrev pub state_of : Session → State
-state_of s = record { tables = s.store; policies = s.policies; role = number_of s.role }
+state_of s = s.state

@@ -2,16 +2,19 @@
 use Rattle.std.specs.Prelude.{◌≡◌, []}
 use Rattle.lq_value.specs.declared.value.Fault.{Fault}
 use Rattle.lq_store.specs.Rules.{IsTable}
-use Rattle.lq_model.specs.Machine.{State, run_denial, run_in, schemas_of, seen_by_role, served, served_type, unless_denied, world_by}
+use Rattle.lq_model.specs.DefinitionLaws.{AreDefined}
+use Rattle.lq_model.specs.Definitions.{defining}
+use Rattle.lq_model.specs.Serving.{run_denial, run_in, served, served_type, unless_denied}
+use Rattle.lq_model.specs.States.{State, names_in, schemas_of, seen_by_role, world_by}
 use Rattle.lq_model.specs.MeaningLaws.{Every}
 use Rattle.lq_model.specs.WholeMeaning.{expression_meaning}
 use Rattle.lq_model.specs.declared.syntax.Expr.{Expr}
 
--- over tables that a store keeps, what a `run` that isn't denied serves is the same whatever stands where an expression has no meaning
+-- over tables that a store keeps and names that stand for what `var` defined, what a `run` that isn't denied serves is the same whatever
+-- stands where an expression has no meaning
 abbrev pub ServesStoredMeanings : Type 0
 ServesStoredMeanings =
-    (s : State) → Every IsTable s.tables → (e : Expr) (unknown : Fault)
-    → let world = world_by unknown (schemas_of s.tables) (seen_by_role s) in
-    run_in s e
-    ≡ unless_denied (schemas_of s.tables) (run_denial s.policies s.role (schemas_of s.tables) e)
-    (served world (served_type (schemas_of s.tables) e) (expression_meaning world e []))
+    (s : State) → Every IsTable s.tables → AreDefined (schemas_of s.tables) s.definitions → (e : Expr) (unknown : Fault)
+    → let world = defining (world_by unknown (schemas_of s.tables) (seen_by_role s)) s.definitions in
+    run_in s e ≡ unless_denied (schemas_of s.tables) (run_denial s.policies s.role (names_in s) e)
+    (served world (served_type (names_in s) e) (expression_meaning world e []))

@@ -2,7 +2,12 @@
 #![tactic(auto)]
 
 pub mod meaning_laws;
+mod opening;
+mod replies;
+mod rows;
 mod session;
+mod statements;
+mod variables;
 
 pub use lq_json::Line;
 pub use session::Session;

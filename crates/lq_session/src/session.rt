@@ -1,44 +1,50 @@
 //! The session and its step.
 ghost use Rattle.lq_policy.specs.Roles.{number_of};
 
+use crate::opening::opening;
+use crate::statements::perform;
 use lq_json::Line;
 use lq_lex::is_blank;
-use lq_model::{Expr, Statement};
+use lq_model::Statement;
 use lq_policy::{Policies, RoleId};
-use lq_run::{refusal, run_line};
+use lq_run::{State, refusal};
 use lq_store::Store;
 use lq_syntax::{SyntaxError, parse_statement};
 use std::alloc::{AllocError, Global};
 
-/// A session: the tables that its statements run over, the policies in front of them, and the
-/// role that it runs under.
+/// A session: the tables that its statements work on, the policies in front of them, the role that it
+/// goes by, and what it has defined.
 #[derive(Drop)]
 pub struct Session {
     alloc: Global,
-    store: Store,
-    policies: Policies,
-    role: RoleId,
+    state: State,
 }
 
 impl Session {
     ghost use Rattle.std.specs.Prelude.{◌≡◌, [], IfOk};
-    ghost use Rattle.lq_model.specs.Machine.{perform, run_in, step, step_by};
+    ghost use Rattle.lq_model.specs.Machine.{perform_opened, step};
+    ghost use Rattle.lq_model.specs.Opening.{opening_of};
     ghost use Rattle.lq_model.specs.Output.{Answers};
     ghost use Rattle.lq_model.specs.Served.{error_data, line_of};
-    ghost use Rattle.lq_syntax.specs.Texts.{said};
+    ghost use Rattle.lq_session.specs.Performed.{Performs, Steps};
     ghost use Rattle.lq_session.specs.States.{state_of};
 
-    /// The first state of a session over these tables, with these policies, under this role.
-    /// Takes no memory.
+    /// The first state of a session over these tables, with these policies, under this role. No name is
+    /// defined. Takes no memory.
     pub fn new(alloc: Global, store: Store, policies: Policies, role: RoleId) -> Session
-        ensures { state_of result ≡ record { tables = store; policies = policies; role = number_of role } }
+        ensures { state_of result ≡ record { tables = store; policies = policies; role = number_of role; definitions = [] } }
     {
         Session {
             alloc,
-            store,
-            policies,
-            role,
+            state: State::new(alloc, store, policies, role),
         }
+    }
+
+    /// The tables as they are now.
+    pub fn store(&self) -> &Store
+        ensures { result.now ≡ (state_of self.now).tables }
+    {
+        self.state.store()
     }
 
     /// Answers one line of a script: a step of the session machine, or the memory line in place
@@ -58,48 +64,28 @@ impl Session {
     }
 
     /// The reply to a line, where there is memory for it.
-    fn answer(&self, line: &str) -> Result<Option<Line>, AllocError>
-        ensures { IfOk result (λ reply. reply ≡ (step (state_of self.now) line.now).0) }
+    fn answer(&mut self, line: &str) -> Result<Option<Line>, AllocError>
+        ensures { Steps (step (state_of self.old) line.now) (state_of self.old) result (state_of self.new) }
     {
         match parse_statement(self.alloc, line) {
-            Ok(read) => self.reply_to(&read),
+            Ok(None) => Ok(None),
+            Ok(Some(statement)) => Ok(Some(self.perform(statement, line)?)),
             Err(SyntaxError::Syntax) => Ok(Some(self.refusal("syntax")?)),
             Err(SyntaxError::TooDeep) => Ok(Some(self.refusal("too-deep")?)),
             Err(SyntaxError::Memory) => Err(AllocError),
         }
     }
 
-    /// The reply to what was read from a line.
-    fn reply_to(&self, read: &Option<Statement>) -> Result<Option<Line>, AllocError>
-        ensures { IfOk result (λ reply. reply ≡ (step_by (state_of self.now) (said read.now)).0) }
+    /// Performs the statement that a line says, and answers its line. What opens more than it may is
+    /// refused, whatever it is.
+    fn perform(&mut self, statement: Statement, line: &str) -> Result<Line, AllocError>
+        ensures { Performs (perform_opened (state_of self.old) (opening_of (state_of self.old).definitions line.now) statement)
+            (state_of self.old) result (state_of self.new) }
     {
-        match read {
-            None => Ok(None),
-            Some(statement) => Ok(Some(self.perform(statement)?)),
+        match opening(self.alloc, line, self.state.definitions())? {
+            Some(opened) => perform(self.alloc, statement, opened, &mut self.state),
+            None => self.refusal("too-deep"),
         }
-    }
-
-    /// The line that a statement is answered. What is run is served; all else has no type yet.
-    fn perform(&self, statement: &Statement) -> Result<Line, AllocError>
-        ensures { IfOk result (λ line. line ≡ line_of (perform (state_of self.now) statement.now).0) }
-    {
-        match statement {
-            Statement::Run(expression) => self.run(expression),
-            _ => self.refusal("type"),
-        }
-    }
-
-    /// Serves the value of an expression over the rows that the session's role sees, or refuses it.
-    fn run(&self, expression: &Expr) -> Result<Line, AllocError>
-        ensures { IfOk result (λ line. line ≡ line_of (run_in (state_of self.now) expression.now)) }
-    {
-        run_line(
-            self.alloc,
-            expression,
-            &self.store,
-            &self.policies,
-            self.role,
-        )
     }
 
     /// The line of a refusal.

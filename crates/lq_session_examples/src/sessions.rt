@@ -97,12 +97,15 @@ fn table_part(alloc: Global, secured: bool) -> Result<TablePart, AllocError> {
     })
 }
 
-// A right to the column c, for all.
+// A right to the column c, and to put in and remove rows, for all.
 fn grant(alloc: Global) -> Result<RightRule, AllocError> {
+    let mut rights = one(alloc, Use::Column(0, 0))?;
+    rights.push(Use::Insert(0))?;
+    rights.push(Use::Delete(0))?;
     Ok(RightRule {
         name: Txt::from_str(alloc, "all")?,
         to: one(alloc, Txt::from_str(alloc, "public")?)?,
-        rights: one(alloc, Use::Column(0, 0))?,
+        rights,
     })
 }
 
@@ -250,4 +253,57 @@ fn policies_decide_by_role_table_and_cells(rt: HostRuntime) -> Result<(), Fail> 
 fn the_memory_line_is_a_refusal(rt: HostRuntime) {
     let line = Line::memory();
     assert!(rt; line.bytes() == b"{\"error\":\"memory\"}\n".as_slice());
+}
+
+// A session over an empty table t whose first row has the last number.
+fn nearly_full(rt: &impl Abort, alloc: Global) -> Result<Session, AllocError> {
+    let mut store = Store::new(alloc);
+    assert!(rt;
+        store
+            .add(Table::new(alloc, schema(alloc)?, u64::MAX))
+            .is_ok()
+    );
+    let policies = policies_of(rt, alloc, false, List::new(alloc))?;
+    match policies.role("a") {
+        Some(role) => Ok(Session::new(alloc, store, policies, role)),
+        None => panic!(rt; "no role a"),
+    }
+}
+
+#[test]
+fn a_full_table_takes_no_row(rt: HostRuntime) -> Result<(), Fail> {
+    let alloc = rt.alloc();
+    let mut session = nearly_full(&rt, alloc)?;
+    assert_reply(&rt, &mut session, "insert t (7);", "{\"inserted\":1}\n");
+    assert_reply(&rt, &mut session, "insert t (8);", "{\"error\":\"full\"}\n");
+    assert_reply(&rt, &mut session, EVERY_ROW, "{\"items\":[7]}\n");
+    assert_reply(
+        &rt,
+        &mut session,
+        "delete t x => true;",
+        "{\"deleted\":1}\n",
+    );
+    assert_reply(&rt, &mut session, "insert t (9);", "{\"error\":\"full\"}\n");
+    assert!(rt; session.store().rows(0).is_empty());
+    Ok(())
+}
+
+#[test]
+fn a_session_shows_its_tables_as_they_are(rt: HostRuntime) -> Result<(), Fail> {
+    let alloc = rt.alloc();
+    let policies = policies_of(&rt, alloc, false, List::new(alloc))?;
+    let mut session = session_as(&rt, alloc, policies, "a")?;
+    assert_reply(
+        &rt,
+        &mut session,
+        "delete t x => x.c == 2;",
+        "{\"deleted\":1}\n",
+    );
+    assert_reply(&rt, &mut session, "insert t (5);", "{\"inserted\":1}\n");
+    let rows = session.store().rows(0);
+    assert!(rt; rows.len() == 3);
+    for (row, number) in rows.iter().zip([1u64, 3, 4].iter()) {
+        assert!(rt; row.number == *number);
+    }
+    Ok(())
 }

@@ -119,3 +119,57 @@ fn a_store_holds_64_tables(rt: HostRuntime) -> Result<(), Fail> {
     }
     Ok(())
 }
+
+// A store of the tables t and u, with the rows 1, 2 and 3 in t.
+fn two_tables(rt: &impl Abort, alloc: Global) -> Result<Store, AllocError> {
+    let mut store = Store::new(alloc);
+    assert!(rt; store.add(table(alloc, "t", 1)?).is_ok());
+    assert!(rt; store.add(table(alloc, "u", u64::MAX)?).is_ok());
+    for number in 1..4 {
+        let cells = one_cell(alloc, Scalar::Int(number))?;
+        assert!(rt; store.insert(0, cells).ok() == Some(number as u64));
+    }
+    Ok(store)
+}
+
+#[test]
+fn rows_are_put_into_a_table_of_a_store(rt: HostRuntime) -> Result<(), Fail> {
+    let alloc = rt.alloc();
+    let mut store = two_tables(&rt, alloc)?;
+    let cells = one_cell(alloc, Scalar::Int(1))?;
+    assert_refused(&rt, store.insert(2, cells), StoreError::UnknownTable, 1);
+    assert_refused(&rt, store.insert(0, Vec::new(alloc)), StoreError::Arity, 0);
+    let truth = one_cell(alloc, Scalar::Bool(true))?;
+    assert_refused(&rt, store.insert(0, truth), StoreError::CellType, 1);
+    let ten = one_cell(alloc, Scalar::Int(10))?;
+    assert_refused(&rt, store.insert(0, ten), StoreError::CellRange, 1);
+    let last = one_cell(alloc, Scalar::Int(1))?;
+    assert!(rt; store.insert(1, last).ok() == Some(u64::MAX));
+    let cells = one_cell(alloc, Scalar::Int(1))?;
+    assert_refused(&rt, store.insert(1, cells), StoreError::Full, 1);
+    assert!(rt; store.rows(0).len() == 3 && store.rows(1).len() == 1);
+    Ok(())
+}
+
+#[test]
+fn rows_of_some_numbers_are_removed(rt: HostRuntime) -> Result<(), Fail> {
+    let alloc = rt.alloc();
+    for (numbers, gone, left) in &[
+        ([1, 3].as_slice(), 2u64, [2].as_slice()),
+        (&[3, 1, 1], 2, &[2]),
+        (&[2], 1, &[1, 3]),
+        (&[0, 4, 9], 0, &[1, 2, 3]),
+        (&[], 0, &[1, 2, 3]),
+    ] {
+        let mut store = two_tables(&rt, alloc)?;
+        assert!(rt; store.delete_rows(0, numbers) == *gone);
+        assert!(rt; store.rows(0).len() == left.len());
+        for (row, number) in store.rows(0).iter().zip(left.iter()) {
+            assert!(rt; row.number == *number);
+        }
+        // (no number is used again)
+        let cells = one_cell(alloc, Scalar::Int(1))?;
+        assert!(rt; store.insert(0, cells).ok() == Some(4));
+    }
+    Ok(())
+}

@@ -1,16 +1,24 @@
--- What tables and stores keep when they grow.
-use Rattle.std.proofs.Common.{◌≡◌, ◌<◌, ◌+◌, ℕ, Bool, true, false, ◌&&◌, ◌||◌, not, List, [], ◌∷◌, ◌++◌, length, map, refl, arith, nat_eq, Some, None, if◌then◌else◌, ◌==◌, ◌^◌}
-use Rattle.std.specs.Prelude.{is_some}
+-- What tables and stores keep as rows and tables join them and rows leave, and how numbers are searched.
+use Rattle.std.proofs.Common.{◌≡◌, ◌<◌, ◌+◌, ℕ, Bool, true, false, ◌&&◌, ◌||◌, not, List, [], ◌∷◌, ◌++◌, length, map, refl, arith, nat_eq, Some, None, if◌then◌else◌, ◌==◌, ◌^◌, ◌≤◌, cond, set, ap, sym, ◌∙◌, length-set, eq-eqb, ne_eqb, get_or}
+use Rattle.std.specs.Prelude.{is_some, filter, slice_get, Result, Ok, Err}
+use Rattle.std.specs.Result.{is_ok}
+use Rattle.std.specs.Ordering.{nat_cmp}
+use Rattle.std.specs.List.Sorted.{IsBinarySearchResult, IsNonDecreasing}
 use Rattle.std.specs.List.{list_all, list_any, position_from}
 use Rattle.std.specs.Cmp.Lexicographic.{pointwise}
-use Rattle.std.proofs.lemmas.List.Folds.{list_all-append, list_any-append}
-use Rattle.std.proofs.lemmas.List.{length-append, map-append}
+use Rattle.std.proofs.lemmas.List.Folds.{list_all-append, list_any-append, list_any_at, list_any_none}
+use Rattle.std.proofs.lemmas.List.Filters.{length-filter_both}
+use Rattle.std.proofs.lemmas.List.Sorted.{searched}
+use Rattle.std.proofs.lemmas.List.{get_or_default, length-append, map-append}
+use Rattle.std.proofs.lemmas.Option.{get_or_from_slice_get}
+use Rattle.std.proofs.Math.Seq.{map-set_same}
 use Rattle.lq_value.specs.Tables.{Table, first_named}
 use Rattle.lq_value.specs.declared.table.Row.{Row}
 use Rattle.lq_value.specs.declared.scalar.Scalar.{Scalar}
+use Rattle.lq_store.specs.declared.error.StoreError.{StoreError}
 use Rattle.lq_store.specs.declared.error.StoreError.TheVariants.{Arity, CellType, CellRange, Full}
 use Rattle.lq_store.specs.Rules.{AreNumbered, IsStore, IsTable, are_distinct, are_in_ranges, fits_schema, have_types, name_of}
-use Rattle.lq_store.specs.Calls.{refusal_of, with_row}
+use Rattle.lq_store.specs.Calls.{Inserts, Pushes, is_listed, refusal_of, with_row}
 
 -- a conjunction that is true has true parts
 both : (a b : Bool) → (a && b) ≡ true → (a ≡ true) × (b ≡ true)
@@ -89,3 +97,76 @@ pub store-push : (tables new : List Table) (table : Table) (pushed : Bool) → n
 store-push tables new table false e h few n = rw e h
 store-push tables new table true e h few n =
     rw e (record { few = omega (arith, length-append tables (table ∷ [])); distinct = names-push tables table h.distinct n })
+
+-- rows whose numbers begin higher begin no lower
+numbered-lower : (low high : ℕ) (rows : List Row) (next : ℕ) → low ≤ high → AreNumbered high rows next → AreNumbered low rows next
+numbered-lower low high [] next e h = omega arith
+numbered-lower low high (row ∷ rest) next e h = (omega (arith, h.0), h.1)
+
+-- some of the rows are numbered as all of them
+numbered-filter : (test : Row → Bool) (low : ℕ) (rows : List Row) (next : ℕ) → AreNumbered low rows next → AreNumbered low (filter test rows) next
+numbered-filter test low [] next h = h
+numbered-filter test low (row ∷ rest) next h = by (test row) (numbered-filter test (row.number + 1) rest next h.1)
+  where
+    by : (b : Bool) → AreNumbered (row.number + 1) (filter test rest) next → AreNumbered low (cond b (row ∷ filter test rest) (filter test rest)) next
+    by true k = (h.0, k)
+    by false k = numbered-lower low (row.number + 1) (filter test rest) next (omega (arith, h.0)) k
+
+-- what all pass some of them pass
+list_all-filter : (p test : Row → Bool) (rows : List Row) → list_all p rows ≡ true → list_all p (filter test rows) ≡ true
+list_all-filter p test [] h = refl
+list_all-filter p test (row ∷ rest) h = let parts = both (p row) (list_all p rest) h in by (test row) parts.0 (list_all-filter p test rest parts.1)
+  where
+    by : (b : Bool) → p row ≡ true → list_all p (filter test rest) ≡ true → list_all p (cond b (row ∷ filter test rest) (filter test rest)) ≡ true
+    by true e k = rw (e, k) refl
+    by false e k = k
+
+-- a table keeps its rules as rows leave it
+pub table-filter : (t : Table) (test : Row → Bool) → IsTable t → IsTable (record t { rows = filter test t.rows })
+table-filter t test h = record {
+  rules = h.rules;
+  fits = list_all-filter (fits_schema t.schema) test t.rows h.fits;
+  numbered = numbered-filter test 1 t.rows t.next h.numbered;
+}
+
+-- a store keeps its rules as a table of the same schema takes the place of another
+pub store-set : (tables : List Table) (place : ℕ) (table changed : Table) → IsStore tables → slice_get tables place ≡ Some table
+    → changed.schema ≡ table.schema → IsStore (set tables place changed)
+store-set tables place table changed h at same =
+    let names : map name_of (set tables place changed) ≡ map name_of tables =
+    map-set_same name_of tables place changed table (ap (λ s. s.name) same ∙ ap name_of (sym (get_or_from_slice_get tables place table table at))) in
+    record {
+      few = omega (arith, length-set tables place changed, h.few);
+      distinct = rw names h.distinct;
+    }
+
+-- a push leaves the schema
+pub schema-push : (old new : Table) (cells : List Scalar) (result : Result ℕ (StoreError × List Scalar)) → Pushes old cells result new → new.schema ≡ old.schema
+schema-push old new cells (Ok number) h = ap (λ t. t.schema) h.2
+schema-push old new cells (Err refused) h = ap (λ t. t.schema) h.2
+
+-- a push into a table of a store is what an insertion into the store is
+pub inserts : (tables : List Table) (place : ℕ) (old changed : Table) (cells : List Scalar) (result : Result ℕ (StoreError × List Scalar))
+    → slice_get tables place ≡ Some old → Pushes old cells result changed → Inserts tables place cells result (set tables place changed)
+inserts tables place old changed cells result at h = rw at (changed, h, refl)
+
+-- the rows that stay and those that go are all of them
+pub counted : (numbers : List ℕ) (old new : List Row) → new ≡ filter (λ row. not (is_listed numbers row.number)) old
+    → length (filter (λ row. is_listed numbers row.number) old) + length new ≡ length old
+counted numbers old new e = rw e (length-filter_both (λ row. is_listed numbers row.number) (λ row. not (is_listed numbers row.number)) (λ row. refl) old)
+
+-- a number that is above what stands before a place and below what stands from it on is at none
+elsewhere : (i k a b : ℕ) → (k < i → a < b) → (i ≤ k → b < a) → a ≡ b → ⊥
+elsewhere i k a b below above e = grind arith
+
+-- a search by halves of numbers that rise finds those that are there
+pub finds : (numbers : List ℕ) (number : ℕ) (found : Result ℕ ℕ) → IsNonDecreasing numbers → IsBinarySearchResult (λ other. nat_cmp other number) numbers found
+    → is_ok found ≡ is_listed numbers number
+finds numbers number (Ok i) up h =
+    let at : (i < length numbers) × (get_or numbers i 0 ≡ number) = searched numbers number (Ok i) h (λ i j e b. up i j 0 e b) in
+    rw (list_any_at (λ other. other == number) numbers i 0 at.0 (eq-eqb (get_or numbers i 0) number at.1)) refl
+finds numbers number (Err i) up h =
+    let parts = searched numbers number (Err i) h (λ i j e b. up i j 0 e b) in
+    let none : (k d : ℕ) → k < length numbers → (get_or numbers k d == number) ≡ false = λ k d b.
+    rw (get_or_default numbers k d 0 b) (ne_eqb (get_or numbers k 0) number (elsewhere i k (get_or numbers k 0) number (parts.1 k) (λ e. parts.2 k e b))) in
+    rw (list_any_none (λ other. other == number) numbers none) refl

@@ -7,6 +7,9 @@ pub enum StoreError {
     /// There was no memory.
     #[error("memory")]
     Memory,
+    /// There was no table of this number.
+    #[error("unknown-table")]
+    UnknownTable,
     /// There were more or fewer cells than columns.
     #[error("arity")]
     Arity,

@@ -3,7 +3,7 @@ ghost use Rattle.std.specs.Prelude.{◌≡◌};
 
 use crate::error::StoreError;
 use crate::table::Table;
-use lq_value::{Row, Schema};
+use lq_value::{Row, Scalar, Schema};
 use std::alloc::Global;
 use std::marker::Model;
 
@@ -29,10 +29,10 @@ impl Model for Store {
 }
 
 impl Store {
-    ghost use Rattle.std.specs.Prelude.{◌≡◌, ◌==◌, ◌<◌, [], length, option_map, IfSome, slice_get};
+    ghost use Rattle.std.specs.Prelude.{◌≡◌, ◌==◌, ◌<◌, [], length, option_map, IfSome, set, slice_get};
     ghost use Rattle.lq_value.specs.Tables.{first_named};
     ghost use Rattle.lq_store.specs.Rules.{IsStore, IsTable, name_of};
-    ghost use Rattle.lq_store.specs.Calls.{Adds};
+    ghost use Rattle.lq_store.specs.Calls.{Adds, Inserts, count_listed, insertion_refusal_of, shown_pushed, without_rows};
 
     /// A store of no tables. Takes no memory.
     pub fn new(alloc: Global) -> Store
@@ -106,5 +106,41 @@ impl Store {
             Ok(()) => Ok(number as u16),
             Err(back) => Err((StoreError::Memory, back.value)),
         }
+    }
+
+    /// Puts a row of `cells` behind the last one of table `t` and answers its number, the next after
+    /// the last one given there. Refuses with `UnknownTable`, `Arity`, `CellType`, `CellRange`,
+    /// `Full` or `Memory`, checked in this order; the store is then as it was, and the cells are
+    /// handed back.
+    pub fn insert(&mut self, t: u16, cells: Vec<Scalar>) -> Result<u64, (StoreError, Vec<Scalar>)>
+        ensures { Inserts self.old t cells.items (shown_pushed result) self.new }
+    {
+        let place = t as usize;
+        if place >= self.len() {
+            return Err((StoreError::UnknownTable, cells));
+        }
+        self.tables[place].push(cells)
+    }
+
+    /// Why table `t` would not take a row of `cells`, memory aside: `UnknownTable`, `Arity`, `CellType`,
+    /// `CellRange` or `Full`, the first of them in this order. Takes no memory.
+    pub fn refusal(&self, t: u16, cells: &[Scalar]) -> Option<StoreError>
+        ensures { result ≡ insertion_refusal_of self.now t cells.now }
+    {
+        match self.tables.as_slice().get(t as usize) {
+            Some(table) => table.refusal(cells),
+            None => Some(StoreError::UnknownTable),
+        }
+    }
+
+    /// Removes the rows of table `t` that have these numbers, in any order, and answers how many they
+    /// were. Takes no memory. Where the numbers rise, each row costs one search by halves among them,
+    /// and else a comparison with each of them.
+    pub fn delete_rows(&mut self, t: u16, numbers: &[u64]) -> u64
+        requires { t < length self.old }
+        ensures { IfSome (slice_get self.old t)
+            (λ table. (result ≡ count_listed table numbers.now) × (self.new ≡ set self.old t (without_rows table numbers.now))) }
+    {
+        self.tables[t as usize].delete_rows(numbers)
     }
 }

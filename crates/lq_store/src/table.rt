@@ -1,7 +1,8 @@
 //! A table of numbered rows.
-ghost use Rattle.std.specs.Prelude.{◌≡◌, ◌==◌, ◌≤◌, ◌+◌, ◌^◌, [], length, nat_eq, true};
+ghost use Rattle.std.specs.Prelude.{◌≡◌, ◌==◌, ◌≤◌, ◌+◌, ◌^◌, [], filter, length, nat_eq, not, true};
+ghost use Rattle.std.specs.List.Sorted.{IsNonDecreasing};
 ghost use Rattle.lq_store.specs.Rules.{keeps_rules};
-ghost use Rattle.lq_store.specs.Calls.{refusal_of};
+ghost use Rattle.lq_store.specs.Calls.{is_listed, refusal_of};
 
 use crate::checks::{are_in_ranges, have_types};
 use crate::error::StoreError;
@@ -34,7 +35,7 @@ impl Model for Table {
 impl Table {
     ghost use Rattle.std.specs.Prelude.{◌≡◌, ◌==◌, ◌≤◌, [], true};
     ghost use Rattle.lq_store.specs.Rules.{keeps_rules, IsTable};
-    ghost use Rattle.lq_store.specs.Calls.{refusal_of, Pushes, shown_pushed};
+    ghost use Rattle.lq_store.specs.Calls.{refusal_of, Pushes, count_listed, shown_pushed, without_rows};
 
     /// A table with no rows, whose first row will have the number `next`. Takes no memory.
     pub fn new(alloc: Global, schema: Schema, next: u64) -> Table
@@ -84,8 +85,20 @@ impl Table {
         }
     }
 
+    /// Removes the rows of these numbers, in any order, and answers how many they were. Takes no
+    /// memory. Where the numbers rise, each row costs one search by halves among them, and else a
+    /// comparison with each of them.
+    pub fn delete_rows(&mut self, numbers: &[u64]) -> u64
+        ensures count { result ≡ count_listed self.old numbers.now }
+        ensures rows { self.new ≡ without_rows self.old numbers.now }
+    {
+        let before = self.rows.len();
+        retain_unlisted(&mut self.rows, numbers);
+        (before - self.rows.len()) as u64
+    }
+
     /// Why a row of `cells` would be refused, memory aside.
-    fn refusal(&self, cells: &[Scalar]) -> Option<StoreError>
+    pub(crate) fn refusal(&self, cells: &[Scalar]) -> Option<StoreError>
         ensures { result ≡ refusal_of self.now cells.now }
     {
         let columns = self.schema.columns.as_slice();
@@ -101,6 +114,26 @@ impl Table {
             None
         }
     }
+}
+
+/// Removes the rows of these numbers. They are searched by halves where none of them is below the one
+/// before it, and else one by one.
+fn retain_unlisted(rows: &mut Vec<Row>, numbers: &[u64])
+    ensures { rows.new.items ≡ filter (λ row. not (is_listed numbers.now row.number)) rows.old.items }
+{
+    if numbers.is_sorted() {
+        rows.retain(|row| !is_found(numbers, row.number));
+    } else {
+        rows.retain(|row| !numbers.contains(&row.number));
+    }
+}
+
+/// Whether `number` is one of `numbers`, which are searched by halves: the answer is right where none
+/// of them is below the one before it.
+fn is_found(numbers: &[u64], number: u64) -> bool
+    ensures { IsNonDecreasing numbers.now → result ≡ is_listed numbers.now number }
+{
+    numbers.binary_search(&number).is_ok()
 }
 
 /// The row of this number and these cells.

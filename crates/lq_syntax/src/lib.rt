@@ -20,4 +20,5 @@ mod statements;
 mod texts;
 
 pub use error::SyntaxError;
+pub use literals::bytes_of;
 pub use texts::{parse_rule, parse_statement};

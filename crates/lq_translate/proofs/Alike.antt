@@ -3,12 +3,12 @@ use Rattle.std.proofs.Common.{◌≡◌, ◌∷◌, if◌then◌else◌, List, �
 use Rattle.lq_value.specs.declared.ty.Ty.{Ty}
 use Rattle.lq_value.specs.declared.ty.Ty.TheVariants as ty
 use Rattle.lq_model.specs.ClauseTyping.{expression_step, expression_type, query_items}
-use Rattle.lq_model.specs.Meaning.{Binding, Meaning, Meant, Scope, World, binding_of, name_value, query_meaning, sequence}
+use Rattle.lq_model.specs.Meaning.{Binding, Meaning, Meant, Scope, World, binding_of, query_meaning, sequence}
 use Rattle.lq_model.specs.Operators.{call_items, call_meaning}
 use Rattle.lq_model.specs.Terms.{MeantTerm, term_meaning, term_meaning_step, term_step, term_type}
-use Rattle.lq_model.specs.Typing.{Names, local_type, name_type, with_local}
-use Rattle.lq_model.specs.WholeMeaning.{expression_meaning, expression_meaning_step, items_meaning, whole_meaning}
-use Rattle.lq_model.specs.WholeTyping.{whole_type}
+use Rattle.lq_model.specs.Typing.{Names, local_type, with_local}
+use Rattle.lq_model.specs.WholeMeaning.{expression_meaning, expression_meaning_step, items_meaning, whole_meaning, whole_name_value}
+use Rattle.lq_model.specs.WholeTyping.{whole_type, whole_name_type}
 use Rattle.lq_model.specs.declared.calls.Call.{Call}
 use Rattle.lq_model.specs.declared.calls.Term.{Term, out-Term, roll-Term}
 use Rattle.lq_model.specs.declared.calls.Term.TheOpen.{Term-F}
@@ -76,7 +76,7 @@ names_typed t n h names s =
     let found = named t n h in
     ap (λ (x : Term). term_type x (with_local names n s)) found.1
     ∙ ap (λ (g : Names → Option Ty). g (with_local names n s)) (term_node (node.Name found.0))
-    ∙ ap (λ b. name_type (with_local names n s) found.0 (if b then Some s else local_type found.0 names.locals)) found.2
+    ∙ ap (λ b. whole_name_type (with_local names n s) found.0 (if b then Some s else local_type found.0 names.locals)) found.2
 
 -- ---- types
 
@@ -153,7 +153,7 @@ module _ {R : Type 0} (world : World R) where
       let b : Binding R = record { name = n; ty = s; value = v } in
       ap (λ (x : Term). term_meaning world x (b ∷ scope)) found.1
       ∙ ap (λ (g : Meaning R). g (b ∷ scope)) (term_meaning_node (node.Name found.0))
-      ∙ ap (λ c. name_value world found.0 (if c then Some b else binding_of found.0 scope)) found.2
+      ∙ ap (λ c. whole_name_value world found.0 (if c then Some b else binding_of found.0 scope)) found.2
 
   abbrev MeaningsAlike : Expr → Type 0
   MeaningsAlike e = term_meaning world (translated e) ≡ expression_meaning world e

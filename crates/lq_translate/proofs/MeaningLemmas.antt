@@ -7,7 +7,7 @@ use Rattle.lq_value.specs.declared.value.Fault.{Fault}
 use Rattle.lq_value.specs.declared.value.Value.{Value}
 use Rattle.lq_value.specs.declared.value.Value.TheVariants.{outs-Rec}
 use Rattle.lq_model.specs.ClauseTyping.{joined_name, source_type}
-use Rattle.lq_model.specs.Meaning.{Meaning, Scope, World, as_group, body_meaning, body_type_at, bound, bound_stream, clause_meaning, clauses_meaning, condition_at, continued, extended, inner_items, item_type_at, joined_type, joined_values, last_meaning, names_at, or_null, query_meaning, sort_key_at, stream_of, typed_locals}
+use Rattle.lq_model.specs.Meaning.{Meaning, Scope, World, as_group, body_meaning, body_type_at, bound, bound_stream, clause_meaning, clauses_meaning, condition_at, continued, extended, inner_items, item_type_at, joined_type, joined_values, last_meaning, names_at, or_null, query_meaning, sort_key_at, stream_of, typed_locals, session_names}
 use Rattle.lq_model.specs.Operations.{on_ok}
 use Rattle.lq_model.specs.Operators.{Pattern, One, With, bind, call_meaning, first, first_member, locals_of, names_of, operator_meaning, operators_meaning, operators_type_at, pair, parts_meaning, result_of, second, second_member, source_type_under, type_under}
 use Rattle.lq_model.specs.Stream.{Stream, each, group_by, kept, made, on_value, one}
@@ -53,7 +53,7 @@ module _ {R X : Type 0} (is_name : X → List ℕ → Bool) (world : World R) (t
   locals_same (With p n t) v = ap (λ ls. (n, t) ∷ ls) (locals_same p (first v))
 
   names_same : (p : Pattern) (v : Value R) → names_at world (at p v) ≡ names_of (names_at world outer) p
-  names_same p v = ap (λ (ls : List (List ℕ × Ty)). record { tables = world.schemas; locals = ls }) (locals_same p v)
+  names_same p v = ap (λ (ls : List (List ℕ × Ty)). record { tables = world.schemas; session = session_names world.session; locals = ls }) (locals_same p v)
 
   type_same : (p : Pattern) (f : X) (v : Value R) → or_null (typed f (names_at world (at p v))) ≡ type_under world typed meant outer p f
   type_same p f v = ap (λ (names : Names). or_null (typed f names)) (names_same p v)

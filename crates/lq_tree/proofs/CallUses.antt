@@ -24,7 +24,7 @@ use Rattle.lq_model.specs.Maps.{map_key}
 use Rattle.lq_model.proofs.Findings.{map_by, when_by}
 use Rattle.lq_tree.specs.Binding.{Binds, Stage, body_tree, call_items_tree, call_tree, element_tree, expanded_stage, grouped_stage, if_fresh, inner_stage, items_of_stage, items_of_tree, joined_stage, key_tree, keyed_tree, keys_of, join_keys, matched_stage, matched_type, operator_stage, paired_stage, part_tree, placed_tree, query_tree, sequence_tree, sortable_tree, source_tree, stage_of, walk_step, walked, gathered}
 use Rattle.lq_tree.specs.Places.{Places, names_of_places, with_item, with_name}
-use Rattle.lq_tree.specs.UsesOfForms.{UseNothing, form_uses}
+use Rattle.lq_tree.specs.UsesOfForms.{UseWhatIsKnown, form_uses}
 use Rattle.lq_tree.specs.declared.tree.Form.{Form}
 use Rattle.lq_tree.specs.declared.tree.Form.TheVariants as form
 use Rattle.lq_tree.specs.declared.tree.Tree.{Tree}
@@ -41,8 +41,8 @@ kept_by test o found h = option_and_then_some _ o found h (λ x there passed. wh
 
 module _ (schemas : List Schema) {X : Type 0} (tree : X → Binds) (typed : X → Names → Option Ty) (uses : X → Names → List Use)
     (alike : (x : X) (places : Places) → type_found (tree x places) ≡ typed x (names_of_places schemas places))
-    (used : (x : X) (places : Places) → UseNothing places → (r : Tree) → tree x places ≡ Some r → form_uses r.form ≡ uses x (names_of_places schemas places))
-    (places : Places) (nothing : UseNothing places) where
+    (used : (x : X) (places : Places) → UseWhatIsKnown places → (r : Tree) → tree x places ≡ Some r → form_uses r.form ≡ uses x (names_of_places schemas places))
+    (places : Places) (nothing : UseWhatIsKnown places) where
   abbrev names : Names
   names = names_of_places schemas places
 

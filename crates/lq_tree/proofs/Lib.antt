@@ -18,6 +18,8 @@ pub mod Patterns
 pub mod RowForms
 pub mod RowMeanings
 pub mod Scopes
+pub mod SessionPlaceLemmas
+pub mod SessionValues
 pub mod TermMeans
 pub mod TermTypes
 pub mod TermUses

@@ -8,7 +8,7 @@ use Rattle.lq_value.specs.declared.value.Value.{Value, fold_out-Value, ind-Value
 use Rattle.lq_value.specs.declared.value.Value.TheOpen.{Value-F}
 use Rattle.lq_value.specs.declared.value.Value.TheVariants as value
 use Rattle.lq_value.specs.declared.value.Value.TheVariants.{outs-Group, outs-Rec, outs-Row, outs-Scalar, outs-Seq}
-use Rattle.lq_value.specs.declared.value.Value.TheViews.{out-roll-Value}
+use Rattle.lq_value.specs.declared.value.Value.TheViews.{out-roll-Value, roll-out-Value}
 use Rattle.lq_value.proofs.SamenessLemmas.{same_at}
 use Rattle.lq_tree.specs.Rows.{mapped, mapped_step}
 
@@ -119,3 +119,36 @@ module _ {R S : Type 0} (f : R → S) where
   -- values are the same keys as they were
   pub same_kept : (v w : Value R) → same_values (m v) (m w) ≡ same_values v w
   same_kept v w = of_every KeepsSame keeps_layer v w
+
+-- ---- no row replaced
+
+module _ {R : Type 0} where
+  abbrev Unchanged : Value R → Type 0
+  Unchanged v = mapped (λ r. r) v ≡ v
+
+  values_unchanged : (vs : List (Such Unchanged)) → map (mapped (λ r. r)) (map (λ z. z.0) vs) ≡ map (λ z. z.0) vs
+  values_unchanged [] = refl
+  values_unchanged (z ∷ vs) = ap₂ (λ (v : Value R) (more : List (Value R)). v ∷ more) z.1 (values_unchanged vs)
+
+  members_unchanged : (ms : List (List ℕ × Such Unchanged))
+      → map (mapped_member (λ r. r)) (map (λ (n : List ℕ × Such Unchanged). (n.0, n.1.0)) ms) ≡ map (λ (n : List ℕ × Such Unchanged). (n.0, n.1.0)) ms
+  members_unchanged [] = refl
+  members_unchanged (n ∷ ms) =
+      ap₂ (λ (v : Value R) (more : List (List ℕ × Value R)). (n.0, v) ∷ more) n.1.1 (members_unchanged ms)
+
+  layer_unchanged : (y : Value-F R (Such Unchanged)) → mapped_layer (λ r. r) (plain Unchanged y) ≡ plain Unchanged y
+  layer_unchanged (Value-F.Scalar s) = refl
+  layer_unchanged (Value-F.Row r) = refl
+  layer_unchanged (Value-F.Rec ms) = ap (λ (members : List (List ℕ × Value R)). Value-F.Rec members) (members_unchanged ms)
+  layer_unchanged (Value-F.Group key items) = ap₂ (λ (k : Value R) (vs : List (Value R)). Value-F.Group k vs) key.1 (values_unchanged items)
+  layer_unchanged (Value-F.Seq items e) = ap (λ (vs : List (Value R)). Value-F.Seq vs e) (values_unchanged items)
+
+  keeps_unchanged : (y : Value-F R (Such Unchanged)) → Unchanged (roll-Value R (plain Unchanged y))
+  keeps_unchanged y =
+      let v = roll-Value R (plain Unchanged y) in
+      sym (roll-out-Value R (mapped (λ r. r) v))
+      ∙ ap (roll-Value R) (mapped_out (λ r. r) v ∙ ap (mapped_layer (λ r. r)) (out-roll-Value R (plain Unchanged y)) ∙ layer_unchanged y)
+
+  -- a value whose rows stay is the same
+  pub mapped_same : (v : Value R) → mapped (λ r. r) v ≡ v
+  mapped_same v = of_every Unchanged keeps_unchanged v

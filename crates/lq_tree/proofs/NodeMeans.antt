@@ -1,5 +1,5 @@
 -- The tree of a node means what the node means, and gives values of its type, if the same is so of the expressions in it.
-use Rattle.std.proofs.Common.{◌≡◌, ◌∷◌, ◌++◌, if◌then◌else◌, List, [], map, ℕ, Bool, true, false, Option, Some, None, Result, Ok, ap, ◌∙◌, sym, refl, subst, bytes_eq, codes, true≢false, option_and_then, option_map, slice_get}
+use Rattle.std.proofs.Common.{◌≡◌, ◌∷◌, ◌++◌, if◌then◌else◌, List, [], map, ℕ, Bool, true, false, Option, Some, None, Result, Ok, ap, ◌∙◌, sym, refl, subst, bytes_eq, codes, true≢false, option_and_then, option_map}
 use Rattle.std.proofs.lemmas.Option.{none-some, option_and_then_some, same_Some}
 use Rattle.std.specs.Prelude.{is_some}
 use Rattle.lq_value.specs.declared.scalar.Scalar.{Scalar}
@@ -14,16 +14,16 @@ use Rattle.lq_value.specs.declared.value.Value.{Value, out-Value}
 use Rattle.lq_value.specs.declared.value.Value.TheVariants as value
 use Rattle.lq_model.specs.EnumerableCalls.{EnumerableCall, By, Plain, With, enumerable_call}
 use Rattle.lq_model.specs.Maps.{map_argument, map_enumerable, map_field, map_node}
-use Rattle.lq_model.specs.Meaning.{Binding, Meaning, Scope, World, as_value, binding_of, bound, condition_at, item_type_at, name_value, names_at, on_scalar, or_null, stream_of, table_value}
+use Rattle.lq_model.specs.Meaning.{Binding, Meaning, Scope, World, as_value, binding_of, bound, condition_at, item_type_at, names_at, on_scalar, or_null, stream_of, table_value, SessionValue}
 use Rattle.lq_model.specs.MeaningLaws.{Every, HasCells, HoldsRows, IsScalarOf}
 use Rattle.lq_model.specs.Members.{search_named, sole_argument}
 use Rattle.lq_model.specs.Operations.{of_search, on_ok}
 use Rattle.lq_model.specs.Operators.{One}
 use Rattle.lq_model.specs.Stream.{Stream}
 use Rattle.lq_model.specs.Types.{element_type, is_fresh, is_within}
-use Rattle.lq_model.specs.Typing.{Names, is_text, is_text_type, table_number, with_local}
-use Rattle.lq_model.specs.WholeMeaning.{argument_meaning, as_sequence, called_meaning, enumerable_meaning, given_meaning, is_sequence_layer, members_meaning, method_type_at, search_meaning, settled, simple_meaning, through_meaning, whole_meaning, whole_member_value}
-use Rattle.lq_model.specs.WholeMeaningLaws.{AreMembers, Fits, IsValueOf, by_record, by_row, no_member, one_member}
+use Rattle.lq_model.specs.Typing.{Names, is_text, is_text_type, table_number, with_local, SessionName}
+use Rattle.lq_model.specs.WholeMeaning.{argument_meaning, as_sequence, called_meaning, enumerable_meaning, given_meaning, is_sequence_layer, members_meaning, method_type_at, search_meaning, settled, simple_meaning, through_meaning, whole_meaning, whole_member_value, global_value, session_value, whole_name_value}
+use Rattle.lq_model.specs.WholeMeaningLaws.{AreMembers, Fits, IsValueOf, by_record, by_row, no_member, one_member, IsSessionOfValues}
 use Rattle.lq_model.specs.WholeTyping.{given_type, simple_type, through_type, whole_type}
 use Rattle.lq_model.specs.declared.operation.Op.{Op}
 use Rattle.lq_model.specs.declared.syntax.Argument.{Argument}
@@ -32,7 +32,7 @@ use Rattle.lq_model.specs.declared.syntax.Node.{Node}
 use Rattle.lq_model.specs.declared.syntax.Node.TheVariants as node
 use Rattle.lq_model.specs.declared.syntax.Unary.TheVariants as unary
 use Rattle.lq_model.proofs.AlikeStreams.{Agree, agree_err, agree_ok, on_ok_agree}
-use Rattle.lq_model.proofs.EveryItem.{every_map, table_there}
+use Rattle.lq_model.proofs.EveryItem.{every_map, table_there, first_of, others_of}
 use Rattle.lq_model.proofs.Findings.{map_by, when_by}
 use Rattle.lq_model.proofs.MemberLemmas.{search_given as search_known}
 use Rattle.lq_model.proofs.MethodPulls.{call_maps}
@@ -40,9 +40,9 @@ use Rattle.lq_model.proofs.ScalarResults.{given_of, search_given}
 use Rattle.lq_model.proofs.TypedMethods.{given_agree, given_typed, scalar_after, simple_typed, stream_alike, through_typed, truth_same}
 use Rattle.lq_model.proofs.TypingLemmas.{is_text_of, is_truth}
 use Rattle.lq_model.proofs.ValuesOfTypes.{is_plain, scalar_is, sequence_is}
-use Rattle.lq_tree.specs.Binding.{Binds, and_tree, binary_tree, coalesce_tree, conditional_tree, member_tree, of_two_trees, or_tree, called_tree, enumerable_tree, field_tree, fields_tree, form_of_field, gathered, lambda_tree, name_tree, node_tree, placed_tree, record_tree, search_form, search_tree, settled_tree, tree_of, type_of_field, within_tree}
+use Rattle.lq_tree.specs.Binding.{Binds, and_tree, binary_tree, coalesce_tree, conditional_tree, member_tree, of_two_trees, or_tree, called_tree, enumerable_tree, field_tree, fields_tree, form_of_field, gathered, lambda_tree, name_tree, node_tree, placed_tree, record_tree, search_form, search_tree, settled_tree, tree_of, type_of_field, within_tree, global_tree}
 use Rattle.lq_tree.specs.FormMeaning.{Slots, form_meaning, is_true, members_of}
-use Rattle.lq_tree.specs.Places.{Place, Places, names_of_places, place_of, with_name}
+use Rattle.lq_tree.specs.Places.{Place, Places, names_of_places, place_of, with_name, SessionPlace, session_place}
 use Rattle.lq_tree.specs.declared.tree.Form.{Form}
 use Rattle.lq_tree.specs.declared.tree.Form.TheVariants as form
 use Rattle.lq_tree.specs.declared.tree.Tree.{Tree}
@@ -53,8 +53,9 @@ use Rattle.lq_tree.proofs.NodeTypes.{method_by, node_found, sole_by}
 use Rattle.lq_tree.proofs.Scopes.{Found, Stands, append_none, item_stands, name_there, types_at}
 use Rattle.lq_tree.proofs.TypeLemmas.{search_by, type_found}
 use Rattle.lq_tree.proofs.Walks.{gathered_all, traversed}
+use Rattle.lq_tree.specs.BindingLaws.{Gives, GivesAll}
 
-module _ {R : Type 0} (world : World R) (holds : HoldsRows world) {X : Type 0} (tree : X → Binds) (typed : X → Names → Option Ty) (meant : X → Meaning R)
+module _ {R : Type 0} (world : World R) (holds : HoldsRows world) (fits : IsSessionOfValues world) {X : Type 0} (tree : X → Binds) (typed : X → Names → Option Ty) (meant : X → Meaning R)
     (alike : (x : X) (places : Places) → type_found (tree x places) ≡ typed x (names_of_places world.schemas places))
     (means : (x : X) (slots : Slots R) (places : Places) (scope : Scope R) → Stands world slots places scope → (r : Tree) → tree x places ≡ Some r
     → Agree (IsValueOf world r.ty) (form_meaning world r.form slots) (meant x scope)) where
@@ -94,27 +95,61 @@ module _ {R : Type 0} (world : World R) (holds : HoldsRows world) {X : Type 0} (
     literal_means t layer s is fits =
         same_agree world slots t _ _ (at_slots world slots (of_literal world s)) (agree_ok (Val t) (value.Scalar s) (scalar_is world t layer s is fits))
 
-    table_means : (x : List ℕ) (n : ℕ) → table_number x world.schemas ≡ Some n → As (name_value world x None) (tree_of (ty.Seq (ty.Row n)) (form.Table n))
+    table_means : (x : List ℕ) (n : ℕ) → table_number x world.schemas ≡ Some n → As (whole_name_value world x None) (tree_of (ty.Seq (ty.Row n)) (form.Table n))
     table_means x n table =
         let there = table_there x world.schemas n table in
         let rows = holds n there.0 there.1 in
         same_agree world slots (ty.Seq (ty.Row n)) _ _
-        (at_slots world slots (of_table world n) ∙ sym (ap (λ (o : Option ℕ). table_value world (option_and_then (λ k. slice_get world.rows k) o)) table))
-        (subst (λ (o : Option ℕ). Agree (Val (ty.Seq (ty.Row n))) (table_value world (option_and_then (λ k. slice_get world.rows k) o))
-        (table_value world (option_and_then (λ k. slice_get world.rows k) o)))
+        (at_slots world slots (of_table world n) ∙ sym (ap (global_value world x) table))
+        (subst (λ (o : Option ℕ). Agree (Val (ty.Seq (ty.Row n))) (global_value world x o) (global_value world x o))
         (sym table)
         (subst (λ (o : Option (List R)). Agree (Val (ty.Seq (ty.Row n))) (table_value world o) (table_value world o)) (sym rows.1)
         (agree_ok (Val (ty.Seq (ty.Row n))) (value.Seq (map value.Row rows.0) end.Done)
         (sequence_is world (ty.Row n) (map value.Row rows.0, end.Done)
         (every_map (HasCells world n) (Val (ty.Row n)) value.Row (λ r cells. by_row (ty.Row n) n r (outs-Row n) cells) rows.0 rows.2)))))
 
-    name_by : (x : List ℕ) (o : Option Place) (p : Option (Binding R)) → Found world slots o p → (r : Tree) → name_tree world.schemas x o ≡ Some r
-        → As (name_value world x p) r
+    -- a name of the session: what its place gives is the value that is found, which is of its type
+    abbrev Given : SessionPlace → Result (Value R) Fault → Type 0
+    Given known found = (v : Value R) × (found ≡ Ok v) × (mean (known.form places.depth) ≡ Ok v) × Val known.known.ty v
+
+    session_by : (x : List ℕ) (place : SessionPlace) (s : SessionValue R) (those : List SessionPlace) (others : List (SessionValue R)) (known : SessionPlace)
+        → Gives world place s → Val s.known.ty s.value → (session_place x those ≡ Some known → Given known (session_value world x others))
+        → (b : Bool) → (if b then Some place else session_place x those) ≡ Some known → Given known (if b then Ok s.value else session_value world x others)
+    session_by x place s those others known gives typed later true h =
+        subst (λ (k : SessionPlace). Given k (Ok s.value)) (same_Some place known h)
+        (s.value, refl, ap (λ (n : ℕ). mean (place.form n)) (sym at.1.0) ∙ gives.1 slots, subst (λ (k : SessionName). Val k.ty s.value) (sym gives.0) typed)
+    session_by x place s those others known gives typed later false h = later h
+
+    session_there : (x : List ℕ) (those : List SessionPlace) (session : List (SessionValue R)) (known : SessionPlace) → GivesAll world those session
+        → Every (λ s. Val s.known.ty s.value) session → session_place x those ≡ Some known → Given known (session_value world x session)
+    session_there x [] [] known gives typed h = absurd (none-some known h)
+    session_there x (place ∷ those) (s ∷ others) known gives typed h =
+        subst (λ (n : List ℕ). Given known (if bytes_eq n x then Ok s.value else session_value world x others)) (ap (λ (k : SessionName). k.name) gives.0.0)
+        (session_by x place s those others known gives.0 (first_of (λ (d : SessionValue R). Val d.known.ty d.value) s others typed)
+        (session_there x those others known gives.1 (others_of (λ (d : SessionValue R). Val d.known.ty d.value) s others typed))
+        (bytes_eq place.known.name x) h)
+    session_there x [] (s ∷ others) known gives typed h = absurd gives
+    session_there x (place ∷ places) [] known gives typed h = absurd gives
+
+    global_means : (x : List ℕ) (o : Option ℕ) → table_number x world.schemas ≡ o → (r : Tree) → global_tree world.schemas places x o ≡ Some r
+        → As (whole_name_value world x None) r
+    global_means x (Some n) is r h = subst (As (whole_name_value world x None)) (same_Some _ r h) (table_means x n is)
+    global_means x None is r h =
+        map_by _ (session_place x places.session) r h
+        (λ place there is_it.
+        let found = session_there x places.session world.session place at.1.2 fits there in
+        subst (As (whole_name_value world x None)) is_it
+        (same_agree world slots place.known.ty _ _ (found.2 ∙ sym (ap (global_value world x) is ∙ found.1))
+        (subst (λ (o : Result (Value R) Fault). Agree (Val place.known.ty) o o) (sym (ap (global_value world x) is ∙ found.1))
+        (agree_ok (Val place.known.ty) found.0 found.3))))
+
+    name_by : (x : List ℕ) (o : Option Place) (p : Option (Binding R)) → Found world slots o p → (r : Tree) → name_tree world.schemas places x o ≡ Some r
+        → As (whole_name_value world x p) r
     name_by x (Some place) (Some b) found r h =
         subst (As (Ok b.value)) (same_Some _ r h)
         (same_agree world slots place.ty _ _ (ap (form_meaning world place.form) (sym (append_none slots)) ∙ found.0.2 [])
         (agree_ok (Val place.ty) b.value (subst (λ (t : Ty). Val t b.value) (sym found.0.1) found.1)))
-    name_by x None None found r h = map_by _ (table_number x world.schemas) r h (λ n table is. subst (As (name_value world x None)) is (table_means x n table))
+    name_by x None None found r h = global_means x (table_number x world.schemas) refl r h
     name_by x None (Some b) found r h = absurd found
     name_by x (Some place) None found r h = absurd found
 

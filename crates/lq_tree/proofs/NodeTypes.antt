@@ -7,8 +7,8 @@ use Rattle.lq_model.specs.EnumerableCalls.{EnumerableCall, By, Plain, With, enum
 use Rattle.lq_model.specs.Maps.{map_argument, map_enumerable, map_field, map_node}
 use Rattle.lq_model.specs.Members.{is_search, sole_argument}
 use Rattle.lq_model.specs.Types.{if_placed, when}
-use Rattle.lq_model.specs.Typing.{Names, coalesced, is_bool, is_number, is_text_type, name_type, truth_type}
-use Rattle.lq_model.specs.WholeTyping.{argument_type, are_distinct, called_type, if_limited, members_type, method_type, record_type, whole_member_type, whole_operated_type, whole_type}
+use Rattle.lq_model.specs.Typing.{Names, coalesced, is_bool, is_number, is_text_type, truth_type}
+use Rattle.lq_model.specs.WholeTyping.{argument_type, are_distinct, called_type, if_limited, members_type, method_type, record_type, whole_member_type, whole_operated_type, whole_type, whole_name_type}
 use Rattle.lq_model.specs.declared.syntax.Argument.{Argument}
 use Rattle.lq_model.specs.declared.syntax.Argument.TheVariants as argument
 use Rattle.lq_model.specs.declared.syntax.Field.{Field}
@@ -95,7 +95,7 @@ module _ (schemas : List Schema) {X : Type 0} (tree : X → Binds) (typed : X �
   node_found (node.Text t) places = refl
   node_found (node.Bool b) places = refl
   node_found node.Null places = refl
-  node_found (node.Name x) places = name_found schemas places x (place_of x places.locals) ∙ ap (name_type (names places) x) (sym (local_place x places.locals))
+  node_found (node.Name x) places = name_found schemas places x (place_of x places.locals) ∙ ap (whole_name_type (names places) x) (sym (local_place x places.locals))
   node_found (node.Member a m) places =
       map_then (λ found. found.ty) (λ found. found.ty) (member_tree schemas m) (λ t. whole_member_type (names places) m (out-Ty t))
       (member_found schemas places m) (tree a places)

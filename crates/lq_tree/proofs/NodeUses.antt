@@ -16,8 +16,8 @@ use Rattle.lq_model.specs.Members.{search_named, sole_argument}
 use Rattle.lq_model.specs.Operations.{operation_of}
 use Rattle.lq_model.specs.Operators.{Pattern, One, With as Pair}
 use Rattle.lq_model.specs.Types.{element_type, is_fresh, is_within, when}
-use Rattle.lq_model.specs.Typing.{Names, coalesced, is_bool, is_equality, is_number, is_text, table_number, with_local}
-use Rattle.lq_model.specs.Uses.{argument_uses, column_number, member_uses, name_uses, node_uses, table_uses, under}
+use Rattle.lq_model.specs.Typing.{Names, coalesced, is_bool, is_equality, is_number, is_text, table_number, with_local, SessionName}
+use Rattle.lq_model.specs.Uses.{argument_uses, column_number, member_uses, name_uses, node_uses, under, global_uses}
 use Rattle.lq_model.specs.WholeMeaning.{is_sequence_layer}
 use Rattle.lq_model.specs.WholeTyping.{given_type, simple_type, through_type, whole_chosen, whole_operated_type}
 use Rattle.lq_model.specs.declared.operation.Op.TheVariants as op
@@ -33,16 +33,16 @@ use Rattle.lq_model.specs.declared.syntax.Unary.{Unary}
 use Rattle.lq_model.specs.declared.syntax.Unary.TheVariants as unary
 use Rattle.lq_model.proofs.EveryItem.{every_more, first_of, others_of}
 use Rattle.lq_model.proofs.Findings.{map_by, when_by}
-use Rattle.lq_tree.specs.Binding.{Binds, and_tree, binary_form, binary_tree, called_tree, coalesce_tree, column_tree, conditional_tree, enumerable_tree, field_tree, fields_tree, form_of_field, gathered, is_literal, is_object, lambda_tree, member_layer, member_tree, name_tree, node_tree, of_two_trees, operation_at, or_tree, placed_tree, record_tree, search_form, search_tree, settled_form, settled_tree, tested_first, tested_second, tree_of, unary_tree, within_tree}
-use Rattle.lq_tree.specs.Places.{Place, Places, names_of_places, place_of, places_of, with_item, with_name}
-use Rattle.lq_tree.specs.UsesOfForms.{UseNothing, form_uses}
+use Rattle.lq_tree.specs.Binding.{Binds, and_tree, binary_form, binary_tree, called_tree, coalesce_tree, column_tree, conditional_tree, enumerable_tree, field_tree, fields_tree, form_of_field, gathered, is_literal, is_object, lambda_tree, member_layer, member_tree, name_tree, node_tree, of_two_trees, operation_at, or_tree, placed_tree, record_tree, search_form, search_tree, settled_form, settled_tree, tested_first, tested_second, tree_of, unary_tree, within_tree, global_tree}
+use Rattle.lq_tree.specs.Places.{Place, Places, names_of_places, place_of, places_of, with_item, with_name, SessionPlace, session_place}
+use Rattle.lq_tree.specs.UsesOfForms.{UseWhatIsKnown, form_uses}
 use Rattle.lq_tree.specs.declared.tree.Form.{Form, out-Form}
 use Rattle.lq_tree.specs.declared.tree.Form.TheOpen.{Form-F}
 use Rattle.lq_tree.specs.declared.tree.Form.TheVariants as form
 use Rattle.lq_tree.specs.declared.tree.Tree.{Tree}
 use Rattle.lq_tree.proofs.FormUses.{by_layer, of_and, of_binary, of_coalesce, of_column, of_conditional, of_first, of_given, of_is_null, of_key, of_literal, of_member, of_or, of_pair, of_record, of_second, of_sequence, of_simple, of_slot, of_table, of_through, of_unary}
 use Rattle.lq_tree.proofs.Scopes.{append_none}
-use Rattle.lq_tree.proofs.TypeLemmas.{local_place, type_found}
+use Rattle.lq_tree.proofs.TypeLemmas.{local_place, type_found, place_known}
 use Rattle.lq_tree.proofs.Walks.{gathered_all, traversed}
 
 -- ---- forms
@@ -93,8 +93,9 @@ places_unused (Pair p n t) item places h nothing =
     every_more (λ place. form_uses place.form ≡ []) (record { name = n; ty = t; form = form.Second item }) (places_of p (form.First item) places)
     (of_second item ∙ h) (places_unused p (form.First item) places (of_first item ∙ h) nothing)
 
-pub item_unused : (places : Places) (p : Pattern) → UseNothing places → UseNothing (with_item places p)
-item_unused places p nothing = places_unused p (form.Slot places.depth) places.locals (of_slot places.depth) nothing
+pub item_unused : (places : Places) (p : Pattern) → UseWhatIsKnown places → UseWhatIsKnown (with_item places p)
+item_unused places p nothing =
+    record { locals = places_unused p (form.Slot places.depth) places.locals (of_slot places.depth) nothing.locals; session = nothing.session }
 
 -- the form of a local name
 place_used : (x : List ℕ) (places : List Place) → Every (λ place. form_uses place.form ≡ []) places → (place : Place) → place_of x places ≡ Some place
@@ -108,14 +109,36 @@ place_used x (p ∷ places) nothing place h =
     by true is rest = subst (λ (q : Place). form_uses q.form ≡ []) (same_Some p place is) (first_of (λ q. form_uses q.form ≡ []) p places nothing)
     by false is rest = rest is
 
+-- the form of a name of the session
+session_used : (x : List ℕ) (places : List SessionPlace) → Every (λ place. (depth : ℕ) → form_uses (place.form depth) ≡ place.known.uses) places
+    → (place : SessionPlace) → session_place x places ≡ Some place → (depth : ℕ) → form_uses (place.form depth) ≡ place.known.uses
+session_used x [] known place h = absurd (none-some place h)
+session_used x (p ∷ places) known place h =
+    by (bytes_eq p.known.name x) h (session_used x places (others_of (λ q. (depth : ℕ) → form_uses (q.form depth) ≡ q.known.uses) p places known) place)
+  where
+    by : (b : Bool) → (if b then Some p else session_place x places) ≡ Some place
+        → (session_place x places ≡ Some place → (depth : ℕ) → form_uses (place.form depth) ≡ place.known.uses)
+        → (depth : ℕ) → form_uses (place.form depth) ≡ place.known.uses
+    by true is rest = subst (λ (q : SessionPlace). (depth : ℕ) → form_uses (q.form depth) ≡ q.known.uses) (same_Some p place is)
+        (first_of (λ q. (depth : ℕ) → form_uses (q.form depth) ≡ q.known.uses) p places known)
+    by false is rest = rest is
+
 module _ (schemas : List Schema) where
-  name_used : (x : List ℕ) (places : Places) (o : Option Place) → ((place : Place) → o ≡ Some place → form_uses place.form ≡ []) → (r : Tree)
-      → name_tree schemas x o ≡ Some r → form_uses r.form ≡ name_uses (option_map (λ place. place.ty) o) x (names_of_places schemas places)
-  name_used x places (Some place) nothing r h = subst (λ (t : Tree). form_uses t.form ≡ []) (same_Some _ r h) (nothing place refl)
-  name_used x places None nothing r h =
-      map_by _ (table_number x schemas) r h
-      (λ n table is. subst (λ (t : Tree). form_uses t.form ≡ table_uses (table_number x schemas)) is
-      (of_table n ∙ ap table_uses (sym table)))
+  global_used : (x : List ℕ) (places : Places) → Every (λ place. (depth : ℕ) → form_uses (place.form depth) ≡ place.known.uses) places.session
+      → (o : Option ℕ) (r : Tree) → global_tree schemas places x o ≡ Some r → form_uses r.form ≡ global_uses (names_of_places schemas places) x o
+  global_used x places known (Some n) r h =
+      subst (λ (t : Tree). form_uses t.form ≡ global_uses (names_of_places schemas places) x (Some n)) (same_Some _ r h) (of_table n)
+  global_used x places known None r h =
+      map_by _ (session_place x places.session) r h
+      (λ place there is. subst (λ (t : Tree). form_uses t.form ≡ global_uses (names_of_places schemas places) x None) is
+      (session_used x places.session known place there places.depth
+      ∙ ap (λ (o : Option SessionName). under o (λ s. s.uses)) (sym (place_known x places.session ∙ ap (option_map (λ p. p.known)) there))))
+
+  name_used : (x : List ℕ) (places : Places) (o : Option Place) → ((place : Place) → o ≡ Some place → form_uses place.form ≡ [])
+      → Every (λ place. (depth : ℕ) → form_uses (place.form depth) ≡ place.known.uses) places.session → (r : Tree)
+      → name_tree schemas places x o ≡ Some r → form_uses r.form ≡ name_uses (option_map (λ place. place.ty) o) x (names_of_places schemas places)
+  name_used x places (Some place) nothing known r h = subst (λ (t : Tree). form_uses t.form ≡ []) (same_Some _ r h) (nothing place refl)
+  name_used x places None nothing known r h = global_used x places known (table_number x schemas) r h
 
   -- ---- members
 
@@ -167,8 +190,8 @@ module _ (schemas : List Schema) where
 
   module _ {X : Type 0} (tree : X → Binds) (typed : X → Names → Option Ty) (uses : X → Names → List Use)
       (alike : (x : X) (places : Places) → type_found (tree x places) ≡ typed x (names_of_places schemas places))
-      (used : (x : X) (places : Places) → UseNothing places → (r : Tree) → tree x places ≡ Some r → form_uses r.form ≡ uses x (names_of_places schemas places))
-      (places : Places) (nothing : UseNothing places) where
+      (used : (x : X) (places : Places) → UseWhatIsKnown places → (r : Tree) → tree x places ≡ Some r → form_uses r.form ≡ uses x (names_of_places schemas places))
+      (places : Places) (nothing : UseWhatIsKnown places) where
     abbrev names : Names
     names = names_of_places schemas places
 
@@ -350,7 +373,7 @@ module _ (schemas : List Schema) where
     node_used (node.Bool b) r h = subst (Uses []) (same_Some _ r h) (of_literal (scalar.Bool b))
     node_used node.Null r h = subst (Uses []) (same_Some _ r h) (of_literal scalar.Null)
     node_used (node.Name x) r h =
-        name_used x places (place_of x places.locals) (place_used x places.locals nothing) r h
+        name_used x places (place_of x places.locals) (place_used x places.locals nothing.locals) nothing.session r h
         ∙ ap (λ (o : Option Ty). name_uses o x names) (sym (local_place x places.locals))
     node_used (node.Member a m) r h =
         option_and_then_some (member_tree schemas m) (tree a places) r h

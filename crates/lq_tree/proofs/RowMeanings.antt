@@ -13,7 +13,7 @@ use Rattle.lq_value.specs.declared.value.Value.{Value, out-Value}
 use Rattle.lq_value.specs.declared.value.Value.TheOpen.{Value-F}
 use Rattle.lq_value.specs.declared.value.Value.TheVariants as value
 use Rattle.lq_model.specs.Enumerable.{all, as_count, concat, contains, element_at, except, intersect, skip, take_first, union}
-use Rattle.lq_model.specs.Meaning.{World, as_group, as_value, cell_value, is_null, items_of, matches, on_scalar, on_truth, scalar_of, sequence, stream_of, table_value, truth_value}
+use Rattle.lq_model.specs.Meaning.{SessionValue, World, as_group, as_value, cell_value, is_null, items_of, matches, on_scalar, on_truth, scalar_of, sequence, stream_of, table_value, truth_value}
 use Rattle.lq_model.specs.Operations.{of_one, of_two, on_ok, truth_of}
 use Rattle.lq_model.specs.Operators.{first, pair, second}
 use Rattle.lq_model.specs.Stream.{Stream, expand_by, group_by, join_by, select_by, where_by, with_keys}
@@ -33,18 +33,18 @@ use Rattle.lq_tree.proofs.MappedMethods.{all_natural, concat_natural, contains_n
 use Rattle.lq_tree.proofs.MappedStreams.{expand_natural, group_natural, join_natural, keys_natural, map_square, ok_alike, ok_by, ok_same, pair_map, select_natural, where_natural}
 use Rattle.lq_tree.proofs.MappedValues.{mapped_Row, mapped_Scalar, mapped_Seq, mapped_layer, mapped_member, mapped_out, same_kept}
 
--- the world over the rows that stand for those of another
-abbrev pub over : {R S : Type 0} → (R → S) → World R → (S → List ℕ → Option Scalar) → World S
-over f world cell = record { schemas = world.schemas; rows = map (map f) world.rows; cell = cell; unknown = world.unknown }
+-- the world over the rows that stand for those of another, whatever its session's names stand for: no form reads these
+abbrev pub over : {R S : Type 0} → (R → S) → World R → List (SessionValue S) → (S → List ℕ → Option Scalar) → World S
+over f world session cell = record { schemas = world.schemas; rows = map (map f) world.rows; session = session; cell = cell; unknown = world.unknown }
 
-module _ {R S : Type 0} (f : R → S) (world : World R) (cell : S → List ℕ → Option Scalar)
+module _ {R S : Type 0} (f : R → S) (world : World R) (session : List (SessionValue S)) (cell : S → List ℕ → Option Scalar)
     (same_cells : (r : R) (column : List ℕ) → cell (f r) column ≡ world.cell r column) where
   -- the two worlds
   abbrev pub a : World R
   a = world
 
   abbrev pub b : World S
-  b = over f world cell
+  b = over f world session cell
 
   -- a value with its rows replaced
   abbrev pub m : Value R → Value S

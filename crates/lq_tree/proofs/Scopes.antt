@@ -6,17 +6,18 @@ use Rattle.lq_value.specs.declared.ty.Ty.TheVariants.{outs-Rec}
 use Rattle.lq_value.specs.declared.value.Fault.{Fault}
 use Rattle.lq_value.specs.declared.value.Value.{Value}
 use Rattle.lq_value.specs.declared.value.Value.TheVariants.{outs-Rec as outs-value-Rec}
-use Rattle.lq_model.specs.Meaning.{Binding, Scope, World, binding_of, names_at, typed_locals}
+use Rattle.lq_model.specs.Meaning.{Binding, Scope, World, binding_of, names_at, typed_locals, SessionValue, session_names}
 use Rattle.lq_model.specs.Operations.{on_ok}
 use Rattle.lq_model.specs.Operators.{Pattern, One, With, bind, first, first_member, pair, pair_type, pattern_type, second, second_member}
 use Rattle.lq_model.specs.WholeMeaningLaws.{by_record, IsScopeOfValues, IsValueOf, no_member, one_member}
 use Rattle.lq_model.proofs.EveryItem.{every_more, first_of, others_of}
-use Rattle.lq_tree.specs.BindingLaws.{Holds, Reaches, ReachesAll}
+use Rattle.lq_tree.specs.BindingLaws.{Holds, Reaches, ReachesAll, GivesAll}
 use Rattle.lq_tree.specs.FormMeaning.{Slots, form_meaning, if_there}
-use Rattle.lq_tree.specs.Places.{Place, Places, names_of_places, place_of, places_of, with_item}
+use Rattle.lq_tree.specs.Places.{Place, Places, names_of_places, place_of, places_of, with_item, SessionPlace}
 use Rattle.lq_tree.specs.declared.tree.Form.{Form}
 use Rattle.lq_tree.specs.declared.tree.Form.TheVariants as form
 use Rattle.lq_tree.proofs.FormSteps.{of_first, of_second, of_slot}
+use Rattle.lq_model.specs.Typing.{SessionName}
 
 -- ---- slots
 
@@ -51,10 +52,19 @@ module _ {R : Type 0} (world : World R) where
   locals_same slots [] (b ∷ scope) reach = absurd reach
   locals_same slots (place ∷ places) [] reach = absurd reach
 
+  pub session_same : (places : List SessionPlace) (session : List (SessionValue R)) → GivesAll world places session
+      → session_names session ≡ map (λ place. place.known) places
+  session_same [] [] gives = refl
+  session_same (place ∷ places) (s ∷ others) gives =
+      ap₂ (λ (known : SessionName) (more : List SessionName). known ∷ more) (sym gives.0.0) (session_same places others gives.1)
+  session_same [] (s ∷ others) gives = absurd gives
+  session_same (place ∷ places) [] gives = absurd gives
+
   pub names_same : (slots : Slots R) (places : Places) (scope : Scope R) → Holds world slots places scope → names_at world scope
       ≡ names_of_places world.schemas places
   names_same slots places scope holds =
-      ap (λ (locals : List (List ℕ × Ty)). record { tables = world.schemas; locals = locals }) (locals_same slots places.locals scope holds.1)
+      ap₂ (λ (session : List SessionName) (locals : List (List ℕ × Ty)). record { tables = world.schemas; session = session; locals = locals })
+      (session_same places.session world.session holds.2) (locals_same slots places.locals scope holds.1)
 
   -- a place and a binding that are found by one name, or neither
   abbrev pub Found : Slots R → Option Place → Option (Binding R) → Type 0
@@ -164,6 +174,7 @@ module _ {R : Type 0} (world : World R) where
       length_one_more slots v ∙ ap (λ n. n + 1) at.1.0,
       parts_reached (slots ++ v ∷ []) p (form.Slot places.depth) v places.locals scope (slot_reached slots places.depth v at.1.0)
           (wider slots v places.locals scope at.1.1),
+      at.1.2,
     ),
   )
 

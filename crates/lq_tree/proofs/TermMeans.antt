@@ -13,7 +13,7 @@ use Rattle.lq_model.specs.Stream.{Stream}
 use Rattle.lq_model.specs.Terms.{MeantTerm, term_meaning, term_meaning_step, term_type}
 use Rattle.lq_model.specs.Typing.{Names}
 use Rattle.lq_model.specs.WholeMeaning.{whole_meaning}
-use Rattle.lq_model.specs.WholeMeaningLaws.{IsValueOf}
+use Rattle.lq_model.specs.WholeMeaningLaws.{IsSessionOfValues, IsValueOf}
 use Rattle.lq_model.specs.declared.calls.Call.{Call}
 use Rattle.lq_model.specs.declared.calls.Term.{Term}
 use Rattle.lq_model.specs.declared.calls.Term.TheVariants as term
@@ -39,7 +39,7 @@ use Rattle.lq_tree.proofs.TermTypes.{call_types_same, types_same}
 use Rattle.lq_tree.proofs.TypeLemmas.{type_found}
 use Rattle.lq_tree.proofs.TreePulls.{call_pull, node_pull, tree_of_call, tree_of_node}
 
-module _ {R : Type 0} (world : World R) (holds : HoldsRows world) where
+module _ {R : Type 0} (world : World R) (holds : HoldsRows world) (kept : IsSessionOfValues world) where
   -- a term beside what it means
   abbrev beside : Term → MeantTerm R
   beside t = (t, term_meaning world t)
@@ -87,7 +87,7 @@ module _ {R : Type 0} (world : World R) (holds : HoldsRows world) where
   at_node : (n : Node (Such MeansAlike)) → MeansAlike (term.Node (map_node base n))
   at_node n slots places scope at r h =
       subst (λ (o : Result (Value R) Fault). Agree (IsValueOf world r.ty) (form_meaning world r.form slots) o) (sym (node_meant n scope))
-      (node_means world holds tree_at type_at meant_at (λ z. types_same world.schemas z.0) (λ z. z.1) slots places scope at n r
+      (node_means world holds kept tree_at type_at meant_at (λ z. types_same world.schemas z.0) (λ z. z.1) slots places scope at n r
       (sym (ap (λ (b : Binds). b places) (tree_of_node world.schemas (map_node base n)) ∙ node_pull world.schemas base (term_tree world.schemas) n places) ∙ h))
 
   at_call : (c : Call (Such MeansAlike)) → MeansAlike (term.Call (map_call base c))
@@ -100,33 +100,33 @@ module _ {R : Type 0} (world : World R) (holds : HoldsRows world) where
   every_means = of_every MeansAlike at_node at_call
 
 pub meanings_same : {R : Type 0} → MeaningsOfTrees R
-meanings_same world holds t places slots scope fits reached tree h = every_means world holds t slots places scope (fits, reached) tree h
+meanings_same world holds kept t places slots scope fits reached tree h = every_means world holds kept t slots places scope (fits, reached) tree h
 
 pub call_meanings_same : {R : Type 0} → MeaningsOfCalls R
-call_meanings_same world holds c places slots scope fits reached tree h =
-    call_means world holds (term_tree world.schemas) term_type (term_meaning world) (types_same world.schemas) (every_means world holds) slots places scope
+call_meanings_same world holds kept c places slots scope fits reached tree h =
+    call_means world holds (term_tree world.schemas) term_type (term_meaning world) (types_same world.schemas) (every_means world holds kept) slots places scope
     (fits, reached) c tree h
 
 -- ---- whole expressions
 
 -- a tree that is found with this type
-tree_there : (o : Option Tree) (t : Ty) → type_found o ≡ Some t → (f : Form) × (o ≡ Some (tree_of t f))
+pub tree_there : (o : Option Tree) (t : Ty) → type_found o ≡ Some t → (f : Form) × (o ≡ Some (tree_of t f))
 tree_there None t h = absurd (none-some t h)
 tree_there (Some tree) t h = (tree.form, ap (λ (u : Ty). Some (tree_of u tree.form)) (same_Some tree.ty t h))
 
 pub expressions_bound : {R : Type 0} → BindsExpressions R
-expressions_bound world holds e places slots scope fits reached t typed =
+expressions_bound world holds kept e places slots scope fits reached t typed =
     let there =
     tree_there (term_tree world.schemas (translated e) places) t
     (types_same world.schemas (translated e) places ∙ terms_typed e (names_of_places world.schemas places)
     ∙ ap (expression_type e) (sym (names_same world slots places scope reached)) ∙ typed) in (
       there.0,
       there.1,
-      (meanings_same world holds (translated e) places slots scope fits reached (tree_of t there.0) there.1).0 ∙ terms_mean world e scope,
+      (meanings_same world holds kept (translated e) places slots scope fits reached (tree_of t there.0) there.1).0 ∙ terms_mean world e scope,
     )
 
 pub queries_bound : {R : Type 0} → BindsQueries R
-queries_bound {R} world holds q places slots scope fits reached t typed =
+queries_bound {R} world holds kept q places slots scope fits reached t typed =
     let there =
     tree_there (call_tree world.schemas (term_tree world.schemas) (translated_query q) places) (ty.Seq t)
     (call_types_same world.schemas (translated_query q) places
@@ -134,6 +134,6 @@ queries_bound {R} world holds q places slots scope fits reached t typed =
     ∙ ap (query_items expression_type q) (sym (names_same world slots places scope reached)) ∙ typed)) in (
       there.0,
       there.1,
-      (call_meanings_same world holds (translated_query q) places slots scope fits reached (tree_of (ty.Seq t) there.0) there.1).0
+      (call_meanings_same world holds kept (translated_query q) places slots scope fits reached (tree_of (ty.Seq t) there.0) there.1).0
           ∙ ap (λ (s : Stream (Value R)). Ok (sequence s)) (streams_mean world q scope),
     )

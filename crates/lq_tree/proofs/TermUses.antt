@@ -19,7 +19,7 @@ use Rattle.lq_translate.proofs.UsePulls.{call_pull as call_uses_pull, node_pull 
 use Rattle.lq_translate.proofs.UsesAlike.{term_uses_of_call, term_uses_of_node, terms_used}
 use Rattle.lq_tree.specs.Binding.{Binds, call_tree, term_tree}
 use Rattle.lq_tree.specs.Places.{Places, names_of_places}
-use Rattle.lq_tree.specs.UsesOfForms.{UseNothing, form_uses}
+use Rattle.lq_tree.specs.UsesOfForms.{UseWhatIsKnown, form_uses}
 use Rattle.lq_tree.specs.declared.tree.Tree.{Tree}
 use Rattle.lq_tree.proofs.CallUses.{call_used}
 use Rattle.lq_tree.proofs.Layers.{Such, of_every, plain}
@@ -31,7 +31,7 @@ use Rattle.lq_tree.proofs.TypeLemmas.{type_found}
 module _ (schemas : List Schema) where
   abbrev UsesAlike : Term → Type 0
   UsesAlike t =
-      (places : Places) → UseNothing places → (r : Tree) → term_tree schemas t places ≡ Some r → form_uses r.form ≡ term_uses t (names_of_places schemas places)
+      (places : Places) → UseWhatIsKnown places → (r : Tree) → term_tree schemas t places ≡ Some r → form_uses r.form ≡ term_uses t (names_of_places schemas places)
 
   abbrev base : Such UsesAlike → Term
   base = plain {P = UsesAlike}
@@ -65,10 +65,10 @@ module _ (schemas : List Schema) where
   pub uses_same : (t : Term) → UsesAlike t
   uses_same = of_every UsesAlike at_node at_call
 
-  pub call_uses_same : (c : Call Term) (places : Places) → UseNothing places → (r : Tree) → call_tree schemas (term_tree schemas) c places ≡ Some r
+  pub call_uses_same : (c : Call Term) (places : Places) → UseWhatIsKnown places → (r : Tree) → call_tree schemas (term_tree schemas) c places ≡ Some r
       → form_uses r.form ≡ call_uses term_type term_uses c (names_of_places schemas places)
   call_uses_same c places nothing r h = call_used schemas (term_tree schemas) term_type term_uses (types_same schemas) uses_same places nothing c r h
 
-  pub expression_uses_same : (e : Expr) (places : Places) → UseNothing places → (r : Tree) → term_tree schemas (translated e) places ≡ Some r
+  pub expression_uses_same : (e : Expr) (places : Places) → UseWhatIsKnown places → (r : Tree) → term_tree schemas (translated e) places ≡ Some r
       → form_uses r.form ≡ expression_uses e (names_of_places schemas places)
   expression_uses_same e places nothing r h = uses_same (translated e) places nothing r h ∙ terms_used e (names_of_places schemas places)

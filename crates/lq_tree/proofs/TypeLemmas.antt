@@ -10,8 +10,8 @@ use Rattle.lq_value.specs.declared.ty.Ty.TheVariants as ty
 use Rattle.lq_model.specs.EnumerableCalls.{EnumerableCall, By, Plain, With, enumerable_call}
 use Rattle.lq_model.specs.Members.{search_named, sole_argument}
 use Rattle.lq_model.specs.Types.{element_type, has_place, if_placed, is_fresh, is_key, is_within, when}
-use Rattle.lq_model.specs.Typing.{Names, column_named, is_bool, is_bool_type, is_text, is_text_type, local_type, name_type, of_operands, table_number, truth_type, type_of_column}
-use Rattle.lq_model.specs.WholeTyping.{argument_type, are_distinct, called_type, enumerable_type, given_type, if_limited, lambda_type, member_of, members_type, method_type, record_type, search_type, simple_type, through_type, whole_chosen, whole_choice_type, whole_member_type}
+use Rattle.lq_model.specs.Typing.{Names, column_named, is_bool, is_bool_type, is_text, is_text_type, local_type, of_operands, table_number, truth_type, type_of_column, session_name}
+use Rattle.lq_model.specs.WholeTyping.{argument_type, are_distinct, called_type, enumerable_type, given_type, if_limited, lambda_type, member_of, members_type, method_type, record_type, search_type, simple_type, through_type, whole_chosen, whole_choice_type, whole_member_type, global_type, whole_name_type}
 use Rattle.lq_model.specs.declared.methods.Given.{Given}
 use Rattle.lq_model.specs.declared.methods.Given.TheVariants as given
 use Rattle.lq_model.specs.declared.methods.Through.{Through}
@@ -20,8 +20,8 @@ use Rattle.lq_model.specs.declared.operation.Op.{Op}
 use Rattle.lq_model.specs.declared.operation.Op.TheVariants as op
 use Rattle.lq_model.specs.declared.syntax.Argument.{Argument}
 use Rattle.lq_model.specs.declared.syntax.Field.{Field}
-use Rattle.lq_tree.specs.Binding.{Binds, called_tree, column_tree, conditional_tree, enumerable_tree, field_tree, fields_tree, gathered, lambda_tree, member_layer, member_tree, method_tree, name_tree, of_three_trees, of_two_trees, placed_tree, record_member_tree, record_tree, search_form, search_tree, settled_tree, tree_of, type_of_field, typed_tree, within_tree}
-use Rattle.lq_tree.specs.Places.{Place, Places, names_of_places, place_of, with_name}
+use Rattle.lq_tree.specs.Binding.{Binds, called_tree, column_tree, conditional_tree, enumerable_tree, field_tree, fields_tree, gathered, lambda_tree, member_layer, member_tree, method_tree, name_tree, of_three_trees, of_two_trees, placed_tree, record_member_tree, record_tree, search_form, search_tree, settled_tree, tree_of, type_of_field, typed_tree, within_tree, global_tree}
+use Rattle.lq_tree.specs.Places.{Place, Places, names_of_places, place_of, with_name, SessionPlace, session_place}
 use Rattle.lq_tree.specs.declared.tree.Form.{Form}
 use Rattle.lq_tree.specs.declared.tree.Form.TheVariants as form
 use Rattle.lq_tree.specs.declared.tree.Tree.{Tree}
@@ -124,7 +124,7 @@ then_if : {A B : Type 0} (f : A → Option B) (b : Bool) (x : A) (o : Option A) 
 then_if f true x o = refl
 then_if f false x o = refl
 
-later : {A : Type 0} (test : A → Bool) (start : ℕ) (xs : List A) → position_from test (start + 1) xs ≡ option_map suc (position_from test start xs)
+pub later : {A : Type 0} (test : A → Bool) (start : ℕ) (xs : List A) → position_from test (start + 1) xs ≡ option_map suc (position_from test start xs)
 later test start [] = refl
 later test start (x ∷ xs) =
     let next : start + 1 ≡ suc start = omega arith in
@@ -166,6 +166,16 @@ at_position : {A : Type 0} (xs : List A) (type_at : A → Ty) (form_at : ℕ →
     → type_found (option_and_then (λ n. option_map (λ x. tree_of (type_at x) (form_at n x)) (slice_get xs n)) o) ≡ option_map type_at (get_at xs o)
 at_position xs type_at form_at None = refl
 at_position xs type_at form_at (Some n) = map_two (λ tree. tree.ty) (λ x. tree_of (type_at x) (form_at n x)) (slice_get xs n)
+
+-- what is known of the session's name at a place
+pub place_known : (x : List ℕ) (places : List SessionPlace)
+    → session_name x (map (λ place. place.known) places) ≡ option_map (λ place. place.known) (session_place x places)
+place_known x [] = refl
+place_known x (place ∷ places) = by (bytes_eq place.known.name x) (place_known x places) where
+  by : (b : Bool) → session_name x (map (λ p. p.known) places) ≡ option_map (λ p. p.known) (session_place x places)
+      → (if b then Some place.known else session_name x (map (λ p. p.known) places)) ≡ option_map (λ p. p.known) (if b then Some place else session_place x places)
+  by true rest = refl
+  by false rest = rest
 
 pub local_place : (x : List ℕ) (places : List Place) → local_type x (map (λ place. (place.name, place.ty)) places) ≡ option_map (λ place. place.ty)
     (place_of x places)
@@ -259,10 +269,17 @@ module _ (schemas : List Schema) where
       (out-Ty a.ty)
   member_found places m a = settled_found (member_layer schemas m a.form (out-Ty a.ty)) ∙ layer_found places m a.form (out-Ty a.ty)
 
+  global_found : (places : Places) (x : List ℕ) (o : Option ℕ) → type_found (global_tree schemas places x o) ≡ global_type (names_of_places schemas places) x o
+  global_found places x (Some n) = refl
+  global_found places x None =
+      map_two (λ tree. tree.ty) (λ place. tree_of place.known.ty (place.form places.depth)) (session_place x places.session)
+      ∙ sym (map_two (λ known. known.ty) (λ place. place.known) (session_place x places.session))
+      ∙ ap (option_map (λ known. known.ty)) (sym (place_known x places.session))
+
   pub name_found : (places : Places) (x : List ℕ) (o : Option Place)
-      → type_found (name_tree schemas x o) ≡ name_type (names_of_places schemas places) x (option_map (λ place. place.ty) o)
+      → type_found (name_tree schemas places x o) ≡ whole_name_type (names_of_places schemas places) x (option_map (λ place. place.ty) o)
   name_found places x (Some place) = refl
-  name_found places x None = map_two (λ tree. tree.ty) (λ n. tree_of (ty.Seq (ty.Row n)) (form.Table n)) (table_number x schemas)
+  name_found places x None = global_found places x (table_number x schemas)
 
   -- ---- what expressions hold
 

@@ -41,7 +41,7 @@ use Rattle.lq_model.specs.declared.syntax.Node.TheVariants as node
 use Rattle.lq_model.specs.declared.syntax.SortKey.{SortKey}
 use Rattle.lq_model.specs.declared.syntax.Unary.{Unary}
 use Rattle.lq_model.specs.declared.syntax.Unary.TheVariants as unary
-use Rattle.lq_tree.specs.Places.{Place, Places, names_of_places, place_of, with_item, with_name}
+use Rattle.lq_tree.specs.Places.{Place, Places, names_of_places, place_of, session_place, with_item, with_name}
 use Rattle.lq_tree.specs.declared.tree.Form.{Form, out-Form}
 use Rattle.lq_tree.specs.declared.tree.Form.TheOpen.{Form-F}
 use Rattle.lq_tree.specs.declared.tree.Form.TheVariants as form
@@ -233,10 +233,15 @@ module _ (schemas : List Schema) where
   abbrev pub member_tree : List ℕ → Tree → Option Tree
   member_tree m a = option_map settled_tree (member_layer m a.form (out-Ty a.ty))
 
-  -- a local name's place, else a table's rows
-  abbrev pub name_tree : List ℕ → Option Place → Option Tree
-  name_tree x (Some place) = Some (tree_of place.ty place.form)
-  name_tree x None = option_map (λ n. tree_of (ty.Seq (ty.Row n)) (form.Table n)) (table_number x schemas)
+  -- a table's rows, else what a name of the session stands for
+  abbrev pub global_tree : Places → List ℕ → Option ℕ → Option Tree
+  global_tree places x (Some n) = Some (tree_of (ty.Seq (ty.Row n)) (form.Table n))
+  global_tree places x None = option_map (λ place. tree_of place.known.ty (place.form places.depth)) (session_place x places.session)
+
+  -- a local name's place, else what the name stands for outside
+  abbrev pub name_tree : Places → List ℕ → Option Place → Option Tree
+  name_tree places x (Some place) = Some (tree_of place.ty place.form)
+  name_tree places x None = global_tree places x (table_number x schemas)
 
   -- ---- what expressions hold: `tree` tells what each of them is bound to
 
@@ -287,7 +292,7 @@ module _ (schemas : List Schema) where
     node_tree (node.Text t) places = Some (tree_of ty.Str (form.Literal (scalar.Text t)))
     node_tree (node.Bool b) places = Some (tree_of ty.Bool (form.Literal (scalar.Bool b)))
     node_tree node.Null places = Some (tree_of ty.Null (form.Literal scalar.Null))
-    node_tree (node.Name x) places = name_tree x (place_of x places.locals)
+    node_tree (node.Name x) places = name_tree places x (place_of x places.locals)
     node_tree (node.Member a m) places = option_and_then (member_tree m) (tree a places)
     node_tree (node.Unary sign a) places = option_and_then (unary_tree sign) (tree a places)
     node_tree (node.Binary sign a b) places = of_two_trees (binary_tree sign) (tree a places) (tree b places)

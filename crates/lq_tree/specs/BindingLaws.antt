@@ -5,14 +5,14 @@ use Rattle.lq_value.specs.declared.ty.Ty.{Ty}
 use Rattle.lq_value.specs.declared.ty.Ty.TheVariants as ty
 use Rattle.lq_value.specs.declared.value.Value.{Value}
 use Rattle.lq_model.specs.ClauseTyping.{expression_type, query_items}
-use Rattle.lq_model.specs.Meaning.{names_at, Binding, Scope, World, sequence}
+use Rattle.lq_model.specs.Meaning.{names_at, Binding, Scope, World, sequence, SessionValue}
 use Rattle.lq_model.specs.MeaningLaws.{HoldsRows}
 use Rattle.lq_model.specs.Operators.{call_items, call_meaning}
 use Rattle.lq_model.specs.Terms.{term_meaning, term_type}
 use Rattle.lq_model.specs.Uses.{expression_uses}
 use Rattle.lq_model.specs.UsesOfCalls.{call_uses, term_uses}
 use Rattle.lq_model.specs.WholeMeaning.{expression_meaning, items_meaning}
-use Rattle.lq_model.specs.WholeMeaningLaws.{IsScopeOfValues, IsValueOf}
+use Rattle.lq_model.specs.WholeMeaningLaws.{IsScopeOfValues, IsValueOf, IsSessionOfValues}
 use Rattle.lq_model.specs.declared.calls.Call.{Call}
 use Rattle.lq_model.specs.declared.calls.Term.{Term}
 use Rattle.lq_model.specs.declared.syntax.Expr.{Expr}
@@ -20,8 +20,8 @@ use Rattle.lq_model.specs.declared.syntax.Query.{Query}
 use Rattle.lq_translate.specs.Translated.{translated, translated_query}
 use Rattle.lq_tree.specs.Binding.{call_tree, term_tree, tree_of}
 use Rattle.lq_tree.specs.FormMeaning.{Slots, form_meaning}
-use Rattle.lq_tree.specs.Places.{Place, Places, names_of_places}
-use Rattle.lq_tree.specs.UsesOfForms.{UseNothing, form_uses}
+use Rattle.lq_tree.specs.Places.{Place, Places, names_of_places, SessionPlace}
+use Rattle.lq_tree.specs.UsesOfForms.{UseWhatIsKnown, form_uses}
 use Rattle.lq_tree.specs.declared.tree.Form.{Form}
 use Rattle.lq_tree.specs.declared.tree.Tree.{Tree}
 
@@ -40,6 +40,16 @@ TypesOfCalls =
 
 -- ---- meaning
 
+module _ {R : Type 0} (world : World R) where
+  -- a place stands for a name of the session: its form gives the name's value in any slots
+  abbrev pub Gives : SessionPlace → SessionValue R → Type 0
+  Gives place s = (place.known ≡ s.known) × ((slots : Slots R) → form_meaning world (place.form (length slots)) slots ≡ Ok s.value)
+
+  abbrev pub GivesAll : List SessionPlace → List (SessionValue R) → Type 0
+  GivesAll [] [] = Unit {0}
+  GivesAll (place ∷ places) (s ∷ others) = Gives place s × GivesAll places others
+  GivesAll places others = ⊥
+
 module _ {R : Type 0} (world : World R) (slots : Slots R) where
   -- a place stands for a local name: its form reaches the name's value, whatever stands in further slots
   abbrev pub Reaches : Place → Binding R → Type 0
@@ -52,13 +62,13 @@ module _ {R : Type 0} (world : World R) (slots : Slots R) where
 
   -- the slots are those of the places, and hold what reaches the values of all local names
   abbrev pub Holds : Places → Scope R → Type 0
-  Holds places scope = (length slots ≡ places.depth) × ReachesAll places.locals scope
+  Holds places scope = (length slots ≡ places.depth) × ReachesAll places.locals scope × GivesAll world places.session world.session
 
 -- where the slots hold the local names of a scope, whose values are of their types, a tree means what its term means; and if that is a
 -- value, it is one of the tree's type
 abbrev pub MeaningsOfTrees : Type 0 → Type 0
 MeaningsOfTrees R =
-    (world : World R) → HoldsRows world → (t : Term) (places : Places) (slots : Slots R) (scope : Scope R) → IsScopeOfValues world scope
+    (world : World R) → HoldsRows world → IsSessionOfValues world → (t : Term) (places : Places) (slots : Slots R) (scope : Scope R) → IsScopeOfValues world scope
     → Holds world slots places scope → (tree : Tree) → term_tree world.schemas t places ≡ Some tree
     → (form_meaning world tree.form slots ≡ term_meaning world t scope)
     × ((v : Value R) → form_meaning world tree.form slots ≡ Ok v → IsValueOf world tree.ty v)
@@ -66,7 +76,7 @@ MeaningsOfTrees R =
 -- and the tree of the calls of a query is the sequence of their stream
 abbrev pub MeaningsOfCalls : Type 0 → Type 0
 MeaningsOfCalls R =
-    (world : World R) → HoldsRows world → (c : Call Term) (places : Places) (slots : Slots R) (scope : Scope R) → IsScopeOfValues world scope
+    (world : World R) → HoldsRows world → IsSessionOfValues world → (c : Call Term) (places : Places) (slots : Slots R) (scope : Scope R) → IsScopeOfValues world scope
     → Holds world slots places scope → (tree : Tree) → call_tree world.schemas (term_tree world.schemas) c places ≡ Some tree
     → (form_meaning world tree.form slots ≡ Ok (sequence (call_meaning world term_type (term_meaning world) c scope)))
     × ((v : Value R) → form_meaning world tree.form slots ≡ Ok v → IsValueOf world tree.ty v)
@@ -76,7 +86,7 @@ MeaningsOfCalls R =
 -- an expression that has a type under a scope's names is bound to a tree of that type, which means what the expression means
 abbrev pub BindsExpressions : Type 0 → Type 0
 BindsExpressions R =
-    (world : World R) → HoldsRows world → (e : Expr) (places : Places) (slots : Slots R) (scope : Scope R) → IsScopeOfValues world scope
+    (world : World R) → HoldsRows world → IsSessionOfValues world → (e : Expr) (places : Places) (slots : Slots R) (scope : Scope R) → IsScopeOfValues world scope
     → Holds world slots places scope → (type : Ty) → expression_type e (names_at world scope) ≡ Some type
     → (form : Form) × (term_tree world.schemas (translated e) places ≡ Some (tree_of type form))
     × (form_meaning world form slots ≡ expression_meaning world e scope)
@@ -84,27 +94,27 @@ BindsExpressions R =
 -- and a query whose items have a type is bound to the sequence of its stream
 abbrev pub BindsQueries : Type 0 → Type 0
 BindsQueries R =
-    (world : World R) → HoldsRows world → (q : Query Expr) (places : Places) (slots : Slots R) (scope : Scope R) → IsScopeOfValues world scope
+    (world : World R) → HoldsRows world → IsSessionOfValues world → (q : Query Expr) (places : Places) (slots : Slots R) (scope : Scope R) → IsScopeOfValues world scope
     → Holds world slots places scope → (type : Ty) → query_items expression_type q (names_at world scope) ≡ Some type
     → (form : Form) × (call_tree world.schemas (term_tree world.schemas) (translated_query q) places ≡ Some (tree_of (ty.Seq type) form))
     × (form_meaning world form slots ≡ Ok (sequence (items_meaning world q scope)))
 
 -- ---- uses
 
--- under local names, which use nothing, a tree uses what its term uses, in the same order
+-- under local names, which use nothing, and names of the session, a tree uses what its term uses, in the same order
 abbrev pub UsesOfTrees : Type 0
 UsesOfTrees =
-    (schemas : List Schema) (t : Term) (places : Places) → UseNothing places → (tree : Tree) → term_tree schemas t places ≡ Some tree
+    (schemas : List Schema) (t : Term) (places : Places) → UseWhatIsKnown places → (tree : Tree) → term_tree schemas t places ≡ Some tree
     → form_uses tree.form ≡ term_uses t (names_of_places schemas places)
 
 -- and so does the tree of the calls of a query
 abbrev pub UsesOfCalls : Type 0
 UsesOfCalls =
-    (schemas : List Schema) (c : Call Term) (places : Places) → UseNothing places → (tree : Tree) → call_tree schemas (term_tree schemas) c places ≡ Some tree
+    (schemas : List Schema) (c : Call Term) (places : Places) → UseWhatIsKnown places → (tree : Tree) → call_tree schemas (term_tree schemas) c places ≡ Some tree
     → form_uses tree.form ≡ call_uses term_type term_uses c (names_of_places schemas places)
 
 -- and of whole expressions, through the terms that they are translated to
 abbrev pub UsesOfExpressions : Type 0
 UsesOfExpressions =
-    (schemas : List Schema) (e : Expr) (places : Places) → UseNothing places → (tree : Tree) → term_tree schemas (translated e) places ≡ Some tree
+    (schemas : List Schema) (e : Expr) (places : Places) → UseWhatIsKnown places → (tree : Tree) → term_tree schemas (translated e) places ≡ Some tree
     → form_uses tree.form ≡ expression_uses e (names_of_places schemas places)

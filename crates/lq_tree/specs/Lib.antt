@@ -4,4 +4,6 @@ pub mod FormMeaning
 pub mod Places
 pub mod RowLaws
 pub mod Rows
+pub mod SessionLaws
+pub mod SessionPlaces
 pub mod UsesOfForms

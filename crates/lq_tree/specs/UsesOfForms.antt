@@ -1,6 +1,6 @@
 -- «Uses» of the forms of a typed tree: the tables and columns in it, in the order of the text that it comes from. A group's elements stand
 -- in that text before its key.
-use Rattle.std.specs.Prelude.{◌≡◌, ◌∷◌, ◌++◌, List, [], flat_map}
+use Rattle.std.specs.Prelude.{◌≡◌, ◌∷◌, ◌++◌, List, [], ℕ, flat_map}
 use Rattle.lq_model.specs.MeaningLaws.{Every}
 use Rattle.lq_model.specs.declared.rights.Use.{Use}
 use Rattle.lq_model.specs.declared.rights.Use.TheVariants as of
@@ -44,6 +44,8 @@ form_uses_step (Form-F.GroupBy a key element) = a ++ (element ++ key)
 unfoldable pub form_uses : Form → List Use
 form_uses = fold-Form (List Use) form_uses_step
 
--- places of local names, whose forms use nothing: slots, and parts of what is in them
-abbrev pub UseNothing : Places → Type 0
-UseNothing places = Every (λ place. form_uses place.form ≡ []) places.locals
+-- The forms of local names use nothing, being slots and parts of what is in them; and those of the session's names use what is known of these,
+-- however many slots there are.
+pub record UseWhatIsKnown (places : Places) : Type 0 where
+  pub locals : Every (λ place. form_uses place.form ≡ []) places.locals
+  pub session : Every (λ place. (depth : ℕ) → form_uses (place.form depth) ≡ place.known.uses) places.session

@@ -4,6 +4,7 @@
 
 mod binding_laws;
 pub mod row_laws;
+pub mod session_laws;
 mod tree;
 
 pub use binding_laws::{meanings_of_trees, trees_of_expressions, types_of_trees};

@@ -6,8 +6,8 @@ mod types;
 mod typing;
 
 pub use types::{
-    copy_ty, element_type, has_place, is_bool, is_key, is_number, is_sequence, is_sort_key,
-    is_text, is_within,
+    converts, copy_ty, element_type, has_place, is_bool, is_key, is_number, is_sequence,
+    is_sort_key, is_text, is_within,
 };
 pub use typing::{
     are_join_keys, chosen, coalesced, given_type, is_equality, operated_type, simple_type,

@@ -219,7 +219,7 @@ fn same_members(left: &[(Txt, Ty)], right: &[(Txt, Ty)]) -> bool
 }
 
 /// Whether values of the first type may stand where those of the second do.
-pub(crate) fn converts(from: &Ty, to: &Ty) -> bool
+pub fn converts(from: &Ty, to: &Ty) -> bool
     ensures { result ≡ converts from.now to.now }
 {
     same_types(from, to) || widens(from, to)

@@ -1,6 +1,6 @@
 //! The columns that values of a type show.
 ghost use Rattle.std.specs.Prelude.{◌≡◌, ◌++◌, flat_map, slice_get, OnOk};
-ghost use Rattle.lq_model.specs.Machine.{schemas_of};
+ghost use Rattle.lq_model.specs.States.{schemas_of};
 ghost use Rattle.lq_model.specs.Uses.{all_columns, columns_from, shown_columns};
 
 use lq_policy::Use;

@@ -1,6 +1,6 @@
 //! The uses of typed trees.
 ghost use Rattle.std.specs.Prelude.{◌≡◌, ◌∷◌, ◌++◌, [], flat_map, IfOk, OnOk};
-ghost use Rattle.lq_model.specs.Machine.{schemas_of};
+ghost use Rattle.lq_model.specs.States.{schemas_of};
 ghost use Rattle.lq_tree.specs.UsesOfForms.{form_uses};
 ghost use Rattle.lq_use.specs.Served.{join_uses, uses_served};
 

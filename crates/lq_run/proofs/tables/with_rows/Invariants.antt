@@ -6,9 +6,9 @@ use Rattle.lq_run.proofs.tables.with_rows.Given as goal
 
 abbrev pub invariant-loop-table : goal.invariant-loop-table
 invariant-loop-table l =
-    (schemas_in l.tables.items ≡ map (λ table. table.schema) (take l.table l.fn.store))
+    (schemas_in l.tables.items ≡ map (λ table. table.schema) (take l.table l.fn.state.tables))
     × (rows_in l.tables.items ≡ row_lists (take l.table l.fn.seen))
-    × KeptBelow l.table l.fn.store
+    × KeptBelow l.table l.fn.state.tables
 
 abbrev pub decreases-loop-table : goal.decreases-loop-table
-decreases-loop-table l = length l.fn.store - l.table
+decreases-loop-table l = length l.fn.state.tables - l.table

@@ -1,22 +1,26 @@
 -- The reply to what was read is the reply to the line.
-use Rattle.std.proofs.Common.{◌≡◌, ◌∙◌, List, ℕ, Option, Some, IfOk, ap, subst, rules}
-use Rattle.lq_model.specs.Reading.{IsNoSyntax, IsTooDeep, reading_of}
-use Rattle.lq_syntax.specs.Texts.{said}
+use Rattle.std.proofs.Common.{◌≡◌, rules}
+use Rattle.lq_model.specs.Reading.{IsNoSyntax, IsTooDeep, Nothing, Says, reading_of}
 use Rattle.lq_session.specs.States.{state_of}
-use Rattle.lq_session.proofs.StepLemmas.{read_step}
+use Rattle.lq_session.proofs.StepLemmas.{says_no_syntax, says_nothing, says_statement, says_too_deep}
 use Rattle.lq_session.proofs.session.Session.answer.Goals as goal
 
-pub returns-in-Ok : goal.returns-in-Ok
-returns-in-Ok c =
-    let read : reading_of c.args.line.now ≡ said c.in-Ok.read = search rules in
-    subst (λ (x : Option (List ℕ)). IfOk c.reply_to.result (λ reply. reply ≡ x)) (read_step (state_of c.args.self.now) c.args.line.now _ read) c.reply_to.ensures
+pub returns-in-Ok-None : goal.returns-in-Ok-None
+returns-in-Ok-None c =
+    let read : reading_of c.args.line.now ≡ Nothing = search rules in says_nothing (state_of c.args.self.now) c.args.line.now read
+
+pub returns-in_ok-perform-in-Ok-Some : goal.returns-in_ok-perform-in-Ok-Some
+returns-in_ok-perform-in-Ok-Some c =
+    let read : reading_of c.args.line.now ≡ Says c.in-Ok-Some.statement = search rules in
+    says_statement (state_of c.args.self.now) c.args.line.now c.in-Ok-Some.statement c.in_ok-perform-in-Ok-Some.field-0 (state_of c.perform.new.self) read
+    c.in_ok-perform-in-Ok-Some.ensures
 
 pub returns-in_ok-refusal-in-Err-Syntax : goal.returns-in_ok-refusal-in-Err-Syntax
 returns-in_ok-refusal-in-Err-Syntax c =
     let read : reading_of c.args.line.now ≡ IsNoSyntax = search rules in
-    ap Some c.in_ok-refusal-in-Err-Syntax.ensures ∙ read_step (state_of c.args.self.now) c.args.line.now IsNoSyntax read
+    says_no_syntax (state_of c.args.self.now) c.args.line.now c.in_ok-refusal-in-Err-Syntax.field-0 read c.in_ok-refusal-in-Err-Syntax.ensures
 
 pub returns-in_ok-refusal-in-Err-TooDeep : goal.returns-in_ok-refusal-in-Err-TooDeep
 returns-in_ok-refusal-in-Err-TooDeep c =
     let read : reading_of c.args.line.now ≡ IsTooDeep = search rules in
-    ap Some c.in_ok-refusal-in-Err-TooDeep.ensures ∙ read_step (state_of c.args.self.now) c.args.line.now IsTooDeep read
+    says_too_deep (state_of c.args.self.now) c.args.line.now c.in_ok-refusal-in-Err-TooDeep.field-0 read c.in_ok-refusal-in-Err-TooDeep.ensures

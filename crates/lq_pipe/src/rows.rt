@@ -1,0 +1,59 @@
+//! Rows on which a condition is true.
+ghost use Rattle.std.specs.Prelude.{◌≡◌, IfOk};
+ghost use Rattle.lq_pipe.specs.Conditions.{rows_true};
+ghost use Rattle.lq_pipe.specs.Worlds.{HaveDistinctColumns, schemas_in, world_of};
+
+use crate::running::Running;
+use crate::slots::Slots;
+use crate::tables::{TableRow, TableRows};
+use lq_tree::{Form, Tree};
+use lq_value::{End, Fault, Value};
+use std::alloc::{AllocError, Global};
+
+impl<'a, R: TableRow> Running<'a, R> {
+    ghost use Rattle.std.specs.Prelude.{◌≡◌, IfOk};
+    ghost use Rattle.lq_pipe.specs.Conditions.{holds_on, rows_true};
+    ghost use Rattle.lq_pipe.specs.Worlds.{world_of};
+
+    /// Whether a condition is true on a row, which stands in its first slot.
+    fn holds_on(&self, condition: &Form, row: &R) -> Result<Result<bool, Fault>, AllocError>
+        ensures { IfOk result (λ found. found ≡ holds_on (world_of R.table_of R.shown self.now.tables.now) condition.now row.now) }
+    {
+        self.holds(condition, &Value::Row(*row), &Slots::Empty)
+    }
+
+    /// Those of the rows on which a condition is true, up to its first fault.
+    #[tactic(auto, using(crate::proofs::RowLemmas::keeps_rows))]
+    fn kept_rows(&self, condition: &Form, rows: &[R]) -> Result<(Vec<R>, End), AllocError>
+        ensures { IfOk result (λ found. (found.0.items, found.1)
+            ≡ rows_true (world_of R.table_of R.shown self.now.tables.now) condition.now rows.now) }
+    {
+        let mut found = Vec::new(self.alloc);
+        for row in rows {
+            match self.holds_on(condition, row)? {
+                Ok(true) => found.push(*row)?,
+                Ok(false) => {}
+                Err(fault) => return Ok((found, End::Fault(fault))),
+            }
+        }
+        Ok((found, End::Done))
+    }
+}
+
+/// Those of the rows on which a condition is true, in their order, and how they end (.NET,
+/// `Enumerable.Where`): the first fault that the condition meets is their ending, behind the rows
+/// that were kept before it. The condition's first slot holds the row, and its tables are these.
+/// Refused where no memory was left.
+pub fn rows_where<'a, R: TableRow>(
+    alloc: Global,
+    condition: &Tree,
+    rows: &[R],
+    tables: &'a [TableRows<'a, R>],
+) -> Result<(Vec<R>, End), AllocError>
+    requires { HaveDistinctColumns (schemas_in tables.now) }
+    ensures { IfOk result (λ found. (found.0.items, found.1)
+        ≡ rows_true (world_of R.table_of R.shown tables.now) condition.now.form rows.now) }
+{
+    let running = Running { alloc, tables };
+    running.kept_rows(condition.form.get(), rows)
+}

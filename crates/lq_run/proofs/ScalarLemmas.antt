@@ -1,0 +1,125 @@
+-- The scalar that a tree gives is what the machine evaluates each expression to that is bound to the tree; and so are its faults.
+use Rattle.std.proofs.Common.{◌≡◌, ◌∙◌, ◌++◌, List, [], ℕ, true, Option, Some, None, Result, Ok, Err, ap, sym, refl, subst, codes, true≢false}
+use Rattle.std.proofs.lemmas.Option.{none-some, same_Some}
+use Rattle.lq_value.specs.declared.scalar.Scalar.{Scalar}
+use Rattle.lq_value.specs.declared.ty.Ty.{Ty, out-Ty}
+use Rattle.lq_value.specs.declared.ty.Ty.TheOpen.{Ty-F}
+use Rattle.lq_value.specs.declared.value.Fault.{Fault}
+use Rattle.lq_value.specs.declared.value.Value.{Value, out-Value}
+use Rattle.lq_value.specs.declared.value.Value.TheOpen.{Value-F}
+use Rattle.lq_value.specs.declared.value.Value.TheVariants.{outs-Scalar}
+use Rattle.lq_model.specs.DefinitionLaws.{AreDefined}
+use Rattle.lq_model.specs.MeaningLaws.{IsScalarOf}
+use Rattle.lq_model.specs.Rights.{Denied, denial}
+use Rattle.lq_model.specs.Served.{denied_data, error_data, fault_data, line_of}
+use Rattle.lq_model.specs.States.{State, names_in, schemas_of, world_in}
+use Rattle.lq_model.specs.Statements.{Outcome, allowed_by, refused, with_scalar, with_value}
+use Rattle.lq_model.specs.Uses.{expression_uses}
+use Rattle.lq_model.specs.Visible.{TableRow}
+use Rattle.lq_model.specs.WholeMeaning.{expression_meaning}
+use Rattle.lq_model.specs.declared.rights.Use.{Use}
+use Rattle.lq_model.specs.declared.syntax.Expr.{Expr}
+use Rattle.lq_model.proofs.ValuesOfTypes.{is_plain, plain_value}
+use Rattle.lq_tree.specs.FormMeaning.{form_meaning}
+use Rattle.lq_tree.specs.Rows.{mapped, result_map}
+use Rattle.lq_tree.specs.UsesOfForms.{form_uses}
+use Rattle.lq_tree.specs.declared.tree.Tree.{Tree}
+use Rattle.lq_tree.proofs.MappedValues.{mapped_layer, mapped_out}
+use Rattle.lq_tree.proofs.RowForms.{means_alike}
+use Rattle.lq_tree.proofs.Scopes.{append_none}
+use Rattle.lq_tree.proofs.SessionPlaceLemmas.{uses_of_statements}
+use Rattle.lq_pipe.specs.declared.tables.TableRows.{TableRows}
+use Rattle.lq_run.specs.SeenRows.{AreSeen, shown_row}
+use Rattle.lq_run.specs.Statements.{EvaluatesTree, IsEvaluated, TellsDenial, Yields, YieldsTree, is_of_scalars, scalar_in, tree_in}
+use Rattle.lq_run.specs.declared.scalars.Evaluated.{Evaluated}
+use Rattle.lq_run.specs.declared.scalars.Evaluated.TheVariants as answer
+use Rattle.lq_run.specs.declared.seen.SeenRow.{SeenRow}
+use Rattle.lq_run.proofs.WorldLemmas.{over, read, tree_means, tree_values, world}
+
+-- these types have no other values
+scalar_plain : (layer : Ty-F Ty) → is_of_scalars layer ≡ true → is_plain layer ≡ true
+scalar_plain Ty-F.Int h = refl
+scalar_plain Ty-F.IntN h = refl
+scalar_plain Ty-F.Bool h = refl
+scalar_plain Ty-F.Str h = refl
+scalar_plain Ty-F.Null h = refl
+scalar_plain layer h = absurd (true≢false (sym h))
+
+-- the layer of a value that is this scalar
+scalar_layer : {R : Type 0} (layer : Value-F R (Value R)) (scalar : Scalar) → Some scalar ≡ scalar_in layer → layer ≡ Value-F.Scalar scalar
+scalar_layer (Value-F.Scalar found) scalar is = ap Value-F.Scalar (sym (same_Some scalar found is))
+scalar_layer layer scalar is = absurd (none-some scalar (sym is))
+
+module _ (s : State) where
+  -- no other value is stored
+  other_layer : (next : Scalar → Outcome) (layer : Value-F SeenRow (Value SeenRow)) → None ≡ scalar_in layer
+      → with_scalar s next (mapped_layer shown_row layer) ≡ refused s (codes "type")
+  other_layer next (Value-F.Scalar found) is = absurd (none-some found is)
+  other_layer next (Value-F.Row r) is = refl
+  other_layer next (Value-F.Rec members) is = refl
+  other_layer next (Value-F.Group key items) is = refl
+  other_layer next (Value-F.Seq items e) is = refl
+
+  module _ (tables : List (TableRows SeenRow)) (seen : AreSeen s tables) (tree : Tree) where
+    -- what the tree means over the rows that are read, the expression means to the machine
+    expression_means : (e : Expr) → tree_in s e ≡ Some tree → (m : Result (Value SeenRow) Fault) → form_meaning (read s tables seen) tree.form [] ≡ m
+        → expression_meaning (world_in s) e [] ≡ result_map (mapped shown_row) m
+    expression_means e is m found =
+        sym (tree_means s seen.kept seen.defined e tree is) ∙ means_alike shown_row (read s tables seen) (world s) (over s tables seen) tree.form []
+        ∙ ap (result_map (mapped shown_row)) found
+
+    pub yields_fault : (f : Fault) (line : List ℕ) → form_meaning (read s tables seen) tree.form [] ≡ Err f → line ≡ line_of (fault_data f)
+        → YieldsTree s tree (answer.Told line)
+    yields_fault f line found so e is = (fault_data f, λ next. ap (with_value s next) (expression_means e is (Err f) found), so)
+
+    pub yields_other : (v : Value SeenRow) (line : List ℕ) → form_meaning (read s tables seen) tree.form [] ≡ Ok v → None ≡ scalar_in (out-Value SeenRow v)
+        → line ≡ line_of (error_data (codes "type")) → YieldsTree s tree (answer.Told line)
+    yields_other v line found none so e is = (
+      error_data (codes "type"),
+      λ next. ap (with_value s next) (expression_means e is (Ok v) found) ∙ ap (with_scalar s next) (mapped_out shown_row v)
+          ∙ other_layer next (out-Value SeenRow v) none,
+      so,
+    )
+
+    pub yields_scalar : is_of_scalars (out-Ty tree.ty) ≡ true → (v : Value SeenRow) (scalar : Scalar) → form_meaning (read s tables seen) tree.form [] ≡ Ok v
+        → Some scalar ≡ scalar_in (out-Value SeenRow v) → YieldsTree s tree (answer.Value scalar)
+    yields_scalar typed v scalar found there e is =
+        let layer : out-Value TableRow (mapped shown_row v) ≡ Value-F.Scalar scalar =
+        mapped_out shown_row v ∙ ap (mapped_layer shown_row) (scalar_layer (out-Value SeenRow v) scalar there) in
+        let means = expression_means e is (Ok v) found in
+        let plain =
+        plain_value (world s) tree.ty (mapped shown_row v) (scalar_plain (out-Ty tree.ty) typed)
+        (tree_values s seen.kept seen.defined e tree is (mapped shown_row v) (tree_means s seen.kept seen.defined e tree is ∙ means)) in
+        let other : out-Value TableRow (mapped shown_row v) ≡ Value-F.Scalar plain.0 = ap (out-Value TableRow) plain.1 ∙ outs-Scalar plain.0 in
+        let same : plain.0 ≡ scalar = cc in (
+          λ next. ap (with_value s next) means ∙ ap (with_scalar s next) layer,
+          subst (λ (found : Scalar). IsScalarOf (out-Ty tree.ty) found) same plain.2,
+        )
+
+  module _ (defined : AreDefined (schemas_of s.tables) s.definitions) (tree : Tree) (used : List Use) (uses : used ≡ form_uses tree.form ++ []) where
+    -- what is denied of an expression is what is denied of its tree
+    denied_same : (e : Expr) → tree_in s e ≡ Some tree → denial s.policies s.role used ≡ denial s.policies s.role (expression_uses e (names_in s))
+    denied_same e is =
+        ap (denial s.policies s.role) (uses ∙ append_none (form_uses tree.form) ∙ uses_of_statements (schemas_of s.tables) s.definitions defined e tree is)
+
+    pub denied_evaluated : (line : List ℕ) → TellsDenial s used (Some line) → EvaluatesTree s tree (answer.Told line)
+    denied_evaluated line told e is = (
+      denied_data (schemas_of s.tables) told.0.rule told.0.used,
+      λ next. ap (λ (o : Option Denied). allowed_by s o (with_value s next (expression_meaning (world_in s) e []))) (sym (denied_same e is) ∙ told.1),
+      told.2,
+    )
+
+    allowed : (e : Expr) (t : Ty) (found : Evaluated) → denial s.policies s.role (expression_uses e (names_in s)) ≡ None
+        → Yields s (expression_meaning (world_in s) e []) t found → IsEvaluated s e t found
+    allowed e t (answer.Value v) none yields = (
+      λ next. ap (λ (o : Option Denied). allowed_by s o (with_value s next (expression_meaning (world_in s) e []))) none ∙ yields.0 next,
+      yields.1,
+    )
+    allowed e t (answer.Told line) none yields = (
+      yields.0,
+      λ next. ap (λ (o : Option Denied). allowed_by s o (with_value s next (expression_meaning (world_in s) e []))) none ∙ yields.1 next,
+      yields.2,
+    )
+
+    pub allowed_evaluated : (found : Evaluated) → TellsDenial s used None → YieldsTree s tree found → EvaluatesTree s tree found
+    allowed_evaluated found none yields e is = allowed e tree.ty found (sym (denied_same e is) ∙ none) (yields e is)

@@ -1,0 +1,25 @@
+-- What is served of the tree over the rows that the role sees is the machine's reply.
+use Rattle.std.proofs.Common.{◌≡◌, ◌∙◌, List, ap, subst, sym}
+use Rattle.std.proofs.lemmas.Result.{IfOk-weaker}
+use Rattle.lq_value.specs.Tables.{Table}
+use Rattle.lq_model.specs.States.{schemas_of}
+use Rattle.lq_model.specs.Served.{line_of}
+use Rattle.lq_pipe.specs.Worlds.{world_of}
+use Rattle.lq_pipe.specs.declared.tables.TableRows.{TableRows}
+use Rattle.lq_run.specs.Replies.{ServesTree}
+use Rattle.lq_run.specs.SeenRows.{AreSeen, cells_in, number_in}
+use Rattle.lq_run.specs.TreeReply.{tree_data}
+use Rattle.lq_run.specs.declared.seen.SeenRow.{SeenRow}
+use Rattle.lq_run.proofs.ReplyLemmas.{serves_tree}
+use Rattle.lq_run.proofs.run.seen_line.Goals as goal
+
+pub returns : goal.returns
+returns c =
+    let tables = c.as_slice-2.result.now in
+    let seen = subst (λ (ts : List (TableRows SeenRow)). AreSeen c.args.state.now ts) (sym c.as_slice-2.ensures.value) c.in_ok-tables.ensures.seen in
+    IfOk-weaker c.tree_line.result
+    (λ line. line ≡ line_of (tree_data cells_in (schemas_of c.store.result.now) (world_of number_in cells_in tables) c.args.tree.now))
+    (ServesTree c.args.state.now c.args.tree.now)
+    (λ line so. serves_tree c.args.state.now tables seen c.args.tree.now line
+    (so ∙ ap (λ (given : List Table). line_of (tree_data cells_in (schemas_of given) (world_of number_in cells_in tables) c.args.tree.now)) c.store.ensures.value))
+    c.tree_line.ensures

@@ -1,0 +1,25 @@
+-- What the tree gives over the rows that the role sees is what the machine makes of the expression.
+use Rattle.std.proofs.Common.{List, subst, sym}
+use Rattle.lq_pipe.specs.declared.tables.TableRows.{TableRows}
+use Rattle.lq_run.specs.SeenRows.{AreSeen}
+use Rattle.lq_run.specs.declared.seen.SeenRow.{SeenRow}
+use Rattle.lq_run.proofs.ScalarLemmas.{yields_fault, yields_other, yields_scalar}
+use Rattle.lq_run.proofs.scalars.evaluate_seen.Goals as goal
+
+pub returns-in-Some : goal.returns-in-Some
+returns-in-Some c =
+    let seen = subst (λ (ts : List (TableRows SeenRow)). AreSeen c.args.state.now ts) (sym c.as_slice-2.ensures.value) c.in_ok-tables.ensures.seen in
+    yields_scalar c.args.state.now c.as_slice-2.result.now seen c.args.tree.now c.requires c.in-Ok.found c.in-Some.scalar c.in-Ok.ensures c.in-Some.ensures
+
+pub returns-in-Ok : goal.returns-in-Ok
+returns-in-Ok c =
+    let seen = subst (λ (ts : List (TableRows SeenRow)). AreSeen c.args.state.now ts) (sym c.as_slice-2.ensures.value) c.in_ok-tables.ensures.seen in
+    yields_other c.args.state.now c.as_slice-2.result.now seen c.args.tree.now c.in-Ok.found c.in_ok-refusal-in-None.field-0 c.in-Ok.ensures c.in-None.ensures
+    c.in_ok-refusal-in-None.ensures
+
+pub returns-in-Err-Fault : goal.returns-in-Err-Fault
+returns-in-Err-Fault c =
+    let seen = subst (λ (ts : List (TableRows SeenRow)). AreSeen c.args.state.now ts) (sym c.as_slice-2.ensures.value) c.in_ok-tables.ensures.seen in
+    let found = rw c.in-Err-Fault.field-0-is at c.in-Err-Fault.ensures in
+    yields_fault c.args.state.now c.as_slice-2.result.now seen c.args.tree.now c.in-Err-Fault.fault c.in_ok-fault_line-in-Err-Fault.field-0 found
+    c.in_ok-fault_line-in-Err-Fault.ensures

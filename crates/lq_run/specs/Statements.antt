@@ -1,0 +1,89 @@
+-- What is told of the parts of statements in a state: the trees of their expressions, denials, scalars, and the rows that are removed.
+use Rattle.std.specs.Prelude.{◌≡◌, List, [], map, ℕ, Bool, true, false, Option, Some, None, Result, IfOk, Vec, slice_get}
+use Rattle.std.specs.declared.alloc.AllocError.{AllocError}
+use Rattle.std.specs.declared.alloc.Global.{Global}
+use Rattle.serde_json.specs.Data.{Data}
+use Rattle.lq_value.specs.Tables.{Table}
+use Rattle.lq_value.specs.declared.scalar.Scalar.{Scalar}
+use Rattle.lq_value.specs.declared.ty.Ty.{Ty, out-Ty}
+use Rattle.lq_value.specs.declared.ty.Ty.TheOpen.{Ty-F}
+use Rattle.lq_value.specs.declared.ty.Ty.TheVariants as ty
+use Rattle.lq_value.specs.declared.value.End.{End}
+use Rattle.lq_value.specs.declared.value.Fault.{Fault}
+use Rattle.lq_value.specs.declared.value.Value.{Value}
+use Rattle.lq_value.specs.declared.value.Value.TheOpen.{Value-F}
+use Rattle.lq_model.specs.MeaningLaws.{IsScalarOf}
+use Rattle.lq_model.specs.Rights.{Denied, denial}
+use Rattle.lq_model.specs.Served.{denied_data, line_of}
+use Rattle.lq_model.specs.States.{State, schemas_of, world_in}
+use Rattle.lq_model.specs.Statements.{Outcome, chosen, evaluated, with_value}
+use Rattle.lq_model.specs.Stream.{Stream}
+use Rattle.lq_model.specs.Visible.{TableRow}
+use Rattle.lq_model.specs.WholeMeaning.{expression_meaning}
+use Rattle.lq_model.specs.declared.rights.Use.{Use}
+use Rattle.lq_model.specs.declared.syntax.Expr.{Expr}
+use Rattle.lq_bind.specs.Outcomes.{IsBound}
+use Rattle.lq_bind.specs.declared.error.BindError.{BindError}
+use Rattle.lq_translate.specs.Translated.{translated}
+use Rattle.lq_tree.specs.Binding.{term_tree}
+use Rattle.lq_tree.specs.Places.{with_name}
+use Rattle.lq_tree.specs.SessionPlaces.{statement_places}
+use Rattle.lq_tree.specs.declared.tree.Tree.{Tree}
+use Rattle.lq_run.specs.declared.scalars.Evaluated.{Evaluated}
+use Rattle.lq_run.specs.declared.scalars.Evaluated.TheVariants as answer
+
+-- the tree of an expression of a statement
+abbrev pub tree_in : State → Expr → Option Tree
+tree_in s e = term_tree (schemas_of s.tables) (translated e) (statement_places (schemas_of s.tables) s.definitions)
+
+-- and that of a condition on a row of the table with this number, under the row's name
+abbrev pub condition_in : State → List ℕ → ℕ → Expr → Option Tree
+condition_in s x n e = term_tree (schemas_of s.tables) (translated e) (with_name (statement_places (schemas_of s.tables) s.definitions) x (ty.Row n))
+
+-- what was bound, memory aside: a tree, or none where there is no type
+abbrev pub FindsTree : Result Tree BindError → Result (Option Tree) AllocError → Type 0
+FindsTree bound found = (tree : Option Tree) → IsBound false tree bound → IfOk found (λ o. o ≡ tree)
+
+-- the line of the first of some uses that is denied, if one is
+abbrev pub TellsDenial : State → List Use → Option (List ℕ) → Type 0
+TellsDenial s uses None = denial s.policies s.role uses ≡ None
+TellsDenial s uses (Some line) =
+    (d : Denied) × (denial s.policies s.role uses ≡ Some d) × (line ≡ line_of (denied_data (schemas_of s.tables) d.rule d.used))
+
+-- types of scalars alone, and that of null
+abbrev pub is_of_scalars : Ty-F Ty → Bool
+is_of_scalars Ty-F.Int = true
+is_of_scalars Ty-F.IntN = true
+is_of_scalars Ty-F.Bool = true
+is_of_scalars Ty-F.Str = true
+is_of_scalars Ty-F.Null = true
+is_of_scalars layer = false
+
+-- an expression of this type is evaluated to a scalar of it, with which whatever is done with it goes on; or this line is told in its place
+abbrev pub IsEvaluated : State → Expr → Ty → Evaluated → Type 0
+IsEvaluated s e t (answer.Value v) = ((next : Scalar → Outcome) → evaluated s e next ≡ next v) × IsScalarOf (out-Ty t) v
+IsEvaluated s e t (answer.Told line) = (d : Data) × ((next : Scalar → Outcome) → evaluated s e next ≡ (d, s)) × (line ≡ line_of d)
+
+-- what is done with what an expression means that isn't denied: the scalar that it is, of this type, or the line of a fault
+abbrev pub Yields : State → Result (Value TableRow) Fault → Ty → Evaluated → Type 0
+Yields s meant t (answer.Value v) = ((next : Scalar → Outcome) → with_value s next meant ≡ next v) × IsScalarOf (out-Ty t) v
+Yields s meant t (answer.Told line) = (d : Data) × ((next : Scalar → Outcome) → with_value s next meant ≡ (d, s)) × (line ≡ line_of d)
+
+-- and so for each expression of this tree
+abbrev pub YieldsTree : State → Tree → Evaluated → Type 0
+YieldsTree s tree found = (e : Expr) → tree_in s e ≡ Some tree → Yields s (expression_meaning (world_in s) e []) tree.ty found
+
+-- the scalar that a value is
+abbrev pub scalar_in : {R : Type 0} → Value-F R (Value R) → Option Scalar
+scalar_in (Value-F.Scalar s) = Some s
+scalar_in layer = None
+
+-- each expression of this tree is evaluated so
+abbrev pub EvaluatesTree : State → Tree → Evaluated → Type 0
+EvaluatesTree s tree found = (e : Expr) → tree_in s e ≡ Some tree → IsEvaluated s e tree.ty found
+
+-- these are the numbers of the rows on which a condition of this tree is true, up to its first fault
+abbrev pub ChoosesRows : State → ℕ → Tree → Vec ℕ Global × End → Type 0
+ChoosesRows s n tree found =
+    (x : List ℕ) (e : Expr) (table : Table) → slice_get s.tables n ≡ Some table → condition_in s x n e ≡ Some tree
+    → let rows : Stream TableRow = chosen s x e n table.rows in (found.0.items ≡ map (λ r. r.row.number) rows.0) × (found.1 ≡ rows.1)

@@ -1,0 +1,64 @@
+-- Conditions on the rows of a table: the tree of one has its type, and uses what it uses.
+use Rattle.std.proofs.Common.{◌≡◌, ◌∙◌, ◌∷◌, ◌++◌, List, [], ℕ, Bool, false, Option, Some, None, ap, option_map, subst, sym}
+use Rattle.lq_value.specs.declared.ty.Ty.{Ty, out-Ty}
+use Rattle.lq_value.specs.declared.ty.Ty.TheVariants as ty
+use Rattle.lq_model.specs.ClauseTyping.{expression_type}
+use Rattle.lq_model.specs.DefinitionLaws.{AreDefined}
+use Rattle.lq_model.specs.Operators.{One}
+use Rattle.lq_model.specs.States.{State, names_in, schemas_of}
+use Rattle.lq_model.specs.Typing.{Names, is_bool, is_bool_type, with_local}
+use Rattle.lq_model.specs.Uses.{expression_uses}
+use Rattle.lq_model.specs.declared.rights.Use.{Use}
+use Rattle.lq_model.specs.declared.rights.Use.TheVariants as used
+use Rattle.lq_model.specs.declared.syntax.Expr.{Expr}
+use Rattle.lq_translate.specs.Translated.{translated}
+use Rattle.lq_translate.proofs.Alike.{terms_typed}
+use Rattle.lq_tree.specs.Places.{Places, names_of_places, with_name}
+use Rattle.lq_tree.specs.SessionPlaces.{statement_places}
+use Rattle.lq_tree.specs.UsesOfForms.{form_uses}
+use Rattle.lq_tree.specs.declared.tree.Tree.{Tree}
+use Rattle.lq_tree.proofs.NodeUses.{item_unused}
+use Rattle.lq_tree.proofs.Scopes.{append_none}
+use Rattle.lq_tree.proofs.SessionPlaceLemmas.{places_use, statement_names}
+use Rattle.lq_tree.proofs.TermTypes.{types_same}
+use Rattle.lq_tree.proofs.TermUses.{expression_uses_same}
+use Rattle.lq_run.specs.Statements.{TellsDenial, condition_in}
+
+module _ (s : State) (x : List ℕ) (n : ℕ) (e : Expr) where
+  abbrev outside : Places
+  outside = statement_places (schemas_of s.tables) s.definitions
+
+  names_there : names_of_places (schemas_of s.tables) (with_name outside x (ty.Row n)) ≡ with_local (names_in s) x (ty.Row n)
+  names_there = ap (λ (names : Names). with_local names x (ty.Row n)) (statement_names (schemas_of s.tables) s.definitions)
+
+  -- there is a tree exactly where the condition has a type, which is the tree's
+  pub condition_type : option_map (λ tree. tree.ty) (condition_in s x n e) ≡ expression_type e (with_local (names_in s) x (ty.Row n))
+  condition_type =
+      types_same (schemas_of s.tables) (translated e) (with_name outside x (ty.Row n))
+      ∙ terms_typed e (names_of_places (schemas_of s.tables) (with_name outside x (ty.Row n))) ∙ ap (expression_type e) names_there
+
+  -- and the tree uses what the condition uses
+  pub condition_uses : AreDefined (schemas_of s.tables) s.definitions → (tree : Tree) → condition_in s x n e ≡ Some tree
+      → form_uses tree.form ≡ expression_uses e (with_local (names_in s) x (ty.Row n))
+  condition_uses defined tree is =
+      expression_uses_same (schemas_of s.tables) e (with_name outside x (ty.Row n))
+      (item_unused outside (One x (ty.Row n)) (places_use (schemas_of s.tables) s.definitions defined)) tree is
+      ∙ ap (expression_uses e) names_there
+
+  -- so it is a truth value where the tree is one
+  pub condition_is : (tree : Tree) → condition_in s x n e ≡ Some tree → (b answer : Bool) (t : Ty) → t ≡ tree.ty → b ≡ is_bool (out-Ty t) → b ≡ answer
+      → is_bool_type (expression_type e (with_local (names_in s) x (ty.Row n))) ≡ answer
+  condition_is tree is b answer t at tells so =
+      ap is_bool_type (sym condition_type ∙ ap (option_map (λ (found : Tree). found.ty)) is) ∙ ap (λ (u : Ty). is_bool (out-Ty u)) (sym at) ∙ sym tells ∙ so
+
+  pub no_condition_type : condition_in s x n e ≡ None → is_bool_type (expression_type e (with_local (names_in s) x (ty.Row n))) ≡ false
+  no_condition_type none = ap is_bool_type (sym condition_type ∙ ap (option_map (λ (found : Tree). found.ty)) none)
+
+-- what is denied of the removal and of what the tree uses is what is denied of the statement
+pub tells_same : (s : State) → AreDefined (schemas_of s.tables) s.definitions → (n : ℕ) (tree : Tree) (uses : List Use)
+    → uses ≡ used.Delete n ∷ (form_uses tree.form ++ []) → (told : Option (List ℕ)) → TellsDenial s uses told
+    → (x : List ℕ) (e : Expr) → condition_in s x n e ≡ Some tree
+    → TellsDenial s (used.Delete n ∷ expression_uses e (with_local (names_in s) x (ty.Row n))) told
+tells_same s defined n tree uses are told tells x e is =
+    subst (λ (us : List Use). TellsDenial s us told)
+    (are ∙ ap (λ (us : List Use). used.Delete n ∷ us) (append_none (form_uses tree.form) ∙ condition_uses s x n e defined tree is)) tells

@@ -1,0 +1,37 @@
+//! Laws of the places of a session's names. Each function's contract is the law that it is named for;
+//! the functions themselves do nothing.
+ghost use Rattle.lq_tree.specs.SessionLaws.{MeaningsOfStatements, PlacesAreKnown, PlacesGive, PlacesUse, ReadsNoSession};
+ghost use Rattle.lq_tree.specs.SessionLaws.{TypesOfStatements, UsesOfStatements};
+
+/// The places of a session's names are those of what is known of its definitions: names, types and
+/// uses.
+pub fn places_are_known()
+    ensures { PlacesAreKnown }
+{}
+
+/// Where each named query has a type, the form of a name uses what the name is known to use, however
+/// many slots are in use where it is opened.
+pub fn places_use()
+    ensures { PlacesUse }
+{}
+
+/// Where tables have their rows, the form of a name gives its value, whatever the slots hold: that of
+/// a variable, and the stream of a named query over the rows of the moment.
+pub fn places_give<R>()
+    ensures { PlacesGive R }
+{}
+
+/// What a tree means doesn't depend on what the names of the session stand for, as the names in it are
+/// resolved.
+pub fn reads_no_session<R>()
+    ensures { ReadsNoSession R }
+{}
+
+/// So an expression of a statement is bound to a tree exactly where it has a type among the names of
+/// the session, which is the tree's; the tree means, over the tables alone, what the expression means
+/// where the names stand for what was defined, and it uses the same.
+pub fn trees_of_statements<R>()
+    ensures types { TypesOfStatements }
+    ensures meanings { MeaningsOfStatements R }
+    ensures uses { UsesOfStatements }
+{}
