@@ -1,6 +1,7 @@
 pub mod ConditionLemmas
 pub mod DeletionLemmas
 pub mod InsertLemmas
+pub mod LengthLemmas
 pub mod OpeningLemmas
 pub mod Outcomes
 pub mod StepLemmas

@@ -4,10 +4,10 @@ ghost use Rattle.std.specs.Option.{option_copied};
 ghost use Rattle.lq_model.specs.Definitions.{definition_of};
 ghost use Rattle.lq_model.specs.Opening.{is_past_opening, opened_as, opened_behind, opened_named, opening, opening_of};
 ghost use Rattle.lq_model.specs.Tokens.{text_of};
-ghost use Rattle.lq_session.specs.Openings.{opened_with, within_limits};
+ghost use Rattle.lq_session.specs.Openings.{OpensFor, keeps_opened, opened_with, within_limits};
 
 use lq_lex::{LexError, tokens};
-use lq_model::{Defined, Definition, Kind, Opened, Token};
+use lq_model::{Defined, Definition, Kind, Opened, Statement, Token};
 use lq_syntax::bytes_of;
 use std::alloc::{AllocError, Global};
 
@@ -125,7 +125,7 @@ fn opening_of_tokens(line: &[u8], definitions: &[Definition], tokens: &[Token]) 
 /// among the line's tokens, but not behind a `.`. None where its tokens are more than 65,536
 /// together with those of all that it opens, or more than 8 named queries stand one in the other.
 #[tactic(auto, unfolding(lq_model::specs::Opening::opening_of, lq_model::specs::Tokens::tokens_of))]
-pub(crate) fn opening(
+fn opening(
     alloc: Global,
     line: &str,
     definitions: &[Definition],
@@ -137,4 +137,29 @@ pub(crate) fn opening(
         Err(LexError::Lexical | LexError::TooLong) => Ok(Some(Opened { size: 0, rank: 0 })),
         Err(LexError::Memory) => Err(AllocError),
     }
+}
+
+/// Whether a statement keeps what it opens, for those that name it later.
+fn keeps_opened(statement: &Statement) -> bool
+    ensures { result ≡ keeps_opened statement.now }
+{
+    matches!(statement, Statement::Define(_, _))
+}
+
+/// What this statement on a line opens, as far as the statement tells it from another that is within the limits. None where that
+/// is past a limit.
+pub(crate) fn opening_for(
+    alloc: Global,
+    statement: &Statement,
+    line: &str,
+    definitions: &[Definition],
+) -> Result<Option<Opened>, AllocError>
+    ensures { IfOk result (OpensFor definitions.now line.now statement.now) }
+{
+    // Where nothing is defined a statement opens nothing, and a line has no more tokens than a statement may have. So they are
+    // counted only for one that is kept.
+    if definitions.is_empty() && !keeps_opened(statement) {
+        return Ok(Some(Opened { size: 0, rank: 0 }));
+    }
+    opening(alloc, line, definitions)
 }

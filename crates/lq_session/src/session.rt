@@ -1,7 +1,7 @@
 //! The session and its step.
 ghost use Rattle.lq_policy.specs.Roles.{number_of};
 
-use crate::opening::opening;
+use crate::opening::opening_for;
 use crate::statements::perform;
 use lq_json::Line;
 use lq_lex::is_blank;
@@ -82,7 +82,7 @@ impl Session {
         ensures { Performs (perform_opened (state_of self.old) (opening_of (state_of self.old).definitions line.now) statement)
             (state_of self.old) result (state_of self.new) }
     {
-        match opening(self.alloc, line, self.state.definitions())? {
+        match opening_for(self.alloc, &statement, line, self.state.definitions())? {
             Some(opened) => perform(self.alloc, statement, opened, &mut self.state),
             None => self.refusal("too-deep"),
         }

@@ -6,7 +6,7 @@ ghost use Rattle.lq_store.specs.Rules.{keeps_rules};
 use lq_model::{Policy, PolicyParts, RightRule, Role, TablePart, Use};
 use lq_policy::{Action, Policies, rules_are_total};
 use lq_session::{Line, Session};
-use lq_store::{Column, ColumnType, Schema, Store, Table};
+use lq_store::{Column, ColumnType, Row, Schema, Store, Table};
 use lq_syntax::parse_rule;
 use lq_value::{List, Scalar, Txt};
 use std::alloc::{AllocError, Global};
@@ -255,6 +255,12 @@ fn the_memory_line_is_a_refusal(rt: HostRuntime) {
     assert!(rt; line.bytes() == b"{\"error\":\"memory\"}\n".as_slice());
 }
 
+// The rows of the one table of a session.
+fn rows_of<'s>(rt: &impl Abort, session: &'s Session) -> &'s [Row] {
+    assert!(rt; session.store().len() == 1);
+    session.store().rows(0)
+}
+
 // A session over an empty table t whose first row has the last number.
 fn nearly_full(rt: &impl Abort, alloc: Global) -> Result<Session, AllocError> {
     let mut store = Store::new(alloc);
@@ -284,7 +290,7 @@ fn a_full_table_takes_no_row(rt: HostRuntime) -> Result<(), Fail> {
         "{\"deleted\":1}\n",
     );
     assert_reply(&rt, &mut session, "insert t (9);", "{\"error\":\"full\"}\n");
-    assert!(rt; session.store().rows(0).is_empty());
+    assert!(rt; rows_of(&rt, &session).is_empty());
     Ok(())
 }
 
@@ -300,7 +306,7 @@ fn a_session_shows_its_tables_as_they_are(rt: HostRuntime) -> Result<(), Fail> {
         "{\"deleted\":1}\n",
     );
     assert_reply(&rt, &mut session, "insert t (5);", "{\"inserted\":1}\n");
-    let rows = session.store().rows(0);
+    let rows = rows_of(&rt, &session);
     assert!(rt; rows.len() == 3);
     for (row, number) in rows.iter().zip([1u64, 3, 4].iter()) {
         assert!(rt; row.number == *number);

@@ -2,7 +2,7 @@
 ghost use Rattle.std.specs.Prelude.{◌≡◌, ◌≤◌, true, IfOk};
 ghost use Rattle.lq_store.specs.Rules.{keeps_rules};
 
-use lq_store::{Column, ColumnType, Schema, Store, StoreError, Table};
+use lq_store::{Column, ColumnType, Row, Schema, Store, StoreError, Table};
 use lq_value::{List, Scalar, Txt};
 use std::alloc::{AllocError, Global};
 use std::process::Abort;
@@ -132,6 +132,18 @@ fn two_tables(rt: &impl Abort, alloc: Global) -> Result<Store, AllocError> {
     Ok(store)
 }
 
+// The rows of a table that a store has.
+fn rows_of<'s>(rt: &impl Abort, store: &'s Store, t: u16) -> &'s [Row] {
+    assert!(rt; (t as usize) < store.len());
+    store.rows(t)
+}
+
+// How many rows are removed from a table that a store has.
+fn removed(rt: &impl Abort, store: &mut Store, t: u16, numbers: &[u64]) -> u64 {
+    assert!(rt; (t as usize) < store.len());
+    store.delete_rows(t, numbers)
+}
+
 #[test]
 fn rows_are_put_into_a_table_of_a_store(rt: HostRuntime) -> Result<(), Fail> {
     let alloc = rt.alloc();
@@ -147,7 +159,8 @@ fn rows_are_put_into_a_table_of_a_store(rt: HostRuntime) -> Result<(), Fail> {
     assert!(rt; store.insert(1, last).ok() == Some(u64::MAX));
     let cells = one_cell(alloc, Scalar::Int(1))?;
     assert_refused(&rt, store.insert(1, cells), StoreError::Full, 1);
-    assert!(rt; store.rows(0).len() == 3 && store.rows(1).len() == 1);
+    assert!(rt; rows_of(&rt, &store, 0).len() == 3);
+    assert!(rt; rows_of(&rt, &store, 1).len() == 1);
     Ok(())
 }
 
@@ -162,9 +175,10 @@ fn rows_of_some_numbers_are_removed(rt: HostRuntime) -> Result<(), Fail> {
         (&[], 0, &[1, 2, 3]),
     ] {
         let mut store = two_tables(&rt, alloc)?;
-        assert!(rt; store.delete_rows(0, numbers) == *gone);
-        assert!(rt; store.rows(0).len() == left.len());
-        for (row, number) in store.rows(0).iter().zip(left.iter()) {
+        assert!(rt; removed(&rt, &mut store, 0, numbers) == *gone);
+        let rows = rows_of(&rt, &store, 0);
+        assert!(rt; rows.len() == left.len());
+        for (row, number) in rows.iter().zip(left.iter()) {
             assert!(rt; row.number == *number);
         }
         // (no number is used again)

@@ -1,14 +1,10 @@
--- What tables and stores keep as rows and tables join them and rows leave, and how numbers are searched.
+-- What tables and stores keep as rows and tables join them and rows leave.
 use Rattle.std.proofs.Common.{◌≡◌, ◌<◌, ◌+◌, ℕ, Bool, true, false, ◌&&◌, ◌||◌, not, List, [], ◌∷◌, ◌++◌, length, map, refl, arith, nat_eq, Some, None, if◌then◌else◌, ◌==◌, ◌^◌, ◌≤◌, cond, set, ap, sym, ◌∙◌, length-set, eq-eqb, ne_eqb, get_or}
 use Rattle.std.specs.Prelude.{is_some, filter, slice_get, Result, Ok, Err}
-use Rattle.std.specs.Result.{is_ok}
-use Rattle.std.specs.Ordering.{nat_cmp}
-use Rattle.std.specs.List.Sorted.{IsBinarySearchResult, IsNonDecreasing}
 use Rattle.std.specs.List.{list_all, list_any, position_from}
 use Rattle.std.specs.Cmp.Lexicographic.{pointwise}
 use Rattle.std.proofs.lemmas.List.Folds.{list_all-append, list_any-append, list_any_at, list_any_none}
 use Rattle.std.proofs.lemmas.List.Filters.{length-filter_both}
-use Rattle.std.proofs.lemmas.List.Sorted.{searched}
 use Rattle.std.proofs.lemmas.List.{get_or_default, length-append, map-append}
 use Rattle.std.proofs.lemmas.Option.{get_or_from_slice_get}
 use Rattle.std.proofs.Math.Seq.{map-set_same}
@@ -154,19 +150,3 @@ inserts tables place old changed cells result at h = rw at (changed, h, refl)
 pub counted : (numbers : List ℕ) (old new : List Row) → new ≡ filter (λ row. not (is_listed numbers row.number)) old
     → length (filter (λ row. is_listed numbers row.number) old) + length new ≡ length old
 counted numbers old new e = rw e (length-filter_both (λ row. is_listed numbers row.number) (λ row. not (is_listed numbers row.number)) (λ row. refl) old)
-
--- a number that is above what stands before a place and below what stands from it on is at none
-elsewhere : (i k a b : ℕ) → (k < i → a < b) → (i ≤ k → b < a) → a ≡ b → ⊥
-elsewhere i k a b below above e = grind arith
-
--- a search by halves of numbers that rise finds those that are there
-pub finds : (numbers : List ℕ) (number : ℕ) (found : Result ℕ ℕ) → IsNonDecreasing numbers → IsBinarySearchResult (λ other. nat_cmp other number) numbers found
-    → is_ok found ≡ is_listed numbers number
-finds numbers number (Ok i) up h =
-    let at : (i < length numbers) × (get_or numbers i 0 ≡ number) = searched numbers number (Ok i) h (λ i j e b. up i j 0 e b) in
-    rw (list_any_at (λ other. other == number) numbers i 0 at.0 (eq-eqb (get_or numbers i 0) number at.1)) refl
-finds numbers number (Err i) up h =
-    let parts = searched numbers number (Err i) h (λ i j e b. up i j 0 e b) in
-    let none : (k d : ℕ) → k < length numbers → (get_or numbers k d == number) ≡ false = λ k d b.
-    rw (get_or_default numbers k d 0 b) (ne_eqb (get_or numbers k 0) number (elsewhere i k (get_or numbers k 0) number (parts.1 k) (λ e. parts.2 k e b))) in
-    rw (list_any_none (λ other. other == number) numbers none) refl

@@ -134,8 +134,8 @@ impl Store {
     }
 
     /// Removes the rows of table `t` that have these numbers, in any order, and answers how many they
-    /// were. Takes no memory. Where the numbers rise, each row costs one search by halves among them,
-    /// and else a comparison with each of them.
+    /// were. Takes no memory. Where the numbers rise, rows and numbers are passed through once, side by
+    /// side; else each row costs a comparison with each of them.
     pub fn delete_rows(&mut self, t: u16, numbers: &[u64]) -> u64
         requires { t < length self.old }
         ensures { IfSome (slice_get self.old t)

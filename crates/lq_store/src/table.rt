@@ -3,6 +3,7 @@ ghost use Rattle.std.specs.Prelude.{◌≡◌, ◌==◌, ◌≤◌, ◌+◌, ◌
 ghost use Rattle.std.specs.List.Sorted.{IsNonDecreasing};
 ghost use Rattle.lq_store.specs.Rules.{keeps_rules};
 ghost use Rattle.lq_store.specs.Calls.{is_listed, refusal_of};
+ghost use Rattle.lq_store.specs.Numbers.{Rise, from_number, is_first};
 
 use crate::checks::{are_in_ranges, have_types};
 use crate::error::StoreError;
@@ -86,8 +87,8 @@ impl Table {
     }
 
     /// Removes the rows of these numbers, in any order, and answers how many they were. Takes no
-    /// memory. Where the numbers rise, each row costs one search by halves among them, and else a
-    /// comparison with each of them.
+    /// memory. Where the numbers rise, rows and numbers are passed through once, side by side; else each
+    /// row costs a comparison with each of them.
     pub fn delete_rows(&mut self, numbers: &[u64]) -> u64
         ensures count { result ≡ count_listed self.old numbers.now }
         ensures rows { self.new ≡ without_rows self.old numbers.now }
@@ -116,24 +117,53 @@ impl Table {
     }
 }
 
-/// Removes the rows of these numbers. They are searched by halves where none of them is below the one
-/// before it, and else one by one.
+/// Removes the rows of these numbers, in any order. Rows stand in the order of their numbers.
 fn retain_unlisted(rows: &mut Vec<Row>, numbers: &[u64])
+    requires { Rise rows.old.items }
     ensures { rows.new.items ≡ filter (λ row. not (is_listed numbers.now row.number)) rows.old.items }
 {
     if numbers.is_sorted() {
-        rows.retain(|row| !is_found(numbers, row.number));
+        retain_behind(rows, numbers);
     } else {
         rows.retain(|row| !numbers.contains(&row.number));
     }
 }
 
-/// Whether `number` is one of `numbers`, which are searched by halves: the answer is right where none
-/// of them is below the one before it.
-fn is_found(numbers: &[u64], number: u64) -> bool
-    ensures { IsNonDecreasing numbers.now → result ≡ is_listed numbers.now number }
+/// Removes the rows of these numbers, none of which is below the one before it.
+fn retain_behind(rows: &mut Vec<Row>, numbers: &[u64])
+    requires rows { Rise rows.old.items }
+    requires numbers { IsNonDecreasing numbers.now }
+    ensures { rows.new.items ≡ filter (λ row. not (is_listed numbers.now row.number)) rows.old.items }
 {
-    numbers.binary_search(&number).is_ok()
+    let mut left = numbers;
+    rows.retain(|row| {
+        left = from_number(left, row.number);
+        !is_first(left, row.number)
+    });
+}
+
+/// These numbers without those at their head that are below `number`.
+fn from_number(numbers: &[u64], number: u64) -> &[u64]
+    ensures { result.now ≡ from_number numbers.now number }
+{
+    let mut left = numbers;
+    while let [first, behind @ ..] = left {
+        if *first >= number {
+            return left;
+        }
+        left = behind;
+    }
+    left
+}
+
+/// Whether `number` is the first of these.
+fn is_first(numbers: &[u64], number: u64) -> bool
+    ensures { result ≡ is_first numbers.now number }
+{
+    match numbers {
+        [first, ..] => *first == number,
+        [] => false,
+    }
 }
 
 /// The row of this number and these cells.
