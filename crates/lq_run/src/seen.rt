@@ -45,7 +45,7 @@ fn admitted<'a>(
 ) -> Result<Vec<SeenRow<'a>>, AllocError>
     ensures { IfOk result (λ seen. map shown_row seen.items ≡ admitted_rows rules.now table rows.now) }
 {
-    let mut seen = Vec::new(alloc);
+    let mut seen = Vec::with_capacity(alloc, rows.len())?;
     for row in rows {
         if rules.admit(row.cells.as_slice()) {
             seen.push(SeenRow { table, row })?;

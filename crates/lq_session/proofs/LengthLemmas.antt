@@ -1,23 +1,27 @@
 -- A line has no more tokens than a statement may have, so that one opens no more than it may where nothing is defined.
-use Rattle.std.proofs.Common.{◌≡◌, ◌∷◌, ◌++◌, ◌+◌, ◌≤◌, ◌<◌, ◌∙◌, List, [], ℕ, zero, suc, Bool, true, false, Option, Some, None, ap, sym, refl, arith, length}
+use Rattle.std.proofs.Common.{◌≡◌, ◌∷◌, ◌++◌, ◌+◌, ◌≤◌, ◌<◌, ◌∙◌, List, [], ℕ, zero, suc, Bool, true, false, Option, Some, None, ap, sym, refl, arith, length, codes, Err, IfOk, Ok, Result}
 use Rattle.std.specs.Prelude.{chars, if◌then◌else◌, option_and_then, sum_by, take}
 use Rattle.std.specs.Char.{len_utf8}
 use Rattle.std.specs.Str.{IsUtf8}
+use Rattle.std.specs.declared.alloc.AllocError.{AllocError}
 use Rattle.std.proofs.lemmas.Bool.{ltb-false}
 use Rattle.std.proofs.lemmas.Bool.Decides.{nat_tests}
 use Rattle.std.proofs.lemmas.Str.{encodes-chars, length-le-encodes}
 use Rattle.lq_model.specs.Definitions.{definition_of}
-use Rattle.lq_model.specs.Machine.{perform}
+use Rattle.lq_model.specs.Machine.{perform, perform_opened}
 use Rattle.lq_model.specs.Opening.{is_past_opening, opened_behind, opened_from, opened_named, opening_among, opening_of, size_with}
+use Rattle.lq_model.specs.Served.{error_data, line_of}
 use Rattle.lq_model.specs.States.{State}
 use Rattle.lq_model.specs.Tokens.{is_too_long, piece, text_of, tokens_from, tokens_in, tokens_of, with_piece}
+use Rattle.lq_model.specs.declared.session.Definition.{Definition}
 use Rattle.lq_model.specs.declared.session.Opened.{Opened}
 use Rattle.lq_model.specs.declared.syntax.Statement.{Statement}
 use Rattle.lq_model.specs.declared.syntax.Statement.TheVariants as statement
 use Rattle.lq_model.specs.declared.token.Kind.{Kind}
 use Rattle.lq_model.specs.declared.token.Kind.TheVariants as k
 use Rattle.lq_model.specs.declared.token.Token.{Token}
-use Rattle.lq_session.specs.Openings.{OpensFor, keeps_opened}
+use Rattle.lq_session.specs.Openings.{OpensFor, keeps_opened, within_limits}
+use Rattle.lq_session.specs.Performed.{Performs}
 
 -- ---- tokens and characters
 
@@ -63,6 +67,10 @@ few_in line utf8 short tokens e =
 
 -- ---- where nothing is defined
 
+pub no_definitions : (definitions : List Definition) → length definitions ≡ 0 → definitions ≡ []
+no_definitions [] e = refl
+no_definitions (definition ∷ definitions) e = absurd (omega (arith, e))
+
 -- a token opens nothing
 names_nothing : (kind : Kind) (text : List ℕ) → opened_named [] kind text ≡ []
 names_nothing k.Name text = refl
@@ -105,3 +113,31 @@ same_performed (statement.Delete table row x) some other old e = refl
 
 pub opens_for_nothing : (line : List ℕ) (s : Statement) → IsUtf8 line → keeps_opened s ≡ false → OpensFor [] line s (Some (record { size = 0; rank = 0 }))
 opens_for_nothing line s utf8 e = (within_nothing line utf8, refl, λ old. same_performed s (record { size = 0; rank = 0 }) (opening_of [] line) old e)
+
+-- ---- what a statement opens, for what becomes of it
+
+opens_for : (definitions : List Definition) (line : List ℕ) (s : Statement) (opened : Option Opened) → opened ≡ within_limits (opening_of definitions line)
+    → OpensFor definitions line s opened
+opens_for definitions line s opened e = by (is_past_opening (opening_of definitions line)) refl opened e
+  where
+    by : (past : Bool) → is_past_opening (opening_of definitions line) ≡ past → (found : Option Opened)
+        → found ≡ (if past then None else Some (opening_of definitions line)) → OpensFor definitions line s found
+    by true h None is = h
+    by true h (Some o) is = cc
+    by false h None is = cc
+    by false h (Some o) is = let same : o ≡ opening_of definitions line = cc in rw same (h, h, λ old. refl)
+
+pub opens_if_ok : (definitions : List Definition) (line : List ℕ) (s : Statement) (result : Result (Option Opened) AllocError)
+    → IfOk result (λ opened. opened ≡ within_limits (opening_of definitions line)) → IfOk result (OpensFor definitions line s)
+opens_if_ok definitions line s (Ok opened) h = opens_for definitions line s opened h
+opens_if_ok definitions line s (Err refused) h = tt
+
+pub performs_for : (old new : State) (line : List ℕ) (s : Statement) (opened : Opened) (result : Result (List ℕ) AllocError)
+    → OpensFor old.definitions line s (Some opened) → Performs (perform old opened s) old result new
+    → Performs (perform_opened old (opening_of old.definitions line) s) old result new
+performs_for old new line s opened result opens performs = rw (opens.0, ← opens.2 old) performs
+
+pub performs_past : (old : State) (line : List ℕ) (s : Statement) (result : Result (List ℕ) AllocError) → OpensFor old.definitions line s None
+    → IfOk result (λ told. told ≡ line_of (error_data (codes "too-deep"))) → Performs (perform_opened old (opening_of old.definitions line) s) old result old
+performs_past old line s (Ok told) past e = rw past (e, refl)
+performs_past old line s (Err refused) past e = refl
