@@ -50,7 +50,6 @@ impl Session {
     /// Answers one line of a script: a step of the session machine, or the memory line in place
     /// of its reply, which leaves the session as it was. No line asks a host yet. A line without a token has no reply, and
     /// one of more than 65,536 bytes is refused as `syntax`.
-    #[tactic(auto, using(crate::proofs::StepLemmas::steps))]
     pub fn step(&mut self, line: &str) -> Option<Line>
         ensures { Answers (state_of self.old) line.now result [] (state_of self.new) }
     {
@@ -78,6 +77,7 @@ impl Session {
 
     /// Performs the statement that a line says, and answers its line. What opens more than it may is
     /// refused, whatever it is.
+    #[tactic(auto, using(crate::proofs::LengthLemmas::performs_for, crate::proofs::LengthLemmas::performs_past))]
     fn perform(&mut self, statement: Statement, line: &str) -> Result<Line, AllocError>
         ensures { Performs (perform_opened (state_of self.old) (opening_of (state_of self.old).definitions line.now) statement)
             (state_of self.old) result (state_of self.new) }
