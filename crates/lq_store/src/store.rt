@@ -134,8 +134,8 @@ impl Store {
     }
 
     /// Removes the rows of table `t` that have these numbers, in any order, and answers how many they
-    /// were. Takes no memory. Where the numbers rise, rows and numbers are passed through once, side by
-    /// side; else each row costs a comparison with each of them.
+    /// were. Takes no memory. Numbers that rise are passed through once, beside the rows; each row is
+    /// compared with each one where they don't.
     pub fn delete_rows(&mut self, t: u16, numbers: &[u64]) -> u64
         requires { t < length self.old }
         ensures { IfSome (slice_get self.old t)

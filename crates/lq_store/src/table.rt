@@ -87,8 +87,8 @@ impl Table {
     }
 
     /// Removes the rows of these numbers, in any order, and answers how many they were. Takes no
-    /// memory. Where the numbers rise, rows and numbers are passed through once, side by side; else each
-    /// row costs a comparison with each of them.
+    /// memory. Numbers that rise are passed through once, beside the rows; a row is compared with
+    /// all of them in another order.
     pub fn delete_rows(&mut self, numbers: &[u64]) -> u64
         ensures count { result ≡ count_listed self.old numbers.now }
         ensures rows { self.new ≡ without_rows self.old numbers.now }
