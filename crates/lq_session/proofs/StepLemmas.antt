@@ -1,7 +1,8 @@
 -- From what a statement's calls give to the machine's step.
-use Rattle.std.proofs.Common.{◌≡◌, ◌∷◌, List, [], ℕ, Bool, true, false, if◌then◌else◌, Option, Some, None, IsSome, Ok, ap, ◌∙◌, sym, refl, codes}
-use Rattle.lq_model.specs.Machine.{perform_opened, step, step_by}
+use Rattle.std.proofs.Common.{◌≡◌, ◌∷◌, List, [], ℕ, Bool, true, false, if◌then◌else◌, Option, Some, None, IsSome, Ok, ap, ap₂, ◌∙◌, sym, refl, codes}
+use Rattle.lq_model.specs.Machine.{Reply, perform_opened, step, step_by}
 use Rattle.lq_model.specs.Opening.{opening_of}
+use Rattle.lq_model.specs.Output.{Answers, as_machine}
 use Rattle.lq_model.specs.Served.{error_data, line_of}
 use Rattle.lq_model.specs.States.{State}
 use Rattle.lq_model.specs.Depth.{is_deep}
@@ -36,7 +37,7 @@ module _ (old : State) (line : List ℕ) where
   some_reply h = tokens_reply old (opening_of old.definitions line) line (tokens_of line) h
 
   -- a blank line has none
-  pub blank_step : tokens_of line ≡ Some [] → (None, old) ≡ step old line
+  blank_step : tokens_of line ≡ Some [] → (None, old) ≡ step old line
   unfolding step reading_of
   blank_step h = ap (λ (o : Option (List Token)). step_by old (opening_of old.definitions line) (reading_of_tokens line o)) (sym h)
 
@@ -62,4 +63,10 @@ module _ (old : State) (line : List ℕ) where
   says_too_deep reply h is =
       (ap Some is ∙ ap (λ (x : Option (List ℕ) × State). x.0) (as_read IsTooDeep h), ap (λ (x : Option (List ℕ) × State). x.1) (as_read IsTooDeep h))
 
-pub ruleset steps = (some_reply, blank_step)
+  -- ---- steps that the session answers
+
+  pub answers_blank : tokens_of line ≡ Some [] → Answers old line None [] old
+  answers_blank h = as_machine (blank_step h) refl
+
+  pub answers_stepped : (new : State) (reply : Reply) → Steps (step old line) old (Ok reply) new → Answers old line reply [] new
+  answers_stepped new reply h = as_machine (ap₂ (λ (r : Reply) (s : State). (r, s)) h.0 h.1) refl
