@@ -1,5 +1,5 @@
 -- A line has no more tokens than a statement may have, so that one opens no more than it may where nothing is defined.
-use Rattle.std.proofs.Common.{◌≡◌, ◌∷◌, ◌++◌, ◌+◌, ◌≤◌, ◌<◌, ◌∙◌, List, [], ℕ, zero, suc, Bool, true, false, Option, Some, None, ap, sym, refl, arith, length, codes, Err, IfOk, Ok, Result}
+use Rattle.std.proofs.Common.{◌≡◌, ◌∷◌, ◌+◌, ◌≤◌, List, [], ℕ, zero, suc, Bool, true, false, Option, Some, None, ap, refl, arith, length, codes, Err, IfOk, Ok, Result}
 use Rattle.std.specs.Prelude.{chars, if◌then◌else◌, option_and_then, sum_by, take}
 use Rattle.std.specs.Char.{len_utf8}
 use Rattle.std.specs.Str.{IsUtf8}
@@ -7,9 +7,8 @@ use Rattle.std.specs.declared.alloc.AllocError.{AllocError}
 use Rattle.std.proofs.lemmas.Bool.{ltb-false}
 use Rattle.std.proofs.lemmas.Bool.Decides.{nat_tests}
 use Rattle.std.proofs.lemmas.Str.{encodes-chars, length-le-encodes}
-use Rattle.lq_model.specs.Definitions.{definition_of}
 use Rattle.lq_model.specs.Machine.{perform, perform_opened}
-use Rattle.lq_model.specs.Opening.{is_past_opening, opened_behind, opened_from, opened_named, opening_among, opening_of, size_with}
+use Rattle.lq_model.specs.Opening.{is_past_opening, opened_behind, opened_from, opened_named, opening_among, opening_of}
 use Rattle.lq_model.specs.Served.{error_data, line_of}
 use Rattle.lq_model.specs.States.{State}
 use Rattle.lq_model.specs.Tokens.{is_too_long, piece, text_of, tokens_from, tokens_in, tokens_of, with_piece}

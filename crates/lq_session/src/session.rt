@@ -50,6 +50,7 @@ impl Session {
     /// Answers one line of a script: a step of the session machine, or the memory line in place
     /// of its reply, which leaves the session as it was. No line asks a host yet. A line without a token has no reply, and
     /// one of more than 65,536 bytes is refused as `syntax`.
+    #[tactic(auto, using(crate::proofs::StepLemmas::answers_blank))]
     pub fn step(&mut self, line: &str) -> Option<Line>
         ensures { Answers (state_of self.old) line.now result [] (state_of self.new) }
     {

@@ -1,11 +1,11 @@
 -- What tables and stores keep as rows and tables join them and rows leave.
-use Rattle.std.proofs.Common.{◌≡◌, ◌<◌, ◌+◌, ℕ, Bool, true, false, ◌&&◌, ◌||◌, not, List, [], ◌∷◌, ◌++◌, length, map, refl, arith, nat_eq, Some, None, if◌then◌else◌, ◌==◌, ◌^◌, ◌≤◌, cond, set, ap, sym, ◌∙◌, length-set, eq-eqb, ne_eqb, get_or}
+use Rattle.std.proofs.Common.{◌≡◌, ◌<◌, ◌+◌, ℕ, Bool, true, false, ◌&&◌, ◌||◌, not, List, [], ◌∷◌, ◌++◌, length, map, refl, arith, nat_eq, Some, None, if◌then◌else◌, ◌==◌, ◌^◌, ◌≤◌, cond, set, ap, sym, ◌∙◌, length-set}
 use Rattle.std.specs.Prelude.{is_some, filter, slice_get, Result, Ok, Err}
 use Rattle.std.specs.List.{list_all, list_any, position_from}
 use Rattle.std.specs.Cmp.Lexicographic.{pointwise}
-use Rattle.std.proofs.lemmas.List.Folds.{list_all-append, list_any-append, list_any_at, list_any_none}
+use Rattle.std.proofs.lemmas.List.Folds.{list_all-append, list_any-append}
 use Rattle.std.proofs.lemmas.List.Filters.{length-filter_both}
-use Rattle.std.proofs.lemmas.List.{get_or_default, length-append, map-append}
+use Rattle.std.proofs.lemmas.List.{length-append, map-append}
 use Rattle.std.proofs.lemmas.Option.{get_or_from_slice_get}
 use Rattle.std.proofs.Math.Seq.{map-set_same}
 use Rattle.lq_value.specs.Tables.{Table, first_named}

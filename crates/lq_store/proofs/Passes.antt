@@ -1,5 +1,5 @@
 -- Rows and numbers that rise are passed through once, side by side.
-use Rattle.std.proofs.Common.{◌≡◌, ◌<◌, ◌≤◌, ◌+◌, ℕ, zero, suc, Bool, true, false, ◌||◌, not, List, [], ◌∷◌, length, refl, arith, ◌==◌, cond, ap, sym, ◌∙◌, eq-eqb, ne_eqb, nat_lt, if◌then◌else◌}
+use Rattle.std.proofs.Common.{◌≡◌, ◌<◌, ◌≤◌, ◌+◌, ℕ, suc, Bool, true, false, not, List, [], ◌∷◌, length, refl, arith, ◌==◌, ap, sym, ◌∙◌, ne_eqb, nat_lt}
 use Rattle.std.proofs.lemmas.Bool.{eqb-false, ltb-false, ltb-true}
 use Rattle.std.specs.Prelude.{filter}
 use Rattle.std.specs.List.{items_where_true}
@@ -71,9 +71,13 @@ module _ {F : Type 0} (R : F → Row → Bool → F → Type 0) (left : F → Li
   told f row b f' low ran e knows =
       let one = step f row b f' ran in
       let first : is_first (left f') row.number ≡ is_listed all row.number =
-          rw one.0 (first_of_rest (left f) row.number knows.0 ∙ same_from (left f) row.number row.number (omega arith) ∙ knows.1 row.number e) in
-      (one.1 ∙ ap not first, (rw one.0 (rising_from (left f) row.number knows.0),
-          λ number above. rw one.0 (same_from (left f) row.number number (omega (arith, above)) ∙ knows.1 number (omega (arith, above, e)))))
+      rw one.0 (first_of_rest (left f) row.number knows.0 ∙ same_from (left f) row.number row.number (omega arith) ∙ knows.1 row.number e) in (
+        one.1 ∙ ap not first,
+        (
+          rw one.0 (rising_from (left f) row.number knows.0),
+          λ number above. rw one.0 (same_from (left f) row.number number (omega (arith, above)) ∙ knows.1 number (omega (arith, above, e))),
+        ),
+      )
 
   kept : (b : Bool) (row : Row) (bs : List Bool) (rows : List Row) → b ≡ test row → items_where_true bs rows ≡ filter test rows
       → items_where_true (b ∷ bs) (row ∷ rows) ≡ filter test (row ∷ rows)

@@ -1,14 +1,10 @@
--- A blank line is answered by nothing, a step by its reply, and where memory was refused the session is as it was.
+-- A step is answered by its reply; where memory was refused the session is as it was.
 use Rattle.std.proofs.Common.{◌≡◌, [], Some, ap, refl, rules}
 use Rattle.lq_model.specs.Output.{no_memory}
 use Rattle.lq_model.specs.Tokens.{tokens_of}
 use Rattle.lq_session.specs.States.{state_of}
-use Rattle.lq_session.proofs.StepLemmas.{answers_blank, answers_stepped, some_reply}
+use Rattle.lq_session.proofs.StepLemmas.{answers_stepped, some_reply}
 use Rattle.lq_session.proofs.session.Session.step.Goals as goal
-
-pub returns-then-is_blank : goal.returns-then-is_blank
-returns-then-is_blank c =
-    let blank : tokens_of c.args.line.now ≡ Some [] = search rules in answers_blank (state_of c.args.self.now) c.args.line.now blank
 
 pub returns-in-Ok : goal.returns-in-Ok
 returns-in-Ok c = answers_stepped (state_of c.args.self.now) c.args.line.now (state_of c.answer.new.self) c.in-Ok.reply c.in-Ok.ensures
