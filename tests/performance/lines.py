@@ -9,7 +9,7 @@ LINES = 4
 # Where the work grew with the square of the length, this would be 4.
 MOST_TIMES = 2.2
 # Of a run of one line, the program's start among them. Where these run at their slowest, they take some 50 ms.
-MOST_INSTRUCTIONS = 160_000_000
+MOST_INSTRUCTIONS = 150_000_000
 
 SYNTAX = '{"error":"syntax"}'
 TYPE = '{"error":"type"}'
