@@ -125,9 +125,9 @@ fn two_tables(rt: &impl Abort, alloc: Global) -> Result<Store, AllocError> {
     let mut store = Store::new(alloc);
     assert!(rt; store.add(table(alloc, "t", 1)?).is_ok());
     assert!(rt; store.add(table(alloc, "u", u64::MAX)?).is_ok());
-    for number in 1..4 {
-        let cells = one_cell(alloc, Scalar::Int(number))?;
-        assert!(rt; store.insert(0, cells).ok() == Some(number as u64));
+    for (cell, number) in &[(1, 1u64), (2, 2), (3, 3)] {
+        let cells = one_cell(alloc, Scalar::Int(*cell))?;
+        assert!(rt; store.insert(0, cells).ok() == Some(*number));
     }
     Ok(store)
 }
