@@ -1,5 +1,5 @@
 -- Cells by the places of their columns, where no two columns of a table have the same name.
-use Rattle.std.proofs.Common.{◌≡◌, ◌&&◌, not, List, [], ◌∷◌, map, ℕ, zero, suc, Bool, true, false, Option, Some, None, ap, ◌∙◌, sym, refl, subst, slice_get, true≢false}
+use Rattle.std.proofs.Common.{◌≡◌, not, List, [], ◌∷◌, map, ℕ, zero, suc, Bool, true, false, Option, Some, None, ap, ◌∙◌, sym, refl, subst, slice_get, true≢false}
 use Rattle.std.specs.Prelude.{option_and_then, option_map, if◌then◌else◌}
 use Rattle.std.specs.Str.{bytes_eq}
 use Rattle.std.proofs.lemmas.Bool.{and_parts}

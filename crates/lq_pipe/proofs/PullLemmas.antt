@@ -1,5 +1,5 @@
 -- Items that are pulled one by one.
-use Rattle.std.proofs.Common.{◌≡◌, ◌∷◌, ◌++◌, ◌+◌, ◌<◌, List, [], ℕ, zero, suc, Bool, true, false, Option, Some, None, Result, Ok, Err, ap, ◌∙◌, sym, refl, subst, append_assoc, append-nil, length, map, reverse, slice_get, arith}
+use Rattle.std.proofs.Common.{◌≡◌, ◌∷◌, ◌++◌, ◌<◌, List, [], ℕ, zero, suc, Bool, Option, Some, None, Result, Ok, Err, ap, ◌∙◌, sym, refl, append_assoc, append-nil, length, map, reverse, slice_get, arith}
 use Rattle.std.proofs.lemmas.List.{reverse-append, reverse-reverse}
 use Rattle.lq_value.specs.declared.value.End.{End}
 use Rattle.lq_value.specs.declared.value.End.TheVariants as end
@@ -8,7 +8,7 @@ use Rattle.lq_value.specs.declared.value.Fault.TheVariants as fault
 use Rattle.lq_value.specs.declared.value.Value.{Value}
 use Rattle.lq_value.specs.declared.value.Value.TheVariants as value
 use Rattle.lq_model.specs.Enumerable.{in_front, take_first}
-use Rattle.lq_model.specs.Stream.{Stream, each, kept, one, select_by, then_ending, then_stream, where_by}
+use Rattle.lq_model.specs.Stream.{Stream, each, kept, one, select_by, then_ending, then_stream}
 use Rattle.lq_model.specs.declared.methods.Through.TheVariants as through
 use Rattle.lq_model.specs.Meaning.{World, items_of, sequence, stream_of, table_value}
 use Rattle.lq_model.specs.declared.methods.Given.{Given}
@@ -19,19 +19,15 @@ use Rattle.lq_model.specs.declared.syntax.SortKey.{SortKey}
 use Rattle.lq_value.specs.declared.scalar.Scalar.{Scalar}
 use Rattle.lq_value.specs.declared.ty.Ty.{Ty}
 use Rattle.lq_tree.specs.FormMeaning.{Slots, form_meaning, is_true, with_item}
-use Rattle.lq_tree.specs.declared.tree.Form.{Form, map-Form, out-Form, para-Form, para-roll-Form, roll-Form}
+use Rattle.lq_tree.specs.declared.tree.Form.{Form, map-Form, out-Form, para-roll-Form, roll-Form}
 use Rattle.lq_tree.specs.declared.tree.Form.TheOpen.{Form-F}
 use Rattle.lq_tree.specs.declared.tree.Form.TheVariants as form
 use Rattle.lq_tree.specs.declared.tree.Form.TheViews.{roll-out-Form}
 use Rattle.lq_tree.specs.declared.tree.Joined.{Joined}
-use Rattle.lq_pipe.specs.Pulling.{At, Steps, base_stream, end_of, rows_or_none, left, passed_at, passed_on, passed_step, pulled, staged}
+use Rattle.lq_pipe.specs.Pulling.{At, base_stream, end_of, rows_or_none, left, passed_at, passed_step, pulled, staged}
 use Rattle.lq_pipe.specs.declared.bases.Base.{Base}
-use Rattle.lq_pipe.specs.declared.stages.Passed.{Passed}
-use Rattle.lq_pipe.specs.declared.stages.Passed.TheVariants as passed
 use Rattle.lq_pipe.specs.declared.stages.Stage.{Stage}
 use Rattle.lq_pipe.specs.declared.stages.Stage.TheVariants as stage
-use Rattle.lq_pipe.specs.declared.stages.Step.{Step}
-use Rattle.lq_pipe.specs.declared.stages.Step.TheVariants as step
 use Rattle.lq_pipe.proofs.Forms.{form_sequence, form_table, form_through}
 use Rattle.lq_pipe.proofs.StreamLemmas.{then_assoc}
 

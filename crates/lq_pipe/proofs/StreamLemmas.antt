@@ -1,12 +1,10 @@
 -- Streams item by item.
-use Rattle.std.proofs.Common.{◌≡◌, ◌∷◌, ◌++◌, ◌+◌, ◌<◌, ◌≤◌, if◌then◌else◌, List, [], ℕ, zero, suc, Bool, true, false, Result, Ok, Err, ap, ◌∙◌, sym, refl, subst, append_assoc, append-nil, drop, drop-cons, get_or, length, arith}
+use Rattle.std.proofs.Common.{◌≡◌, ◌∷◌, ◌++◌, ◌+◌, ◌<◌, ◌≤◌, List, [], ℕ, suc, Result, Ok, Err, ap, ◌∙◌, sym, refl, subst, append_assoc, append-nil, drop, drop-cons, get_or, length, arith}
 use Rattle.std.proofs.lemmas.List.{drop_all}
 use Rattle.lq_value.specs.declared.value.End.{End}
 use Rattle.lq_value.specs.declared.value.End.TheVariants as end
 use Rattle.lq_value.specs.declared.value.Fault.{Fault}
-use Rattle.lq_model.specs.Enumerable.{all}
-use Rattle.lq_model.specs.Operations.{on_ok}
-use Rattle.lq_model.specs.Stream.{Stream, each, kept, one, select_by, then_ending, then_stream, where_by}
+use Rattle.lq_model.specs.Stream.{Stream, each, one, then_ending, then_stream}
 
 -- one stream behind another, behind a third
 pub then_assoc : {A : Type 0} (xs : List A) (d : End) (ys : List A) (e : End) (c : Stream A) → then_ending xs d (then_ending ys e c) ≡ then_stream (then_ending xs d (ys, e)) c

@@ -1,5 +1,5 @@
 -- How many items of a source settle what a method answers (.NET, Enumerable).
-use Rattle.std.specs.Prelude.{◌≡◌, ◌+◌, ℕ, ℤ, Option, Some, None, Result, Ok, Err}
+use Rattle.std.specs.Prelude.{◌+◌, ℕ, ℤ, Option, Some, None, Result, Ok, Err}
 use Rattle.lq_value.specs.declared.scalar.Scalar.TheVariants as scalar
 use Rattle.lq_value.specs.declared.value.Fault.{Fault}
 use Rattle.lq_value.specs.declared.value.Value.{Value, out-Value}

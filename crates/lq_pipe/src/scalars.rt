@@ -1,6 +1,7 @@
 //! Scalars: what operators and members give to them.
 ghost use Rattle.std.specs.Prelude.{◌≡◌, Bool, IfOk, IfSome, Result, Ok};
 ghost use Rattle.lq_value.specs.declared.scalar.Scalar.{Scalar};
+ghost use Rattle.lq_value.specs.declared.scalar.Scalar.TheVariants as scalar;
 ghost use Rattle.lq_value.specs.declared.value.Fault.{Fault};
 ghost use Rattle.lq_value.specs.declared.value.Fault.TheVariants as fault;
 ghost use Rattle.lq_value.specs.declared.value.Value.{out-Value};
@@ -53,10 +54,39 @@ fn truth_there(scalar: ScalarRef<'_>) -> Result<bool, RunError>
     }
 }
 
-/// The truth value that a sign between two scalars gives.
+/// What a sign compares two numbers as, if it compares.
+fn compared_numbers(sign: Binary, m: i32, n: i32) -> Option<bool>
+    ensures { IfSome result (λ truth. of_two fault.NullReference (operation_of sign) (scalar.Int m) (scalar.Int n) ≡ Ok (scalar.Bool truth)) }
+{
+    match sign {
+        Binary::Less => Some(m < n),
+        Binary::Greater => Some(n < m),
+        Binary::LessOrEqual => Some(m <= n),
+        Binary::GreaterOrEqual => Some(n <= m),
+        Binary::Equal => Some(m == n),
+        Binary::NotEqual => Some(m != n),
+        Binary::Multiply | Binary::Divide | Binary::Remainder | Binary::Add | Binary::Subtract =>
+            None,
+    }
+}
+
+/// The same of two scalars, if both are numbers.
+fn compared_there(sign: Binary, left: &Scalar, right: &Scalar) -> Option<bool>
+    ensures { IfSome result (λ truth. of_two fault.NullReference (operation_of sign) left.now right.now ≡ Ok (scalar.Bool truth)) }
+{
+    match (left, right) {
+        (Scalar::Int(m), Scalar::Int(n)) => compared_numbers(sign, *m, *n),
+        _ => None,
+    }
+}
+
+/// The truth value that a sign between two scalars gives. Two numbers are compared without a scalar in between.
 pub(crate) fn truth_of_sign(sign: Binary, left: &Scalar, right: &Scalar) -> Result<bool, RunError>
     ensures { Answers (on_ok (of_two fault.NullReference (operation_of sign) left.now right.now) (truth_of fault.NullReference)) result }
 {
+    if let Some(truth) = compared_there(sign, left, right) {
+        return Ok(truth);
+    }
     match operate(sign, ScalarRef::of(left), ScalarRef::of(right)) {
         Ok(scalar) => truth_there(scalar),
         Err(fault) => Err(RunError::Fault(fault)),

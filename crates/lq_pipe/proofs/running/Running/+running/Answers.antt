@@ -1,10 +1,9 @@
-use Rattle.std.proofs.Common.{◌≡◌, ◌<◌, Err, ap, arith, refl, rules, subst, sym, ◌∙◌}
+use Rattle.std.proofs.Common.{◌≡◌, ◌<◌, Err, arith, refl, rules, subst, sym, ◌∙◌}
 use Rattle.lq_operators.specs.Answers.{IsAnswer}
 use Rattle.lq_model.specs.Meaning.{stream_of}
 use Rattle.lq_tree.specs.FormMeaning.{form_meaning}
 use Rattle.lq_operators.specs.Matching.{pairs_of}
 use Rattle.lq_pipe.specs.Arrangements.{column_of, columns_of, key_at}
-use Rattle.lq_pipe.specs.Items.{expanded_of, joined_of, keyed_of, with_key_of}
 use Rattle.lq_pipe.specs.Slots.{values_in}
 use Rattle.lq_pipe.proofs.ArrangementLemmas.{all_goes, all_stops, counted_answer, key_answer, order_by_answer, sorted_answer}
 use Rattle.lq_pipe.proofs.ItemLemmas.{expanded_pulled, group_by_answer, join_answer, join_stops, joined_met, matched_is, select_many_answer}
@@ -13,7 +12,6 @@ use Rattle.lq_pipe.specs.Pulling.{Steps, left}
 use Rattle.lq_pipe.specs.declared.stages.Step.TheVariants as step
 use Rattle.lq_pipe.specs.Worlds.{world_of}
 use Rattle.lq_pipe.proofs.PullLemmas.{taken_ended}
-use Rattle.lq_model.specs.WholeMeaning.{as_truth}
 use Rattle.lq_pipe.proofs.Forms.{given_answer, is_null_answer, members_goes}
 use Rattle.lq_pipe.proofs.StreamLemmas.{select_goes, select_stops}
 use Rattle.lq_pipe.proofs.running.Running.+running.Goals as goal
