@@ -49,6 +49,13 @@ module _ (parts : PolicyParts) (role : ℕ) where
   unfolding denial
   nothing_denied = refl
 
+  -- a use that stands alone
+  pub only_allowed : (used : Use) → denier_of parts role used ≡ None → denial parts role (used ∷ []) ≡ None
+  only_allowed used h = allowed_first used [] (undenied used h) ∙ nothing_denied
+
+  pub only_denied : (used : Use) (rule : List ℕ) → denier_of parts role used ≡ Some rule → denial parts role (used ∷ []) ≡ Some (record { used = used; rule = rule })
+  only_denied used rule h = denied_first used [] rule h
+
   -- the uses from a place on decide as all of them do, and those in the set are allowed
   pub record AreAllowed (uses : List Use) (place : ℕ) (allowed : UseSet) : Type 0 where
     pub left : denial parts role (drop place uses) ≡ denial parts role uses
@@ -100,3 +107,5 @@ pub unlisted : (parts : PolicyParts) (role : ℕ) (used : Use) (told : Option (B
 unlisted parts role used told is same = undenied parts role used (sym same ∙ ap (option_map (λ r. r.now)) is)
 
 pub ruleset deniers = (no_denier)
+
+pub ruleset only_use = (only_allowed, only_denied)

@@ -1,5 +1,5 @@
 //! Whether a role has a right to each of some uses.
-ghost use Rattle.std.specs.Prelude.{◌≡◌, ◌||◌, not, option_map, IfOk};
+ghost use Rattle.std.specs.Prelude.{◌≡◌, ◌||◌, ◌∷◌, [], not, option_map, IfOk};
 ghost use Rattle.lq_model.specs.Rights.{denier_of, is_same_use, may_use};
 ghost use Rattle.lq_model.specs.declared.rights.Use.{Use};
 ghost use Rattle.lq_policy.specs.RoleRights.{allows_use, is_among};
@@ -64,10 +64,19 @@ fn denier<'a>(
     policies.right(role, *used).err()
 }
 
-/// Whether the role has a right to each of these uses; the first to which it has none is denied. It
-/// takes time in proportion to the uses and to the rights of the rules that apply, since each use is
-/// decided once, whatever is used twice. Refused where memory is.
-pub fn decide<'a>(
+/// Whether the role has a right to this use, which stands alone. No set is made for it.
+#[tactic(auto, using(crate::proofs::DecideLemmas::only_use))]
+fn decide_one<'a>(used: Use, role: RoleId, policies: &'a Policies) -> Result<(), DecideError<'a>>
+    ensures { Decides policies.now (number_of role) (used ∷ []) result }
+{
+    match policies.right(role, used) {
+        Ok(()) => Ok(()),
+        Err(rule) => Err(DecideError::Denied(Denied { place: 0, rule })),
+    }
+}
+
+/// Whether the role has a right to each of some uses. What it may use is worked out once, and each use is decided once.
+fn decide_each<'a>(
     alloc: Global,
     uses: &[Use],
     role: RoleId,
@@ -87,4 +96,21 @@ pub fn decide<'a>(
         }
     }
     Ok(())
+}
+
+/// Whether the role has a right to each of these uses; the first to which it has none is denied. It
+/// takes time in proportion to the uses and to the rights of the rules that apply, since each use is
+/// decided once, whatever is used twice. Refused where memory is.
+pub fn decide<'a>(
+    alloc: Global,
+    uses: &[Use],
+    role: RoleId,
+    policies: &'a Policies,
+) -> Result<(), DecideError<'a>>
+    ensures { Decides policies.now (number_of role) uses.now result }
+{
+    match uses {
+        [only @ (Use::Insert(_) | Use::Delete(_))] => decide_one(*only, role, policies),
+        _ => decide_each(alloc, uses, role, policies),
+    }
 }

@@ -1,7 +1,7 @@
-use Rattle.std.proofs.Common.{true, arith}
+use Rattle.std.proofs.Common.{arith}
 use Rattle.lq_policy.specs.Roles.{number_of}
 use Rattle.lq_use.proofs.DecideLemmas.{denied_by, first_denied, found, known, no_more, one_more, unlisted}
-use Rattle.lq_use.proofs.decisions.decide.Goals as goal
+use Rattle.lq_use.proofs.decisions.decide_each.Goals as goal
 
 pub loop-place-preserved-then-not-branch : goal.loop-place-preserved-then-not-branch
 loop-place-preserved-then-not-branch c =
