@@ -1,3 +1,4 @@
+pub mod Removals
 pub mod Replies
 pub mod SeenRows
 pub mod States

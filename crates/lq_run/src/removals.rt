@@ -1,25 +1,88 @@
 //! The rows that a `delete` removes.
-ghost use Rattle.std.specs.Prelude.{◌≡◌, ◌<◌, length, map, IfOk};
+ghost use Rattle.std.specs.Prelude.{◌≡◌, ◌<◌, ◌++◌, length, map, IfOk};
 ghost use Rattle.lq_run.specs.Statements.{ChoosesRows};
 
-use crate::seen::{SeenRow, rows_for, seen_tables};
+use crate::seen::{SeenRow, admitted, seen_tables};
 use crate::state::State;
 use crate::tables::with_rows;
-use lq_pipe::rows_where;
-use lq_policy::Action;
+use lq_pipe::{TableRows, rows_where};
+use lq_policy::{Action, RowRules};
 use lq_tree::Tree;
-use lq_value::End;
+use lq_value::{End, Row};
 use std::alloc::{AllocError, Global};
 
-/// The numbers of rows, in their order.
-fn numbers_of(alloc: Global, rows: &[SeenRow<'_>]) -> Result<Vec<u64>, AllocError>
-    ensures { IfOk result (λ numbers. numbers.items ≡ map (λ r. r.row.now.number) rows.now) }
+/// How many rows are asked for at a time, so that what is held of them meanwhile is small.
+const AT_A_TIME: usize = 1024;
+
+/// What tells the rows of a table that a `delete` removes.
+#[derive(Drop)]
+struct Choice<'a, 'b> {
+    alloc: Global,
+    state: &'a State,
+    table: u16,
+    rules: RowRules<'a>,
+    condition: &'b Tree,
+}
+
+/// Puts the numbers of rows behind others, in their order.
+fn add_numbers(numbers: &mut Vec<u64>, rows: &[SeenRow<'_>]) -> Result<(), AllocError>
+    ensures { IfOk result (λ _. numbers.new.items ≡ numbers.old.items ++ map (λ r. r.row.now.number) rows.now) }
 {
-    let mut numbers = Vec::with_capacity(alloc, rows.len())?;
     for row in rows {
         numbers.push(row.row.number)?;
     }
-    Ok(numbers)
+    Ok(())
+}
+
+impl<'a> Choice<'a, '_> {
+    ghost use Rattle.std.specs.Prelude.{◌≡◌, [], IfOk};
+    ghost use Rattle.lq_model.specs.States.{world_in};
+    ghost use Rattle.lq_pipe.specs.Worlds.{HaveDistinctColumns, schemas_in};
+    ghost use Rattle.lq_run.specs.Removals.{numbers_then, rows_chosen};
+    ghost use Rattle.lq_run.specs.SeenRows.{AreSeen};
+
+    /// Puts the numbers of some rows behind others: of those that the role may remove and on which the condition is true, up to its first
+    /// fault. Tells how they end.
+    fn choose(
+        &self,
+        rows: &'a [Row],
+        tables: &[TableRows<'_, SeenRow<'a>>],
+        numbers: &mut Vec<u64>,
+    ) -> Result<End, AllocError>
+        requires seen { AreSeen self.now.state.now tables.now }
+        requires columns { HaveDistinctColumns (schemas_in tables.now) }
+        ensures { IfOk result (λ end. (numbers.new.items, end)
+            ≡ numbers_then numbers.old.items (rows_chosen (world_in self.now.state.now) self.now.condition.now.form self.now.rules self.now.table rows.now)) }
+    {
+        let removable = admitted(self.alloc, &self.rules, self.table, rows)?;
+        let (found, end) = rows_where(self.alloc, self.condition, removable.as_slice(), tables)?;
+        add_numbers(numbers, found.as_slice())?;
+        Ok(end)
+    }
+
+    /// The numbers of all such rows, and how they end.
+    #[tactic(auto, using(crate::proofs::RemovalLemmas::chosen_in_turn))]
+    fn choose_all(
+        &self,
+        rows: &'a [Row],
+        tables: &[TableRows<'_, SeenRow<'a>>],
+    ) -> Result<(Vec<u64>, End), AllocError>
+        requires seen { AreSeen self.now.state.now tables.now }
+        requires columns { HaveDistinctColumns (schemas_in tables.now) }
+        ensures { IfOk result (λ found. (found.0.items, found.1)
+            ≡ numbers_then [] (rows_chosen (world_in self.now.state.now) self.now.condition.now.form self.now.rules self.now.table rows.now)) }
+    {
+        let mut numbers = Vec::new(self.alloc);
+        let mut left = rows;
+        while !left.is_empty() {
+            let (some, behind) = left.split_at(left.len().min(AT_A_TIME));
+            match self.choose(some, tables, &mut numbers)? {
+                End::Done => left = behind,
+                End::Fault(fault) => return Ok((numbers, End::Fault(fault))),
+            }
+        }
+        Ok((numbers, End::Done))
+    }
 }
 
 /// The numbers of the rows of a table that the role may remove and on which the condition is true, in their order, up to the first fault
@@ -33,9 +96,18 @@ pub fn chosen_rows(
     requires { table < length state.now.tables }
     ensures { IfOk result (ChoosesRows state.now table condition.now) }
 {
-    let removable = rows_for(alloc, state, Action::Delete, table)?;
+    let rules = state
+        .policies()
+        .rules_for(alloc, state.role(), Action::Delete, table)?;
     let seen = seen_tables(alloc, state)?;
     let tables = with_rows(alloc, state, seen.as_slice())?;
-    let (rows, end) = rows_where(alloc, condition, removable.as_slice(), tables.as_slice())?;
-    Ok((numbers_of(alloc, rows.as_slice())?, end))
+    let choice = Choice {
+        alloc,
+        state,
+        table,
+        rules,
+        condition,
+    };
+    let rows = state.store().rows(table);
+    choice.choose_all(rows, tables.as_slice())
 }

@@ -37,7 +37,7 @@ impl TableRow for SeenRow<'_> {
 }
 
 /// The rows of a table that its rules admit, in order of their numbers.
-fn admitted<'a>(
+pub(crate) fn admitted<'a>(
     alloc: Global,
     rules: &RowRules<'_>,
     table: u16,

@@ -1,14 +1,17 @@
 -- The rows that are found are those that the machine chooses.
-use Rattle.std.proofs.Common.{◌∙◌, List, Some, ap, map, subst, sym}
+use Rattle.std.proofs.Common.{◌∙◌, List, ap, option_map, slice_get, subst, sym}
+use Rattle.lq_model.specs.Visible.{visible_to}
+use Rattle.lq_model.specs.declared.policy.Action.TheVariants as action
 use Rattle.lq_pipe.specs.declared.tables.TableRows.{TableRows}
-use Rattle.lq_run.specs.SeenRows.{AreSeen, shown_row}
+use Rattle.lq_run.specs.SeenRows.{AreSeen}
 use Rattle.lq_run.specs.declared.seen.SeenRow.{SeenRow}
 use Rattle.lq_run.proofs.RemovalLemmas.{chooses}
 use Rattle.lq_run.proofs.removals.chosen_rows.Goals as goal
 
 pub returns : goal.returns
 returns c =
-    let seen = subst (λ (ts : List (TableRows SeenRow)). AreSeen c.args.state.now ts) (sym c.as_slice-3.ensures.value) c.in_ok-tables.ensures.seen in
-    chooses c.args.state.now c.as_slice-3.result.now seen c.args.table c.args.condition.now c.as_slice-2.result.now (c.in_ok-rows.rows.items, c.in_ok-rows.end)
-    c.in_ok-numbers_of.field-0 (ap (λ (rows : List SeenRow). Some (map shown_row rows)) c.as_slice-2.ensures.value ∙ c.in_ok-removable.ensures) c.in_ok-rows.ensures
-    (c.in_ok-numbers_of.ensures ∙ ap (map (λ r. r.row.now.number)) c.as_slice-4.ensures.value)
+    let seen = subst (λ (ts : List (TableRows SeenRow)). AreSeen c.args.state.now ts) (sym c.as_slice-2.ensures.value) c.in_ok-tables.ensures.seen in
+    chooses c.args.state.now c.as_slice-2.result.now seen c.args.table c.args.condition.now c.in_ok-rules.rules c.rows-rows.result.now
+    (λ cells. c.in_ok-rules.ensures cells ∙ (λ i. visible_to (c.policies.ensures i) (c.role.ensures i) action.Delete c.args.table cells))
+    (ap (λ tables. option_map (λ t. t.rows) (slice_get tables c.args.table)) (sym c.store.ensures.value) ∙ c.rows-rows.ensures.value)
+    c.choose_all.result c.choose_all.ensures
