@@ -14,7 +14,7 @@ use no_file::NoFile;
 use std::fs::File;
 use std::io::{Read, Write};
 use std::process::ExitCode;
-use std::{env, io};
+use std::{env, io, mem};
 
 /// The status where there was nothing to do but to print the help.
 const ENDED: u8 = 0;
@@ -85,10 +85,15 @@ fn serve_from<R: Read + Drop>(rt: &HostRuntime, script: R, session: &mut Session
     finish(rt.alloc(), &mut reader, &mut writer, &mut errors, session)
 }
 
-/// Loads the tables and the policies, and serves the script.
+/// Loads the tables and the policies, and serves the script. The session isn't taken apart behind it: the program ends, and the system
+/// takes its memory back at once.
 fn serve_options(rt: &HostRuntime, options: &Options) -> u8 {
     match load(rt.alloc(), options, &mut Disk::new(rt)) {
-        Ok(mut session) => serve_script(rt, options.script.as_deref(), &mut session),
+        Ok(mut session) => {
+            let status = serve_script(rt, options.script.as_deref(), &mut session);
+            mem::forget(session);
+            status
+        }
         Err(error) => refuse(&error, &mut Device::new(rt.stderr())),
     }
 }
