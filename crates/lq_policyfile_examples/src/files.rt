@@ -37,7 +37,7 @@ fn schema(alloc: Global) -> Result<Schema, AllocError>
     })
 }
 
-pub fn store(rt: &impl Abort, alloc: Global) -> Result<Store, AllocError> {
+pub(crate) fn store(rt: &impl Abort, alloc: Global) -> Result<Store, AllocError> {
     let mut store = Store::new(alloc);
     assert!(rt; store.add(Table::new(alloc, schema(alloc)?, 1)).is_ok());
     Ok(store)
@@ -82,7 +82,7 @@ using = "row.year >= 1950"
 "#;
 
 /// The refusal of a file, if it has one.
-pub fn refusal(alloc: Global, store: &Store, bytes: &[u8]) -> Option<PolicyFileError> {
+pub(crate) fn refusal(alloc: Global, store: &Store, bytes: &[u8]) -> Option<PolicyFileError> {
     match policies_from_toml(alloc, bytes, store) {
         Ok(_policies) => None,
         Err(error) => Some(error),
