@@ -20,8 +20,8 @@ MOST_TIMES = 2.2
 WANTED = 3
 WANTED_TO_DELETE = 40
 # Of an insert, and of the delete, over a run without them.
-MOST_INSTRUCTIONS = 20_300
-MOST_INSTRUCTIONS_TO_DELETE = 260_000_000
+MOST_INSTRUCTIONS = 16_000
+MOST_INSTRUCTIONS_TO_DELETE = 193_000_000
 CHECKED = """role = [{name = "reader"}]
 table = [{name = "notes", row_security = true}]
 [[policy]]
