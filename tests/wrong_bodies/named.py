@@ -5,11 +5,12 @@ depends on the items that are named, and on no body of a function that has a con
 it says: among its own items and those that its `use` lines bring in.
 """
 
+import hashlib
 import os
 import re
 from collections import namedtuple
 
-from functions import blanked
+from functions import UNREAD, blanked
 
 # An item of a file: its names, the types of which it is a function if it is one, and what is known of it.
 Item = namedtuple("Item", "names owners text")
@@ -116,6 +117,15 @@ def items_of_definitions(text):
 # ---- what names stand for
 
 
+def uncommented(path, text):
+    """The lines of a file that say something, without comments."""
+    if path.endswith(".rt"):
+        text = UNREAD.sub(lambda it: "" if it[0].startswith(("//", "/*")) else it[0], text)
+    else:
+        text = COMMENT.sub(lambda it: it[1] or "", text)
+    return "\n".join(it.rstrip() for it in text.split("\n") if it.strip())
+
+
 def split(path):
     return [it for it in re.split(r"\.|::", path) if it]
 
@@ -139,11 +149,12 @@ class Named:
 
     def __init__(self, root, own, below):
         self.root, self.below, self.held, self.found = root, below, {}, {}
+        self.own = {path: read(path, text) for path, text in own.items()}
         self.sources = {it: self.sources_of(it) for it in below}
         self.words, self.types = set(), set()
         left = []
         for path, text in own.items():
-            left += self.from_own(path, read(path, text), text)
+            left += self.from_own(path, self.own[path], text)
         self.follow(left)
 
     def sources_of(self, crate):
@@ -210,6 +221,30 @@ class Named:
                     left += self.take(path, number, item)
         return left
 
-    def items(self):
-        """What is named, as pairs of a path and a text."""
-        return [(path, text) for (path, _), text in sorted(self.found.items())]
+    def texts(self):
+        """The texts of what is named, without the places where they stand."""
+        return sorted({uncommented(path, text) for (path, _), text in self.found.items()})
+
+    # ---- what the `use` lines of an own file bring in from the crates below
+
+    def meant(self, path, way):
+        """A checksum of all that a path may stand for below, used in this file; None where it is nothing of there."""
+        found = set()
+        for file, name in self.targets(path, way):
+            for item in self.hold(file).items:
+                if name in item.names or name is None or name in item.owners:
+                    found.add(uncommented(file, item.text))
+        return hashlib.sha256("\0".join(sorted(found)).encode()).hexdigest() if found else None
+
+    def imports(self, path):
+        """What each local name stands for, by its text in place of its path."""
+        found = [(local, self.meant(path, way) or way) for local, ways in self.own[path].scope.items() for way in ways if self.is_below(way)]
+        return sorted(found, key=repr)
+
+    def is_below(self, way):
+        words = [it for it in way if it not in ("Rattle", "pub")]
+        return bool(words) and words[0] in self.below
+
+    def without_imports(self, path, text):
+        """The text of an own file without the `use` lines that bring in something from the crates below."""
+        return USED.sub(lambda it: "" if self.is_below(split(it[1])) else it[0], text)

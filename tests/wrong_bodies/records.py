@@ -8,7 +8,7 @@ import hashlib
 import os
 import subprocess
 
-from named import Named
+from named import Named, uncommented
 
 PARTS = ("src", "specs", "proofs")
 HERE = os.path.dirname(os.path.realpath(__file__))
@@ -34,32 +34,36 @@ def logic_of_rt():
 class Record:
     """What is on record of a crate, over the crates `below` it.
 
-    An answer depends on the crate as it is, and of the crates below it on what it names of them (`named`).
+    An answer depends on the crate as it is, and of the crates below it on what it names of them (`named`). It doesn't depend on
+    comments, nor on the crate and file in which something named stands, so that definitions may move.
     """
 
     def __init__(self, root, name, crates, below):
         self.root, self.name, self.file = root, name, f"{root}/tests/wrong_bodies/refused/{name}"
-        self.lines = [f"{it}: {' '.join(crates[it])}" for it in (*below, name)]
+        self.kit = [it for of in (*below, name) for it in crates[of] if it not in crates]
         self.below = below
         self.sum = self.sum_of_all()
 
     def own_files(self, *parts):
-        """The files of these folders of the crate, by their paths, each with its bytes."""
+        """The files of these folders of the crate, by their paths in it, each with its bytes."""
         at = [f"crates/{self.name}/{part}" for part in parts]
         return {f"{folder}/{path}": text for folder in at for path, text in files_below(f"{self.root}/{folder}")}
 
     def sum_of_all(self):
-        """The checksum of the toolchain's logic, what judges here, the lines of crates.txt, what is named, the crate and its edits."""
+        """The checksum of the toolchain's logic, what judges here, the kit's libraries, what is named, the crate and its edits."""
         found = hashlib.sha256(logic_of_rt())
         for name in JUDGES:
             with open(f"{HERE}/{name}", "rb") as file:
                 self.add(found, name, file.read())
-        self.add(found, "crates.txt", "\n".join(self.lines).encode())
-        own = self.own_files(*PARTS)
-        texts = {path: text.decode(errors="replace") for path, text in own.items()}
-        for path, text in Named(self.root, texts, self.below).items():
-            self.add(found, path, text.encode())
-        for path, text in {**own, **self.own_files("wrong-bodies")}.items():
+        self.add(found, "libraries", " ".join(sorted({*self.kit})).encode())
+        own = {path: text.decode(errors="replace") for path, text in self.own_files(*PARTS).items()}
+        named = Named(self.root, own, self.below)
+        for text in named.texts():
+            self.add(found, "named", text.encode())
+        for path, text in own.items():
+            self.add(found, path, uncommented(path, named.without_imports(path, text)).encode())
+            self.add(found, path, repr(named.imports(path)).encode())
+        for path, text in self.own_files("wrong-bodies").items():
             self.add(found, path, text)
         return found.hexdigest()
 
