@@ -103,15 +103,17 @@ def declarations(text):
 
 
 def items_of_definitions(text):
-    """The items of a file of definitions or lemmas; the head of a module, which has no name, belongs to all of them."""
+    """The items of a file of definitions or lemmas. The head of a module, which has no name, belongs to each item in it."""
+    heads = []
     for it in declarations(text):
-        head = DEFINES.match(it)
+        head, depth = DEFINES.match(it), len(it) - len(it.lstrip())
         if USE.match(it):
             continue
+        heads = [other for other in heads if len(other) - len(other.lstrip()) < depth]
         if "module" in head[2] or not NAME.search(head[3]):
-            yield Item([None], frozenset(), it)
+            heads.append(it)
         else:
-            yield Item([head[3], *(CONSTRUCTOR.findall(it) if "data" in head[2] else [])], frozenset(), it)
+            yield Item([head[3], *(CONSTRUCTOR.findall(it) if "data" in head[2] else [])], frozenset(), "\n".join([*heads, it]))
 
 
 # ---- what names stand for
@@ -196,7 +198,7 @@ class Named:
             path, name = left.pop()
             held = self.hold(path)
             for number, item in enumerate(held.items):
-                if (path, number) not in self.found and not item.owners and (name in item.names or item.names == [None]):
+                if (path, number) not in self.found and not item.owners and name in item.names:
                     left += self.take(path, number, item)
             if not left:
                 left = self.functions()
@@ -246,5 +248,6 @@ class Named:
         return bool(words) and words[0] in self.below
 
     def without_imports(self, path, text):
-        """The text of an own file without the `use` lines that bring in something from the crates below."""
-        return USED.sub(lambda it: "" if self.is_below(split(it[1])) else it[0], text)
+        """The text of an own file without the `use` lines that bring in something from the crates below, and what other paths mean."""
+        left = USED.sub(lambda it: "" if self.is_below(split(it[1])) else it[0], text)
+        return PATH.sub(lambda it: self.meant(path, split(it[0])) or it[0] if self.is_below(split(it[0])) else it[0], left)
