@@ -149,10 +149,10 @@ def read(path, text):
 class Named:
     """What the files of a crate name of the crates below it. `own` are the texts of its files by their paths."""
 
-    def __init__(self, root, own, below):
-        self.root, self.below, self.held, self.found = root, below, {}, {}
+    def __init__(self, root, name, own, below):
+        self.root, self.name, self.below, self.held, self.found = root, name, below, {}, {}
         self.own = {path: read(path, text) for path, text in own.items()}
-        self.sources = {it: self.sources_of(it) for it in below}
+        self.sources = {it: self.sources_of(it) for it in (*below, name)}
         self.words, self.types = set(), set()
         left = []
         for path, text in own.items():
@@ -174,13 +174,17 @@ class Named:
         """What a file of the crate itself names: all that its `use` lines bring in, and each path."""
         self.words |= {*NAME.findall(text)}
         ways = [way for found in (*held.scope.values(), held.paths) for way in found]
-        return [it for way in ways for it in self.targets(path, way)]
+        return [it for way in ways if self.crate_of(path, way) in self.below for it in self.targets(path, way)]
+
+    def crate_of(self, path, way):
+        """The crate that a path of words leads to, used in this file."""
+        words = [it for it in way if it not in ("Rattle", "pub")]
+        return path.split("/")[1] if words and words[0] == "crate" else (words or [""])[0]
 
     def targets(self, path, way):
         """The files and names that a path of words may stand for, used in this file."""
-        words = [it for it in way if it not in ("Rattle", "pub")]
-        crate = path.split("/")[1] if words and words[0] == "crate" else (words or [""])[0]
-        if crate not in self.below:
+        words, crate = [it for it in way if it not in ("Rattle", "pub")], self.crate_of(path, way)
+        if crate not in self.sources:
             return
         rest = [it for it in words[1:] if it != "declared"]
         part = rest.pop(0) if rest and rest[0] in ("specs", "proofs") else None
@@ -227,10 +231,10 @@ class Named:
         """The texts of what is named, without the places where they stand."""
         return sorted({uncommented(path, text) for (path, _), text in self.found.items()})
 
-    # ---- what the `use` lines of an own file bring in from the crates below
+    # ---- what the `use` lines and the other paths of an own file stand for
 
     def meant(self, path, way):
-        """A checksum of all that a path may stand for below, used in this file; None where it is nothing of there."""
+        """A checksum of all that a path may stand for, used in this file; None where it is nothing of these crates."""
         found = set()
         for file, name in self.targets(path, way):
             for item in self.hold(file).items:
@@ -240,14 +244,13 @@ class Named:
 
     def imports(self, path):
         """What each local name stands for, by its text in place of its path."""
-        found = [(local, self.meant(path, way) or way) for local, ways in self.own[path].scope.items() for way in ways if self.is_below(way)]
+        found = [(local, self.meant(path, way) or way) for local, ways in self.own[path].scope.items() for way in ways if self.is_ours(path, way)]
         return sorted(found, key=repr)
 
-    def is_below(self, way):
-        words = [it for it in way if it not in ("Rattle", "pub")]
-        return bool(words) and words[0] in self.below
+    def is_ours(self, path, way):
+        return self.crate_of(path, way) in self.sources
 
     def without_imports(self, path, text):
-        """The text of an own file without the `use` lines that bring in something from the crates below, and what other paths mean."""
-        left = USED.sub(lambda it: "" if self.is_below(split(it[1])) else it[0], text)
-        return PATH.sub(lambda it: self.meant(path, split(it[0])) or it[0] if self.is_below(split(it[0])) else it[0], left)
+        """The text of an own file without the `use` lines that bring in something of these crates, and what its other paths mean."""
+        left = USED.sub(lambda it: "" if self.is_ours(path, split(it[1])) else it[0], text)
+        return PATH.sub(lambda it: self.meant(path, split(it[0])) or it[0], left)

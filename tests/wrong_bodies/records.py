@@ -6,6 +6,7 @@ trial would only say the same again, which takes a processor some hours.
 
 import hashlib
 import os
+import re
 import subprocess
 
 from named import Named, uncommented
@@ -57,15 +58,22 @@ class Record:
                 self.add(found, name, file.read())
         self.add(found, "libraries", " ".join(sorted({*self.kit})).encode())
         own = {path: text.decode(errors="replace") for path, text in self.own_files(*PARTS).items()}
-        named = Named(self.root, own, self.below)
+        named = Named(self.root, self.name, {f"crates/{self.name}/{path}": text for path, text in own.items()}, self.below)
         for text in named.texts():
             self.add(found, "named", text.encode())
-        for path, text in own.items():
-            self.add(found, path, uncommented(path, named.without_imports(path, text)).encode())
-            self.add(found, path, repr(named.imports(path)).encode())
+        for it in sorted(self.known_of(named, path, text) for path, text in own.items()):
+            self.add(found, "own", it.encode())
         for path, text in self.own_files("wrong-bodies").items():
             self.add(found, path, text)
         return found.hexdigest()
+
+    def known_of(self, named, path, text):
+        """What counts of an own file. Where a file of lemmas stands counts for nothing, as what names them says by what it means."""
+        whole = f"crates/{self.name}/{path}"
+        place = "" if re.fullmatch(r"proofs/[\w/]*\b(?!Answers|Invariants|Proof|Lib)\w+\.antt", path) else path
+        if re.fullmatch(r"(?:proofs|specs)/Lib\.antt", path):
+            return ""
+        return "\0".join([place, uncommented(path, named.without_imports(whole, text)), repr(named.imports(whole))])
 
     @staticmethod
     def add(found, name, text):
