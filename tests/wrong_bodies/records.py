@@ -39,24 +39,22 @@ class Record:
     comments, nor on the crate and file in which something named stands, so that definitions may move.
     """
 
-    def __init__(self, root, name, crates, below):
+    def __init__(self, root, name, below):
         self.root, self.name, self.file = root, name, f"{root}/tests/wrong_bodies/refused/{name}"
-        self.kit = [it for of in (*below, name) for it in crates[of] if it not in crates]
         self.below = below
         self.sum = self.sum_of_all()
 
     def own_files(self, *parts):
         """The files of these folders of the crate, by their paths in it, each with its bytes."""
-        at = [f"crates/{self.name}/{part}" for part in parts]
-        return {f"{folder}/{path}": text for folder in at for path, text in files_below(f"{self.root}/{folder}")}
+        at = f"{self.root}/crates/{self.name}"
+        return {f"{part}/{path}": text for part in parts for path, text in files_below(f"{at}/{part}")}
 
     def sum_of_all(self):
-        """The checksum of the toolchain's logic, what judges here, the kit's libraries, what is named, the crate and its edits."""
+        """The checksum of the toolchain's logic, what judges here, what is named, the crate and its edits."""
         found = hashlib.sha256(logic_of_rt())
         for name in JUDGES:
             with open(f"{HERE}/{name}", "rb") as file:
                 self.add(found, name, file.read())
-        self.add(found, "libraries", " ".join(sorted({*self.kit})).encode())
         own = {path: text.decode(errors="replace") for path, text in self.own_files(*PARTS).items()}
         named = Named(self.root, self.name, {f"crates/{self.name}/{path}": text for path, text in own.items()}, self.below)
         for text in named.texts():
