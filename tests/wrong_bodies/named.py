@@ -34,7 +34,7 @@ ATTRIBUTE = re.compile(r"^\s*#!?\[.*\]$", re.M)
 BODY = re.compile(r"^( *)\{\n.*?^\1\}", re.M | re.S)
 
 COMMENT = re.compile(r'("(?:\\.|[^"\\])*")|--[^\n]*')
-DEFINES = re.compile(r"(\s*)((?:(?:pub|abbrev|unfoldable|data|record|module)\s+)*)([^\s:]+)(?=\s|:|$)")
+DEFINES = re.compile(r"(\s*)((?:(?:pub|abbrev|unfoldable|data|record|ruleset|module)\s+)*)([^\s:]+)(?=\s|:|$)")
 CONSTRUCTOR = re.compile(r"^\s+(\S+)(?:\s*\{[^}]*\})?\s*:", re.M)
 
 
@@ -110,7 +110,7 @@ def items_of_definitions(text):
         if USE.match(it):
             continue
         heads = [other for other in heads if len(other) - len(other.lstrip()) < depth]
-        if "module" in head[2] or not NAME.search(head[3]):
+        if "module" in head[2] or not re.search(r"[\w◌]", head[3]):
             heads.append(it)
         else:
             yield Item([head[3], *(CONSTRUCTOR.findall(it) if "data" in head[2] else [])], frozenset(), "\n".join([*heads, it]))
@@ -153,7 +153,7 @@ class Named:
         self.root, self.name, self.below, self.held, self.found = root, name, below, {}, {}
         self.own = {path: read(path, text) for path, text in own.items()}
         self.sources = {it: self.sources_of(it) for it in (*below, name)}
-        self.words, self.types = set(), set()
+        self.words, self.types, self.passed = set(), set(), set()
         left = []
         for path, text in own.items():
             left += self.from_own(path, self.own[path], text)
@@ -204,19 +204,35 @@ class Named:
             for number, item in enumerate(held.items):
                 if (path, number) not in self.found and not item.owners and name in item.names:
                     left += self.take(path, number, item)
+            if (path, name) not in self.passed:
+                self.passed.add((path, name))
+                left += self.brought(path, name)
             if not left:
                 left = self.functions()
+
+    def brought(self, path, name):
+        """What a name stands for that a file only brings in, and so hands on."""
+        held = self.hold(path)
+        if any(name in it.names for it in held.items):
+            return []
+        return [it for way in held.scope.get(name, []) for it in self.targets(path, way)]
 
     def take(self, path, number, item):
         held = self.hold(path)
         self.found[path, number] = item.text
-        words = {*NAME.findall(item.text)}
+        words = {*NAME.findall(item.text), *self.signs(held, item.text)}
         self.words |= words
         self.types |= {it for it in item.names if it}
         named = [(path, it) for it in words if any(it in other.names for other in held.items)]
         ways = [way for it in words for way in held.scope.get(it, [])]
         ways += [split(it) for it in PATH.findall(item.text)]
         return named + [it for way in ways for it in self.targets(path, way)]
+
+    @staticmethod
+    def signs(held, text):
+        """The operators of a file, its own and those that it brings in, whose signs stand in the text."""
+        known = {it for other in held.items for it in other.names if "◌" in it} | {it for it in held.scope if "◌" in it}
+        return [it for it in known if all(part in text for part in it.split("◌"))]
 
     def functions(self):
         """The functions of types that are named, whose own names stand anywhere."""
@@ -235,8 +251,9 @@ class Named:
 
     def meant(self, path, way):
         """A checksum of all that a path may stand for, used in this file; None where it is nothing of these crates."""
-        found = set()
-        for file, name in self.targets(path, way):
+        found, left = set(), [*self.targets(path, way)]
+        for file, name in left:
+            left += [it for it in self.brought(file, name) if it not in left]
             for item in self.hold(file).items:
                 if name in item.names or name is None or name in item.owners:
                     found.add(uncommented(file, item.text))
