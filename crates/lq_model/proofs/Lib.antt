@@ -5,6 +5,7 @@ pub mod ClauseLemmas
 pub mod ClauseTypeLemmas
 pub mod Completeness
 pub mod DefinitionLemmas
+pub mod DenialLemmas
 pub mod EnumerableLemmas
 pub mod EveryItem
 pub mod ExpressionSoundness

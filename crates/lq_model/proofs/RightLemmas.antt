@@ -50,12 +50,12 @@ module _ (roles : List Role) (role : ℕ) (used : Use) where
       let found = passing (is_same_use used) rule.rights h in
       subst (λ u. Contains rule.rights u) (sym (same_use used found.0 found.2)) found.1
 
-  bearing_told : (rule : RightRule) → bears roles role used rule ≡ true → BearsOn roles role used rule
+  pub bearing_told : (rule : RightRule) → bears roles role used rule ≡ true → BearsOn roles role used rule
   bearing_told rule h =
       let both = and_parts (is_listed roles role rule.to) (covers used rule) h in
       record { to_role = listed_where_found roles role rule.to both.0; covering = covering_told rule both.1 }
 
-  bearing_given : (rule : RightRule) → BearsOn roles role used rule → bears roles role used rule ≡ true
+  pub bearing_given : (rule : RightRule) → BearsOn roles role used rule → bears roles role used rule ≡ true
   bearing_given rule h =
       and_from (is_listed roles role rule.to) (covers used rule) (found_where_listed roles role rule.to h.to_role)
       (found_at (is_same_use used) rule.rights used h.covering (same_itself used))
@@ -83,7 +83,7 @@ module _ (parts : PolicyParts) (role : ℕ) where
 
 -- ---- what a role may use
 
-is_column : (t : ℕ) (used : Use) → is_column_of t used ≡ true → (c : ℕ) × (of.Column t c ≡ used)
+pub is_column : (t : ℕ) (used : Use) → is_column_of t used ≡ true → (c : ℕ) × (of.Column t c ≡ used)
 is_column t (of.Column u c) h = (c, λ i. of.Column (eqb-true t u h i) c)
 is_column t used h = absurd (true≢false (sym h))
 

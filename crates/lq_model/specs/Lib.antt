@@ -4,6 +4,7 @@ pub mod ClauseLaws
 pub mod ClauseTyping
 pub mod DefinitionLaws
 pub mod Definitions
+pub mod DenialLaws
 pub mod Depth
 pub mod Enumerable
 pub mod EnumerableCalls

@@ -1,5 +1,6 @@
 //! Laws of rights. Each function's contract is the law that it is named for; the functions themselves
 //! do nothing.
+ghost use Rattle.lq_model.specs.DenialLaws.{DeniesFirst, NamesDenier};
 ghost use Rattle.lq_model.specs.RightLaws.{DeniesTheRest, DeniesWithoutGrants, GrantsMore, TellsUses, WithholdsMore};
 
 /// The function that decides on rights tells exactly what a role may use: what some grant that applies
@@ -20,4 +21,12 @@ pub fn one_rule_more()
 /// A role to which no grant applies is denied whatever uses a table or a column.
 pub fn no_right_without_a_grant()
     ensures { DeniesWithoutGrants }
+{}
+
+/// What a role may not use is denied under the name of the first withhold that concerns it: that applies
+/// to the role and covers the use, or of a table a column of it; and as one without a grant where no
+/// withhold does. Of a list of uses the first is denied that the role may not use.
+pub fn named_denials()
+    ensures name { NamesDenier }
+    ensures first { DeniesFirst }
 {}
