@@ -19,6 +19,7 @@ pub mod Meaning
 pub mod MeaningLaws
 pub mod Members
 pub mod Opening
+pub mod OpeningLaws
 pub mod OperationLaws
 pub mod Operations
 pub mod Operators

@@ -1,6 +1,7 @@
 //! Laws of the session machine and of its output. Each function's contract is the law that it is
 //! named for; the functions themselves do nothing.
 ghost use Rattle.lq_model.specs.DefinitionLaws.{KeepsDefined};
+ghost use Rattle.lq_model.specs.OpeningLaws.{FindsRank, FindsSize, OpensNothing};
 ghost use Rattle.lq_model.specs.SessionLaws.{AnswersAlike, AsksNoHost, LookAlikeBehind, NumberAlikeBehind, ScriptsAlike, IsOutput, LeavesTheRest, IsSilentAlike, MemoryLineIsServed};
 
 /// Hidden rows change no answer: two states whose role sees the same tables, under the same policies,
@@ -42,4 +43,13 @@ pub fn memory_line_is_served()
 /// the names before it, and each name is new to the tables and to the definitions before it.
 pub fn definitions_are_kept()
     ensures { KeepsDefined }
+{}
+
+/// A token opens a named query where it is the query's name and doesn't stand directly behind a `.`. The
+/// size of a statement is the number of its tokens, and the size of what each token opens; its rank is 0
+/// where none opens anything, and else one more than the greatest rank among what is opened.
+pub fn opened_queries()
+    ensures size { FindsSize }
+    ensures rank { FindsRank }
+    ensures unread { OpensNothing }
 {}
