@@ -17,7 +17,7 @@ turned_flip true o = refl
 turned_flip false o = refl
 
 -- turning two lists of keys turns the answer
-flips : (ds : List Bool) (ks ls : List Scalar) → order_of_keys ds ks ls ≡ ordering_reverse (order_of_keys ds ls ks)
+pub flips : (ds : List Bool) (ks ls : List Scalar) → order_of_keys ds ks ls ≡ ordering_reverse (order_of_keys ds ls ks)
 flips [] ks ls = refl
 flips (d ∷ ds) [] ls = nothing ls where
   nothing : (ls : List Scalar) → order_of_keys (d ∷ ds) [] ls ≡ ordering_reverse (order_of_keys (d ∷ ds) ls [])
@@ -33,7 +33,7 @@ turned_level true = refl
 turned_level false = refl
 
 -- keys are level with themselves
-level : (ds : List Bool) (ks : List Scalar) → order_of_keys ds ks ks ≡ ordering.Equal
+pub level : (ds : List Bool) (ks : List Scalar) → order_of_keys ds ks ks ≡ ordering.Equal
 level [] ks = refl
 level (d ∷ ds) [] = refl
 level (d ∷ ds) (k ∷ ks) = ap₂ ordering_then (ap (turned d) ((tells_scalars k k).1 refl) ∙ turned_level d) (level ds ks)

@@ -24,6 +24,7 @@ pub mod MemberLemmas
 pub mod MembershipLemmas
 pub mod MethodPulls
 pub mod NewRowLemmas
+pub mod OneArrangement
 pub mod OpeningLemmas
 pub mod Opens
 pub mod OperationLemmas

@@ -18,6 +18,7 @@ pub mod Maps
 pub mod Meaning
 pub mod MeaningLaws
 pub mod Members
+pub mod OneArrangement
 pub mod Opening
 pub mod OpeningLaws
 pub mod OperationLaws

@@ -3,6 +3,7 @@
 ghost use Rattle.lq_model.specs.ArrangementLaws.{ArrangesByKeys, KeepsTies};
 ghost use Rattle.lq_model.specs.MeaningLaws.{HasMeaning, HasStream, SelectsScalars};
 ghost use Rattle.lq_model.specs.DefinitionLaws.{NamesAreKnown, NamesHaveMeanings, NamesHaveValues, ServesMeanings};
+ghost use Rattle.lq_model.specs.OneArrangement.{ArrangesOnce};
 ghost use Rattle.lq_model.specs.WholeMeaningLaws.{HasWholeMeaning, HasWholeStream, KeepsMeanings, KeepsStreams, NeverFaults};
 
 /// Where local names have values of their types and tables have their rows, a typed expression has
@@ -33,6 +34,12 @@ pub fn served_meanings()
 pub fn arranged_items<A>()
     ensures sorted { ArrangesByKeys A }
     ensures ties { KeepsTies A }
+{}
+
+/// Where each item has a key for each direction, that is the one arrangement: no other list is sorted by
+/// the keys and has the items with the same keys in the order that they had.
+pub fn one_arrangement<A>()
+    ensures { ArrangesOnce A }
 {}
 
 /// The same of the whole language, over rows of any kind: a typed expression, with records, groups and
