@@ -51,6 +51,7 @@ pub mod SequenceLemmas
 pub mod ServedLemmas
 pub mod ServedMeanings
 pub mod SessionLemmas
+pub mod SessionTypes
 pub mod Soundness
 pub mod SourceTypes
 pub mod StatementLemmas

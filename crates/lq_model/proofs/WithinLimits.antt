@@ -31,7 +31,7 @@ within_from : (s t : Ty) → parts_of t ≤ parts_of s → is_within s ≡ true 
 within_from s t less within = le-leb (parts_of t) 4096 (let most : parts_of s ≤ 4096 = leb-true (parts_of s) 4096 within in omega (arith, less, most))
 
 -- a type of one part
-abbrev is_one : Ty-F Ty → Bool
+abbrev pub is_one : Ty-F Ty → Bool
 is_one (Ty-F.Rec ms) = false
 is_one (Ty-F.Seq t) = false
 is_one (Ty-F.Group k t) = false
@@ -43,7 +43,7 @@ one_part (Ty-F.Seq t) h = absurd (true≢false (sym h))
 one_part (Ty-F.Group k t) h = absurd (true≢false (sym h))
 one_part layer h = refl
 
-within_one : (t : Ty) → is_one (out-Ty t) ≡ true → is_within t ≡ true
+pub within_one : (t : Ty) → is_one (out-Ty t) ≡ true → is_within t ≡ true
 within_one t h = ap (λ n. nat_le n 4096) (parts_out t ∙ one_part (out-Ty t) h)
 
 at_layer : (t : Ty) (layer : Ty-F Ty) → out-Ty t ≡ layer → is_one layer ≡ true → is_within t ≡ true

@@ -34,6 +34,7 @@ pub mod Script
 pub mod Served
 pub mod Serving
 pub mod SessionLaws
+pub mod SessionTypes
 pub mod Statements
 pub mod States
 pub mod Stream

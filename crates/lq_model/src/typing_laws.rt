@@ -1,5 +1,6 @@
 //! Laws of the typing rules. Each function's contract is the law that it is named for; the
 //! functions themselves do nothing.
+ghost use Rattle.lq_model.specs.SessionTypes.{LimitsNames, LimitsQueries, LimitsStatements};
 ghost use Rattle.lq_model.specs.TypingLaws.{HasOneType, HasOneItemType, FindsTypes, FindsItemTypes, KeepsTypes, KeepsItemTypes};
 ghost use Rattle.lq_model.specs.WholeTypingLaws.{FindsQueryItems, FindsWholeTypes, GivesOneType, HasOneWholeType, LimitsItems, LimitsTypes};
 
@@ -42,4 +43,12 @@ pub fn whole_types_are_found()
 pub fn types_are_limited()
     ensures expression { LimitsTypes }
     ensures query { LimitsItems }
+{}
+
+/// Under definitions as `var` makes them, the names of a session have types of at most 4,096 parts, and so
+/// have every typed expression of a statement, and the sequence of every query's items.
+pub fn session_types_are_limited()
+    ensures names { LimitsNames }
+    ensures expression { LimitsStatements }
+    ensures query { LimitsQueries }
 {}
