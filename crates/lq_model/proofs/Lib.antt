@@ -14,6 +14,7 @@ pub mod FirstTokens
 pub mod Following
 pub mod Forwards
 pub mod KeptDefinitions
+pub mod KeyOrder
 pub mod Layers
 pub mod LexingLemmas
 pub mod LiteralLemmas

@@ -12,6 +12,7 @@ pub mod EnumerableLaws
 pub mod Grammar
 pub mod GrammarLaws
 pub mod HostCalls
+pub mod KeyOrder
 pub mod LexingLaws
 pub mod Machine
 pub mod Maps

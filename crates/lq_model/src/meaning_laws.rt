@@ -1,6 +1,7 @@
 //! Laws of meaning. Each function's contract is the law that it is named for; the functions
 //! themselves do nothing.
 ghost use Rattle.lq_model.specs.ArrangementLaws.{ArrangesByKeys, KeepsTies};
+ghost use Rattle.lq_model.specs.KeyOrder.{TellsKeyOrder};
 ghost use Rattle.lq_model.specs.MeaningLaws.{HasMeaning, HasStream, SelectsScalars};
 ghost use Rattle.lq_model.specs.DefinitionLaws.{NamesAreKnown, NamesHaveMeanings, NamesHaveValues, ServesMeanings};
 ghost use Rattle.lq_model.specs.OneArrangement.{ArrangesOnce};
@@ -27,6 +28,12 @@ pub fn session_values<R>()
 /// reply to `run` depends on what stands where an expression has no meaning.
 pub fn served_meanings()
     ensures { ServesMeanings }
+{}
+
+/// Of two lists of sort keys one stands before the other exactly where, at the first place at which they
+/// differ, its key is less, or greater where that key descends.
+pub fn order_of_sort_keys()
+    ensures { TellsKeyOrder }
 {}
 
 /// `orderby` leaves the items sorted by their keys: none stands behind one that its keys put after
