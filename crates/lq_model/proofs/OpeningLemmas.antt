@@ -74,7 +74,7 @@ module _ (definitions : List Definition) where
   named_given name o is =
       ap (λ (ds : List Definition). opened_by (definition_of name ds)) is.split
       ∙ ap opened_by (first_given name is.front is.definition is.rest is.named is.first)
-      ∙ ap opened_as is.queries
+      ∙ ap opened_as is.stands_for
 
   no_item : (o : Opened) → [] ≡ o ∷ [] → ⊥
   no_item o h = absurd (cc h)
@@ -97,7 +97,7 @@ module _ (definitions : List Definition) where
             named = found.3;
             first = found.4;
             query = e;
-            queries = defined;
+            stands_for = defined;
           },
         )
 

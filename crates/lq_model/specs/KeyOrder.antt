@@ -1,11 +1,13 @@
--- The law of the order of sort keys: the first place at which two lists of keys differ decides, in that place's direction.
+-- The law of the order of sort keys: the first place at which two lists of keys differ decides, in
+-- that place's direction.
 use Rattle.std.specs.Prelude.{◌≡◌, ◌↔◌, ◌<◌, if◌then◌else◌, List, ℕ, Bool, Some, slice_get}
 use Rattle.std.specs.declared.cmp.Ordering.TheVariants.{Greater, Less}
 use Rattle.lq_value.specs.SameAndOrder.{order_of}
 use Rattle.lq_value.specs.declared.scalar.Scalar.{Scalar}
 use Rattle.lq_model.specs.Arrangement.{order_of_keys}
 
--- One list of keys stands before another: at the first place at which they differ its key is less, or greater where that key descends.
+-- One list of keys stands before another: at the first place at which they differ its key is less,
+-- or greater where that key descends.
 pub record StandsBefore (ds : List Bool) (keys others : List Scalar) : Type 0 where
   pub place : ℕ
   pub descending : Bool

@@ -10,60 +10,62 @@ use Rattle.lq_model.specs.declared.syntax.Expr.{Expr}
 use Rattle.lq_model.specs.declared.token.Kind.TheVariants as k
 use Rattle.lq_model.specs.declared.token.Token.{Token}
 
--- The first definition of this name is a named query, whose statement opens so much.
-pub record IsNamedQuery (definitions : List Definition) (name : List ℕ) (opened : Opened) : Type 0 where
-  pub front : List Definition
-  pub definition : Definition
-  pub rest : List Definition
-  pub split : definitions ≡ front ++ definition ∷ rest
-  pub named : definition.name ≡ name
-  pub first : (earlier : Definition) → Contains front earlier → earlier.name ≢ name
-  pub query : Expr
-  pub queries : definition.defined ≡ of.Query query opened
+module _ (definitions : List Definition) where
+  -- The first definition of this name is a named query, whose statement opens so much.
+  pub record IsNamedQuery (name : List ℕ) (opened : Opened) : Type 0 where
+    pub front : List Definition
+    pub definition : Definition
+    pub rest : List Definition
+    pub split : definitions ≡ front ++ definition ∷ rest
+    pub named : definition.name ≡ name
+    pub first : (earlier : Definition) → Contains front earlier → earlier.name ≢ name
+    pub query : Expr
+    pub stands_for : definition.defined ≡ of.Query query opened
 
--- The token at this place opens a named query: it is its name, and doesn't stand directly behind a `.`.
-pub record OpensAt (definitions : List Definition) (line : List ℕ) (tokens : List Token) (place : ℕ)
-    (opened : Opened) : Type 0 where
-  pub token : Token
-  pub there : slice_get tokens place ≡ Some token
-  pub named : token.kind ≡ k.Name
-  pub no_member : (before : ℕ) (other : Token) → place ≡ before + 1 → slice_get tokens before ≡ Some other
-      → other.kind ≢ k.Dot
-  pub of_query : IsNamedQuery definitions (text_of line token) opened
+module _ (definitions : List Definition) (line : List ℕ) (tokens : List Token) where
+  -- The token at this place opens a named query: it is its name, and doesn't stand directly behind
+  -- a `.`.
+  pub record OpensAt (place : ℕ) (opened : Opened) : Type 0 where
+    pub token : Token
+    pub there : slice_get tokens place ≡ Some token
+    pub named : token.kind ≡ k.Name
+    pub no_member : (before : ℕ) (other : Token) → place ≡ before + 1
+        → slice_get tokens before ≡ Some other → other.kind ≢ k.Dot
+    pub of_query : IsNamedQuery definitions (text_of line token) opened
 
--- What a token adds to the size of its statement: the size of what it opens, and nothing where it opens nothing.
-pub data AddsAt (definitions : List Definition) (line : List ℕ) (tokens : List Token) (place : ℕ) : ℕ → Type 0 where
-  opening : (opened : Opened) → OpensAt definitions line tokens place opened
-      → AddsAt definitions line tokens place opened.size
-  nothing : ((opened : Opened) → OpensAt definitions line tokens place opened → ⊥)
-      → AddsAt definitions line tokens place 0
+  -- What a token adds to the size of its statement: the size of what it opens, and nothing where it
+  -- opens nothing.
+  pub data AddsAt (place : ℕ) : ℕ → Type 0 where
+    opening : (opened : Opened) → OpensAt place opened → AddsAt place opened.size
+    nothing : ((opened : Opened) → OpensAt place opened → ⊥) → AddsAt place 0
 
--- The size of a statement is the number of its tokens and the sum of what each of them adds.
-pub record IsSize (definitions : List Definition) (line : List ℕ) (tokens : List Token) (size : ℕ) : Type 0 where
-  pub added : List ℕ
-  pub one_each : length added ≡ length tokens
-  pub each : (place n : ℕ) → slice_get added place ≡ Some n → AddsAt definitions line tokens place n
-  pub whole : size ≡ length tokens + sum added
+  -- The size of a statement is the number of its tokens and the sum of what each of them adds.
+  pub record IsSize (size : ℕ) : Type 0 where
+    pub added : List ℕ
+    pub one_each : length added ≡ length tokens
+    pub each : (place n : ℕ) → slice_get added place ≡ Some n → AddsAt place n
+    pub whole : size ≡ length tokens + sum added
 
--- The rank of a statement is 0 where no token opens anything, and else one more than the greatest rank among what is opened.
-pub data IsRank (definitions : List Definition) (line : List ℕ) (tokens : List Token) : ℕ → Type 0 where
-  lowest : ((place : ℕ) (opened : Opened) → OpensAt definitions line tokens place opened → ⊥)
-      → IsRank definitions line tokens 0
-  above : (place : ℕ) (greatest : Opened) → OpensAt definitions line tokens place greatest
-      → ((other : ℕ) (opened : Opened) → OpensAt definitions line tokens other opened
-      → opened.rank ≤ greatest.rank)
-      → IsRank definitions line tokens (greatest.rank + 1)
+  -- The rank of a statement is 0 where no token opens anything, and else one more than the greatest
+  -- rank among what is opened.
+  pub data IsRank : ℕ → Type 0 where
+    lowest : ((place : ℕ) (opened : Opened) → OpensAt place opened → ⊥) → IsRank 0
+    above : (place : ℕ) (greatest : Opened) → OpensAt place greatest
+        → ((other : ℕ) (opened : Opened) → OpensAt other opened → opened.rank ≤ greatest.rank)
+        → IsRank (greatest.rank + 1)
 
 -- the size that is found for a statement is its size
 abbrev pub FindsSize : Type 0
 FindsSize =
-    (definitions : List Definition) (line : List ℕ) (tokens : List Token) → tokens_of line ≡ Some tokens
+    (definitions : List Definition) (line : List ℕ) (tokens : List Token)
+    → tokens_of line ≡ Some tokens
     → IsSize definitions line tokens (opening_of definitions line).size
 
 -- the rank that is found for a statement is its rank
 abbrev pub FindsRank : Type 0
 FindsRank =
-    (definitions : List Definition) (line : List ℕ) (tokens : List Token) → tokens_of line ≡ Some tokens
+    (definitions : List Definition) (line : List ℕ) (tokens : List Token)
+    → tokens_of line ≡ Some tokens
     → IsRank definitions line tokens (opening_of definitions line).rank
 
 -- a line that can't be cut into tokens opens nothing

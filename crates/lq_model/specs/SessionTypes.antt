@@ -1,4 +1,5 @@
--- Laws of the types in a session: under definitions as `var` makes them, none is of more than 4,096 parts.
+-- Laws of the types in a session: under definitions as `var` makes them, none is of more than 4,096
+-- parts.
 use Rattle.std.specs.Prelude.{◌≡◌, List, true, Some}
 use Rattle.lq_value.specs.declared.table.Schema.{Schema}
 use Rattle.lq_value.specs.declared.ty.Ty.{Ty}
@@ -21,12 +22,15 @@ LimitsNames =
 -- and so has every expression that a statement of the session holds, where it has a type
 abbrev pub LimitsStatements : Type 0
 LimitsStatements =
-    (schemas : List Schema) (definitions : List Definition) → AreDefined schemas definitions → (e : Expr) (t : Ty)
-    → expression_type e (outer_names schemas (known_names schemas definitions)) ≡ Some t → is_within t ≡ true
+    (schemas : List Schema) (definitions : List Definition) → AreDefined schemas definitions
+    → (e : Expr) (t : Ty)
+    → expression_type e (outer_names schemas (known_names schemas definitions)) ≡ Some t
+    → is_within t ≡ true
 
 -- and the sequence of every query's items
 abbrev pub LimitsQueries : Type 0
 LimitsQueries =
-    (schemas : List Schema) (definitions : List Definition) → AreDefined schemas definitions → (q : Query Expr) (t : Ty)
+    (schemas : List Schema) (definitions : List Definition) → AreDefined schemas definitions
+    → (q : Query Expr) (t : Ty)
     → query_items expression_type q (outer_names schemas (known_names schemas definitions)) ≡ Some t
     → is_within (ty.Seq t) ≡ true
