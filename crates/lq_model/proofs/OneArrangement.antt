@@ -1,6 +1,6 @@
--- Proof of the law of one arrangement: the order of keys is transitive where there is one for each direction, so the first item of
+-- Proofs of the laws of one arrangement: the order of keys is transitive where there is one for each direction, so the first item of
 -- two sorted lists with the same ties is the same.
-use Rattle.std.proofs.Common.{◌≡◌, ◌∷◌, ◌&&◌, if◌then◌else◌, List, [], filter, length, ℕ, zero, suc, Bool, true, false, Some, ap, ap₂, ◌∙◌, arith, sym, refl, subst, slice_get, drop, true≢false}
+use Rattle.std.proofs.Common.{◌≡◌, ◌∷◌, ◌&&◌, Result, Ok, map, if◌then◌else◌, List, [], filter, length, ℕ, zero, suc, Bool, true, false, Some, ap, ap₂, ◌∙◌, arith, sym, refl, subst, slice_get, drop, true≢false}
 use Rattle.std.proofs.lemmas.Bool.{and_from, and_parts}
 use Rattle.std.proofs.lemmas.Cmp.{back_total, on_total, then_total, upto}
 use Rattle.std.proofs.lemmas.Option.{none-some, same_Some}
@@ -11,11 +11,15 @@ use Rattle.std.specs.declared.cmp.Ordering.TheVariants as ordering
 use Rattle.lq_value.specs.SameAndOrder.{order_of}
 use Rattle.lq_value.specs.declared.scalar.Scalar.{Scalar}
 use Rattle.lq_value.specs.declared.scalar.Scalar.TheVariants as scalar
+use Rattle.lq_value.specs.declared.value.End.TheVariants as end
+use Rattle.lq_value.specs.declared.value.Fault.{Fault}
 use Rattle.lq_value.proofs.OrderLemmas.{orders_scalars, tells_scalars}
-use Rattle.lq_model.specs.Arrangement.{Keyed, arranged, is_greater, order_of_keys, turned}
+use Rattle.lq_model.specs.Arrangement.{Keyed, all_of, arranged, is_greater, keyed, order_of_keys, turned, with_key}
 use Rattle.lq_model.specs.ArrangementLaws.{IsSorted, TellsOne}
 use Rattle.lq_model.specs.MeaningLaws.{Every}
-use Rattle.lq_model.specs.OneArrangement.{ArrangesOnce, HasTiesOf}
+use Rattle.lq_model.specs.OneArrangement.{AreFound, ArrangesItems, ArrangesOnce, HasTiesOf}
+use Rattle.lq_model.specs.Operations.{on_ok}
+use Rattle.lq_model.specs.Stream.{on_value}
 use Rattle.lq_model.proofs.ArrangementLemmas.{arranges_by_keys, flips, keeps_ties, level}
 use Rattle.lq_model.proofs.EveryItem.{every_filter, every_more, every_none, first_of, others_of}
 
@@ -226,3 +230,33 @@ arranges_once {A} ds rows others keys sorted ties =
     same_lists ds (arranged ds rows) others (λ test one. ties test one ∙ sym (keeps_ties ds rows test one))
     (ties_every ds (λ (row : Keyed A). length row.0 ≡ length ds) rows (arranged ds rows) (keeps_ties ds rows) keys)
     (ties_every ds (λ (row : Keyed A). length row.0 ≡ length ds) rows others ties keys) (arranges_by_keys ds rows) sorted
+
+-- ---- the items with their keys
+
+module _ {A S : Type 0} (key : S → A → Result Scalar Fault) (found : S → A → Scalar) where
+  all_found : (s : S) (xs : List A) → Every (λ (x : A). key s x ≡ Ok (found s x)) xs → all_of (key s) xs ≡ Ok (map (found s) xs)
+  all_found s [] there = refl
+  all_found s (x ∷ xs) there =
+      ap (λ (o : Result Scalar Fault). on_ok o (λ k. on_ok (all_of (key s) xs) (λ ks. Ok (k ∷ ks)))) (first_of (λ (y : A). key s y ≡ Ok (found s y)) x xs there)
+      ∙ ap (λ (o : Result (List Scalar) Fault). on_ok o (λ ks. Ok (found s x ∷ ks))) (all_found s xs (others_of (λ (y : A). key s y ≡ Ok (found s y)) x xs there))
+
+  abbrev row_of : List S → A → Keyed A
+  row_of ss x = (map (λ (s : S). found s x) ss, x)
+
+  one_more : (s : S) (ss : List S) (xs : List A) → with_key (map (found s) xs) (map (row_of ss) xs) ≡ map (row_of (s ∷ ss)) xs
+  one_more s ss [] = refl
+  one_more s ss (x ∷ xs) = ap (λ (rows : List (Keyed A)). row_of (s ∷ ss) x ∷ rows) (one_more s ss xs)
+
+  all_keyed : (ss : List S) (xs : List A) → AreFound key found ss xs → keyed key ss xs ≡ Ok (map (row_of ss) xs)
+  all_keyed [] xs there = refl
+  all_keyed (s ∷ ss) xs there =
+      ap (λ (o : Result (List Scalar) Fault). on_ok o (λ ks. on_ok (keyed key ss xs) (λ rows. Ok (with_key ks rows))))
+      (all_found s xs (first_of (λ (t : S). Every (λ (x : A). key t x ≡ Ok (found t x)) xs) s ss there))
+      ∙ ap (λ (o : Result (List (Keyed A)) Fault). on_ok o (λ rows. Ok (with_key (map (found s) xs) rows)))
+      (all_keyed ss xs (others_of (λ (t : S). Every (λ (x : A). key t x ≡ Ok (found t x)) xs) s ss there))
+      ∙ ap Ok (one_more s ss xs)
+
+pub arranges_items : {A S : Type 0} → ArrangesItems A S
+arranges_items descending key found ss xs there =
+    ap (λ (o : Result (List (Keyed _)) Fault). on_value o (λ rows. (map (λ (row : Keyed _). row.1) (arranged (map descending ss) rows), end.Done)))
+    (all_keyed key found ss xs there)

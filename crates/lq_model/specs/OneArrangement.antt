@@ -1,7 +1,10 @@
--- The law of one arrangement: what is sorted by the keys, and keeps the order of items with the same
--- keys, is `arranged`.
-use Rattle.std.specs.Prelude.{◌≡◌, List, filter, Bool, length}
-use Rattle.lq_model.specs.Arrangement.{Keyed, arranged}
+-- Laws of `orderby`'s arrangement: it is of the items with their own keys, and there is no other that is
+-- sorted and keeps the order of items with the same keys.
+use Rattle.std.specs.Prelude.{◌≡◌, List, filter, map, Bool, Result, Ok, length}
+use Rattle.lq_value.specs.declared.scalar.Scalar.{Scalar}
+use Rattle.lq_value.specs.declared.value.End.TheVariants as end
+use Rattle.lq_value.specs.declared.value.Fault.{Fault}
+use Rattle.lq_model.specs.Arrangement.{Keyed, arranged, order_by}
 use Rattle.lq_model.specs.ArrangementLaws.{IsSorted, TellsOne}
 use Rattle.lq_model.specs.MeaningLaws.{Every}
 
@@ -19,3 +22,15 @@ abbrev pub ArrangesOnce : Type 0 → Type 0
 ArrangesOnce A =
     (ds : List Bool) (rows others : List (Keyed A)) → HasEachKey ds rows → IsSorted ds others
     → HasTiesOf rows others → others ≡ arranged ds rows
+
+-- each sort key is found for each item
+abbrev pub AreFound : {A S : Type 0} → (S → A → Result Scalar Fault) → (S → A → Scalar) → List S → List A → Type 0
+AreFound key found ss xs = Every (λ s. Every (λ x. key s x ≡ Ok (found s x)) xs) ss
+
+-- then `orderby` gives the items as they are arranged by their own keys, the first of which counts most
+abbrev pub ArrangesItems : Type 0 → Type 0 → Type 0
+ArrangesItems A S =
+    (descending : S → Bool) (key : S → A → Result Scalar Fault) (found : S → A → Scalar) (ss : List S)
+    (xs : List A) → AreFound key found ss xs
+    → let rows = arranged (map descending ss) (map (λ x. (map (λ s. found s x) ss, x)) xs) in
+    order_by descending key ss xs end.Done ≡ (map (λ row. row.1) rows, end.Done)

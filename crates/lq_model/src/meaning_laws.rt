@@ -4,7 +4,7 @@ ghost use Rattle.lq_model.specs.ArrangementLaws.{ArrangesByKeys, KeepsTies};
 ghost use Rattle.lq_model.specs.KeyOrder.{TellsKeyOrder};
 ghost use Rattle.lq_model.specs.MeaningLaws.{HasMeaning, HasStream, SelectsScalars};
 ghost use Rattle.lq_model.specs.DefinitionLaws.{NamesAreKnown, NamesHaveMeanings, NamesHaveValues, ServesMeanings};
-ghost use Rattle.lq_model.specs.OneArrangement.{ArrangesOnce};
+ghost use Rattle.lq_model.specs.OneArrangement.{ArrangesItems, ArrangesOnce};
 ghost use Rattle.lq_model.specs.WholeMeaningLaws.{HasWholeMeaning, HasWholeStream, KeepsMeanings, KeepsStreams, NeverFaults};
 
 /// Where local names have values of their types and tables have their rows, a typed expression has
@@ -47,6 +47,12 @@ pub fn arranged_items<A>()
 /// the keys and has the items with the same keys in the order that they had.
 pub fn one_arrangement<A>()
     ensures { ArrangesOnce A }
+{}
+
+/// Where each sort key is found for each item, `orderby` gives the items as they are arranged by their
+/// own keys, the first of which counts most.
+pub fn items_by_their_keys<A, S>()
+    ensures { ArrangesItems A S }
 {}
 
 /// The same of the whole language, over rows of any kind: a typed expression, with records, groups and
