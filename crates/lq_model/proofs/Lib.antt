@@ -43,7 +43,9 @@ pub mod ReadPrimaries
 pub mod ReadQueries
 pub mod ReadStatements
 pub mod RightLemmas
+pub mod RuleLemmas
 pub mod RuleTypes
+pub mod RuleTyping
 pub mod SameTypes
 pub mod ScalarResults
 pub mod ScriptLemmas
@@ -68,6 +70,7 @@ pub mod ValuesOfTypes
 pub mod WholeCompleteness
 pub mod WholeLaws
 pub mod WholeMeans
+pub mod WholeRules
 pub mod WholeSoundness
 pub mod WholeTypes
 pub mod WithinLimits

@@ -32,7 +32,7 @@ use Rattle.lq_model.proofs.TypingLemmas.{computes_alone, item_type_sound, joined
 
 -- ---- layers
 
-abbrev whole_layer : Expr-F Expr → Names → Option Ty
+abbrev pub whole_layer : Expr-F Expr → Names → Option Ty
 whole_layer layer = expression_step (map-Expr Expr (Names → Option Ty) expression_type layer)
 
 whole_out : (e : Expr) (names : Names) → expression_type e names ≡ whole_layer (out-Expr e) names
@@ -44,7 +44,7 @@ whole_node : (n : Node Expr) (names : Names) → expression_type (expr.Node n) n
 whole_node n names = whole_out (expr.Node n) names ∙ ap (λ (layer : Expr-F Expr). whole_layer layer names) (outs-Node n)
 
 -- an expression that is this node
-whole_is : (names : Names) (e : Expr) (n : Node Expr) → e ≡ expr.Node n → expression_type e names ≡ whole_layer (Expr-F.Node n) names
+pub whole_is : (names : Names) (e : Expr) (n : Node Expr) → e ≡ expr.Node n → expression_type e names ≡ whole_layer (Expr-F.Node n) names
 whole_is names e n is = ap (λ (x : Expr). expression_type x names) is ∙ whole_node n names
 
 -- ---- types of scalars

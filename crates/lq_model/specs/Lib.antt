@@ -31,6 +31,7 @@ pub mod PolicyLaws
 pub mod Reading
 pub mod RightLaws
 pub mod Rights
+pub mod RuleLaws
 pub mod Script
 pub mod Served
 pub mod Serving

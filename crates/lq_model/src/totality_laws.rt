@@ -1,5 +1,6 @@
 //! The laws of total rules. Each function's contract is the law that it is named for; the functions
 //! themselves do nothing.
+ghost use Rattle.lq_model.specs.RuleLaws.{HoldsAsMeant};
 ghost use Rattle.lq_model.specs.TotalityLaws.{DecidesRules, TellsTotal};
 
 /// The function that looks whether a rule can fault tells exactly the rules that are total by their
@@ -12,4 +13,11 @@ pub fn total_rules_are_told()
 /// can't fault.
 pub fn total_rules_decide()
     ensures { DecidesRules }
+{}
+
+/// Policies are decided by what the whole language says: on every row whose cells are of the columns'
+/// types, and for every user, a total rule that is typed as a truth value has the value that
+/// `rule_holds` tells.
+pub fn total_rules_hold_as_meant()
+    ensures { HoldsAsMeant }
 {}
