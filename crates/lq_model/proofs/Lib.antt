@@ -4,6 +4,7 @@ pub mod Backwards
 pub mod ClauseLemmas
 pub mod ClauseTypeLemmas
 pub mod Completeness
+pub mod DecidedPolicies
 pub mod DefinitionLemmas
 pub mod DenialLemmas
 pub mod EnumerableLemmas
@@ -39,6 +40,7 @@ pub mod ReadFields
 pub mod ReadKeys
 pub mod ReadOperators
 pub mod ReadParts
+pub mod ReadPolicies
 pub mod ReadPrimaries
 pub mod ReadQueries
 pub mod ReadStatements

@@ -1,12 +1,12 @@
 -- Proofs of the laws of new rows: where they are accepted, and under which name they are refused.
-use Rattle.std.proofs.Common.{◌≡◌, ◌&&◌, ◌||◌, if◌then◌else◌, ◌∷◌, ◌++◌, not, List, [], ℕ, Bool, true, false, Option, Some, None, codes, filter, slice_get, ap, ◌∙◌, sym, refl, subst, inl, inr}
+use Rattle.std.proofs.Common.{◌≡◌, ◌↔◌, ◌&&◌, ◌||◌, if◌then◌else◌, ◌∷◌, ◌++◌, not, List, [], ℕ, Bool, true, false, Option, Some, None, codes, filter, slice_get, ap, ◌∙◌, sym, refl, subst, inl, inr}
 use Rattle.std.specs.List.{Contains, list_any, list_all}
 use Rattle.std.proofs.lemmas.Option.{none-some, same_Some}
 use Rattle.lq_value.specs.declared.scalar.Scalar.{Scalar}
 use Rattle.lq_model.proofs.MembershipLemmas.{has_cases, has_first, has_later, none_in_nil}
 use Rattle.lq_model.proofs.PolicyLemmas.{allows_by_parts, allows_parts, applies_where_found, asked_by, found_where_it_applies, not_true, permitting_one, some_permit, told_where_visible, visible_where_told}
-use Rattle.lq_model.specs.PolicyLaws.{AcceptsVisible, TellsRefuser}
-use Rattle.lq_model.specs.Visible.{Asked, IsFirstRefusing, IsRefusedBy, default, restriction, admit, allows, applies, applying, first_refusing, is_admitted, permits, admitted_to, refuser_among, refuser_for, refuser_in, refuser_of, visible_to}
+use Rattle.lq_model.proofs.DecidedPolicies.{IsFirstRefusing, IsRefusedBy, IsVisible, default, restriction}
+use Rattle.lq_model.specs.Visible.{Asked, admit, allows, applies, applying, first_refusing, is_admitted, permits, admitted_to, refuser_among, refuser_for, refuser_in, refuser_of, visible_to}
 use Rattle.lq_model.specs.declared.policy.Action.TheVariants as action
 use Rattle.lq_model.specs.declared.policy.Policy.{Policy}
 use Rattle.lq_model.specs.declared.policy.PolicyParts.{PolicyParts}
@@ -62,8 +62,9 @@ module _ (parts : PolicyParts) (role table : ℕ) (cells : List Scalar) where
   accepted_where_none : (o : Option (List ℕ)) → refuser_of parts role table cells ≡ o → o ≡ None → visible_to parts role action.Insert table cells ≡ true
   accepted_where_none o is none = open_where_none_refuses ∙ ap no_refuser (is ∙ none)
 
-pub accepts_visible : AcceptsVisible
-accepts_visible parts role table cells = (
+pub accepts_decided : (parts : PolicyParts) (role table : ℕ) (cells : List Scalar)
+    → (refuser_of parts role table cells ≡ None) ↔ IsVisible parts role action.Insert table cells
+accepts_decided parts role table cells = (
   λ none. visible_where_told parts role action.Insert table cells (accepted_where_none parts role table cells (refuser_of parts role table cells) refl none),
   λ visible. none_where_no_refuser (refuser_of parts role table cells) (sym (open_where_none_refuses parts role table cells) ∙ told_where_visible parts role action.Insert table cells visible),
 )
@@ -161,9 +162,11 @@ module _ (parts : PolicyParts) (role table : ℕ) (asked : Asked) where
         λ policy within bears_too. allows_by_parts action.Insert asked policy (λ restrictive. is.first policy within restrictive (applies_where_found parts.roles role action.Insert table policy bears_too)),
       )
 
-pub tells_refuser : TellsRefuser
+pub tells_decided : (parts : PolicyParts) (role table : ℕ) (part : TablePart) (asking : Role) → slice_get parts.tables table ≡ Some part → part.secured ≡ true
+    → slice_get parts.roles role ≡ Some asking → asking.bypass ≡ false → (cells : List Scalar) (name : List ℕ)
+    → (refuser_of parts role table cells ≡ Some name) ↔ IsRefusedBy parts role table (asked_by asking part cells) name
 unfolding refuser_of
-tells_refuser parts role table part asking is secured some bound cells name = (λ h. refused_where_told parts role table asked name (sym same ∙ h), λ refused. same ∙ told_where_refused parts role table asked name refused) where
+tells_decided parts role table part asking is secured some bound cells name = (λ h. refused_where_told parts role table asked name (sym same ∙ h), λ refused. same ∙ told_where_refused parts role table asked name refused) where
   asked : Asked
   asked = asked_by asking part cells
 

@@ -1,5 +1,5 @@
 -- Proofs of the laws of policies: the function that decides on a row tells exactly the visible rows.
-use Rattle.std.proofs.Common.{◌≡◌, ◌≢◌, ◌==◌, ◌&&◌, ◌||◌, ◌<◌, ◌∷◌, ◌++◌, not, List, ℕ, length, Bool, true, false, Option, Some, None, Result, Ok, Err, codes, slice_get, bytes_eq, ap, ◌∙◌, sym, refl, subst, inl, inr}
+use Rattle.std.proofs.Common.{◌≡◌, ◌≢◌, ◌==◌, ◌&&◌, ◌||◌, ◌<◌, ◌∷◌, ◌++◌, not, List, ℕ, length, Bool, true, false, Option, Some, None, codes, slice_get, bytes_eq, ap, ◌∙◌, sym, refl, subst, inl, inr}
 use Rattle.std.specs.List.{Contains, list_any, list_all, slice_index_or}
 use Rattle.std.proofs.lemmas.Bool.{and_from, and_parts, cases_Bool, eqb-true, or_left, or_right}
 use Rattle.std.proofs.lemmas.Bool.Decides.{Decides-eqb}
@@ -9,19 +9,10 @@ use Rattle.std.proofs.lemmas.List.Sums.{AllPass-from_list_all, list_all-from_All
 use Rattle.std.proofs.lemmas.Option.{same_Some}
 use Rattle.std.proofs.lemmas.Slice.Eq.{bytes_eq-Decides}
 use Rattle.lq_value.specs.declared.scalar.Scalar.{Scalar}
-use Rattle.lq_value.specs.declared.scalar.Scalar.TheVariants as scalar
-use Rattle.lq_value.specs.declared.value.Fault.{Fault}
-use Rattle.lq_value.specs.declared.value.Fault.TheVariants as fault
-use Rattle.lq_value.specs.declared.value.Value.{Value, out-Value, roll-Value}
-use Rattle.lq_value.specs.declared.value.Value.TheOpen.{Value-F}
-use Rattle.lq_value.specs.declared.value.Value.TheVariants.{outs-Scalar, rolls-Scalar}
-use Rattle.lq_value.specs.declared.value.Value.TheVariants as value
-use Rattle.lq_value.specs.declared.value.Value.TheViews.{roll-out-Value}
 use Rattle.lq_model.proofs.MembershipLemmas.{has_cases, has_later, has_where_kept, kept_where_it_passes, tells_memberships}
-use Rattle.lq_model.specs.Meaning.{World, scalar_of}
-use Rattle.lq_model.specs.Operations.{on_ok, truth_of}
-use Rattle.lq_model.specs.PolicyLaws.{HasOneMore, IsDeniedByDefault, IsDeniedToStrangers, IsOpenToBypass, IsOpenWithoutSecurity, LacksPermission, NarrowsByRestriction, ReadsWhatItRemoves, TellsVisible, WidensByPermission}
-use Rattle.lq_model.specs.Visible.{Admits, read, put_in, removed, Applies, Asked, GoesBy, HasRule, using, check, using_for_check, IsAdmitted, IsFor, every, this, IsListed, all, named, IsSatisfied, IsTrueOn, IsVisible, unsecured, bypassing, admitted, admitted_by, admitted_for, admitted_to, allows, applies, applying, check_or_using, goes_by, holds_on, is_admitted, is_listed, is_named, is_same_action, is_true, permits, rule_for, rule_holds, rule_world, visible_to}
+use Rattle.lq_model.specs.PolicyLaws.{HasOneMore, IsDeniedByDefault, IsDeniedToStrangers, IsOpenToBypass, IsOpenWithoutSecurity, LacksPermission, NarrowsByRestriction, ReadsWhatItRemoves, WidensByPermission}
+use Rattle.lq_model.proofs.DecidedPolicies.{Admits, read, put_in, removed, IsAdmitted, IsSatisfied, IsVisible, unsecured, bypassing, admitted}
+use Rattle.lq_model.specs.Visible.{Applies, Asked, GoesBy, HasRule, using, check, using_for_check, IsFor, every, this, IsListed, all, named, admitted_by, admitted_for, admitted_to, allows, applies, applying, check_or_using, goes_by, holds_on, is_admitted, is_listed, is_named, is_same_action, permits, rule_for, visible_to}
 use Rattle.lq_model.specs.declared.policy.Action.{Action}
 use Rattle.lq_model.specs.declared.policy.Action.TheVariants as action
 use Rattle.lq_model.specs.declared.policy.Policy.{Policy}
@@ -29,39 +20,6 @@ use Rattle.lq_model.specs.declared.policy.PolicyParts.{PolicyParts}
 use Rattle.lq_model.specs.declared.policy.Role.{Role}
 use Rattle.lq_model.specs.declared.policy.TablePart.{TablePart}
 use Rattle.lq_model.specs.declared.syntax.Expr.{Expr}
-
--- ---- rules
-
--- a value that is a truth value is that scalar
-is_truth : (world : World (List Scalar)) (v : Value (List Scalar)) → is_true (on_ok (scalar_of world (out-Value (List Scalar) v)) (truth_of world.unknown)) ≡ true → v ≡ value.Scalar (scalar.Bool true)
-is_truth world v h = by (out-Value (List Scalar) v) refl h where
-  made : out-Value (List Scalar) v ≡ Value-F.Scalar (scalar.Bool true) → v ≡ value.Scalar (scalar.Bool true)
-  made is = sym (roll-out-Value (List Scalar) v) ∙ ap (roll-Value (List Scalar)) is ∙ rolls-Scalar (scalar.Bool true)
-
-  by : (layer : Value-F (List Scalar) (Value (List Scalar))) → out-Value (List Scalar) v ≡ layer → is_true (on_ok (scalar_of world layer) (truth_of world.unknown)) ≡ true → v ≡ value.Scalar (scalar.Bool true)
-  by (Value-F.Scalar (scalar.Bool true)) is h = made is
-  by (Value-F.Scalar (scalar.Bool false)) is h = absurd (cc)
-  by (Value-F.Scalar scalar.Null) is h = absurd (cc)
-  by (Value-F.Scalar (scalar.Int n)) is h = absurd (cc)
-  by (Value-F.Scalar (scalar.Text t)) is h = absurd (cc)
-  by (Value-F.Row r) is h = absurd (cc)
-  by (Value-F.Rec ms) is h = absurd (cc)
-  by (Value-F.Group k vs) is h = absurd (cc)
-  by (Value-F.Seq vs e) is h = absurd (cc)
-
--- a rule holds where its meaning is true
-holds_as_meant : (world : World (List Scalar)) (m : Result (Value (List Scalar)) Fault)
-    → is_true (on_ok (on_ok m (λ v. scalar_of world (out-Value (List Scalar) v))) (truth_of world.unknown)) ≡ true → m ≡ Ok (value.Scalar (scalar.Bool true))
-holds_as_meant world (Ok v) h = ap Ok (is_truth world v h)
-holds_as_meant world (Err f) h = absurd (cc)
-
-pub true_where_it_holds : (asked : Asked) (rule : Expr) → rule_holds asked.columns rule asked.cells asked.user ≡ true → IsTrueOn asked rule
-true_where_it_holds asked rule h = holds_as_meant (rule_world asked.columns) _ h
-
-pub holds_where_it_is_true : (asked : Asked) (rule : Expr) → IsTrueOn asked rule → rule_holds asked.columns rule asked.cells asked.user ≡ true
-holds_where_it_is_true asked rule h =
-    ap (λ (m : Result (Value (List Scalar)) Fault). is_true (on_ok (on_ok m (λ v. scalar_of (rule_world asked.columns) (out-Value (List Scalar) v))) (truth_of fault.NullReference))) h
-    ∙ ap (λ (layer : Value-F (List Scalar) (Value (List Scalar))). is_true (on_ok (scalar_of (rule_world asked.columns) layer) (truth_of fault.NullReference))) (outs-Scalar (scalar.Bool true))
 
 -- ---- tests on items, and truth values
 
@@ -185,10 +143,10 @@ module _ (act : Action) (asked : Asked) (policy : Policy) where
   satisfied_where_it_holds h = by (rule_for act policy) refl h where
     by : (o : Option Expr) → rule_for act policy ≡ o → holds_on asked o ≡ true → IsSatisfied act asked policy
     by None none is = absurd (cc)
-    by (Some rule) some is = record { rule = rule; has = rule_where_found act policy rule some; true_on = true_where_it_holds asked rule is }
+    by (Some rule) some is = record { rule = rule; has = rule_where_found act policy rule some; true_on = is }
 
   pub holds_where_satisfied : IsSatisfied act asked policy → holds_on asked (rule_for act policy) ≡ true
-  holds_where_satisfied is = ap (holds_on asked) (found_where_rule act policy is.rule is.has) ∙ holds_where_it_is_true asked is.rule is.true_on
+  holds_where_satisfied is = ap (holds_on asked) (found_where_rule act policy is.rule is.has) ∙ is.true_on
 
   -- a policy that permits the row is permissive, and its rule is true on it
   pub permits_parts : permits act asked policy ≡ true → (policy.restrictive ≡ false) × IsSatisfied act asked policy
@@ -317,9 +275,6 @@ module _ (parts : PolicyParts) (role : ℕ) (act : Action) (table : ℕ) (cells 
   told_where_visible (admitted part asking is some admits) =
       told_by_role part asking is some
       (or_right asking.bypass (admitted_for parts role act table (asked_by asking part cells)) (told_where_it_admits parts role table (asked_by asking part cells) act admits))
-
-pub tells_visible : TellsVisible
-tells_visible parts role act table cells = (visible_where_told parts role act table cells, told_where_visible parts role act table cells)
 
 -- ---- what follows for whoever writes policies
 

@@ -1,5 +1,5 @@
 -- The truth value that policies are decided by is what the whole language says of a rule on a row with its columns' types.
-use Rattle.std.proofs.Common.{◌≡◌, ◌∷◌, List, [], map, ℕ, zero, suc, Bool, Option, Some, None, Result, Ok, codes, ap, ◌∙◌, sym, refl, subst, option_map}
+use Rattle.std.proofs.Common.{◌≡◌, ◌∷◌, List, [], map, ℕ, zero, suc, Bool, true, false, Option, Some, None, Result, Ok, Err, codes, ap, ◌∙◌, sym, refl, subst, option_map}
 use Rattle.std.proofs.lemmas.Option.{none-some, same_Some}
 use Rattle.lq_value.specs.declared.scalar.Scalar.{Scalar}
 use Rattle.lq_value.specs.declared.scalar.Scalar.TheVariants as scalar
@@ -10,14 +10,15 @@ use Rattle.lq_value.specs.declared.ty.Ty.TheVariants as ty
 use Rattle.lq_value.specs.declared.ty.Ty.TheVariants.{outs-Row, outs-Str}
 use Rattle.lq_value.specs.declared.value.Fault.{Fault}
 use Rattle.lq_value.specs.declared.value.Fault.TheVariants as fault
-use Rattle.lq_value.specs.declared.value.Value.{Value, out-Value}
+use Rattle.lq_value.specs.declared.value.Value.{Value, out-Value, roll-Value}
 use Rattle.lq_value.specs.declared.value.Value.TheOpen.{Value-F}
 use Rattle.lq_value.specs.declared.value.Value.TheVariants as value
-use Rattle.lq_value.specs.declared.value.Value.TheVariants.{outs-Scalar}
+use Rattle.lq_value.specs.declared.value.Value.TheVariants.{outs-Scalar, rolls-Scalar}
+use Rattle.lq_value.specs.declared.value.Value.TheViews.{roll-out-Value}
 use Rattle.lq_model.specs.Meaning.{Binding, Scope, World, meaning, scalar_of}
 use Rattle.lq_model.specs.MeaningLaws.{Every, HasCells, HoldsRows, IsOf, IsOfScope, IsScalarOf, is_row, is_scalar}
 use Rattle.lq_model.specs.Operations.{on_ok, truth_of}
-use Rattle.lq_model.specs.RuleLaws.{HoldsAsMeant, IsRowOver, IsRuleOver, language_world}
+use Rattle.lq_model.specs.RuleLaws.{HoldsAsMeant, HoldsWhereTrue, IsRowOver, IsRuleOver, language_world}
 use Rattle.lq_model.specs.TotalityLaws.{rule_names}
 use Rattle.lq_model.specs.Typing.{HasType, column_named, row_table, type_of_column}
 use Rattle.lq_model.specs.Visible.{cell_named, is_true, rule_holds, rule_scope, rule_world}
@@ -102,3 +103,30 @@ module _ (columns : List Column) (cells : List Scalar) (row : IsRowOver columns 
 
 pub holds_as_meant : HoldsAsMeant
 holds_as_meant columns rule is cells row user unknown = meant columns cells row user rule is unknown
+
+-- ---- rules that hold
+
+-- a value that is told to be true is that scalar
+true_value : (world : World (List Scalar)) (v : Value (List Scalar)) → truth_in world (Ok v) ≡ true → v ≡ value.Scalar (scalar.Bool true)
+true_value world v h = by (out-Value (List Scalar) v) refl h where
+  found : out-Value (List Scalar) v ≡ Value-F.Scalar (scalar.Bool true) → v ≡ value.Scalar (scalar.Bool true)
+  found is = sym (roll-out-Value (List Scalar) v) ∙ ap (roll-Value (List Scalar)) is ∙ rolls-Scalar (scalar.Bool true)
+
+  by : (layer : Value-F (List Scalar) (Value (List Scalar))) → out-Value (List Scalar) v ≡ layer → is_true (on_ok (scalar_of world layer) (truth_of world.unknown)) ≡ true
+      → v ≡ value.Scalar (scalar.Bool true)
+  by (Value-F.Scalar (scalar.Bool true)) is h = found is
+  by (Value-F.Scalar (scalar.Bool false)) is h = absurd (cc)
+  by (Value-F.Scalar scalar.Null) is h = absurd (cc)
+  by (Value-F.Scalar (scalar.Int n)) is h = absurd (cc)
+  by (Value-F.Scalar (scalar.Text t)) is h = absurd (cc)
+  by (Value-F.Row r) is h = absurd (cc)
+  by (Value-F.Rec ms) is h = absurd (cc)
+  by (Value-F.Group k vs) is h = absurd (cc)
+  by (Value-F.Seq vs e) is h = absurd (cc)
+
+true_where_told : (world : World (List Scalar)) (o : Result (Value (List Scalar)) Fault) → truth_in world o ≡ true → o ≡ Ok (value.Scalar (scalar.Bool true))
+true_where_told world (Ok v) h = ap Ok (true_value world v h)
+true_where_told world (Err f) h = absurd (cc)
+
+pub holds_where_true : HoldsWhereTrue
+holds_where_true columns rule cells user = (true_where_told (rule_world columns) _, truth_of_value (rule_world columns) _ true)

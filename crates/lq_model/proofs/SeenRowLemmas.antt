@@ -1,11 +1,16 @@
 -- Proofs of the laws of what a rule reads of a row, and of tables as seen.
-use Rattle.std.proofs.Common.{◌≡◌, ◌≢◌, ◌↔◌, ◌+◌, if◌then◌else◌, ◌∷◌, List, [], ℕ, suc, zero, Bool, true, false, Some, filter, length, slice_get, bytes_eq, ap, ◌∙◌, sym, refl, inl, inr, arith}
+use Rattle.std.proofs.Common.{◌≡◌, ◌≢◌, ◌↔◌, ◌+◌, if◌then◌else◌, ◌∷◌, List, [], ℕ, suc, zero, Bool, true, false, Some, filter, length, map, slice_get, bytes_eq, ap, ◌∙◌, sym, refl, subst, inl, inr, arith}
 use Rattle.std.proofs.lemmas.Bool.{cases_Bool}
 use Rattle.std.proofs.lemmas.Option.{none-some, same_Some}
 use Rattle.std.proofs.lemmas.Slice.Eq.{bytes_eq-Decides}
 use Rattle.lq_value.specs.Tables.{Table}
 use Rattle.lq_value.specs.declared.scalar.Scalar.{Scalar}
-use Rattle.lq_model.proofs.PolicyLemmas.{tells_visible}
+use Rattle.lq_value.specs.declared.table.Row.{Row}
+use Rattle.lq_value.specs.declared.table.Schema.{Schema}
+use Rattle.lq_model.proofs.EveryItem.{first_of, others_of}
+use Rattle.lq_model.proofs.ReadPolicies.{tells_visible}
+use Rattle.lq_model.specs.MeaningLaws.{Every}
+use Rattle.lq_model.specs.RuleLaws.{IsRowOver}
 use Rattle.lq_model.specs.PolicyLaws.{FindsCells, Filters, end, keeps, drops, SeesEachTable, SeesVisibleRows}
 use Rattle.lq_model.specs.Visible.{HasCell, IsVisible, cell_named, seen_from, seen_rows, tables_as_seen, visible_to}
 use Rattle.lq_model.specs.declared.policy.Action.TheVariants as action
@@ -60,12 +65,12 @@ finds_cells columns cells name cell = (cell_where_found columns cells name cell,
 
 -- ---- tables as seen
 
-filtered : {A : Type 0} (Fact : A → Type 0) (test : A → Bool) → ((x : A) → (test x ≡ true) ↔ Fact x) → (xs : List A) → Filters Fact xs (filter test xs)
-filtered Fact test tells [] = end
-filtered Fact test tells (x ∷ xs) = by (test x) refl (filtered Fact test tells xs) where
+filtered : {A : Type 0} (Given Fact : A → Type 0) (test : A → Bool) → ((x : A) → Given x → (test x ≡ true) ↔ Fact x) → (xs : List A) → Every Given xs → Filters Fact xs (filter test xs)
+filtered Given Fact test tells [] given = end
+filtered Given Fact test tells (x ∷ xs) given = by (test x) refl (filtered Given Fact test tells xs (others_of Given x xs given)) where
   by : (b : Bool) → test x ≡ b → Filters Fact xs (filter test xs) → Filters Fact (x ∷ xs) (if b then x ∷ filter test xs else filter test xs)
-  by true is rest = keeps ((tells x).0 is) rest
-  by false isnt rest = drops (λ fact. let is : test x ≡ true = (tells x).1 fact in absurd (cc)) rest
+  by true is rest = keeps ((tells x (first_of Given x xs given)).0 is) rest
+  by false isnt rest = drops (λ fact. let is : test x ≡ true = (tells x (first_of Given x xs given)).1 fact in absurd (cc)) rest
 
 seen_at : (parts : PolicyParts) (role first number : ℕ) (tables : List Table) (table : Table) → slice_get tables number ≡ Some table
     → slice_get (seen_from parts role first tables) number ≡ Some (seen_rows parts role (first + number) table.rows)
@@ -75,17 +80,30 @@ seen_at parts role first zero (t ∷ tables) table is =
 seen_at parts role first (suc number) (t ∷ tables) table is =
     seen_at parts role (first + 1) number tables table is ∙ ap (λ (n : ℕ). Some (seen_rows parts role n table.rows)) (omega arith)
 
+-- the schema at the place of a table
+schema_at : (tables : List Table) (number : ℕ) (table : Table) → slice_get tables number ≡ Some table → slice_get (map (λ t. t.schema) tables) number ≡ Some table.schema
+schema_at [] number table is = absurd (cc)
+schema_at (t ∷ tables) zero table is = ap (λ (u : Table). Some u.schema) (same_Some _ _ is)
+schema_at (t ∷ tables) (suc number) table is = schema_at tables number table is
+
 pub sees_visible_rows : SeesVisibleRows
 unfolding tables_as_seen
-sees_visible_rows parts role number tables table is = (
+sees_visible_rows parts role number tables table read is rows = (
   seen_rows parts role number table.rows,
   seen_at parts role 0 number tables table is ∙ ap (λ (n : ℕ). Some (seen_rows parts role n table.rows)) (omega arith),
   record {
     rows = filter (λ row. visible_to parts role action.Select number row.cells) table.rows;
     numbered = refl;
-    visible = filtered (λ row. IsVisible parts role action.Select number row.cells) (λ row. visible_to parts role action.Select number row.cells) (λ row. tells_visible parts role action.Select number row.cells) table.rows;
+    visible = filtered (λ row. IsRowOver table.schema.columns row.cells) (λ row. IsVisible schemas parts role action.Select number row.cells) (λ row. visible_to parts role action.Select number row.cells) tells table.rows rows;
   },
-)
+) where
+  schemas : List Schema
+  schemas = map (λ t. t.schema) tables
+
+  tells : (row : Row) → IsRowOver table.schema.columns row.cells → (visible_to parts role action.Select number row.cells ≡ true) ↔ IsVisible schemas parts role action.Select number row.cells
+  tells row fits =
+      tells_visible schemas parts read role action.Select number row.cells
+      (λ schema at. subst (λ (s : Schema). IsRowOver s.columns row.cells) (same_Some _ _ (sym (schema_at tables number table is) ∙ at)) fits)
 
 as_many : (parts : PolicyParts) (role first : ℕ) (tables : List Table) → length (seen_from parts role first tables) ≡ length tables
 as_many parts role first [] = refl

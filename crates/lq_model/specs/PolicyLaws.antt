@@ -4,6 +4,9 @@ use Rattle.std.specs.List.{Contains}
 use Rattle.lq_value.specs.Tables.{Table}
 use Rattle.lq_value.specs.declared.scalar.Scalar.{Scalar}
 use Rattle.lq_value.specs.declared.table.Row.{Row}
+use Rattle.lq_value.specs.declared.table.Schema.{Schema}
+use Rattle.lq_model.specs.MeaningLaws.{Every}
+use Rattle.lq_model.specs.RuleLaws.{AreCellsOf, AreReadFor, IsRowOver}
 use Rattle.lq_model.specs.Visible.{Applies, GoesBy, HasCell, IsRefusedBy, IsVisible, TableRow, cell_named, goes_by, refuser_of, tables_as_seen, visible_to}
 use Rattle.lq_model.specs.declared.policy.Action.{Action}
 use Rattle.lq_model.specs.declared.policy.Action.TheVariants as action
@@ -20,9 +23,11 @@ TellsMemberships = (roles : List Role) (role other : ℕ) → Contains (goes_by 
 
 -- ---- visible rows
 
--- the function tells exactly the rows that are visible
+-- under policies that were read for the tables, the function tells exactly the rows that are visible
 abbrev pub TellsVisible : Type 0
-TellsVisible = (parts : PolicyParts) (role : ℕ) (act : Action) (table : ℕ) (cells : List Scalar) → (visible_to parts role act table cells ≡ true) ↔ IsVisible parts role act table cells
+TellsVisible =
+    (schemas : List Schema) (parts : PolicyParts) → AreReadFor schemas parts → (role : ℕ) (act : Action) (table : ℕ) (cells : List Scalar) → AreCellsOf schemas table cells
+    → (visible_to parts role act table cells ≡ true) ↔ IsVisible schemas parts role act table cells
 
 -- a rule reads the cell under the first column of a name
 abbrev pub FindsCells : Type 0
@@ -35,32 +40,38 @@ pub data Filters {A : Type 0} (Fact : A → Type 0) : List A → List A → Type
   drops : {x : A} {xs ys : List A} → (Fact x → ⊥) → Filters Fact xs ys → Filters Fact (x ∷ xs) ys
 
 -- The rows seen of a table are its visible rows, in order, each with the table's number.
-pub record SeesVisible (parts : PolicyParts) (role number : ℕ) (table : Table) (seen : List TableRow) : Type 0 where
+pub record SeesVisible (schemas : List Schema) (parts : PolicyParts) (role number : ℕ) (table : Table) (seen : List TableRow) : Type 0 where
   pub rows : List Row
   pub numbered : seen ≡ map (λ row. record { table = number; row = row }) rows
-  pub visible : Filters (λ row. IsVisible parts role action.Select number row.cells) table.rows rows
+  pub visible : Filters (λ row. IsVisible schemas parts role action.Select number row.cells) table.rows rows
 
--- the tables as seen have the visible rows of each table, and there are as many
+-- under policies that were read for the tables, these as seen have the visible rows of each table, and there are as many
 abbrev pub SeesVisibleRows : Type 0
 SeesVisibleRows =
-    (parts : PolicyParts) (role number : ℕ) (tables : List Table) (table : Table) → slice_get tables number ≡ Some table
-    → (seen : List TableRow) × (slice_get (tables_as_seen parts role tables) number ≡ Some seen) × SeesVisible parts role number table seen
+    (parts : PolicyParts) (role number : ℕ) (tables : List Table) (table : Table) → AreReadFor (map (λ t. t.schema) tables) parts
+    → slice_get tables number ≡ Some table → Every (λ row. IsRowOver table.schema.columns row.cells) table.rows
+    → (seen : List TableRow) × (slice_get (tables_as_seen parts role tables) number ≡ Some seen)
+    × SeesVisible (map (λ t. t.schema) tables) parts role number table seen
 
 abbrev pub SeesEachTable : Type 0
 SeesEachTable = (parts : PolicyParts) (role : ℕ) (tables : List Table) → length (tables_as_seen parts role tables) ≡ length tables
 
 -- ---- new rows
 
--- a new row has no refuser exactly where the role may put it in
+-- under policies that were read for the tables, a new row has no refuser exactly where the role may put it in
 abbrev pub AcceptsVisible : Type 0
-AcceptsVisible = (parts : PolicyParts) (role table : ℕ) (cells : List Scalar) → (refuser_of parts role table cells ≡ None) ↔ IsVisible parts role action.Insert table cells
+AcceptsVisible =
+    (schemas : List Schema) (parts : PolicyParts) → AreReadFor schemas parts → (role table : ℕ) (cells : List Scalar) → AreCellsOf schemas table cells
+    → (refuser_of parts role table cells ≡ None) ↔ IsVisible schemas parts role action.Insert table cells
 
 -- where row security is on and the role doesn't bypass it, a new row is refused under exactly the name that the policies give
 abbrev pub TellsRefuser : Type 0
 TellsRefuser =
-    (parts : PolicyParts) (role table : ℕ) (part : TablePart) (asking : Role) → slice_get parts.tables table ≡ Some part → part.secured ≡ true
-    → slice_get parts.roles role ≡ Some asking → asking.bypass ≡ false → (cells : List Scalar) (name : List ℕ)
-    → (refuser_of parts role table cells ≡ Some name) ↔ IsRefusedBy parts role table (record { user = asking.name; columns = part.columns; cells = cells }) name
+    (schemas : List Schema) (parts : PolicyParts) → AreReadFor schemas parts → (role table : ℕ) (schema : Schema) (part : TablePart) (asking : Role)
+    → slice_get schemas table ≡ Some schema → slice_get parts.tables table ≡ Some part → part.secured ≡ true
+    → slice_get parts.roles role ≡ Some asking → asking.bypass ≡ false → (cells : List Scalar) → IsRowOver schema.columns cells → (name : List ℕ)
+    → (refuser_of parts role table cells ≡ Some name)
+    ↔ IsRefusedBy schema.columns parts role table (record { user = asking.name; columns = part.columns; cells = cells }) name
 
 -- ---- what follows for whoever writes policies
 

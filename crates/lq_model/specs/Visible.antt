@@ -5,12 +5,15 @@ use Rattle.std.specs.Str.{bytes_eq}
 use Rattle.lq_value.specs.Tables.{Table}
 use Rattle.lq_value.specs.declared.scalar.Scalar.{Scalar}
 use Rattle.lq_value.specs.declared.scalar.Scalar.TheVariants as scalar
+use Rattle.lq_value.specs.declared.table.Column.{Column}
 use Rattle.lq_value.specs.declared.table.Row.{Row}
+use Rattle.lq_value.specs.declared.table.Schema.{Schema}
 use Rattle.lq_value.specs.declared.ty.Ty.TheVariants as ty
 use Rattle.lq_value.specs.declared.value.Value.TheVariants as value
 use Rattle.lq_value.specs.declared.value.Fault.{Fault}
 use Rattle.lq_value.specs.declared.value.Fault.TheVariants as fault
-use Rattle.lq_model.specs.Meaning.{Binding, Scope, World, meaning, truth_at}
+use Rattle.lq_model.specs.Meaning.{Binding, Scope, World, truth_at}
+use Rattle.lq_model.specs.WholeMeaning.{expression_meaning}
 use Rattle.lq_model.specs.declared.policy.Action.{Action}
 use Rattle.lq_model.specs.declared.policy.Action.TheVariants as action
 use Rattle.lq_model.specs.declared.policy.Policy.{Policy}
@@ -171,14 +174,16 @@ pub record HasCell (columns : List (List ℕ)) (cells : List Scalar) (name : Lis
   pub under : slice_get cells place ≡ Some cell
   pub first : (earlier : ℕ) → slice_get columns earlier ≡ Some name → place ≤ earlier
 
--- A rule is true on a row: `row` stands for the row, and `user` for the name of the role.
-abbrev pub IsTrueOn : Asked → Expr → Type 0
-IsTrueOn asked rule =
-    let world : World (List Scalar) = record { schemas = []; rows = []; session = []; cell = cell_named asked.columns; unknown = fault.NullReference } in
+-- A rule is true on a row of a table with these columns, by the meaning of the whole language: `row` stands for the row, and `user` for
+-- the name of the role. A rule reads no other row.
+abbrev pub IsTrueOn : List Column → Asked → Expr → Type 0
+IsTrueOn columns asked rule =
+    let schema : Schema = record { name = []; columns = columns } in
+    let world : World (List Scalar) = record { schemas = schema ∷ []; rows = [] ∷ []; session = []; cell = cell_named asked.columns; unknown = fault.NullReference } in
     let row : Binding (List Scalar) = record { name = codes "row"; ty = ty.Row 0; value = value.Row asked.cells } in
     let user : Binding (List Scalar) = record { name = codes "user"; ty = ty.Str; value = value.Scalar (scalar.Text asked.user) } in
     let scope : Scope (List Scalar) = row ∷ user ∷ [] in
-    meaning world rule scope ≡ Ok (value.Scalar (scalar.Bool true))
+    expression_meaning world rule scope ≡ Ok (value.Scalar (scalar.Bool true))
 
 -- A role goes by itself, and by whatever a role that it is a member of goes by. It is a member of roles that stand before it.
 pub data GoesBy (roles : List Role) : ℕ → ℕ → Type 0 where
@@ -210,61 +215,63 @@ pub data HasRule (act : Action) (policy : Policy) (rule : Expr) : Type 0 where
   using_for_check : act ≡ action.Insert → policy.check ≡ None → policy.using ≡ Some rule → HasRule act policy rule
 
 -- A policy's rule for an action is true on a row.
-pub record IsSatisfied (act : Action) (asked : Asked) (policy : Policy) : Type 0 where
+pub record IsSatisfied (columns : List Column) (act : Action) (asked : Asked) (policy : Policy) : Type 0 where
   pub rule : Expr
   pub has : HasRule act policy rule
-  pub true_on : IsTrueOn asked rule
+  pub true_on : IsTrueOn columns asked rule
 
 -- Some permissive policy that applies is true on the row, and every restrictive one that applies is.
-pub record IsAdmitted (parts : PolicyParts) (role : ℕ) (act : Action) (table : ℕ) (asked : Asked) : Type 0 where
+pub record IsAdmitted (columns : List Column) (parts : PolicyParts) (role : ℕ) (act : Action) (table : ℕ) (asked : Asked) : Type 0 where
   pub permitting : Policy
   pub among : Contains parts.policies permitting
   pub permissive : permitting.restrictive ≡ false
   pub applying : Applies parts.roles role act table permitting
-  pub permitted : IsSatisfied act asked permitting
+  pub permitted : IsSatisfied columns act asked permitting
   pub unrestricted : (policy : Policy) → Contains parts.policies policy → policy.restrictive ≡ true → Applies parts.roles role act table policy
-      → IsSatisfied act asked policy
+      → IsSatisfied columns act asked policy
 
 -- The policies admit a role to an action on a row. A row that is removed has to be one that may be read, too.
-pub data Admits (parts : PolicyParts) (role : ℕ) (table : ℕ) (asked : Asked) : Action → Type 0 where
-  read : IsAdmitted parts role action.Select table asked → Admits parts role table asked action.Select
-  put_in : IsAdmitted parts role action.Insert table asked → Admits parts role table asked action.Insert
-  removed : IsAdmitted parts role action.Select table asked → IsAdmitted parts role action.Delete table asked → Admits parts role table asked action.Delete
+pub data Admits (columns : List Column) (parts : PolicyParts) (role : ℕ) (table : ℕ) (asked : Asked) : Action → Type 0 where
+  read : IsAdmitted columns parts role action.Select table asked → Admits columns parts role table asked action.Select
+  put_in : IsAdmitted columns parts role action.Insert table asked → Admits columns parts role table asked action.Insert
+  removed : IsAdmitted columns parts role action.Select table asked → IsAdmitted columns parts role action.Delete table asked
+      → Admits columns parts role table asked action.Delete
 
--- A role may act on a row where the table's row security is off; where the role bypasses row security; or where the policies
--- admit it.
-pub data IsVisible (parts : PolicyParts) (role : ℕ) (act : Action) (table : ℕ) (cells : List Scalar) : Type 0 where
-  unsecured : (part : TablePart) → slice_get parts.tables table ≡ Some part → part.secured ≡ false → IsVisible parts role act table cells
+-- A role may act on a row of one of these tables where the table's row security is off; where the role bypasses row security; or where
+-- the policies admit it.
+pub data IsVisible (schemas : List Schema) (parts : PolicyParts) (role : ℕ) (act : Action) (table : ℕ) (cells : List Scalar) : Type 0 where
+  unsecured : (part : TablePart) → slice_get parts.tables table ≡ Some part → part.secured ≡ false → IsVisible schemas parts role act table cells
   bypassing : (part : TablePart) (asking : Role) → slice_get parts.tables table ≡ Some part → slice_get parts.roles role ≡ Some asking
-      → asking.bypass ≡ true → IsVisible parts role act table cells
-  admitted : (part : TablePart) (asking : Role) → slice_get parts.tables table ≡ Some part → slice_get parts.roles role ≡ Some asking
-      → Admits parts role table (record { user = asking.name; columns = part.columns; cells = cells }) act
-      → IsVisible parts role act table cells
+      → asking.bypass ≡ true → IsVisible schemas parts role act table cells
+  admitted : (part : TablePart) (asking : Role) (schema : Schema) → slice_get parts.tables table ≡ Some part
+      → slice_get parts.roles role ≡ Some asking → slice_get schemas table ≡ Some schema
+      → Admits schema.columns parts role table (record { user = asking.name; columns = part.columns; cells = cells }) act
+      → IsVisible schemas parts role act table cells
 
 -- No permissive policy that applies to putting in a row is true on it.
-abbrev pub IsUnpermitted : PolicyParts → ℕ → ℕ → Asked → Type 0
-IsUnpermitted parts role table asked =
+abbrev pub IsUnpermitted : List Column → PolicyParts → ℕ → ℕ → Asked → Type 0
+IsUnpermitted columns parts role table asked =
     (policy : Policy) → Contains parts.policies policy → policy.restrictive ≡ false → Applies parts.roles role action.Insert table policy
-    → IsSatisfied action.Insert asked policy → ⊥
+    → IsSatisfied columns action.Insert asked policy → ⊥
 
 -- A restrictive policy that applies to putting in a row isn't true on it, and is the first such policy.
-pub record IsFirstRefusing (parts : PolicyParts) (role : ℕ) (table : ℕ) (asked : Asked) (refusing : Policy) : Type 0 where
+pub record IsFirstRefusing (columns : List Column) (parts : PolicyParts) (role : ℕ) (table : ℕ) (asked : Asked) (refusing : Policy) : Type 0 where
   pub front : List Policy
   pub rest : List Policy
   pub split : parts.policies ≡ front ++ refusing ∷ rest
   pub restrictive : refusing.restrictive ≡ true
   pub applying : Applies parts.roles role action.Insert table refusing
-  pub unsatisfied : IsSatisfied action.Insert asked refusing → ⊥
+  pub unsatisfied : IsSatisfied columns action.Insert asked refusing → ⊥
   pub first : (policy : Policy) → Contains front policy → policy.restrictive ≡ true → Applies parts.roles role action.Insert table policy
-      → IsSatisfied action.Insert asked policy
+      → IsSatisfied columns action.Insert asked policy
 
 -- A new row is refused under this name: by default, where no permissive policy is true on it; else by the first restrictive one
 -- that isn't.
-pub data IsRefusedBy (parts : PolicyParts) (role : ℕ) (table : ℕ) (asked : Asked) : List ℕ → Type 0 where
-  default : IsUnpermitted parts role table asked → IsRefusedBy parts role table asked (codes "default-deny")
+pub data IsRefusedBy (columns : List Column) (parts : PolicyParts) (role : ℕ) (table : ℕ) (asked : Asked) : List ℕ → Type 0 where
+  default : IsUnpermitted columns parts role table asked → IsRefusedBy columns parts role table asked (codes "default-deny")
   restriction : (permitting : Policy) → Contains parts.policies permitting → permitting.restrictive ≡ false
-      → Applies parts.roles role action.Insert table permitting → IsSatisfied action.Insert asked permitting
-      → (refusing : Policy) → IsFirstRefusing parts role table asked refusing → IsRefusedBy parts role table asked refusing.name
+      → Applies parts.roles role action.Insert table permitting → IsSatisfied columns action.Insert asked permitting
+      → (refusing : Policy) → IsFirstRefusing columns parts role table asked refusing → IsRefusedBy columns parts role table asked refusing.name
 
 -- ---- tables
 

@@ -3,6 +3,7 @@
 ghost use Rattle.lq_model.specs.PolicyLaws.{TellsMemberships, TellsVisible, FindsCells, SeesVisibleRows, SeesEachTable, AcceptsVisible, TellsRefuser};
 ghost use Rattle.lq_model.specs.PolicyLaws.{IsDeniedByDefault, IsDeniedToStrangers, IsOpenWithoutSecurity, IsOpenToBypass};
 ghost use Rattle.lq_model.specs.PolicyLaws.{ReadsWhatItRemoves, NarrowsByRestriction, WidensByPermission};
+ghost use Rattle.lq_model.specs.RuleLaws.{HoldsWhereTrue};
 
 /// The function that works out memberships tells exactly the roles that a role goes by: itself, and
 /// those that it is a member of, by any chain.
@@ -10,11 +11,17 @@ pub fn memberships()
     ensures { TellsMemberships }
 {}
 
-/// The function that decides on a row tells exactly the visible rows: those of a table without row
-/// security, those that a role sees that bypasses it, and those on which some permissive policy that
-/// applies is true and every restrictive one that applies is.
+/// Under policies that were read for the tables, the function that decides on a row tells exactly the
+/// visible rows: those of a table without row security, those that a role sees that bypasses it, and
+/// those on which some permissive policy that applies is true and every restrictive one that applies
+/// is, by what the whole language says of their rules.
 pub fn visible_rows()
     ensures { TellsVisible }
+{}
+
+/// A rule holds on a row exactly where it is true there. One that faults doesn't hold.
+pub fn rules_that_hold()
+    ensures { HoldsWhereTrue }
 {}
 
 /// A rule reads the cell under the first column of the name that it gives.
@@ -22,14 +29,16 @@ pub fn cells_by_name()
     ensures { FindsCells }
 {}
 
-/// The tables as seen have the visible rows of each table, in order, and no other row.
+/// Under policies that were read for the tables, these as seen have the visible rows of each table, in
+/// order, and no other row.
 pub fn seen_rows()
     ensures rows { SeesVisibleRows }
     ensures tables { SeesEachTable }
 {}
 
-/// A new row is accepted exactly where the role may put it in; else it is refused by default, where no
-/// permissive policy is true on it, or by the first restrictive one that isn't.
+/// Under policies that were read for the tables, a new row is accepted exactly where the role may put
+/// it in; else it is refused by default, where no permissive policy is true on it, or by the first
+/// restrictive one that isn't.
 pub fn refused_rows()
     ensures accepted { AcceptsVisible }
     ensures refused { TellsRefuser }

@@ -1,4 +1,4 @@
-use Rattle.lq_model.proofs.NewRowLemmas.{accepts_visible, tells_refuser}
+use Rattle.lq_model.proofs.ReadPolicies.{accepts_visible, tells_refuser}
 use Rattle.lq_model.proofs.policy_laws.refused_rows.Goals as goal
 
 pub returns-clause-accepted : goal.returns-clause-accepted

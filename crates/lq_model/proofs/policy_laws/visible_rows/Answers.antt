@@ -1,4 +1,4 @@
-use Rattle.lq_model.proofs.PolicyLemmas.{tells_visible}
+use Rattle.lq_model.proofs.ReadPolicies.{tells_visible}
 use Rattle.lq_model.proofs.policy_laws.visible_rows.Goals as goal
 
 pub returns : goal.returns
