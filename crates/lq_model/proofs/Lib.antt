@@ -26,6 +26,7 @@ pub mod MemberLemmas
 pub mod MembershipLemmas
 pub mod MethodPulls
 pub mod NewRowLemmas
+pub mod NullLemmas
 pub mod OneArrangement
 pub mod OpeningLemmas
 pub mod Opens
