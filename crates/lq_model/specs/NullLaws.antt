@@ -21,7 +21,8 @@ HasValueUnlessNull =
 abbrev pub NullHasNothing : Type 0
 NullHasNothing =
     (unknown : Fault) (n : ℤ) (s : Scalar) → IsText s
-    → (applied unknown op.Value (scalar.Int n ∷ []) ≡ Ok (scalar.Int n)) × (applied unknown op.Value (scalar.Null ∷ []) ≡ Err fault.InvalidOperation)
+    → (applied unknown op.Value (scalar.Int n ∷ []) ≡ Ok (scalar.Int n))
+    × (applied unknown op.Value (scalar.Null ∷ []) ≡ Err fault.InvalidOperation)
     × (applied unknown op.Length (scalar.Null ∷ []) ≡ Err fault.NullReference)
     × (applied unknown op.StartsWith (scalar.Null ∷ s ∷ []) ≡ Err fault.NullReference)
     × (applied unknown op.EndsWith (scalar.Null ∷ s ∷ []) ≡ Err fault.NullReference)
@@ -31,8 +32,10 @@ NullHasNothing =
 abbrev pub SameByContent : Type 0
 SameByContent =
     (unknown : Fault) (a b : Scalar) → AreOfOneKind a b
-    → ((applied unknown op.Equal (a ∷ b ∷ []) ≡ Ok (scalar.Bool true)) ↔ (a ≡ b)) × ((applied unknown op.Equal (a ∷ b ∷ []) ≡ Ok (scalar.Bool false)) ↔ (a ≢ b))
-    × ((applied unknown op.NotEqual (a ∷ b ∷ []) ≡ Ok (scalar.Bool true)) ↔ (a ≢ b)) × ((applied unknown op.NotEqual (a ∷ b ∷ []) ≡ Ok (scalar.Bool false)) ↔ (a ≡ b))
+    → ((applied unknown op.Equal (a ∷ b ∷ []) ≡ Ok (scalar.Bool true)) ↔ (a ≡ b))
+    × ((applied unknown op.Equal (a ∷ b ∷ []) ≡ Ok (scalar.Bool false)) ↔ (a ≢ b))
+    × ((applied unknown op.NotEqual (a ∷ b ∷ []) ≡ Ok (scalar.Bool true)) ↔ (a ≢ b))
+    × ((applied unknown op.NotEqual (a ∷ b ∷ []) ≡ Ok (scalar.Bool false)) ↔ (a ≡ b))
 
 -- no number stands before null or behind it, or is level with it by `<=` and `>=`; nor is null itself
 abbrev pub NullHasNoOrder : Type 0

@@ -26,7 +26,8 @@ TellsMemberships = (roles : List Role) (role other : ℕ) → Contains (goes_by 
 -- under policies that were read for the tables, the function tells exactly the rows that are visible
 abbrev pub TellsVisible : Type 0
 TellsVisible =
-    (schemas : List Schema) (parts : PolicyParts) → AreReadFor schemas parts → (role : ℕ) (act : Action) (table : ℕ) (cells : List Scalar) → AreCellsOf schemas table cells
+    (schemas : List Schema) (parts : PolicyParts) → AreReadFor schemas parts
+    → (role : ℕ) (act : Action) (table : ℕ) (cells : List Scalar) → AreCellsOf schemas table cells
     → (visible_to parts role act table cells ≡ true) ↔ IsVisible schemas parts role act table cells
 
 -- a rule reads the cell under the first column of a name
@@ -48,7 +49,8 @@ pub record SeesVisible (schemas : List Schema) (parts : PolicyParts) (role numbe
 -- under policies that were read for the tables, these as seen have the visible rows of each table, and there are as many
 abbrev pub SeesVisibleRows : Type 0
 SeesVisibleRows =
-    (parts : PolicyParts) (role number : ℕ) (tables : List Table) (table : Table) → AreReadFor (map (λ t. t.schema) tables) parts
+    (parts : PolicyParts) (role number : ℕ) (tables : List Table) (table : Table)
+    → AreReadFor (map (λ t. t.schema) tables) parts
     → slice_get tables number ≡ Some table → Every (λ row. IsRowOver table.schema.columns row.cells) table.rows
     → (seen : List TableRow) × (slice_get (tables_as_seen parts role tables) number ≡ Some seen)
     × SeesVisible (map (λ t. t.schema) tables) parts role number table seen
@@ -61,15 +63,18 @@ SeesEachTable = (parts : PolicyParts) (role : ℕ) (tables : List Table) → len
 -- under policies that were read for the tables, a new row has no refuser exactly where the role may put it in
 abbrev pub AcceptsVisible : Type 0
 AcceptsVisible =
-    (schemas : List Schema) (parts : PolicyParts) → AreReadFor schemas parts → (role table : ℕ) (cells : List Scalar) → AreCellsOf schemas table cells
+    (schemas : List Schema) (parts : PolicyParts) → AreReadFor schemas parts
+    → (role table : ℕ) (cells : List Scalar) → AreCellsOf schemas table cells
     → (refuser_of parts role table cells ≡ None) ↔ IsVisible schemas parts role action.Insert table cells
 
 -- where row security is on and the role doesn't bypass it, a new row is refused under exactly the name that the policies give
 abbrev pub TellsRefuser : Type 0
 TellsRefuser =
-    (schemas : List Schema) (parts : PolicyParts) → AreReadFor schemas parts → (role table : ℕ) (schema : Schema) (part : TablePart) (asking : Role)
+    (schemas : List Schema) (parts : PolicyParts) → AreReadFor schemas parts
+    → (role table : ℕ) (schema : Schema) (part : TablePart) (asking : Role)
     → slice_get schemas table ≡ Some schema → slice_get parts.tables table ≡ Some part → part.secured ≡ true
-    → slice_get parts.roles role ≡ Some asking → asking.bypass ≡ false → (cells : List Scalar) → IsRowOver schema.columns cells → (name : List ℕ)
+    → slice_get parts.roles role ≡ Some asking → asking.bypass ≡ false
+    → (cells : List Scalar) → IsRowOver schema.columns cells → (name : List ℕ)
     → (refuser_of parts role table cells ≡ Some name)
     ↔ IsRefusedBy schema.columns parts role table (record { user = asking.name; columns = part.columns; cells = cells }) name
 

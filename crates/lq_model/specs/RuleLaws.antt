@@ -21,7 +21,8 @@ use Rattle.lq_model.specs.declared.policy.PolicyParts.{PolicyParts}
 use Rattle.lq_model.specs.declared.policy.TablePart.{TablePart}
 use Rattle.lq_model.specs.declared.syntax.Expr.{Expr}
 
--- A rule is one for rows of these columns: it is typed as a truth value in the whole language, it can't fault, and its literals are ints of 32 bits.
+-- A rule is one for rows of these columns: it is typed as a truth value in the whole language, it can't fault, and its literals are
+-- ints of 32 bits.
 pub record IsRuleOver (columns : List Column) (rule : Expr) : Type 0 where
   pub truth : expression_type rule (rule_names [] columns) ≡ Some ty.Bool
   pub total : IsTotal rule
@@ -58,7 +59,8 @@ language_world columns unknown = record {
 -- that policies are decided by
 abbrev pub HoldsAsMeant : Type 0
 HoldsAsMeant =
-    (columns : List Column) (rule : Expr) → IsRuleOver columns rule → (cells : List Scalar) → IsRowOver columns cells → (user : List ℕ) (unknown : Fault)
+    (columns : List Column) (rule : Expr) → IsRuleOver columns rule → (cells : List Scalar) → IsRowOver columns cells
+    → (user : List ℕ) (unknown : Fault)
     → expression_meaning (language_world columns unknown) rule (rule_scope cells user)
     ≡ Ok (value.Scalar (scalar.Bool (rule_holds (map (λ column. column.name) columns) rule cells user)))
 
@@ -66,4 +68,5 @@ HoldsAsMeant =
 abbrev pub HoldsWhereTrue : Type 0
 HoldsWhereTrue =
     (columns : List (List ℕ)) (rule : Expr) (cells : List Scalar) (user : List ℕ)
-    → (rule_holds columns rule cells user ≡ true) ↔ (meaning (rule_world columns) rule (rule_scope cells user) ≡ Ok (value.Scalar (scalar.Bool true)))
+    → (rule_holds columns rule cells user ≡ true)
+    ↔ (meaning (rule_world columns) rule (rule_scope cells user) ≡ Ok (value.Scalar (scalar.Bool true)))

@@ -179,7 +179,13 @@ pub record HasCell (columns : List (List ℕ)) (cells : List Scalar) (name : Lis
 abbrev pub IsTrueOn : List Column → Asked → Expr → Type 0
 IsTrueOn columns asked rule =
     let schema : Schema = record { name = []; columns = columns } in
-    let world : World (List Scalar) = record { schemas = schema ∷ []; rows = [] ∷ []; session = []; cell = cell_named asked.columns; unknown = fault.NullReference } in
+    let world : World (List Scalar) = record {
+      schemas = schema ∷ [];
+      rows = [] ∷ [];
+      session = [];
+      cell = cell_named asked.columns;
+      unknown = fault.NullReference;
+    } in
     let row : Binding (List Scalar) = record { name = codes "row"; ty = ty.Row 0; value = value.Row asked.cells } in
     let user : Binding (List Scalar) = record { name = codes "user"; ty = ty.Str; value = value.Scalar (scalar.Text asked.user) } in
     let scope : Scope (List Scalar) = row ∷ user ∷ [] in
