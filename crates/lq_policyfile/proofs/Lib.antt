@@ -1,5 +1,6 @@
 pub mod FileLemmas
 pub mod NameLemmas
+pub mod ReadLemmas
 pub mod RightLemmas
 pub mod RuleForms
 pub mod SaysLemmas

@@ -1,5 +1,6 @@
 pub mod Duplicates
 pub mod File
+pub mod FileLaws
 pub mod NameSets
 pub mod Names
 pub mod Outcome

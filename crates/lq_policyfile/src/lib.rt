@@ -7,6 +7,7 @@ mod duplicates;
 mod entry;
 mod error;
 mod file;
+pub mod file_laws;
 mod name_set;
 mod named;
 mod names;

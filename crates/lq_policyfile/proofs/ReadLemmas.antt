@@ -1,0 +1,189 @@
+-- Policies that were read for the tables of a store.
+use Rattle.std.proofs.Common.{◌≡◌, ◌∷◌, not, if◌then◌else◌, List, [], map, ℕ, Bool, true, false, true≢false, Option, Some, None, Ok, Err, length, option_map, slice_get, ap, ◌∙◌, sym, refl, subst, inl, inr}
+use Rattle.std.specs.Prelude.{is_some, nat_le, unwrap_or}
+use Rattle.std.specs.List.{Contains, list_all}
+use Rattle.std.proofs.lemmas.Bool.{and_parts}
+use Rattle.std.proofs.lemmas.List.Elements.{All-contains}
+use Rattle.std.proofs.lemmas.List.Sums.{AllPass-from_list_all}
+use Rattle.std.proofs.lemmas.Option.{none-some, same_Some, slice_get-map}
+use Rattle.toml.specs.Data.{Members}
+use Rattle.lq_value.specs.Tables.{Table, first_named}
+use Rattle.lq_value.specs.declared.table.Column.{Column}
+use Rattle.lq_value.specs.declared.table.Schema.{Schema}
+use Rattle.lq_value.specs.declared.ty.Ty.{Ty}
+use Rattle.lq_value.specs.declared.ty.Ty.TheVariants as ty
+use Rattle.lq_store.specs.Rules.{name_of}
+use Rattle.lq_model.specs.RuleLaws.{AreReadFor, IsRuleOver}
+use Rattle.lq_model.specs.Totality.{is_total}
+use Rattle.lq_model.specs.TotalityLaws.{is_held_rule, rule_names}
+use Rattle.lq_model.specs.Typing.{is_bool_type, type_of}
+use Rattle.lq_model.specs.Visible.{HasRule, using, check, using_for_check}
+use Rattle.lq_model.specs.declared.policy.Action.{Action}
+use Rattle.lq_model.specs.declared.policy.Policy.{Policy}
+use Rattle.lq_model.specs.declared.policy.PolicyParts.{PolicyParts}
+use Rattle.lq_model.specs.declared.policy.TablePart.{TablePart}
+use Rattle.lq_model.specs.declared.syntax.Expr.{Expr}
+use Rattle.lq_model.proofs.MembershipLemmas.{has_cases, has_first, has_later, none_in_nil}
+use Rattle.lq_model.proofs.TotalityLemmas.{tells_total}
+use Rattle.lq_model.proofs.TypingLemmas.{is_truth}
+use Rattle.lq_model.proofs.WholeTypes.{keeps_types}
+use Rattle.lq_policyfile.specs.Duplicates.{has_no_duplicates}
+use Rattle.lq_policyfile.specs.File.{document_of, most_bytes, of_document, of_entries, parts_of, policies_in, policy_part, refusal_of, table_part, unless_refused}
+use Rattle.lq_policyfile.specs.FileLaws.{AreHeld, ReadsForTables}
+use Rattle.lq_policyfile.specs.Names.{all_pass, columns_at, columns_in, columns_of, entry_is_known, is_table, names_are_known, passes, policy_is_known, role_names, rules_are_known}
+use Rattle.lq_policyfile.specs.RightUses.{table_number}
+use Rattle.lq_policyfile.specs.RuleChecks.{is_typed, policy_is_typed, rules_are_total, rules_are_typed}
+use Rattle.lq_policyfile.specs.RuleNames.{knows}
+use Rattle.lq_policyfile.specs.Shape.{entries_of}
+use Rattle.lq_policyfile.specs.declared.entry.FileEntries.{FileEntries}
+use Rattle.lq_policyfile.specs.declared.entry.PolicyEntry.{PolicyEntry}
+use Rattle.lq_policyfile.specs.declared.entry.Rules.{Rules}
+use Rattle.lq_policyfile.specs.declared.error.PolicyFileError.{PolicyFileError}
+use Rattle.lq_policyfile.specs.declared.error.PolicyFileError.TheVariants as error
+
+-- ---- lists
+
+-- an item of the images of items is the image of one
+image_of : {A B : Type 0} (f : A → B) (xs : List A) (y : B) → Contains (map f xs) y → (x : A) × Contains xs x × (f x ≡ y)
+image_of f [] y has = absurd (none_in_nil y has)
+image_of f (x ∷ xs) y has =
+    elim (has_cases (f x) (map f xs) y has) [
+      | inl same ↦ (x, has_first x xs, same)
+      | inr later ↦ let found = image_of f xs y later in (found.0, has_later x xs found.0 found.1, found.2)
+    ]
+
+passed : {A : Type 0} (test : A → Bool) (xs : List A) (x : A) → list_all test xs ≡ true → Contains xs x → test x ≡ true
+passed test xs x h has = All-contains (λ y. test y ≡ true) xs x (AllPass-from_list_all test xs h) has
+
+-- an item at a place of the images is the image of the item there
+image_at : {A B : Type 0} (f : A → B) (xs : List A) (k : ℕ) (y : B) → slice_get (map f xs) k ≡ Some y → (x : A) × (slice_get xs k ≡ Some x) × (f x ≡ y)
+image_at {A} {B} f xs k y h = by (slice_get xs k) refl (sym (slice_get-map f xs k) ∙ h) where
+  by : (o : Option A) → slice_get xs k ≡ o → option_map f o ≡ Some y → (x : A) × (slice_get xs k ≡ Some x) × (f x ≡ y)
+  by None is g = absurd (none-some y g)
+  by (Some x) is g = (x, is, same_Some (f x) y g)
+
+-- ---- what is read
+
+-- the entries of a file that isn't refused
+record Entries (tables : List Table) (parts : PolicyParts) : Type 0 where
+  file : FileEntries
+  accepted : refusal_of tables file ≡ None
+  parts_are : parts_of tables file ≡ parts
+
+unrefused : (o : Option PolicyFileError) (given parts : PolicyParts) → unless_refused o given ≡ Ok parts → (o ≡ None) × (given ≡ parts)
+unrefused None given parts h = let same : given ≡ parts = cc in (refl, same)
+unrefused (Some refusal) given parts h = absurd (cc)
+
+entries_read : (tables : List Table) (bytes : List ℕ) (parts : PolicyParts) → policies_in tables bytes ≡ Ok parts → Entries tables parts
+unfolding policies_in
+entries_read tables bytes parts h = by (nat_le (length bytes) most_bytes) (document_of bytes) h where
+  of_file : (o : Option FileEntries) → of_entries tables o ≡ Ok parts → Entries tables parts
+  of_file None g = absurd (cc)
+  of_file (Some file) g = let found = unrefused (refusal_of tables file) (parts_of tables file) parts g in record { file = file; accepted = found.0; parts_are = found.1 }
+
+  by : (b : Bool) (d : Option Members) → (if b then of_document tables d else Err error.Shape) ≡ Ok parts → Entries tables parts
+  by false d g = absurd (cc)
+  by true None g = absurd (cc)
+  by true (Some ms) g = of_file (entries_of ms) g
+
+-- no refusal applies
+record Passes (tables : List Table) (file : FileEntries) : Type 0 where
+  known : names_are_known tables file ≡ true
+  typed : rules_are_typed tables file.policies ≡ true
+  total : rules_are_total file.policies ≡ true
+
+all_passed : (tables : List Table) (file : FileEntries) → refusal_of tables file ≡ None → Passes tables file
+unfolding refusal_of
+all_passed tables file h =
+    let found = by (names_are_known tables file) (has_no_duplicates file) (rules_are_typed tables file.policies) (rules_are_total file.policies) h in
+    record { known = found.0; typed = found.1; total = found.2 } where
+      by : (a b c d : Bool)
+          → (if not a then Some error.UnknownName else (if not b then Some error.Duplicate else (if not c then Some error.RuleType else (if not d then Some error.RuleNotTotal else None)))) ≡ None
+          → (a ≡ true) × (c ≡ true) × (d ≡ true)
+      by false b c d g = absurd (cc)
+      by true false c d g = absurd (cc)
+      by true true false d g = absurd (cc)
+      by true true true false g = absurd (cc)
+      by true true true true g = (refl, refl, refl)
+
+-- ---- rules
+
+-- the table of an entry is there
+table_there : (tables : List Table) (file : FileEntries) (entry : PolicyEntry) → names_are_known tables file ≡ true → Contains file.policies entry → is_table tables entry.table ≡ true
+unfolding names_are_known
+table_there tables file entry known has =
+    let rules = (and_parts _ (rules_are_known tables (role_names file.roles) file) known).1 in
+    let policies = (and_parts (list_all (policy_is_known tables (role_names file.roles)) file.policies) _ (and_parts _ (list_all (entry_is_known tables (role_names file.roles)) file.withholds) rules).0).0 in
+    let own = passed (policy_is_known tables (role_names file.roles)) file.policies entry policies has in
+    (and_parts (is_table tables entry.table) _ (and_parts _ (all_pass (λ rule. knows (columns_of tables entry.table) rule false) entry.rules) own).0).0
+
+-- the columns that the rules of an entry are typed over are those of the schema of its number
+columns_are : (tables : List Table) (name : List ℕ) (schema : Schema) → is_table tables name ≡ true
+    → slice_get (map (λ table. table.schema) tables) (table_number tables name) ≡ Some schema → columns_of tables name ≡ schema.columns
+columns_are tables name schema there at = by (first_named name_of name tables) there at where
+  by : (o : Option ℕ) → is_some o ≡ true → slice_get (map (λ table. table.schema) tables) (unwrap_or o 0) ≡ Some schema → columns_at tables o ≡ schema.columns
+  by None none g = absurd (true≢false (sym none))
+  by (Some number) some g =
+      let found = image_at (λ (table : Table). table.schema) tables number schema g in
+      ap columns_in found.1 ∙ ap (λ (s : Schema). s.columns) found.2
+
+-- a test that all rules of an entry pass, its rules for each action pass
+each_passes : (test : Expr → Bool) (rules : Rules) (policy : Policy) (act : Action) (rule : Expr) → policy.using ≡ rules.using → policy.check ≡ rules.check
+    → all_pass test rules ≡ true → HasRule act policy rule → test rule ≡ true
+each_passes test rules policy act rule using_is check_is h has = by has where
+  both : (passes test rules.using ≡ true) × (passes test rules.check ≡ true)
+  both = and_parts (passes test rules.using) (passes test rules.check) h
+
+  by : HasRule act policy rule → test rule ≡ true
+  by (using other is) = ap (passes test) (sym (sym using_is ∙ is)) ∙ both.0
+  by (check same is) = ap (passes test) (sym (sym check_is ∙ is)) ∙ both.1
+  by (using_for_check same none is) = ap (passes test) (sym (sym using_is ∙ is)) ∙ both.0
+
+bool_typed : (columns : List Column) (rule : Expr) → is_typed columns rule ≡ true → type_of rule (rule_names [] columns) ≡ Some ty.Bool
+bool_typed columns rule h = by (type_of rule (rule_names [] columns)) h where
+  by : (o : Option Ty) → is_bool_type o ≡ true → o ≡ Some ty.Bool
+  by None g = absurd (true≢false (sym g))
+  by (Some t) g = ap Some (is_truth t g)
+
+rule_over : (columns : List Column) (rule : Expr) → is_typed columns rule ≡ true → is_total rule ≡ true → is_held_rule rule ≡ true → IsRuleOver columns rule
+rule_over columns rule typed total held = record {
+  truth = keeps_types (rule_names [] columns) rule ty.Bool (bool_typed columns rule typed);
+  total = (tells_total rule).0 total;
+  held = held;
+}
+
+module _ (tables : List Table) (file : FileEntries) (passes : Passes tables file) (held : AreHeld (parts_of tables file)) where
+  rules_read : (policy : Policy) → Contains (map (policy_part tables) file.policies) policy → (schema : Schema)
+      → slice_get (map (λ table. table.schema) tables) policy.table ≡ Some schema → (act : Action) (rule : Expr) → HasRule act policy rule → IsRuleOver schema.columns rule
+  rules_read policy has schema at act rule rules =
+      let own = image_of (policy_part tables) file.policies policy has in
+      of_entry own.0 own.1 (subst (λ (p : Policy). slice_get (map (λ table. table.schema) tables) p.table ≡ Some schema) (sym own.2) at)
+      (subst (λ (p : Policy). HasRule act p rule) (sym own.2) rules) (held policy has act rule rules)
+    where
+      of_entry : (entry : PolicyEntry) → Contains file.policies entry → slice_get (map (λ table. table.schema) tables) (table_number tables entry.table) ≡ Some schema
+          → HasRule act (policy_part tables entry) rule → is_held_rule rule ≡ true → IsRuleOver schema.columns rule
+      of_entry entry among place has_rule literals =
+          subst (λ (columns : List Column). IsRuleOver columns rule) (columns_are tables entry.table schema (table_there tables file entry passes.known among) place)
+          (rule_over (columns_of tables entry.table) rule
+          (each_passes (is_typed (columns_of tables entry.table)) entry.rules (policy_part tables entry) act rule refl refl (passed (policy_is_typed tables) file.policies entry passes.typed among) has_rule)
+          (each_passes is_total entry.rules (policy_part tables entry) act rule refl refl (passed (λ policy. all_pass is_total policy.rules) file.policies entry passes.total among) has_rule)
+          literals)
+
+  tables_read : (number : ℕ) (part : TablePart) → slice_get (map (λ table. table_part file.tables table.schema) tables) number ≡ Some part
+      → (schema : Schema) × (slice_get (map (λ table. table.schema) tables) number ≡ Some schema) × (part.columns ≡ map (λ column. column.name) schema.columns)
+  tables_read number part is =
+      let own = image_at (λ (table : Table). table_part file.tables table.schema) tables number part is in (
+        own.0.schema,
+        slice_get-map (λ (table : Table). table.schema) tables number ∙ ap (option_map (λ (table : Table). table.schema)) own.1,
+        ap (λ (p : TablePart). p.columns) (sym own.2),
+      )
+
+pub reads_for_tables : ReadsForTables
+reads_for_tables tables bytes parts h held =
+    let entries = entries_read tables bytes parts h in
+    let passes = all_passed tables entries.file entries.accepted in
+    subst (AreReadFor (map (λ table. table.schema) tables)) entries.parts_are
+    (record {
+      tables = tables_read tables entries.file passes (subst AreHeld (sym entries.parts_are) held);
+      rules = rules_read tables entries.file passes (subst AreHeld (sym entries.parts_are) held);
+    })
