@@ -25,6 +25,7 @@ pub mod MeaningLemmas
 pub mod MemberLemmas
 pub mod MembershipLemmas
 pub mod MethodPulls
+pub mod NestedFaultLemmas
 pub mod NewRowLemmas
 pub mod NullLemmas
 pub mod OneArrangement

@@ -19,6 +19,7 @@ pub mod Maps
 pub mod Meaning
 pub mod MeaningLaws
 pub mod Members
+pub mod NestedFaults
 pub mod NullLaws
 pub mod OneArrangement
 pub mod Opening

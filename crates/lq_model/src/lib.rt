@@ -16,6 +16,7 @@ mod operation;
 pub mod operation_laws;
 mod policy;
 pub mod policy_laws;
+pub mod reply_laws;
 pub mod right_laws;
 mod rights;
 mod session;
