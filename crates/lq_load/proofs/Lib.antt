@@ -5,4 +5,5 @@ mod HeaderLemmas
 mod MarkLemmas
 mod NameFacts
 mod NumberLemmas
+mod TableFaults
 mod TableFileLemmas

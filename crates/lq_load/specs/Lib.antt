@@ -2,3 +2,4 @@ pub mod Cells
 pub mod CsvRecords
 pub mod Headers
 pub mod TableFile
+pub mod TableLaws

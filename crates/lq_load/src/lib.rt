@@ -11,6 +11,7 @@ mod marks;
 mod number;
 mod reading;
 mod table_file;
+pub mod table_laws;
 
 pub use load_error::LoadError;
 pub use marks::without_marks;
