@@ -8,11 +8,13 @@ use Rattle.std.proofs.lemmas.List.{take-append-drop}
 use Rattle.std.proofs.lemmas.List.Sums.{sum_by-cons, sum_by-append}
 use Rattle.std.proofs.lemmas.Str.{len_utf8_bounds, length-encode, encodes-chars}
 use lib.Utf8.{encodes, encode}
-use Rattle.lq_model.specs.LexingLaws.{AreInOrder, CutTheLine, EndsLine, IsCut, IsOneLine, LieInOrder}
-use Rattle.lq_model.specs.LexingLaws as cut
+use Rattle.lq_model.specs.Lexemes.{CutTheLine, IsCut}
+use Rattle.lq_model.specs.Lexemes as cut
+use Rattle.lq_model.specs.LexingLaws.{AreInOrder, EndsLine, IsOneLine, LieInOrder}
 use Rattle.lq_model.specs.Tokens.{Piece, head_of, is_blank, piece, tokens_from, tokens_in, with_piece}
 use Rattle.lq_model.specs.declared.token.Kind.{Kind}
 use Rattle.lq_model.specs.declared.token.Token.{Token}
+use Rattle.lq_model.proofs.LexemeLemmas.{takes_longest}
 use Rattle.lq_model.proofs.Pieces.{both_left, both_right, by_cases, other_is_token, other_piece, piece_within, turn}
 
 -- ---- white space and comments
@@ -92,7 +94,7 @@ after_token n place c more kind cs tokens follow within found is =
     by None e f = absurd (cc)
     by (Some others) e f =
         let all : record { kind = kind; start = place; end = end } ∷ others ≡ tokens = cc in
-        rw (← all) (moved place _ _ _ (ap (λ rest. c ∷ rest) (take-append-drop more cs)) (cut.token kind c (take more cs) (drop more cs) longest (follow end (drop more cs) others (shorter more n cs within) e)))
+        rw (← all) (moved place _ _ _ (ap (λ rest. c ∷ rest) (take-append-drop more cs)) (cut.token kind c (take more cs) (drop more cs) (takes_longest kind c (take more cs) (drop more cs) longest) (follow end (drop more cs) others (shorter more n cs within) e)))
 
 gap : (n place c more : ℕ) (cs : List ℕ) (tokens : List Token) → Follow n → length cs ≤ n → tokens_from 0 place (c ∷ cs) ≡ Some tokens
     → piece c cs ≡ Some (None, more) → IsCut place (c ∷ cs) tokens

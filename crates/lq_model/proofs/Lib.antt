@@ -17,6 +17,7 @@ pub mod Forwards
 pub mod KeptDefinitions
 pub mod KeyOrder
 pub mod Layers
+pub mod LexemeLemmas
 pub mod LexingLemmas
 pub mod LiteralLemmas
 pub mod LookAlike

@@ -13,6 +13,7 @@ pub mod Grammar
 pub mod GrammarLaws
 pub mod HostCalls
 pub mod KeyOrder
+pub mod Lexemes
 pub mod LexingLaws
 pub mod Machine
 pub mod Maps

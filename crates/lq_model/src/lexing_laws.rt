@@ -1,6 +1,7 @@
 //! Laws of the lexical grammar. Each function's contract is the law that it is named for; the
 //! functions themselves do nothing.
-ghost use Rattle.lq_model.specs.LexingLaws.{CutTheLine, FindsLiterals, LieInOrder, ValuesLiterals};
+ghost use Rattle.lq_model.specs.Lexemes.{CutTheLine, FaultsWithoutLexeme, TakesLongest};
+ghost use Rattle.lq_model.specs.LexingLaws.{FindsLiterals, LieInOrder, ValuesLiterals};
 
 /// The tokens of a line stand in order, none is empty, no two overlap, and each lies within the line.
 pub fn tokens_in_order()
@@ -11,6 +12,14 @@ pub fn tokens_in_order()
 /// other: nothing else stands in it.
 pub fn tokens_cut_the_line()
     ensures { CutTheLine }
+{}
+
+/// What is taken for a token is the longest lexeme that stands there: a word, decimal digits of at most
+/// 2147483648 behind which no name could go on, a text between two quotes, or a sign. Two slashes open
+/// a comment. A fault is met exactly where neither white space nor a comment nor a lexeme stands.
+pub fn longest_tokens()
+    ensures longest { TakesLongest }
+    ensures faults { FaultsWithoutLexeme }
 {}
 
 /// Behind an opening quote a text literal is found exactly where characters that spell a text stand
