@@ -1,7 +1,10 @@
 -- The token that is taken at the head of a text is the longest lexeme there.
-use Rattle.std.proofs.Common.{◌≡◌, ℕ, zero, suc, ◌+◌, ◌-◌, ◌≤◌, ◌<◌, Bool, true, false, List, [], ◌∷◌, ◌++◌, length, take, drop, refl, ap, sym, subst, ◌∙◌, arith, not, ◌&&◌, if◌then◌else◌, length-append}
+use Rattle.std.proofs.Common.{◌≡◌, ℕ, zero, suc, ◌+◌, ◌-◌, ◌≤◌, ◌<◌, Bool, true, false, List, [], ◌∷◌, ◌++◌, length, take, drop, refl, ap, sym, subst, ◌∙◌, arith, not, ◌&&◌, if◌then◌else◌, length-append, slice_index_or}
 use Rattle.std.specs.Prelude.{Option, Some, None, option_map, ◌==◌, nat_le}
-use Rattle.std.specs.List.{list_all, prefix_len}
+use Rattle.std.specs.List.{Contains, list_all, prefix_len}
+use Rattle.std.specs.Str.{bytes_eq}
+use Rattle.std.proofs.lemmas.List.Sums.{AllPass-from_list_all}
+use Rattle.std.proofs.lemmas.Slice.Eq.{bytes_eq-Decides}
 use Rattle.std.proofs.lemmas.Bool.{and_parts, eqb-true}
 use Rattle.std.proofs.lemmas.Bool.Decides.{nat_tests}
 use Rattle.std.proofs.lemmas.List.{append_assoc, take-append-drop}
@@ -12,7 +15,7 @@ use Rattle.lq_model.specs.Lexemes as law
 use Rattle.lq_model.specs.LexingLaws.{HasLiteral, IsLiteral}
 use Rattle.lq_model.specs.TextLiterals.{length_from, plain}
 use Rattle.lq_model.specs.Tokens.{Piece, comment, decimal_value, head_of, integer, is_blank, is_digit, one, piece, short_sign, sign, text, two, word}
-use Rattle.lq_model.specs.Words.{continues_name, kind_of_word, starts_name}
+use Rattle.lq_model.specs.Words.{continues_name, kind_among, kind_of_word, reserved_words, starts_name}
 use Rattle.lq_model.specs.declared.token.Kind.{Kind}
 use Rattle.lq_model.specs.declared.token.Kind.TheVariants as k
 use Rattle.lq_model.proofs.LiteralLemmas.{finds_literals}
@@ -174,6 +177,53 @@ drop_over : (xs ys : List ℕ) → drop (length xs) (xs ++ ys) ≡ ys
 drop_over [] ys = refl
 drop_over (x ∷ xs) ys = drop_over xs ys
 
+-- ---- words
+
+-- whether characters could be a name's
+abbrev is_word : List ℕ → Bool
+is_word [] = false
+is_word (c ∷ cs) = starts_name c && list_all continues_name cs
+
+all_words : list_all (λ w. is_word w.0) reserved_words ≡ true
+unfolding starts_name continues_name unicode_ident
+all_words = refl
+
+among : (p : List ℕ × Kind → Bool) (words : List (List ℕ × Kind)) (w : List ℕ × Kind) → list_all p words ≡ true → Contains words w → p w ≡ true
+among p words w all there = subst (λ (x : List ℕ × Kind). p x ≡ true) there.2 (AllPass-from_list_all p words all there.0 w there.1)
+
+contains_more : (x : List ℕ × Kind) (xs : List (List ℕ × Kind)) (y : List ℕ × Kind) → Contains xs y → Contains (x ∷ xs) y
+contains_more x xs y h = (suc h.0, omega (arith, h.1), h.2)
+
+contains_one : {P : Type 0} (x : List ℕ × Kind) (xs : List (List ℕ × Kind)) (y : List ℕ × Kind) → Contains (x ∷ xs) y → (x ≡ y → P) → (Contains xs y → P) → P
+contains_one {P} x xs y h f g = by h.0 h.1 h.2 where
+  by : (n : ℕ) → n < length (x ∷ xs) → slice_index_or (x ∷ xs) n y ≡ y → P
+  by zero within is = f is
+  by (suc n) within is = g (n, omega (arith, within), is)
+
+-- a reserved word, or else a name
+data Tells (words : List (List ℕ × Kind)) (w : List ℕ) : Kind → Type 0 where
+  of_list : (kind : Kind) → Contains words (w, kind) → Tells words w kind
+  of_none : ((kind : Kind) → Contains words (w, kind) → ⊥) → Tells words w k.Name
+
+tells : (words : List (List ℕ × Kind)) (w : List ℕ) → Tells words w (kind_among words w)
+tells [] w = of_none (λ kind h. absurd (omega (arith, h.1)))
+tells (x ∷ words) w = by (tells words w) (bytes_eq w x.0) refl where
+  others : (bytes_eq w x.0 ≡ false) → {kind : Kind} → Tells words w kind → Tells (x ∷ words) w kind
+  others e (of_list kind h) = of_list kind (contains_more x words (w, kind) h)
+  others e (of_none none) =
+      of_none (λ kind h. contains_one x words (w, kind) h
+      (λ is. let never : true ≡ false = sym ((bytes_eq-Decides w x.0).1 (λ i. (sym is i).0)) ∙ e in absurd (cc)) (none kind))
+
+  by : Tells words w (kind_among words w) → (b : Bool) → bytes_eq w x.0 ≡ b → Tells (x ∷ words) w (if b then x.1 else kind_among words w)
+  by rest true e =
+      of_list x.1 (subst (λ (v : List ℕ). Contains (x ∷ words) (v, x.1)) (sym ((bytes_eq-Decides w x.0).0 e)) (0, omega arith, refl))
+  by rest false e = others e rest
+
+word_lexeme : (c : ℕ) (cs behind : List ℕ) {kind : Kind} → starts_name c ≡ true → list_all continues_name cs ≡ true → Tells reserved_words (c ∷ cs) kind
+    → IsLexeme kind (c ∷ cs) behind
+word_lexeme c cs behind starts continues (of_list kind h) = law.reserved h
+word_lexeme c cs behind starts continues (of_none none) = law.name starts continues none
+
 -- ---- every lexeme is reached
 
 -- a token is found that goes at least as far
@@ -328,8 +378,15 @@ sign_reached law.greater behind s =
 sign_reached law.and behind s = record { kind = k.And; more = 1; is = is_other 38 (38 ∷ behind) refl refl ∙ (rw starts_ampersand refl); far = omega arith }
 sign_reached law.or behind s = record { kind = k.Or; more = 1; is = is_other 124 (124 ∷ behind) refl refl ∙ (rw starts_bar refl); far = omega arith }
 
+reserved_reached : (cs behind : List ℕ) → is_word cs ≡ true → slashes (cs ++ behind) ≡ false → Reach (cs ++ behind) (length cs)
+reserved_reached [] behind h s = absurd (cc)
+reserved_reached (c ∷ cs) behind h s =
+    let both = and_parts (starts_name c) (list_all continues_name cs) h in word_reached c cs behind both.0 both.1 s
+
 reached : {kind : Kind} {lexeme behind : List ℕ} → IsLexeme kind lexeme behind → slashes (lexeme ++ behind) ≡ false → Reach (lexeme ++ behind) (length lexeme)
-reached (law.word {c = c} {cs = cs} {behind = behind} starts continues) s = word_reached c cs behind starts continues s
+reached (law.reserved {kind = kind} {cs = cs} {behind = behind} h) s =
+    reserved_reached cs behind (among (λ w. is_word w.0) reserved_words (cs, kind) all_words h) s
+reached (law.name {c = c} {cs = cs} {behind = behind} starts continues none) s = word_reached c cs behind starts continues s
 reached (law.integer {c = c} {cs = cs} {behind = behind} digit digits small ends) s = integer_reached c cs behind digit digits small ends s
 reached (law.text {body = body} {spelled = spelled} {behind = behind} h) s = text_reached body spelled behind h
 reached (law.sign {behind = behind} h) s = sign_reached h behind s
@@ -403,7 +460,7 @@ word_spelled : (c : ℕ) (cs : List ℕ) → starts_name c ≡ true → Spelled 
 word_spelled c cs starts kind more e =
     let n : ℕ = prefix_len continues_name cs in
     let both = parts (kind_of_word (c ∷ take n cs)) kind n more e in
-    rw (← both.1) (subst (λ (w : Kind). IsLexeme w (c ∷ take n cs) (drop n cs)) both.0 (law.word starts (all_passed continues_name cs)))
+    rw (← both.1) (subst (λ (w : Kind). IsLexeme w (c ∷ take n cs) (drop n cs)) both.0 (word_lexeme c (take n cs) (drop n cs) starts (all_passed continues_name cs) (tells reserved_words (c ∷ take n cs))))
 
 ends_integer : (cs : List ℕ) → not (continues_name (head_of cs)) ≡ true → EndsInteger cs
 ends_integer [] h = tt

@@ -2,10 +2,10 @@
 -- lexical structure).
 use Rattle.std.specs.Prelude.{◌≡◌, ◌↔◌, ◌≤◌, ◌+◌, ◌∷◌, ◌++◌, List, [], ℕ, true, false, Some, None, chars, codes, length, sum_by}
 use Rattle.std.specs.Char.{len_utf8}
-use Rattle.std.specs.List.{list_all}
+use Rattle.std.specs.List.{Contains, list_all}
 use Rattle.lq_model.specs.LexingLaws.{EndsLine, IsLiteral, IsOneLine}
 use Rattle.lq_model.specs.Tokens.{decimal_value, is_blank, is_digit, piece, tokens_in}
-use Rattle.lq_model.specs.Words.{continues_name, kind_of_word, starts_name}
+use Rattle.lq_model.specs.Words.{continues_name, reserved_words, starts_name}
 use Rattle.lq_model.specs.declared.token.Kind.{Kind}
 use Rattle.lq_model.specs.declared.token.Kind.TheVariants as k
 use Rattle.lq_model.specs.declared.token.Token.{Token}
@@ -44,11 +44,16 @@ abbrev pub EndsInteger : List ℕ → Type 0
 EndsInteger [] = Unit {0}
 EndsInteger (c ∷ cs) = continues_name c ≡ false
 
--- These characters spell a token of this kind where those stand behind them: a word, which is a reserved one or a name;
--- decimal digits of at most 2147483648, directly behind which no name could go on; a text between two quotes; or a sign.
+-- the words that are no names, with the kind of each
+abbrev pub IsReserved : Kind → List ℕ → Type 0
+IsReserved kind cs = Contains reserved_words (cs, kind)
+
+-- These characters spell a token of this kind where those stand behind them: a reserved word; any other word, which is a
+-- name; decimal digits of at most 2147483648, directly behind which no name could go on; a text between two quotes; a sign.
 pub data IsLexeme : Kind → List ℕ → List ℕ → Type 0 where
-  word : {c : ℕ} {cs behind : List ℕ} → starts_name c ≡ true → list_all continues_name cs ≡ true
-      → IsLexeme (kind_of_word (c ∷ cs)) (c ∷ cs) behind
+  reserved : {kind : Kind} {cs behind : List ℕ} → IsReserved kind cs → IsLexeme kind cs behind
+  name : {c : ℕ} {cs behind : List ℕ} → starts_name c ≡ true → list_all continues_name cs ≡ true
+      → ((kind : Kind) → IsReserved kind (c ∷ cs) → ⊥) → IsLexeme k.Name (c ∷ cs) behind
   integer : {c : ℕ} {cs behind : List ℕ} → is_digit c ≡ true → list_all is_digit cs ≡ true → decimal_value (c ∷ cs) ≤ 2147483648
       → EndsInteger behind → IsLexeme k.Integer (c ∷ cs) behind
   text : {body spelled behind : List ℕ} → IsLiteral body spelled → IsLexeme k.Text (34 ∷ (body ++ 34 ∷ [])) behind

@@ -9,14 +9,15 @@ pub fn tokens_in_order()
 {}
 
 /// The tokens of a line, and white space and comments between them, make the line, one behind the
-/// other: nothing else stands in it.
+/// other: nothing else stands in it. Each token is the longest lexeme at its place.
 pub fn tokens_cut_the_line()
     ensures { CutTheLine }
 {}
 
-/// What is taken for a token is the longest lexeme that stands there: a word, decimal digits of at most
-/// 2147483648 behind which no name could go on, a text between two quotes, or a sign. Two slashes open
-/// a comment. A fault is met exactly where neither white space nor a comment nor a lexeme stands.
+/// What is taken for a token is the longest lexeme that stands there: a reserved word, any other word,
+/// which is a name, decimal digits of at most 2147483648 behind which no name could go on, a text
+/// between two quotes, or a sign. Two slashes open a comment, and are no signs. A fault is met exactly
+/// where neither white space nor a comment nor a lexeme stands.
 pub fn longest_tokens()
     ensures longest { TakesLongest }
     ensures faults { FaultsWithoutLexeme }
