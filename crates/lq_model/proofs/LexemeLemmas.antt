@@ -1,6 +1,6 @@
 -- The token that is taken at the head of a text is the longest lexeme there.
 use Rattle.std.proofs.Common.{◌≡◌, ℕ, zero, suc, ◌+◌, ◌-◌, ◌≤◌, ◌<◌, Bool, true, false, List, [], ◌∷◌, ◌++◌, length, take, drop, refl, ap, sym, subst, ◌∙◌, arith, not, ◌&&◌, if◌then◌else◌, length-append, slice_index_or}
-use Rattle.std.specs.Prelude.{Option, Some, None, option_map, ◌==◌, nat_le}
+use Rattle.std.specs.Prelude.{codes, Option, Some, None, option_map, ◌==◌, nat_le}
 use Rattle.std.specs.List.{Contains, list_all, prefix_len}
 use Rattle.std.specs.Str.{bytes_eq}
 use Rattle.std.proofs.lemmas.List.Sums.{AllPass-from_list_all}
@@ -19,7 +19,7 @@ use Rattle.lq_model.specs.Words.{continues_name, kind_among, kind_of_word, reser
 use Rattle.lq_model.specs.declared.token.Kind.{Kind}
 use Rattle.lq_model.specs.declared.token.Kind.TheVariants as k
 use Rattle.lq_model.proofs.LiteralLemmas.{finds_literals}
-use Rattle.lq_model.proofs.Pieces.{both_left, both_right, by_cases, other_is_token, other_piece}
+use Rattle.lq_model.proofs.Pieces.{both_left, both_right, by_cases, other_is_token, other_piece, piece_within}
 
 -- ---- characters
 
@@ -529,8 +529,8 @@ reached_at : (c : ℕ) (cs : List ℕ) (kind : Kind) (front rest : List ℕ) →
 reached_at c cs kind front rest none e h =
     subst (λ (all : List ℕ). Reach all (length front)) (sym e) (reached h (ap slashes (sym e) ∙ no_slashes c cs none))
 
-pub takes_longest : TakesLongest
-takes_longest kind c more rest e =
+pub is_longest : (kind : Kind) (c : ℕ) (more rest : List ℕ) → piece c (more ++ rest) ≡ Some (Some kind, length more) → IsToken kind (c ∷ more) rest
+is_longest kind c more rest e =
     let none : OpensComment (c ∷ (more ++ rest)) → ⊥ = λ h. none_is_none kind _ (length more) (sym (comment_found c (more ++ rest) h.0 h.1) ∙ e) in
     record {
       spelled = rw (take_over more rest, drop_over more rest) at (spelled c (more ++ rest) kind (length more) e);
@@ -567,3 +567,126 @@ faults_without_lexeme c cs = (to, from) where
         let never : false ≡ true = other_is_token c cs (None, n) (sym (is_other c cs h.0 (no_slashes c cs h.1)) ∙ e) in absurd (cc)
     by (Some (Some kind, n)) e =
         absurd (h.2 kind (c ∷ take n cs) (drop n cs) (ap (λ all. c ∷ all) (sym (take-append-drop n cs))) (spelled c cs kind n e))
+
+-- ---- one token
+
+-- the kind of a lexeme, by its characters
+abbrev kind_in : Option Piece → Option Kind
+kind_in None = None
+kind_in (Some p) = p.0
+
+abbrev kind_at : List ℕ → Option Kind
+kind_at [] = None
+kind_at (c ∷ cs) =
+    if starts_name c then Some (kind_of_word (c ∷ cs)) else if is_digit c then Some k.Integer else if c == 34 then Some k.Text else kind_in (sign c (head_of cs))
+
+by_word : (w cs : List ℕ) (q kind : Kind) → kind_of_word w ≡ q → ◌≡◌ {A = List ℕ × Kind} (w, q) (cs, kind) → kind_of_word cs ≡ kind
+by_word w cs q kind is e = (λ i. kind_of_word ((sym e i).0)) ∙ is ∙ (λ i. (e i).1)
+
+reserved_kind : (cs : List ℕ) (kind : Kind) (n : ℕ) → n < 26 → slice_index_or reserved_words n (cs, kind) ≡ (cs, kind) → kind_of_word cs ≡ kind
+reserved_kind cs kind zero within e = by_word (codes "from") cs k.From kind refl e
+reserved_kind cs kind (suc zero) within e = by_word (codes "where") cs k.Where kind refl e
+reserved_kind cs kind (suc (suc zero)) within e = by_word (codes "select") cs k.Select kind refl e
+reserved_kind cs kind (suc (suc (suc zero))) within e = by_word (codes "group") cs k.Group kind refl e
+reserved_kind cs kind (suc (suc (suc (suc zero)))) within e = by_word (codes "into") cs k.Into kind refl e
+reserved_kind cs kind (suc (suc (suc (suc (suc zero))))) within e = by_word (codes "orderby") cs k.OrderBy kind refl e
+reserved_kind cs kind (suc (suc (suc (suc (suc (suc zero)))))) within e = by_word (codes "join") cs k.Join kind refl e
+reserved_kind cs kind (suc (suc (suc (suc (suc (suc (suc zero))))))) within e = by_word (codes "let") cs k.Let kind refl e
+reserved_kind cs kind (suc (suc (suc (suc (suc (suc (suc (suc zero)))))))) within e = by_word (codes "in") cs k.In kind refl e
+reserved_kind cs kind (suc (suc (suc (suc (suc (suc (suc (suc (suc zero))))))))) within e = by_word (codes "on") cs k.On kind refl e
+reserved_kind cs kind (suc (suc (suc (suc (suc (suc (suc (suc (suc (suc zero)))))))))) within e = by_word (codes "equals") cs k.Equals kind refl e
+reserved_kind cs kind (suc (suc (suc (suc (suc (suc (suc (suc (suc (suc (suc zero))))))))))) within e = by_word (codes "by") cs k.By kind refl e
+reserved_kind cs kind (suc (suc (suc (suc (suc (suc (suc (suc (suc (suc (suc (suc zero)))))))))))) within e = by_word (codes "ascending") cs k.Ascending kind refl e
+reserved_kind cs kind (suc (suc (suc (suc (suc (suc (suc (suc (suc (suc (suc (suc (suc zero))))))))))))) within e = by_word (codes "descending") cs k.Descending kind refl e
+reserved_kind cs kind (suc (suc (suc (suc (suc (suc (suc (suc (suc (suc (suc (suc (suc (suc zero)))))))))))))) within e = by_word (codes "var") cs k.Var kind refl e
+reserved_kind cs kind (suc (suc (suc (suc (suc (suc (suc (suc (suc (suc (suc (suc (suc (suc (suc zero))))))))))))))) within e = by_word (codes "run") cs k.Run kind refl e
+reserved_kind cs kind (suc (suc (suc (suc (suc (suc (suc (suc (suc (suc (suc (suc (suc (suc (suc (suc zero)))))))))))))))) within e = by_word (codes "as") cs k.As kind refl e
+reserved_kind cs kind (suc (suc (suc (suc (suc (suc (suc (suc (suc (suc (suc (suc (suc (suc (suc (suc (suc zero))))))))))))))))) within e = by_word (codes "insert") cs k.Insert kind refl e
+reserved_kind cs kind (suc (suc (suc (suc (suc (suc (suc (suc (suc (suc (suc (suc (suc (suc (suc (suc (suc (suc zero)))))))))))))))))) within e = by_word (codes "delete") cs k.Delete kind refl e
+reserved_kind cs kind (suc (suc (suc (suc (suc (suc (suc (suc (suc (suc (suc (suc (suc (suc (suc (suc (suc (suc (suc zero))))))))))))))))))) within e = by_word (codes "update") cs k.Update kind refl e
+reserved_kind cs kind (suc (suc (suc (suc (suc (suc (suc (suc (suc (suc (suc (suc (suc (suc (suc (suc (suc (suc (suc (suc zero)))))))))))))))))))) within e = by_word (codes "set") cs k.Set kind refl e
+reserved_kind cs kind (suc (suc (suc (suc (suc (suc (suc (suc (suc (suc (suc (suc (suc (suc (suc (suc (suc (suc (suc (suc (suc zero))))))))))))))))))))) within e = by_word (codes "new") cs k.New kind refl e
+reserved_kind cs kind (suc (suc (suc (suc (suc (suc (suc (suc (suc (suc (suc (suc (suc (suc (suc (suc (suc (suc (suc (suc (suc (suc zero)))))))))))))))))))))) within e = by_word (codes "true") cs k.True kind refl e
+reserved_kind cs kind (suc (suc (suc (suc (suc (suc (suc (suc (suc (suc (suc (suc (suc (suc (suc (suc (suc (suc (suc (suc (suc (suc (suc zero))))))))))))))))))))))) within e = by_word (codes "false") cs k.False kind refl e
+reserved_kind cs kind (suc (suc (suc (suc (suc (suc (suc (suc (suc (suc (suc (suc (suc (suc (suc (suc (suc (suc (suc (suc (suc (suc (suc (suc zero)))))))))))))))))))))))) within e = by_word (codes "null") cs k.Null kind refl e
+reserved_kind cs kind (suc (suc (suc (suc (suc (suc (suc (suc (suc (suc (suc (suc (suc (suc (suc (suc (suc (suc (suc (suc (suc (suc (suc (suc (suc zero))))))))))))))))))))))))) within e = by_word (codes "Host") cs k.Host kind refl e
+reserved_kind cs kind (suc (suc (suc (suc (suc (suc (suc (suc (suc (suc (suc (suc (suc (suc (suc (suc (suc (suc (suc (suc (suc (suc (suc (suc (suc (suc n)))))))))))))))))))))))))) within e = absurd (omega arith)
+
+reserved_at : (cs : List ℕ) (kind : Kind) → is_word cs ≡ true → kind_of_word cs ≡ kind → kind_at cs ≡ Some kind
+reserved_at [] kind h e = absurd (cc)
+reserved_at (c ∷ cs) kind h e = rw (and_parts (starts_name c) (list_all continues_name cs) h).0 (ap Some e)
+
+name_kind : (words : List (List ℕ × Kind)) (w : List ℕ) {kind : Kind} → Tells words w kind → ((other : Kind) → Contains words (w, other) → ⊥) → kind ≡ k.Name
+name_kind words w (of_list kind h) none = absurd (none kind h)
+name_kind words w (of_none h) none = refl
+
+sign_at : {kind : Kind} {cs : List ℕ} → IsSign kind cs → kind_at cs ≡ Some kind
+sign_at law.left_parenthesis = rw starts_left_parenthesis refl
+sign_at law.right_parenthesis = rw starts_right_parenthesis refl
+sign_at law.left_brace = rw starts_left_brace refl
+sign_at law.right_brace = rw starts_right_brace refl
+sign_at law.dot = rw starts_dot refl
+sign_at law.comma = rw starts_comma refl
+sign_at law.semicolon = rw starts_semicolon refl
+sign_at law.colon = rw starts_colon refl
+sign_at law.minus = rw starts_minus refl
+sign_at law.plus = rw starts_plus refl
+sign_at law.star = rw starts_star refl
+sign_at law.slash = rw starts_slash refl
+sign_at law.percent = rw starts_percent refl
+sign_at law.assign = rw starts_assign refl
+sign_at law.question = rw starts_question refl
+sign_at law.not = rw starts_not refl
+sign_at law.less = rw starts_less refl
+sign_at law.greater = rw starts_greater refl
+sign_at law.arrow = rw starts_assign refl
+sign_at law.equal = rw starts_assign refl
+sign_at law.coalesce = rw starts_question refl
+sign_at law.not_equal = rw starts_not refl
+sign_at law.less_or_equal = rw starts_less refl
+sign_at law.greater_or_equal = rw starts_greater refl
+sign_at law.and = rw starts_ampersand refl
+sign_at law.or = rw starts_bar refl
+
+lexeme_at : {kind : Kind} {cs behind : List ℕ} → IsLexeme kind cs behind → kind_at cs ≡ Some kind
+lexeme_at (law.reserved {kind = kind} {cs = cs} h) =
+    reserved_at cs kind (among (λ w. is_word w.0) reserved_words (cs, kind) all_words h) (reserved_kind cs kind h.0 h.1 h.2)
+lexeme_at (law.name {c = c} {cs = cs} starts continues none) =
+    rw starts (ap Some (name_kind reserved_words (c ∷ cs) (tells reserved_words (c ∷ cs)) (λ kind h. none kind h)))
+lexeme_at (law.integer {c = c} digit digits small ends) = rw ((of_digit c digit).0, digit) refl
+lexeme_at (law.text h) = rw no_quote_starts refl
+lexeme_at (law.sign h) = sign_at h
+
+same_front : (a b x y : List ℕ) → a ++ b ≡ x ++ y → length a ≡ length x → a ≡ x
+same_front a b x y e size = sym (take_over a b) ∙ (λ i. take (size i) (e i)) ∙ take_over x y
+
+one_token : (kind other : Kind) (lexeme behind front rest : List ℕ) → lexeme ++ behind ≡ front ++ rest → IsToken kind lexeme behind → IsToken other front rest
+    → (kind ≡ other) × (lexeme ≡ front)
+one_token kind other lexeme behind front rest e t u =
+    let less = t.longest other front rest e u.spelled in
+    let more = u.longest kind lexeme behind (sym e) t.spelled in
+    let same = same_front lexeme behind front rest e (omega (arith, less, more)) in
+    (same_Some kind other (sym (lexeme_at t.spelled) ∙ ap kind_at same ∙ lexeme_at u.spelled), same)
+
+take_length : (n : ℕ) (cs : List ℕ) → n ≤ length cs → length (take n cs) ≡ n
+take_length zero cs within = refl
+take_length (suc n) [] within = absurd (omega arith)
+take_length (suc n) (c ∷ cs) within = ap suc (take_length n cs (omega arith))
+
+is_taken : (kind : Kind) (c : ℕ) (more rest : List ℕ) → IsToken kind (c ∷ more) rest → piece c (more ++ rest) ≡ Some (Some kind, length more)
+is_taken kind c more rest t =
+    let cs : List ℕ = more ++ rest in
+    let there = reached_at c cs kind (c ∷ more) rest t.no_comment refl t.spelled in
+    let within : there.more ≤ length cs = piece_within c cs (Some there.kind, there.more) there.is in
+    let size = take_length there.more cs within in
+    let taken : IsToken there.kind (c ∷ take there.more cs) (drop there.more cs)
+    = is_longest there.kind c (take there.more cs) (drop there.more cs)
+    (ap (piece c) (take-append-drop there.more cs) ∙ there.is ∙ ap (λ n. Some (Some there.kind, n)) (sym size)) in
+    let one = one_token there.kind kind (c ∷ take there.more cs) (drop there.more cs) (c ∷ more) rest
+    (ap (λ all. c ∷ all) (take-append-drop there.more cs)) taken t in
+    let long : suc (length (take there.more cs)) ≡ suc (length more) = ap length one.1 in
+    let count : there.more ≡ length more = omega (arith, long, size) in
+    there.is ∙ (λ i. Some (Some (one.0 i), count i))
+
+pub takes_longest : TakesLongest
+takes_longest kind c more rest = (is_longest kind c more rest, is_taken kind c more rest)

@@ -14,7 +14,7 @@ use Rattle.lq_model.specs.LexingLaws.{AreInOrder, EndsLine, IsOneLine, LieInOrde
 use Rattle.lq_model.specs.Tokens.{Piece, head_of, is_blank, piece, tokens_from, tokens_in, with_piece}
 use Rattle.lq_model.specs.declared.token.Kind.{Kind}
 use Rattle.lq_model.specs.declared.token.Token.{Token}
-use Rattle.lq_model.proofs.LexemeLemmas.{takes_longest}
+use Rattle.lq_model.proofs.LexemeLemmas.{is_longest}
 use Rattle.lq_model.proofs.Pieces.{both_left, both_right, by_cases, other_is_token, other_piece, piece_within, turn}
 
 -- ---- white space and comments
@@ -94,7 +94,7 @@ after_token n place c more kind cs tokens follow within found is =
     by None e f = absurd (cc)
     by (Some others) e f =
         let all : record { kind = kind; start = place; end = end } ∷ others ≡ tokens = cc in
-        rw (← all) (moved place _ _ _ (ap (λ rest. c ∷ rest) (take-append-drop more cs)) (cut.token kind c (take more cs) (drop more cs) (takes_longest kind c (take more cs) (drop more cs) longest) (follow end (drop more cs) others (shorter more n cs within) e)))
+        rw (← all) (moved place _ _ _ (ap (λ rest. c ∷ rest) (take-append-drop more cs)) (cut.token kind c (take more cs) (drop more cs) (is_longest kind c (take more cs) (drop more cs) longest) (follow end (drop more cs) others (shorter more n cs within) e)))
 
 gap : (n place c more : ℕ) (cs : List ℕ) (tokens : List Token) → Follow n → length cs ≤ n → tokens_from 0 place (c ∷ cs) ≡ Some tokens
     → piece c cs ≡ Some (None, more) → IsCut place (c ∷ cs) tokens

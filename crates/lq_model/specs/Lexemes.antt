@@ -71,10 +71,10 @@ pub record IsToken (kind : Kind) (lexeme behind : List ℕ) : Type 0 where
   pub longest : (other : Kind) (front rest : List ℕ) → lexeme ++ behind ≡ front ++ rest → IsLexeme other front rest
       → length front ≤ length lexeme
 
--- what is taken for a token is the longest lexeme
+-- what is taken for a token is the longest lexeme, which is taken for one
 abbrev pub TakesLongest : Type 0
 TakesLongest =
-    (kind : Kind) (c : ℕ) (more rest : List ℕ) → piece c (more ++ rest) ≡ Some (Some kind, length more) → IsToken kind (c ∷ more) rest
+    (kind : Kind) (c : ℕ) (more rest : List ℕ) → (piece c (more ++ rest) ≡ Some (Some kind, length more)) ↔ IsToken kind (c ∷ more) rest
 
 -- a fault is met exactly where there is neither white space nor a comment nor a lexeme
 abbrev pub FaultsWithoutLexeme : Type 0

@@ -14,7 +14,7 @@ pub fn tokens_cut_the_line()
     ensures { CutTheLine }
 {}
 
-/// What is taken for a token is the longest lexeme that stands there: a reserved word, any other word,
+/// What is taken for a token is exactly the longest lexeme that stands there: a reserved word, another,
 /// which is a name, decimal digits of at most 2147483648 behind which no name could go on, a text
 /// between two quotes, or a sign. Two slashes open a comment, and are no signs. A fault is met exactly
 /// where neither white space nor a comment nor a lexeme stands.
