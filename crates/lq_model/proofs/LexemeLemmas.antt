@@ -148,11 +148,11 @@ goes_over p (x ∷ xs) ys h =
     let rest = goes_over p xs ys parts.1 in
     rw parts.0 (omega (arith, rest))
 
-abbrev Stops : (ℕ → Bool) → List ℕ → Type 0
+abbrev pub Stops : (ℕ → Bool) → List ℕ → Type 0
 Stops p [] = Unit {0}
 Stops p (y ∷ ys) = p y ≡ false
 
-goes_as_far : (p : ℕ → Bool) (xs ys : List ℕ) → list_all p xs ≡ true → Stops p ys → prefix_len p (xs ++ ys) ≡ length xs
+pub goes_as_far : (p : ℕ → Bool) (xs ys : List ℕ) → list_all p xs ≡ true → Stops p ys → prefix_len p (xs ++ ys) ≡ length xs
 goes_as_far p [] [] h stop = refl
 goes_as_far p [] (y ∷ ys) h stop = rw stop refl
 goes_as_far p (x ∷ xs) ys h stop =
@@ -169,11 +169,11 @@ all_passed p (x ∷ xs) =
     rw (h, next) (rw h (all_passed p xs)))
     (λ h. rw h refl)
 
-take_over : (xs ys : List ℕ) → take (length xs) (xs ++ ys) ≡ xs
+pub take_over : (xs ys : List ℕ) → take (length xs) (xs ++ ys) ≡ xs
 take_over [] ys = refl
 take_over (x ∷ xs) ys = ap (λ rest. x ∷ rest) (take_over xs ys)
 
-drop_over : (xs ys : List ℕ) → drop (length xs) (xs ++ ys) ≡ ys
+pub drop_over : (xs ys : List ℕ) → drop (length xs) (xs ++ ys) ≡ ys
 drop_over [] ys = refl
 drop_over (x ∷ xs) ys = drop_over xs ys
 
@@ -673,7 +673,7 @@ take_length zero cs within = refl
 take_length (suc n) [] within = absurd (omega arith)
 take_length (suc n) (c ∷ cs) within = ap suc (take_length n cs (omega arith))
 
-is_taken : (kind : Kind) (c : ℕ) (more rest : List ℕ) → IsToken kind (c ∷ more) rest → piece c (more ++ rest) ≡ Some (Some kind, length more)
+pub is_taken : (kind : Kind) (c : ℕ) (more rest : List ℕ) → IsToken kind (c ∷ more) rest → piece c (more ++ rest) ≡ Some (Some kind, length more)
 is_taken kind c more rest t =
     let cs : List ℕ = more ++ rest in
     let there = reached_at c cs kind (c ∷ more) rest t.no_comment refl t.spelled in

@@ -8,13 +8,13 @@ use Rattle.std.proofs.lemmas.List.{take-append-drop}
 use Rattle.std.proofs.lemmas.List.Sums.{sum_by-cons, sum_by-append}
 use Rattle.std.proofs.lemmas.Str.{len_utf8_bounds, length-encode, encodes-chars}
 use lib.Utf8.{encodes, encode}
-use Rattle.lq_model.specs.Lexemes.{CutTheLine, IsCut}
+use Rattle.lq_model.specs.Lexemes.{CutTheLine, IsCut, IsToken}
 use Rattle.lq_model.specs.Lexemes as cut
 use Rattle.lq_model.specs.LexingLaws.{AreInOrder, EndsLine, IsOneLine, LieInOrder}
 use Rattle.lq_model.specs.Tokens.{Piece, head_of, is_blank, piece, tokens_from, tokens_in, with_piece}
 use Rattle.lq_model.specs.declared.token.Kind.{Kind}
 use Rattle.lq_model.specs.declared.token.Token.{Token}
-use Rattle.lq_model.proofs.LexemeLemmas.{is_longest}
+use Rattle.lq_model.proofs.LexemeLemmas.{Stops, drop_over, goes_as_far, is_longest, is_taken, take_over}
 use Rattle.lq_model.proofs.Pieces.{both_left, both_right, by_cases, other_is_token, other_piece, piece_within, turn}
 
 -- ---- white space and comments
@@ -133,9 +133,43 @@ cut_from n place [] tokens within found = let none : [] ≡ tokens = cc in rw (�
 cut_from zero place (c ∷ cs) tokens within found = absurd (omega arith)
 cut_from (suc n) place (c ∷ cs) tokens within found = one_piece n place c cs tokens (cut_from n) (omega arith) found
 
+-- ---- what is cut is read
+
+no_more_feed : (rest : List ℕ) → EndsLine rest → Stops (λ c. not (c == 10)) rest
+no_more_feed [] ends = tt
+no_more_feed (c ∷ cs) ends = rw ends refl
+
+comment_read : (place : ℕ) (body rest : List ℕ) → IsOneLine body → EndsLine rest
+    → tokens_from 0 place (47 ∷ 47 ∷ (body ++ rest)) ≡ tokens_from 0 (place + sum_by len_utf8 (47 ∷ 47 ∷ body)) rest
+comment_read place body rest one ends =
+    let far = goes_as_far (λ c. not (c == 10)) body rest one (no_more_feed rest ends) in
+    let is : piece 47 (47 ∷ (body ++ rest)) ≡ Some (None, suc (length body)) = comment_is (body ++ rest) ∙ ap (λ n. Some (None, suc n)) far in
+    rw (take_over body rest, drop_over body rest) at (turn (47 ∷ 47 ∷ (body ++ rest)) 47 (47 ∷ (body ++ rest)) place (suc (length body)) None refl is)
+
+token_read : (place c : ℕ) (kind : Kind) (more rest : List ℕ) → IsToken kind (c ∷ more) rest
+    → tokens_from 0 place (c ∷ (more ++ rest))
+    ≡ with_piece (Some kind) place (place + sum_by len_utf8 (c ∷ more)) (tokens_from 0 (place + sum_by len_utf8 (c ∷ more)) rest)
+token_read place c kind more rest is =
+    rw (take_over more rest, drop_over more rest) at (turn (c ∷ (more ++ rest)) c (more ++ rest) place (length more) (Some kind) refl (is_taken kind c more rest is))
+
+blank_read : (place c : ℕ) (rest : List ℕ) → is_blank c ≡ true → tokens_from 0 place (c ∷ rest) ≡ tokens_from 0 (place + len_utf8 c) rest
+unfolding tokens_from
+blank_read place c rest blank = rw (blank_is c rest blank) refl
+
+end_read : (place : ℕ) → tokens_from 0 place [] ≡ Some []
+unfolding tokens_from
+end_read place = refl
+
+read : {place : ℕ} {cs : List ℕ} {tokens : List Token} → IsCut place cs tokens → tokens_from 0 place cs ≡ Some tokens
+read {place} cut.end = end_read place
+read {place} (cut.blank {c = c} {rest = rest} blank behind) = blank_read place c rest blank ∙ read behind
+read {place} (cut.comment body rest one ends behind) = comment_read place body rest one ends ∙ read behind
+read {place} (cut.token kind c more rest is behind) =
+    token_read place c kind more rest is ∙ ap (with_piece (Some kind) place (place + sum_by len_utf8 (c ∷ more))) (read behind)
+
 pub cut_the_line : CutTheLine
 unfolding tokens_in
-cut_the_line line tokens found = cut_from (length (chars line)) 0 (chars line) tokens (omega arith) found
+cut_the_line line tokens = (cut_from (length (chars line)) 0 (chars line) tokens (omega arith), read)
 
 -- ---- order
 
@@ -165,4 +199,4 @@ width (c ∷ cs) = omega (arith, sum_by-cons len_utf8 c cs, width cs, length-enc
 pub lie_in_order : LieInOrder
 lie_in_order line tokens utf8 found =
     let e : 0 + sum_by len_utf8 (chars line) ≡ length line = omega (arith, width (chars line), ap length (encodes-chars line utf8)) in
-    rw (← e) (in_order (cut_the_line line tokens found))
+    rw (← e) (in_order ((cut_the_line line tokens).0 found))

@@ -97,6 +97,6 @@ pub data IsCut : ℕ → List ℕ → List Token → Type 0 where
       → IsCut (place + sum_by len_utf8 (c ∷ more)) rest tokens
       → IsCut place ((c ∷ more) ++ rest) (record { kind = kind; start = place; end = place + sum_by len_utf8 (c ∷ more) } ∷ tokens)
 
--- what lies outside of the tokens of a line is white space and comments alone
+-- the tokens of a line are exactly those that it is cut into: what lies outside of them is white space and comments alone
 abbrev pub CutTheLine : Type 0
-CutTheLine = (line : List ℕ) (tokens : List Token) → tokens_in line ≡ Some tokens → IsCut 0 (chars line) tokens
+CutTheLine = (line : List ℕ) (tokens : List Token) → (tokens_in line ≡ Some tokens) ↔ IsCut 0 (chars line) tokens

@@ -8,8 +8,9 @@ pub fn tokens_in_order()
     ensures { LieInOrder }
 {}
 
-/// The tokens of a line, and white space and comments between them, make the line, one behind the
-/// other: nothing else stands in it. Each token is the longest lexeme at its place.
+/// A line has these tokens exactly where they, and white space and comments between them, make the
+/// line, one behind the other, and each token is the longest lexeme at its place: nothing else stands
+/// in it, and a line that can be cut in this way has no lexical fault.
 pub fn tokens_cut_the_line()
     ensures { CutTheLine }
 {}
