@@ -25,4 +25,5 @@ pub mod TermTypes
 pub mod TermUses
 pub mod TreePulls
 pub mod TypeLemmas
+pub mod TypedMeanings
 pub mod Walks

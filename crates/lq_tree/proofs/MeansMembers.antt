@@ -107,7 +107,7 @@ module _ {R : Type 0} (world : World R) (slots : Slots R) where
 
   -- ---- rows
 
-  column_step : (n c : ℕ) (m : List ℕ) (u : Ty) → name_of_column world.schemas n c ≡ Some m → column_type world.schemas n m ≡ Some u → (v : Value R)
+  pub column_step : (n c : ℕ) (m : List ℕ) (u : Ty) → name_of_column world.schemas n c ≡ Some m → column_type world.schemas n m ≡ Some u → (v : Value R)
       → Val (ty.Row n) v
       → Agree (Val u) (cell_in world n c (out-Value R v)) (named m (ty.Row n) v)
   column_step n c m u name typed v fits =
@@ -186,7 +186,7 @@ module _ {R : Type 0} (world : World R) (slots : Slots R) where
 
   -- ---- groups
 
-  key_step : (m : List ℕ) (k t : Ty) (v : Value R) → Val (ty.Group k t) v → Agree (Val k) (key_in world (out-Value R v)) (named m (ty.Group k t) v)
+  pub key_step : (m : List ℕ) (k t : Ty) (v : Value R) → Val (ty.Group k t) v → Agree (Val k) (key_in world (out-Value R v)) (named m (ty.Group k t) v)
   key_step m k t v fits =
       let found = group_value world (ty.Group k t) k t v (outs-Group k t) fits in
       same_agree k _ _

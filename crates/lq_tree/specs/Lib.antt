@@ -6,4 +6,6 @@ pub mod RowLaws
 pub mod Rows
 pub mod SessionLaws
 pub mod SessionPlaces
+pub mod TypedFormLaws
+pub mod TypedForms
 pub mod UsesOfForms

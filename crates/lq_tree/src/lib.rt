@@ -6,6 +6,7 @@ mod binding_laws;
 pub mod row_laws;
 pub mod session_laws;
 mod tree;
+pub mod typed_form_laws;
 
 pub use binding_laws::{meanings_of_trees, trees_of_expressions, types_of_trees, uses_of_trees};
 pub use tree::{Form, Joined, Tree, ty};

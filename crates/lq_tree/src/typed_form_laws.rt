@@ -1,0 +1,10 @@
+//! Laws of typed forms. Each function's contract is the law that it is named for; the functions
+//! themselves do nothing.
+ghost use Rattle.lq_tree.specs.TypedFormLaws.{KeepsItems, KeepsShapes};
+
+/// Where tables have their rows, a typed form whose slots hold what they are said to hold gives a
+/// fault, or a value such as it is typed to give; and what it is enumerated as are such items.
+pub fn evaluation_keeps_types<R>()
+    ensures values { KeepsShapes R }
+    ensures items { KeepsItems R }
+{}
