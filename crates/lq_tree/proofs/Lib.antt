@@ -25,5 +25,8 @@ pub mod TermTypes
 pub mod TermUses
 pub mod TreePulls
 pub mod TypeLemmas
+pub mod TypedCalls
 pub mod TypedMeanings
+pub mod TypedNodes
+pub mod TypedTerms
 pub mod Walks

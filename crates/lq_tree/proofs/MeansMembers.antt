@@ -58,7 +58,7 @@ positions_same p q (x ∷ xs) [] same start = absurd cc
 name_is : (xs ys : List ℕ) → bytes_eq xs ys ≡ true → xs ≡ ys
 name_is xs ys h = (bytes_eq-Decides xs ys).0 h
 
-first_passes : {A : Type 0} (test : A → Bool) (xs : List A) (x : A) → first_with test xs ≡ Some x → test x ≡ true
+pub first_passes : {A : Type 0} (test : A → Bool) (xs : List A) (x : A) → first_with test xs ≡ Some x → test x ≡ true
 first_passes test [] x h = absurd (none-some x h)
 first_passes test (y ∷ ys) x h = by (test y) refl h (first_passes test ys x) where
   by : (b : Bool) → test y ≡ b → (if b then Some y else first_with test ys) ≡ Some x → (first_with test ys ≡ Some x → test x ≡ true) → test x ≡ true

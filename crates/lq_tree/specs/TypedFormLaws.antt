@@ -1,5 +1,6 @@
 -- Laws of typed forms: each tree that binding gives is one, and evaluation keeps what its forms are typed to give.
-use Rattle.std.specs.Prelude.{◌≡◌, ◌∷◌, List, [], Ok}
+use Rattle.std.specs.Prelude.{◌≡◌, ◌∷◌, ◌++◌, List, [], Some, Ok, length}
+use Rattle.lq_value.specs.declared.table.Schema.{Schema}
 use Rattle.lq_value.specs.declared.value.End.{End}
 use Rattle.lq_value.specs.declared.value.Value.{Value}
 use Rattle.lq_value.specs.declared.value.Value.TheVariants as value
@@ -7,9 +8,16 @@ use Rattle.lq_model.specs.Meaning.{World, stream_of}
 use Rattle.lq_model.specs.MeaningLaws.{Every, HoldsRows}
 use Rattle.lq_model.specs.Operators.{pair}
 use Rattle.lq_model.specs.WholeMeaningLaws.{IsValueOf}
+use Rattle.lq_model.specs.declared.calls.Call.{Call}
+use Rattle.lq_model.specs.declared.calls.Term.{Term}
+use Rattle.lq_model.specs.declared.syntax.Expr.{Expr}
+use Rattle.lq_translate.specs.Translated.{translated}
+use Rattle.lq_tree.specs.Binding.{call_tree, term_tree}
 use Rattle.lq_tree.specs.FormMeaning.{Slots, form_meaning}
+use Rattle.lq_tree.specs.Places.{Places}
 use Rattle.lq_tree.specs.TypedForms.{Both, Gives, IsTyped, IsTypedForm, Many, Of, Shape}
 use Rattle.lq_tree.specs.declared.tree.Form.{Form}
+use Rattle.lq_tree.specs.declared.tree.Tree.{Tree}
 
 module _ {R : Type 0} (world : World R) where
   -- a value is such: of the type, a pair, or a sequence of such items, whatever its ending is
@@ -23,6 +31,33 @@ module _ {R : Type 0} (world : World R) where
   AreOfShapes [] [] = Unit {0}
   AreOfShapes (s ∷ shapes) (v ∷ slots) = IsOfShape s v × AreOfShapes shapes slots
   AreOfShapes shapes slots = ⊥
+
+-- ---- binding
+
+-- In slots that hold such, and in further ones, the form of each local name is of the name's type; and that of each name of the session
+-- is so in any slots.
+pub record AreTyped (schemas : List Schema) (shapes : List Shape) (places : Places) : Type 0 where
+  pub depth : length shapes ≡ places.depth
+  pub locals : Every (λ place. (more : List Shape) → IsTypedForm schemas (shapes ++ more) place.form (Of place.ty)) places.locals
+  pub session : Every (λ place. (slots : List Shape) → IsTypedForm schemas slots (place.form (length slots)) (Of place.known.ty)) places.session
+
+-- the tree of a term is typed, and gives what its type says
+abbrev pub TypedTrees : Type 0
+TypedTrees =
+    (schemas : List Schema) (t : Term) (places : Places) (shapes : List Shape) → AreTyped schemas shapes places → (tree : Tree)
+    → term_tree schemas t places ≡ Some tree → IsTypedForm schemas shapes tree.form (Of tree.ty)
+
+-- and so is the tree of the calls of a query
+abbrev pub TypedCalls : Type 0
+TypedCalls =
+    (schemas : List Schema) (c : Call Term) (places : Places) (shapes : List Shape) → AreTyped schemas shapes places → (tree : Tree)
+    → call_tree schemas (term_tree schemas) c places ≡ Some tree → IsTypedForm schemas shapes tree.form (Of tree.ty)
+
+-- and that of a whole expression, through the term that it is translated to
+abbrev pub TypedExpressions : Type 0
+TypedExpressions =
+    (schemas : List Schema) (e : Expr) (places : Places) (shapes : List Shape) → AreTyped schemas shapes places → (tree : Tree)
+    → term_tree schemas (translated e) places ≡ Some tree → IsTypedForm schemas shapes tree.form (Of tree.ty)
 
 -- ---- evaluation
 

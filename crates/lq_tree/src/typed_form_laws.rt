@@ -1,6 +1,14 @@
 //! Laws of typed forms. Each function's contract is the law that it is named for; the functions
 //! themselves do nothing.
-ghost use Rattle.lq_tree.specs.TypedFormLaws.{KeepsItems, KeepsShapes};
+ghost use Rattle.lq_tree.specs.TypedFormLaws.{KeepsItems, KeepsShapes, TypedCalls, TypedExpressions, TypedTrees};
+
+/// The tree that a term is bound to is a typed form, under what the slots of its place hold, and gives
+/// what the tree's type says; so are the tree of a query's calls, and that of a whole expression.
+pub fn trees_are_typed()
+    ensures terms { TypedTrees }
+    ensures calls { TypedCalls }
+    ensures expressions { TypedExpressions }
+{}
 
 /// Where tables have their rows, a typed form whose slots hold what they are said to hold gives a
 /// fault, or a value such as it is typed to give; and what it is enumerated as are such items.
