@@ -28,5 +28,6 @@ pub mod TypeLemmas
 pub mod TypedCalls
 pub mod TypedMeanings
 pub mod TypedNodes
+pub mod TypedStatements
 pub mod TypedTerms
 pub mod Walks

@@ -40,7 +40,7 @@ module _ (schemas : List Schema) where
   -- ---- what is known
 
   -- one name more
-  known_so_far : (earlier : List SessionPlace) (d : Definition)
+  pub known_so_far : (earlier : List SessionPlace) (d : Definition)
       → known_of (earlier ++ placed_as schemas earlier d ∷ []) ≡ known_of earlier ++ known_as schemas (known_of earlier) d.name d.defined ∷ []
   known_so_far earlier d = map-append (λ (place : SessionPlace). place.known) earlier (placed_as schemas earlier d ∷ [])
 

@@ -4,17 +4,20 @@ use Rattle.lq_value.specs.declared.table.Schema.{Schema}
 use Rattle.lq_value.specs.declared.value.End.{End}
 use Rattle.lq_value.specs.declared.value.Value.{Value}
 use Rattle.lq_value.specs.declared.value.Value.TheVariants as value
+use Rattle.lq_model.specs.DefinitionLaws.{AreDefined}
 use Rattle.lq_model.specs.Meaning.{World, stream_of}
 use Rattle.lq_model.specs.MeaningLaws.{Every, HoldsRows}
 use Rattle.lq_model.specs.Operators.{pair}
 use Rattle.lq_model.specs.WholeMeaningLaws.{IsValueOf}
 use Rattle.lq_model.specs.declared.calls.Call.{Call}
 use Rattle.lq_model.specs.declared.calls.Term.{Term}
+use Rattle.lq_model.specs.declared.session.Definition.{Definition}
 use Rattle.lq_model.specs.declared.syntax.Expr.{Expr}
 use Rattle.lq_translate.specs.Translated.{translated}
 use Rattle.lq_tree.specs.Binding.{call_tree, term_tree}
 use Rattle.lq_tree.specs.FormMeaning.{Slots, form_meaning}
 use Rattle.lq_tree.specs.Places.{Places}
+use Rattle.lq_tree.specs.SessionPlaces.{statement_places}
 use Rattle.lq_tree.specs.TypedForms.{Both, Gives, IsTyped, IsTypedForm, Many, Of, Shape}
 use Rattle.lq_tree.specs.declared.tree.Form.{Form}
 use Rattle.lq_tree.specs.declared.tree.Tree.{Tree}
@@ -58,6 +61,17 @@ abbrev pub TypedExpressions : Type 0
 TypedExpressions =
     (schemas : List Schema) (e : Expr) (places : Places) (shapes : List Shape) → AreTyped schemas shapes places → (tree : Tree)
     → term_tree schemas (translated e) places ≡ Some tree → IsTypedForm schemas shapes tree.form (Of tree.ty)
+
+-- the places where a statement stands are typed, where each named query has a type
+abbrev pub PlacesAreTyped : Type 0
+PlacesAreTyped =
+    (schemas : List Schema) (definitions : List Definition) → AreDefined schemas definitions → AreTyped schemas [] (statement_places schemas definitions)
+
+-- so the tree of a statement's expression is typed, with no slot in use
+abbrev pub TypedStatements : Type 0
+TypedStatements =
+    (schemas : List Schema) (definitions : List Definition) → AreDefined schemas definitions → (e : Expr) (tree : Tree)
+    → term_tree schemas (translated e) (statement_places schemas definitions) ≡ Some tree → IsTypedForm schemas [] tree.form (Of tree.ty)
 
 -- ---- evaluation
 

@@ -1,6 +1,7 @@
 //! Laws of typed forms. Each function's contract is the law that it is named for; the functions
 //! themselves do nothing.
-ghost use Rattle.lq_tree.specs.TypedFormLaws.{KeepsItems, KeepsShapes, TypedCalls, TypedExpressions, TypedTrees};
+ghost use Rattle.lq_tree.specs.TypedFormLaws.{KeepsItems, KeepsShapes, PlacesAreTyped, TypedCalls};
+ghost use Rattle.lq_tree.specs.TypedFormLaws.{TypedExpressions, TypedStatements, TypedTrees};
 
 /// The tree that a term is bound to is a typed form, under what the slots of its place hold, and gives
 /// what the tree's type says; so are the tree of a query's calls, and that of a whole expression.
@@ -8,6 +9,13 @@ pub fn trees_are_typed()
     ensures terms { TypedTrees }
     ensures calls { TypedCalls }
     ensures expressions { TypedExpressions }
+{}
+
+/// Where each named query has a type, the places where a statement stands are typed; so the tree of
+/// its expression is a typed form with no slot in use.
+pub fn statements_are_typed()
+    ensures places { PlacesAreTyped }
+    ensures statements { TypedStatements }
 {}
 
 /// Where tables have their rows, a typed form whose slots hold what they are said to hold gives a

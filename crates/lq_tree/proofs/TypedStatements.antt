@@ -1,0 +1,63 @@
+-- The places of a statement are typed: a variable's form is a literal of its type, and a named query's the tree of its expression.
+use Rattle.std.proofs.Common.{◌≡◌, ◌∷◌, ◌++◌, List, [], length, ℕ, Option, Some, ap, sym, refl, subst}
+use Rattle.lq_value.specs.declared.table.Schema.{Schema}
+use Rattle.lq_value.specs.declared.ty.Ty.{Ty}
+use Rattle.lq_value.specs.declared.ty.Ty.TheVariants as ty
+use Rattle.lq_model.specs.DefinitionLaws.{AreDefinedAfter, IsDefined}
+use Rattle.lq_model.specs.Definitions.{known_as}
+use Rattle.lq_model.specs.Meaning.{or_null}
+use Rattle.lq_model.specs.MeaningLaws.{Every}
+use Rattle.lq_model.specs.Typing.{SessionName}
+use Rattle.lq_model.specs.declared.session.Defined.{Defined}
+use Rattle.lq_model.specs.declared.session.Defined.TheVariants as of
+use Rattle.lq_model.specs.declared.session.Definition.{Definition}
+use Rattle.lq_model.proofs.AlikeStreams.{every_append}
+use Rattle.lq_model.proofs.EveryItem.{every_more, every_none}
+use Rattle.lq_tree.specs.Binding.{tree_of}
+use Rattle.lq_tree.specs.Places.{Place, SessionPlace}
+use Rattle.lq_tree.specs.SessionPlaces.{defined_form, form_or_null, known_of, placed_after, placed_as, places_outside, session_places, statement_places}
+use Rattle.lq_tree.specs.TypedForms.{IsTypedForm, Of, Shape}
+use Rattle.lq_tree.specs.TypedForms as rule
+use Rattle.lq_tree.specs.TypedFormLaws.{AreTyped, PlacesAreTyped, TypedStatements}
+use Rattle.lq_tree.specs.declared.tree.Form.{Form}
+use Rattle.lq_tree.specs.declared.tree.Tree.{Tree}
+use Rattle.lq_tree.proofs.SessionPlaceLemmas.{known_so_far, query_tree}
+use Rattle.lq_tree.proofs.TypedTerms.{typed_expressions}
+
+module _ (schemas : List Schema) where
+  -- the form is of the type that is known, in any slots
+  abbrev IsTypedPlace : SessionPlace → Type 0
+  IsTypedPlace place = (slots : List Shape) → IsTypedForm schemas slots (place.form (length slots)) (Of place.known.ty)
+
+  defined_typed : (earlier : List SessionPlace) → Every IsTypedPlace earlier → (name : List ℕ) (defined : Defined) → IsDefined schemas (known_of earlier) defined
+      → (slots : List Shape)
+      → IsTypedForm schemas slots (defined_form schemas earlier defined (length slots)) (Of (known_as schemas (known_of earlier) name defined).ty)
+  defined_typed earlier all name (of.Variable t s) is slots = rule.of_literal slots s t is.1
+  defined_typed earlier all name (of.Query e opened) is slots =
+      let there = query_tree schemas earlier e (ty.Seq is.0) is.1 (length slots) in
+      subst (λ (t : Ty). IsTypedForm schemas slots (defined_form schemas earlier (of.Query e opened) (length slots)) (Of t)) (sym (ap or_null is.1))
+      (subst (λ (o : Option Tree). IsTypedForm schemas slots (form_or_null o) (Of (ty.Seq is.0))) (sym there.1)
+      (typed_expressions schemas e (places_outside earlier (length slots)) slots
+      (record { depth = refl; locals = every_none (λ (place : Place). (more : List Shape) → IsTypedForm schemas (slots ++ more) place.form (Of place.ty)); session = all })
+      (tree_of (ty.Seq is.0) there.0) there.1))
+
+  typed_behind : (earlier : List SessionPlace) → Every IsTypedPlace earlier → (ds : List Definition) → AreDefinedAfter schemas (known_of earlier) ds
+      → Every IsTypedPlace (placed_after schemas earlier ds)
+  typed_behind earlier typed [] all = typed
+  typed_behind earlier typed (d ∷ ds) all =
+      typed_behind (earlier ++ placed_as schemas earlier d ∷ [])
+      (every_append IsTypedPlace earlier (placed_as schemas earlier d ∷ []) typed
+      (every_more IsTypedPlace (placed_as schemas earlier d) [] (defined_typed earlier typed d.name d.defined all.0) (every_none IsTypedPlace))) ds
+      (subst (λ (names : List SessionName). AreDefinedAfter schemas names ds) (sym (known_so_far schemas earlier d)) all.1)
+
+pub places_are_typed : PlacesAreTyped
+unfolding session_places
+places_are_typed schemas definitions all = record {
+  depth = refl;
+  locals = every_none (λ (place : Place). (more : List Shape) → IsTypedForm schemas ([] ++ more) place.form (Of place.ty));
+  session = typed_behind schemas [] (every_none (IsTypedPlace schemas)) definitions all;
+}
+
+pub typed_statements : TypedStatements
+typed_statements schemas definitions all e tree bound =
+    typed_expressions schemas e (statement_places schemas definitions) [] (places_are_typed schemas definitions all) tree bound
