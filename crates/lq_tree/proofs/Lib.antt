@@ -11,9 +11,11 @@ pub mod MappedStreams
 pub mod MappedValues
 pub mod MeansMembers
 pub mod MeansOperators
+pub mod MeetsOperands
 pub mod NodeMeans
 pub mod NodeTypes
 pub mod NodeUses
+pub mod OperandLemmas
 pub mod Patterns
 pub mod RowForms
 pub mod RowMeanings

@@ -163,7 +163,7 @@ module _ {R : Type 0} (world : World R) (holds : HoldsRows world) where
 
   -- ---- members by their places
 
-  abbrev MemberAt : ℕ → List ℕ × Ty → ValueClaim R → Type 0
+  abbrev pub MemberAt : ℕ → List ℕ × Ty → ValueClaim R → Type 0
   MemberAt k m (IsA t v) = Unit {0}
   MemberAt k m (AreMembers ms vs) = slice_get ms k ≡ Some m → (w : List ℕ × Value R) × (slice_get vs k ≡ Some w) × Val m.1 w.1
 
@@ -172,7 +172,7 @@ module _ {R : Type 0} (world : World R) (holds : HoldsRows world) where
   next_member zero m n t v ms vs fits others = λ h. ((n, v), refl, subst (λ (x : List ℕ × Ty). Val x.1 v) (same_Some (n, t) m h) fits)
   next_member (suc k) m n t v ms vs fits others = others k
 
-  placed : (m : List ℕ × Ty) {claim : ValueClaim R} → Fits world claim → (k : ℕ) → MemberAt k m claim
+  pub placed : (m : List ℕ × Ty) {claim : ValueClaim R} → Fits world claim → (k : ℕ) → MemberAt k m claim
   placed m (by_scalar _ s fits) k = tt
   placed m (by_null_record _ ms is) k = tt
   placed m (by_row _ n r is cells) k = tt
@@ -204,7 +204,7 @@ module _ {R : Type 0} (world : World R) (holds : HoldsRows world) where
     by true = every_none (Val t)
     by false = every_element (Val k) (Val t) same_keys key qs ps
 
-  found_fit : (grouped : Bool) (k t : Ty) (key : Value R) (qs : List (Value R × Value R)) → Every (Pair (Val k) (Val t)) qs
+  pub found_fit : (grouped : Bool) (k t : Ty) (key : Value R) (qs : List (Value R × Value R)) → Every (Pair (Val k) (Val t)) qs
       → Every (Val (matched_items grouped t)) (matched world grouped key qs)
   found_fit true k t key qs ps =
       every_more (Val (ty.Seq t)) (value.Seq (matches key qs) end.Done) []

@@ -16,6 +16,7 @@ use Rattle.lq_model.specs.declared.syntax.Expr.{Expr}
 use Rattle.lq_translate.specs.Translated.{translated}
 use Rattle.lq_tree.specs.Binding.{call_tree, term_tree}
 use Rattle.lq_tree.specs.FormMeaning.{Slots, form_meaning}
+use Rattle.lq_tree.specs.OperandKinds.{MeetsKinds, Runs}
 use Rattle.lq_tree.specs.Places.{Places}
 use Rattle.lq_tree.specs.SessionPlaces.{statement_places}
 use Rattle.lq_tree.specs.TypedForms.{Both, Gives, IsTyped, IsTypedForm, Many, Of, Shape}
@@ -86,3 +87,15 @@ abbrev pub KeepsItems : Type 0 → Type 0
 KeepsItems R =
     (world : World R) → HoldsRows world → (shapes : List Shape) (f : Form) (s : Shape) → IsTyped world.schemas (Gives shapes f s)
     → (slots : Slots R) → AreOfShapes world shapes slots → Every (IsOfShape world s) (stream_of world (form_meaning world f slots)).0
+
+-- and wherever it is run so, each operand that it meets is a fault or of the kind that is asked of it
+abbrev pub MeetsOperands : Type 0 → Type 0
+MeetsOperands R =
+    (world : World R) → HoldsRows world → (shapes : List Shape) (f : Form) (s : Shape) → IsTypedForm world.schemas shapes f s
+    → (slots : Slots R) → AreOfShapes world shapes slots → MeetsKinds world (Runs f slots)
+
+-- so is it where the tree of a statement's expression is run
+abbrev pub StatementsMeetOperands : Type 0 → Type 0
+StatementsMeetOperands R =
+    (world : World R) (definitions : List Definition) → HoldsRows world → AreDefined world.schemas definitions → (e : Expr) (tree : Tree)
+    → term_tree world.schemas (translated e) (statement_places world.schemas definitions) ≡ Some tree → MeetsKinds world (Runs tree.form [])

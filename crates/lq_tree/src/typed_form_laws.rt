@@ -1,7 +1,7 @@
 //! Laws of typed forms. Each function's contract is the law that it is named for; the functions
 //! themselves do nothing.
-ghost use Rattle.lq_tree.specs.TypedFormLaws.{KeepsItems, KeepsShapes, PlacesAreTyped, TypedCalls};
-ghost use Rattle.lq_tree.specs.TypedFormLaws.{TypedExpressions, TypedStatements, TypedTrees};
+ghost use Rattle.lq_tree.specs.TypedFormLaws.{KeepsItems, KeepsShapes, MeetsOperands, PlacesAreTyped};
+ghost use Rattle.lq_tree.specs.TypedFormLaws.{StatementsMeetOperands, TypedCalls, TypedExpressions, TypedStatements, TypedTrees};
 
 /// The tree that a term is bound to is a typed form, under what the slots of its place hold, and gives
 /// what the tree's type says; so are the tree of a query's calls, and that of a whole expression.
@@ -23,4 +23,11 @@ pub fn statements_are_typed()
 pub fn evaluation_keeps_types<R>()
     ensures values { KeepsShapes R }
     ensures items { KeepsItems R }
+{}
+
+/// And wherever it is run so, each operand that it meets, in a lambda too, is a fault or of the kind
+/// that is asked of it, told by the values alone: so it is where a statement's tree is run.
+pub fn operands_are_of_their_kinds<R>()
+    ensures forms { MeetsOperands R }
+    ensures statements { StatementsMeetOperands R }
 {}
