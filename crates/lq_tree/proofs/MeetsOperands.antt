@@ -1,19 +1,12 @@
 -- Wherever a typed form is run, its operands are faults or of the kinds that are asked of them: by induction over the rules, as evaluation
 -- keeps what they say.
-use Rattle.std.proofs.Common.{◌≡◌, ◌∷◌, ◌++◌, ◌&&◌, List, [], map, ℕ, Bool, true, Option, Some, Result, Ok, Err, ap, ap₂, ◌∙◌, sym, refl, subst, slice_get}
-use Rattle.lq_value.specs.SameAndOrder.{IsKey}
-use Rattle.lq_value.specs.declared.scalar.Scalar.{Scalar}
-use Rattle.lq_value.specs.declared.scalar.Scalar.TheVariants as scalar
+use Rattle.std.proofs.Common.{◌≡◌, ◌∷◌, ◌++◌, List, [], ℕ, true, Some, Ok, ap, refl, slice_get}
 use Rattle.lq_value.specs.declared.ty.Ty.{Ty, out-Ty}
 use Rattle.lq_value.specs.declared.ty.Ty.TheOpen.{Ty-F}
-use Rattle.lq_value.specs.declared.ty.Ty.TheVariants as ty
-use Rattle.lq_value.specs.declared.value.Fault.{Fault}
 use Rattle.lq_value.specs.declared.value.Value.{Value}
-use Rattle.lq_value.specs.declared.value.Value.TheVariants as value
 use Rattle.lq_model.specs.Meaning.{World, stream_of}
-use Rattle.lq_model.specs.MeaningLaws.{Every, HoldsRows, IsScalarOf}
-use Rattle.lq_model.specs.Stream.{with_keys}
-use Rattle.lq_model.specs.Typing.{coalesced, column_type, is_number, is_text}
+use Rattle.lq_model.specs.MeaningLaws.{HoldsRows}
+use Rattle.lq_model.specs.Typing.{column_type, is_number, is_text}
 use Rattle.lq_model.specs.WholeMeaningLaws.{IsValueOf}
 use Rattle.lq_model.specs.declared.methods.Through.TheVariants as through
 use Rattle.lq_model.specs.declared.operation.Op.TheVariants as op
@@ -27,7 +20,7 @@ use Rattle.lq_tree.specs.TypedForms.{Both, FormClaim, Gives, Has, IsTyped, Many,
 use Rattle.lq_tree.specs.TypedForms as rule
 use Rattle.lq_tree.specs.TypedFormLaws.{AreOfShapes, IsOfShape, MeetsOperands, StatementsMeetOperands}
 use Rattle.lq_tree.specs.declared.tree.Form.{Form}
-use Rattle.lq_tree.proofs.OperandLemmas.{argument_taken, both_so, count_value, enumerable_value, item_taken, items_taken, join_keys, key_value, made_taken, number_value, object_value, scalar_value, search_taken, second_items, sign_taken, source_taken, text_value, truth_value}
+use Rattle.lq_tree.proofs.OperandLemmas.{argument_taken, both_so, enumerable_value, item_taken, items_taken, join_keys, key_value, made_taken, number_value, object_value, scalar_value, search_taken, second_items, sign_taken, source_taken, text_value, truth_value}
 use Rattle.lq_tree.proofs.TypedMeanings.{found_fit, keeps, one_more, placed, slot_there, two_more}
 use Rattle.lq_tree.proofs.TypedStatements.{typed_statements}
 

@@ -1,5 +1,5 @@
 -- Values of a type are of the kind that what works on the type asks of them.
-use Rattle.std.proofs.Common.{◌≡◌, ◌∷◌, ◌&&◌, ◌||◌, ◌⊎◌, inl, inr, if◌then◌else◌, List, [], map, ℕ, zero, suc, Bool, true, false, Option, Some, None, Result, Ok, Err, ap, ap₂, ◌∙◌, sym, refl, subst, true≢false, bytes_eq, codes, option_and_then, slice_get}
+use Rattle.std.proofs.Common.{◌≡◌, ◌∷◌, ◌&&◌, ◌||◌, ◌⊎◌, inl, inr, if◌then◌else◌, List, [], map, ℕ, zero, suc, Bool, true, false, Some, None, Result, Ok, Err, ap, ap₂, ◌∙◌, sym, refl, subst, true≢false, bytes_eq, codes, slice_get}
 use Rattle.std.proofs.lemmas.Option.{none-some, option_and_then_some, same_Some}
 use Rattle.lq_value.specs.SameAndOrder.{IsKey, by_record as key_of_record, by_scalar as key_of_scalar}
 use Rattle.lq_value.specs.declared.scalar.Scalar.{Scalar}
@@ -15,7 +15,7 @@ use Rattle.lq_value.specs.declared.value.Value.TheVariants.{outs-Rec as outs-val
 use Rattle.lq_model.specs.Meaning.{World, items_of, stream_of}
 use Rattle.lq_model.specs.MeaningLaws.{Every, IsScalarOf}
 use Rattle.lq_model.specs.Members.{search_named}
-use Rattle.lq_model.specs.Types.{all_members, are_join_keys, are_widened, element_type, is_key, key_step, same_types, when}
+use Rattle.lq_model.specs.Types.{all_members, are_join_keys, are_widened, element_type, is_key, key_step, same_types}
 use Rattle.lq_model.specs.Typing.{are_comparable, are_joined, is_bool, is_equality, is_number, is_scalar, is_text, joined_type, result_type, truth_type}
 use Rattle.lq_model.specs.WholeMeaningLaws.{AreMembers, Fits, IsA, IsValueOf, ValueClaim, by_group, by_null_record, by_record, by_row, by_scalar, by_sequence, no_member, one_member}
 use Rattle.lq_model.specs.WholeTyping.{are_null_tests, converts, given_type, if_same, is_int, simple_type, through_type, whole_operated_type, widens}

@@ -1,5 +1,5 @@
 -- The tree of the calls of a query is typed, if the same is so of the expressions in them.
-use Rattle.std.proofs.Common.{◌≡◌, ◌∷◌, ◌++◌, ◌+◌, List, [], map, length, ℕ, Bool, true, Option, Some, None, ap, ◌∙◌, sym, refl, subst, option_and_then, option_map}
+use Rattle.std.proofs.Common.{◌≡◌, ◌∷◌, ◌+◌, List, [], ℕ, Bool, true, Option, Some, None, ap, ◌∙◌, sym, refl, subst, option_and_then, option_map}
 use Rattle.std.proofs.lemmas.Option.{none-some, option_and_then_some, same_Some}
 use Rattle.std.specs.List.{fold}
 use Rattle.std.specs.Prelude.{is_some}

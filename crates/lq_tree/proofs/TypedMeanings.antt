@@ -1,48 +1,40 @@
 -- What a typed form gives, where it gives a value, is such as it is typed to give: by induction over the rules.
-use Rattle.std.proofs.Common.{◌≡◌, ◌∷◌, ◌++◌, ◌&&◌, if◌then◌else◌, not, List, [], map, ℕ, zero, suc, Bool, true, false, Option, Some, None, Result, Ok, Err, ap, ap₂, ◌∙◌, sym, refl, subst, true≢false, bytes_eq, codes, option_map, slice_get}
+use Rattle.std.proofs.Common.{◌≡◌, ◌∷◌, ◌++◌, ◌&&◌, if◌then◌else◌, List, [], map, ℕ, zero, suc, Bool, true, false, Option, Some, None, Result, Ok, Err, ap, ap₂, ◌∙◌, sym, refl, subst, bytes_eq, codes, option_map, slice_get}
 use Rattle.std.proofs.lemmas.Option.{none-some, same_Some}
 use Rattle.lq_value.specs.SameAndOrder.{same_values as same_keys}
 use Rattle.lq_value.specs.declared.scalar.Scalar.{Scalar}
 use Rattle.lq_value.specs.declared.scalar.Scalar.TheVariants as scalar
-use Rattle.lq_value.specs.declared.table.Schema.{Schema}
 use Rattle.lq_value.specs.declared.ty.Ty.{Ty, out-Ty}
 use Rattle.lq_value.specs.declared.ty.Ty.TheOpen.{Ty-F}
 use Rattle.lq_value.specs.declared.ty.Ty.TheVariants as ty
 use Rattle.lq_value.specs.declared.ty.Ty.TheVariants.{outs-Bool, outs-Group, outs-Int, outs-Rec, outs-Row, outs-Seq}
-use Rattle.lq_value.specs.declared.value.End.{End}
 use Rattle.lq_value.specs.declared.value.End.TheVariants as end
 use Rattle.lq_value.specs.declared.value.Fault.{Fault}
 use Rattle.lq_value.specs.declared.value.Fault.TheVariants as fault
 use Rattle.lq_value.specs.declared.value.Value.{Value, out-Value}
-use Rattle.lq_value.specs.declared.value.Value.TheOpen.{Value-F}
 use Rattle.lq_value.specs.declared.value.Value.TheVariants as value
 use Rattle.lq_value.specs.declared.value.Value.TheVariants.{outs-Rec as outs-value-Rec, outs-Scalar, outs-Seq as outs-value-Seq}
 use Rattle.lq_model.specs.Maps.{map_field, map_key}
 use Rattle.lq_model.specs.Meaning.{World, as_group, as_value, is_null_layer, items_of, matches, on_scalar, scalar_of, sequence, stream_of, table_value, truth_value}
 use Rattle.lq_model.specs.MeaningLaws.{Every, HasCells, HoldsRows, IsScalarOf}
 use Rattle.lq_model.specs.Members.{search_named}
-use Rattle.lq_model.specs.Operations.{of_one, of_two, on_ok, searched, truth, truth_of}
+use Rattle.lq_model.specs.Operations.{of_one, of_two, on_ok, searched, truth}
 use Rattle.lq_model.specs.Operators.{first, pair, pair_type, second}
-use Rattle.lq_model.specs.Stream.{Stream, both, elements_of, with_keys}
-use Rattle.lq_model.specs.Types.{element_type, when}
-use Rattle.lq_model.specs.Typing.{coalesced, is_bool, is_number}
-use Rattle.lq_model.specs.WholeMeaning.{simple_meaning}
+use Rattle.lq_model.specs.Stream.{Stream, elements_of}
+use Rattle.lq_model.specs.Types.{when}
 use Rattle.lq_model.specs.WholeMeaningLaws.{AreMembers, Fits, IsA, IsValueOf, ValueClaim, by_group, by_null_record, by_record, by_row, by_scalar, by_sequence, no_member, one_member}
-use Rattle.lq_model.specs.WholeTyping.{whole_chosen, whole_operated_type}
 use Rattle.lq_model.specs.declared.methods.Through.TheVariants as through
 use Rattle.lq_model.specs.declared.operation.Op.{Op}
 use Rattle.lq_model.specs.declared.operation.Op.TheVariants as op
 use Rattle.lq_model.specs.declared.syntax.Binary.{Binary}
 use Rattle.lq_model.specs.declared.syntax.Binary.TheVariants as binary
-use Rattle.lq_model.specs.declared.syntax.Field.{Field}
 use Rattle.lq_model.specs.declared.syntax.SortKey.{SortKey}
-use Rattle.lq_model.specs.declared.syntax.Unary.TheVariants as unary
-use Rattle.lq_model.proofs.AlikeStreams.{Agree, Alike, KeysAlike, Pair, agree_err, both_agree, agree_ok, every_element, expand_alike, group_alike, join_alike, order_alike, select_alike, where_alike}
+use Rattle.lq_model.proofs.AlikeStreams.{Agree, KeysAlike, Pair, agree_err, both_agree, agree_ok, every_element, expand_alike, group_alike, join_alike, order_alike, select_alike, where_alike}
 use Rattle.lq_model.proofs.EveryItem.{every_map, every_more, every_none}
 use Rattle.lq_model.proofs.ScalarResults.{Gives as Given_as, given_of, has_value_given, length_given, value_given}
-use Rattle.lq_model.proofs.TypedMethods.{given_agree, given_typed, scalar_after, simple_typed, stream_alike, through_typed, truth_same}
+use Rattle.lq_model.proofs.TypedMethods.{given_agree, given_typed, scalar_after, simple_typed, stream_alike, through_typed}
 use Rattle.lq_model.proofs.TypingLemmas.{is_of_layer, type_with}
-use Rattle.lq_model.proofs.ValuesOfTypes.{RecordOrNull, a_record, group_value, is_plain, no_record, record_value, scalar_is, truth_is}
+use Rattle.lq_model.proofs.ValuesOfTypes.{RecordOrNull, a_record, is_plain, no_record, record_value, truth_is}
 use Rattle.lq_tree.specs.Binding.{binary_form, is_object, operation_at, tested_first, tested_second, tree_of}
 use Rattle.lq_tree.specs.FormMeaning.{Means, Slots, cell_in, form_meaning, if_there, is_true, key_in, matched, member_at, members_of, sort_key}
 use Rattle.lq_tree.specs.TypedForms.{Both, FormClaim, Gives, Has, IsTyped, IsTypedForm, Many, Members, Of, Shape, Sorts, matched_items, type_of_shape, with_slot, with_slots}
@@ -50,8 +42,7 @@ use Rattle.lq_tree.specs.TypedForms as rule
 use Rattle.lq_tree.specs.TypedFormLaws.{AreOfShapes, IsOfShape, KeepsItems, KeepsShapes}
 use Rattle.lq_tree.specs.declared.tree.Form.{Form}
 use Rattle.lq_tree.specs.declared.tree.Form.TheVariants as form
-use Rattle.lq_tree.specs.declared.tree.Joined.{Joined}
-use Rattle.lq_tree.proofs.FormSteps.{of_and, of_binary, of_coalesce, of_column, of_conditional, of_first, of_given, of_group, of_is_null, of_join, of_key, of_literal, of_member, of_or, of_order, of_pair, of_record, of_second, of_select_many, of_sequence, of_simple, of_slot, of_table, of_through, of_unary}
+use Rattle.lq_tree.proofs.FormSteps.{of_binary, of_column, of_first, of_given, of_group, of_is_null, of_join, of_key, of_literal, of_member, of_order, of_pair, of_record, of_second, of_select_many, of_sequence, of_simple, of_slot, of_table, of_through, of_unary}
 use Rattle.lq_tree.proofs.MeansMembers.{at_slots, column_step, key_step}
 use Rattle.lq_tree.proofs.MeansOperators.{and_means, binary_means, coalesce_means, conditional_means, minus_means, not_means, or_means}
 use Rattle.lq_tree.proofs.Scopes.{first_of_pair, second_of_pair}

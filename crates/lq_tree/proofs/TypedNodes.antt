@@ -1,5 +1,5 @@
 -- The tree of a node is typed, if the same is so of the expressions in it.
-use Rattle.std.proofs.Common.{◌≡◌, ◌∷◌, ◌++◌, ◌+◌, ◌&&◌, ◌||◌, if◌then◌else◌, List, [], map, length, ℕ, Bool, true, false, Option, Some, None, ap, ◌∙◌, sym, refl, subst, bytes_eq, codes, true≢false, option_and_then, option_map, slice_get}
+use Rattle.std.proofs.Common.{◌≡◌, ◌∷◌, ◌++◌, ◌+◌, ◌&&◌, if◌then◌else◌, List, [], map, length, ℕ, Bool, true, false, Option, Some, None, ap, ◌∙◌, sym, refl, subst, bytes_eq, codes, true≢false, option_and_then, option_map, slice_get}
 use Rattle.std.proofs.lemmas.Option.{none-some, option_and_then_some, same_Some}
 use Rattle.std.proofs.lemmas.Slice.Eq.{bytes_eq-Decides}
 use Rattle.std.specs.List.{position_from}
@@ -16,10 +16,10 @@ use Rattle.lq_model.specs.MeaningLaws.{Every, IsScalarOf}
 use Rattle.lq_model.specs.Members.{search_named, sole_argument}
 use Rattle.lq_model.specs.Operations.{operation_of}
 use Rattle.lq_model.specs.Operators.{Pattern, One, With as Pair}
-use Rattle.lq_model.specs.Types.{element_type, has_place, is_fresh, is_within, when}
+use Rattle.lq_model.specs.Types.{element_type, is_fresh, is_within, when}
 use Rattle.lq_model.specs.Typing.{are_comparable, are_joined, coalesced, column_named, is_bool, is_equality, is_number, is_text, joined_type, result_type, table_number, truth_type, type_of_column}
 use Rattle.lq_model.specs.WholeMeaning.{is_sequence_layer}
-use Rattle.lq_model.specs.WholeTyping.{are_distinct, are_null_tests, given_type, simple_type, through_type, whole_chosen, whole_operated_type}
+use Rattle.lq_model.specs.WholeTyping.{are_null_tests, given_type, simple_type, through_type, whole_chosen, whole_operated_type}
 use Rattle.lq_model.specs.declared.operation.Op.{Op}
 use Rattle.lq_model.specs.declared.operation.Op.TheVariants as op
 use Rattle.lq_model.specs.declared.syntax.Argument.{Argument}
@@ -30,10 +30,10 @@ use Rattle.lq_model.specs.declared.syntax.Node.{Node}
 use Rattle.lq_model.specs.declared.syntax.Node.TheVariants as node
 use Rattle.lq_model.specs.declared.syntax.Unary.{Unary}
 use Rattle.lq_model.specs.declared.syntax.Unary.TheVariants as unary
-use Rattle.lq_model.proofs.EveryItem.{every_map, every_more, first_of, others_of, table_there}
+use Rattle.lq_model.proofs.EveryItem.{every_more, first_of, others_of, table_there}
 use Rattle.lq_model.proofs.Findings.{if_by, map_by, when_by}
 use Rattle.lq_model.proofs.TypingLemmas.{is_of_layer, type_with}
-use Rattle.lq_tree.specs.Binding.{Binds, and_tree, binary_form, binary_tree, called_tree, coalesce_tree, column_tree, conditional_tree, enumerable_tree, field_tree, fields_tree, form_of_field, gathered, global_tree, is_literal, is_object, lambda_tree, member_layer, member_tree, name_tree, node_tree, of_two_trees, operation_at, or_tree, placed_tree, record_tree, search_form, search_tree, settled_form, settled_tree, tested_first, tested_second, tree_of, type_of_field, unary_tree, within_tree}
+use Rattle.lq_tree.specs.Binding.{Binds, and_tree, binary_form, binary_tree, called_tree, coalesce_tree, column_tree, conditional_tree, enumerable_tree, field_tree, fields_tree, form_of_field, gathered, global_tree, is_literal, is_object, lambda_tree, member_layer, member_tree, name_tree, node_tree, of_two_trees, operation_at, or_tree, placed_tree, record_tree, search_form, search_tree, settled_tree, tested_first, tested_second, tree_of, type_of_field, unary_tree, within_tree}
 use Rattle.lq_tree.specs.FormMeaning.{column_name}
 use Rattle.lq_tree.specs.Places.{Place, Places, SessionPlace, names_of_places, place_of, places_of, session_place, with_item, with_name}
 use Rattle.lq_tree.specs.TypedForms.{Both, Gives, IsTyped, IsTypedForm, Many, Members, Of, Shape, shape_of, with_slot}

@@ -1,5 +1,5 @@
 -- The places of a statement are typed: a variable's form is a literal of its type, and a named query's the tree of its expression.
-use Rattle.std.proofs.Common.{◌≡◌, ◌∷◌, ◌++◌, List, [], length, ℕ, Option, Some, ap, sym, refl, subst}
+use Rattle.std.proofs.Common.{◌∷◌, ◌++◌, List, [], length, ℕ, Option, ap, sym, refl, subst}
 use Rattle.lq_value.specs.declared.table.Schema.{Schema}
 use Rattle.lq_value.specs.declared.ty.Ty.{Ty}
 use Rattle.lq_value.specs.declared.ty.Ty.TheVariants as ty
@@ -18,8 +18,7 @@ use Rattle.lq_tree.specs.Places.{Place, SessionPlace}
 use Rattle.lq_tree.specs.SessionPlaces.{defined_form, form_or_null, known_of, placed_after, placed_as, places_outside, session_places, statement_places}
 use Rattle.lq_tree.specs.TypedForms.{IsTypedForm, Of, Shape}
 use Rattle.lq_tree.specs.TypedForms as rule
-use Rattle.lq_tree.specs.TypedFormLaws.{AreTyped, PlacesAreTyped, TypedStatements}
-use Rattle.lq_tree.specs.declared.tree.Form.{Form}
+use Rattle.lq_tree.specs.TypedFormLaws.{PlacesAreTyped, TypedStatements}
 use Rattle.lq_tree.specs.declared.tree.Tree.{Tree}
 use Rattle.lq_tree.proofs.SessionPlaceLemmas.{known_so_far, query_tree}
 use Rattle.lq_tree.proofs.TypedTerms.{typed_expressions}
