@@ -3,6 +3,7 @@ pub mod CallTypes
 pub mod CallUses
 pub mod FormSteps
 pub mod FormUses
+pub mod KindsSuffice
 pub mod Layers
 pub mod MappedItems
 pub mod MappedMethods

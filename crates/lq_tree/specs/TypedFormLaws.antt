@@ -2,11 +2,12 @@
 use Rattle.std.specs.Prelude.{◌≡◌, ◌∷◌, ◌++◌, List, [], Some, Ok, length}
 use Rattle.lq_value.specs.declared.table.Schema.{Schema}
 use Rattle.lq_value.specs.declared.value.End.{End}
+use Rattle.lq_value.specs.declared.value.Fault.{Fault}
 use Rattle.lq_value.specs.declared.value.Value.{Value}
 use Rattle.lq_value.specs.declared.value.Value.TheVariants as value
 use Rattle.lq_model.specs.DefinitionLaws.{AreDefined}
 use Rattle.lq_model.specs.Meaning.{World, stream_of}
-use Rattle.lq_model.specs.MeaningLaws.{Every, HoldsRows}
+use Rattle.lq_model.specs.MeaningLaws.{Every, HoldsRows, assuming}
 use Rattle.lq_model.specs.Operators.{pair}
 use Rattle.lq_model.specs.WholeMeaningLaws.{IsValueOf}
 use Rattle.lq_model.specs.declared.calls.Call.{Call}
@@ -99,3 +100,9 @@ abbrev pub StatementsMeetOperands : Type 0 → Type 0
 StatementsMeetOperands R =
     (world : World R) (definitions : List Definition) → HoldsRows world → AreDefined world.schemas definitions → (e : Expr) (tree : Tree)
     → term_tree world.schemas (translated e) (statement_places world.schemas definitions) ≡ Some tree → MeetsKinds world (Runs tree.form [])
+
+-- what is run so means the same whatever stands where there is no meaning: no arm for an operand of another kind that answers it is reached
+abbrev pub KindsSuffice : Type 0 → Type 0
+KindsSuffice R =
+    (world : World R) (f : Form) (slots : Slots R) → MeetsKinds world (Runs f slots) → (unknown : Fault)
+    → form_meaning (assuming unknown world) f slots ≡ form_meaning world f slots

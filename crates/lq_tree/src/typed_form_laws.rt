@@ -1,6 +1,6 @@
 //! Laws of typed forms. Each function's contract is the law that it is named for; the functions
 //! themselves do nothing.
-ghost use Rattle.lq_tree.specs.TypedFormLaws.{KeepsItems, KeepsShapes, MeetsOperands, PlacesAreTyped};
+ghost use Rattle.lq_tree.specs.TypedFormLaws.{KeepsItems, KeepsShapes, KindsSuffice, MeetsOperands, PlacesAreTyped};
 ghost use Rattle.lq_tree.specs.TypedFormLaws.{StatementsMeetOperands, TypedCalls, TypedExpressions, TypedStatements, TypedTrees};
 
 /// The tree that a term is bound to is a typed form, under what the slots of its place hold, and gives
@@ -30,4 +30,10 @@ pub fn evaluation_keeps_types<R>()
 pub fn operands_are_of_their_kinds<R>()
     ensures forms { MeetsOperands R }
     ensures statements { StatementsMeetOperands R }
+{}
+
+/// What is run on operands of these kinds means the same whatever stands where there is no meaning: no
+/// case of its meaning that answers this for an operand of another kind is reached.
+pub fn kinds_suffice<R>()
+    ensures { KindsSuffice R }
 {}
