@@ -449,7 +449,7 @@ module _ {R : Type 0} (world : World R) (unknown : Fault) where
       (λ v. mean' j.outer_key (slots ++ v ∷ [])) (matched world j.grouped) (matched other j.grouped) (λ v w. mean j.result (slots ++ v ∷ w ∷ []))
       (λ v w. mean' j.result (slots ++ v ∷ w ∷ [])) (items a slots) (stream_of world (mean a slots)).1 (λ v there. same (outers v there))
       (matched_same j.grouped) (λ v w key there is w_there. same (results v w key there is w_there))))
-  same (kind.at_order a ks slots h kinds keys) =
+  same (kind.at_order a ks slots h kinds keys alike) =
       by_steps slots (of_order other a ks) (of_order world a ks)
       (ap as_sequence
       (ap (λ (s : Stream (Value R)). order_by (λ (k : SortKey (Means R)). k.descending) (sort_key other slots) (map (map_key mean') ks) s.0 s.1)

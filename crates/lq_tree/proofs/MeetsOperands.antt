@@ -14,13 +14,13 @@ use Rattle.lq_model.proofs.AlikeStreams.{Pair, agree_ok, both_agree, select_alik
 use Rattle.lq_model.proofs.TypedOperators.{coalesced_plain}
 use Rattle.lq_model.proofs.ValuesOfTypes.{RecordOrNull, RowOrNull, a_record, a_row, group_value, is_plain, no_record, no_row, plain_value, record_value, row_value}
 use Rattle.lq_tree.specs.FormMeaning.{Means, Slots, form_meaning, name_of_column}
-use Rattle.lq_tree.specs.OperandKinds.{Finds, HasCell, HasMember, IsEnumerable, IsGroup, IsPair, IsScalar, IsScalarThat, MeetsKinds, Runs, RunsFields, RunsKeys, takes_one, takes_two}
+use Rattle.lq_tree.specs.OperandKinds.{Finds, HasCell, HasMember, IsEnumerable, IsGroup, IsPair, IsScalar, IsScalarThat, MeetsKinds, Runs, RunsFields, RunsKeys, SortAlike, takes_one, takes_two}
 use Rattle.lq_tree.specs.OperandKinds as kind
 use Rattle.lq_tree.specs.TypedForms.{Both, FormClaim, Gives, Has, IsTyped, Many, Members, Of, Shape, Sorts, matched_items, with_slot}
 use Rattle.lq_tree.specs.TypedForms as rule
 use Rattle.lq_tree.specs.TypedFormLaws.{AreOfShapes, IsOfShape, MeetsOperands, StatementsMeetOperands}
 use Rattle.lq_tree.specs.declared.tree.Form.{Form}
-use Rattle.lq_tree.proofs.OperandLemmas.{argument_taken, both_so, enumerable_value, item_taken, items_taken, join_keys, key_value, made_taken, number_value, object_value, scalar_value, search_taken, second_items, sign_taken, source_taken, text_value, truth_value}
+use Rattle.lq_tree.proofs.OperandLemmas.{alike_values, argument_taken, both_so, enumerable_value, item_taken, items_taken, join_keys, key_value, made_taken, number_value, object_value, scalar_value, search_taken, second_items, sign_taken, source_taken, text_value, truth_value}
 use Rattle.lq_tree.proofs.TypedMeanings.{found_fit, keeps, one_more, placed, slot_there, two_more}
 use Rattle.lq_tree.proofs.TypedStatements.{typed_statements}
 
@@ -62,7 +62,9 @@ module _ {R : Type 0} (world : World R) (holds : HoldsRows world) where
   Meets (Has shapes f s) = (slots : Slots R) → AreOfShapes world shapes slots → Safe f slots
   Meets (Gives shapes f s) = (slots : Slots R) → AreOfShapes world shapes slots → Safe f slots × Finds world f slots IsEnumerable
   Meets (Members shapes fields ms) = (slots : Slots R) → AreOfShapes world shapes slots → MeetsKinds world (RunsFields fields slots)
-  Meets (Sorts shapes ks) = (slots : Slots R) → AreOfShapes world shapes slots → MeetsKinds world (RunsKeys ks slots)
+  Meets (Sorts shapes ks) =
+      ((slots : Slots R) → AreOfShapes world shapes slots → MeetsKinds world (RunsKeys ks slots))
+      × ((slots others : Slots R) → AreOfShapes world shapes slots → AreOfShapes world shapes others → SortAlike world ks slots others)
 
   pub meets : {claim : FormClaim} → IsTyped world.schemas claim → Meets claim
   meets (rule.by_type shapes f s h) = meets h
@@ -190,11 +192,19 @@ module _ {R : Type 0} (world : World R) (holds : HoldsRows world) where
   meets (rule.of_order shapes a ks s h k) =
       λ slots fit. let source = meets h slots fit in
       kind.at_order a ks slots source.0 source.1
-      (λ v there. meets k (slots ++ v ∷ []) (one_more world holds shapes slots s v fit (keeps world holds h slots fit there.0 v there.1)))
-  meets (rule.no_key shapes) = λ slots fit. kind.no_key slots
-  meets (rule.one_key shapes k ks t h sortable others) =
-      λ slots fit. kind.one_key k ks slots (meets h slots fit) (λ v is. scalar_value world t v sortable (keeps world holds h slots fit v is))
-      (meets others slots fit)
+      (λ v there. (meets k).0 (slots ++ v ∷ []) (one_more world holds shapes slots s v fit (keeps world holds h slots fit there.0 v there.1)))
+      (λ v w there w_there. (meets k).1 (slots ++ v ∷ []) (slots ++ w ∷ [])
+      (one_more world holds shapes slots s v fit (keeps world holds h slots fit there.0 v there.1))
+      (one_more world holds shapes slots s w fit (keeps world holds h slots fit w_there.0 w w_there.1)))
+  meets (rule.no_key shapes) = ((λ slots fit. kind.no_key slots), (λ slots others fit more. tt))
+  meets (rule.one_key shapes k ks t h sortable others) = (
+    λ slots fit. kind.one_key k ks slots (meets h slots fit) (λ v is. scalar_value world t v sortable (keeps world holds h slots fit v is))
+        ((meets others).0 slots fit),
+    λ slots more fit more_fit. (
+      (λ v v_is w w_is. alike_values world t v w sortable (keeps world holds h slots fit v v_is) (keeps world holds h more more_fit w w_is)),
+      (meets others).1 slots more fit more_fit,
+    ),
+  )
   meets (rule.of_group shapes a key element s k e h key_typed is_key element_typed) =
       λ slots fit. let source = meets h slots fit in
       kind.at_grouping a key element slots source.0 source.1

@@ -161,6 +161,13 @@ alike_scalars k l (truths h i) x y x_fits y_fits =
     alike_by (kind.is_number x && kind.is_number y) (kind.is_text x && kind.is_text y) (is_truth x && is_truth y)
     (inr (inr (both_so _ _ (truth_scalar k h x x_fits) (truth_scalar l i y y_fits))))
 
+sort_alike : (k : Ty-F Ty) → is_scalar k ≡ true → Alike k k
+sort_alike Ty-F.Int h = numbers refl refl
+sort_alike Ty-F.IntN h = numbers refl refl
+sort_alike Ty-F.Bool h = truths refl refl
+sort_alike Ty-F.Str h = texts refl refl
+sort_alike k h = absurd (true≢false (sym h))
+
 no_null_tests : (k l : Ty-F Ty) → is_object k ≡ false → is_object l ≡ false → are_null_tests k l ≡ false
 no_null_tests (Ty-F.Rec ms) Ty-F.Null a b = absurd (true≢false a)
 no_null_tests (Ty-F.Group k t) Ty-F.Null a b = absurd (true≢false a)
@@ -303,6 +310,14 @@ module _ {R : Type 0} (world : World R) where
 
   pub scalar_value : (t : Ty) (v : Value R) → is_scalar (out-Ty t) ≡ true → Val t v → IsScalar v
   scalar_value t v h fits = let found = plain_value world t v (scalar_plain (out-Ty t) h) fits in (found.0, found.1)
+
+  -- two scalars of one type that may be sorted by
+  pub alike_values : (t : Ty) (v w : Value R) → is_scalar (out-Ty t) ≡ true → Val t v → Val t w
+      → (x : Scalar) × (y : Scalar) × (v ≡ value.Scalar x) × (w ≡ value.Scalar y) × (takes_two op.Equal x y ≡ true)
+  alike_values t v w h v_fits w_fits =
+      let x = plain_value world t v (scalar_plain (out-Ty t) h) v_fits in
+      let y = plain_value world t w (scalar_plain (out-Ty t) h) w_fits in
+      (x.0, y.0, x.1, y.1, alike_scalars (out-Ty t) (out-Ty t) (sort_alike (out-Ty t) h) x.0 y.0 x.2 y.2)
 
   -- ---- keys
 

@@ -180,6 +180,14 @@ module _ {R : Type 0} (world : World R) where
   matches_in j slots key =
       matched world j.grouped key (with_keys (λ w. form_meaning world j.inner_key (slots ++ w ∷ [])) (stream_of world (form_meaning world j.inner slots))).0
 
+  -- what a sort compares by one key are numbers, texts or truth values: scalars of two kinds stand in the order of their kinds (`order_of`)
+  abbrev pub SortAlike : List (SortKey Form) → Slots R → Slots R → Type 0
+  SortAlike [] slots others = Unit {0}
+  SortAlike (k ∷ ks) slots others =
+      Finds k.value slots (λ v. Finds k.value others (λ w. (x : Scalar) × (y : Scalar) × (v ≡ value.Scalar x) × (w ≡ value.Scalar y)
+      × (takes_two op.Equal x y ≡ true)))
+      × SortAlike ks slots others
+
   -- Each operand of a form is a fault or of the kind that the form works on, and so is each in its operands, and in its lambdas on each
   -- item that they are run on.
   pub data MeetsKinds : Run R → Type 0 where
@@ -237,7 +245,9 @@ module _ {R : Type 0} (world : World R) where
         → MeetsKinds (Runs j.result (slots ++ v ∷ w ∷ [])))
         → MeetsKinds (Runs (form.Join a j) slots)
     at_order : (a : Form) (ks : List (SortKey Form)) (slots : Slots R) → MeetsKinds (Runs a slots) → Finds a slots IsEnumerable
-        → ((v : Value R) → Among (items_in a slots) v → MeetsKinds (RunsKeys ks (slots ++ v ∷ []))) → MeetsKinds (Runs (form.OrderBy a ks) slots)
+        → ((v : Value R) → Among (items_in a slots) v → MeetsKinds (RunsKeys ks (slots ++ v ∷ [])))
+        → ((v w : Value R) → Among (items_in a slots) v → Among (items_in a slots) w → SortAlike ks (slots ++ v ∷ []) (slots ++ w ∷ []))
+        → MeetsKinds (Runs (form.OrderBy a ks) slots)
     no_key : (slots : Slots R) → MeetsKinds (RunsKeys [] slots)
     one_key : (k : SortKey Form) (ks : List (SortKey Form)) (slots : Slots R) → MeetsKinds (Runs k.value slots) → Finds k.value slots IsScalar
         → MeetsKinds (RunsKeys ks slots) → MeetsKinds (RunsKeys (k ∷ ks) slots)
