@@ -1,6 +1,6 @@
 -- What is run on operands of the kinds that are asked of them means the same whatever stands where there is no meaning: by induction over
 -- what is run.
-use Rattle.std.proofs.Common.{◌≡◌, ◌∷◌, ◌++◌, ◌&&◌, ◌||◌, if◌then◌else◌, List, [], map, ℕ, zero, suc, ℤ, Bool, true, false, Option, Some, None, Result, Ok, Err, ap, ap₂, ◌∙◌, not, sym, refl, subst, true≢false, option_and_then, option_map, slice_get}
+use Rattle.std.proofs.Common.{◌≡◌, ◌∷◌, ◌++◌, ◌&&◌, if◌then◌else◌, List, [], map, ℕ, zero, suc, ℤ, Bool, true, false, Some, Result, Ok, Err, ap, ap₂, ◌∙◌, not, sym, refl, subst, true≢false, option_and_then, option_map, slice_get}
 use Rattle.lq_value.specs.SameAndOrder.{same_values as same_keys}
 use Rattle.lq_value.specs.declared.scalar.Scalar.{Scalar}
 use Rattle.lq_value.specs.declared.scalar.Scalar.TheVariants as scalar
@@ -15,11 +15,11 @@ use Rattle.lq_value.specs.declared.value.Value.TheVariants.{outs-Group as outs-v
 use Rattle.lq_model.specs.Arrangement.{Keyed, all_of, arranged, keyed, order_by, with_key}
 use Rattle.lq_model.specs.Enumerable.{all, as_count, concat, contains, element_at, except, intersect, skip, take_first, union}
 use Rattle.lq_model.specs.Maps.{map_field, map_key}
-use Rattle.lq_model.specs.Meaning.{World, as_group, as_value, cell_value, is_null, items_of, on_scalar, on_truth, scalar_of, sequence, stream_of, table_value}
-use Rattle.lq_model.specs.MeaningLaws.{Every, assuming}
-use Rattle.lq_model.specs.Operations.{of_one, of_two, on_ok, truth, truth_of}
+use Rattle.lq_model.specs.Meaning.{World, as_group, as_value, cell_value, is_null, items_of, on_scalar, on_truth, scalar_of, stream_of, table_value}
+use Rattle.lq_model.specs.MeaningLaws.{assuming}
+use Rattle.lq_model.specs.Operations.{of_one, of_two, on_ok, truth_of}
 use Rattle.lq_model.specs.Operators.{first, pair, second}
-use Rattle.lq_model.specs.Stream.{Stream, both, each, expand_by, group_by, groups_of, join_by, kept, made, on_value, one, select_by, where_by, whole, with_keys}
+use Rattle.lq_model.specs.Stream.{Stream, both, each, expand_by, group_by, groups_of, join_by, kept, made, on_value, one, whole, with_keys}
 use Rattle.lq_model.specs.WholeMeaning.{as_sequence, as_truth, given_meaning, number_of, on_number, simple_meaning, through_meaning}
 use Rattle.lq_model.specs.declared.methods.Given.{Given}
 use Rattle.lq_model.specs.declared.methods.Given.TheVariants as given
@@ -27,7 +27,6 @@ use Rattle.lq_model.specs.declared.methods.Through.{Through}
 use Rattle.lq_model.specs.declared.methods.Through.TheVariants as through
 use Rattle.lq_model.specs.declared.operation.Op.{Op}
 use Rattle.lq_model.specs.declared.operation.Op.TheVariants as op
-use Rattle.lq_model.specs.declared.syntax.Field.{Field}
 use Rattle.lq_model.specs.declared.syntax.SortKey.{SortKey}
 use Rattle.lq_model.proofs.EveryItem.{each_same}
 use Rattle.lq_tree.specs.FormMeaning.{Means, Slots, cell_in, form_meaning, if_there, is_null_value, is_true, joined_stream, key_in, matched, member_at, members_of, name_of_column, sort_key}

@@ -49,7 +49,7 @@ abbrev pub is_count : Scalar → Bool
 is_count (scalar.Int n) = true
 is_count s = false
 
--- whether an operator works on this operand
+-- whether an operator works on this operand; `of_one` has no other meaning
 abbrev pub takes_one : Op → Scalar → Bool
 takes_one op.Not s = is_truth s
 takes_one op.Minus s = is_number s
@@ -91,10 +91,11 @@ module _ {R : Type 0} where
   abbrev pub IsPair : Value R → Type 0
   IsPair v = (a : Value R) × (b : Value R) × (v ≡ pair a b)
 
+  -- what has a key (`key_in`)
   abbrev pub IsGroup : Value R → Type 0
   IsGroup v = (key : Value R) × (vs : List (Value R)) × (v ≡ value.Group key vs)
 
-  -- what may be enumerated
+  -- what may be enumerated; anything else is enumerated as no item (`items_of`)
   pub data IsEnumerable (v : Value R) : Type 0 where
     a_sequence : (vs : List (Value R)) (e : End) → v ≡ value.Seq vs e → IsEnumerable v
     a_group : (key : Value R) (vs : List (Value R)) → v ≡ value.Group key vs → IsEnumerable v
@@ -106,7 +107,7 @@ module _ {R : Type 0} where
     a_grouped : (key : Value R) (vs : List (Value R)) → v ≡ value.Group key vs → IsObject v
     no_object : v ≡ value.Scalar scalar.Null → IsObject v
 
-  -- a record with a member at this place, or null
+  -- a record with a member at this place, or null (`member_at`)
   pub data HasMember (place : ℕ) (v : Value R) : Type 0 where
     a_member : (vs : List (List ℕ × Value R)) (m : List ℕ × Value R) → v ≡ value.Rec vs → slice_get vs place ≡ Some m → HasMember place v
     no_record : v ≡ value.Scalar scalar.Null → HasMember place v
@@ -156,7 +157,7 @@ pub data Run (R : Type 0) : Type 0 where
   RunsKeys : List (SortKey Form) → Slots R → Run R
 
 module _ {R : Type 0} (world : World R) where
-  -- a row with a cell in the column of this number of the table, or null
+  -- a row with a cell in the column of this number of the table, or null (`cell_in`)
   pub data HasCell (table c : ℕ) (v : Value R) : Type 0 where
     a_cell : (r : R) (m : List ℕ) (s : Scalar) → v ≡ value.Row r → name_of_column world.schemas table c ≡ Some m → world.cell r m ≡ Some s → HasCell table c v
     no_row : v ≡ value.Scalar scalar.Null → HasCell table c v
@@ -221,7 +222,6 @@ module _ {R : Type 0} (world : World R) where
     one_field : (field : Field Form) (fields : List (Field Form)) (slots : Slots R) → MeetsKinds (Runs field.value slots)
         → MeetsKinds (RunsFields fields slots) → MeetsKinds (RunsFields (field ∷ fields) slots)
     at_pair : (a b : Form) (slots : Slots R) → MeetsKinds (Runs a slots) → MeetsKinds (Runs b slots) → MeetsKinds (Runs (form.Pair a b) slots)
-    -- what is no sequence and no group is enumerated as no item
     at_sequence : (a : Form) (slots : Slots R) → MeetsKinds (Runs a slots) → Finds a slots IsEnumerable → MeetsKinds (Runs (form.Sequence a) slots)
     at_simple : (method : Simple) (t : Ty) (a : Form) (slots : Slots R) → MeetsKinds (Runs a slots) → Finds a slots IsEnumerable
         → Each (items_in a slots) (Takes method) → MeetsKinds (Runs (form.Simple method t a) slots)
@@ -235,7 +235,7 @@ module _ {R : Type 0} (world : World R) where
         → ((v : Value R) → Among (items_in a slots) v → MeetsKinds (Runs inner (slots ++ v ∷ []))) → Each (items_in a slots) (λ v. Finds inner (slots ++ v ∷ []) IsEnumerable)
         → ((v w : Value R) → Among (items_in a slots) v → Among (items_in inner (slots ++ v ∷ [])) w → MeetsKinds (Runs result (slots ++ v ∷ w ∷ [])))
         → MeetsKinds (Runs (form.SelectMany a inner result) slots)
-    -- a key that is no key matches nothing
+    -- keys that are matched and grouped by are such as can be the same (`same_values`)
     at_join : (a : Form) (j : Joined Form) (slots : Slots R) → MeetsKinds (Runs a slots) → Finds a slots IsEnumerable → MeetsKinds (Runs j.inner slots)
         → Finds j.inner slots IsEnumerable → ((v : Value R) → Among (items_in a slots) v → MeetsKinds (Runs j.outer_key (slots ++ v ∷ [])))
         → Each (items_in a slots) (λ v. Finds j.outer_key (slots ++ v ∷ []) IsKey)
