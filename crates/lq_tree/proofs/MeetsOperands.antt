@@ -20,7 +20,7 @@ use Rattle.lq_tree.specs.TypedForms.{Both, FormClaim, Gives, Has, IsTyped, Many,
 use Rattle.lq_tree.specs.TypedForms as rule
 use Rattle.lq_tree.specs.TypedFormLaws.{AreOfShapes, IsOfShape, MeetsOperands, StatementsMeetOperands}
 use Rattle.lq_tree.specs.declared.tree.Form.{Form}
-use Rattle.lq_tree.proofs.OperandLemmas.{alike_values, argument_taken, both_so, enumerable_value, item_taken, items_taken, join_keys, key_value, made_taken, number_value, object_value, scalar_value, search_taken, second_items, sign_taken, source_taken, text_value, truth_value}
+use Rattle.lq_tree.proofs.OperandLemmas.{alike_values, argument_taken, both_so, enumerable_value, item_taken, items_taken, join_keys, key_value, made_taken, number_value, object_value, scalar_value, search_taken, second_items, sign_taken, source_taken, suited, suited_through, text_value, truth_value}
 use Rattle.lq_tree.proofs.TypedMeanings.{found_fit, keeps, one_more, placed, slot_there, two_more}
 use Rattle.lq_tree.proofs.TypedStatements.{typed_statements}
 
@@ -142,7 +142,7 @@ module _ {R : Type 0} (world : World R) (holds : HoldsRows world) where
   meets (rule.of_sequence shapes a s h) = λ slots fit. let source = meets h slots fit in kind.at_sequence a slots source.0 source.1
   meets (rule.of_simple shapes method t r a h typed) =
       λ slots fit. let source = meets h slots fit in
-      kind.at_simple method t a slots source.0 source.1 (λ v there. items_taken world method t r typed v (keeps world holds h slots fit there.0 v there.1))
+      kind.at_simple method t a slots source.0 source.1 (λ v there. items_taken world method t r typed v (keeps world holds h slots fit there.0 v there.1)) (suited method t r typed)
   meets (rule.of_given shapes method t u r a b h k typed) =
       λ slots fit. let source = meets h slots fit in
       kind.at_given method a b slots source.0 source.1 (λ v there. item_taken world method t u r typed v (keeps world holds h slots fit there.0 v there.1))
@@ -154,17 +154,18 @@ module _ {R : Type 0} (world : World R) (holds : HoldsRows world) where
       (λ v there. meets k (slots ++ v ∷ []) (one_more world holds shapes slots (Of t) v fit (keeps world holds h slots fit there.0 v there.1)))
       (λ v there w is. made_taken world method t u r typed w
       (keeps world holds k (slots ++ v ∷ []) (one_more world holds shapes slots (Of t) v fit (keeps world holds h slots fit there.0 v there.1)) w is))
+      (suited_through method t u r typed)
   meets (rule.of_where shapes t u c a f s h k bool) =
       λ slots fit. let source = meets h slots fit in
       kind.at_through through.Where t u a f slots source.0 source.1 (λ v there. tt)
       (λ v there. meets k (slots ++ v ∷ []) (one_more world holds shapes slots s v fit (keeps world holds h slots fit there.0 v there.1)))
       (λ v there w is. truth_value world c w bool
-      (keeps world holds k (slots ++ v ∷ []) (one_more world holds shapes slots s v fit (keeps world holds h slots fit there.0 v there.1)) w is))
+      (keeps world holds k (slots ++ v ∷ []) (one_more world holds shapes slots s v fit (keeps world holds h slots fit there.0 v there.1)) w is)) refl
   meets (rule.of_select shapes t u a f s r h k) =
       λ slots fit. let source = meets h slots fit in
       kind.at_through through.Select t u a f slots source.0 source.1 (λ v there. tt)
       (λ v there. meets k (slots ++ v ∷ []) (one_more world holds shapes slots s v fit (keeps world holds h slots fit there.0 v there.1)))
-      (λ v there w is. tt)
+      (λ v there w is. tt) refl
   meets (rule.of_select_many shapes a inner result s u r h k l) =
       λ slots fit. let source = meets h slots fit in
       kind.at_expansion a inner result slots source.0 source.1

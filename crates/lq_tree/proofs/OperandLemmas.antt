@@ -18,7 +18,7 @@ use Rattle.lq_model.specs.Members.{search_named}
 use Rattle.lq_model.specs.Types.{all_members, are_join_keys, are_widened, element_type, is_key, key_step, same_types}
 use Rattle.lq_model.specs.Typing.{are_comparable, are_joined, is_bool, is_equality, is_number, is_scalar, is_text, joined_type, result_type, truth_type}
 use Rattle.lq_model.specs.WholeMeaningLaws.{AreMembers, Fits, IsA, IsValueOf, ValueClaim, by_group, by_null_record, by_record, by_row, by_scalar, by_sequence, no_member, one_member}
-use Rattle.lq_model.specs.WholeTyping.{are_null_tests, converts, given_type, if_same, is_int, simple_type, through_type, whole_operated_type, widens}
+use Rattle.lq_model.specs.WholeTyping.{are_null_tests, converts, given_type, has_default, if_same, is_int, simple_type, through_type, whole_operated_type, widens}
 use Rattle.lq_model.specs.declared.methods.Given.{Given}
 use Rattle.lq_model.specs.declared.methods.Given.TheVariants as given
 use Rattle.lq_model.specs.declared.methods.Simple.{Simple}
@@ -35,7 +35,7 @@ use Rattle.lq_model.proofs.SameTypes.{same_type}
 use Rattle.lq_model.proofs.TypedMethods.{stream_alike}
 use Rattle.lq_model.proofs.ValuesOfTypes.{Gets, RecordOrNull, RowOrNull, a_record, a_row, group_value, is_plain, no_record, no_row, plain_value, record_value, row_value, sequence_value}
 use Rattle.lq_tree.specs.Binding.{is_object, operation_at}
-use Rattle.lq_tree.specs.OperandKinds.{IsEnumerable, IsScalar, IsScalarThat, Takes, TakesArgument, TakesItem, TakesMade, TakesSource, a_group, a_sequence, is_count, is_truth, takes_two}
+use Rattle.lq_tree.specs.OperandKinds.{IsEnumerable, IsScalar, IsScalarThat, Takes, TakesArgument, TakesItem, TakesMade, TakesSource, a_group, a_sequence, is_count, is_truth, suits, suits_through, takes_two}
 use Rattle.lq_tree.specs.OperandKinds as kind
 
 -- ---- scalars, by the layers of their types
@@ -279,6 +279,21 @@ search_taken o m h x y are = by (bytes_eq m (codes "StartsWith")) (bytes_eq m (c
   by false true c is = subst (λ (p : Op). takes_two p x y ≡ true) (same_Some op.EndsWith o is) are
   by false false true is = subst (λ (p : Op). takes_two p x y ≡ true) (same_Some op.Contains o is) are
   by false false false is = absurd (none-some o is)
+
+-- ---- the types that methods name
+
+pub suited : (method : Simple) (t r : Ty) → simple_type method t ≡ Some r → suits method (out-Ty t) ≡ true
+suited simple.DefaultIfEmpty t r h = when_by (has_default (out-Ty t)) _ r h (λ has is. has)
+suited simple.FirstOrDefault t r h = when_by (has_default (out-Ty t)) _ r h (λ has is. has)
+suited simple.SingleOrDefault t r h = when_by (has_default (out-Ty t)) _ r h (λ has is. has)
+suited simple.Min t r h = when_by (is_number (out-Ty t)) _ r h (λ number is. number)
+suited simple.Max t r h = when_by (is_number (out-Ty t)) _ r h (λ number is. number)
+suited method t r h = refl
+
+pub suited_through : (method : Through) (t u r : Ty) → through_type method t (Some u) ≡ Some r → suits_through method (out-Ty t) (out-Ty u) ≡ true
+suited_through (through.Those method) t u r h = when_by (is_bool (out-Ty u)) _ r h (λ truth found. suited method t r found)
+suited_through (through.Values method) t u r h = suited method u r h
+suited_through method t u r h = refl
 
 -- ---- keys
 

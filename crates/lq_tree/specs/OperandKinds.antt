@@ -5,13 +5,16 @@ use Rattle.std.specs.Prelude.{◌≡◌, ◌∷◌, ◌++◌, ◌&&◌, ◌||◌
 use Rattle.lq_value.specs.SameAndOrder.{IsKey}
 use Rattle.lq_value.specs.declared.scalar.Scalar.{Scalar}
 use Rattle.lq_value.specs.declared.scalar.Scalar.TheVariants as scalar
-use Rattle.lq_value.specs.declared.ty.Ty.{Ty}
+use Rattle.lq_value.specs.declared.ty.Ty.{Ty, out-Ty}
+use Rattle.lq_value.specs.declared.ty.Ty.TheOpen.{Ty-F}
 use Rattle.lq_value.specs.declared.value.End.{End}
 use Rattle.lq_value.specs.declared.value.Value.{Value}
 use Rattle.lq_value.specs.declared.value.Value.TheVariants as value
 use Rattle.lq_model.specs.Meaning.{World, stream_of}
 use Rattle.lq_model.specs.Operators.{pair}
 use Rattle.lq_model.specs.Stream.{with_keys}
+use Rattle.lq_model.specs.Typing.{is_number as is_number_type}
+use Rattle.lq_model.specs.WholeTyping.{has_default}
 use Rattle.lq_model.specs.declared.methods.Given.{Given}
 use Rattle.lq_model.specs.declared.methods.Given.TheVariants as given
 use Rattle.lq_model.specs.declared.methods.Simple.{Simple}
@@ -76,6 +79,22 @@ takes_two op.Greater a b = is_number a && is_number b
 takes_two op.LessOrEqual a b = is_number a && is_number b
 takes_two op.GreaterOrEqual a b = is_number a && is_number b
 takes_two other a b = false
+
+-- Whether a method may name this type of its items: where a default may be the answer, there is one (`default_layer`), and where the least or
+-- greatest number is, it is a type of numbers (`no_number`).
+abbrev pub suits : Simple → Ty-F Ty → Bool
+suits simple.DefaultIfEmpty layer = has_default layer
+suits simple.FirstOrDefault layer = has_default layer
+suits simple.SingleOrDefault layer = has_default layer
+suits simple.Min layer = is_number_type layer
+suits simple.Max layer = is_number_type layer
+suits method layer = true
+
+-- and with a lambda, where the second type is that of what it makes
+abbrev pub suits_through : Through → Ty-F Ty → Ty-F Ty → Bool
+suits_through (through.Those method) items makes = suits method items
+suits_through (through.Values method) items makes = suits method makes
+suits_through method items makes = true
 
 module _ {R : Type 0} where
   -- ---- values
@@ -224,13 +243,14 @@ module _ {R : Type 0} (world : World R) where
     at_pair : (a b : Form) (slots : Slots R) → MeetsKinds (Runs a slots) → MeetsKinds (Runs b slots) → MeetsKinds (Runs (form.Pair a b) slots)
     at_sequence : (a : Form) (slots : Slots R) → MeetsKinds (Runs a slots) → Finds a slots IsEnumerable → MeetsKinds (Runs (form.Sequence a) slots)
     at_simple : (method : Simple) (t : Ty) (a : Form) (slots : Slots R) → MeetsKinds (Runs a slots) → Finds a slots IsEnumerable
-        → Each (items_in a slots) (Takes method) → MeetsKinds (Runs (form.Simple method t a) slots)
+        → Each (items_in a slots) (Takes method) → suits method (out-Ty t) ≡ true → MeetsKinds (Runs (form.Simple method t a) slots)
     at_given : (method : Given) (a b : Form) (slots : Slots R) → MeetsKinds (Runs a slots) → Finds a slots IsEnumerable
         → Each (items_in a slots) (TakesItem method) → MeetsKinds (Runs b slots) → Finds b slots (TakesArgument method)
         → Each (items_in b slots) (TakesItem method) → MeetsKinds (Runs (form.Given method a b) slots)
     at_through : (method : Through) (t u : Ty) (a f : Form) (slots : Slots R) → MeetsKinds (Runs a slots) → Finds a slots IsEnumerable
         → Each (items_in a slots) (TakesSource method) → ((v : Value R) → Among (items_in a slots) v → MeetsKinds (Runs f (slots ++ v ∷ [])))
-        → Each (items_in a slots) (λ v. Finds f (slots ++ v ∷ []) (TakesMade method)) → MeetsKinds (Runs (form.Through method t u a f) slots)
+        → Each (items_in a slots) (λ v. Finds f (slots ++ v ∷ []) (TakesMade method)) → suits_through method (out-Ty t) (out-Ty u) ≡ true
+        → MeetsKinds (Runs (form.Through method t u a f) slots)
     at_expansion : (a inner result : Form) (slots : Slots R) → MeetsKinds (Runs a slots) → Finds a slots IsEnumerable
         → ((v : Value R) → Among (items_in a slots) v → MeetsKinds (Runs inner (slots ++ v ∷ []))) → Each (items_in a slots) (λ v. Finds inner (slots ++ v ∷ []) IsEnumerable)
         → ((v w : Value R) → Among (items_in a slots) v → Among (items_in inner (slots ++ v ∷ [])) w → MeetsKinds (Runs result (slots ++ v ∷ w ∷ [])))
