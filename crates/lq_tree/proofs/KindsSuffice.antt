@@ -414,10 +414,10 @@ module _ {R : Type 0} (world : World R) (unknown : Fault) where
       (ap₂ (λ (o p : Result (Value R) Fault). on_ok o (λ v. on_ok p (λ w. Ok (pair v w)))) (same h) (same k))
   same (kind.at_sequence a slots h kinds) =
       by_steps slots (of_sequence other a) (of_sequence world a) (ap as_sequence (stream_same (mean' a slots) (mean a slots) (same h) kinds))
-  same (kind.at_simple method t a slots h kinds takes suited) =
+  same (kind.at_simple method t a slots h kinds takes suited twos) =
       by_steps slots (of_simple other method t a) (of_simple world method t a)
       (ap (simple_meaning method t) (stream_same (mean' a slots) (mean a slots) (same h) kinds))
-  same (kind.at_given method a b slots h kinds takes k arguments others) =
+  same (kind.at_given method a b slots h kinds takes k arguments others beside) =
       by_steps slots (of_given other method a b) (of_given world method a b)
       (ap (given_meaning other method (mean' b slots)) (stream_same (mean' a slots) (mean a slots) (same h) kinds)
       ∙ given_same method (mean' b slots) (mean b slots) (stream_of world (mean a slots)) (same k) arguments)
@@ -437,7 +437,7 @@ module _ {R : Type 0} (world : World R) (unknown : Fault) where
       ap (made (λ w. mean' result (slots ++ v ∷ w ∷ [])))
       (stream_same (mean' inner (slots ++ v ∷ [])) (mean inner (slots ++ v ∷ [])) (same (bodies v there)) (inners v there))
       ∙ each_in _ _ (items inner (slots ++ v ∷ [])) (stream_of world (mean inner (slots ++ v ∷ []))).1 (λ w w_there. ap one (same (results v w there w_there))))))
-  same (kind.at_join a j slots h kinds k inner_kinds outers outer_keys inners inner_keys results) =
+  same (kind.at_join a j slots h kinds k inner_kinds outers outer_keys inners inner_keys results matching) =
       by_steps slots (of_join other a j) (of_join world a j)
       (ap as_sequence
       (ap (joined_stream other slots (join_means other j)) (stream_same (mean' a slots) (mean a slots) (same h) kinds)
@@ -462,7 +462,7 @@ module _ {R : Type 0} (world : World R) (unknown : Fault) where
         (λ v is. let found = scalars v is in (found.0, found.1, refl)),
     same others,
   )
-  same (kind.at_grouping a key element slots h kinds keys key_kinds elements) =
+  same (kind.at_grouping a key element slots h kinds keys key_kinds elements grouping) =
       by_steps slots (of_group other a key element) (of_group world a key element)
       (ap as_sequence
       (ap (λ (s : Stream (Value R)). group_by same_keys (λ v. mean' key (slots ++ v ∷ [])) (λ v. mean' element (slots ++ v ∷ [])) as_group s.0 s.1)

@@ -20,7 +20,7 @@ use Rattle.lq_tree.specs.TypedForms.{Both, FormClaim, Gives, Has, IsTyped, Many,
 use Rattle.lq_tree.specs.TypedForms as rule
 use Rattle.lq_tree.specs.TypedFormLaws.{AreOfShapes, IsOfShape, MeetsOperands, StatementsMeetOperands}
 use Rattle.lq_tree.specs.declared.tree.Form.{Form}
-use Rattle.lq_tree.proofs.OperandLemmas.{alike_values, argument_taken, both_so, enumerable_value, item_taken, items_taken, join_keys, key_value, made_taken, number_value, object_value, scalar_value, search_taken, second_items, sign_taken, source_taken, suited, suited_through, text_value, truth_value}
+use Rattle.lq_tree.proofs.OperandLemmas.{alike_values, argument_taken, beside_taken, both_so, join_kind, same_kind, two_taken, enumerable_value, item_taken, items_taken, join_keys, key_value, made_taken, number_value, object_value, scalar_value, search_taken, second_items, sign_taken, source_taken, suited, suited_through, text_value, truth_value}
 use Rattle.lq_tree.proofs.TypedMeanings.{found_fit, keeps, one_more, placed, slot_there, two_more}
 use Rattle.lq_tree.proofs.TypedStatements.{typed_statements}
 
@@ -142,12 +142,16 @@ module _ {R : Type 0} (world : World R) (holds : HoldsRows world) where
   meets (rule.of_sequence shapes a s h) = λ slots fit. let source = meets h slots fit in kind.at_sequence a slots source.0 source.1
   meets (rule.of_simple shapes method t r a h typed) =
       λ slots fit. let source = meets h slots fit in
-      kind.at_simple method t a slots source.0 source.1 (λ v there. items_taken world method t r typed v (keeps world holds h slots fit there.0 v there.1)) (suited method t r typed)
+      kind.at_simple method t a slots source.0 source.1 (λ v there. items_taken world method t r typed v (keeps world holds h slots fit there.0 v there.1))
+      (suited method t r typed)
+      (λ v w there w_there. two_taken world method t r typed v w (keeps world holds h slots fit there.0 v there.1)
+      (keeps world holds h slots fit w_there.0 w w_there.1))
   meets (rule.of_given shapes method t u r a b h k typed) =
       λ slots fit. let source = meets h slots fit in
       kind.at_given method a b slots source.0 source.1 (λ v there. item_taken world method t u r typed v (keeps world holds h slots fit there.0 v there.1))
       (meets k slots fit) (λ v is. argument_taken world method t u r typed v (keeps world holds k slots fit v is))
       (λ v there. second_items world method t u r typed (mean b slots) (keeps world holds k slots fit) there.0 v there.1)
+      (λ w is v there. beside_taken world method t u r typed w v (keeps world holds k slots fit w is) (keeps world holds h slots fit there.0 v there.1))
   meets (rule.of_through shapes method t u r a f h k typed) =
       λ slots fit. let source = meets h slots fit in
       kind.at_through method t u a f slots source.0 source.1 (λ v there. source_taken world method t u r typed v (keeps world holds h slots fit there.0 v there.1))
@@ -190,6 +194,10 @@ module _ {R : Type 0} (world : World R) (holds : HoldsRows world) where
       (λ x p. both_agree (Val l) (Val u) (mean j.inner_key (slots ++ x ∷ [])) _ (Ok x) _
       (refl, keeps world holds inner_key (slots ++ x ∷ []) (one_more world holds shapes slots (Of u) x fit p)) (agree_ok (Val u) x p))
       (stream_of world (mean j.inner slots)) (stream_of world (mean j.inner slots)) (refl, keeps world holds inner slots fit)).1 w_there.0 w w_there.1)))
+      (λ v w there w_there x x_is y y_is. join_kind world k l comparable x y
+      (keeps world holds outer_key (slots ++ v ∷ []) (one_more world holds shapes slots s v fit (keeps world holds h slots fit there.0 v there.1)) x x_is)
+      (keeps world holds inner_key (slots ++ w ∷ [])
+      (one_more world holds shapes slots (Of u) w fit (keeps world holds inner slots fit w_there.0 w w_there.1)) y y_is))
   meets (rule.of_order shapes a ks s h k) =
       λ slots fit. let source = meets h slots fit in
       kind.at_order a ks slots source.0 source.1
@@ -213,6 +221,9 @@ module _ {R : Type 0} (world : World R) (holds : HoldsRows world) where
       (λ v there w is. key_value world k w is_key (keeps world holds key_typed (slots ++ v ∷ [])
       (one_more world holds shapes slots s v fit (keeps world holds h slots fit there.0 v there.1)) w is))
       (λ v there. meets element_typed (slots ++ v ∷ []) (one_more world holds shapes slots s v fit (keeps world holds h slots fit there.0 v there.1)))
+      (λ v w there w_there x x_is y y_is. same_kind world k x y is_key
+      (keeps world holds key_typed (slots ++ v ∷ []) (one_more world holds shapes slots s v fit (keeps world holds h slots fit there.0 v there.1)) x x_is)
+      (keeps world holds key_typed (slots ++ w ∷ []) (one_more world holds shapes slots s w fit (keeps world holds h slots fit w_there.0 w w_there.1)) y y_is))
 
 pub meets_operands : {R : Type 0} → MeetsOperands R
 meets_operands world holds shapes f s typed slots fit = meets world holds typed slots fit

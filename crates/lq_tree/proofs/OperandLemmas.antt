@@ -18,7 +18,7 @@ use Rattle.lq_model.specs.Members.{search_named}
 use Rattle.lq_model.specs.Types.{all_members, are_join_keys, are_widened, element_type, is_key, key_step, same_types}
 use Rattle.lq_model.specs.Typing.{are_comparable, are_joined, is_bool, is_equality, is_number, is_scalar, is_text, joined_type, result_type, truth_type}
 use Rattle.lq_model.specs.WholeMeaningLaws.{AreMembers, Fits, IsA, IsValueOf, ValueClaim, by_group, by_null_record, by_record, by_row, by_scalar, by_sequence, no_member, one_member}
-use Rattle.lq_model.specs.WholeTyping.{are_null_tests, converts, given_type, has_default, if_same, is_int, simple_type, through_type, whole_operated_type, widens}
+use Rattle.lq_model.specs.WholeTyping.{are_null_tests, converts, given_type, has_default, if_same, is_int, simple_type, takes_null, through_type, whole_operated_type, widens}
 use Rattle.lq_model.specs.declared.methods.Given.{Given}
 use Rattle.lq_model.specs.declared.methods.Given.TheVariants as given
 use Rattle.lq_model.specs.declared.methods.Simple.{Simple}
@@ -33,7 +33,7 @@ use Rattle.lq_model.proofs.EveryItem.{every_none}
 use Rattle.lq_model.proofs.Findings.{if_by, when_by}
 use Rattle.lq_model.proofs.SameTypes.{same_type}
 use Rattle.lq_model.proofs.TypedMethods.{stream_alike}
-use Rattle.lq_model.proofs.ValuesOfTypes.{Gets, RecordOrNull, RowOrNull, a_record, a_row, group_value, is_plain, no_record, no_row, plain_value, record_value, row_value, sequence_value}
+use Rattle.lq_model.proofs.ValuesOfTypes.{Gets, RecordOrNull, RowOrNull, a_record, a_row, group_value, is_plain, no_record, no_row, plain_value, record_value, row_value, scalar_is, sequence_value}
 use Rattle.lq_tree.specs.Binding.{is_object, operation_at}
 use Rattle.lq_tree.specs.OperandKinds.{IsEnumerable, IsScalar, IsScalarThat, Takes, TakesArgument, TakesItem, TakesMade, TakesSource, a_group, a_sequence, is_count, is_truth, suits, suits_through, takes_two}
 use Rattle.lq_tree.specs.OperandKinds as kind
@@ -365,6 +365,80 @@ module _ {R : Type 0} (world : World R) where
   pub key_value : (t : Ty) (v : Value R) → is_key t ≡ true → Val t v → IsKey v
   key_value t v h fits = keys fits h
 
+  -- ---- two keys of one type
+
+  abbrev Names : ValueClaim R → Type 0
+  Names (IsA t v) = Unit {0}
+  Names (AreMembers ms vs) = map (λ (m : List ℕ × Value R). m.0) vs ≡ map (λ (m : List ℕ × Ty). m.0) ms
+
+  names : {claim : ValueClaim R} → Fits world claim → Names claim
+  names (by_scalar t s fits) = tt
+  names (by_null_record t ms is) = tt
+  names (by_row t n r is cells) = tt
+  names (by_record t ms vs is fits) = tt
+  names (by_group t k u key vs is fits items) = tt
+  names (by_sequence t u vs e is items) = tt
+  names no_member = refl
+  names (one_member n t v ms vs fits others) = ap (λ ns. n ∷ ns) (names others)
+
+  abbrev OneKind : ValueClaim R → Type 0
+  OneKind (IsA t v) = is_key t ≡ true → (w : Value R) → Val t w → kind.MayBeSame v w
+  OneKind (AreMembers ms vs) =
+      all_members (map (λ (m : List ℕ × Ty). (m.0, is_key m.1)) ms) ≡ true → (ws : List (List ℕ × Value R)) → Fits world (AreMembers ms ws)
+      → (i : ℕ) (m n : List ℕ × Value R) → slice_get vs i ≡ Some m → slice_get ws i ≡ Some n → kind.MayBeSame m.1 n.1
+
+  scalar_kind : (t : Ty) (layer : Ty-F Ty) (x : Scalar) → out-Ty t ≡ layer → is_key t ≡ true → IsScalarOf layer x → Alike layer layer × (is_plain layer ≡ true)
+  scalar_kind t Ty-F.Int x is h fits = (numbers refl refl, refl)
+  scalar_kind t Ty-F.IntN x is h fits = (numbers refl refl, refl)
+  scalar_kind t Ty-F.Bool x is h fits = (truths refl refl, refl)
+  scalar_kind t Ty-F.Str x is h fits = (texts refl refl, refl)
+  scalar_kind t Ty-F.Null x is h fits = (numbers refl refl, refl)
+  scalar_kind t (Ty-F.Row n) x is h fits = absurd (no_key t (Ty-F.Row n) is refl h)
+  scalar_kind t (Ty-F.Rec ms) x is h fits = absurd fits
+  scalar_kind t (Ty-F.Seq u) x is h fits = absurd fits
+  scalar_kind t (Ty-F.Group k u) x is h fits = absurd fits
+
+  first_member : (n : List ℕ) (t : Ty) (v : Value R) (ms : List (List ℕ × Ty)) (vs : List (List ℕ × Value R))
+      → ((w : Value R) → Val t w → kind.MayBeSame v w)
+      → ((ws : List (List ℕ × Value R)) → Fits world (AreMembers ms ws) → (i : ℕ) (m o : List ℕ × Value R) → slice_get vs i ≡ Some m → slice_get ws i ≡ Some o
+      → kind.MayBeSame m.1 o.1)
+      → (ws : List (List ℕ × Value R)) → Fits world (AreMembers ((n, t) ∷ ms) ws) → (i : ℕ) (m o : List ℕ × Value R) → slice_get ((n, v) ∷ vs) i ≡ Some m
+      → slice_get ws i ≡ Some o → kind.MayBeSame m.1 o.1
+  first_member n t v ms vs here rest _ (one_member _ _ w _ ws fits others) zero m o m_is o_is =
+      subst (λ (x : List ℕ × Value R). kind.MayBeSame x.1 o.1) (same_Some (n, v) m m_is)
+      (subst (λ (y : List ℕ × Value R). kind.MayBeSame v y.1) (same_Some (n, w) o o_is) (here w fits))
+  first_member n t v ms vs here rest _ (one_member _ _ w _ ws fits others) (suc i) m o m_is o_is = rest ws others i m o m_is o_is
+
+  one_kind : {claim : ValueClaim R} → Fits world claim → OneKind claim
+  one_kind (by_scalar t s fits) = λ h w w_fits.
+      let alike = scalar_kind t (out-Ty t) s refl h fits in
+      let y = plain_value world t w alike.1 w_fits in
+      kind.two_scalars _ w s y.0 refl y.1 (alike_scalars (out-Ty t) (out-Ty t) alike.0 s y.0 fits y.2)
+  one_kind (by_null_record t ms is) = λ h w w_fits. null_beside w (record_value world t ms w is w_fits) where
+    null_beside : {ms : List (List ℕ × Ty)} (w : Value R) → RecordOrNull world ms w → kind.MayBeSame (value.Scalar scalar.Null) w
+    null_beside w (a_record vs members same) = kind.null_before _ w vs refl same
+    null_beside w (no_record same) = kind.two_scalars _ w scalar.Null scalar.Null refl same refl
+  one_kind (by_row t n r is cells) = λ h w w_fits. absurd (no_key t (Ty-F.Row n) is refl h)
+  one_kind (by_record t ms vs is fits) = λ h w w_fits.
+      record_beside ms vs w (names fits) (one_kind fits (sym (key_out t (Ty-F.Rec ms) is) ∙ h)) (record_value world t ms w is w_fits)
+    where
+      record_beside : (ms : List (List ℕ × Ty)) (vs : List (List ℕ × Value R)) (w : Value R)
+          → map (λ (m : List ℕ × Value R). m.0) vs ≡ map (λ (m : List ℕ × Ty). m.0) ms
+          → ((ws : List (List ℕ × Value R)) → Fits world (AreMembers ms ws) → (i : ℕ) (m n : List ℕ × Value R) → slice_get vs i ≡ Some m
+          → slice_get ws i ≡ Some n → kind.MayBeSame m.1 n.1)
+          → RecordOrNull world ms w → kind.MayBeSame (value.Rec vs) w
+      record_beside ms vs w named pairs (a_record ws members same) = kind.two_records _ w vs ws refl same (named ∙ sym (names members)) (pairs ws members)
+      record_beside ms vs w named pairs (no_record same) = kind.null_behind _ w vs refl same
+  one_kind (by_group t k u key vs is fits items) = λ h w w_fits. absurd (no_key t (Ty-F.Group k u) is refl h)
+  one_kind (by_sequence t u vs e is items) = λ h w w_fits. absurd (no_key t (Ty-F.Seq u) is refl h)
+  one_kind no_member = λ h ws fits i m n m_is n_is. absurd (none-some m m_is)
+  one_kind (one_member n t v ms vs fits others) =
+      λ h. let are = both_true (is_key t) (all_members (map (λ (m : List ℕ × Ty). (m.0, is_key m.1)) ms)) h in
+      first_member n t v ms vs (one_kind fits are.0) (one_kind others are.1)
+
+  pub same_kind : (t : Ty) (v w : Value R) → is_key t ≡ true → Val t v → Val t w → kind.MayBeSame v w
+  same_kind t v w h v_fits w_fits = one_kind v_fits h w w_fits
+
   plain_key : (t : Ty) (v : Value R) → is_plain (out-Ty t) ≡ true → Val t v → IsKey v
   plain_key t v plain fits = let found = plain_value world t v plain fits in key_of_scalar v found.0 found.1
 
@@ -396,6 +470,61 @@ module _ {R : Type 0} (world : World R) where
         ((λ v fits. key_value s v key fits), (λ v fits. key_value t v (ap is_key (sym (same_type s t same)) ∙ key) fits))
     by true false key same found = widened found
     by false b key same found = widened found
+
+  -- a number beside a number
+  widened_kind : (s t : Ty) → are_widened (out-Ty s) (out-Ty t) ≡ true → (v w : Value R) → Val s v → Val t w → kind.MayBeSame v w
+  widened_kind s t h v w v_fits w_fits =
+      let plain = widened_plain (out-Ty s) (out-Ty t) h in
+      let x = plain_value world s v plain.0 v_fits in let y = plain_value world t w plain.1 w_fits in
+      kind.two_scalars v w x.0 y.0 x.1 y.1 (alike_scalars (out-Ty s) (out-Ty t) (widened_alike (out-Ty s) (out-Ty t) h) x.0 y.0 x.2 y.2)
+    where
+      widened_alike : (k l : Ty-F Ty) → are_widened k l ≡ true → Alike k l
+      widened_alike Ty-F.Int Ty-F.IntN h = numbers refl refl
+      widened_alike Ty-F.IntN Ty-F.Int h = numbers refl refl
+      widened_alike k l h = absurd (true≢false (sym h))
+
+  pub join_kind : (s t : Ty) → are_join_keys (Some s) (Some t) ≡ true → (v w : Value R) → Val s v → Val t w → kind.MayBeSame v w
+  join_kind s t h v w v_fits w_fits = by (is_key s) (same_types s t) refl refl h where
+    by : (a b : Bool) → is_key s ≡ a → same_types s t ≡ b → ((a && b) || are_widened (out-Ty s) (out-Ty t)) ≡ true → kind.MayBeSame v w
+    by true true key same found = same_kind s v w key v_fits (subst (λ (u : Ty). Val u w) (sym (same_type s t same)) w_fits)
+    by true false key same found = widened_kind s t found v w v_fits w_fits
+    by false b key same found = widened_kind s t found v w v_fits w_fits
+
+  -- a value of a type that converts to that of a key
+  widened_beside : (u t : Ty) (k l : Ty-F Ty) → out-Ty u ≡ k → out-Ty t ≡ l → widens k l ≡ true → is_key t ≡ true → (v w : Value R) → Val u v → Val t w
+      → kind.MayBeSame v w
+  widened_beside u t Ty-F.Int Ty-F.IntN u_is t_is h key v w v_fits w_fits = widened_kind u t (ap₂ are_widened u_is t_is) v w v_fits w_fits
+  widened_beside u t Ty-F.Null l u_is t_is h key v w v_fits w_fits =
+      let x = plain_value world u v (ap is_plain u_is) v_fits in
+      subst (λ (y : Value R). kind.MayBeSame y w) (sym (x.1 ∙ ap value.Scalar (null_is x.0 (subst (λ (layer : Ty-F Ty). IsScalarOf layer x.0) u_is x.2))))
+      (same_kind t (value.Scalar scalar.Null) w key (null_value t l t_is h) w_fits)
+    where
+      null_is : (s : Scalar) → IsScalarOf Ty-F.Null s → s ≡ scalar.Null
+      null_is scalar.Null fits = refl
+      null_is s fits = absurd fits
+
+      null_value : (t : Ty) (l : Ty-F Ty) → out-Ty t ≡ l → takes_null l ≡ true → Val t (value.Scalar scalar.Null)
+      null_value t Ty-F.IntN is h = scalar_is world t Ty-F.IntN scalar.Null is tt
+      null_value t Ty-F.Str is h = scalar_is world t Ty-F.Str scalar.Null is tt
+      null_value t (Ty-F.Row n) is h = scalar_is world t (Ty-F.Row n) scalar.Null is tt
+      null_value t (Ty-F.Rec ms) is h = by_null_record t ms is
+      null_value t l is h = absurd (true≢false (sym h))
+  widened_beside u t k l u_is t_is h key v w v_fits w_fits = absurd (true≢false (sym h))
+
+  converted_kind : (u t : Ty) → converts u t ≡ true → is_key t ≡ true → (v w : Value R) → Val u v → Val t w → kind.MayBeSame v w
+  converted_kind u t h key v w v_fits w_fits = by (same_types u t) refl h where
+    by : (c : Bool) → same_types u t ≡ c → (c || widens (out-Ty u) (out-Ty t)) ≡ true → kind.MayBeSame v w
+    by true same found = same_kind t v w key (subst (λ (x : Ty). Val x v) (same_type u t same) v_fits) w_fits
+    by false same found = widened_beside u t (out-Ty u) (out-Ty t) refl refl found key v w v_fits w_fits
+
+  pub beside_taken : (method : Given) (t u r : Ty) → given_type method t (Some u) ≡ Some r → (w v : Value R) → Val u w → Val t v → kind.TakesBeside method w v
+  beside_taken given.Contains t u r h w v w_fits v_fits =
+      when_by (is_key t) _ r h (λ key found. when_by (converts u t) _ r found (λ may is. converted_kind u t may key w v w_fits v_fits))
+  beside_taken method t u r h w v w_fits v_fits = tt
+
+  pub two_taken : (method : Simple) (t r : Ty) → simple_type method t ≡ Some r → (v w : Value R) → Val t v → Val t w → kind.TakesTwo method v w
+  two_taken simple.Distinct t r h v w v_fits w_fits = when_by (is_key t) _ r h (λ key is. same_kind t v w key v_fits w_fits)
+  two_taken method t r h v w v_fits w_fits = tt
 
   -- ---- what is enumerated, and what is asked whether it is null
 

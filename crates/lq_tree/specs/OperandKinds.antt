@@ -1,7 +1,7 @@
 -- What kind of values the operands of each form are, told by the values alone and not by types. Where a form is run as is said here, no arm
 -- of `FormMeaning`, or of what it is made of, is reached that stands for an operand of another kind: those that answer what is unknown, and
 -- those that don't ask for it, which are named beside the kind that excludes them.
-use Rattle.std.specs.Prelude.{◌≡◌, ◌∷◌, ◌++◌, ◌&&◌, ◌||◌, List, [], ℕ, Bool, true, false, Some, Ok, slice_get}
+use Rattle.std.specs.Prelude.{◌≡◌, ◌∷◌, ◌++◌, ◌&&◌, ◌||◌, List, [], map, ℕ, Bool, true, false, Some, Ok, slice_get}
 use Rattle.lq_value.specs.SameAndOrder.{IsKey}
 use Rattle.lq_value.specs.declared.scalar.Scalar.{Scalar}
 use Rattle.lq_value.specs.declared.scalar.Scalar.TheVariants as scalar
@@ -131,6 +131,16 @@ module _ {R : Type 0} where
     a_member : (vs : List (List ℕ × Value R)) (m : List ℕ × Value R) → v ≡ value.Rec vs → slice_get vs place ≡ Some m → HasMember place v
     no_record : v ≡ value.Scalar scalar.Null → HasMember place v
 
+  -- Two keys that may be the same: numbers, texts or truth values; or records, or null beside one, whose members are of the same names, and
+  -- such pair by pair. Of two kinds none are (`same_scalars`, `same_layers`).
+  pub data MayBeSame : Value R → Value R → Type 0 where
+    two_scalars : (v w : Value R) (x y : Scalar) → v ≡ value.Scalar x → w ≡ value.Scalar y → takes_two op.Equal x y ≡ true → MayBeSame v w
+    null_before : (v w : Value R) (ms : List (List ℕ × Value R)) → v ≡ value.Scalar scalar.Null → w ≡ value.Rec ms → MayBeSame v w
+    null_behind : (v w : Value R) (ms : List (List ℕ × Value R)) → v ≡ value.Rec ms → w ≡ value.Scalar scalar.Null → MayBeSame v w
+    two_records : (v w : Value R) (ms ns : List (List ℕ × Value R)) → v ≡ value.Rec ms → w ≡ value.Rec ns
+        → map (λ (m : List ℕ × Value R). m.0) ms ≡ map (λ (n : List ℕ × Value R). n.0) ns
+        → ((i : ℕ) (m n : List ℕ × Value R) → slice_get ms i ≡ Some m → slice_get ns i ≡ Some n → MayBeSame m.1 n.1) → MayBeSame v w
+
   -- ---- methods
 
   -- What a method takes of each item. What is no number is left out of a sum (`numbers`), and what is no key is the same as nothing
@@ -141,6 +151,16 @@ module _ {R : Type 0} where
   Takes simple.Min v = IsScalarThat is_number v
   Takes simple.Max v = IsScalarThat is_number v
   Takes method v = Unit {0}
+
+  -- and of two items
+  abbrev pub TakesTwo : Simple → Value R → Value R → Type 0
+  TakesTwo simple.Distinct v w = MayBeSame v w
+  TakesTwo method v w = Unit {0}
+
+  -- of an argument beside each item
+  abbrev pub TakesBeside : Given → Value R → Value R → Type 0
+  TakesBeside given.Contains w v = MayBeSame w v
+  TakesBeside method w v = Unit {0}
 
   abbrev pub TakesItem : Given → Value R → Type 0
   TakesItem given.Union v = IsKey v
@@ -243,10 +263,13 @@ module _ {R : Type 0} (world : World R) where
     at_pair : (a b : Form) (slots : Slots R) → MeetsKinds (Runs a slots) → MeetsKinds (Runs b slots) → MeetsKinds (Runs (form.Pair a b) slots)
     at_sequence : (a : Form) (slots : Slots R) → MeetsKinds (Runs a slots) → Finds a slots IsEnumerable → MeetsKinds (Runs (form.Sequence a) slots)
     at_simple : (method : Simple) (t : Ty) (a : Form) (slots : Slots R) → MeetsKinds (Runs a slots) → Finds a slots IsEnumerable
-        → Each (items_in a slots) (Takes method) → suits method (out-Ty t) ≡ true → MeetsKinds (Runs (form.Simple method t a) slots)
+        → Each (items_in a slots) (Takes method) → suits method (out-Ty t) ≡ true
+        → ((v w : Value R) → Among (items_in a slots) v → Among (items_in a slots) w → TakesTwo method v w) → MeetsKinds (Runs (form.Simple method t a) slots)
     at_given : (method : Given) (a b : Form) (slots : Slots R) → MeetsKinds (Runs a slots) → Finds a slots IsEnumerable
         → Each (items_in a slots) (TakesItem method) → MeetsKinds (Runs b slots) → Finds b slots (TakesArgument method)
-        → Each (items_in b slots) (TakesItem method) → MeetsKinds (Runs (form.Given method a b) slots)
+        → Each (items_in b slots) (TakesItem method)
+        → Finds b slots (λ w. (v : Value R) → Among (items_in a slots) v → TakesBeside method w v)
+        → MeetsKinds (Runs (form.Given method a b) slots)
     at_through : (method : Through) (t u : Ty) (a f : Form) (slots : Slots R) → MeetsKinds (Runs a slots) → Finds a slots IsEnumerable
         → Each (items_in a slots) (TakesSource method) → ((v : Value R) → Among (items_in a slots) v → MeetsKinds (Runs f (slots ++ v ∷ [])))
         → Each (items_in a slots) (λ v. Finds f (slots ++ v ∷ []) (TakesMade method)) → suits_through method (out-Ty t) (out-Ty u) ≡ true
@@ -263,6 +286,8 @@ module _ {R : Type 0} (world : World R) where
         → Each (items_in j.inner slots) (λ w. Finds j.inner_key (slots ++ w ∷ []) IsKey)
         → ((v w key : Value R) → Among (items_in a slots) v → form_meaning world j.outer_key (slots ++ v ∷ []) ≡ Ok key → Among (matches_in j slots key) w
         → MeetsKinds (Runs j.result (slots ++ v ∷ w ∷ [])))
+        → ((v w : Value R) → Among (items_in a slots) v → Among (items_in j.inner slots) w
+        → Finds j.outer_key (slots ++ v ∷ []) (λ k. Finds j.inner_key (slots ++ w ∷ []) (MayBeSame k)))
         → MeetsKinds (Runs (form.Join a j) slots)
     at_order : (a : Form) (ks : List (SortKey Form)) (slots : Slots R) → MeetsKinds (Runs a slots) → Finds a slots IsEnumerable
         → ((v : Value R) → Among (items_in a slots) v → MeetsKinds (RunsKeys ks (slots ++ v ∷ [])))
@@ -273,4 +298,7 @@ module _ {R : Type 0} (world : World R) where
         → MeetsKinds (RunsKeys ks slots) → MeetsKinds (RunsKeys (k ∷ ks) slots)
     at_grouping : (a key element : Form) (slots : Slots R) → MeetsKinds (Runs a slots) → Finds a slots IsEnumerable
         → ((v : Value R) → Among (items_in a slots) v → MeetsKinds (Runs key (slots ++ v ∷ []))) → Each (items_in a slots) (λ v. Finds key (slots ++ v ∷ []) IsKey)
-        → ((v : Value R) → Among (items_in a slots) v → MeetsKinds (Runs element (slots ++ v ∷ []))) → MeetsKinds (Runs (form.GroupBy a key element) slots)
+        → ((v : Value R) → Among (items_in a slots) v → MeetsKinds (Runs element (slots ++ v ∷ [])))
+        → ((v w : Value R) → Among (items_in a slots) v → Among (items_in a slots) w
+        → Finds key (slots ++ v ∷ []) (λ k. Finds key (slots ++ w ∷ []) (MayBeSame k)))
+        → MeetsKinds (Runs (form.GroupBy a key element) slots)
