@@ -417,11 +417,11 @@ module _ {R : Type 0} (world : World R) (unknown : Fault) where
   same (kind.at_simple method t a slots h kinds takes suited twos) =
       by_steps slots (of_simple other method t a) (of_simple world method t a)
       (ap (simple_meaning method t) (stream_same (mean' a slots) (mean a slots) (same h) kinds))
-  same (kind.at_given method a b slots h kinds takes k arguments others beside) =
+  same (kind.at_given method a b slots h kinds takes k arguments others beside pairs) =
       by_steps slots (of_given other method a b) (of_given world method a b)
       (ap (given_meaning other method (mean' b slots)) (stream_same (mean' a slots) (mean a slots) (same h) kinds)
       ∙ given_same method (mean' b slots) (mean b slots) (stream_of world (mean a slots)) (same k) arguments)
-  same (kind.at_through method t u a f slots h kinds takes bodies makes suited) =
+  same (kind.at_through method t u a f slots h kinds takes bodies makes suited sources pairs) =
       by_steps slots (of_through other method t u a f) (of_through world method t u a f)
       (ap (through_meaning other method t u (λ v. is_true other (mean' f) (slots ++ v ∷ [])) (λ v. mean' f (slots ++ v ∷ [])))
       (stream_same (mean' a slots) (mean a slots) (same h) kinds)

@@ -1,5 +1,5 @@
 -- Values of a type are of the kind that what works on the type asks of them.
-use Rattle.std.proofs.Common.{◌≡◌, ◌∷◌, ◌&&◌, ◌||◌, ◌⊎◌, inl, inr, if◌then◌else◌, List, [], map, ℕ, zero, suc, Bool, true, false, Some, None, Result, Ok, Err, ap, ap₂, ◌∙◌, sym, refl, subst, true≢false, bytes_eq, codes, slice_get}
+use Rattle.std.proofs.Common.{◌≡◌, ◌∷◌, ◌++◌, ◌&&◌, ◌||◌, ◌⊎◌, inl, inr, if◌then◌else◌, List, [], map, ℕ, zero, suc, Bool, true, false, Some, None, Result, Ok, Err, ap, ap₂, ◌∙◌, sym, refl, subst, true≢false, bytes_eq, codes, slice_get}
 use Rattle.std.proofs.lemmas.Option.{none-some, option_and_then_some, same_Some}
 use Rattle.lq_value.specs.SameAndOrder.{IsKey, by_record as key_of_record, by_scalar as key_of_scalar}
 use Rattle.lq_value.specs.declared.scalar.Scalar.{Scalar}
@@ -29,6 +29,7 @@ use Rattle.lq_model.specs.declared.operation.Op.{Op}
 use Rattle.lq_model.specs.declared.operation.Op.TheVariants as op
 use Rattle.lq_model.specs.declared.syntax.Binary.{Binary}
 use Rattle.lq_model.specs.declared.syntax.Binary.TheVariants as binary
+use Rattle.lq_model.proofs.AlikeStreams.{every_append}
 use Rattle.lq_model.proofs.EveryItem.{every_none}
 use Rattle.lq_model.proofs.Findings.{if_by, when_by}
 use Rattle.lq_model.proofs.SameTypes.{same_type}
@@ -621,6 +622,43 @@ module _ {R : Type 0} (world : World R) where
   second_items given.Skip t u r h m gets = λ i v there. tt
   second_items given.Take t u r h m gets = λ i v there. tt
   second_items given.ElementAt t u r h m gets = λ i v there. tt
+
+  -- the items of a second sequence are of the type of those of the first
+  second_values : (t u r : Ty) → if_same t (Some u) ≡ Some r → (m : Result (Value R) Fault) → Gets world u m → Every (Val t) (stream_of world m).0
+  second_values t u r h m gets =
+      option_and_then_some _ (element_type (out-Ty u)) r h
+      (λ s element found. when_by (same_types t s) _ r found
+      (λ same is. subst (λ (x : Ty). Every (Val x) (stream_of world m).0) (sym (same_type t s same))
+      (stream_alike world world.unknown world.unknown u s element m m (refl, gets)).1))
+
+  pairs_of : (t u r : Ty) → is_key t ≡ true → if_same t (Some u) ≡ Some r → (m : Result (Value R) Fault) → Gets world u m → (xs : List (Value R))
+      → Every (Val t) xs → (v w : Value R) → kind.Among world (xs ++ (stream_of world m).0) v → kind.Among world (xs ++ (stream_of world m).0) w
+      → kind.MayBeSame v w
+  pairs_of t u r key h m gets xs ps v w v_in w_in =
+      let all = every_append (Val t) xs (stream_of world m).0 ps (second_values t u r h m gets) in
+      same_kind t v w key (all v_in.0 v v_in.1) (all w_in.0 w w_in.1)
+
+  pub pairs_taken : (method : Given) (t u r : Ty) → given_type method t (Some u) ≡ Some r → (m : Result (Value R) Fault) → Gets world u m
+      → (xs : List (Value R)) → Every (Val t) xs → (v w : Value R) → kind.Among world (xs ++ (stream_of world m).0) v
+      → kind.Among world (xs ++ (stream_of world m).0) w → kind.TakesTwoItems method v w
+  pairs_taken given.Union t u r h m gets xs ps v w v_in w_in =
+      when_by (is_key t) _ r h (λ key found. pairs_of t u r key found m gets xs ps v w v_in w_in)
+  pairs_taken given.Intersect t u r h m gets xs ps v w v_in w_in =
+      when_by (is_key t) _ r h (λ key found. pairs_of t u r key found m gets xs ps v w v_in w_in)
+  pairs_taken given.Except t u r h m gets xs ps v w v_in w_in =
+      when_by (is_key t) _ r h (λ key found. pairs_of t u r key found m gets xs ps v w v_in w_in)
+  pairs_taken method t u r h m gets xs ps v w v_in w_in = tt
+
+  pub sources_taken : (method : Through) (t u r : Ty) → through_type method t (Some u) ≡ Some r → (v w : Value R) → Val t v → Val t w
+      → kind.TakesTwoSources method v w
+  sources_taken (through.Those method) t u r h v w v_fits w_fits =
+      when_by (is_bool (out-Ty u)) _ r h (λ truth found. two_taken method t r found v w v_fits w_fits)
+  sources_taken method t u r h v w v_fits w_fits = tt
+
+  pub two_made_taken : (method : Through) (t u r : Ty) → through_type method t (Some u) ≡ Some r → (v w : Value R) → Val u v → Val u w
+      → kind.TakesTwoMade method v w
+  two_made_taken (through.Values method) t u r h v w v_fits w_fits = two_taken method u r h v w v_fits w_fits
+  two_made_taken method t u r h v w v_fits w_fits = tt
 
   pub source_taken : (method : Through) (t u r : Ty) → through_type method t (Some u) ≡ Some r → (v : Value R) → Val t v → TakesSource method v
   source_taken (through.Those method) t u r h v fits = when_by (is_bool (out-Ty u)) _ r h (λ truth found. items_taken method t r found v fits)

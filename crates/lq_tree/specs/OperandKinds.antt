@@ -162,6 +162,22 @@ module _ {R : Type 0} where
   TakesBeside given.Contains w v = MayBeSame w v
   TakesBeside method w v = Unit {0}
 
+  -- of two items where it has a lambda, and of two that the lambda makes
+  abbrev pub TakesTwoSources : Through → Value R → Value R → Type 0
+  TakesTwoSources (through.Those method) v w = TakesTwo method v w
+  TakesTwoSources method v w = Unit {0}
+
+  abbrev pub TakesTwoMade : Through → Value R → Value R → Type 0
+  TakesTwoMade (through.Values method) v w = TakesTwo method v w
+  TakesTwoMade method v w = Unit {0}
+
+  -- of two items of either sequence
+  abbrev pub TakesTwoItems : Given → Value R → Value R → Type 0
+  TakesTwoItems given.Union v w = MayBeSame v w
+  TakesTwoItems given.Intersect v w = MayBeSame v w
+  TakesTwoItems given.Except v w = MayBeSame v w
+  TakesTwoItems method v w = Unit {0}
+
   abbrev pub TakesItem : Given → Value R → Type 0
   TakesItem given.Union v = IsKey v
   TakesItem given.Intersect v = IsKey v
@@ -269,10 +285,14 @@ module _ {R : Type 0} (world : World R) where
         → Each (items_in a slots) (TakesItem method) → MeetsKinds (Runs b slots) → Finds b slots (TakesArgument method)
         → Each (items_in b slots) (TakesItem method)
         → Finds b slots (λ w. (v : Value R) → Among (items_in a slots) v → TakesBeside method w v)
+        → ((v w : Value R) → Among (items_in a slots ++ items_in b slots) v → Among (items_in a slots ++ items_in b slots) w → TakesTwoItems method v w)
         → MeetsKinds (Runs (form.Given method a b) slots)
     at_through : (method : Through) (t u : Ty) (a f : Form) (slots : Slots R) → MeetsKinds (Runs a slots) → Finds a slots IsEnumerable
         → Each (items_in a slots) (TakesSource method) → ((v : Value R) → Among (items_in a slots) v → MeetsKinds (Runs f (slots ++ v ∷ [])))
         → Each (items_in a slots) (λ v. Finds f (slots ++ v ∷ []) (TakesMade method)) → suits_through method (out-Ty t) (out-Ty u) ≡ true
+        → ((v w : Value R) → Among (items_in a slots) v → Among (items_in a slots) w → TakesTwoSources method v w)
+        → ((v w : Value R) → Among (items_in a slots) v → Among (items_in a slots) w
+        → Finds f (slots ++ v ∷ []) (λ x. Finds f (slots ++ w ∷ []) (TakesTwoMade method x)))
         → MeetsKinds (Runs (form.Through method t u a f) slots)
     at_expansion : (a inner result : Form) (slots : Slots R) → MeetsKinds (Runs a slots) → Finds a slots IsEnumerable
         → ((v : Value R) → Among (items_in a slots) v → MeetsKinds (Runs inner (slots ++ v ∷ []))) → Each (items_in a slots) (λ v. Finds inner (slots ++ v ∷ []) IsEnumerable)
