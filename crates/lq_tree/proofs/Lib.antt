@@ -23,6 +23,7 @@ pub mod RowMeanings
 pub mod Scopes
 pub mod SessionPlaceLemmas
 pub mod SessionValues
+pub mod StatementTrees
 pub mod TermMeans
 pub mod TermTypes
 pub mod TermUses

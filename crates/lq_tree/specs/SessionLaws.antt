@@ -1,19 +1,28 @@
 -- Laws of the places of a session's names: they are those of what is known of the names, their forms give the names' values and use what the names use.
-use Rattle.std.specs.Prelude.{◌≡◌, List, [], Some, option_map}
+use Rattle.std.specs.Prelude.{◌≡◌, ◌∷◌, List, [], ℕ, Some, Ok, option_map}
 use Rattle.lq_value.specs.declared.table.Schema.{Schema}
+use Rattle.lq_value.specs.declared.ty.Ty.TheVariants as ty
+use Rattle.lq_value.specs.declared.value.Value.TheVariants as value
 use Rattle.lq_model.specs.ClauseTyping.{expression_type}
 use Rattle.lq_model.specs.DefinitionLaws.{AreDefined}
 use Rattle.lq_model.specs.Definitions.{defining, known_names, outer_names, with_session}
-use Rattle.lq_model.specs.Meaning.{SessionValue, World}
-use Rattle.lq_model.specs.MeaningLaws.{HoldsRows}
+use Rattle.lq_model.specs.Meaning.{SessionValue, World, bound, sequence}
+use Rattle.lq_model.specs.MeaningLaws.{HasCells, HoldsRows}
+use Rattle.lq_model.specs.Operators.{call_items, call_meaning}
+use Rattle.lq_model.specs.Terms.{term_meaning, term_type}
+use Rattle.lq_model.specs.Typing.{with_local}
 use Rattle.lq_model.specs.Uses.{expression_uses}
+use Rattle.lq_model.specs.UsesOfCalls.{call_uses, term_uses}
 use Rattle.lq_model.specs.WholeMeaning.{expression_meaning}
+use Rattle.lq_model.specs.declared.calls.Call.{Call}
+use Rattle.lq_model.specs.declared.calls.Term.{Term}
 use Rattle.lq_model.specs.declared.session.Definition.{Definition}
 use Rattle.lq_model.specs.declared.syntax.Expr.{Expr}
 use Rattle.lq_translate.specs.Translated.{translated}
-use Rattle.lq_tree.specs.Binding.{term_tree}
+use Rattle.lq_tree.specs.Binding.{call_tree, term_tree}
 use Rattle.lq_tree.specs.BindingLaws.{GivesAll}
 use Rattle.lq_tree.specs.FormMeaning.{Slots, form_meaning}
+use Rattle.lq_tree.specs.Places.{Places, with_name}
 use Rattle.lq_tree.specs.SessionPlaces.{known_of, session_places, statement_places}
 use Rattle.lq_tree.specs.UsesOfForms.{UseWhatIsKnown, form_uses}
 use Rattle.lq_tree.specs.declared.tree.Form.{Form}
@@ -61,3 +70,64 @@ UsesOfStatements =
     (schemas : List Schema) (definitions : List Definition) → AreDefined schemas definitions → (e : Expr) (tree : Tree)
     → term_tree schemas (translated e) (statement_places schemas definitions) ≡ Some tree
     → form_uses tree.form ≡ expression_uses e (outer_names schemas (known_names schemas definitions))
+
+-- ---- conditions on the rows of a table
+
+-- the places of a condition: those of a statement, and the local name of a row of this table,
+-- which stands in the first slot
+abbrev pub condition_places : List Schema → List Definition → List ℕ → ℕ → Places
+condition_places schemas definitions x n = with_name (statement_places schemas definitions) x (ty.Row n)
+
+-- there a condition has a tree exactly where it has a type under the row's name, and the tree's type
+-- is that
+abbrev pub TypesOfConditions : Type 0
+TypesOfConditions =
+    (schemas : List Schema) (definitions : List Definition) (x : List ℕ) (n : ℕ) (e : Expr)
+    → option_map (λ tree. tree.ty) (term_tree schemas (translated e) (condition_places schemas definitions x n))
+    ≡ expression_type e (with_local (outer_names schemas (known_names schemas definitions)) x (ty.Row n))
+
+-- over a row in the first slot, which has the table's cells, the tree means what the condition means
+-- of the row
+abbrev pub MeaningsOfConditions : Type 0 → Type 0
+MeaningsOfConditions R =
+    (world : World R) (definitions : List Definition) → HoldsRows world → world.session ≡ []
+    → AreDefined world.schemas definitions → (x : List ℕ) (n : ℕ) (e : Expr) (tree : Tree)
+    → term_tree world.schemas (translated e) (condition_places world.schemas definitions x n) ≡ Some tree
+    → (row : R) → HasCells world n row
+    → form_meaning world tree.form (value.Row row ∷ [])
+    ≡ expression_meaning (defining world definitions) e (bound x (ty.Row n) [] (value.Row row))
+
+-- and it uses what the condition uses under the row's name
+abbrev pub UsesOfConditions : Type 0
+UsesOfConditions =
+    (schemas : List Schema) (definitions : List Definition) → AreDefined schemas definitions
+    → (x : List ℕ) (n : ℕ) (e : Expr) (tree : Tree)
+    → term_tree schemas (translated e) (condition_places schemas definitions x n) ≡ Some tree
+    → form_uses tree.form ≡ expression_uses e (with_local (outer_names schemas (known_names schemas definitions)) x (ty.Row n))
+
+-- ---- the calls of queries
+
+-- at the places of a statement the calls of a query have a tree exactly where their items have a type;
+-- it is of a sequence of these
+abbrev pub TypesOfStatementCalls : Type 0
+TypesOfStatementCalls =
+    (schemas : List Schema) (definitions : List Definition) (c : Call Term)
+    → option_map (λ tree. tree.ty) (call_tree schemas (term_tree schemas) c (statement_places schemas definitions))
+    ≡ option_map ty.Seq (call_items term_type c (outer_names schemas (known_names schemas definitions)))
+
+-- the tree means, over the tables alone, the sequence of the calls' stream where the names stand for
+-- what was defined
+abbrev pub MeaningsOfStatementCalls : Type 0 → Type 0
+MeaningsOfStatementCalls R =
+    (world : World R) (definitions : List Definition) → HoldsRows world → world.session ≡ []
+    → AreDefined world.schemas definitions → (c : Call Term) (tree : Tree)
+    → call_tree world.schemas (term_tree world.schemas) c (statement_places world.schemas definitions) ≡ Some tree
+    → let after = defining world definitions in
+    form_meaning world tree.form [] ≡ Ok (sequence (call_meaning after term_type (term_meaning after) c []))
+
+-- and it uses what the calls use there
+abbrev pub UsesOfStatementCalls : Type 0
+UsesOfStatementCalls =
+    (schemas : List Schema) (definitions : List Definition) → AreDefined schemas definitions → (c : Call Term) (tree : Tree)
+    → call_tree schemas (term_tree schemas) c (statement_places schemas definitions) ≡ Some tree
+    → form_uses tree.form ≡ call_uses term_type term_uses c (outer_names schemas (known_names schemas definitions))
