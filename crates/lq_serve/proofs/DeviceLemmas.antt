@@ -1,13 +1,18 @@
 -- Lemmas on bytes that are written or read in several turns.
-use Rattle.std.proofs.Common.{◌≡◌, ◌<◌, ◌≤◌, ◌+◌, ◌↔◌, ℕ, Bool, true, false, List, [], ◌∷◌, ◌++◌, Option, None, Some, Result, Ok, Err, IfSome, IsErr, OnOk, OnErr, length, take, drop, refl, sym, ◌∙◌, ap, subst, append_assoc, append-nil, take-append-drop, length-append, arith}
+use Rattle.std.proofs.Common.{◌≡◌, ◌<◌, ◌≤◌, ◌+◌, ◌↔◌, ℕ, Bool, true, false, List, [], ◌∷◌, ◌++◌, if◌then◌else◌, Option, None, Some, Result, Ok, Err, IfSome, IsErr, OnOk, OnErr, length, take, drop, refl, sym, ◌∙◌, ap, subst, append_assoc, append-nil, take-append-drop, length-append, arith}
 use Rattle.std.specs.Io.KnownBytes.{Appends, Consumes, Keeps}
 use Rattle.std.proofs.KnownBytes.{Appends-nil, Appends-trans, Appends-kept, Consumes-trans}
-use Rattle.lq_serve.specs.Devices.{AppendsFront, TakesAtMost, Writes}
+use Rattle.lq_serve.specs.Devices.{AppendsFront, TakesAtMost, Writes, is_ended, late_count, late_count_next, one_more}
+use Rattle.lq_serve.specs.declared.device.Device.{Device}
 
 -- an exit by `?` whose error no clause looks at
 pub on_err : {T E P : Type 0} (r : Result T E) → P → OnErr r P
 on_err (Ok x) p = tt
 on_err (Err e) p = p
+
+-- the next read of a device that hasn't ended doesn't come late
+pub not_late : {T : Type 0} (device : Device T) → is_ended device ≡ false → late_count_next device ≡ late_count device
+not_late device going_on = ap (λ (b : Bool). if b then one_more device.late else device.late) going_on
 
 -- the bytes before rest were appended
 pub record Ahead (before now : Option (List ℕ)) (bytes rest : List ℕ) : Type 0 where

@@ -1,5 +1,5 @@
 -- What a device shows of itself, and what a write that fails midway leaves.
-use Rattle.std.specs.Prelude.{◌≡◌, ◌≤◌, ◌+◌, ◌-◌, ◌^◌, ◌++◌, ℕ, Bool, true, false, List, Option, length, min}
+use Rattle.std.specs.Prelude.{◌≡◌, ◌≤◌, ◌+◌, ◌-◌, ◌^◌, ◌++◌, if◌then◌else◌, ℕ, Bool, true, false, List, Option, length, min}
 use Rattle.std.specs.Io.KnownBytes.{Appends, Consumes}
 use Rattle.lq_serve.specs.declared.device.Device.{Device}
 
@@ -15,13 +15,21 @@ read_count device = device.reads
 abbrev pub is_failed : {T : Type 0} → Device T → Bool
 is_failed device = device.failed
 
--- whether a read of it has answered an error or the end
+-- whether its last read answered an error or the end
 abbrev pub is_ended : {T : Type 0} → Device T → Bool
 is_ended device = device.ended
 
 -- a count that stays at 2^64 - 1
 abbrev pub one_more : ℕ → ℕ
 one_more n = min (n + 1) (2 ^ 64 - 1)
+
+-- how many reads it has made after one that answered an error or the end
+abbrev pub late_count : {T : Type 0} → Device T → ℕ
+late_count device = device.late
+
+-- how many there will be behind its next read
+abbrev pub late_count_next : {T : Type 0} → Device T → ℕ
+late_count_next device = if device.ended then one_more device.late else device.late
 
 -- A front of the bytes was appended to the known ones.
 pub record AppendsFront (before after : Option (List ℕ)) (bytes : List ℕ) : Type 0 where

@@ -15,23 +15,26 @@ use std::io::{Read, Write};
 pub struct Device<T> {
     inner: T,
     reads: u64,
+    late: u64,
     failed: bool,
     ended: bool,
 }
 
 impl<T> Device<T> {
-    ghost use Rattle.lq_serve.specs.Devices.{inner_of, read_count, is_failed, is_ended};
+    ghost use Rattle.lq_serve.specs.Devices.{inner_of, read_count, late_count, is_failed, is_ended};
 
     /// A device that has made no read, is unmarked, and has not come to its end.
     pub fn new(inner: T) -> Device<T>
         ensures inner { inner_of result ≡ inner }
         ensures unread { read_count result ≡ 0 }
+        ensures in_time { late_count result ≡ 0 }
         ensures unmarked { is_failed result ≡ false }
         ensures open { is_ended result ≡ false }
     {
         Device {
             inner,
             reads: 0,
+            late: 0,
             failed: false,
             ended: false,
         }
@@ -59,14 +62,15 @@ impl<T> Device<T> {
 }
 
 impl<R: Read> Device<R> {
-    ghost use Rattle.lq_serve.specs.Devices.{inner_of, read_count, is_failed, is_ended, one_more};
+    ghost use Rattle.lq_serve.specs.Devices.{inner_of, read_count, late_count, late_count_next, is_failed, is_ended, one_more};
 
-    /// Makes one read, and returns how many bytes it gave. An error or the answer 0 ends the device.
+    /// Makes one read, and returns how many bytes it gave. An error or the answer 0 ends the device until a
+    /// read gives bytes again: std's readers may be read on, and reads that come so late are counted.
     pub fn read(&mut self, buffer: &mut [u8]) -> Result<usize, ReadFailed>
-        requires { is_ended self.old ≡ false }
         ensures bound { ReadsAtMost result buffer.new }
         ensures bytes { ReadConsumes (R.remaining (inner_of self.old)) (R.remaining (inner_of self.new)) result buffer.new }
         ensures counted { read_count self.new ≡ one_more (read_count self.old) }
+        ensures late { late_count self.new ≡ late_count_next self.old }
         ensures marked { is_failed self.old ≡ false → (IsErr result ↔ (is_failed self.new ≡ true)) }
         ensures stays { is_failed self.old ≡ true → is_failed self.new ≡ true }
         ensures open { IfOk result (λ n. 0 < n → is_ended self.new ≡ false) }
@@ -74,6 +78,9 @@ impl<R: Read> Device<R> {
         ensures broken { OnErr result (is_ended self.new ≡ true) }
     {
         self.reads = self.reads.saturating_add(1);
+        if self.ended {
+            self.late = self.late.saturating_add(1);
+        }
         match self.inner.read(buffer) {
             Ok(count) => {
                 self.ended = count == 0;
@@ -89,7 +96,7 @@ impl<R: Read> Device<R> {
 }
 
 impl<W: Write> Device<W> {
-    ghost use Rattle.lq_serve.specs.Devices.{inner_of, read_count, is_failed, is_ended, AppendsFront};
+    ghost use Rattle.lq_serve.specs.Devices.{inner_of, read_count, late_count, is_failed, is_ended, AppendsFront};
 
     /// Writes all the bytes, by as many writes as it takes. It ends at the first write that fails: a
     /// front of the bytes is then written.
@@ -99,6 +106,7 @@ impl<W: Write> Device<W> {
         ensures marked { is_failed self.old ≡ false → (IsErr result ↔ (is_failed self.new ≡ true)) }
         ensures stays { is_failed self.old ≡ true → is_failed self.new ≡ true }
         ensures reads { read_count self.new ≡ read_count self.old }
+        ensures late { late_count self.new ≡ late_count self.old }
         ensures ended { is_ended self.new ≡ is_ended self.old }
     {
         let result = write_all(&mut self.inner, bytes);
@@ -114,6 +122,7 @@ impl<W: Write> Device<W> {
         ensures marked { is_failed self.old ≡ false → (IsErr result ↔ (is_failed self.new ≡ true)) }
         ensures stays { is_failed self.old ≡ true → is_failed self.new ≡ true }
         ensures reads { read_count self.new ≡ read_count self.old }
+        ensures late { late_count self.new ≡ late_count self.old }
         ensures ended { is_ended self.new ≡ is_ended self.old }
     {
         match self.inner.flush() {

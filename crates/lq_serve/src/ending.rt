@@ -1,7 +1,7 @@
 //! Ending: the status for the caller of the program, and the line that tells of a fault.
 ghost use Rattle.std.specs.Prelude.{◌≡◌, false};
 ghost use Rattle.lq_session.specs.States.{state_of};
-ghost use Rattle.lq_serve.specs.Devices.{inner_of, is_failed, is_ended, Writes};
+ghost use Rattle.lq_serve.specs.Devices.{inner_of, is_failed, Writes};
 ghost use Rattle.lq_serve.specs.Ending.{as_line, status_of, told_of, Finished};
 
 use crate::device::Device;
@@ -34,7 +34,6 @@ pub fn finish<R: Read, W: Write, E: Write>(
     session: &mut Session,
 ) -> u8
     requires reader { is_failed reader.old ≡ false }
-    requires open { is_ended reader.old ≡ false }
     requires writer { is_failed writer.old ≡ false }
     requires errors { is_failed errors.old ≡ false }
     ensures { Finished (R.remaining (inner_of reader.old)) (state_of session.old) (state_of session.new)

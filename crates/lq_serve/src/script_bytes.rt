@@ -1,7 +1,7 @@
 //! A script's bytes: reading them whole, and their sizes.
 ghost use Rattle.std.specs.Prelude.{◌≡◌, ◌≢◌, ◌+◌, ◌<◌, ◌≤◌, ◌↔◌, false, true, length, vec_len, IfOk, IfErr, IfSome};
 ghost use Rattle.lq_model.specs.Script.{fits, script_limit};
-ghost use Rattle.lq_serve.specs.Devices.{inner_of, read_count, is_failed, is_ended, TakesAtMost};
+ghost use Rattle.lq_serve.specs.Devices.{inner_of, read_count, late_count, late_count_next, is_failed, TakesAtMost};
 
 use crate::device::Device;
 use crate::serve_error::ServeError;
@@ -14,7 +14,8 @@ pub(crate) const SCRIPT_LIMIT: usize = 1_048_576;
 // The most bytes that a line may have, its line feed not counted.
 pub(crate) const LINE_LIMIT: usize = 65_536;
 
-// Reads to the end, by at most `limit + 1` reads: at most `limit` bytes, and one more to see that there are more.
+// Reads to the end, by at most `limit + 1` reads, none after an error or the end: at most `limit` bytes, and one more to see
+// that there are more. The first read is made whether or not the reader had come to its end before.
 //
 // It refuses as `Read` where the reader fails, as `TooLong` as soon as it has `limit + 1` bytes, and
 // as `Memory` where the bytes find no room.
@@ -25,12 +26,12 @@ pub(crate) fn read_script<R: Read>(
 ) -> Result<Vec<u8>, ServeError>
     requires limit { limit ≤ script_limit }
     requires unmarked { is_failed reader.old ≡ false }
-    requires open { is_ended reader.old ≡ false }
     ensures in_size { IfOk result (λ bytes. vec_len bytes ≤ limit) }
     ensures whole { IfOk result (λ bytes. IfSome (R.remaining (inner_of reader.old)) (λ all. bytes.items ≡ all)) }
     ensures too_long { result ≡ Err ServeError.TooLong → IfSome (R.remaining (inner_of reader.old)) (λ all. limit < length all) }
     ensures marked { (result ≡ Err ServeError.Read) ↔ (is_failed reader.new ≡ true) }
     ensures few { read_count reader.new ≤ read_count reader.old + (limit + 1) }
+    ensures in_time { late_count reader.new ≤ late_count_next reader.old }
     ensures taken { TakesAtMost (limit + 1) (R.remaining (inner_of reader.old)) (R.remaining (inner_of reader.new)) }
     ensures refusals { IfErr result (λ e. (e ≢ ServeError.Write) × (e ≢ ServeError.Utf8)) }
 {

@@ -2,7 +2,7 @@
 ghost use Rattle.std.specs.Prelude.{◌≡◌, ◌≢◌, ◌+◌, ◌≤◌, ◌↔◌, List, ℕ, false, true, length, IfOk, IfErr, OnOk, OnErr, IfSome};
 ghost use Rattle.lq_model.specs.Script.{lines_of, script_limit};
 ghost use Rattle.lq_session.specs.States.{state_of};
-ghost use Rattle.lq_serve.specs.Devices.{inner_of, read_count, is_failed, is_ended, TakesAtMost};
+ghost use Rattle.lq_serve.specs.Devices.{inner_of, read_count, late_count, late_count_next, is_failed, TakesAtMost};
 ghost use Rattle.lq_serve.specs.ScriptRun.{IsNoText, IsTooLong, Served, ServedInPart, ServedWhole, Stopped, Told, ToldInPart};
 
 use crate::device::Device;
@@ -28,9 +28,10 @@ pub struct Summary {
 ///
 /// A script has at most 1,048,576 bytes, and its lines at most 65,536 bytes each. Sizes are those of
 /// the script as it stands, byte order marks among them, and are looked at before UTF-8. At most
-/// 1,048,577 bytes are read, and by at most as many reads, whatever the reader has. After each
-/// error but `Write` nothing was stepped and nothing written. `Memory` is for the script's bytes alone:
-/// a step that finds no memory answers so by its reply.
+/// 1,048,577 bytes are read, and by at most as many reads, whatever the reader has; the reader may
+/// have come to its end before, and is then read on. No read is made after one that answered an error
+/// or the end. After each error but `Write` nothing was stepped and nothing written. `Memory` is for
+/// the script's bytes alone: a step that finds no memory answers so by its reply.
 pub fn serve<R: Read, W: Write>(
     alloc: Global,
     reader: &mut Device<R>,
@@ -38,7 +39,6 @@ pub fn serve<R: Read, W: Write>(
     session: &mut Session,
 ) -> Result<Summary, ServeError>
     requires reader { is_failed reader.old ≡ false }
-    requires open { is_ended reader.old ≡ false }
     requires writer { is_failed writer.old ≡ false }
 
     // What is written is the output of the machine over the script's lines.
@@ -58,9 +58,11 @@ pub fn serve<R: Read, W: Write>(
     ensures read_marked { (result ≡ Err ServeError.Read) ↔ (is_failed reader.new ≡ true) }
     ensures write_marked { (result ≡ Err ServeError.Write) ↔ (is_failed writer.new ≡ true) }
 
-    // One byte more than a script has is read at most, and as many reads are made.
+    // One byte more than a script has is read at most, and as many reads are made, none after an error or
+    // the end: only the first may come late, where the reader had ended before.
     ensures taken { TakesAtMost (script_limit + 1) (R.remaining (inner_of reader.old)) (R.remaining (inner_of reader.new)) }
     ensures reads { read_count reader.new ≤ read_count reader.old + (script_limit + 1) }
+    ensures in_time { late_count reader.new ≤ late_count_next reader.old }
 {
     let bytes = read_script(alloc, reader, SCRIPT_LIMIT)?;
     if !fits(&bytes, LINE_LIMIT) {

@@ -1,6 +1,7 @@
-use Rattle.std.proofs.Common.{arith}
+use Rattle.std.proofs.Common.{◌≤◌, arith, subst}
 use Rattle.std.proofs.lemmas.List.{length-take}
-use Rattle.lq_serve.proofs.DeviceLemmas.{TakesAtMost-more}
+use Rattle.lq_serve.specs.Devices.{late_count_next}
+use Rattle.lq_serve.proofs.DeviceLemmas.{TakesAtMost-more, not_late}
 use Rattle.lq_serve.proofs.script_bytes.read_script.Goals as goal
 
 pub returns-in_err-extend_from_slice-clause-taken : goal.returns-in_err-extend_from_slice-clause-taken
@@ -16,3 +17,8 @@ returns-in_err-extend_from_slice-clause-taken g c =
       c.len-in-loop-chunk.ensures,
       c.loop-chunk.invariant.room,
     ))
+
+pub returns-clause-in_time : goal.returns-clause-in_time
+returns-clause-in_time g c =
+    let some = c.loop-chunk.invariant.going_on (omega (arith, c.loop-chunk-test.false, c.len.ensures)) in
+    subst (λ n. n ≤ late_count_next c.args.reader.now) (not_late c.loop-chunk.reader some) c.loop-chunk.invariant.in_time
