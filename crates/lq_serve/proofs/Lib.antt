@@ -1,4 +1,5 @@
 mod DeviceLemmas
+mod EndingLemmas
 mod LoadingLemmas
 mod NamingLemmas
 mod ScriptRunLemmas

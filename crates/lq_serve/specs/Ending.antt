@@ -1,8 +1,10 @@
 -- How the program ends for whoever started it: by a status and a line.
-use Rattle.std.specs.Prelude.{◌≡◌, ◌∷◌, ◌++◌, ℕ, Bool, true, false, List, [], Option, codes}
+use Rattle.std.specs.Prelude.{◌≡◌, ◌∷◌, ◌++◌, ℕ, Bool, true, false, List, [], Option, Result, Ok, Err, codes}
 use Rattle.lq_model.specs.States.{State}
 use Rattle.lq_serve.specs.Devices.{Writes}
 use Rattle.lq_serve.specs.ScriptRun.{IsNoText, IsTooLong, ServedInPart, ServedWhole}
+use Rattle.lq_serve.specs.declared.serve_error.ServeError.{ServeError}
+use Rattle.lq_serve.specs.declared.serve_error.ServeError.TheVariants as serve
 use Rattle.lq_serve.specs.declared.start_error.StartError.{StartError}
 use Rattle.lq_serve.specs.declared.start_error.StartError.TheVariants as start
 use Rattle.lq_serve.specs.declared.script_run.Summary.{Summary}
@@ -20,33 +22,58 @@ abbrev pub status_of : StartError → ℕ
 status_of start.Memory = 5
 status_of (start.Refused line) = 3
 
--- How serving ended: what became of the session, the writer and the devices' marks, the program's status, and
--- the line that tells of the fault. The bytes that the reader had may be known.
-pub data Ends (known : Option (List ℕ)) (old new : State) (before after : Option (List ℕ)) (reader_failed writer_failed : Bool)
-    (status : ℕ) (told : List ℕ) : Type 0 where
-  -- the whole script was served, and there is nothing to tell
-  served : status ≡ 0 → told ≡ [] → reader_failed ≡ false → writer_failed ≡ false
-      → (summary : Summary) → ServedWhole known old new before after summary
-      → Ends known old new before after reader_failed writer_failed status told
-  -- the writer failed over some line
-  unwritten : status ≡ 4 → told ≡ as_line (codes "lq: script: write") → writer_failed ≡ true → ServedInPart known old new before after
-      → Ends known old new before after reader_failed writer_failed status told
-  -- the reader failed
-  unread : status ≡ 4 → told ≡ as_line (codes "lq: script: read") → reader_failed ≡ true → new ≡ old → after ≡ before
-      → Ends known old new before after reader_failed writer_failed status told
-  -- the script or a line of it is too long
-  too_long : status ≡ 4 → told ≡ as_line (codes "lq: script: too-long") → IsTooLong known
-      → new ≡ old → after ≡ before → Ends known old new before after reader_failed writer_failed status told
-  -- the script is in size, and not text
-  not_utf8 : status ≡ 4 → told ≡ as_line (codes "lq: script: utf8") → IsNoText known
-      → new ≡ old → after ≡ before → Ends known old new before after reader_failed writer_failed status told
-  -- the script's bytes found no memory
-  no_memory : status ≡ 5 → told ≡ as_line (codes "lq: memory") → new ≡ old → after ≡ before
-      → Ends known old new before after reader_failed writer_failed status told
+-- ---- what serving came to
 
--- Serving ended so, and the line was written to the errors, whole unless their device failed.
-pub record Finished (known : Option (List ℕ)) (old new : State) (before after : Option (List ℕ)) (reader_failed writer_failed : Bool)
+-- a script that was served to its end, or why it wasn't
+abbrev pub Outcome : Type 0
+Outcome = Result Summary ServeError
+
+-- the line that tells of it: none where the whole script was served
+abbrev pub told_of_outcome : Outcome → List ℕ
+told_of_outcome (Ok summary) = []
+told_of_outcome (Err serve.Read) = as_line (codes "lq: script: read")
+told_of_outcome (Err serve.Write) = as_line (codes "lq: script: write")
+told_of_outcome (Err serve.TooLong) = as_line (codes "lq: script: too-long")
+told_of_outcome (Err serve.Utf8) = as_line (codes "lq: script: utf8")
+told_of_outcome (Err serve.Memory) = as_line (codes "lq: memory")
+
+-- and the program's status
+abbrev pub status_of_outcome : Outcome → ℕ
+status_of_outcome (Ok summary) = 0
+status_of_outcome (Err serve.Memory) = 5
+status_of_outcome (Err error) = 4
+
+-- the one outcome behind which the reader is marked, and the one behind which the writer is
+abbrev pub is_read_fault : Outcome → Bool
+is_read_fault (Err serve.Read) = true
+is_read_fault outcome = false
+
+abbrev pub is_write_fault : Outcome → Bool
+is_write_fault (Err serve.Write) = true
+is_write_fault outcome = false
+
+-- nothing was stepped, and nothing written
+abbrev pub IsUntouched : State → State → Option (List ℕ) → Option (List ℕ) → Type 0
+IsUntouched old new before after = (new ≡ old) × (after ≡ before)
+
+-- What an outcome says of the script, the session and the writer. The bytes that the reader had may be
+-- known; where there was no memory for them, the reader had not come to its end.
+abbrev pub Comes : Option (List ℕ) → State → State → Option (List ℕ) → Option (List ℕ) → Bool → Outcome → Type 0
+Comes known old new before after ended (Ok summary) = ServedWhole known old new before after summary
+Comes known old new before after ended (Err serve.Read) = IsUntouched old new before after
+Comes known old new before after ended (Err serve.Write) = ServedInPart known old new before after
+Comes known old new before after ended (Err serve.TooLong) = IsTooLong known × IsUntouched old new before after
+Comes known old new before after ended (Err serve.Utf8) = IsNoText known × IsUntouched old new before after
+Comes known old new before after ended (Err serve.Memory) = (ended ≡ false) × IsUntouched old new before after
+
+-- Serving came to one outcome, which alone decides the devices' marks, the program's status, and the line that was
+-- written to the errors, whole unless their device failed.
+pub record Finished (known : Option (List ℕ)) (old new : State) (before after : Option (List ℕ))
+    (reader_failed reader_ended writer_failed : Bool)
     (errors_before errors_after : Option (List ℕ)) (errors_failed : Bool) (status : ℕ) : Type 0 where
-  pub told : List ℕ
-  pub ends : Ends known old new before after reader_failed writer_failed status told
-  pub tells : Writes errors_failed errors_before errors_after told
+  pub outcome : Outcome
+  pub comes : Comes known old new before after reader_ended outcome
+  pub read : reader_failed ≡ is_read_fault outcome
+  pub wrote : writer_failed ≡ is_write_fault outcome
+  pub answers : status ≡ status_of_outcome outcome
+  pub tells : Writes errors_failed errors_before errors_after (told_of_outcome outcome)

@@ -1,7 +1,7 @@
 //! Ending: the status for the caller of the program, and the line that tells of a fault.
 ghost use Rattle.std.specs.Prelude.{◌≡◌, false};
 ghost use Rattle.lq_session.specs.States.{state_of};
-ghost use Rattle.lq_serve.specs.Devices.{inner_of, is_failed, Writes};
+ghost use Rattle.lq_serve.specs.Devices.{inner_of, is_ended, is_failed, Writes};
 ghost use Rattle.lq_serve.specs.Ending.{as_line, status_of, told_of, Finished};
 
 use crate::device::Device;
@@ -23,6 +23,7 @@ const NO_MEMORY: u8 = 5;
 
 /// Serves a script from a reader to a writer, tells of a fault by one line to `errors`, and returns
 /// the program's status: 0, 4 for a fault of the script or of a device, and 5 for want of memory.
+/// Status and line are those of what `serve` answered, and so are the marks of reader and writer.
 ///
 /// Behind the replies nothing is written. The line is written whole, unless `errors` fails: it is
 /// then marked, and holds a front of the line.
@@ -37,7 +38,8 @@ pub fn finish<R: Read, W: Write, E: Write>(
     requires writer { is_failed writer.old ≡ false }
     requires errors { is_failed errors.old ≡ false }
     ensures { Finished (R.remaining (inner_of reader.old)) (state_of session.old) (state_of session.new)
-        (W.contents (inner_of writer.old)) (W.contents (inner_of writer.new)) (is_failed reader.new) (is_failed writer.new)
+        (W.contents (inner_of writer.old)) (W.contents (inner_of writer.new))
+        (is_failed reader.new) (is_ended reader.new) (is_failed writer.new)
         (E.contents (inner_of errors.old)) (E.contents (inner_of errors.new)) (is_failed errors.new) result }
 {
     match serve(alloc, reader, writer, session) {

@@ -1,7 +1,7 @@
 //! A script's bytes: reading them whole, and their sizes.
 ghost use Rattle.std.specs.Prelude.{◌≡◌, ◌≢◌, ◌+◌, ◌<◌, ◌≤◌, ◌↔◌, false, true, length, vec_len, IfOk, IfErr, IfSome};
 ghost use Rattle.lq_model.specs.Script.{fits, script_limit};
-ghost use Rattle.lq_serve.specs.Devices.{inner_of, read_count, late_count, late_count_next, is_failed, TakesAtMost};
+ghost use Rattle.lq_serve.specs.Devices.{inner_of, read_count, late_count, late_count_next, is_ended, is_failed, TakesAtMost};
 
 use crate::device::Device;
 use crate::serve_error::ServeError;
@@ -29,6 +29,7 @@ pub(crate) fn read_script<R: Read>(
     ensures in_size { IfOk result (λ bytes. vec_len bytes ≤ limit) }
     ensures whole { IfOk result (λ bytes. IfSome (R.remaining (inner_of reader.old)) (λ all. bytes.items ≡ all)) }
     ensures too_long { result ≡ Err ServeError.TooLong → IfSome (R.remaining (inner_of reader.old)) (λ all. limit < length all) }
+    ensures memory { result ≡ Err ServeError.Memory → is_ended reader.new ≡ false }
     ensures marked { (result ≡ Err ServeError.Read) ↔ (is_failed reader.new ≡ true) }
     ensures few { read_count reader.new ≤ read_count reader.old + (limit + 1) }
     ensures in_time { late_count reader.new ≤ late_count_next reader.old }

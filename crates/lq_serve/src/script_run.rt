@@ -2,7 +2,7 @@
 ghost use Rattle.std.specs.Prelude.{◌≡◌, ◌≢◌, ◌+◌, ◌≤◌, ◌↔◌, List, ℕ, false, true, length, IfOk, IfErr, OnOk, OnErr, IfSome};
 ghost use Rattle.lq_model.specs.Script.{lines_of, script_limit};
 ghost use Rattle.lq_session.specs.States.{state_of};
-ghost use Rattle.lq_serve.specs.Devices.{inner_of, read_count, late_count, late_count_next, is_failed, TakesAtMost};
+ghost use Rattle.lq_serve.specs.Devices.{inner_of, read_count, late_count, late_count_next, is_ended, is_failed, TakesAtMost};
 ghost use Rattle.lq_serve.specs.ScriptRun.{IsNoText, IsTooLong, Served, ServedInPart, ServedWhole, Stopped, Told, ToldInPart};
 
 use crate::device::Device;
@@ -53,6 +53,9 @@ pub fn serve<R: Read, W: Write>(
     ensures untouched { IfErr result (λ e. e ≢ ServeError.Write → (session.new ≡ session.old) × (writer.new ≡ writer.old)) }
     ensures too_long { result ≡ Err ServeError.TooLong → IsTooLong (R.remaining (inner_of reader.old)) }
     ensures utf8 { result ≡ Err ServeError.Utf8 → IsNoText (R.remaining (inner_of reader.old)) }
+
+    // Memory is wanting for bytes that a read gave, before the end.
+    ensures memory { result ≡ Err ServeError.Memory → is_ended reader.new ≡ false }
 
     // The devices tell which of them failed.
     ensures read_marked { (result ≡ Err ServeError.Read) ↔ (is_failed reader.new ≡ true) }
