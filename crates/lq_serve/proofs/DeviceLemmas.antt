@@ -98,6 +98,12 @@ pub unmarked : (failed : Bool) → (failed ≡ true → ⊥) → failed ≡ fals
 unmarked false never = refl
 unmarked true never = absurd (never refl)
 
+-- what doesn't fail leaves a mark as it was
+pub same_mark : (old new : Bool) → (old ≡ false → new ≡ true → false ≡ true) → (old ≡ true → new ≡ true) → new ≡ old
+same_mark false false fails stays = refl
+same_mark false true fails stays = sym (fails refl refl)
+same_mark true new fails stays = stays refl
+
 -- what was taken in two turns
 pub TakesAtMost-more : (before between after : Option (List ℕ)) (first more : List ℕ) (limit : ℕ)
     → Consumes before between first → Consumes between after more → length first + length more ≤ limit → TakesAtMost limit before after

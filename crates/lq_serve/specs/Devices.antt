@@ -11,6 +11,10 @@ inner_of device = device.inner
 abbrev pub read_count : {T : Type 0} → Device T → ℕ
 read_count device = device.reads
 
+-- how many writes it has made
+abbrev pub write_count : {T : Type 0} → Device T → ℕ
+write_count device = device.writes
+
 -- whether it is marked as failed
 abbrev pub is_failed : {T : Type 0} → Device T → Bool
 is_failed device = device.failed
