@@ -287,6 +287,26 @@ fn a_device_marks_itself_at_each_failed_write(rt: HostRuntime) {
     }
 }
 
+// How many bytes are written at a time, none of them too many for one call.
+const LENGTHS: [usize; 4] = [65_535, 65_536, 65_537, 200_000];
+
+// Whether a device whose writer never fails takes so many bytes whole.
+fn takes_whole(alloc: Global, length: usize) -> Result<bool, AllocError> {
+    let bytes = vec![in alloc; b'a'; length]?;
+    let mut sink = taking(alloc, 0, Fault::Never);
+    let mut writer = Device::new(&mut sink);
+    let is_taken = writer.write_all(&bytes).is_ok() && !writer.failed();
+    Ok(is_taken && sink.taken.as_slice() == bytes.as_slice())
+}
+
+#[test]
+fn bytes_are_written_whole_however_many(rt: HostRuntime) -> Result<(), Fail> {
+    for length in &LENGTHS {
+        assert!(rt; takes_whole(rt.alloc(), *length)?, "{length} bytes");
+    }
+    Ok(())
+}
+
 // A byte, how many times it is given, and the lines of such a script (none: it is too long).
 const SIZES: [(u8, usize, Option<u64>); 4] = [
     (b'\n', 1_048_576, Some(1_048_576)),
