@@ -1,72 +1,105 @@
--- What a role may use, by the sets of what is granted to it and of what is withheld.
-use Rattle.std.proofs.Common.{◌≡◌, ◌&&◌, not, List, ℕ, Bool, true, false, ap, ◌∙◌, sym, refl, subst}
-use Rattle.std.specs.List.{Contains, list_any}
-use Rattle.std.proofs.lemmas.Bool.{and_from, and_parts}
-use Rattle.lq_model.proofs.PolicyLemmas.{found_at}
-use Rattle.lq_model.proofs.RightLemmas.{covering_told, passing, same_itself, same_use}
-use Rattle.lq_model.specs.Rights.{bears, covers, is_column_of, is_same_use, is_withheld, may_use, opens}
+-- What a role may use, by the set of what unwithheld rights give it.
+use Rattle.std.proofs.Common.{◌≡◌, ◌&&◌, ◌||◌, not, List, [], ◌∷◌, ℕ, Bool, true, false, Result, Ok, Err, IfOk, ap, ◌∙◌, sym, refl}
+use Rattle.std.specs.declared.alloc.AllocError.{AllocError}
+use Rattle.std.specs.List.{list_any}
+use Rattle.lq_model.proofs.RightLemmas.{same_use}
+use Rattle.lq_model.specs.Rights.{bears, covers, is_same_use, is_withheld, may_use}
 use Rattle.lq_model.specs.Visible.{is_listed}
 use Rattle.lq_model.specs.declared.policy.PolicyParts.{PolicyParts}
+use Rattle.lq_model.specs.declared.policy.Role.{Role}
+use Rattle.lq_model.specs.declared.rights.RightRule.{RightRule}
 use Rattle.lq_model.specs.declared.rights.Use.{Use}
 use Rattle.lq_model.specs.declared.rights.Use.TheVariants as of
-use Rattle.lq_policy.specs.RoleRights.{allows_use, is_among}
-use Rattle.lq_policy.specs.declared.rights.RoleRights.{RoleRights}
+use Rattle.lq_policy.specs.RoleRights.{gives, grants_by, is_among}
+use Rattle.lq_policy.specs.declared.use_set.UseSet.{UseSet}
 
--- two tests that pass alike
-same_tests : (a b : Bool) → (a ≡ true → b ≡ true) → (b ≡ true → a ≡ true) → a ≡ b
-same_tests true true there back = refl
-same_tests false false there back = refl
-same_tests true false there back = sym (there refl)
-same_tests false true there back = back refl
+-- ---- what one right gives
 
-module _ (parts : PolicyParts) (role : ℕ) (rights : RoleRights)
-    (granted : (used : Use) → is_among rights.granted used ≡ list_any (bears parts.roles role used) parts.grants)
-    (withheld : (used : Use) → is_among rights.withheld used ≡ list_any (bears parts.roles role used) parts.withholds) where
-  abbrev keys : List Use
-  keys = rights.granted.uses.keys
+pub by_no_table : (other : Use) (t : ℕ) → gives other (of.Table t) ≡ false
+by_no_table (of.Table u) t = refl
+by_no_table (of.Column u c) t = refl
+by_no_table (of.Insert u) t = refl
+by_no_table (of.Delete u) t = refl
 
-  -- a granted column that isn't withheld, by the sets and by the rules
-  abbrev is_set_open : ℕ → Use → Bool
-  is_set_open t right = is_column_of t right && not (is_among rights.withheld right)
+pub by_a_column : (other : Use) (t c : ℕ) (so_far : Bool)
+    → is_same_use other (of.Column t c) || (is_same_use other (of.Table t) || so_far) ≡ gives other (of.Column t c) || so_far
+by_a_column (of.Table u) t c so_far = refl
+by_a_column (of.Column u d) t c so_far = refl
+by_a_column (of.Insert u) t c so_far = refl
+by_a_column (of.Delete u) t c so_far = refl
 
-  abbrev is_open : ℕ → Use → Bool
-  is_open t right = is_column_of t right && not (is_withheld parts role right)
+-- a column is put into a set behind its table
+pub column_added : (added : Result (Unit {0}) AllocError) (before between after : UseSet) (right : Use) (t c : ℕ) → right ≡ of.Column t c
+    → ((other : Use) → is_among between other ≡ is_same_use other (of.Table t) || is_among before other)
+    → IfOk added (λ _. (other : Use) → is_among after other ≡ is_same_use other (of.Column t c) || is_among between other)
+    → IfOk added (λ _. (other : Use) → is_among after other ≡ gives other right || is_among before other)
+column_added (Err refused) before between after right t c is first second = second
+column_added (Ok done) before between after right t c is first second = λ other.
+    second other
+    ∙ ap (λ (b : Bool). is_same_use other (of.Column t c) || b) (first other)
+    ∙ by_a_column other t c (is_among before other)
+    ∙ ap (λ (u : Use). gives other u || is_among before other) (sym is)
 
-  open_alike : (t : ℕ) (right : Use) → is_set_open t right ≡ is_open t right
-  open_alike t right = ap (λ b. is_column_of t right && not b) (withheld right)
+pub by_an_insertion : (other : Use) (t : ℕ) → is_same_use other (of.Insert t) ≡ gives other (of.Insert t)
+by_an_insertion (of.Table u) t = refl
+by_an_insertion (of.Column u c) t = refl
+by_an_insertion (of.Insert u) t = refl
+by_an_insertion (of.Delete u) t = refl
 
-  by_rule : (t : ℕ) → list_any (is_set_open t) keys ≡ true → list_any (opens parts role t) parts.grants ≡ true
-  by_rule t h =
-      let key = passing (is_set_open t) keys h in
-      let among : is_among rights.granted key.0 ≡ true = found_at (is_same_use key.0) keys key.0 key.1 (same_itself key.0) in
-      let rule = passing (bears parts.roles role key.0) parts.grants (sym (granted key.0) ∙ among) in
-      let both = and_parts (is_listed parts.roles role rule.0.to) (covers key.0 rule.0) rule.2 in
-      found_at (opens parts role t) parts.grants rule.0 rule.1
-      (and_from (is_listed parts.roles role rule.0.to) (list_any (is_open t) rule.0.rights) both.0
-      (found_at (is_open t) rule.0.rights key.0 (covering_told parts.roles role key.0 rule.0 both.1) (sym (open_alike t key.0) ∙ key.2)))
+pub by_a_removal : (other : Use) (t : ℕ) → is_same_use other (of.Delete t) ≡ gives other (of.Delete t)
+by_a_removal (of.Table u) t = refl
+by_a_removal (of.Column u c) t = refl
+by_a_removal (of.Insert u) t = refl
+by_a_removal (of.Delete u) t = refl
 
-  by_set : (t : ℕ) → list_any (opens parts role t) parts.grants ≡ true → list_any (is_set_open t) keys ≡ true
-  by_set t h =
-      let rule = passing (opens parts role t) parts.grants h in
-      let both = and_parts (is_listed parts.roles role rule.0.to) (list_any (is_open t) rule.0.rights) rule.2 in
-      let right = passing (is_open t) rule.0.rights both.1 in
-      let covers_it : covers right.0 rule.0 ≡ true = found_at (is_same_use right.0) rule.0.rights right.0 right.1 (same_itself right.0) in
-      let bears_it : bears parts.roles role right.0 rule.0 ≡ true =
-      and_from (is_listed parts.roles role rule.0.to) (covers right.0 rule.0) both.0 covers_it in
-      let key = passing (is_same_use right.0) keys (granted right.0 ∙ found_at (bears parts.roles role right.0) parts.grants rule.0 rule.1 bears_it) in
-      found_at (is_set_open t) keys right.0 (subst (λ u. Contains keys u) (sym (same_use right.0 key.0 key.2)) key.1) (open_alike t right.0 ∙ right.2)
+-- ---- what all rights give
 
-  abbrev has_alike : Use → Type 0
-  has_alike used =
-      (is_among rights.granted used && not (is_among rights.withheld used))
-      ≡ (list_any (bears parts.roles role used) parts.grants && not (is_withheld parts role used))
+and_over_or : (a b c : Bool) → (a && c) || (b && c) ≡ (a || b) && c
+and_over_or true true true = refl
+and_over_or true true false = refl
+and_over_or true false true = refl
+and_over_or true false false = refl
+and_over_or false b c = refl
 
-  right_alike : (used : Use) → has_alike used
-  right_alike used = λ i. granted used i && not (withheld used i)
+and_assoc : (a b c : Bool) → a && (b && c) ≡ (a && b) && c
+and_assoc true b c = refl
+and_assoc false b c = refl
 
-  pub allowed_alike : (used : Use) → allows_use rights used ≡ may_use parts role used
+module _ (withheld : Use → Bool) (used : Use) where
+  -- a right to the use itself is withheld where the use is
+  by_itself : (right : Use) → is_same_use used right && not (withheld right) ≡ is_same_use used right && not (withheld used)
+  by_itself right = by (is_same_use used right) refl where
+    by : (same : Bool) → is_same_use used right ≡ same → same && not (withheld right) ≡ same && not (withheld used)
+    by true h = ap (λ (u : Use). not (withheld u)) (sym (same_use used right h))
+    by false h = refl
+
+  by_rights : (rights : List Use)
+      → list_any (λ right. is_same_use used right && not (withheld right)) rights ≡ list_any (is_same_use used) rights && not (withheld used)
+  by_rights [] = refl
+  by_rights (right ∷ rest) =
+      (λ i. by_itself right i || by_rights rest i) ∙ and_over_or (is_same_use used right) (list_any (is_same_use used) rest) (not (withheld used))
+
+  by_rules : (roles : List Role) (role : ℕ) (rules : List RightRule)
+      → list_any (λ rule. is_listed roles role rule.to && list_any (λ right. is_same_use used right && not (withheld right)) rule.rights) rules
+      ≡ list_any (bears roles role used) rules && not (withheld used)
+  by_rules roles role [] = refl
+  by_rules roles role (rule ∷ rest) =
+      (λ i. (is_listed roles role rule.to && by_rights rule.rights i) || by_rules roles role rest i)
+      ∙ ap (λ (b : Bool). b || (list_any (bears roles role used) rest && not (withheld used))) (and_assoc (is_listed roles role rule.to) (covers used rule) (not (withheld used)))
+      ∙ and_over_or (bears roles role used rule) (list_any (bears roles role used) rest) (not (withheld used))
+
+module _ (parts : PolicyParts) (role : ℕ) (withheld allowed : UseSet)
+    (is_withheld_by : (used : Use) → is_among withheld used ≡ is_withheld parts role used)
+    (is_allowed_by : (used : Use) → is_among allowed used ≡ list_any (grants_by parts.roles role withheld used) parts.grants) where
+  by_parts : (used : Use) → is_among allowed used
+      ≡ list_any (λ rule. is_listed parts.roles role rule.to && list_any (λ right. gives used right && not (is_withheld parts role right)) rule.rights) parts.grants
+  by_parts used =
+      is_allowed_by used
+      ∙ (λ i. list_any (λ rule. is_listed parts.roles role rule.to && list_any (λ right. gives used right && not (is_withheld_by right i)) rule.rights) parts.grants)
+
+  pub allowed_alike : (used : Use) → is_among allowed used ≡ may_use parts role used
   unfolding may_use
-  allowed_alike (of.Table t) = same_tests (list_any (is_set_open t) keys) (list_any (opens parts role t) parts.grants) (by_rule t) (by_set t)
-  allowed_alike (of.Column t c) = right_alike (of.Column t c)
-  allowed_alike (of.Insert t) = right_alike (of.Insert t)
-  allowed_alike (of.Delete t) = right_alike (of.Delete t)
+  allowed_alike (of.Table t) = by_parts (of.Table t)
+  allowed_alike (of.Column t c) = by_parts (of.Column t c) ∙ by_rules (is_withheld parts role) (of.Column t c) parts.roles role parts.grants
+  allowed_alike (of.Insert t) = by_parts (of.Insert t) ∙ by_rules (is_withheld parts role) (of.Insert t) parts.roles role parts.grants
+  allowed_alike (of.Delete t) = by_parts (of.Delete t) ∙ by_rules (is_withheld parts role) (of.Delete t) parts.roles role parts.grants

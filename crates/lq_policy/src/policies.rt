@@ -11,6 +11,7 @@ use crate::admission::Admission;
 use crate::asked::Asked;
 use crate::error::PolicyError;
 use crate::guard::{Guard, guards, rule_at};
+use crate::role_rights::RoleRights;
 use crate::role_set::{RoleSet, goes_by, memberships};
 use crate::row_rules::{RowRules, Ruled, Verdict};
 use lq_model::{Action, Expr, Policy, PolicyParts};
@@ -31,6 +32,8 @@ pub struct Policies {
     groups: Vec<RoleSet>,
     /// For each policy, its rules, prepared.
     guards: Vec<Guard>,
+    /// What the role may use that was prepared last.
+    pub(crate) rights: Option<RoleRights>,
 }
 
 impl Model for Policies {
@@ -50,9 +53,11 @@ impl Model for Policies {
     ghost use Rattle.lq_model.specs.Visible.{memberships_after};
     ghost use Rattle.lq_policy.specs.Guards.{IsGuarded};
     ghost use Rattle.lq_policy.specs.Memberships.{TellMemberships};
+    ghost use Rattle.lq_policy.specs.RoleRights.{TellsRights};
 
     ghost invariant = { λ p. TellMemberships (memberships_after [] p.parts.roles) p.groups.items
-        × AllZip (IsGuarded p.parts.tables) p.parts.policies p.guards.items };
+        × AllZip (IsGuarded p.parts.tables) p.parts.policies p.guards.items
+        × TellsRights p.parts p.rights };
 }
 
 /// Whether the rule, if it is there, is total by its form.
@@ -125,6 +130,7 @@ impl Policies {
                 parts,
                 groups,
                 guards,
+                rights: None,
             }),
             Err(AllocError) => Err((PolicyError::Memory, parts)),
         }

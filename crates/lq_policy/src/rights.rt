@@ -1,26 +1,17 @@
 //! Rights: what a role may use, and the name of the rule that denies it.
-ghost use Rattle.std.specs.Prelude.{◌≡◌, ◌||◌};
+ghost use Rattle.std.specs.Prelude.{◌≡◌};
 ghost use Rattle.std.specs.List.{list_any};
 ghost use Rattle.lq_model.specs.Rights.{covers, is_column_of, is_same_use};
-ghost use Rattle.lq_policy.specs.RoleRights.{is_among};
-ghost use Rattle.lq_model.specs.declared.rights.Use.{Use};
-ghost use Rattle.std.specs.Prelude.{IfOk};
 
 use crate::access::RoleId;
 use crate::policies::Policies;
+use crate::role_rights::{RoleRights, add_open, add_rights};
 use crate::use_set::UseSet;
 use lq_model::{RightRule, Use};
 use std::alloc::{AllocError, Global};
 
 /// The name under which a use is denied that no withhold bears on.
 const NO_GRANT: &str = "no-grant";
-
-/// What a role may use, worked out once from the rules that apply to it.
-#[derive(Drop)]
-pub struct RoleRights {
-    granted: UseSet,
-    withheld: UseSet,
-}
 
 /// Whether two uses are the same.
 fn is_same_use(a: Use, b: Use) -> bool
@@ -55,58 +46,12 @@ fn has_column(table: u16, rule: &RightRule) -> bool
     rights.iter().any(|right| is_column_of(table, *right))
 }
 
-impl RoleRights {
-    ghost use Rattle.std.specs.Prelude.{◌≡◌, ◌&&◌, not};
-    ghost use Rattle.std.specs.List.{list_any};
-    ghost use Rattle.lq_policy.specs.RoleRights.{allows_use, has_right, is_among};
-
-    /// Whether a right is to a column of this table, and isn't withheld.
-    fn opens(&self, table: u16, right: Use) -> bool
-        ensures { result ≡ is_column_of table right && not (is_among self.now.withheld right) }
-    {
-        is_column_of(table, right) && !self.withheld.has(right)
-    }
-
-    /// Whether some column of this table is granted and not withheld.
-    fn has_column(&self, table: u16) -> bool
-        ensures { result ≡ list_any (λ right. is_column_of table right && not (is_among self.now.withheld right)) self.now.granted.uses.keys }
-    {
-        self.granted
-            .uses
-            .iter()
-            .any(|right| self.opens(table, *right))
-    }
-
-    /// Whether the role may use this: a table where it has a right to one of its columns, and
-    /// anything else where some grant that applies covers it and no withhold that applies does.
-    pub fn allows(&self, used: Use) -> bool
-        ensures { result ≡ allows_use self.now used }
-    {
-        match used {
-            Use::Table(table) => self.has_column(table),
-            Use::Column(_, _) | Use::Insert(_) | Use::Delete(_) => {
-                self.granted.has(used) && !self.withheld.has(used)
-            }
-        }
-    }
-}
-
-/// Puts rights into a set.
-fn add_rights(set: &mut UseSet, rights: &[Use]) -> Result<(), AllocError>
-    ensures { IfOk result (λ _. (other : Use) → is_among set.new other ≡ list_any (is_same_use other) rights.now || is_among set.old other) }
-{
-    for right in rights {
-        set.add(*right)?;
-    }
-    Ok(())
-}
-
 impl Policies {
-    ghost use Rattle.std.specs.Prelude.{◌≡◌, ◌&&◌, not, Some, IfOk};
+    ghost use Rattle.std.specs.Prelude.{◌≡◌, ◌&&◌, not, Some, IfOk, IfSome};
     ghost use Rattle.std.specs.List.{list_any};
     ghost use Rattle.std.specs.Option.{option_copied};
     ghost use Rattle.lq_model.specs.Rights.{bears, concerns, denier_of, first_concerning, is_withheld, may_use, opens};
-    ghost use Rattle.lq_policy.specs.RoleRights.{allows_use, is_among};
+    ghost use Rattle.lq_policy.specs.RoleRights.{TellsRights, grants_by, is_among};
     ghost use Rattle.lq_policy.specs.Roles.{number_of, refused_under};
     ghost use Rattle.lq_model.specs.declared.rights.Use.{Use};
 
@@ -128,14 +73,52 @@ impl Policies {
         Ok(set)
     }
 
-    /// What a role may use, worked out once. It allows what `right` does.
-    pub fn rights_for(&self, alloc: Global, role: RoleId) -> Result<RoleRights, AllocError>
-        ensures { IfOk result (λ rights. (used : Use) → allows_use rights used ≡ may_use self.now (number_of role) used) }
+    /// What the grants that apply to a role give it by rights that aren't withheld.
+    fn granted(
+        &self,
+        alloc: Global,
+        role: RoleId,
+        grants: &[RightRule],
+        withheld: &UseSet,
+    ) -> Result<UseSet, AllocError>
+        ensures { IfOk result (λ set. (used : Use) → is_among set used ≡ list_any (grants_by self.now.roles (number_of role) withheld.now used) grants.now) }
     {
-        Ok(RoleRights {
-            granted: self.covered(alloc, role, self.parts.grants.as_slice())?,
-            withheld: self.covered(alloc, role, self.parts.withholds.as_slice())?,
-        })
+        let mut set = UseSet::new(alloc);
+        for grant in grants {
+            if self.is_listed(role, grant.to.as_slice()) {
+                add_open(&mut set, grant.rights.as_slice(), withheld)?;
+            }
+        }
+        Ok(set)
+    }
+
+    /// What a role may use, worked out once.
+    fn rights_for(&self, alloc: Global, role: RoleId) -> Result<RoleRights, AllocError>
+        ensures { IfOk result (λ rights. TellsRights self.now (Some rights)) }
+    {
+        let withheld = self.covered(alloc, role, self.parts.withholds.as_slice())?;
+        let allowed = self.granted(alloc, role, self.parts.grants.as_slice(), &withheld)?;
+        Ok(RoleRights { role, allowed })
+    }
+
+    /// Works out what a role may use, so that from now on `right` looks it up, until another role is
+    /// prepared. The policies are the same, also where memory is refused.
+    pub fn prepare(&mut self, alloc: Global, role: RoleId) -> Result<(), AllocError>
+        ensures { self.new ≡ self.old }
+    {
+        let rights = self.rights_for(alloc, role)?;
+        self.rights = Some(rights);
+        Ok(())
+    }
+
+    /// Whether the role may use this, where it is prepared.
+    fn known(&self, role: RoleId, used: Use) -> Option<bool>
+        ensures { IfSome result (λ may. may ≡ may_use self.now (number_of role) used) }
+    {
+        match &self.rights {
+            Some(rights) if rights.are_of(role) => Some(rights.allowed.has(used)),
+            _ => None,
+        }
     }
 
     /// Whether a rule applies to the role and covers the use.
@@ -190,9 +173,9 @@ impl Policies {
         grants.iter().any(|rule| self.opens(role, table, rule))
     }
 
-    /// Whether the role may use this.
+    /// Whether the role may use this, by the rules.
     #[tactic(auto, unfolding(lq_model::specs::Rights::may_use))]
-    fn may_use(&self, role: RoleId, used: Use) -> bool
+    fn may_use_by_rules(&self, role: RoleId, used: Use) -> bool
         ensures { result ≡ may_use self.now (number_of role) used }
     {
         let grants = self.parts.grants.as_slice();
@@ -201,6 +184,16 @@ impl Policies {
             Use::Column(_, _) | Use::Insert(_) | Use::Delete(_) => {
                 self.is_covered(role, used, grants) && !self.is_withheld(role, used)
             }
+        }
+    }
+
+    /// Whether the role may use this.
+    fn may_use(&self, role: RoleId, used: Use) -> bool
+        ensures { result ≡ may_use self.now (number_of role) used }
+    {
+        match self.known(role, used) {
+            Some(may) => may,
+            None => self.may_use_by_rules(role, used),
         }
     }
 
@@ -230,7 +223,8 @@ impl Policies {
 
     /// Whether the role has a right to this use: to a table where it has one to a column of it, and
     /// to anything else where some grant that applies covers it and no withhold that applies does.
-    /// Takes no memory.
+    /// Takes no memory. Where the role is prepared, a use to which it has a right is looked up; else it
+    /// is sought in each rule.
     ///
     /// A use is denied under the name of the first withhold that applies and covers it (of a table
     /// any of its columns), or under `no-grant` where there is none.

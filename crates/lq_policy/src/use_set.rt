@@ -9,15 +9,15 @@ use std::alloc::{AllocError, Global};
 
 /// Uses, each once.
 #[derive(Drop)]
-pub struct UseSet {
-    pub(crate) uses: IndexSet<Use>,
+pub(crate) struct UseSet {
+    uses: IndexSet<Use>,
 }
 
 impl UseSet {
-    ghost use Rattle.std.specs.Prelude.{◌≡◌, ◌||◌, false, not, IfOk};
+    ghost use Rattle.std.specs.Prelude.{◌≡◌, ◌||◌, false, IfOk};
 
     /// The set of no use. Takes no memory.
-    pub fn new(alloc: Global) -> UseSet
+    pub(crate) fn new(alloc: Global) -> UseSet
         ensures { (other : Use) → is_among result other ≡ false }
     {
         UseSet {
@@ -26,17 +26,17 @@ impl UseSet {
     }
 
     /// Whether the set has this use.
-    pub fn has(&self, used: Use) -> bool
+    pub(crate) fn has(&self, used: Use) -> bool
         ensures { result ≡ is_among self.now used }
     {
         self.uses.contains(&used)
     }
 
-    /// Puts a use into the set; tells whether it is new there.
-    pub fn add(&mut self, used: Use) -> Result<bool, AllocError>
-        ensures new { IfOk result (λ is_new. is_new ≡ not (is_among self.old used)) }
-        ensures uses { IfOk result (λ _. (other : Use) → is_among self.new other ≡ is_same_use other used || is_among self.old other) }
+    /// Puts a use into the set.
+    pub(crate) fn add(&mut self, used: Use) -> Result<(), AllocError>
+        ensures { IfOk result (λ _. (other : Use) → is_among self.new other ≡ is_same_use other used || is_among self.old other) }
     {
-        Ok(self.uses.insert(used)?)
+        self.uses.insert(used)?;
+        Ok(())
     }
 }

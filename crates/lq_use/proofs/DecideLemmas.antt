@@ -1,13 +1,12 @@
--- Uses that are decided one by one: those so far are allowed, and so is what is in the set of them.
-use Rattle.std.proofs.Common.{◌≡◌, ◌∷◌, ◌||◌, ◌+◌, ◌<◌, ◌≤◌, if◌then◌else◌, List, [], ℕ, suc, zero, Bool, true, false, Option, Some, None, drop, drop-cons, length, not, option_map, slice_get, slice_index_or, ap, ◌∙◌, sym, refl, subst, true≢false, arith}
+-- Uses that are decided one by one: those so far are allowed.
+use Rattle.std.proofs.Common.{◌≡◌, ◌∷◌, ◌+◌, ◌<◌, ◌≤◌, if◌then◌else◌, List, [], ℕ, suc, zero, Bool, true, false, Option, Some, None, drop, drop-cons, length, option_map, slice_get, slice_index_or, ap, ◌∙◌, sym, refl, subst, inl, inr, arith}
+use Rattle.std.proofs.lemmas.Bool.{cases_lt}
 use Rattle.std.proofs.lemmas.Option.{get_or_from_slice_get, none-some, slice_get_within}
 use Rattle.std.specs.Borrow.{Bor}
-use Rattle.lq_model.proofs.RightLemmas.{same_use}
-use Rattle.lq_model.specs.Rights.{denial, denied_or, denier_of, first_concerning, is_same_use, may_use}
+use Rattle.lq_model.specs.Rights.{denial, denied_or, denier_of, first_concerning, may_use}
 use Rattle.lq_model.specs.declared.policy.PolicyParts.{PolicyParts}
 use Rattle.lq_model.specs.declared.rights.Use.{Use}
-use Rattle.lq_policy.specs.RoleRights.{is_among}
-use Rattle.lq_policy.specs.declared.use_set.UseSet.{UseSet}
+use Rattle.lq_use.specs.Decisions.{AreAllowedBefore}
 
 module _ (parts : PolicyParts) (role : ℕ) where
   -- what has no denier may be used
@@ -17,11 +16,6 @@ module _ (parts : PolicyParts) (role : ℕ) where
     by : (b : Bool) → (if b then None else Some (first_concerning parts.roles role used parts.withholds)) ≡ None → b ≡ true
     by true is = refl
     by false is = absurd (none-some _ (sym is))
-
-  -- what may be used has no denier
-  pub no_denier : (used : Use) → may_use parts role used ≡ true → denier_of parts role used ≡ None
-  unfolding denier_of
-  no_denier used h = ap (λ (b : Bool). if b then None else Some (first_concerning parts.roles role used parts.withholds)) h
 
   allowed_first : (used : Use) (rest : List Use) → may_use parts role used ≡ true → denial parts role (used ∷ rest) ≡ denial parts role rest
   unfolding denial denier_of
@@ -49,53 +43,43 @@ module _ (parts : PolicyParts) (role : ℕ) where
   unfolding denial
   nothing_denied = refl
 
-  -- a use that stands alone
-  pub only_allowed : (used : Use) → denier_of parts role used ≡ None → denial parts role (used ∷ []) ≡ None
-  only_allowed used h = allowed_first used [] (undenied used h) ∙ nothing_denied
-
-  pub only_denied : (used : Use) (rule : List ℕ) → denier_of parts role used ≡ Some rule → denial parts role (used ∷ []) ≡ Some (record { used = used; rule = rule })
-  only_denied used rule h = denied_first used [] rule h
-
-  -- the uses from a place on decide as all of them do, and those in the set are allowed
-  pub record AreAllowed (uses : List Use) (place : ℕ) (allowed : UseSet) : Type 0 where
+  -- the uses from a place on decide as all of them do, and those before it are allowed
+  pub record AreAllowed (uses : List Use) (place : ℕ) : Type 0 where
     pub left : denial parts role (drop place uses) ≡ denial parts role uses
-    pub members : (other : Use) → is_among allowed other ≡ true → may_use parts role other ≡ true
+    pub before : AreAllowedBefore parts role uses place
 
-  pub none_yet : (uses : List Use) (allowed : UseSet) → ((other : Use) → is_among allowed other ≡ false) → AreAllowed uses 0 allowed
-  none_yet uses allowed empty = record { left = refl; members = λ other h. absurd (true≢false (sym h ∙ empty other)) }
+  pub none_yet : (uses : List Use) → AreAllowed uses 0
+  none_yet uses = record { left = refl; before = λ earlier other within at. absurd (omega (arith, within)) }
 
-  pub one_more : (uses : List Use) (place : ℕ) (used : Use) (allowed next : UseSet) → slice_get uses place ≡ Some used → AreAllowed uses place allowed
-      → may_use parts role used ≡ true
-      → ((other : Use) → is_among next other ≡ is_same_use other used || is_among allowed other)
-      → AreAllowed uses (place + 1) next
-  one_more uses place used allowed next at so_far may added = record {
+  pub one_more : (uses : List Use) (place : ℕ) (used : Use) → slice_get uses place ≡ Some used → AreAllowed uses place
+      → may_use parts role used ≡ true → AreAllowed uses (place + 1)
+  one_more uses place used at so_far may = record {
     left = sym (allowed_first used (drop (place + 1) uses) may) ∙ ap (denial parts role) (sym (next_use uses place used at)) ∙ so_far.left;
-    members = λ other h. by other (is_same_use other used) refl (sym (added other) ∙ h);
-  } where
-    by : (other : Use) (b : Bool) → is_same_use other used ≡ b → (b || is_among allowed other) ≡ true → may_use parts role other ≡ true
-    by other true same h = subst (λ u. may_use parts role u ≡ true) (sym (same_use other used same)) may
-    by other false same h = so_far.members other h
+    before = λ earlier other within there.
+        elim (cases_lt earlier place) [
+          | inl before ↦ so_far.before earlier other before there
+          | inr past ↦
+              let here : place ≡ earlier = omega (arith, within, past) in
+              let same : Some used ≡ Some other = sym at ∙ ap (slice_get uses) here ∙ there in
+              let it : used ≡ other = cc in
+              subst (λ (u : Use). may_use parts role u ≡ true) it may
+        ];
+  }
 
-  pub first_denied : (uses : List Use) (place : ℕ) (used : Use) (rule : List ℕ) (allowed : UseSet) → slice_get uses place ≡ Some used
-      → AreAllowed uses place allowed → denier_of parts role used ≡ Some rule → denial parts role uses ≡ Some (record { used = used; rule = rule })
-  first_denied uses place used rule allowed at so_far denied =
+  pub first_denied : (uses : List Use) (place : ℕ) (used : Use) (rule : List ℕ) → slice_get uses place ≡ Some used
+      → AreAllowed uses place → denier_of parts role used ≡ Some rule → denial parts role uses ≡ Some (record { used = used; rule = rule })
+  first_denied uses place used rule at so_far denied =
       sym so_far.left ∙ ap (denial parts role) (next_use uses place used at) ∙ denied_first used (drop (place + 1) uses) rule denied
 
   -- no use is left behind the last
-  pub no_more : (uses : List Use) (place : ℕ) (allowed : UseSet) → length uses ≤ place → AreAllowed uses place allowed → denial parts role uses ≡ None
-  no_more uses place allowed past so_far = sym so_far.left ∙ ap (denial parts role) (drop_past uses place past) ∙ nothing_denied
+  pub no_more : (uses : List Use) (place : ℕ) → length uses ≤ place → AreAllowed uses place → denial parts role uses ≡ None
+  no_more uses place past so_far = sym so_far.left ∙ ap (denial parts role) (drop_past uses place past) ∙ nothing_denied
 
 -- the use at a place
 pub found : (uses : List Use) (place : ℕ) (other : Use) → place < length uses → slice_get uses place ≡ Some (slice_index_or uses place other)
 found [] place other within = absurd (omega (arith, within))
 found (u ∷ uses) zero other within = refl
 found (u ∷ uses) (suc place) other within = let later : place < length uses = omega (arith, within) in found uses place other later
-
--- what isn't new in a set is in it
-pub known : (new there : Bool) → new ≡ not there → new ≡ false → there ≡ true
-known new true is none = refl
-known true false is none = absurd (cc)
-known false false is none = absurd (cc)
 
 -- a denier that is told, and one that isn't
 pub denied_by : (told : Option (Bor (List ℕ))) (rule : Bor (List ℕ)) (meant : Option (List ℕ)) → told ≡ Some rule → option_map (λ r. r.now) told ≡ meant
@@ -105,7 +89,3 @@ denied_by told rule meant is same = sym same ∙ ap (option_map (λ r. r.now)) i
 pub unlisted : (parts : PolicyParts) (role : ℕ) (used : Use) (told : Option (Bor (List ℕ))) → told ≡ None → option_map (λ r. r.now) told ≡ denier_of parts role used
     → may_use parts role used ≡ true
 unlisted parts role used told is same = undenied parts role used (sym same ∙ ap (option_map (λ r. r.now)) is)
-
-pub ruleset deniers = (no_denier)
-
-pub ruleset only_use = (only_allowed, only_denied)

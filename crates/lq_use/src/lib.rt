@@ -5,6 +5,6 @@ mod decisions;
 mod shown;
 mod trees;
 
-pub use decisions::{DecideError, Denied, decide};
+pub use decisions::{Denied, decide};
 pub use lq_policy::Use;
 pub use trees::uses;

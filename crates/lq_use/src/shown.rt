@@ -1,5 +1,5 @@
 //! The columns that values of a type show.
-ghost use Rattle.std.specs.Prelude.{◌≡◌, ◌++◌, flat_map, slice_get, OnOk};
+ghost use Rattle.std.specs.Prelude.{◌≡◌, ◌≤◌, ◌++◌, flat_map, length, slice_get, OnOk};
 ghost use Rattle.lq_model.specs.States.{schemas_of};
 ghost use Rattle.lq_model.specs.Uses.{all_columns, columns_from, shown_columns};
 
@@ -8,16 +8,13 @@ use lq_store::Store;
 use lq_value::{Column, Txt, Ty};
 use std::alloc::AllocError;
 
-/// These columns of a table, behind other uses. No table has more columns than numbers reach; one that had is refused as past all
-/// memory.
+/// These columns of a table, behind other uses.
 fn add_each(table: u16, columns: &[Column], uses: &mut Vec<Use>) -> Result<(), AllocError>
+    requires { length columns.now ≤ 100 }
     ensures { OnOk result (uses.new.items ≡ uses.old.items ++ columns_from table 0 columns.now) }
 {
     for (number, _) in columns.iter().enumerate() {
-        let Ok(column) = u16::try_from(number) else {
-            return Err(AllocError);
-        };
-        uses.push(Use::Column(table, column))?;
+        uses.push(Use::Column(table, number as u16))?;
     }
     Ok(())
 }

@@ -1,7 +1,7 @@
 use Rattle.std.proofs.Common.{◌∙◌, ◌++◌, Option, ap, sym, slice_get, arith}
 use Rattle.lq_model.specs.States.{schemas_of}
 use Rattle.lq_model.specs.Uses.{all_columns}
-use Rattle.lq_use.proofs.UseLemmas.{append_none, columns_there, no_schema, schema_there}
+use Rattle.lq_use.proofs.UseLemmas.{append_none, columns_there, few_columns, no_schema, schema_there}
 use Rattle.lq_use.proofs.shown.add_table.Goals as goal
 
 pub returns-then-table-len : goal.returns-then-table-len
@@ -10,6 +10,10 @@ returns-then-table-len c =
     let past = c.if-table-len.true in
     sym (append_none c.args.uses.now.items)
     ∙ ap (λ (o : Option _). c.args.uses.now.items ++ all_columns c.args.table o) (sym (no_schema c.args.store.now c.args.table (omega (arith, length_is, past))))
+
+pub add_each-requires : goal.add_each-requires
+add_each-requires c =
+    few_columns (slice_get c.args.store.now c.args.table) c.schema.result.now c.as_slice.result.now c.schema.ensures.value c.schema.ensures.table c.as_slice.ensures
 
 pub returns : goal.returns
 returns c =

@@ -3,7 +3,7 @@ use Rattle.std.specs.List.{list_any}
 use Rattle.lq_model.specs.Rights.{is_same_use}
 use Rattle.lq_model.specs.declared.rights.Use.{Use}
 use Rattle.lq_policy.specs.RoleRights.{is_among}
-use Rattle.lq_policy.proofs.rights.add_rights.Given as goal
+use Rattle.lq_policy.proofs.role_rights.add_rights.Given as goal
 
 -- the set so far, and the rights to come
 abbrev pub invariant-loop-right : goal.invariant-loop-right
