@@ -9,7 +9,7 @@ use crate::state::State;
 use lq_json::{Line, Reply, reply_line};
 use lq_policy::Use;
 use lq_store::Store;
-use lq_use::{DecideError, decide};
+use lq_use::decide;
 use std::alloc::{AllocError, Global};
 
 /// The line of a denial by a rule.
@@ -24,12 +24,11 @@ fn denied_line(alloc: Global, store: &Store, rule: &str, used: Use) -> Result<Li
 pub fn denied(alloc: Global, used: &[Use], state: &State) -> Result<Option<Line>, AllocError>
     ensures { IfOk result (TellsDenial state.now used.now) }
 {
-    match decide(alloc, used, state.role(), state.policies()) {
+    match decide(used, state.role(), state.policies()) {
         Ok(()) => Ok(None),
-        Err(DecideError::Denied(denied)) => {
+        Err(denied) => {
             let line = denied_line(alloc, state.store(), denied.rule, used[denied.place])?;
             Ok(Some(line))
         }
-        Err(DecideError::Memory) => Err(AllocError),
     }
 }

@@ -108,11 +108,14 @@ impl State {
         }
     }
 
-    /// Takes a role from now on.
-    pub fn take_role(&mut self, role: RoleId)
-        ensures { self.new ≡ record self.old { role = number_of role } }
+    /// Takes a role from now on, and prepares the policies for it. Where memory is refused the state stays.
+    pub fn take_role(&mut self, alloc: Global, role: RoleId) -> Result<(), AllocError>
+        ensures ok { OnOk result (self.new ≡ record self.old { role = number_of role }) }
+        ensures err { IfErr result (λ _. self.new ≡ self.old) }
     {
+        self.policies.prepare(alloc, role)?;
         self.role = role;
+        Ok(())
     }
 
     /// Puts a row into a table, as `Store::insert` does, with its refusals.

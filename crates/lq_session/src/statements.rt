@@ -45,6 +45,6 @@ fn take_role(alloc: Global, name: &str, state: &mut State) -> Result<Line, Alloc
         return refusal(alloc, "role");
     };
     let line = reply(alloc, Reply::Role(name))?;
-    state.take_role(role);
+    state.take_role(alloc, role)?;
     Ok(line)
 }

@@ -12,19 +12,18 @@ use Rattle.lq_run.proofs.denials.denied.Goals as goal
 ok_of : {A B : Type 0} (P : A → Type 0) (r : Result A B) (x : A) → r ≡ Ok x → IfOk r P → P x
 ok_of {A} {B} P r x is holds = subst (λ (made : Result A B). IfOk made P) is holds
 
-pub returns-in_ok-line-in-Err-Denied : goal.returns-in_ok-line-in-Err-Denied
-returns-in_ok-line-in-Err-Denied c =
-    let tells : Tells c.policies.result.now (number_of c.role.result) c.args.used.now c.in-Err-Denied.denied.place c.in-Err-Denied.denied.rule.now =
-    rw c.in-Err-Denied.field-0-is at c.in-Err-Denied.ensures in
-    let first : Denied = record { used = tells.used; rule = c.in-Err-Denied.denied.rule.now } in
+pub returns-in_ok-line-in-Err : goal.returns-in_ok-line-in-Err
+returns-in_ok-line-in-Err c =
+    let tells : Tells c.policies.result.now (number_of c.role.result) c.args.used.now c.in-Err.denied.place c.in-Err.denied.rule.now = c.in-Err.ensures in
+    let first : Denied = record { used = tells.used; rule = c.in-Err.denied.rule.now } in
     let some : denial c.args.state.now.policies c.args.state.now.role c.args.used.now ≡ Some first =
     (λ i. denial (sym c.policies.ensures i) (sym c.role.ensures i) c.args.used.now) ∙ tells.denied in
-    let read = get_or_from_slice_get c.args.used.now c.in-Err-Denied.denied.place tells.used _ tells.at in
-    let told : IfOk c.denied_line.result (λ line. line ≡ line_of (denied_data (schemas_of c.store.result.now) c.in-Err-Denied.denied.rule.now
-    (slice_index_or c.args.used.now c.in-Err-Denied.denied.place _))) =
-    rw c.in-Err-Denied.denied-is at c.denied_line.ensures in
-    let so = ok_of _ c.denied_line.result c.in_ok-line-in-Err-Denied.line c.in_ok-line-in-Err-Denied.was told in (
+    let read = get_or_from_slice_get c.args.used.now c.in-Err.denied.place tells.used _ tells.at in
+    let told : IfOk c.denied_line.result (λ line. line ≡ line_of (denied_data (schemas_of c.store.result.now) c.in-Err.denied.rule.now
+    (slice_index_or c.args.used.now c.in-Err.denied.place _))) =
+    rw c.in-Err.denied-is at c.denied_line.ensures in
+    let so = ok_of _ c.denied_line.result c.in_ok-line-in-Err.line c.in_ok-line-in-Err.was told in (
       first,
       some,
-      so ∙ (λ i. line_of (denied_data (schemas_of (c.store.ensures.value i)) c.in-Err-Denied.denied.rule.now (read i))),
+      so ∙ (λ i. line_of (denied_data (schemas_of (c.store.ensures.value i)) c.in-Err.denied.rule.now (read i))),
     )
