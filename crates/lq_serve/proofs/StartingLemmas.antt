@@ -1,5 +1,5 @@
 -- Sessions that start behind their tables, policies and role, and those that don't.
-use Rattle.std.proofs.Common.{◌≡◌, ◌≢◌, ℕ, List, [], ◌∷◌, ◌++◌, Option, Some, None, Result, Ok, Err, IfSome, refl, sym, ◌∙◌, ap, append_assoc, append-nil}
+use Rattle.std.proofs.Common.{◌≡◌, ◌≢◌, ℕ, List, [], ◌∷◌, ◌++◌, Option, Some, None, Result, Ok, Err, IfSome, IfOk, IfErr, refl, subst, sym, ◌∙◌, ap, append_assoc, append-nil}
 use Rattle.lq_value.specs.Tables.{Table}
 use Rattle.lq_model.specs.States.{State}
 use Rattle.lq_model.specs.declared.policy.PolicyParts.{PolicyParts}
@@ -7,6 +7,8 @@ use Rattle.lq_policy.specs.Roles.{role_number}
 use Rattle.lq_policyfile.specs.Outcome.{Answers}
 use Rattle.lq_policyfile.specs.declared.error.PolicyFileError.{PolicyFileError}
 use Rattle.lq_policyfile.specs.declared.error.PolicyFileError.TheVariants as policy
+use Rattle.lq_session.specs.States.{state_of}
+use Rattle.lq_session.specs.declared.session.Session.{Session}
 use Rattle.lq_serve.specs.Files.{Adds, AddsFront, first_bytes}
 use Rattle.lq_serve.specs.Loading.{Answered, Loaded, RefusedBy, TellsOf, readings_of}
 use Rattle.lq_serve.specs.Starting.{Asked, GivenUp, GivesPolicies, NotStarted, Reads, Started, Told, fault_of_policy, of_table, of_policies, of_role, parts_or_fault, policies_read, policy_read_limit}
@@ -122,6 +124,21 @@ Started-behind holds before between after asked tables gave policies number stat
   found = found;
   first = first;
 }
+
+-- the session in the state that is meant
+pub Started-all : (holds : List ℕ → Option (Option (List ℕ))) (before after : Option (List Reading)) (asked : Asked) (made : Result Session StartError) (state : State)
+    → IfOk made (λ it. state_of it ≡ state) → Started holds before after asked state → IfOk made (λ it. Started holds before after asked (state_of it))
+Started-all holds before after asked (Ok it) state is started = subst (λ (s : State). Started holds before after asked s) (sym is) started
+Started-all holds before after asked (Err error) state is started = is
+
+-- there was no memory to prepare the policies for the role
+pub NotStarted-prepared : (holds : List ℕ → Option (Option (List ℕ))) (before between after : Option (List Reading)) (asked : Asked) (tables : List Table)
+    (gave : Option (List ℕ)) (made : Result Session StartError)
+    → Loaded holds before between asked.tables tables → Adds between after (policy_reading asked gave ∷ [])
+    → IfErr made (λ error. error ≡ start.Memory) → IfErr made (λ error. NotStarted holds before after asked error)
+NotStarted-prepared holds before between after asked tables gave (Ok it) loaded adds is = is
+NotStarted-prepared holds before between after asked tables gave (Err error) loaded adds is =
+    subst (λ (e : StartError). NotStarted holds before after asked e) (sym is) (GivenUp-behind holds before between after asked tables gave loaded (AddsFront-all _ _ _ adds))
 
 -- what is known of the policy file, where loading tables left it as it was
 pub agrees_before : (known now : List ℕ → Option (Option (List ℕ))) (file : List ℕ) (gave : Option (List ℕ)) → now file ≡ known file

@@ -17,7 +17,7 @@ use lq_policy::{Policies, RoleId};
 use lq_policyfile::{MOST_BYTES, policies_from_toml};
 use lq_session::Session;
 use lq_store::Store;
-use std::alloc::Global;
+use std::alloc::{AllocError, Global};
 
 // The most bytes that are read of a policy file: one more than it may have.
 const READ_LIMIT: u64 = MOST_BYTES as u64 + 1;
@@ -47,8 +47,24 @@ pub fn load<F: Files>(
         Err(fault) => return Err(refusal(alloc, options.policy.as_str(), fault)),
     };
     match policies.role(options.role.as_str()) {
-        Some(role) => Ok(Session::new(alloc, store, policies, role)),
+        Some(role) => prepared(alloc, store, policies, role),
         None => Err(refusal(alloc, options.role.as_str(), FileFault::Role)),
+    }
+}
+
+// The session over these tables, behind these policies, which are prepared for its role.
+fn prepared(
+    alloc: Global,
+    store: Store,
+    mut policies: Policies,
+    role: RoleId,
+) -> Result<Session, StartError>
+    ensures ok { IfOk result (λ it. state_of it ≡ record { tables = store; policies = policies; role = number_of role; definitions = [] }) }
+    ensures err { IfErr result (λ error. error ≡ StartError.Memory) }
+{
+    match policies.prepare(alloc, role) {
+        Ok(()) => Ok(Session::new(alloc, store, policies, role)),
+        Err(AllocError) => Err(StartError::Memory),
     }
 }
 
