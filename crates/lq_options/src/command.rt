@@ -11,16 +11,18 @@ const ABOUT: &str = "\
 Answers C# query expressions over CSV tables, behind row security policies.
 
 The tables are read, then each statement of the script is answered by a line of JSON on standard
-output. A role is served those rows alone that the policies show it.";
+output. A role is served those rows alone that the policies show it, and a statement that uses a
+table or a column without a right is denied.";
 
 const MORE: &str = "\
 Example:
-  people.csv is a table, and policy.toml shows the role dan two of its three rows:
+  people.csv is a table, and policy.toml lets the role dan use its columns and see two of its rows:
 
     id:int,name:string,dept:int      role = [{name = \"dan\"}]
     1,ann,10                         table = [{name = \"people\", row_security = true}]
-    2,bob,10                         [[policy]]
-    3,cyd,20                         name = \"dept10\"
+    2,bob,10                         grant = [{name = \"all\", rights = [\"people.*\"]}]
+    3,cyd,20                         [[policy]]
+                                     name = \"dept10\"
                                      table = \"people\"
                                      using = \"row.dept == 10\"
 
@@ -29,7 +31,8 @@ Example:
     echo 'run from p in people select p.name;' | lq --role dan --policy policy.toml people.csv
 
 Replies:
-  {\"items\":[..]} or {\"value\":V}; {\"fault\":F} at a fault of the query; {\"error\":W} at a refusal
+  {\"items\":[..]} or {\"value\":V}; {\"fault\":F} at a fault of the query; {\"error\":W} at a refusal;
+  {\"denied\":R,\"use\":U} where the role has no right to the use U, by the rule R
 
 Statuses:
   0  the script has ended, whatever its replies are
@@ -56,7 +59,7 @@ fn policy<'a>(alloc: Global) -> Arg<'a>
     Arg::new(alloc, "policy")
         .long("policy")
         .value_name("P")
-        .help("The policy file: roles, tables and policies, in TOML")
+        .help("The policy file: roles, policies and rights, in TOML")
         .required(true)
 }
 
