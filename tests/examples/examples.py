@@ -24,6 +24,9 @@ FORMS = {
     "as R;", "insert T (c, ..);", "delete T x => p;",
 }
 STATEMENT = re.compile(r"(?:(?:run|var|as|insert|delete)\b|\w+ = ).*;")
+LIKE_A_REPLY = re.compile(r'\{"|":')
+# In a form of a reply: a letter for a value, and two points for items.
+SHORT = re.compile(r"(?<=:)([A-Za-z])\b|\.\.")
 NO_TYPE = '{"error":"type"}'
 
 FOLDER = re.compile(r"`(examples/\w+)`")
@@ -104,6 +107,8 @@ class Page:
     def refuse_others(self, block, taken):
         """Fails at a statement that is no example, and at a whole reply of a sentence that belongs to none. Notes those of tables."""
         for span, line in block.spans():
+            if LIKE_A_REPLY.search(span) and not is_reply(SHORT.sub(lambda found: "0" if found[1] else "", span)):
+                raise self.failure(line, f"this is like a reply, and no JSON: {span}")
             if span in taken or span in FORMS or span in NOT_RUN:
                 continue
             if STATEMENT.fullmatch(span) or block.kind == "text" and is_reply(span):
