@@ -7,7 +7,7 @@ use Rattle.lq_value.specs.Tables.{Table, first_named}
 use Rattle.lq_value.specs.declared.table.Schema.{Schema}
 use Rattle.lq_value.specs.declared.ty.Ty.{Ty}
 use Rattle.lq_model.specs.States.{schemas_of}
-use Rattle.lq_model.specs.Typing.{table_number}
+use Rattle.lq_model.specs.Names.{table_number}
 use Rattle.lq_model.specs.Operators.{Pattern}
 use Rattle.lq_model.specs.declared.calls.Call.{Call}
 use Rattle.lq_model.specs.declared.calls.Paired.{Paired}

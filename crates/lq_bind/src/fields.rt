@@ -1,6 +1,6 @@
 //! The trees of records (ECMA-334, anonymous object creation expressions).
 ghost use Rattle.std.specs.Prelude.{◌≡◌, IfOk, map};
-ghost use Rattle.lq_model.specs.WholeTyping.{are_distinct, is_new};
+ghost use Rattle.lq_model.specs.Typing.{are_distinct, is_new};
 ghost use Rattle.lq_tree.specs.Binding.{fields_tree, form_of_field, type_of_field};
 
 use crate::operations::into_form;

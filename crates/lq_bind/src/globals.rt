@@ -44,7 +44,7 @@ fn definition_of<'a>(
 impl Binder<'_> {
     ghost use Rattle.std.specs.Prelude.{◌≡◌, IfOk};
     ghost use Rattle.lq_model.specs.States.{schemas_of};
-    ghost use Rattle.lq_model.specs.Typing.{table_number};
+    ghost use Rattle.lq_model.specs.Names.{table_number};
     ghost use Rattle.lq_tree.specs.Binding.{global_tree, name_tree};
     ghost use Rattle.lq_tree.specs.Places.{place_of};
     ghost use Rattle.lq_bind.specs.Bound.{defined_tree, opened_tree, places_at, session_in, session_tree};

@@ -6,7 +6,7 @@ ghost use Rattle.std.specs.Str.{bytes_eq};
 ghost use Rattle.lq_value.specs.declared.ty.Ty.{out-Ty};
 ghost use Rattle.lq_value.specs.Tables.{first_named};
 ghost use Rattle.lq_model.specs.States.{schemas_of};
-ghost use Rattle.lq_model.specs.Typing.{type_of_column};
+ghost use Rattle.lq_model.specs.Names.{type_of_column};
 ghost use Rattle.lq_tree.specs.Binding.{column_tree, group_key_tree, member_layer, member_tree, nullable_tree, record_member_tree, text_tree, tree_of};
 ghost use Rattle.lq_tree.specs.declared.tree.Form.TheVariants as form;
 

@@ -1,6 +1,6 @@
 //! The trees of methods on what is enumerated (.NET, `Enumerable`).
 ghost use Rattle.std.specs.Prelude.{◌≡◌, IfOk, Some};
-ghost use Rattle.lq_model.specs.WholeTyping.{given_type, simple_type, through_type};
+ghost use Rattle.lq_model.specs.Typing.{given_type, simple_type, through_type};
 ghost use Rattle.lq_tree.specs.Binding.{typed_tree};
 ghost use Rattle.lq_tree.specs.declared.tree.Form.TheVariants as form;
 

@@ -14,7 +14,7 @@ use Rattle.lq_value.specs.declared.scalar.Scalar.{Scalar}
 use Rattle.lq_value.specs.declared.table.Column.{Column}
 use Rattle.lq_value.specs.declared.table.Row.{Row}
 use Rattle.lq_store.specs.Calls.{with_row}
-use Rattle.lq_model.specs.MeaningLaws.{Every}
+use Rattle.lq_model.specs.ValuesOfTypes.{Every}
 use Rattle.lq_model.proofs.EveryItem.{every_more, every_none, first_of, others_of}
 use Rattle.lq_load.specs.Cells.{cell_of}
 use Rattle.lq_load.specs.Headers.{after_column, column_of, columns_from, has_name}

@@ -5,7 +5,7 @@ use Rattle.lq_value.specs.declared.value.End.{End}
 use Rattle.lq_value.specs.declared.value.End.TheVariants as end
 use Rattle.lq_value.specs.declared.value.Fault.{Fault}
 use Rattle.lq_model.specs.Arrangement.{Keyed, all_of, arranged, inserted, is_greater, keyed, order_by, order_of_keys, with_key}
-use Rattle.lq_model.specs.MeaningLaws.{Every}
+use Rattle.lq_model.specs.ValuesOfTypes.{Every}
 use Rattle.lq_model.specs.Operations.{on_ok}
 use Rattle.lq_model.specs.Stream.{Stream, both, each, elements_of, expand_by, first_keys, group_by, groups_of, join_by, kept, made, on_value, one, select_by, then_ending, then_stream, where_by, whole}
 use Rattle.lq_model.proofs.EveryItem.{every_filter, every_map, every_more, every_none, first_of, others_of}

@@ -17,10 +17,10 @@ use Rattle.lq_value.specs.declared.value.Value.TheVariants.{outs-Scalar}
 use Rattle.lq_model.specs.Arrangement.{arranged, keyed, with_key}
 use Rattle.lq_model.specs.ClauseLaws.{EnumeratesGroups, GroupsInTurn, MeetsFirstKeysFirst, MeetsInnerKeysFirst, NullMatchesNothing, ReadsSourceAnew, RepeatsNoName, SeesItAlone, SeesNoRangeVariable, SortsWhole, TakesNoNull}
 use Rattle.lq_model.specs.ClauseTyping.{are_join_keys, element_type, fresh_type, has_place, if_key, if_placed, is_fresh, matched_name, matched_type, source_type, when}
-use Rattle.lq_model.specs.Meaning.{is_null_layer}
+use Rattle.lq_model.specs.ClauseMeaning.{is_null_layer}
 use Rattle.lq_model.specs.Operations.{on_ok}
 use Rattle.lq_model.specs.Stream.{Stream, both, each, elements_of, groups_of, on_value, one, then_stream, whole}
-use Rattle.lq_model.specs.Typing.{Names, local_type, with_local}
+use Rattle.lq_model.specs.Names.{Names, local_type, with_local}
 
 -- ---- names
 

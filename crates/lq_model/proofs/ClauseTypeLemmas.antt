@@ -16,11 +16,11 @@ use Rattle.lq_value.specs.declared.value.Value.TheOpen.{Value-F}
 use Rattle.lq_value.specs.declared.value.Value.TheVariants as value
 use Rattle.lq_model.specs.ClauseLaws.{RecordsMatch, TakesAllElse, AreIntAndNullable, BoundsParts, ComparesOneType, CountsParts, HidesTables, ReturnsItsName}
 use Rattle.lq_model.specs.ClauseTyping.{expression_step, expression_type, matched_type, source_type}
-use Rattle.lq_model.specs.WholeTyping.{whole_name_type}
-use Rattle.lq_model.specs.Meaning.{is_null_layer}
+use Rattle.lq_model.specs.Typing.{whole_name_type}
+use Rattle.lq_model.specs.ClauseMeaning.{is_null_layer}
 use Rattle.lq_model.specs.Stream.{elements_of}
 use Rattle.lq_model.specs.Types.{are_join_keys, are_widened, element_type, fresh_type, has_place, if_key, if_placed, is_fresh, is_key, parts_of, parts_step, same_types, sum_of_members, when}
-use Rattle.lq_model.specs.Typing.{Names, local_type, with_local}
+use Rattle.lq_model.specs.Names.{Names, local_type, with_local}
 use Rattle.lq_model.specs.declared.syntax.Expr.{Expr, fold_out-Expr, map-Expr}
 use Rattle.lq_model.specs.declared.syntax.Expr.TheOpen.{Expr-F}
 use Rattle.lq_model.specs.declared.syntax.Expr.TheVariants as expr

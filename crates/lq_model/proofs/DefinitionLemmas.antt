@@ -9,12 +9,13 @@ use Rattle.lq_value.specs.declared.value.Value.TheVariants.{outs-Seq}
 use Rattle.lq_model.specs.ClauseTyping.{expression_type}
 use Rattle.lq_model.specs.DefinitionLaws.{AreDefinedAfter, IsDefined, NamesAreKnown, NamesHaveMeanings, NamesHaveValues}
 use Rattle.lq_model.specs.Definitions.{defining, known_after, known_as, known_names, outer_names, value_in, valued_as, with_session, world_after}
-use Rattle.lq_model.specs.Meaning.{Binding, SessionValue, World, items_of, or_null, sequence, session_names, stream_of}
-use Rattle.lq_model.specs.MeaningLaws.{Every, HoldsRows, assuming}
+use Rattle.lq_model.specs.Worlds.{Binding, SessionValue, World, or_null, session_names}
+use Rattle.lq_model.specs.OperandMeaning.{items_of, sequence, stream_of}
+use Rattle.lq_model.specs.ValuesOfTypes.{Every, HoldsRows, assuming}
 use Rattle.lq_model.specs.Stream.{Stream}
-use Rattle.lq_model.specs.Typing.{SessionName}
-use Rattle.lq_model.specs.WholeMeaning.{expression_meaning}
-use Rattle.lq_model.specs.WholeMeaningLaws.{Fits, IsSessionOfValues, IsValueOf, ValueClaim, by_group, by_null_record, by_record, by_row, by_scalar, by_sequence, no_member, one_member}
+use Rattle.lq_model.specs.Names.{SessionName}
+use Rattle.lq_model.specs.Meaning.{expression_meaning}
+use Rattle.lq_model.specs.MeaningLaws.{Fits, IsSessionOfValues, IsValueOf, ValueClaim, by_group, by_null_record, by_record, by_row, by_scalar, by_sequence, no_member, one_member}
 use Rattle.lq_model.specs.declared.session.Defined.{Defined}
 use Rattle.lq_model.specs.declared.session.Defined.TheVariants as of
 use Rattle.lq_model.specs.declared.session.Definition.{Definition}
@@ -23,7 +24,7 @@ use Rattle.lq_model.specs.declared.syntax.Expr.{Expr}
 use Rattle.lq_model.proofs.AlikeStreams.{every_append}
 use Rattle.lq_model.proofs.EveryItem.{every_more, every_none}
 use Rattle.lq_model.proofs.SequenceLemmas.{never_faults}
-use Rattle.lq_model.proofs.WholeLaws.{has_whole_meaning}
+use Rattle.lq_model.proofs.TypedMeanings.{has_whole_meaning}
 
 -- ---- what is known
 

@@ -6,7 +6,7 @@ use Rattle.lq_value.specs.declared.value.Fault.{Fault}
 use Rattle.lq_value.specs.declared.value.Fault.TheVariants as fault
 use Rattle.lq_model.specs.Enumerable.{all, contains, distinct, element_at, in_front, summed, take_first}
 use Rattle.lq_model.specs.EnumerableLaws.{AnswersNone, ComparesAll, KeepsFirstAppearances, MeetsTheEnding, ReadsNothing, StopsAtItems, SumsInTurn}
-use Rattle.lq_model.specs.MeaningLaws.{Every}
+use Rattle.lq_model.specs.ValuesOfTypes.{Every}
 use Rattle.lq_model.specs.Operations.{on_ok}
 use Rattle.lq_model.proofs.EveryItem.{every_more, every_none}
 

@@ -6,10 +6,10 @@ use Rattle.lq_value.specs.declared.table.Schema.{Schema}
 use Rattle.lq_value.specs.declared.ty.Ty.{Ty}
 use Rattle.lq_value.specs.declared.value.End.{End}
 use Rattle.lq_value.specs.declared.value.Fault.{Fault}
-use Rattle.lq_model.specs.Meaning.{Binding, Scope, World, binding_of, typed_locals}
-use Rattle.lq_model.specs.MeaningLaws.{Every, IsOf, IsOfScope}
+use Rattle.lq_model.specs.Worlds.{Binding, Scope, World, binding_of, typed_locals}
+use Rattle.lq_model.specs.ValuesOfTypes.{Every, IsOf, IsOfScope}
 use Rattle.lq_model.specs.Stream.{Stream, each, kept, one, select_by, then_stream, where_by}
-use Rattle.lq_model.specs.Typing.{local_type, table_number}
+use Rattle.lq_model.specs.Names.{local_type, table_number}
 
 -- ---- lists
 

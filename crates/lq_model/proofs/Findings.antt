@@ -6,7 +6,7 @@ use Rattle.lq_value.specs.declared.ty.Ty.{Ty, out-Ty}
 use Rattle.lq_value.specs.declared.ty.Ty.TheOpen.{Ty-F}
 use Rattle.lq_value.specs.declared.ty.Ty.TheVariants as ty
 use Rattle.lq_model.specs.Types.{when}
-use Rattle.lq_model.specs.Typing.{of_operands, truth_type}
+use Rattle.lq_model.specs.OperandTypes.{of_operands, truth_type}
 
 module _ {P : Type 0} where
   pub map_by : {A B : Type 0} (f : A → B) (o : Option A) (y : B) → option_map f o ≡ Some y → ((x : A) → o ≡ Some x → f x ≡ y → P) → P

@@ -20,7 +20,7 @@ use Rattle.lq_model.specs.ClauseTyping.{expression_type}
 use Rattle.lq_model.specs.DefinitionLaws.{AreDefined, AreDefinedAfter, IsDefined, IsNew, KeepsDefined}
 use Rattle.lq_model.specs.Definitions.{definition_of, known_after, known_as, known_names}
 use Rattle.lq_model.specs.Machine.{perform, step, step_by}
-use Rattle.lq_model.specs.MeaningLaws.{Every, IsScalarOf, IsTypedTable}
+use Rattle.lq_model.specs.ValuesOfTypes.{Every, IsScalarOf, IsTypedTable}
 use Rattle.lq_model.specs.Opening.{is_past_opening, opening_of}
 use Rattle.lq_model.specs.Reading.{Reading, Nothing, Says, IsNoSyntax, IsTooDeep, reading_of}
 use Rattle.lq_model.specs.Rights.{Denied, denial}
@@ -28,12 +28,14 @@ use Rattle.lq_model.specs.Served.{assigned_data, defined_data}
 use Rattle.lq_model.specs.Statements.{Outcome, allowed_by, are_of_columns, are_within_ranges, assigned, assigned_as, assigned_by, assigned_to, assigning, chosen, defined, defined_as, defined_by, defining_also, deleted, evaluated, inserted, is_taken, refused, renewed, row_checked, row_for, row_for_named, rows_of, rows_of_named, rows_removed, taking_role, under_role, with_row, with_scalar, with_table, with_value, without}
 use Rattle.lq_model.specs.States.{State, names_in, schemas_of, world_in}
 use Rattle.lq_model.specs.Types.{same_types}
-use Rattle.lq_model.specs.Typing.{SessionName, is_bool_type, is_scalar, session_name, table_number, with_local}
+use Rattle.lq_model.specs.Names.{SessionName, session_name, table_number, with_local}
+use Rattle.lq_model.specs.OperandTypes.{is_bool_type, is_scalar}
 use Rattle.lq_model.specs.Uses.{expression_uses}
-use Rattle.lq_model.specs.Visible.{TableRow, refuser_of}
-use Rattle.lq_model.specs.WholeMeaning.{expression_meaning}
-use Rattle.lq_model.specs.WholeMeaningLaws.{IsValueOf}
-use Rattle.lq_model.specs.WholeTyping.{converts, widens}
+use Rattle.lq_model.specs.TableRows.{TableRow}
+use Rattle.lq_model.specs.Visible.{refuser_of}
+use Rattle.lq_model.specs.Meaning.{expression_meaning}
+use Rattle.lq_model.specs.MeaningLaws.{IsValueOf}
+use Rattle.lq_model.specs.Typing.{converts, widens}
 use Rattle.lq_model.specs.declared.rights.Use.TheVariants as used
 use Rattle.lq_model.specs.declared.session.Defined.{Defined}
 use Rattle.lq_model.specs.declared.session.Defined.TheVariants as of

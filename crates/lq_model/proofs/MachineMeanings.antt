@@ -10,19 +10,20 @@ use Rattle.lq_value.specs.declared.value.Value.TheVariants.{outs-Seq as outs-val
 use Rattle.lq_model.specs.ClauseTyping.{expression_type}
 use Rattle.lq_model.specs.Serving.{run_denial, run_reply, served, served_as, served_type, unless_denied}
 use Rattle.lq_model.specs.States.{State, cells_of, schemas_of, seen_by_role, world_by, names_in}
-use Rattle.lq_model.specs.Meaning.{World, items_of, stream_of, names_at}
-use Rattle.lq_model.specs.MeaningLaws.{Every, IsTypedTable, HoldsRows, assuming}
+use Rattle.lq_model.specs.Worlds.{World, names_at}
+use Rattle.lq_model.specs.OperandMeaning.{items_of, stream_of}
+use Rattle.lq_model.specs.ValuesOfTypes.{Every, IsTypedTable, HoldsRows, assuming}
 use Rattle.lq_model.specs.Served.{stream_data, value_data}
 use Rattle.lq_model.specs.Types.{has_place, if_placed, when}
-use Rattle.lq_model.specs.Typing.{SessionName}
-use Rattle.lq_model.specs.Visible.{TableRow}
-use Rattle.lq_model.specs.WholeMeaning.{expression_meaning}
-use Rattle.lq_model.specs.WholeMeaningLaws.{IsValueOf}
+use Rattle.lq_model.specs.Names.{SessionName}
+use Rattle.lq_model.specs.TableRows.{TableRow}
+use Rattle.lq_model.specs.Meaning.{expression_meaning}
+use Rattle.lq_model.specs.MeaningLaws.{IsValueOf}
 use Rattle.lq_model.specs.declared.syntax.Expr.{Expr}
 use Rattle.lq_model.proofs.EveryItem.{every_none}
-use Rattle.lq_model.proofs.MeaningLemmas.{holds_seen}
+use Rattle.lq_model.proofs.SeenTables.{holds_seen}
 use Rattle.lq_model.proofs.ValuesOfTypes.{sequence_value}
-use Rattle.lq_model.proofs.WholeLaws.{has_whole_meaning}
+use Rattle.lq_model.proofs.TypedMeanings.{has_whole_meaning}
 use Rattle.lq_model.specs.DefinitionLaws.{AreDefined, ServesMeanings}
 use Rattle.lq_model.specs.Definitions.{defining, outer_names, valued_as, with_session, world_after}
 use Rattle.lq_model.specs.declared.session.Definition.{Definition}

@@ -1,8 +1,7 @@
 -- What is typed means the same in two worlds that differ only in the fault that stands where there is no meaning.
-use Rattle.std.proofs.Common.{◌≡◌, ◌+◌, ◌∷◌, if◌then◌else◌, List, [], map, filter, ℕ, zero, suc, ℤ, Bool, true, false, not, Option, Some, None, Result, Ok, Err, ap, ap₂, ◌∙◌, arith, sym, refl, subst, slice_get, codes, option_and_then, option_map, bytes_eq, add-zero, zero-add}
-use Rattle.std.proofs.lemmas.Option.{none-some, same_Some, slice_get-map}
+use Rattle.std.proofs.Common.{◌≡◌, ◌∷◌, if◌then◌else◌, List, [], map, ℕ, zero, suc, ℤ, Bool, true, false, not, Option, Some, None, Result, Ok, Err, ap, ap₂, ◌∙◌, sym, refl, subst, slice_get, codes, option_and_then, bytes_eq}
+use Rattle.std.proofs.lemmas.Option.{none-some, same_Some}
 use Rattle.std.specs.Prelude.{is_some}
-use Rattle.lq_value.specs.Tables.{Table}
 use Rattle.lq_value.specs.declared.scalar.Scalar.{Scalar}
 use Rattle.lq_value.specs.declared.scalar.Scalar.TheVariants as scalar
 use Rattle.lq_value.specs.declared.table.Column.{Column}
@@ -21,19 +20,20 @@ use Rattle.lq_value.specs.declared.value.Value.TheOpen.{Value-F}
 use Rattle.lq_value.specs.declared.value.Value.TheVariants as value
 use Rattle.lq_value.specs.declared.value.Value.TheVariants.{outs-Row as outs-value-Row, outs-Scalar, outs-Seq as outs-value-Seq}
 use Rattle.lq_model.specs.ClauseTyping.{element_type, expression_type, source_type}
-use Rattle.lq_model.specs.States.{State, schemas_of, seen_by_role, world_by}
-use Rattle.lq_model.specs.Meaning.{Scope, World, binding_of, body_type_at, bound, bound_stream, cell_value, clause_meaning, clauses_meaning, comparand, compared_meaning, condition_at, continued, is_null, item_type_at, items_of, last_meaning, meaning, member_value, name_value, names_at, null_member, operated_meaning, same_values, told, as_value, on_scalar, or_null, query_meaning, scalar_of, source_scopes, stream_meaning, stream_of, table_value, truth_value}
+use Rattle.lq_model.specs.Worlds.{Scope, World, binding_of, bound, bound_stream, names_at, or_null}
+use Rattle.lq_model.specs.OperandMeaning.{cell_value, comparand, is_null, items_of, member_value, name_value, null_member, same_values, told, as_value, on_scalar, scalar_of, stream_of, table_value, truth_value}
+use Rattle.lq_model.specs.ClauseMeaning.{body_type_at, clause_meaning, clauses_meaning, condition_at, continued, item_type_at, last_meaning, query_meaning, source_scopes}
+use Rattle.lq_model.specs.RuleMeaning.{compared_meaning, meaning, operated_meaning, stream_meaning}
 use Rattle.lq_model.specs.Operations.{negated, of_member, of_one, on_ok, truth_of}
 use Rattle.lq_model.specs.Members.{IsSearch, member_named}
-use Rattle.lq_model.specs.MeaningLaws.{Every, HasCells, HasMeaning, HasStream, HaveTypes, HoldsRows, SelectsScalars, IsOf, is_scalar as is_scalar_value, is_row, is_sequence, IsOfScope, IsScalarOf, IsTypedTable, assuming}
-use Rattle.lq_model.specs.Served.{columns_in}
+use Rattle.lq_model.specs.ValuesOfTypes.{Every, HasCells, HasRuleMeaning, HasRuleStream, HaveTypes, HoldsRows, SelectsScalars, IsOf, is_scalar as is_scalar_value, is_row, is_sequence, IsOfScope, IsScalarOf, assuming}
 use Rattle.lq_model.specs.Stream.{Stream, kept, one}
-use Rattle.lq_model.specs.Typing.{Names, Claim, TypeOf, Leads, LeadAll, Selects, GivesItems, IsTyped, of_integer, of_local, of_table, of_column, of_text, of_null, of_has_value, of_value, of_length, of_search, of_ordering, of_equality, of_arithmetic, of_joined, of_coalesced, of_minus, of_choice, of_truth, of_not, of_both, of_either, by_where, by_none, by_first, by_select, by_query, HasType, column_named, column_type, are_comparable, are_joined, chosen, coalesced, is_comparison, is_equality, is_ordering, number_type, is_number, is_scalar, item_of, local_type, row_table, table_number, type_of, type_of_column, with_local}
-use Rattle.lq_model.specs.Visible.{TableRow, cell_named, seen_from, seen_rows, tables_as_seen, visible_to}
-use Rattle.lq_model.specs.declared.policy.Action.TheVariants as action
+use Rattle.lq_model.specs.Names.{Names, column_named, column_type, local_type, table_number, type_of_column, with_local}
+use Rattle.lq_model.specs.OperandTypes.{are_comparable, are_joined, chosen, coalesced, is_comparison, is_equality, is_ordering, number_type, is_number, is_scalar, item_of, row_table}
+use Rattle.lq_model.specs.RuleTyping.{Claim, TypeOf, Leads, LeadAll, Selects, GivesItems, IsTyped, of_integer, of_local, of_table, of_column, of_text, of_null, of_has_value, of_value, of_length, of_search, of_ordering, of_equality, of_arithmetic, of_joined, of_coalesced, of_minus, of_choice, of_truth, of_not, of_both, of_either, by_where, by_none, by_first, by_select, by_query, HasRuleType, type_of}
+use Rattle.lq_model.specs.TableRows.{cell_named}
 use Rattle.lq_model.specs.declared.operation.Op.{Op}
 use Rattle.lq_model.specs.declared.operation.Op.TheVariants as operation
-use Rattle.lq_model.specs.declared.policy.PolicyParts.{PolicyParts}
 use Rattle.lq_model.specs.declared.syntax.Argument.TheVariants as argument
 use Rattle.lq_model.specs.declared.syntax.Binary.{Binary}
 use Rattle.lq_model.specs.declared.syntax.Binary.TheVariants as binary
@@ -47,11 +47,11 @@ use Rattle.lq_model.specs.declared.syntax.Last.TheVariants as last
 use Rattle.lq_model.specs.declared.syntax.Node.TheVariants as node
 use Rattle.lq_model.specs.declared.syntax.Query.{Query}
 use Rattle.lq_model.specs.declared.syntax.Unary.TheVariants as unary
-use Rattle.lq_model.proofs.EveryItem.{each_same, every_filter, every_kept, every_map, every_more, every_none, every_selected, has_binding, no_binding, table_there}
+use Rattle.lq_model.proofs.EveryItem.{each_same, every_kept, every_map, every_more, every_none, every_selected, has_binding, no_binding, table_there}
 use Rattle.lq_model.proofs.Opens.{meaning_binary, meaning_both, meaning_coalesce, meaning_method, meaning_null, meaning_text, meaning_choice, meaning_either, meaning_integer, meaning_member, meaning_minus, meaning_name, meaning_not, meaning_truth}
 use Rattle.lq_model.proofs.ScalarResults.{arithmetic_of, Coalesces, Gives, HasScalars, Widens, chosen_widens, coalesced_fits, faults, given_of, gives, has_value_given, joined_given, joined_scalars, length_given, looked_for, minus_given, no_items_before, no_items_behind, number_scalars, ordering_given, row_is_no_scalar, search_given, sequence_is_no_scalar, signed, value_given}
 use Rattle.lq_model.proofs.TypedValues.{IsRowOrNull, IsSequence, a_row, a_sequence, bool_value, comparand_there, decides_same, member_of_scalar, no_row, row_value, scalar_there, sequence_value, widened_value}
-use Rattle.lq_model.proofs.WholeTypes.{whole_type}
+use Rattle.lq_model.proofs.KeptTypes.{whole_type}
 use Rattle.lq_model.proofs.TypingLemmas.{type_complete}
 
 -- ---- outcomes that are the same in both worlds
@@ -508,7 +508,7 @@ module _ {R : Type 0} (world : World R) (holds : HoldsRows world) (f g : Fault) 
   }
 
   -- the scopes of a query's first clause
-  means_source : (names : Names) (q : Query Expr) (item : Ty) → HasType names q.source (ty.Seq item) → Means (TypeOf names q.source (ty.Seq item))
+  means_source : (names : Names) (q : Query Expr) (item : Ty) → HasRuleType names q.source (ty.Seq item) → Means (TypeOf names q.source (ty.Seq item))
       → (scope : Scope R) → At names scope → AreSameScopes (with_local names q.name item) (sources_in left q scope) (sources_in right q scope)
   means_source names q item typed means scope at =
       let items = source_outcome item _ _ (means scope at) in
@@ -532,7 +532,7 @@ module _ {R : Type 0} (world : World R) (holds : HoldsRows world) (f g : Fault) 
         every_more (λ b. IsOf world b.ty b.value) (record { name = q.name; ty = found; value = v }) scope (subst (λ (t : Ty). IsOf world t v) (sym is_item) fits) at.1,
       )
 
-  means_query : (names behind : Names) (q : Query Expr) (item t : Ty) → HasType names q.source (ty.Seq item) → Means (TypeOf names q.source (ty.Seq item))
+  means_query : (names behind : Names) (q : Query Expr) (item t : Ty) → HasRuleType names q.source (ty.Seq item) → Means (TypeOf names q.source (ty.Seq item))
       → Means (LeadAll names q.body.clauses (with_local names q.name item) behind) → Means (Selects behind q.body.last t) → q.rest ≡ [] → Means (GivesItems names q t)
   unfolding query_meaning
   means_query names behind q item t typed source clauses selected ended scope at =
@@ -596,17 +596,17 @@ module _ {R : Type 0} (world : World R) (holds : HoldsRows world) (f g : Fault) 
   means (by_query names behind q item t source fresh clauses selected ended) = means_query names behind q item t source (means source) (means clauses) (means selected) ended
 
 -- what a typed expression means, if it is a value, is one of its type
-pub value_of_type : {R : Type 0} (world : World R) → HoldsRows world → (f : Fault) (names : Names) (e : Expr) (t : Ty) → HasType names e t → (scope : Scope R) → names ≡ names_at world scope
+pub value_of_type : {R : Type 0} (world : World R) → HoldsRows world → (f : Fault) (names : Names) (e : Expr) (t : Ty) → HasRuleType names e t → (scope : Scope R) → names ≡ names_at world scope
     → IsOfScope world scope → (v : Value R) → meaning (assuming f world) e scope ≡ Ok v → IsOf world t v
 value_of_type world holds f names e t typed scope at fits = of_its_type world holds f f t _ _ (means world holds f f typed scope (at, fits))
 
 -- ---- the laws
 
-pub has_meaning : HasMeaning
+pub has_meaning : HasRuleMeaning
 has_meaning world holds scope fits e t typed f g =
     let same = means world holds f g typed scope (refl, fits) in (same_outcome world holds f g t _ _ same, of_its_type world holds f g t _ _ same)
 
-pub has_stream : HasStream
+pub has_stream : HasRuleStream
 has_stream world holds scope fits q t typed f g =
     let items = means world holds f g typed scope (refl, fits) in (items.same, items.typed)
 
@@ -653,7 +653,7 @@ pub selects_scalars : SelectsScalars
 selects_scalars world holds scope fits q t typed f k v is =
     scalar_value world t v ((has_stream world holds scope fits q t typed f f).1 k v is) (scalar_claim typed)
 
--- ---- the rows that a role sees
+-- ---- the cell under a column
 
 cell_by : (c : List ℕ) (column : Column) (rest : Option Column) (rest_cell : Option Scalar) (cell : Scalar) (t : ColumnType)
     → IsScalarOf (out-Ty (type_of_column column.ty)) cell
@@ -671,55 +671,3 @@ cell_there [] cells fit c found h = absurd (none-some found h)
 cell_there (column ∷ columns) [] fit c found h = absurd fit
 cell_there (column ∷ columns) (cell ∷ cells) fit c found h =
     cell_by c column (column_named c columns) (cell_named (map (λ d. d.name) columns) cells c) cell column.ty fit.0 (λ d is. cell_there columns cells fit.1 c d is) (bytes_eq column.name c) found h
-
-same_place : (start number : ℕ) → (start + 1) + number ≡ start + suc number
-same_place start number = omega arith
-
--- the rows of a table as seen, by its number
-pub seen_at : (parts : PolicyParts) (role start number : ℕ) (tables : List Table)
-    → slice_get (seen_from parts role start tables) number ≡ option_map (λ table. seen_rows parts role (start + number) table.rows) (slice_get tables number)
-seen_at parts role start number [] = refl
-seen_at parts role start zero (table ∷ tables) = ap (λ n. Some (seen_rows parts role n table.rows)) (sym (add-zero start))
-seen_at parts role start (suc number) (table ∷ tables) =
-    seen_at parts role (start + 1) number tables
-    ∙ ap (λ n. option_map (λ t. seen_rows parts role n t.rows) (slice_get tables number)) (same_place start number)
-
--- the table that has a schema
-table_with : (tables : List Table) (n : ℕ) (schema : Schema) → slice_get (schemas_of tables) n ≡ Some schema → (table : Table) × (slice_get tables n ≡ Some table) × (table.schema ≡ schema)
-table_with tables n schema h = by (slice_get tables n) refl (sym (slice_get-map (λ table. table.schema) tables n) ∙ h) where
-  by : (o : Option Table) → slice_get tables n ≡ o → option_map (λ table. table.schema) o ≡ Some schema → (table : Table) × (slice_get tables n ≡ Some table) × (table.schema ≡ schema)
-  by None is g = absurd (none-some schema g)
-  by (Some table) is g = (table, is, same_Some table.schema schema g)
-
-module _ (s : State) (typed : Every IsTypedTable s.tables) (unknown : Fault) where
-  abbrev seen_world : World TableRow
-  seen_world = world_by unknown (schemas_of s.tables) (seen_by_role s)
-
-  -- a row of a table has its cells, whether it is seen or not
-  pub column_by : (n : ℕ) (table : Table) (row : Row) → slice_get (schemas_of s.tables) n ≡ Some table.schema → HaveTypes table.schema.columns row.cells → HasCells seen_world n (record { table = n; row = row })
-  column_by n table row at fit c t found = under (column_named c table.schema.columns) refl (sym (ap (λ (o : Option Schema). column_in o) at) ∙ found) where
-    column_in : Option Schema → Option Ty
-    column_in o = option_and_then (λ schema. option_map (λ column. type_of_column column.ty) (column_named c schema.columns)) o
-
-    cell_in : Option Schema → Option Scalar
-    cell_in o = cell_named (columns_in o) row.cells c
-
-    under : (o : Option Column) → column_named c table.schema.columns ≡ o → option_map (λ column. type_of_column column.ty) o ≡ Some t
-        → (cell : Scalar) × (seen_world.cell (record { table = n; row = row }) c ≡ Some cell) × IsScalarOf (out-Ty t) cell
-    under None is h = absurd (none-some t h)
-    under (Some column) is h =
-        let cell = cell_there table.schema.columns row.cells fit c column is in
-        (cell.0, ap cell_in at ∙ cell.1, subst (λ (u : Ty). IsScalarOf (out-Ty u) cell.0) (same_Some (type_of_column column.ty) t h) cell.2)
-
-  pub holds_seen : HoldsRows seen_world
-  unfolding tables_as_seen
-  holds_seen n schema is =
-      let found = table_with s.tables n schema is in
-      let at : slice_get (schemas_of s.tables) n ≡ Some found.0.schema = is ∙ ap Some (sym found.2) in (
-        seen_rows s.policies s.role n found.0.rows,
-        seen_at s.policies s.role 0 n s.tables ∙ ap (option_map (λ t. seen_rows s.policies s.role (0 + n) t.rows)) found.1
-            ∙ ap (λ m. Some (seen_rows s.policies s.role m found.0.rows)) (zero-add n),
-        every_map (λ row. HaveTypes found.0.schema.columns row.cells) (HasCells seen_world n) (λ row. record { table = n; row = row }) (λ row fit. column_by n found.0 row at fit)
-            (filter (λ row. visible_to s.policies s.role action.Select n row.cells) found.0.rows)
-            (every_filter (λ row. HaveTypes found.0.schema.columns row.cells) (λ row. visible_to s.policies s.role action.Select n row.cells) found.0.rows (typed n found.0 found.1)),
-      )

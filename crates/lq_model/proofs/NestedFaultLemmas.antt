@@ -8,7 +8,7 @@ use Rattle.lq_value.specs.declared.value.Value.{Value, ind-Value, map-Value, out
 use Rattle.lq_value.specs.declared.value.Value.TheOpen.{Value-F}
 use Rattle.lq_value.specs.declared.value.Value.TheVariants as value
 use Rattle.lq_value.specs.declared.value.Value.TheVariants.{outs-Group, outs-Rec, outs-Row, outs-Scalar, outs-Seq, rolls-Group, rolls-Rec, rolls-Row, rolls-Scalar, rolls-Seq}
-use Rattle.lq_model.specs.MeaningLaws.{Every}
+use Rattle.lq_model.specs.ValuesOfTypes.{Every}
 use Rattle.lq_model.specs.NestedFaults.{HasNoFault, IsFirstFault, NamesFirstFault, ServesFaultless}
 use Rattle.lq_model.specs.NestedFaults as law
 use Rattle.lq_model.specs.Served.{fault_at, fault_step, first_member, first_of, nested_fault, or_next}

@@ -9,7 +9,7 @@ use Rattle.lq_value.specs.declared.value.Fault.{Fault}
 use Rattle.lq_model.specs.NullLaws.{HasValueUnlessNull, NullHasNoOrder, NullHasNothing, SameByContent}
 use Rattle.lq_model.specs.OperationLaws.{AreOfOneKind, IsNumber, IsText, IsTruth}
 use Rattle.lq_model.specs.Operations.{applied, on_ok, operation_of, same_content, truth}
-use Rattle.lq_model.specs.Typing.{is_ordering}
+use Rattle.lq_model.specs.OperandTypes.{is_ordering}
 use Rattle.lq_model.specs.declared.operation.Op.TheVariants as op
 use Rattle.lq_model.specs.declared.syntax.Binary.{Binary}
 use Rattle.lq_model.specs.declared.syntax.Binary.TheVariants as binary

@@ -16,7 +16,7 @@ use Rattle.lq_value.specs.declared.value.Fault.{Fault}
 use Rattle.lq_value.proofs.OrderLemmas.{orders_scalars, tells_scalars}
 use Rattle.lq_model.specs.Arrangement.{Keyed, all_of, arranged, is_greater, keyed, order_of_keys, turned, with_key}
 use Rattle.lq_model.specs.ArrangementLaws.{IsSorted, TellsOne}
-use Rattle.lq_model.specs.MeaningLaws.{Every}
+use Rattle.lq_model.specs.ValuesOfTypes.{Every}
 use Rattle.lq_model.specs.OneArrangement.{AreFound, ArrangesItems, ArrangesOnce, HasTiesOf}
 use Rattle.lq_model.specs.Operations.{on_ok}
 use Rattle.lq_model.specs.Stream.{on_value}

@@ -6,10 +6,14 @@ use Rattle.lq_value.specs.declared.ty.Ty.TheVariants as ty
 use Rattle.lq_value.specs.declared.value.Fault.{Fault}
 use Rattle.lq_value.specs.declared.value.Value.{Value, out-Value}
 use Rattle.lq_value.specs.declared.value.Value.TheVariants as value
-use Rattle.lq_model.specs.Meaning.{Meaning, Meant, Scope, World, binding_of, compared_meaning, is_null, meaning, meaning_step, member_value, name_value, names_at, as_value, on_scalar, on_truth, operated_meaning, truth_value}
+use Rattle.lq_model.specs.Worlds.{Meaning, Scope, World, binding_of, names_at}
+use Rattle.lq_model.specs.OperandMeaning.{is_null, member_value, name_value, as_value, on_scalar, on_truth, truth_value}
+use Rattle.lq_model.specs.RuleMeaning.{Meant, compared_meaning, meaning, meaning_step, operated_meaning}
 use Rattle.lq_model.specs.Members.{is_search, search_named, sole_argument}
 use Rattle.lq_model.specs.Operations.{negated, of_search, on_ok}
-use Rattle.lq_model.specs.Typing.{Names, binary_type, choice_type, coalesced, if_number, is_bool_type, is_equality, is_text_type, local_type, member_type, name_type, of_operands, truth_type, type_of, type_step}
+use Rattle.lq_model.specs.Names.{Names, local_type}
+use Rattle.lq_model.specs.OperandTypes.{binary_type, choice_type, coalesced, if_number, is_bool_type, is_equality, is_text_type, member_type, of_operands, truth_type}
+use Rattle.lq_model.specs.RuleTyping.{name_type, type_of, type_step}
 use Rattle.lq_model.specs.declared.syntax.Binary.{Binary}
 use Rattle.lq_model.specs.declared.syntax.Expr.{Expr, fold_out-Expr, map-Expr, out-Expr, para-roll-Expr, roll-Expr}
 use Rattle.lq_model.specs.declared.syntax.Expr.TheOpen.{Expr-F}

@@ -8,10 +8,12 @@ use Rattle.lq_value.specs.declared.value.Fault.{Fault}
 use Rattle.lq_value.specs.declared.value.Value.{Value}
 use Rattle.lq_model.specs.Arrangement.{Keyed, all_of, arranged, keyed, order_by, with_key}
 use Rattle.lq_model.specs.ClauseTyping.{are_sort_keys, body_items, continued_items, if_within, is_sort_key, last_type, names_after, names_after_all, query_items, sole_name, source_type, when}
-use Rattle.lq_model.specs.Meaning.{Meaning, Scope, World, body_meaning, body_type_at, bound_stream, clause_meaning, clauses_meaning, continued, item_type_at, last_meaning, names_at, or_null, query_meaning, sort_key_at, stream_of}
+use Rattle.lq_model.specs.Worlds.{Meaning, Scope, World, bound_stream, names_at, or_null}
+use Rattle.lq_model.specs.OperandMeaning.{stream_of}
+use Rattle.lq_model.specs.ClauseMeaning.{body_meaning, body_type_at, clause_meaning, clauses_meaning, continued, item_type_at, last_meaning, query_meaning, sort_key_at}
 use Rattle.lq_model.specs.Operations.{on_ok}
 use Rattle.lq_model.specs.Stream.{Stream, on_value, whole}
-use Rattle.lq_model.specs.Typing.{Names}
+use Rattle.lq_model.specs.Names.{Names}
 use Rattle.lq_model.specs.declared.syntax.Body.{Body}
 use Rattle.lq_model.specs.declared.syntax.Clause.{Clause}
 use Rattle.lq_model.specs.declared.syntax.Clause.TheVariants as clause

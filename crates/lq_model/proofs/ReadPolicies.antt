@@ -11,11 +11,12 @@ use Rattle.lq_value.specs.declared.value.Fault.{Fault}
 use Rattle.lq_value.specs.declared.value.Fault.TheVariants as fault
 use Rattle.lq_value.specs.declared.value.Value.{Value}
 use Rattle.lq_value.specs.declared.value.Value.TheVariants as value
-use Rattle.lq_model.specs.Meaning.{World}
+use Rattle.lq_model.specs.Worlds.{World}
 use Rattle.lq_model.specs.PolicyLaws.{AcceptsVisible, TellsRefuser, TellsVisible}
 use Rattle.lq_model.specs.RuleLaws.{AreCellsOf, AreReadFor, IsRowOver, IsRuleOver, language_world}
-use Rattle.lq_model.specs.Visible.{Admits, read, put_in, removed, Asked, HasRule, IsAdmitted, IsFirstRefusing, IsRefusedBy, default, restriction, IsSatisfied, IsTrueOn, IsVisible, unsecured, bypassing, admitted, cell_named, refuser_of, rule_holds, rule_scope}
-use Rattle.lq_model.specs.WholeMeaning.{expression_meaning}
+use Rattle.lq_model.specs.TableRows.{cell_named}
+use Rattle.lq_model.specs.Visible.{Admits, read, put_in, removed, Asked, HasRule, IsAdmitted, IsFirstRefusing, IsRefusedBy, default, restriction, IsSatisfied, IsTrueOn, IsVisible, unsecured, bypassing, admitted, refuser_of, rule_holds, rule_scope}
+use Rattle.lq_model.specs.Meaning.{expression_meaning}
 use Rattle.lq_model.specs.declared.policy.Action.{Action}
 use Rattle.lq_model.specs.declared.policy.Action.TheVariants as action
 use Rattle.lq_model.specs.declared.policy.Policy.{Policy}

@@ -15,15 +15,20 @@ use Rattle.lq_value.specs.declared.value.Value.TheOpen.{Value-F}
 use Rattle.lq_value.specs.declared.value.Value.TheVariants as value
 use Rattle.lq_value.specs.declared.value.Value.TheVariants.{outs-Scalar, rolls-Scalar}
 use Rattle.lq_value.specs.declared.value.Value.TheViews.{roll-out-Value}
-use Rattle.lq_model.specs.Meaning.{Binding, Scope, World, meaning, scalar_of}
-use Rattle.lq_model.specs.MeaningLaws.{Every, HasCells, HoldsRows, IsOf, IsOfScope, IsScalarOf, is_row, is_scalar}
+use Rattle.lq_model.specs.Worlds.{Binding, Scope, World}
+use Rattle.lq_model.specs.OperandMeaning.{scalar_of}
+use Rattle.lq_model.specs.RuleMeaning.{meaning}
+use Rattle.lq_model.specs.ValuesOfTypes.{Every, HasCells, HoldsRows, IsOf, IsOfScope, IsScalarOf, is_row, is_scalar}
 use Rattle.lq_model.specs.Operations.{on_ok, truth_of}
 use Rattle.lq_model.specs.RuleLaws.{HoldsAsMeant, HoldsWhereTrue, IsRowOver, IsRuleOver, language_world}
 use Rattle.lq_model.specs.TotalityLaws.{rule_names}
-use Rattle.lq_model.specs.Typing.{HasType, column_named, row_table, type_of_column}
-use Rattle.lq_model.specs.Visible.{cell_named, is_true, rule_holds, rule_scope, rule_world}
-use Rattle.lq_model.specs.WholeMeaning.{expression_meaning}
-use Rattle.lq_model.specs.WholeMeaningLaws.{IsScopeOfValues, IsValueOf, by_row, by_scalar}
+use Rattle.lq_model.specs.Names.{column_named, type_of_column}
+use Rattle.lq_model.specs.OperandTypes.{row_table}
+use Rattle.lq_model.specs.RuleTyping.{HasRuleType}
+use Rattle.lq_model.specs.TableRows.{cell_named}
+use Rattle.lq_model.specs.Visible.{is_true, rule_holds, rule_scope, rule_world}
+use Rattle.lq_model.specs.Meaning.{expression_meaning}
+use Rattle.lq_model.specs.MeaningLaws.{IsScopeOfValues, IsValueOf, by_row, by_scalar}
 use Rattle.lq_model.specs.declared.syntax.Expr.{Expr}
 use Rattle.lq_model.proofs.EveryItem.{every_more, every_none}
 use Rattle.lq_model.proofs.MeaningLemmas.{cell_there}
@@ -31,8 +36,8 @@ use Rattle.lq_model.proofs.RuleTyping.{total_alike}
 use Rattle.lq_model.proofs.ServedMeanings.{keeps_meanings}
 use Rattle.lq_model.proofs.TotalRules.{decides_rules}
 use Rattle.lq_model.proofs.TypingLemmas.{type_sound}
-use Rattle.lq_model.proofs.WholeLaws.{has_whole_meaning}
-use Rattle.lq_model.proofs.WholeRules.{total_same}
+use Rattle.lq_model.proofs.TypedMeanings.{has_whole_meaning}
+use Rattle.lq_model.proofs.RuleMeanings.{total_same}
 
 -- what is true of what an expression means
 abbrev pub truth_in : World (List Scalar) → Result (Value (List Scalar)) Fault → Bool
@@ -85,7 +90,7 @@ module _ (columns : List Column) (cells : List Scalar) (row : IsRowOver columns 
 
   module _ (rule : Expr) (is : IsRuleOver columns rule) where
     -- the rule is typed as it is served
-    served : HasType (rule_names [] columns) rule ty.Bool
+    served : HasRuleType (rule_names [] columns) rule ty.Bool
     served = type_sound rule (rule_names [] columns) ty.Bool (sym (total_alike (record { name = []; columns = columns } ∷ []) is.total) ∙ is.truth)
 
     decided : (b : Bool) × (meaning (rule_world (map (λ column. column.name) columns)) rule scope ≡ Ok (value.Scalar (scalar.Bool b)))

@@ -9,9 +9,11 @@ use Rattle.lq_value.specs.declared.ty.Ty.{Ty, out-Ty}
 use Rattle.lq_value.specs.declared.ty.Ty.TheOpen.{Ty-F}
 use Rattle.lq_value.specs.declared.ty.Ty.TheVariants as ty
 use Rattle.lq_value.specs.declared.ty.Ty.TheVariants.{outs-Bool, outs-Int, outs-IntN, outs-Null, outs-Str}
-use Rattle.lq_model.specs.Meaning.{is_row_type}
+use Rattle.lq_model.specs.OperandMeaning.{is_row_type}
 use Rattle.lq_model.specs.Totality.{Claim, Holds, Sure, Total, sure_coalesce, sure_conditional, sure_text, sure_user, total_and, total_coalesce, total_column, total_comparison, total_conditional, total_division, total_has_value, total_integer, total_minus, total_not, total_null, total_or, total_search, total_text, total_truth, total_user}
-use Rattle.lq_model.specs.Typing.{Names, are_comparable, are_joined, binary_type, choice_type, chosen, coalesced, column_named, if_number, is_equality, is_number, is_ordering, joined_type, member_type, number_type, of_operands, result_type, row_table, truth_type, type_of, type_of_column}
+use Rattle.lq_model.specs.Names.{Names, column_named, type_of_column}
+use Rattle.lq_model.specs.OperandTypes.{are_comparable, are_joined, binary_type, choice_type, chosen, coalesced, if_number, is_equality, is_number, is_ordering, joined_type, member_type, number_type, of_operands, result_type, row_table, truth_type}
+use Rattle.lq_model.specs.RuleTyping.{type_of}
 use Rattle.lq_model.specs.declared.syntax.Argument.TheVariants as argument
 use Rattle.lq_model.specs.declared.syntax.Binary.{Binary}
 use Rattle.lq_model.specs.declared.syntax.Binary.TheVariants as binary

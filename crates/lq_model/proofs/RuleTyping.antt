@@ -12,8 +12,10 @@ use Rattle.lq_model.specs.ClauseTyping.{expression_type}
 use Rattle.lq_model.specs.EnumerableCalls.{enumerable_call}
 use Rattle.lq_model.specs.Members.{IsSearch, is_search}
 use Rattle.lq_model.specs.Totality.{Claim, Holds, IsTotal, Sure, Total, sure_coalesce, sure_conditional, sure_text, sure_user, total_and, total_coalesce, total_column, total_comparison, total_conditional, total_division, total_has_value, total_integer, total_minus, total_not, total_null, total_or, total_search, total_text, total_truth, total_user}
-use Rattle.lq_model.specs.Typing.{Names, are_comparable, are_joined, binary_type, choice_type, chosen, coalesced, column_named, if_number, is_bool_type, is_equality, is_number, is_ordering, is_text, is_text_type, joined_type, member_type, number_type, of_operands, operated_type, result_type, truth_type, type_of, type_of_column}
-use Rattle.lq_model.specs.WholeTyping.{are_null_tests, called_type, whole_choice_type, whole_chosen, whole_member_type, whole_operated_type}
+use Rattle.lq_model.specs.Names.{Names, column_named, type_of_column}
+use Rattle.lq_model.specs.OperandTypes.{are_comparable, are_joined, binary_type, choice_type, chosen, coalesced, if_number, is_bool_type, is_equality, is_number, is_ordering, is_text, is_text_type, joined_type, member_type, number_type, of_operands, operated_type, result_type, truth_type}
+use Rattle.lq_model.specs.RuleTyping.{type_of}
+use Rattle.lq_model.specs.Typing.{are_null_tests, called_type, whole_choice_type, whole_chosen, whole_member_type, whole_operated_type}
 use Rattle.lq_model.specs.declared.syntax.Argument.TheVariants as argument
 use Rattle.lq_model.specs.declared.syntax.Binary.{Binary}
 use Rattle.lq_model.specs.declared.syntax.Binary.TheVariants as binary
@@ -27,7 +29,7 @@ use Rattle.lq_model.proofs.MemberLemmas.{search_told}
 use Rattle.lq_model.proofs.Opens.{type_binary, type_both, type_choice, type_coalesce, type_either, type_integer, type_member, type_method, type_minus, type_name, type_not, type_null, type_text, type_truth}
 use Rattle.lq_model.proofs.RuleTypes.{rule_locals}
 use Rattle.lq_model.proofs.ValuesOfTypes.{is_plain}
-use Rattle.lq_model.proofs.WholeTypes.{whole_is, whole_layer}
+use Rattle.lq_model.proofs.KeptTypes.{whole_is, whole_layer}
 
 -- ---- types of scalars and of null
 

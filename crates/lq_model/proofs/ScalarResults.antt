@@ -13,12 +13,12 @@ use Rattle.lq_value.specs.declared.ty.Ty.TheVariants as ty
 use Rattle.lq_value.specs.declared.ty.Ty.TheVariants.{outs-Bool, outs-Int, outs-IntN, outs-Null, outs-Row, outs-Str}
 use Rattle.lq_value.specs.declared.value.Fault.{Fault}
 use Rattle.lq_value.specs.declared.value.Fault.TheVariants as fault
-use Rattle.lq_model.specs.Meaning.{is_null, operation_on}
-use Rattle.lq_model.specs.MeaningLaws.{IsScalarOf}
+use Rattle.lq_model.specs.OperandMeaning.{is_null, operation_on}
+use Rattle.lq_model.specs.ValuesOfTypes.{IsScalarOf}
 use Rattle.lq_model.specs.Members.{IsSearch, contains, ends, search_named, starts}
 use Rattle.lq_model.specs.OperationLaws.{IsNumber, IsText, IsTruth}
 use Rattle.lq_model.specs.Operations.{arithmetic, begins_with, checked, computed, divided, ends_in, found, has_in, is_int, left_over, negated, of_one, of_search, of_two, on_ok, operation_of, ordered_by, same_content, searched, truth, utf16_units}
-use Rattle.lq_model.specs.Typing.{are_comparable, are_joined, chosen, coalesced, is_comparison, is_number, is_ordering, is_scalar, is_text, item_of, number_type, row_table}
+use Rattle.lq_model.specs.OperandTypes.{are_comparable, are_joined, chosen, coalesced, is_comparison, is_number, is_ordering, is_scalar, is_text, item_of, number_type, row_table}
 use Rattle.lq_model.specs.declared.operation.Op.{Op}
 use Rattle.lq_model.specs.declared.operation.Op.TheVariants as operation
 use Rattle.lq_model.specs.declared.syntax.Binary.{Binary}

@@ -9,10 +9,11 @@ use Rattle.lq_value.specs.declared.table.Row.{Row}
 use Rattle.lq_value.specs.declared.table.Schema.{Schema}
 use Rattle.lq_model.proofs.EveryItem.{first_of, others_of}
 use Rattle.lq_model.proofs.ReadPolicies.{tells_visible}
-use Rattle.lq_model.specs.MeaningLaws.{Every}
+use Rattle.lq_model.specs.ValuesOfTypes.{Every}
 use Rattle.lq_model.specs.RuleLaws.{IsRowOver}
 use Rattle.lq_model.specs.PolicyLaws.{FindsCells, Filters, end, keeps, drops, SeesEachTable, SeesVisibleRows}
-use Rattle.lq_model.specs.Visible.{HasCell, IsVisible, cell_named, seen_from, seen_rows, tables_as_seen, visible_to}
+use Rattle.lq_model.specs.TableRows.{cell_named}
+use Rattle.lq_model.specs.Visible.{HasCell, IsVisible, seen_from, seen_rows, tables_as_seen, visible_to}
 use Rattle.lq_model.specs.declared.policy.Action.TheVariants as action
 use Rattle.lq_model.specs.declared.policy.PolicyParts.{PolicyParts}
 

@@ -12,15 +12,17 @@ use Rattle.lq_value.specs.declared.value.Value.TheVariants as value
 use Rattle.lq_model.specs.ClauseTyping.{expression_type}
 use Rattle.lq_model.specs.EnumerableCalls.{By, Plain, With}
 use Rattle.lq_model.specs.Maps.{map_node}
-use Rattle.lq_model.specs.Meaning.{Scope, World, names_at, sequence, stream_of, table_value}
-use Rattle.lq_model.specs.MeaningLaws.{HoldsRows, assuming}
+use Rattle.lq_model.specs.Worlds.{Scope, World, names_at}
+use Rattle.lq_model.specs.OperandMeaning.{sequence, stream_of, table_value}
+use Rattle.lq_model.specs.ValuesOfTypes.{HoldsRows, assuming}
 use Rattle.lq_model.specs.Stream.{Stream}
-use Rattle.lq_model.specs.Typing.{Names, SessionName, item_of, local_type, session_name, table_number}
+use Rattle.lq_model.specs.Names.{Names, SessionName, local_type, session_name, table_number}
+use Rattle.lq_model.specs.OperandTypes.{item_of}
 use Rattle.lq_model.specs.TypingRules.{TypeClaim, Has, IsRight}
 use Rattle.lq_model.specs.TypingRules as rule
-use Rattle.lq_model.specs.WholeMeaning.{as_sequence, expression_meaning, global_value, is_sequence_layer, settled, whole_meaning, whole_name_value}
-use Rattle.lq_model.specs.WholeMeaningLaws.{IsScopeOfValues, IsSessionOfValues, NeverFaults}
-use Rattle.lq_model.specs.WholeTyping.{given_type, through_type, whole_chosen, whole_member_type}
+use Rattle.lq_model.specs.Meaning.{as_sequence, expression_meaning, global_value, is_sequence_layer, settled, whole_meaning, whole_name_value}
+use Rattle.lq_model.specs.MeaningLaws.{IsScopeOfValues, IsSessionOfValues, NeverFaults}
+use Rattle.lq_model.specs.Typing.{given_type, through_type, whole_chosen, whole_member_type}
 use Rattle.lq_model.specs.declared.syntax.Expr.{Expr}
 use Rattle.lq_model.specs.declared.syntax.Expr.TheVariants as expr
 use Rattle.lq_model.specs.declared.syntax.Node.{Node}
@@ -29,9 +31,9 @@ use Rattle.lq_model.proofs.EveryItem.{no_binding, table_there}
 use Rattle.lq_model.proofs.Findings.{when_by}
 use Rattle.lq_model.proofs.SourceTypes.{HasNoItems, chosen_has_none, coalesced_has_none, columns_are_scalars, has_none, no_items_Bool, no_items_Int, no_items_Null, no_items_Str, number_has_none, numbers_have_none}
 use Rattle.lq_model.proofs.ValuesOfTypes.{sequence_value}
-use Rattle.lq_model.proofs.WholeCompleteness.{found, lambda_found}
-use Rattle.lq_model.proofs.WholeMeans.{beside, has_session_value, has_value, meaning_of_node, meaning_of_query, method_typed}
-use Rattle.lq_model.proofs.WholeSoundness.{type_of_node, whole_sound}
+use Rattle.lq_model.proofs.TypingCompleteness.{found, lambda_found}
+use Rattle.lq_model.proofs.KeptMeanings.{beside, has_session_value, has_value, meaning_of_node, meaning_of_query, method_typed}
+use Rattle.lq_model.proofs.TypingSoundness.{type_of_node, whole_sound}
 
 no_items_Rec : (ms : List (List ℕ × Ty)) → HasNoItems (ty.Rec ms)
 no_items_Rec ms = ap item_of (outs-Rec ms)

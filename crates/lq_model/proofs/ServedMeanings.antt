@@ -18,15 +18,20 @@ use Rattle.lq_value.specs.declared.value.Value.TheVariants.{outs-Row as outs-val
 use Rattle.lq_model.specs.ClauseTyping.{element_type, expression_type, source_type}
 use Rattle.lq_model.specs.EnumerableCalls.{enumerable_call}
 use Rattle.lq_model.specs.Maps.{map_node}
-use Rattle.lq_model.specs.Meaning.{Binding, Meaning, Meant, Scope, World, as_value, body_type_at, bound, bound_stream, clause_meaning, clauses_meaning, compared_meaning, condition_at, continued, is_null, item_type_at, items_of, last_meaning, meaning, meaning_step, member_value, name_value, names_at, node_meaning, on_comparand, on_scalar, on_truth, operated_meaning, or_null, query_meaning, same_values, source_scopes, stream_of, table_value, told, truth_value}
-use Rattle.lq_model.specs.MeaningLaws.{Every, HoldsRows, IsOf, is_scalar as is_scalar_value, is_row, is_sequence, IsOfScope, assuming}
+use Rattle.lq_model.specs.Worlds.{Binding, Meaning, Scope, World, bound, bound_stream, names_at, or_null}
+use Rattle.lq_model.specs.OperandMeaning.{as_value, is_null, items_of, member_value, name_value, on_comparand, on_scalar, on_truth, same_values, stream_of, table_value, told, truth_value}
+use Rattle.lq_model.specs.ClauseMeaning.{body_type_at, clause_meaning, clauses_meaning, condition_at, continued, item_type_at, last_meaning, query_meaning, source_scopes}
+use Rattle.lq_model.specs.RuleMeaning.{Meant, compared_meaning, meaning, meaning_step, node_meaning, operated_meaning}
+use Rattle.lq_model.specs.ValuesOfTypes.{Every, HoldsRows, IsOf, is_scalar as is_scalar_value, is_row, is_sequence, IsOfScope, assuming}
 use Rattle.lq_model.specs.Members.{is_search, member_named}
 use Rattle.lq_model.specs.Operations.{negated, of_member, on_ok, truth_of}
 use Rattle.lq_model.specs.Stream.{Stream, kept, one}
-use Rattle.lq_model.specs.Typing.{Names, Claim, TypeOf, Leads, LeadAll, Selects, GivesItems, IsTyped, of_integer, of_local, of_table, of_column, of_text, of_null, of_has_value, of_value, of_length, of_search, of_ordering, of_equality, of_arithmetic, of_joined, of_coalesced, of_minus, of_choice, of_truth, of_not, of_both, of_either, by_where, by_none, by_first, by_select, by_query, HasType, is_equality, is_text, is_text_type, item_of, number_type, local_type, row_table, table_number, truth_type, type_of, with_local}
-use Rattle.lq_model.specs.WholeMeaning.{as_sequence, called_meaning, expression_meaning, global_value, has_members, is_sequence_layer, search_meaning, settled, whole_compared, whole_meaning, whole_member_value, whole_name_value, whole_same}
-use Rattle.lq_model.specs.WholeMeaningLaws.{KeepsMeanings, KeepsStreams}
-use Rattle.lq_model.specs.WholeTyping.{called_type, method_type, search_type, whole_member_type}
+use Rattle.lq_model.specs.Names.{Names, local_type, table_number, with_local}
+use Rattle.lq_model.specs.OperandTypes.{is_equality, is_text, is_text_type, item_of, number_type, row_table, truth_type}
+use Rattle.lq_model.specs.RuleTyping.{Claim, TypeOf, Leads, LeadAll, Selects, GivesItems, IsTyped, of_integer, of_local, of_table, of_column, of_text, of_null, of_has_value, of_value, of_length, of_search, of_ordering, of_equality, of_arithmetic, of_joined, of_coalesced, of_minus, of_choice, of_truth, of_not, of_both, of_either, by_where, by_none, by_first, by_select, by_query, HasRuleType, type_of}
+use Rattle.lq_model.specs.Meaning.{as_sequence, called_meaning, expression_meaning, global_value, has_members, is_sequence_layer, search_meaning, settled, whole_compared, whole_meaning, whole_member_value, whole_name_value, whole_same}
+use Rattle.lq_model.specs.MeaningLaws.{KeepsRuleMeanings, KeepsRuleStreams}
+use Rattle.lq_model.specs.Typing.{called_type, method_type, search_type, whole_member_type}
 use Rattle.lq_model.specs.declared.syntax.Argument.TheVariants as argument
 use Rattle.lq_model.specs.declared.syntax.Binary.{Binary}
 use Rattle.lq_model.specs.declared.syntax.Binary.TheVariants as binary
@@ -47,9 +52,9 @@ use Rattle.lq_model.proofs.ScalarResults.{no_items_before, no_items_behind}
 use Rattle.lq_model.proofs.SourceTypes.{columns_are_scalars}
 use Rattle.lq_model.proofs.TypedValues.{IsSequence, a_sequence, comparand_there, sequence_value}
 use Rattle.lq_model.proofs.TypingLemmas.{computes_alone, orders_alone, type_complete}
-use Rattle.lq_model.proofs.WholeMeans.{beside, meaning_of_node}
-use Rattle.lq_model.proofs.WholeSoundness.{type_of_node}
-use Rattle.lq_model.proofs.WholeTypes.{whole_type}
+use Rattle.lq_model.proofs.KeptMeanings.{beside, meaning_of_node}
+use Rattle.lq_model.proofs.TypingSoundness.{type_of_node}
+use Rattle.lq_model.proofs.KeptTypes.{whole_type}
 
 -- ---- layers
 
@@ -109,13 +114,13 @@ module _ {R : Type 0} (world : World R) (holds : HoldsRows world) (unknown : Fau
   node_kept e n scope is h =
       ap (λ (x : Expr). whole x scope) is ∙ meaning_of_node W n scope ∙ h ∙ sym (served_node n scope) ∙ ap (λ (x : Expr). served x scope) (sym is)
 
-  whole_at : (names : Names) (e : Expr) (t : Ty) (scope : Scope R) → At names scope → HasType names e t → expression_type e (names_at world scope) ≡ Some t
+  whole_at : (names : Names) (e : Expr) (t : Ty) (scope : Scope R) → At names scope → HasRuleType names e t → expression_type e (names_at world scope) ≡ Some t
   whole_at names e t scope at typed = ap (expression_type e) (sym at.0) ∙ whole_type names e t typed
 
-  served_at : (names : Names) (e : Expr) (t : Ty) (scope : Scope R) → At names scope → HasType names e t → type_of e (names_at world scope) ≡ Some t
+  served_at : (names : Names) (e : Expr) (t : Ty) (scope : Scope R) → At names scope → HasRuleType names e t → type_of e (names_at world scope) ≡ Some t
   served_at names e t scope at typed = ap (type_of e) (sym at.0) ∙ type_complete names typed
 
-  value_at : (names : Names) (e : Expr) (t : Ty) (scope : Scope R) → At names scope → HasType names e t → (v : Value R) → served e scope ≡ Ok v → IsOf world t v
+  value_at : (names : Names) (e : Expr) (t : Ty) (scope : Scope R) → At names scope → HasRuleType names e t → (v : Value R) → served e scope ≡ Ok v → IsOf world t v
   value_at names e t scope at typed = value_of_type world holds unknown names e t typed scope at.0 at.1
 
   -- what is no sequence is as it is
@@ -139,7 +144,7 @@ module _ {R : Type 0} (world : World R) (holds : HoldsRows world) (unknown : Fau
   member_same s m _ known (is_row _ n r is cells) = subst (SameMember s m) (sym (outs-value-Row r)) refl
   member_same s m _ known (is_sequence _ item xs e is items) = subst (SameMember s m) (sym (outs-value-Seq xs e)) refl
 
-  member_kept : (names : Names) (e a : Expr) (m : List ℕ) (s t : Ty) → e ≡ expr.Node (node.Member a m) → HasType names e t → HasType names a s → item_of (out-Ty t) ≡ None
+  member_kept : (names : Names) (e a : Expr) (m : List ℕ) (s t : Ty) → e ≡ expr.Node (node.Member a m) → HasRuleType names e t → HasRuleType names a s → item_of (out-Ty t) ≡ None
       → is_known (out-Ty s) ≡ true → IsKept (TypeOf names a s) → IsKept (TypeOf names e t)
   member_kept names e a m s t is typed a_typed none known kept scope at =
       node_kept e (node.Member a m) scope is
@@ -153,7 +158,7 @@ module _ {R : Type 0} (world : World R) (holds : HoldsRows world) (unknown : Fau
 
   -- ---- operators
 
-  operated_kept : (names : Names) (e a b : Expr) (op : Binary) (s t r : Ty) → e ≡ expr.Node (node.Binary op a b) → is_equality op ≡ false → HasType names a s → HasType names b t
+  operated_kept : (names : Names) (e a b : Expr) (op : Binary) (s t r : Ty) → e ≡ expr.Node (node.Binary op a b) → is_equality op ≡ false → HasRuleType names a s → HasRuleType names b t
       → IsKept (TypeOf names a s) → IsKept (TypeOf names b t) → IsKept (TypeOf names e r)
   operated_kept names e a b op s t r is other a_typed b_typed a_kept b_kept scope at =
       node_kept e (node.Binary op a b) scope is
@@ -198,7 +203,7 @@ module _ {R : Type 0} (world : World R) (holds : HoldsRows world) (unknown : Fau
   comparand_step t (Err x) none fits k l same = refl
 
   equality_kept : (names : Names) (e a b : Expr) (op : Binary) (s t : Ty) → e ≡ expr.Node (node.Binary op a b) → is_equality op ≡ true
-      → ((item : Ty) → item_of (out-Ty s) ≡ Some item → ⊥) → ((item : Ty) → item_of (out-Ty t) ≡ Some item → ⊥) → HasType names a s → HasType names b t
+      → ((item : Ty) → item_of (out-Ty s) ≡ Some item → ⊥) → ((item : Ty) → item_of (out-Ty t) ≡ Some item → ⊥) → HasRuleType names a s → HasRuleType names b t
       → IsKept (TypeOf names a s) → IsKept (TypeOf names b t) → IsKept (TypeOf names e ty.Bool)
   equality_kept names e a b op s t is same s_none t_none a_typed b_typed a_kept b_kept scope at =
       node_kept e (node.Binary op a b) scope is
@@ -215,8 +220,8 @@ module _ {R : Type 0} (world : World R) (holds : HoldsRows world) (unknown : Fau
 
   -- ---- searches
 
-  search_kept : (names : Names) (e a b : Expr) (m : List ℕ) → e ≡ expr.Node (node.Method a m (argument.Value b ∷ [])) → HasType names e ty.Bool → HasType names a ty.Str
-      → IsKept (TypeOf names a ty.Str) → IsKept (TypeOf names b ty.Str) → is_search m ≡ true → HasType names b ty.Str → IsKept (TypeOf names e ty.Bool)
+  search_kept : (names : Names) (e a b : Expr) (m : List ℕ) → e ≡ expr.Node (node.Method a m (argument.Value b ∷ [])) → HasRuleType names e ty.Bool → HasRuleType names a ty.Str
+      → IsKept (TypeOf names a ty.Str) → IsKept (TypeOf names b ty.Str) → is_search m ≡ true → HasRuleType names b ty.Str → IsKept (TypeOf names e ty.Bool)
   search_kept names e a b m is typed a_typed a_kept b_kept looks b_typed scope at =
       node_kept e (node.Method a m (argument.Value b ∷ [])) scope is
       (unsettled ty.Bool _ _ here_typed (ap item_of outs-Bool)
@@ -238,7 +243,7 @@ module _ {R : Type 0} (world : World R) (holds : HoldsRows world) (unknown : Fau
 
   -- ---- queries
 
-  items_at : (names : Names) (e : Expr) (item : Ty) (scope : Scope R) → At names scope → HasType names e (ty.Seq item) → (m : Result (Value R) Fault) → ((v : Value R) → m ≡ Ok v → IsOf world (ty.Seq item) v)
+  items_at : (names : Names) (e : Expr) (item : Ty) (scope : Scope R) → At names scope → HasRuleType names e (ty.Seq item) → (m : Result (Value R) Fault) → ((v : Value R) → m ≡ Ok v → IsOf world (ty.Seq item) v)
       → Every (IsOf world item) (stream_of W m).0
   items_at names e item scope at typed (Err x) fits = every_none (IsOf world item)
   items_at names e item scope at typed (Ok v) fits = by (sequence_value world (ty.Seq item) item v (outs-Seq item) (fits v refl)) where
@@ -246,7 +251,7 @@ module _ {R : Type 0} (world : World R) (holds : HoldsRows world) (unknown : Fau
     by (a_sequence xs end items is) =
         subst (λ (s : Stream (Value R)). Every (IsOf world item) s.0) (sym (ap (λ (u : Value R). items_of W (out-Value R u)) is ∙ ap (items_of W) (outs-value-Seq xs end))) items
 
-  query_kept_by : (names behind : Names) (q : Query Expr) (item t : Ty) → HasType names q.source (ty.Seq item) → IsKept (TypeOf names q.source (ty.Seq item))
+  query_kept_by : (names behind : Names) (q : Query Expr) (item t : Ty) → HasRuleType names q.source (ty.Seq item) → IsKept (TypeOf names q.source (ty.Seq item))
       → IsKept (LeadAll names q.body.clauses (with_local names q.name item) behind) → IsKept (Selects behind q.body.last t) → q.rest ≡ [] → IsKept (GivesItems names q t)
   unfolding query_meaning
   query_kept_by names behind q item t typed source clauses selected ended scope at =
@@ -348,8 +353,8 @@ module _ {R : Type 0} (world : World R) (holds : HoldsRows world) (unknown : Fau
   kept_meaning (by_query names behind q item t source fresh clauses selected ended) =
       query_kept_by names behind q item t source (kept_meaning source) (kept_meaning clauses) (kept_meaning selected) ended
 
-pub keeps_meanings : {R : Type 0} → KeepsMeanings R
+pub keeps_meanings : {R : Type 0} → KeepsRuleMeanings R
 keeps_meanings world holds scope fits e t typed unknown = kept_meaning world holds unknown typed scope (refl, fits)
 
-pub keeps_streams : {R : Type 0} → KeepsStreams R
+pub keeps_streams : {R : Type 0} → KeepsRuleStreams R
 keeps_streams world holds scope fits q t typed unknown = kept_meaning world holds unknown typed scope (refl, fits)

@@ -27,11 +27,13 @@ use Rattle.lq_model.specs.Definitions.{definition_of}
 use Rattle.lq_model.specs.Opening.{is_past_opening, opening_of}
 use Rattle.lq_model.specs.Rights.{Denied, denial}
 use Rattle.lq_model.specs.Statements.{Outcome, allowed_by, are_of_columns, are_within_ranges, assigned, assigned_as, assigned_by, assigned_to, chosen, defined, defined_as, defined_by, deleted, evaluated, inserted, is_taken, refused as refusal, row_checked, row_for, row_for_named, rows_of, rows_of_named, rows_removed, taking_role, under_role, with_scalar, with_value, assigning, defining_also}
-use Rattle.lq_model.specs.Typing.{is_bool_type, is_scalar, table_number, with_local}
+use Rattle.lq_model.specs.Names.{table_number, with_local}
+use Rattle.lq_model.specs.OperandTypes.{is_bool_type, is_scalar}
 use Rattle.lq_model.specs.Uses.{expression_uses}
-use Rattle.lq_model.specs.Visible.{TableRow, refuser_of}
-use Rattle.lq_model.specs.WholeMeaning.{expression_meaning}
-use Rattle.lq_model.specs.WholeTyping.{converts}
+use Rattle.lq_model.specs.TableRows.{TableRow}
+use Rattle.lq_model.specs.Visible.{refuser_of}
+use Rattle.lq_model.specs.Meaning.{expression_meaning}
+use Rattle.lq_model.specs.Typing.{converts}
 use Rattle.lq_model.specs.declared.session.Defined.{Defined}
 use Rattle.lq_model.specs.declared.session.Definition.{Definition}
 use Rattle.lq_model.specs.declared.session.Opened.{Opened}

@@ -8,11 +8,12 @@ use Rattle.lq_value.specs.declared.ty.Ty.TheOpen.{Ty-F}
 use Rattle.lq_value.specs.declared.ty.Ty.TheVariants as ty
 use Rattle.lq_model.specs.DefinitionLaws.{AreDefinedAfter, IsDefined}
 use Rattle.lq_model.specs.Definitions.{known_after, known_as, known_names, outer_names}
-use Rattle.lq_model.specs.Meaning.{or_null}
+use Rattle.lq_model.specs.Worlds.{or_null}
 use Rattle.lq_model.specs.SessionTypes.{LimitsNames, LimitsQueries, LimitsStatements}
 use Rattle.lq_model.specs.Types.{is_within}
-use Rattle.lq_model.specs.Typing.{SessionName, is_scalar, session_name}
-use Rattle.lq_model.specs.WholeTypingLaws.{AreWithin}
+use Rattle.lq_model.specs.Names.{SessionName, session_name}
+use Rattle.lq_model.specs.OperandTypes.{is_scalar}
+use Rattle.lq_model.specs.TypingLaws.{AreWithin}
 use Rattle.lq_model.specs.declared.session.Defined.{Defined}
 use Rattle.lq_model.specs.declared.session.Defined.TheVariants as of
 use Rattle.lq_model.specs.declared.session.Definition.{Definition}

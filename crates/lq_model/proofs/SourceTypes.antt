@@ -9,7 +9,9 @@ use Rattle.lq_value.specs.declared.ty.Ty.{Ty, out-Ty}
 use Rattle.lq_value.specs.declared.ty.Ty.TheOpen.{Ty-F}
 use Rattle.lq_value.specs.declared.ty.Ty.TheVariants as ty
 use Rattle.lq_value.specs.declared.ty.Ty.TheVariants.{outs-Bool, outs-Int, outs-IntN, outs-Null, outs-Row, outs-Seq, outs-Str}
-use Rattle.lq_model.specs.Typing.{Names, Claim, TypeOf, IsTyped, HasType, by_first, by_none, by_query, by_select, by_where, chosen, coalesced, column_named, column_type, is_number, item_of, local_type, number_type, of_arithmetic, of_both, of_choice, of_coalesced, of_column, of_either, of_equality, of_has_value, of_integer, of_joined, of_length, of_local, of_minus, of_not, of_null, of_ordering, of_search, of_table, of_text, of_truth, of_value, table_number, type_of_column}
+use Rattle.lq_model.specs.Names.{Names, column_named, column_type, local_type, table_number, type_of_column}
+use Rattle.lq_model.specs.OperandTypes.{chosen, coalesced, is_number, item_of, number_type}
+use Rattle.lq_model.specs.RuleTyping.{Claim, TypeOf, IsTyped, HasRuleType, by_first, by_none, by_query, by_select, by_where, of_arithmetic, of_both, of_choice, of_coalesced, of_column, of_either, of_equality, of_has_value, of_integer, of_joined, of_length, of_local, of_minus, of_not, of_null, of_ordering, of_search, of_table, of_text, of_truth, of_value}
 use Rattle.lq_model.specs.declared.syntax.Expr.{Expr}
 use Rattle.lq_model.specs.declared.syntax.Expr.TheVariants as expr
 use Rattle.lq_model.specs.declared.syntax.Node.TheVariants as node
@@ -152,6 +154,6 @@ source_claim (by_select names l v t is typed scalar) = tt
 source_claim (by_query names behind q item t source fresh clauses selected ended) = tt
 
 -- with no local names, what is a sequence is a table's rows
-pub table_source : (names : Names) (e : Expr) (item : Ty) → HasType names e (ty.Seq item) → names.locals ≡ []
+pub table_source : (names : Names) (e : Expr) (item : Ty) → HasRuleType names e (ty.Seq item) → names.locals ≡ []
     → (x : List ℕ) × (n : ℕ) × (e ≡ expr.Node (node.Name x)) × (table_number x names.tables ≡ Some n) × (item ≡ ty.Row n)
 table_source names e item typed alone = source_claim typed item refl alone

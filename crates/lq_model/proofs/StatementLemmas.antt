@@ -18,11 +18,13 @@ use Rattle.lq_model.specs.Rights.{Denied, denial}
 use Rattle.lq_model.specs.Served.{assigned_data, defined_data, deleted_data, denied_data, inserted_data, role_data}
 use Rattle.lq_model.specs.Statements.{Outcome, allowed_by, are_of_columns, are_within_ranges, assigned, assigned_as, assigned_by, assigned_to, assigning, chosen, defined, defined_as, defined_by, defining_also, deleted, evaluated, faulted, inserted, is_taken, refused, row_checked, row_for, row_for_named, row_within, rows_of, rows_of_named, rows_removed, taking_role, under_role, with_row, with_scalar, with_table, with_value, without}
 use Rattle.lq_model.specs.States.{State, names_in, schemas_of, world_in}
-use Rattle.lq_model.specs.Typing.{Names, is_bool_type, is_scalar, item_of, table_number, with_local}
+use Rattle.lq_model.specs.Names.{Names, table_number, with_local}
+use Rattle.lq_model.specs.OperandTypes.{is_bool_type, is_scalar, item_of}
 use Rattle.lq_model.specs.Uses.{expression_uses}
-use Rattle.lq_model.specs.Visible.{TableRow, refuser_of}
-use Rattle.lq_model.specs.WholeMeaning.{expression_meaning}
-use Rattle.lq_model.specs.WholeTyping.{converts}
+use Rattle.lq_model.specs.TableRows.{TableRow}
+use Rattle.lq_model.specs.Visible.{refuser_of}
+use Rattle.lq_model.specs.Meaning.{expression_meaning}
+use Rattle.lq_model.specs.Typing.{converts}
 use Rattle.lq_model.specs.declared.rights.Use.TheVariants as used
 use Rattle.lq_model.specs.declared.session.Defined.{Defined}
 use Rattle.lq_model.specs.declared.session.Defined.TheVariants as of

@@ -18,18 +18,21 @@ use Rattle.lq_value.specs.declared.value.Value.TheOpen.{Value-F}
 use Rattle.lq_value.specs.declared.value.Value.TheVariants as value
 use Rattle.lq_model.specs.ClauseTyping.{expression_type}
 use Rattle.lq_model.specs.Definitions.{defining, definition_of, known_names, outer_names}
-use Rattle.lq_model.specs.Meaning.{World, bound, condition_at}
+use Rattle.lq_model.specs.Worlds.{World, bound}
+use Rattle.lq_model.specs.ClauseMeaning.{condition_at}
 use Rattle.lq_model.specs.Rights.{Denied, denial}
 use Rattle.lq_model.specs.Served.{denied_data, assigned_data, defined_data}
 use Rattle.lq_model.specs.SessionLaws.{LooksSame, NumberAlike}
 use Rattle.lq_model.specs.Statements.{Outcome, allowed_by, are_of_columns, are_within_ranges, assigned, assigned_as, assigned_by, assigned_to, assigning, chosen, defined, defined_as, defined_by, defining_also, deleted, evaluated, if_allowed, inserted, is_taken, refused, renewed, row_checked, row_for, row_for_named, row_put_in, row_within, rows_of, rows_of_named, rows_removed, taking_role, under_role, with_row, with_scalar, with_table, with_value, without}
 use Rattle.lq_model.specs.States.{State, names_in, schemas_of, world_in, world_of}
 use Rattle.lq_model.specs.Stream.{Stream, where_by}
-use Rattle.lq_model.specs.Typing.{Names, is_bool_type, is_scalar, table_number, with_local}
+use Rattle.lq_model.specs.Names.{Names, table_number, with_local}
+use Rattle.lq_model.specs.OperandTypes.{is_bool_type, is_scalar}
 use Rattle.lq_model.specs.Uses.{expression_uses}
-use Rattle.lq_model.specs.Visible.{TableRow, refuser_of, seen_rows, visible_to}
-use Rattle.lq_model.specs.WholeMeaning.{expression_meaning}
-use Rattle.lq_model.specs.WholeTyping.{converts}
+use Rattle.lq_model.specs.TableRows.{TableRow}
+use Rattle.lq_model.specs.Visible.{refuser_of, seen_rows, visible_to}
+use Rattle.lq_model.specs.Meaning.{expression_meaning}
+use Rattle.lq_model.specs.Typing.{converts}
 use Rattle.lq_model.specs.declared.policy.Action.TheVariants as action
 use Rattle.lq_model.specs.declared.policy.PolicyParts.{PolicyParts}
 use Rattle.lq_model.specs.declared.rights.Use.{Use}

@@ -21,15 +21,20 @@ use Rattle.lq_value.specs.declared.value.Value.{Value, out-Value}
 use Rattle.lq_value.specs.declared.value.Value.TheOpen.{Value-F}
 use Rattle.lq_value.specs.declared.value.Value.TheVariants as value
 use Rattle.lq_value.specs.declared.value.Value.TheVariants.{outs-Row as outs-value-Row, outs-Scalar}
-use Rattle.lq_model.specs.Meaning.{Scope, World, as_value, cell_value, comparand, compared_meaning, is_null, is_row_type, meaning, member_value, names_at, on_comparand, on_scalar, on_truth, operated_meaning, operation_on, scalar_of, told, truth_value}
-use Rattle.lq_model.specs.MeaningLaws.{HaveTypes, IsScalarOf}
+use Rattle.lq_model.specs.Worlds.{Scope, World, names_at}
+use Rattle.lq_model.specs.OperandMeaning.{as_value, cell_value, comparand, is_null, is_row_type, member_value, on_comparand, on_scalar, on_truth, operation_on, scalar_of, told, truth_value}
+use Rattle.lq_model.specs.RuleMeaning.{compared_meaning, meaning, operated_meaning}
+use Rattle.lq_model.specs.ValuesOfTypes.{HaveTypes, IsScalarOf}
 use Rattle.lq_model.specs.Members.{IsSearch, contains, ends, is_search, member_named, search_named, starts}
 use Rattle.lq_model.specs.OperationLaws.{IsNumber}
 use Rattle.lq_model.specs.Operations.{begins_with, checked, divided, ends_in, has_in, is_int, left_over, negated, of_member, of_search, of_two, on_ok, truth, truth_of}
 use Rattle.lq_model.specs.Totality.{Claim, Holds, Sure, Total, is_division, sure_coalesce, sure_conditional, sure_text, sure_user, total_and, total_coalesce, total_column, total_comparison, total_conditional, total_division, total_has_value, total_integer, total_minus, total_not, total_null, total_or, total_search, total_text, total_truth, total_user}
 use Rattle.lq_model.specs.TotalityLaws.{DecidesRules, is_held, is_held_rule, is_held_step, rule_names}
-use Rattle.lq_model.specs.Typing.{Names, are_comparable, chosen, choice_type, coalesced, column_named, column_type, if_number, is_bool_type, is_comparison, is_equality, is_number, is_ordering, is_text_type, joined_type, member_type, number_type, of_operands, operated_type, result_type, row_table, truth_type, type_of, type_of_column}
-use Rattle.lq_model.specs.Visible.{cell_named, rule_scope, rule_world}
+use Rattle.lq_model.specs.Names.{Names, column_named, column_type, type_of_column}
+use Rattle.lq_model.specs.OperandTypes.{are_comparable, chosen, choice_type, coalesced, if_number, is_bool_type, is_comparison, is_equality, is_number, is_ordering, is_text_type, joined_type, member_type, number_type, of_operands, operated_type, result_type, row_table, truth_type}
+use Rattle.lq_model.specs.RuleTyping.{type_of}
+use Rattle.lq_model.specs.TableRows.{cell_named}
+use Rattle.lq_model.specs.Visible.{rule_scope, rule_world}
 use Rattle.lq_model.specs.declared.syntax.Argument.TheVariants as argument
 use Rattle.lq_model.specs.declared.syntax.Binary.{Binary}
 use Rattle.lq_model.specs.declared.syntax.Binary.TheVariants as binary

@@ -5,7 +5,7 @@ use Rattle.std.proofs.lemmas.Slice.Eq.{bytes_eq-Decides}
 use Rattle.lq_model.specs.Members.{is_search}
 use Rattle.lq_model.specs.Totality.{Claim, Holds, IsSure, IsTotal, Strength, Sure, Told, Total, is_division, is_divisor, is_natural, is_row, is_sure, is_total, strength_of, strength_step, sure_coalesce, sure_conditional, sure_text, sure_user, total_and, total_coalesce, total_column, total_comparison, total_conditional, total_division, total_has_value, total_integer, total_minus, total_not, total_null, total_or, total_search, total_text, total_truth, total_user, total_where}
 use Rattle.lq_model.specs.TotalityLaws.{TellsTotal}
-use Rattle.lq_model.specs.Typing.{is_comparison}
+use Rattle.lq_model.specs.OperandTypes.{is_comparison}
 use Rattle.lq_model.specs.declared.syntax.Argument.{Argument}
 use Rattle.lq_model.specs.declared.syntax.Argument.TheVariants as argument
 use Rattle.lq_model.specs.declared.syntax.Binary.{Binary}

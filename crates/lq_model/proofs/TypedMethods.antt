@@ -21,16 +21,18 @@ use Rattle.lq_value.specs.declared.value.Value.TheVariants.{outs-Group as outs-v
 use Rattle.lq_model.specs.Enumerable.{all, as_count, concat, contains, element_at, greater, intersect, except, is_among, lesser, skip, take_first, union}
 use Rattle.lq_model.specs.EnumerableCalls.{Given, Simple, Through}
 use Rattle.lq_model.specs.EnumerableCalls as called
-use Rattle.lq_model.specs.Meaning.{World, as_value, cell_value, items_of, member_value, on_scalar, on_truth, scalar_of, stream_of}
-use Rattle.lq_model.specs.MeaningLaws.{Every, IsScalarOf, assuming}
+use Rattle.lq_model.specs.Worlds.{World}
+use Rattle.lq_model.specs.OperandMeaning.{as_value, cell_value, items_of, member_value, on_scalar, on_truth, scalar_of, stream_of}
+use Rattle.lq_model.specs.ValuesOfTypes.{Every, IsScalarOf, assuming}
 use Rattle.lq_model.specs.Members.{member_named}
 use Rattle.lq_model.specs.Operations.{of_member, on_ok, truth_of}
 use Rattle.lq_model.specs.Stream.{Stream, first_keys, select_by, where_by}
 use Rattle.lq_model.specs.Types.{element_type, if_placed, is_key, same_types, when}
-use Rattle.lq_model.specs.Typing.{column_type, is_bool, is_number, row_table}
-use Rattle.lq_model.specs.WholeMeaning.{as_sequence, as_truth, default_of, given_meaning, has_members, is_sequence_layer, member_found, none_there, number_of, numbers, on_number, settled, simple_meaning, through_meaning, whole_member_value}
-use Rattle.lq_model.specs.WholeMeaningLaws.{by_sequence, by_scalar}
-use Rattle.lq_model.specs.WholeTyping.{converts, given_type, has_default, if_same, is_int, member_of, simple_type, through_type}
+use Rattle.lq_model.specs.Names.{column_type}
+use Rattle.lq_model.specs.OperandTypes.{is_bool, is_number, row_table}
+use Rattle.lq_model.specs.Meaning.{as_sequence, as_truth, default_of, given_meaning, has_members, is_sequence_layer, member_found, none_there, number_of, numbers, on_number, settled, simple_meaning, through_meaning, whole_member_value}
+use Rattle.lq_model.specs.MeaningLaws.{by_sequence, by_scalar}
+use Rattle.lq_model.specs.Typing.{converts, given_type, has_default, if_same, is_int, member_of, simple_type, through_type}
 use Rattle.lq_model.proofs.AlikeStreams.{Agree, Alike, agree_err, agree_ok, every_concat, every_first_key, on_ok_agree, select_alike, where_alike}
 use Rattle.lq_model.proofs.EveryItem.{every_filter, every_none, first_of, others_of}
 use Rattle.lq_model.proofs.Findings.{map_by, when_by}

@@ -12,14 +12,14 @@ use Rattle.lq_value.specs.declared.value.Value.{Value, out-Value}
 use Rattle.lq_value.specs.declared.value.Value.TheOpen.{Value-F}
 use Rattle.lq_value.specs.declared.value.Value.TheVariants as value
 use Rattle.lq_value.specs.declared.value.Value.TheVariants.{outs-Group as outs-value-Group, outs-Rec as outs-value-Rec, outs-Row as outs-value-Row, outs-Scalar}
-use Rattle.lq_model.specs.Meaning.{World}
-use Rattle.lq_model.specs.MeaningLaws.{IsScalarOf, assuming}
+use Rattle.lq_model.specs.Worlds.{World}
+use Rattle.lq_model.specs.ValuesOfTypes.{IsScalarOf, assuming}
 use Rattle.lq_model.specs.Operations.{same_content}
 use Rattle.lq_model.specs.Types.{same_types}
-use Rattle.lq_model.specs.Typing.{are_comparable, chosen, coalesced, row_table}
-use Rattle.lq_model.specs.WholeMeaning.{whole_same}
-use Rattle.lq_model.specs.WholeMeaningLaws.{by_group, by_null_record, by_record, by_row, by_scalar, by_sequence}
-use Rattle.lq_model.specs.WholeTyping.{are_null_tests, whole_chosen}
+use Rattle.lq_model.specs.OperandTypes.{are_comparable, chosen, coalesced, row_table}
+use Rattle.lq_model.specs.Meaning.{whole_same}
+use Rattle.lq_model.specs.MeaningLaws.{by_group, by_null_record, by_record, by_row, by_scalar, by_sequence}
+use Rattle.lq_model.specs.Typing.{are_null_tests, whole_chosen}
 use Rattle.lq_model.proofs.Findings.{when_by}
 use Rattle.lq_model.proofs.ScalarResults.{Decides, Widens, chosen_widens, comparable_same}
 use Rattle.lq_model.proofs.SameTypes.{same_type}

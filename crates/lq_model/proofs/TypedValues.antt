@@ -13,11 +13,12 @@ use Rattle.lq_value.specs.declared.value.Value.{Value, out-Value}
 use Rattle.lq_value.specs.declared.value.Value.TheOpen.{Value-F}
 use Rattle.lq_value.specs.declared.value.Value.TheVariants as value
 use Rattle.lq_value.specs.declared.value.Value.TheVariants.{outs-Row as outs-value-Row, outs-Scalar}
-use Rattle.lq_model.specs.Meaning.{World, as_value, comparand, member_value, same_values}
-use Rattle.lq_model.specs.MeaningLaws.{Every, HasCells, IsOf, is_scalar as is_scalar_value, is_row, is_sequence, IsScalarOf, assuming}
+use Rattle.lq_model.specs.Worlds.{World}
+use Rattle.lq_model.specs.OperandMeaning.{as_value, comparand, member_value, same_values}
+use Rattle.lq_model.specs.ValuesOfTypes.{Every, HasCells, IsOf, is_scalar as is_scalar_value, is_row, is_sequence, IsScalarOf, assuming}
 use Rattle.lq_model.specs.Members.{member_named}
 use Rattle.lq_model.specs.Operations.{of_member}
-use Rattle.lq_model.specs.Typing.{are_comparable, item_of, row_table}
+use Rattle.lq_model.specs.OperandTypes.{are_comparable, item_of, row_table}
 use Rattle.lq_model.proofs.ScalarResults.{Decides, HasScalars, Widens, bool_layer, comparable_same, no_items_before, no_items_behind, no_two_rows, null_before_row, null_behind_row, row_layer}
 
 module _ {R : Type 0} (world : World R) where

@@ -8,8 +8,10 @@ use Rattle.lq_value.specs.declared.ty.Ty.TheOpen.{Ty-F}
 use Rattle.lq_value.specs.declared.ty.Ty.TheVariants as ty
 use Rattle.lq_value.specs.declared.ty.Ty.TheVariants.{outs-Bool, outs-Group, outs-Int, outs-IntN, outs-Null, outs-Rec, outs-Row, outs-Seq, outs-Str, rolls-Bool, rolls-Group, rolls-Int, rolls-IntN, rolls-Null, rolls-Rec, rolls-Row, rolls-Seq, rolls-Str}
 use Rattle.lq_model.specs.Members.{is_search, sole_argument}
-use Rattle.lq_model.specs.Typing.{Names, are_comparable, are_joined, coalesced, is_comparison, is_equality, is_ordering, is_text, is_text_type, joined_type, member_type, of_operands, operated_type, Claim, TypeOf, Leads, LeadAll, Selects, GivesItems, IsTyped, of_coalesced, of_equality, of_has_value, of_joined, of_length, of_null, of_ordering, of_search, of_text, of_value, of_integer, of_local, of_table, of_column, of_arithmetic, of_minus, of_choice, of_truth, of_not, of_both, of_either, by_where, by_none, by_first, by_select, by_query, HasType, HasItemType, body_type, if_scalar, is_bool, is_bool_type, is_number, is_scalar, item_of, item_type, items_over, binary_type, choice_type, if_number, number_type, result_type, truth_type, local_type, name_type, names_behind, names_behind_all, selected_type, table_number, type_of, when_fresh, with_local}
-use Rattle.lq_model.specs.TypingLaws.{HasOneType, HasOneItemType, FindsTypes, FindsItemTypes}
+use Rattle.lq_model.specs.Names.{Names, local_type, table_number, with_local}
+use Rattle.lq_model.specs.OperandTypes.{are_comparable, are_joined, coalesced, is_comparison, is_equality, is_ordering, is_text, is_text_type, joined_type, member_type, of_operands, operated_type, is_bool, is_bool_type, is_number, is_scalar, item_of, binary_type, choice_type, if_number, number_type, result_type, truth_type}
+use Rattle.lq_model.specs.RuleTyping.{Claim, TypeOf, Leads, LeadAll, Selects, GivesItems, IsTyped, of_coalesced, of_equality, of_has_value, of_joined, of_length, of_null, of_ordering, of_search, of_text, of_value, of_integer, of_local, of_table, of_column, of_arithmetic, of_minus, of_choice, of_truth, of_not, of_both, of_either, by_where, by_none, by_first, by_select, by_query, HasRuleType, HasRuleItemType, body_type, if_scalar, item_type, items_over, name_type, names_behind, names_behind_all, selected_type, type_of, when_fresh}
+use Rattle.lq_model.specs.RuleTypingLaws.{HasOneRuleType, HasOneRuleItemType, FindsRuleTypes, FindsRuleItemTypes}
 use Rattle.lq_model.specs.declared.syntax.Argument.{Argument}
 use Rattle.lq_model.specs.declared.syntax.Argument.TheVariants as argument
 use Rattle.lq_model.specs.declared.syntax.Clause.{Clause}
@@ -230,28 +232,28 @@ found (by_select names _ v t is typed scalar) = ap (λ (l : Last Expr). selected
 found (by_query names behind q item t source fresh clauses selected ended) =
     items_found names behind q item t (found source) fresh (found clauses) (found selected) ended
 
-pub type_complete : (names : Names) {e : Expr} {t : Ty} → HasType names e t → type_of e names ≡ Some t
+pub type_complete : (names : Names) {e : Expr} {t : Ty} → HasRuleType names e t → type_of e names ≡ Some t
 type_complete names typed = found typed
 
-pub item_type_complete : (names : Names) (q : Query Expr) (t : Ty) → HasItemType names q t → item_type type_of q names ≡ Some t
+pub item_type_complete : (names : Names) (q : Query Expr) (t : Ty) → HasRuleItemType names q t → item_type type_of q names ≡ Some t
 item_type_complete names q t typed = found typed
 
 -- ---- what is found is what the rules give
 
 abbrev IsSound : Expr → Type 0
-IsSound e = (names : Names) (t : Ty) → type_of e names ≡ Some t → HasType names e t
+IsSound e = (names : Names) (t : Ty) → type_of e names ≡ Some t → HasRuleType names e t
 
 sound_integer : (n : ℤ) → IsSound (expr.Node (node.Integer n))
 sound_integer n names t h =
-    subst (HasType names (expr.Node (node.Integer n))) (same_Some ty.Int t (sym (type_integer n names) ∙ h)) (of_integer names (expr.Node (node.Integer n)) n refl)
+    subst (HasRuleType names (expr.Node (node.Integer n))) (same_Some ty.Int t (sym (type_integer n names) ∙ h)) (of_integer names (expr.Node (node.Integer n)) n refl)
 
 sound_table : (x : List ℕ) (names : Names) (t : Ty) → local_type x names.locals ≡ None → (o : Option ℕ) → table_number x names.tables ≡ o
-    → option_map (λ n. ty.Seq (ty.Row n)) o ≡ Some t → HasType names (expr.Node (node.Name x)) t
+    → option_map (λ n. ty.Seq (ty.Row n)) o ≡ Some t → HasRuleType names (expr.Node (node.Name x)) t
 sound_table x names t hidden None is h = absurd (none-some t h)
 sound_table x names t hidden (Some n) is h =
-    subst (HasType names (expr.Node (node.Name x))) (same_Some (ty.Seq (ty.Row n)) t h) (of_table names (expr.Node (node.Name x)) x n refl hidden is)
+    subst (HasRuleType names (expr.Node (node.Name x))) (same_Some (ty.Seq (ty.Row n)) t h) (of_table names (expr.Node (node.Name x)) x n refl hidden is)
 
-sound_local : (x : List ℕ) (names : Names) (t : Ty) (o : Option Ty) → local_type x names.locals ≡ o → name_type names x o ≡ Some t → HasType names (expr.Node (node.Name x)) t
+sound_local : (x : List ℕ) (names : Names) (t : Ty) (o : Option Ty) → local_type x names.locals ≡ o → name_type names x o ≡ Some t → HasRuleType names (expr.Node (node.Name x)) t
 sound_local x names t None is h = sound_table x names t is (table_number x names.tables) refl h
 sound_local x names t (Some s) is h = of_local names (expr.Node (node.Name x)) x t refl (is ∙ h)
 
@@ -260,10 +262,10 @@ sound_name x names t h = sound_local x names t (local_type x names.locals) refl 
 
 sound_text : (x : List ℕ) → IsSound (expr.Node (node.Text x))
 sound_text x names t h =
-    subst (HasType names (expr.Node (node.Text x))) (same_Some ty.Str t (sym (type_text x names) ∙ h)) (of_text names (expr.Node (node.Text x)) x refl)
+    subst (HasRuleType names (expr.Node (node.Text x))) (same_Some ty.Str t (sym (type_text x names) ∙ h)) (of_text names (expr.Node (node.Text x)) x refl)
 
 sound_null : IsSound (expr.Node node.Null)
-sound_null names t h = subst (HasType names (expr.Node node.Null)) (same_Some ty.Null t (sym (type_null names) ∙ h)) (of_null names (expr.Node node.Null) refl)
+sound_null names t h = subst (HasRuleType names (expr.Node node.Null)) (same_Some ty.Null t (sym (type_null names) ∙ h)) (of_null names (expr.Node node.Null) refl)
 
 -- the same member by another name that is the same
 named : (a : Expr) (m n : List ℕ) → bytes_eq m n ≡ true → expr.Node (node.Member a m) ≡ expr.Node (node.Member a n)
@@ -271,79 +273,79 @@ named a m n same = ap (λ (k : List ℕ). expr.Node (node.Member a k)) ((bytes_e
 
 module _ (names : Names) (a : Expr) (m : List ℕ) (t : Ty) where
   -- a member of an int?
-  value_sound_by : HasType names a ty.IntN → (b : Bool) → bytes_eq m (codes "Value") ≡ b → (if b then Some ty.Int else None) ≡ Some t → HasType names (expr.Node (node.Member a m)) t
-  value_sound_by typed true same h = subst (HasType names (expr.Node (node.Member a m))) (same_Some ty.Int t h) (of_value names (expr.Node (node.Member a m)) a (named a m (codes "Value") same) typed)
+  value_sound_by : HasRuleType names a ty.IntN → (b : Bool) → bytes_eq m (codes "Value") ≡ b → (if b then Some ty.Int else None) ≡ Some t → HasRuleType names (expr.Node (node.Member a m)) t
+  value_sound_by typed true same h = subst (HasRuleType names (expr.Node (node.Member a m))) (same_Some ty.Int t h) (of_value names (expr.Node (node.Member a m)) a (named a m (codes "Value") same) typed)
   value_sound_by typed false same h = absurd (none-some t h)
 
-  has_value_sound_by : HasType names a ty.IntN → (b : Bool) → bytes_eq m (codes "HasValue") ≡ b
-      → (if b then Some ty.Bool else (if bytes_eq m (codes "Value") then Some ty.Int else None)) ≡ Some t → HasType names (expr.Node (node.Member a m)) t
+  has_value_sound_by : HasRuleType names a ty.IntN → (b : Bool) → bytes_eq m (codes "HasValue") ≡ b
+      → (if b then Some ty.Bool else (if bytes_eq m (codes "Value") then Some ty.Int else None)) ≡ Some t → HasRuleType names (expr.Node (node.Member a m)) t
   has_value_sound_by typed true same h =
-      subst (HasType names (expr.Node (node.Member a m))) (same_Some ty.Bool t h) (of_has_value names (expr.Node (node.Member a m)) a (named a m (codes "HasValue") same) typed)
+      subst (HasRuleType names (expr.Node (node.Member a m))) (same_Some ty.Bool t h) (of_has_value names (expr.Node (node.Member a m)) a (named a m (codes "HasValue") same) typed)
   has_value_sound_by typed false same h = value_sound_by typed (bytes_eq m (codes "Value")) refl h
 
   -- a member of a text
-  length_sound_by : HasType names a ty.Str → (b : Bool) → bytes_eq m (codes "Length") ≡ b → (if b then Some ty.Int else None) ≡ Some t → HasType names (expr.Node (node.Member a m)) t
+  length_sound_by : HasRuleType names a ty.Str → (b : Bool) → bytes_eq m (codes "Length") ≡ b → (if b then Some ty.Int else None) ≡ Some t → HasRuleType names (expr.Node (node.Member a m)) t
   length_sound_by typed true same h =
-      subst (HasType names (expr.Node (node.Member a m))) (same_Some ty.Int t h) (of_length names (expr.Node (node.Member a m)) a (named a m (codes "Length") same) typed)
+      subst (HasRuleType names (expr.Node (node.Member a m))) (same_Some ty.Int t h) (of_length names (expr.Node (node.Member a m)) a (named a m (codes "Length") same) typed)
   length_sound_by typed false same h = absurd (none-some t h)
 
   -- by the layer of what it is a member of
-  member_sound_by : (layer : Ty-F Ty) → HasType names a (type_with layer) → member_type names m layer ≡ Some t → HasType names (expr.Node (node.Member a m)) t
+  member_sound_by : (layer : Ty-F Ty) → HasRuleType names a (type_with layer) → member_type names m layer ≡ Some t → HasRuleType names (expr.Node (node.Member a m)) t
   member_sound_by (Ty-F.Row n) typed h = of_column names (expr.Node (node.Member a m)) a m n t refl typed h
   member_sound_by Ty-F.IntN typed h = has_value_sound_by typed (bytes_eq m (codes "HasValue")) refl h
   member_sound_by Ty-F.Str typed h = length_sound_by typed (bytes_eq m (codes "Length")) refl h
   member_sound_by layer typed h = absurd (none-some t h)
 
 sound_member_by : (a : Expr) (m : List ℕ) → IsSound a → (names : Names) (t : Ty) (o : Option Ty) → type_of a names ≡ o
-    → type_at_member names m o ≡ Some t → HasType names (expr.Node (node.Member a m)) t
+    → type_at_member names m o ≡ Some t → HasRuleType names (expr.Node (node.Member a m)) t
 sound_member_by a m sound names t None is h = absurd (none-some t h)
-sound_member_by a m sound names t (Some s) is h = member_sound_by names a m t (out-Ty s) (subst (HasType names a) (is_of_layer s) (sound names s is)) h
+sound_member_by a m sound names t (Some s) is h = member_sound_by names a m t (out-Ty s) (subst (HasRuleType names a) (is_of_layer s) (sound names s is)) h
 
 sound_member : (a : Expr) (m : List ℕ) → IsSound a → IsSound (expr.Node (node.Member a m))
 sound_member a m sound names t h = sound_member_by a m sound names t (type_of a names) refl (sym (type_member a m names) ∙ h)
 
-module _ (op : Binary) (a b : Expr) (names : Names) (r s t : Ty) (a_typed : HasType names a r) (b_typed : HasType names b s) where
+module _ (op : Binary) (a b : Expr) (names : Names) (r s t : Ty) (a_typed : HasRuleType names a r) (b_typed : HasRuleType names b s) where
   -- the rule for numbers, by whether the operator asks for their order
   sound_result : is_equality op ≡ false → is_number (out-Ty r) ≡ true → is_number (out-Ty s) ≡ true → (c : Bool) → is_ordering op ≡ c
-      → HasType names (expr.Node (node.Binary op a b)) (if c then ty.Bool else number_type (out-Ty r) (out-Ty s))
+      → HasRuleType names (expr.Node (node.Binary op a b)) (if c then ty.Bool else number_type (out-Ty r) (out-Ty s))
   sound_result other r_is s_is true orders = of_ordering names (expr.Node (node.Binary op a b)) a b op r s refl orders a_typed r_is b_typed s_is
   sound_result other r_is s_is false computes =
       of_arithmetic names (expr.Node (node.Binary op a b)) a b op r s refl (compares_not op other computes) a_typed r_is b_typed s_is
 
-  sound_equality : is_equality op ≡ true → (c : Bool) → are_comparable (out-Ty r) (out-Ty s) ≡ c → truth_type c ≡ Some t → HasType names (expr.Node (node.Binary op a b)) t
+  sound_equality : is_equality op ≡ true → (c : Bool) → are_comparable (out-Ty r) (out-Ty s) ≡ c → truth_type c ≡ Some t → HasRuleType names (expr.Node (node.Binary op a b)) t
   sound_equality same true comparable h =
-      subst (HasType names (expr.Node (node.Binary op a b))) (same_Some ty.Bool t h) (of_equality names (expr.Node (node.Binary op a b)) a b op r s refl same a_typed b_typed comparable)
+      subst (HasRuleType names (expr.Node (node.Binary op a b))) (same_Some ty.Bool t h) (of_equality names (expr.Node (node.Binary op a b)) a b op r s refl same a_typed b_typed comparable)
   sound_equality same false comparable h = absurd (none-some t h)
 
-sound_joined_by : (a b : Expr) (names : Names) (r s t : Ty) → HasType names a r → HasType names b s → (c : Bool) → are_joined (out-Ty r) (out-Ty s) ≡ c
-    → (if c then Some ty.Str else None) ≡ Some t → HasType names (expr.Node (node.Binary binary.Add a b)) t
+sound_joined_by : (a b : Expr) (names : Names) (r s t : Ty) → HasRuleType names a r → HasRuleType names b s → (c : Bool) → are_joined (out-Ty r) (out-Ty s) ≡ c
+    → (if c then Some ty.Str else None) ≡ Some t → HasRuleType names (expr.Node (node.Binary binary.Add a b)) t
 sound_joined_by a b names r s t a_typed b_typed true joins h =
-    subst (HasType names (expr.Node (node.Binary binary.Add a b))) (same_Some ty.Str t h) (of_joined names (expr.Node (node.Binary binary.Add a b)) a b r s refl a_typed b_typed joins)
+    subst (HasRuleType names (expr.Node (node.Binary binary.Add a b))) (same_Some ty.Str t h) (of_joined names (expr.Node (node.Binary binary.Add a b)) a b r s refl a_typed b_typed joins)
 sound_joined_by a b names r s t a_typed b_typed false joins h = absurd (none-some t h)
 
-sound_joined : (op : Binary) (a b : Expr) (names : Names) (r s t : Ty) → HasType names a r → HasType names b s → joined_type op (out-Ty r) (out-Ty s) ≡ Some t
-    → HasType names (expr.Node (node.Binary op a b)) t
+sound_joined : (op : Binary) (a b : Expr) (names : Names) (r s t : Ty) → HasRuleType names a r → HasRuleType names b s → joined_type op (out-Ty r) (out-Ty s) ≡ Some t
+    → HasRuleType names (expr.Node (node.Binary op a b)) t
 sound_joined binary.Add a b names r s t a_typed b_typed h = sound_joined_by a b names r s t a_typed b_typed (are_joined (out-Ty r) (out-Ty s)) refl h
 sound_joined op a b names r s t a_typed b_typed h = absurd (none-some t h)
 
-sound_numbers : (op : Binary) (a b : Expr) (names : Names) (r s t : Ty) → HasType names a r → HasType names b s → is_equality op ≡ false → (n : Bool)
+sound_numbers : (op : Binary) (a b : Expr) (names : Names) (r s t : Ty) → HasRuleType names a r → HasRuleType names b s → is_equality op ≡ false → (n : Bool)
     → (is_number (out-Ty r) && is_number (out-Ty s)) ≡ n
-    → (if n then Some (result_type op (out-Ty r) (out-Ty s)) else joined_type op (out-Ty r) (out-Ty s)) ≡ Some t → HasType names (expr.Node (node.Binary op a b)) t
+    → (if n then Some (result_type op (out-Ty r) (out-Ty s)) else joined_type op (out-Ty r) (out-Ty s)) ≡ Some t → HasRuleType names (expr.Node (node.Binary op a b)) t
 sound_numbers op a b names r s t a_typed b_typed other true numbers h =
     let parts = and_parts (is_number (out-Ty r)) _ numbers in
-    subst (HasType names (expr.Node (node.Binary op a b))) (same_Some (result_type op (out-Ty r) (out-Ty s)) t h)
+    subst (HasRuleType names (expr.Node (node.Binary op a b))) (same_Some (result_type op (out-Ty r) (out-Ty s)) t h)
     (sound_result op a b names r s t a_typed b_typed other parts.0 parts.1 (is_ordering op) refl)
 sound_numbers op a b names r s t a_typed b_typed other false numbers h = sound_joined op a b names r s t a_typed b_typed h
 
-sound_operated : (op : Binary) (a b : Expr) (names : Names) (r s t : Ty) → HasType names a r → HasType names b s → (e : Bool) → is_equality op ≡ e
+sound_operated : (op : Binary) (a b : Expr) (names : Names) (r s t : Ty) → HasRuleType names a r → HasRuleType names b s → (e : Bool) → is_equality op ≡ e
     → (if e then truth_type (are_comparable (out-Ty r) (out-Ty s))
     else (if is_number (out-Ty r) && is_number (out-Ty s) then Some (result_type op (out-Ty r) (out-Ty s)) else joined_type op (out-Ty r) (out-Ty s))) ≡ Some t
-    → HasType names (expr.Node (node.Binary op a b)) t
+    → HasRuleType names (expr.Node (node.Binary op a b)) t
 sound_operated op a b names r s t a_typed b_typed true same h = sound_equality op a b names r s t a_typed b_typed same (are_comparable (out-Ty r) (out-Ty s)) refl h
 sound_operated op a b names r s t a_typed b_typed false other h = sound_numbers op a b names r s t a_typed b_typed other (is_number (out-Ty r) && is_number (out-Ty s)) refl h
 
 sound_binary_by : (op : Binary) (a b : Expr) → IsSound a → IsSound b → (names : Names) (t : Ty) (o p : Option Ty) → type_of a names ≡ o → type_of b names ≡ p
-    → binary_type op o p ≡ Some t → HasType names (expr.Node (node.Binary op a b)) t
+    → binary_type op o p ≡ Some t → HasRuleType names (expr.Node (node.Binary op a b)) t
 sound_binary_by op a b a_sound b_sound names t None p a_is b_is h = absurd (none-some t h)
 sound_binary_by op a b a_sound b_sound names t (Some r) None a_is b_is h = absurd (none-some t h)
 sound_binary_by op a b a_sound b_sound names t (Some r) (Some s) a_is b_is h =
@@ -354,7 +356,7 @@ sound_binary op a b a_sound b_sound names t h =
     sound_binary_by op a b a_sound b_sound names t (type_of a names) (type_of b names) refl refl (sym (type_binary op a b names) ∙ h)
 
 sound_coalesced_by : (a b : Expr) → IsSound a → IsSound b → (names : Names) (r : Ty) (o p : Option Ty) → type_of a names ≡ o → type_of b names ≡ p
-    → of_operands coalesced o p ≡ Some r → HasType names (expr.Node (node.Coalesce a b)) r
+    → of_operands coalesced o p ≡ Some r → HasRuleType names (expr.Node (node.Coalesce a b)) r
 sound_coalesced_by a b a_sound b_sound names r (Some s) (Some t) a_is b_is h =
     of_coalesced names (expr.Node (node.Coalesce a b)) a b s t r refl (a_sound names s a_is) (b_sound names t b_is) h
 sound_coalesced_by a b a_sound b_sound names r (Some s) None a_is b_is h = absurd (none-some r h)
@@ -364,43 +366,43 @@ sound_coalesced : (a b : Expr) → IsSound a → IsSound b → IsSound (expr.Nod
 sound_coalesced a b a_sound b_sound names r h =
     sound_coalesced_by a b a_sound b_sound names r (type_of a names) (type_of b names) refl refl (sym (type_coalesce a b names) ∙ h)
 
-sound_negative : (a : Expr) (names : Names) (s t : Ty) → HasType names a s → (b : Bool) → is_number (out-Ty s) ≡ b → (if b then Some s else None) ≡ Some t
-    → HasType names (expr.Node (node.Unary unary.Minus a)) t
+sound_negative : (a : Expr) (names : Names) (s t : Ty) → HasRuleType names a s → (b : Bool) → is_number (out-Ty s) ≡ b → (if b then Some s else None) ≡ Some t
+    → HasRuleType names (expr.Node (node.Unary unary.Minus a)) t
 sound_negative a names s t typed true number h =
-    subst (HasType names (expr.Node (node.Unary unary.Minus a))) (same_Some s t h) (of_minus names (expr.Node (node.Unary unary.Minus a)) a s refl typed number)
+    subst (HasRuleType names (expr.Node (node.Unary unary.Minus a))) (same_Some s t h) (of_minus names (expr.Node (node.Unary unary.Minus a)) a s refl typed number)
 sound_negative a names s t typed false number h = absurd (none-some t h)
 
-sound_minus_by : (a : Expr) → IsSound a → (names : Names) (t : Ty) (o : Option Ty) → type_of a names ≡ o → if_number o ≡ Some t → HasType names (expr.Node (node.Unary unary.Minus a)) t
+sound_minus_by : (a : Expr) → IsSound a → (names : Names) (t : Ty) (o : Option Ty) → type_of a names ≡ o → if_number o ≡ Some t → HasRuleType names (expr.Node (node.Unary unary.Minus a)) t
 sound_minus_by a sound names t None is h = absurd (none-some t h)
 sound_minus_by a sound names t (Some s) is h = sound_negative a names s t (sound names s is) (is_number (out-Ty s)) refl h
 
 sound_minus : (a : Expr) → IsSound a → IsSound (expr.Node (node.Unary unary.Minus a))
 sound_minus a sound names t h = sound_minus_by a sound names t (type_of a names) refl (sym (type_minus a names) ∙ h)
 
-condition_sound_by : (names : Names) (c : Expr) → IsSound c → (o : Option Ty) → type_of c names ≡ o → is_bool_type o ≡ true → HasType names c ty.Bool
+condition_sound_by : (names : Names) (c : Expr) → IsSound c → (o : Option Ty) → type_of c names ≡ o → is_bool_type o ≡ true → HasRuleType names c ty.Bool
 condition_sound_by names c sound None is h = absurd (true≢false (sym h))
-condition_sound_by names c sound (Some t) is h = subst (HasType names c) (is_truth t h) (sound names t is)
+condition_sound_by names c sound (Some t) is h = subst (HasRuleType names c) (is_truth t h) (sound names t is)
 
 -- an expression that has the type of truth values where the function finds it
-condition_of : (c : Expr) → IsSound c → (names : Names) → is_bool_type (type_of c names) ≡ true → HasType names c ty.Bool
+condition_of : (c : Expr) → IsSound c → (names : Names) → is_bool_type (type_of c names) ≡ true → HasRuleType names c ty.Bool
 condition_of c sound names h = condition_sound_by names c sound (type_of c names) refl h
 
-text_sound_by : (names : Names) (x : Expr) → IsSound x → (o : Option Ty) → type_of x names ≡ o → is_text_type o ≡ true → HasType names x ty.Str
+text_sound_by : (names : Names) (x : Expr) → IsSound x → (o : Option Ty) → type_of x names ≡ o → is_text_type o ≡ true → HasRuleType names x ty.Str
 text_sound_by names x sound None is h = absurd (true≢false (sym h))
-text_sound_by names x sound (Some t) is h = subst (HasType names x) (is_text_of t h) (sound names t is)
+text_sound_by names x sound (Some t) is h = subst (HasRuleType names x) (is_text_of t h) (sound names t is)
 
 -- an expression that has the type of texts where the function finds it
-text_of : (x : Expr) → IsSound x → (names : Names) → is_text_type (type_of x names) ≡ true → HasType names x ty.Str
+text_of : (x : Expr) → IsSound x → (names : Names) → is_text_type (type_of x names) ≡ true → HasRuleType names x ty.Str
 text_of x sound names h = text_sound_by names x sound (type_of x names) refl h
 
 sound_search : (a b : Expr) (m : List ℕ) → IsSound a → IsSound b → IsSound (expr.Node (node.Method a m (argument.Value b ∷ [])))
 sound_search a b m a_sound b_sound names t h = by _ refl (sym (type_method a m (argument.Value b ∷ []) names) ∙ h) where
   by : (c : Bool) → (is_search m && is_text_type (type_of a names) && is_text_type (type_of b names)) ≡ c → truth_type c ≡ Some t
-      → HasType names (expr.Node (node.Method a m (argument.Value b ∷ []))) t
+      → HasRuleType names (expr.Node (node.Method a m (argument.Value b ∷ []))) t
   by true is found =
       let outer = and_parts (is_search m && is_text_type (type_of a names)) _ is in
       let inner = and_parts (is_search m) _ outer.0 in
-      subst (HasType names (expr.Node (node.Method a m (argument.Value b ∷ [])))) (same_Some ty.Bool t found)
+      subst (HasRuleType names (expr.Node (node.Method a m (argument.Value b ∷ [])))) (same_Some ty.Bool t found)
       (of_search names (expr.Node (node.Method a m (argument.Value b ∷ []))) a b m refl (search_given m inner.0) (text_of a a_sound names inner.1) (text_of b b_sound names outer.1))
   by false is found = absurd (none-some t found)
 
@@ -409,25 +411,25 @@ sound_other : (a : Expr) (m : List ℕ) (xs : List (Argument Expr)) → sole_arg
 sound_other a m xs none names t h =
     by _ refl (sym (ap (λ (x : Option Expr). truth_type (is_search m && is_text_type (type_of a names) && is_text_type (argument_type x names))) none)
     ∙ sym (type_method a m xs names) ∙ h) where
-      by : (c : Bool) → (is_search m && is_text_type (type_of a names)) ≡ c → truth_type (c && false) ≡ Some t → HasType names (expr.Node (node.Method a m xs)) t
+      by : (c : Bool) → (is_search m && is_text_type (type_of a names)) ≡ c → truth_type (c && false) ≡ Some t → HasRuleType names (expr.Node (node.Method a m xs)) t
       by true is found = absurd (none-some t found)
       by false is found = absurd (none-some t found)
 
 sound_truth : (b : Bool) → IsSound (expr.Node (node.Bool b))
 sound_truth b names t h =
-    subst (HasType names (expr.Node (node.Bool b))) (same_Some ty.Bool t (sym (type_truth b names) ∙ h)) (of_truth names (expr.Node (node.Bool b)) b refl)
+    subst (HasRuleType names (expr.Node (node.Bool b))) (same_Some ty.Bool t (sym (type_truth b names) ∙ h)) (of_truth names (expr.Node (node.Bool b)) b refl)
 
 sound_not : (a : Expr) → IsSound a → IsSound (expr.Node (node.Unary unary.Not a))
 sound_not a sound names t h = by (is_bool_type (type_of a names)) refl (sym (type_not a names) ∙ h) where
-  by : (c : Bool) → is_bool_type (type_of a names) ≡ c → truth_type c ≡ Some t → HasType names (expr.Node (node.Unary unary.Not a)) t
-  by true is found = subst (HasType names (expr.Node (node.Unary unary.Not a))) (same_Some ty.Bool t found) (of_not names (expr.Node (node.Unary unary.Not a)) a refl (condition_of a sound names is))
+  by : (c : Bool) → is_bool_type (type_of a names) ≡ c → truth_type c ≡ Some t → HasRuleType names (expr.Node (node.Unary unary.Not a)) t
+  by true is found = subst (HasRuleType names (expr.Node (node.Unary unary.Not a))) (same_Some ty.Bool t found) (of_not names (expr.Node (node.Unary unary.Not a)) a refl (condition_of a sound names is))
   by false is found = absurd (none-some t found)
 
 -- two truth values under an operator
-truths_by : (names : Names) (e a b : Expr) (t : Ty) → IsSound a → IsSound b → (HasType names a ty.Bool → HasType names b ty.Bool → HasType names e ty.Bool) → (c d : Bool)
-    → is_bool_type (type_of a names) ≡ c → is_bool_type (type_of b names) ≡ d → truth_type (c && d) ≡ Some t → HasType names e t
+truths_by : (names : Names) (e a b : Expr) (t : Ty) → IsSound a → IsSound b → (HasRuleType names a ty.Bool → HasRuleType names b ty.Bool → HasRuleType names e ty.Bool) → (c d : Bool)
+    → is_bool_type (type_of a names) ≡ c → is_bool_type (type_of b names) ≡ d → truth_type (c && d) ≡ Some t → HasRuleType names e t
 truths_by names e a b t a_sound b_sound rule true true a_is b_is found =
-    subst (HasType names e) (same_Some ty.Bool t found) (rule (condition_of a a_sound names a_is) (condition_of b b_sound names b_is))
+    subst (HasRuleType names e) (same_Some ty.Bool t found) (rule (condition_of a a_sound names a_is) (condition_of b b_sound names b_is))
 truths_by names e a b t a_sound b_sound rule true false a_is b_is found = absurd (none-some t found)
 truths_by names e a b t a_sound b_sound rule false d a_is b_is found = absurd (none-some t found)
 
@@ -440,7 +442,7 @@ sound_either a b a_sound b_sound names t h =
     truths_by names (expr.Node (node.Or a b)) a b t a_sound b_sound (of_either names (expr.Node (node.Or a b)) a b refl) _ _ refl refl (sym (type_either a b names) ∙ h)
 
 sound_choice_by : (c a b : Expr) → IsSound c → IsSound a → IsSound b → (names : Names) (r : Ty) (x : Bool) (o p : Option Ty) → is_bool_type (type_of c names) ≡ x
-    → type_of a names ≡ o → type_of b names ≡ p → choice_type x o p ≡ Some r → HasType names (expr.Node (node.Conditional c a b)) r
+    → type_of a names ≡ o → type_of b names ≡ p → choice_type x o p ≡ Some r → HasRuleType names (expr.Node (node.Conditional c a b)) r
 sound_choice_by c a b c_sound a_sound b_sound names r true (Some s) (Some t) x_is a_is b_is h =
     of_choice names (expr.Node (node.Conditional c a b)) c a b s t r refl (condition_of c c_sound names x_is) (a_sound names s a_is) (b_sound names t b_is) h
 sound_choice_by c a b c_sound a_sound b_sound names r true (Some s) None x_is a_is b_is h = absurd (none-some r h)
@@ -487,7 +489,7 @@ sound_layer x (Expr-F.Node (node.Conditional c a b)) h = sound_node x (node.Cond
 sound_layer x (Expr-F.Node other) h = subst (λ d. IsSound (roll-Expr d)) h (no_type (map-Expr Both Expr (λ e. e.0) (Expr-F.Node other)) (λ names. refl))
 sound_layer x (Expr-F.Query q) h = subst (λ d. IsSound (roll-Expr d)) h (no_type (map-Expr Both Expr (λ e. e.0) (Expr-F.Query q)) (λ names. refl))
 
-pub type_sound : (e : Expr) (names : Names) (t : Ty) → type_of e names ≡ Some t → HasType names e t
+pub type_sound : (e : Expr) (names : Names) (t : Ty) → type_of e names ≡ Some t → HasRuleType names e t
 type_sound e = ind-Expr IsSound sound_layer e
 
 -- ---- queries
@@ -536,45 +538,45 @@ empty [] h = refl
 empty (c ∷ rest) h = absurd (let none : suc (length rest) ≡ 0 = eqb-true _ 0 h in omega (arith, none))
 
 module _ (names : Names) (q : Query Expr) (t : Ty) (fresh : local_type q.name names.locals ≡ None) where
-  clauses_and_last : (item : Ty) → HasType names q.source (ty.Seq item) → q.rest ≡ [] → (o : Option Names)
-      → names_behind_all type_of names q.body.clauses (with_local names q.name item) ≡ o → option_and_then (selected_type type_of q.body.last) o ≡ Some t → HasItemType names q t
+  clauses_and_last : (item : Ty) → HasRuleType names q.source (ty.Seq item) → q.rest ≡ [] → (o : Option Names)
+      → names_behind_all type_of names q.body.clauses (with_local names q.name item) ≡ o → option_and_then (selected_type type_of q.body.last) o ≡ Some t → HasRuleItemType names q t
   clauses_and_last item source ended None is h = absurd (none-some t h)
   clauses_and_last item source ended (Some behind) is h =
       by_query names behind q item t source fresh (clauses_sound names (with_local names q.name item) behind q.body.clauses is) (selected_sound behind q.body.last t h) ended
 
-  body_sound : (item : Ty) → HasType names q.source (ty.Seq item) → (b : Bool) → (length q.rest == 0) ≡ b
-      → (if b then body_type type_of names q.body (with_local names q.name item) else None) ≡ Some t → HasItemType names q t
+  body_sound : (item : Ty) → HasRuleType names q.source (ty.Seq item) → (b : Bool) → (length q.rest == 0) ≡ b
+      → (if b then body_type type_of names q.body (with_local names q.name item) else None) ≡ Some t → HasRuleItemType names q t
   body_sound item source true ended h =
       clauses_and_last item source (empty q.rest ended) (names_behind_all type_of names q.body.clauses (with_local names q.name item)) refl h
   body_sound item source false ended h = absurd (none-some t h)
 
-  items_sound : (s : Ty) → HasType names q.source s → (o : Option Ty) → item_of (out-Ty s) ≡ o → items_over type_of names q o ≡ Some t → HasItemType names q t
+  items_sound : (s : Ty) → HasRuleType names q.source s → (o : Option Ty) → item_of (out-Ty s) ≡ o → items_over type_of names q o ≡ Some t → HasRuleItemType names q t
   items_sound s source None is h = absurd (none-some t h)
-  items_sound s source (Some item) is h = body_sound item (subst (HasType names q.source) (is_sequence s item is) source) (length q.rest == 0) refl h
+  items_sound s source (Some item) is h = body_sound item (subst (HasRuleType names q.source) (is_sequence s item is) source) (length q.rest == 0) refl h
 
-  source_sound : (o : Option Ty) → type_of q.source names ≡ o → items_over type_of names q (option_and_then (λ s. item_of (out-Ty s)) o) ≡ Some t → HasItemType names q t
+  source_sound : (o : Option Ty) → type_of q.source names ≡ o → items_over type_of names q (option_and_then (λ s. item_of (out-Ty s)) o) ≡ Some t → HasRuleItemType names q t
   source_sound None is h = absurd (none-some t h)
   source_sound (Some s) is h = items_sound s (type_sound q.source names s is) (item_of (out-Ty s)) refl h
 
 fresh_sound : (names : Names) (q : Query Expr) (t : Ty) (o : Option Ty) → local_type q.name names.locals ≡ o
-    → when_fresh o (items_over type_of names q (option_and_then (λ s. item_of (out-Ty s)) (type_of q.source names))) ≡ Some t → HasItemType names q t
+    → when_fresh o (items_over type_of names q (option_and_then (λ s. item_of (out-Ty s)) (type_of q.source names))) ≡ Some t → HasRuleItemType names q t
 fresh_sound names q t None is h = source_sound names q t is (type_of q.source names) refl h
 fresh_sound names q t (Some s) is h = absurd (none-some t h)
 
-pub item_type_sound : (names : Names) (q : Query Expr) (t : Ty) → item_type type_of q names ≡ Some t → HasItemType names q t
+pub item_type_sound : (names : Names) (q : Query Expr) (t : Ty) → item_type type_of q names ≡ Some t → HasRuleItemType names q t
 unfolding item_type
 item_type_sound names q t h = fresh_sound names q t (local_type q.name names.locals) refl h
 
 -- ---- the laws
 
-pub one_expression_type : HasOneType
+pub one_expression_type : HasOneRuleType
 one_expression_type names e s t left right = same_Some s t (sym (type_complete names left) ∙ type_complete names right)
 
-pub one_item_type : HasOneItemType
+pub one_item_type : HasOneRuleItemType
 one_item_type names q s t left right = same_Some s t (sym (item_type_complete names q s left) ∙ item_type_complete names q t right)
 
-pub type_found : FindsTypes
+pub type_found : FindsRuleTypes
 type_found names e t = (type_sound e names t, type_complete names)
 
-pub item_type_found : FindsItemTypes
+pub item_type_found : FindsRuleItemTypes
 item_type_found names q t = (item_type_sound names q t, item_type_complete names q t)

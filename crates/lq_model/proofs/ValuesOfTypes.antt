@@ -16,14 +16,15 @@ use Rattle.lq_value.specs.declared.value.Value.{Value}
 use Rattle.lq_value.specs.declared.value.Value.TheVariants as value
 use Rattle.lq_value.specs.declared.value.Value.TheVariants.{outs-Group as outs-value-Group, outs-Rec as outs-value-Rec, outs-Row as outs-value-Row, outs-Scalar, outs-Seq as outs-value-Seq}
 use Rattle.lq_model.specs.Enumerable.{at_end, default_if_empty, element_at, extreme, first, item_behind, last, last_of, reversed, single, summed, take_first}
-use Rattle.lq_model.specs.Meaning.{World, as_value, truth_value}
-use Rattle.lq_model.specs.MeaningLaws.{Every, HasCells, IsScalarOf}
+use Rattle.lq_model.specs.Worlds.{World}
+use Rattle.lq_model.specs.OperandMeaning.{as_value, truth_value}
+use Rattle.lq_model.specs.ValuesOfTypes.{Every, HasCells, IsScalarOf}
 use Rattle.lq_model.specs.Operations.{is_int as holds_int}
 use Rattle.lq_model.specs.Stream.{Stream, whole}
-use Rattle.lq_model.specs.Typing.{is_number}
-use Rattle.lq_model.specs.WholeMeaning.{as_sequence, as_truth, default_layer, default_of, member_in, no_number}
-use Rattle.lq_model.specs.WholeMeaningLaws.{AreMembers, Fits, IsA, IsValueOf, ValueClaim, by_group, by_null_record, by_record, by_row, by_scalar, by_sequence, no_member, one_member}
-use Rattle.lq_model.specs.WholeTyping.{has_default, is_int, member_of}
+use Rattle.lq_model.specs.OperandTypes.{is_number}
+use Rattle.lq_model.specs.Meaning.{as_sequence, as_truth, default_layer, default_of, member_in, no_number}
+use Rattle.lq_model.specs.MeaningLaws.{AreMembers, Fits, IsA, IsValueOf, ValueClaim, by_group, by_null_record, by_record, by_row, by_scalar, by_sequence, no_member, one_member}
+use Rattle.lq_model.specs.Typing.{has_default, is_int, member_of}
 use Rattle.lq_model.proofs.AlikeStreams.{every_append}
 use Rattle.lq_model.proofs.EveryItem.{every_more, every_none, first_of, others_of}
 use Rattle.lq_model.proofs.ScalarResults.{row_layer}

@@ -12,15 +12,16 @@ use Rattle.lq_value.specs.declared.ty.Ty.TheOpen.{Ty-F}
 use Rattle.lq_value.specs.declared.ty.Ty.TheVariants as ty
 use Rattle.lq_value.specs.declared.ty.Ty.TheVariants.{outs-Bool, outs-Group, outs-Int, outs-IntN, outs-Null, outs-Rec, outs-Row, outs-Seq, outs-Str}
 use Rattle.lq_model.specs.Types.{element_type, is_within, parts_of, parts_step, same_types, sum_of_members}
-use Rattle.lq_model.specs.Typing.{Names, chosen, coalesced, column_named, column_type, is_number, local_type, number_type, type_of_column, with_local}
+use Rattle.lq_model.specs.Names.{Names, column_named, column_type, local_type, type_of_column, with_local}
+use Rattle.lq_model.specs.OperandTypes.{chosen, coalesced, is_number, number_type}
 use Rattle.lq_model.specs.TypingRules.{TypeClaim, Has, Gives, Members, Sorts, Leads, LeadAll, Ends, BodyGives, Continues, QueryGives, IsRight}
 use Rattle.lq_model.specs.TypingRules as rule
-use Rattle.lq_model.specs.WholeTyping.{member_of, whole_chosen}
-use Rattle.lq_model.specs.WholeTypingLaws.{AreWithin, LimitsItems, LimitsTypes}
+use Rattle.lq_model.specs.Typing.{member_of, whole_chosen}
+use Rattle.lq_model.specs.TypingLaws.{AreWithin, LimitsItems, LimitsTypes}
 use Rattle.lq_model.proofs.Findings.{map_by, when_by}
 use Rattle.lq_model.proofs.TypingLemmas.{is_of_layer, type_with}
-use Rattle.lq_model.proofs.WholeSoundness.{items_sound, whole_sound}
-use Rattle.lq_model.proofs.WholeTypes.{parts_out}
+use Rattle.lq_model.proofs.TypingSoundness.{items_sound, whole_sound}
+use Rattle.lq_model.proofs.KeptTypes.{parts_out}
 
 -- ---- parts
 

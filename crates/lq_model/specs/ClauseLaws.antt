@@ -13,10 +13,12 @@ use Rattle.lq_value.specs.declared.value.Value.{Value}
 use Rattle.lq_value.specs.declared.value.Value.TheVariants as value
 use Rattle.lq_model.specs.Arrangement.{all_of, order_by}
 use Rattle.lq_model.specs.ClauseTyping.{expression_type, if_within, join_type, last_type, names_after, sole_name, source_type}
-use Rattle.lq_model.specs.Meaning.{Meaning, Scope, World, clause_meaning, extended, item_type_at, matches, stream_of}
+use Rattle.lq_model.specs.Worlds.{Meaning, Scope, World}
+use Rattle.lq_model.specs.OperandMeaning.{stream_of}
+use Rattle.lq_model.specs.ClauseMeaning.{clause_meaning, extended, item_type_at, matches}
 use Rattle.lq_model.specs.Stream.{elements_of, group_by, join_by, made, then_stream, with_keys}
 use Rattle.lq_model.specs.Types.{are_join_keys, has_place, is_key, parts_of}
-use Rattle.lq_model.specs.Typing.{Names, local_type, with_local}
+use Rattle.lq_model.specs.Names.{Names, local_type, with_local}
 use Rattle.lq_model.specs.declared.syntax.Clause.TheVariants as clause
 use Rattle.lq_model.specs.declared.syntax.Expr.TheVariants as expr
 use Rattle.lq_model.specs.declared.syntax.Join.{Join}

@@ -3,8 +3,9 @@
 use Rattle.std.specs.Prelude.{◌∷◌, ◌&&◌, List, [], ℕ, Bool, true, Option, Some, None, option_and_then, option_map}
 use Rattle.lq_value.specs.declared.ty.Ty.{Ty, out-Ty}
 use Rattle.lq_value.specs.declared.ty.Ty.TheVariants as ty
-use Rattle.lq_model.specs.Typing.{Names, is_bool_type, with_local}
-use Rattle.lq_model.specs.WholeTyping.{whole_type}
+use Rattle.lq_model.specs.Names.{Names, with_local}
+use Rattle.lq_model.specs.OperandTypes.{is_bool_type}
+use Rattle.lq_model.specs.Typing.{whole_type}
 unfoldable pub use Rattle.lq_model.specs.Types.{are_join_keys, element_type, fresh_type, has_place, if_key, if_placed, is_fresh, is_key, is_sort_key, is_within, parts_of, parts_step, same_types, when}
 use Rattle.lq_model.specs.declared.syntax.Body.{Body}
 use Rattle.lq_model.specs.declared.syntax.Clause.{Clause}

@@ -6,17 +6,18 @@ use Rattle.lq_value.specs.declared.ty.Ty.TheVariants as ty
 use Rattle.lq_model.specs.ClauseTyping.{expression_type}
 use Rattle.lq_model.specs.Definitions.{defining, known_as, known_names, outer_names}
 use Rattle.lq_model.specs.Machine.{step}
-use Rattle.lq_model.specs.Meaning.{World, session_names}
-use Rattle.lq_model.specs.MeaningLaws.{HoldsRows, IsScalarOf, assuming, Every, IsTypedTable}
-use Rattle.lq_model.specs.Typing.{SessionName, is_scalar, session_name, table_number}
-use Rattle.lq_model.specs.WholeMeaningLaws.{IsSessionOfValues}
+use Rattle.lq_model.specs.Worlds.{World, session_names}
+use Rattle.lq_model.specs.ValuesOfTypes.{HoldsRows, IsScalarOf, assuming, Every, IsTypedTable}
+use Rattle.lq_model.specs.Names.{SessionName, session_name, table_number}
+use Rattle.lq_model.specs.OperandTypes.{is_scalar}
+use Rattle.lq_model.specs.MeaningLaws.{IsSessionOfValues}
 use Rattle.lq_model.specs.declared.session.Defined.{Defined}
 use Rattle.lq_model.specs.declared.session.Defined.TheVariants as of
 use Rattle.lq_model.specs.declared.session.Definition.{Definition}
 use Rattle.lq_value.specs.declared.value.Fault.{Fault}
 use Rattle.lq_model.specs.Serving.{run_denial, run_in, served, served_type, unless_denied}
 use Rattle.lq_model.specs.States.{State, names_in, schemas_of, seen_by_role, world_by}
-use Rattle.lq_model.specs.WholeMeaning.{expression_meaning}
+use Rattle.lq_model.specs.Meaning.{expression_meaning}
 use Rattle.lq_model.specs.declared.syntax.Expr.{Expr}
 
 -- What a `var` statement may have defined where these names were known: a variable of a scalar's type, with a value of it, or a named query,

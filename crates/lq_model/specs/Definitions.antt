@@ -6,10 +6,11 @@ use Rattle.lq_value.specs.declared.table.Schema.{Schema}
 use Rattle.lq_value.specs.declared.value.Value.{Value}
 use Rattle.lq_value.specs.declared.value.Value.TheVariants as value
 use Rattle.lq_model.specs.ClauseTyping.{expression_type}
-use Rattle.lq_model.specs.Meaning.{SessionValue, World, or_null, sequence, session_names, stream_of}
-use Rattle.lq_model.specs.Typing.{Names, SessionName}
+use Rattle.lq_model.specs.Worlds.{SessionValue, World, or_null, session_names}
+use Rattle.lq_model.specs.OperandMeaning.{sequence, stream_of}
+use Rattle.lq_model.specs.Names.{Names, SessionName}
 use Rattle.lq_model.specs.Uses.{expression_uses}
-use Rattle.lq_model.specs.WholeMeaning.{expression_meaning}
+use Rattle.lq_model.specs.Meaning.{expression_meaning}
 use Rattle.lq_model.specs.declared.session.Defined.{Defined}
 use Rattle.lq_model.specs.declared.session.Defined.TheVariants as of
 use Rattle.lq_model.specs.declared.session.Definition.{Definition}

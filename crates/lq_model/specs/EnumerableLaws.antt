@@ -7,7 +7,7 @@ use Rattle.lq_value.specs.declared.value.End.TheVariants as end
 use Rattle.lq_value.specs.declared.value.Fault.{Fault}
 use Rattle.lq_value.specs.declared.value.Fault.TheVariants as fault
 use Rattle.lq_model.specs.Enumerable.{all, any, as_count, concat, contains, default_if_empty, distinct, element_at, except, first, greatest, intersect, last, least, reversed, single, skip, summed, take_first, union}
-use Rattle.lq_model.specs.MeaningLaws.{Every}
+use Rattle.lq_model.specs.ValuesOfTypes.{Every}
 use Rattle.lq_model.specs.Operations.{is_int}
 use Rattle.lq_model.specs.Stream.{Stream}
 

@@ -1,6 +1,7 @@
 pub mod Arrangement
 pub mod ArrangementLaws
 pub mod ClauseLaws
+pub mod ClauseMeaning
 pub mod ClauseTyping
 pub mod DefinitionLaws
 pub mod Definitions
@@ -20,11 +21,14 @@ pub mod Maps
 pub mod Meaning
 pub mod MeaningLaws
 pub mod Members
+pub mod Names
 pub mod NestedFaults
 pub mod NullLaws
 pub mod OneArrangement
 pub mod Opening
 pub mod OpeningLaws
+pub mod OperandMeaning
+pub mod OperandTypes
 pub mod OperationLaws
 pub mod Operations
 pub mod Operators
@@ -35,6 +39,9 @@ pub mod Reading
 pub mod RightLaws
 pub mod Rights
 pub mod RuleLaws
+pub mod RuleMeaning
+pub mod RuleTyping
+pub mod RuleTypingLaws
 pub mod Script
 pub mod Served
 pub mod Serving
@@ -43,6 +50,7 @@ pub mod SessionTypes
 pub mod Statements
 pub mod States
 pub mod Stream
+pub mod TableRows
 pub mod Terms
 pub mod TextLiterals
 pub mod Tokens
@@ -54,9 +62,7 @@ pub mod TypingLaws
 pub mod TypingRules
 pub mod Uses
 pub mod UsesOfCalls
+pub mod ValuesOfTypes
 pub mod Visible
-pub mod WholeMeaning
-pub mod WholeMeaningLaws
-pub mod WholeTyping
-pub mod WholeTypingLaws
 pub mod Words
+pub mod Worlds

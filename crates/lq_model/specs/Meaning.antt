@@ -1,343 +1,255 @@
--- «Scalar meaning» and «Clause meaning»: what expressions and queries mean (ECMA-334, expressions and query expressions).
-use Rattle.std.specs.Prelude.{◌∷◌, ◌||◌, if◌then◌else◌, not, List, [], map, ℕ, Bool, true, false, Option, Some, None, Result, Ok, Err, slice_get, option_and_then, is_some}
+-- «Scalar meaning» and «Operator meaning» of the whole language: records, groups, and methods of sequences, whose lambdas are functions
+-- of the scope (ECMA-334, expressions; .NET, Enumerable). What `Meaning` gives to what is served has the same meaning here.
+use Rattle.std.specs.Prelude.{◌∷◌, if◌then◌else◌, List, [], filter_map, ℕ, ℤ, Bool, true, false, Option, Some, None, Result, Ok, Err, pos, option_and_then, slice_get}
 use Rattle.std.specs.Str.{bytes_eq}
+use Rattle.lq_value.specs.SameAndOrder.{same_values as same_keys}
 use Rattle.lq_value.specs.declared.scalar.Scalar.{Scalar}
 use Rattle.lq_value.specs.declared.scalar.Scalar.TheVariants as scalar
-use Rattle.lq_value.specs.declared.table.Schema.{Schema}
 use Rattle.lq_value.specs.declared.ty.Ty.{Ty, out-Ty}
-use Rattle.lq_value.specs.declared.ty.Ty.TheVariants as ty
-use Rattle.lq_value.specs.declared.value.End.TheVariants as end
+use Rattle.lq_value.specs.declared.ty.Ty.TheOpen.{Ty-F}
 use Rattle.lq_value.specs.declared.value.Fault.{Fault}
 use Rattle.lq_value.specs.declared.value.Fault.TheVariants as fault
 use Rattle.lq_value.specs.declared.value.Value.{Value, out-Value}
 use Rattle.lq_value.specs.declared.value.Value.TheOpen.{Value-F}
 use Rattle.lq_value.specs.declared.value.Value.TheVariants as value
-use Rattle.lq_model.specs.Members.{member_named, search_named, sole_argument}
-use Rattle.lq_model.specs.Operations.{negated, of_member, of_search, of_two, on_ok, operation_of, same_content, truth_of}
-use Rattle.lq_model.specs.Arrangement.{order_by}
-use Rattle.lq_model.specs.ClauseTyping.{body_items, expression_type, joined_name, source_type}
-use Rattle.lq_model.specs.Stream.{Stream, elements_of, expand_by, group_by, join_by, select_by, where_by, with_keys}
-use Rattle.lq_model.specs.Typing.{Names, SessionName, is_equality, is_text_type, row_table, table_number, type_of, with_local}
-use Rattle.lq_value.specs.SameAndOrder.{same_values as same_keys}
-use Rattle.lq_model.specs.declared.operation.Op.{Op}
-use Rattle.lq_model.specs.declared.operation.Op.TheVariants as op
+use Rattle.lq_model.specs.ClauseTyping.{expression_type}
+use Rattle.lq_model.specs.Enumerable.{all, any, as_count, concat, contains, count, default_if_empty, distinct, element_at, except, first, greatest, intersect, last, least, reversed, single, skip, summed, take_first, union}
+use Rattle.lq_model.specs.EnumerableCalls.{EnumerableCall, Given, Simple, Through, By, Plain, With, enumerable_call}
+use Rattle.lq_model.specs.EnumerableCalls as of
+use Rattle.lq_model.specs.Worlds.{Binding, Meaning, Scope, SessionValue, World, binding_of, bound, names_at, or_null}
+use Rattle.lq_model.specs.OperandMeaning.{as_value, member_value, on_scalar, same_values, sequence, stream_of, table_value, told, truth_value}
+use Rattle.lq_model.specs.ClauseMeaning.{condition_at, item_type_at, query_meaning}
+use Rattle.lq_model.specs.RuleMeaning.{Meant, node_meaning}
+use Rattle.lq_model.specs.Members.{search_named, sole_argument}
+use Rattle.lq_model.specs.Operations.{of_search, on_ok}
+use Rattle.lq_model.specs.Stream.{Stream, select_by, where_by}
+use Rattle.lq_model.specs.Names.{Names, table_number, with_local}
+use Rattle.lq_model.specs.OperandTypes.{is_equality, is_text_type}
+use Rattle.lq_model.specs.Typing.{is_int, method_type, whole_member_type}
+use Rattle.lq_model.specs.declared.syntax.Argument.{Argument}
 use Rattle.lq_model.specs.declared.syntax.Binary.{Binary}
-use Rattle.lq_model.specs.declared.syntax.Binary.TheVariants as binary
-use Rattle.lq_model.specs.declared.syntax.Clause.{Clause}
-use Rattle.lq_model.specs.declared.syntax.Clause.TheVariants as clause
-use Rattle.lq_model.specs.declared.syntax.Body.{Body}
-use Rattle.lq_model.specs.declared.syntax.Continuation.{Continuation}
 use Rattle.lq_model.specs.declared.syntax.Expr.{Expr, para-Expr}
 use Rattle.lq_model.specs.declared.syntax.Expr.TheOpen.{Expr-F}
-use Rattle.lq_model.specs.declared.syntax.Join.{Join}
-use Rattle.lq_model.specs.declared.syntax.Last.{Last}
-use Rattle.lq_model.specs.declared.syntax.Last.TheVariants as last
+use Rattle.lq_model.specs.declared.syntax.Field.{Field}
 use Rattle.lq_model.specs.declared.syntax.Node.{Node}
 use Rattle.lq_model.specs.declared.syntax.Node.TheVariants as node
 use Rattle.lq_model.specs.declared.syntax.Query.{Query}
-use Rattle.lq_model.specs.declared.syntax.SortKey.{SortKey}
-use Rattle.lq_model.specs.declared.syntax.Unary.TheVariants as unary
 
--- a local name with its type and its value
-pub record Binding (R : Type 0) : Type 0 where
-  pub name : List ℕ
-  pub ty : Ty
-  pub value : Value R
+-- whether the type is that of a sequence
+abbrev pub is_sequence_layer : Ty-F Ty → Bool
+is_sequence_layer (Ty-F.Seq t) = true
+is_sequence_layer layer = false
 
--- the local names of a place, the innermost first
-abbrev pub Scope : Type 0 → Type 0
-Scope R = List (Binding R)
+abbrev pub is_sequence_type : Option Ty → Bool
+is_sequence_type None = false
+is_sequence_type (Some t) = is_sequence_layer (out-Ty t)
 
--- a name of the session, and what it stands for at a statement
-pub record SessionValue (R : Type 0) : Type 0 where
-  pub known : SessionName
-  pub value : Value R
+-- the default of a type: 0, false, or null
+abbrev pub default_layer : {R : Type 0} → Ty-F Ty → Value R
+default_layer Ty-F.Int = value.Scalar (scalar.Int (pos 0))
+default_layer Ty-F.Bool = value.Scalar (scalar.Bool false)
+default_layer layer = value.Scalar scalar.Null
 
--- what is read besides local names: the schemas and rows of the tables, by number, what the session's names stand for, and a row's cell by its
--- column's name
-pub record World (R : Type 0) : Type 0 where
-  pub schemas : List Schema
-  pub rows : List (List R)
-  pub session : List (SessionValue R)
-  pub cell : R → List ℕ → Option Scalar
-  -- what stands where an expression has no meaning, since it has no type; nothing that is typed depends on it (MeaningLaws)
-  pub unknown : Fault
+abbrev pub default_of : {R : Type 0} → Ty → Value R
+default_of t = default_layer (out-Ty t)
 
--- what an expression means in the scope of its place
-abbrev pub Meaning : Type 0 → Type 0
-Meaning R = Scope R → Result (Value R) Fault
+-- what Min and Max give where there is no number: null of int?, and a fault of int
+abbrev pub no_number : Ty → Result Scalar Fault
+no_number t = if is_int (out-Ty t) then Err fault.InvalidOperation else Ok scalar.Null
 
-abbrev pub or_null : Option Ty → Ty
-or_null None = ty.Null
-or_null (Some t) = t
+-- the layer of a null record or row, which has no members
+abbrev pub has_members : Ty-F Ty → Bool
+has_members (Ty-F.Row n) = true
+has_members (Ty-F.Rec ms) = true
+has_members layer = false
+
+abbrev pub has_members_type : Option Ty → Bool
+has_members_type None = false
+has_members_type (Some t) = has_members (out-Ty t)
 
 module _ {R : Type 0} where
-  -- the local name's binding
-  abbrev pub binding_of : List ℕ → Scope R → Option (Binding R)
-  binding_of name [] = None
-  binding_of name (b ∷ bs) = if bytes_eq b.name name then Some b else binding_of name bs
+  -- the numbers among the items; null is none
+  abbrev pub number_in : Value-F R (Value R) → Option ℤ
+  number_in (Value-F.Scalar (scalar.Int n)) = Some n
+  number_in layer = None
 
-  -- the local names with their types
-  abbrev pub typed_locals : Scope R → List (List ℕ × Ty)
-  typed_locals scope = map (λ b. (b.name, b.ty)) scope
+  abbrev pub numbers : List (Value R) → List ℤ
+  numbers vs = filter_map (λ v. number_in (out-Value R v)) vs
 
-  -- the names of the session with their types
-  abbrev pub session_names : List (SessionValue R) → List SessionName
-  session_names session = map (λ s. s.known) session
+  -- ---- methods of sequences, on the stream of the items
 
-  abbrev pub names_at : World R → Scope R → Names
-  names_at world scope = record { tables = world.schemas; session = session_names world.session; locals = typed_locals scope }
+  -- the answer that is a sequence
+  abbrev pub as_sequence : Stream (Value R) → Result (Value R) Fault
+  as_sequence items = Ok (sequence items)
 
-  -- `from`: the range variable stands for each item of the source in turn
-  abbrev pub bound : List ℕ → Ty → Scope R → Value R → Scope R
-  bound name t scope v = record { name = name; ty = t; value = v } ∷ scope
+  abbrev pub as_truth : Result Bool Fault → Result (Value R) Fault
+  as_truth found = on_ok found (λ b. Ok (truth_value b))
 
-  abbrev pub bound_stream : List ℕ → Ty → Scope R → Stream (Value R) → Stream (Scope R)
-  bound_stream name t scope items = (map (bound name t scope) items.0, items.1)
+  abbrev pub none_there : Result (Value R) Fault
+  none_there = Err fault.InvalidOperation
 
--- a scalar, or the fault in its place, as a value
-abbrev pub as_value : {R : Type 0} → Result Scalar Fault → Result (Value R) Fault
-as_value found = on_ok found (λ s. Ok (value.Scalar s))
-
-abbrev pub truth_value : {R : Type 0} → Bool → Value R
-truth_value b = value.Scalar (scalar.Bool b)
-
--- whether the type is that of a row
-abbrev pub is_row_type : Option Ty → Bool
-is_row_type None = false
-is_row_type (Some t) = is_some (row_table (out-Ty t))
-
--- What a sign does between two scalars. `+` joins texts: where an operand is one, and of two nulls where one has the type of texts.
-abbrev pub operation_on : Binary → Option Ty → Option Ty → Scalar → Scalar → Op
-operation_on binary.Add s t (scalar.Text x) b = op.Concat
-operation_on binary.Add s t a (scalar.Text y) = op.Concat
-operation_on binary.Add s t scalar.Null scalar.Null = if is_text_type s || is_text_type t then op.Concat else op.Add
-operation_on sign s t a b = operation_of sign
-
--- what `==` or `!=` tells of operands that are the same, or aren't
-abbrev pub told : Binary → Bool → Bool
-told binary.NotEqual same = not same
-told sign same = same
-
-abbrev pub is_null : Scalar → Bool
-is_null scalar.Null = true
-is_null s = false
+  -- a method without an argument, on items of this type
+  abbrev pub simple_meaning : Simple → Ty → Stream (Value R) → Result (Value R) Fault
+  simple_meaning of.Distinct t s = as_sequence (distinct same_keys s.0 s.1)
+  simple_meaning of.Reverse t s = as_sequence (reversed s.0 s.1)
+  simple_meaning of.DefaultIfEmpty t s = as_sequence (default_if_empty (default_of t) s.0 s.1)
+  simple_meaning of.Any t s = as_truth (any s.0 s.1)
+  simple_meaning of.Count t s = as_value (count s.0 s.1)
+  simple_meaning of.First t s = first none_there s.0 s.1
+  simple_meaning of.FirstOrDefault t s = first (Ok (default_of t)) s.0 s.1
+  simple_meaning of.Last t s = last none_there s.0 s.1
+  simple_meaning of.Single t s = single none_there s.0 s.1
+  simple_meaning of.SingleOrDefault t s = single (Ok (default_of t)) s.0 s.1
+  simple_meaning of.Sum t s = as_value (summed (pos 0) (numbers s.0) s.1)
+  simple_meaning of.Min t s = as_value (least (no_number t) (numbers s.0) s.1)
+  simple_meaning of.Max t s = as_value (greatest (no_number t) (numbers s.0) s.1)
 
 module _ {R : Type 0} (world : World R) where
-  -- a table stands for the sequence of its rows
-  abbrev pub table_value : Option (List R) → Result (Value R) Fault
-  table_value (Some rows) = Ok (value.Seq (map value.Row rows) end.Done)
-  table_value None = Err world.unknown
+  -- an argument that is a number; it is evaluated before the source is read
+  abbrev pub number_of : Scalar → Result ℤ Fault
+  number_of (scalar.Int n) = Ok n
+  number_of s = Err world.unknown
 
-  -- a local name's value, else a table's rows
-  abbrev pub name_value : List ℕ → Option (Binding R) → Result (Value R) Fault
-  name_value name (Some b) = Ok b.value
-  name_value name None = table_value (option_and_then (λ number. slice_get world.rows number) (table_number name world.schemas))
+  abbrev pub on_number : Result (Value R) Fault → (ℤ → Result (Value R) Fault) → Result (Value R) Fault
+  on_number argument next = on_ok (on_scalar world argument number_of) next
 
-  abbrev pub cell_value : Option Scalar → Result (Value R) Fault
-  cell_value (Some s) = Ok (value.Scalar s)
-  cell_value None = Err world.unknown
+  -- a method with an argument
+  abbrev pub given_meaning : Given → Result (Value R) Fault → Stream (Value R) → Result (Value R) Fault
+  given_meaning of.Concat second s = as_sequence (concat s (stream_of world second))
+  given_meaning of.Union second s = as_sequence (union same_keys s (stream_of world second))
+  given_meaning of.Intersect second s = as_sequence (intersect same_keys s (stream_of world second))
+  given_meaning of.Except second s = as_sequence (except same_keys s (stream_of world second))
+  given_meaning of.Skip number s = on_number number (λ n. as_sequence (skip (as_count n) s.0 s.1))
+  given_meaning of.Take number s = on_number number (λ n. as_sequence (take_first (as_count n) s.0 s.1))
+  given_meaning of.ElementAt number s = on_number number (λ n. element_at n s.0 s.1)
+  given_meaning of.Contains value s = on_ok value (λ v. as_truth (contains same_keys v s.0 s.1))
 
-  -- a member of a null, by the type of what is null: a row has none
-  abbrev pub null_member : Option Ty → List ℕ → Result Scalar Fault
-  null_member t m = if is_row_type t then Err fault.NullReference else of_member world.unknown (member_named m) scalar.Null
+  -- a method with a lambda: its body's type, whether it is true of an item, and what it makes of one
+  abbrev pub through_meaning : Through → Ty → Ty → (Value R → Result Bool Fault) → (Value R → Result (Value R) Fault) → Stream (Value R) → Result (Value R) Fault
+  through_meaning of.Where t u condition f s = as_sequence (where_by condition s.0 s.1)
+  through_meaning of.Select t u condition f s = as_sequence (select_by f s.0 s.1)
+  through_meaning of.All t u condition f s = as_truth (all condition s.0 s.1)
+  through_meaning (of.Those method) t u condition f s = simple_meaning method t (where_by condition s.0 s.1)
+  through_meaning (of.Values method) t u condition f s = simple_meaning method u (select_by f s.0 s.1)
 
-  -- a column of a row, or a member of a scalar, which stands where an expression of this type does
-  abbrev pub member_value : Option Ty → List ℕ → Value-F R (Value R) → Result (Value R) Fault
-  member_value t m (Value-F.Row r) = cell_value (world.cell r m)
-  member_value t m (Value-F.Scalar scalar.Null) = as_value (null_member t m)
-  member_value t m (Value-F.Scalar s) = as_value (of_member world.unknown (member_named m) s)
-  member_value t m layer = Err world.unknown
+  -- ---- records and groups
 
-  -- an operand that `==` compares: a scalar, or a row, which isn't null
-  abbrev pub comparand : Value-F R (Value R) → Result (Value-F R (Value R)) Fault
-  comparand (Value-F.Scalar s) = Ok (Value-F.Scalar s)
-  comparand (Value-F.Row r) = Ok (Value-F.Row r)
-  comparand layer = Err world.unknown
+  abbrev pub member_found : Option (Value R) → Result (Value R) Fault
+  member_found (Some v) = Ok v
+  member_found None = Err world.unknown
 
-  abbrev pub on_comparand : {B : Type 0} → Result (Value R) Fault → (Value-F R (Value R) → Result B Fault) → Result B Fault
-  on_comparand operand next = on_ok (on_ok operand (λ v. comparand (out-Value R v))) next
+  abbrev pub member_in : List ℕ → List (List ℕ × Value R) → Option (Value R)
+  member_in m [] = None
+  member_in m (member ∷ members) = if bytes_eq m member.0 then Some member.1 else member_in m members
 
-  -- whether two operands are the same: scalars by their contents
-  abbrev pub same_values : Value-F R (Value R) → Value-F R (Value R) → Result Bool Fault
-  same_values (Value-F.Scalar s) (Value-F.Scalar t) = same_content world.unknown s t
-  same_values (Value-F.Scalar scalar.Null) (Value-F.Row r) = Ok false
-  same_values (Value-F.Row r) (Value-F.Scalar scalar.Null) = Ok false
-  same_values v w = Err world.unknown
+  -- ---- names
 
-  -- an operand that is a scalar
-  abbrev pub scalar_of : Value-F R (Value R) → Result Scalar Fault
-  scalar_of (Value-F.Scalar s) = Ok s
-  scalar_of layer = Err world.unknown
+  -- what a name of the session stands for
+  abbrev pub session_value : List ℕ → List (SessionValue R) → Result (Value R) Fault
+  session_value x [] = Err world.unknown
+  session_value x (s ∷ others) = if bytes_eq s.known.name x then Ok s.value else session_value x others
 
-  abbrev pub on_scalar : {B : Type 0} → Result (Value R) Fault → (Scalar → Result B Fault) → Result B Fault
-  on_scalar operand next = on_ok (on_ok operand (λ v. scalar_of (out-Value R v))) next
+  -- a table's rows, else what the session says
+  abbrev pub global_value : List ℕ → Option ℕ → Result (Value R) Fault
+  global_value x (Some n) = table_value world (slice_get world.rows n)
+  global_value x None = session_value x world.session
 
-  -- an operand that is a truth value
-  abbrev pub on_truth : {B : Type 0} → Result (Value R) Fault → (Bool → Result B Fault) → Result B Fault
-  on_truth operand next = on_ok (on_scalar operand (truth_of world.unknown)) next
+  -- a local name's value, else what its name stands for outside
+  abbrev pub whole_name_value : List ℕ → Option (Binding R) → Result (Value R) Fault
+  whole_name_value x (Some b) = Ok b.value
+  whole_name_value x None = global_value x (table_number x world.schemas)
 
-  -- the stream that a value is enumerated as; a fault met in making it is its ending
-  abbrev pub items_of : Value-F R (Value R) → Stream (Value R)
-  items_of (Value-F.Seq xs e) = (xs, e)
-  items_of (Value-F.Group key xs) = (xs, end.Done)
-  items_of layer = ([], end.Fault world.unknown)
+  -- a member of a record, the key of a group, or what a row or a scalar of this type has; a null record or row has none
+  abbrev pub whole_member_value : Option Ty → List ℕ → Value-F R (Value R) → Result (Value R) Fault
+  whole_member_value t m (Value-F.Rec members) = member_found (member_in m members)
+  whole_member_value t m (Value-F.Group key xs) = Ok key
+  whole_member_value t m (Value-F.Scalar scalar.Null) = if has_members_type t then Err fault.NullReference else member_value world t m (Value-F.Scalar scalar.Null)
+  whole_member_value t m layer = member_value world t m layer
 
-  abbrev pub stream_of : Result (Value R) Fault → Stream (Value R)
-  stream_of (Ok v) = items_of (out-Value R v)
-  stream_of (Err f) = ([], end.Fault f)
+  -- whether two operands are the same: a row, record or group is not null
+  abbrev pub whole_same : Value-F R (Value R) → Value-F R (Value R) → Result Bool Fault
+  whole_same (Value-F.Rec ms) (Value-F.Scalar scalar.Null) = Ok false
+  whole_same (Value-F.Group key xs) (Value-F.Scalar scalar.Null) = Ok false
+  whole_same (Value-F.Scalar scalar.Null) (Value-F.Rec ms) = Ok false
+  whole_same (Value-F.Scalar scalar.Null) (Value-F.Group key xs) = Ok false
+  whole_same v w = same_values world v w
 
--- ---- keys
+  abbrev pub whole_compared : Binary → Result (Value R) Fault → Result (Value R) Fault → Result (Value R) Fault
+  whole_compared sign a b = on_ok a (λ v. on_ok b (λ w. on_ok (whole_same (out-Value R v) (out-Value R w)) (λ same. Ok (truth_value (told sign same)))))
 
-module _ {R : Type 0} where
-  abbrev pub is_null_layer : Value-F R (Value R) → Bool
-  is_null_layer (Value-F.Scalar scalar.Null) = true
-  is_null_layer layer = false
+  -- An expression of a sequence's type doesn't fault: a fault met in making it is the ending of its stream, before any item.
+  abbrev pub settled : Option Ty → Result (Value R) Fault → Result (Value R) Fault
+  settled t found = if is_sequence_type t then as_sequence (stream_of world found) else found
 
-  -- the items whose keys are the same as this one, in their order; a key that is itself null is the same as none
-  abbrev pub matches : Value R → List (Value R × Value R) → List (Value R)
-  matches key qs = if is_null_layer (out-Value R key) then [] else elements_of same_keys key qs
+-- An operand beside its meaning: `type_of` tells its type.
+module _ {R E : Type 0} (world : World R) (type_of : E → Names → Option Ty) where
+  abbrev pub typed : E × Meaning R → Names → Option Ty
+  typed a = type_of a.0
 
-  abbrev pub as_group : Value R × List (Value R) → Value R
-  as_group group = value.Group group.0 group.1
+  abbrev pub meant : E × Meaning R → Meaning R
+  meant a = a.1
 
--- ---- clauses, whatever their expressions are: `typed` tells the type that one has under names, `meant` what it means
+  -- a method on items of this type, whose lambda means its body in the scope of an item
+  abbrev pub enumerable_meaning : Scope R → Ty → EnumerableCall (E × Meaning R) → Stream (Value R) → Result (Value R) Fault
+  enumerable_meaning scope t (Plain method) s = simple_meaning method t s
+  enumerable_meaning scope t (With method x) s = given_meaning world method (meant x scope) s
+  enumerable_meaning scope t (By method n body) s =
+      through_meaning world method t (or_null (typed body (with_local (names_at world scope) n t)))
+      (λ v. condition_at world typed meant body (bound n t scope v)) (λ v. meant body (bound n t scope v)) s
 
-module _ {R X : Type 0} (world : World R) (typed : X → Names → Option Ty) (meant : X → Meaning R) where
-  -- whether a condition is true
-  abbrev pub condition_at : X → Scope R → Result Bool Fault
-  condition_at c scope = on_scalar world (meant c scope) (truth_of world.unknown)
+  -- a method on the items of what means this, which are of this type
+  abbrev pub called_meaning : Option (EnumerableCall (E × Meaning R)) → Ty → Result (Value R) Fault → Meaning R
+  called_meaning None t source scope = Err world.unknown
+  called_meaning (Some call) t source scope = enumerable_meaning scope t call (stream_of world source)
 
-  -- the type of a source's items
-  abbrev pub item_type_at : X → Scope R → Ty
-  item_type_at source scope = or_null (source_type typed source (names_at world scope))
-
-  -- a scope with one more range variable
-  abbrev pub extended : List ℕ → Ty → Scope R → Value R → Result (Scope R) Fault
-  extended name t scope v = Ok (bound name t scope v)
-
-  -- the inner items of a `join` with their keys, which see no range variable but their own
-  abbrev pub inner_items : Scope R → Join X → Stream (Value R × Value R)
-  inner_items outer j = with_keys (λ v. meant j.inner_key (bound j.name (item_type_at j.source outer) outer v)) (stream_of world (meant j.source outer))
-
-  -- the inner items that a key matches, in their order; or all of them as one sequence
-  abbrev pub joined_values : Option (List ℕ) → Value R → List (Value R × Value R) → List (Value R)
-  joined_values None key qs = matches key qs
-  joined_values (Some g) key qs = value.Seq (matches key qs) end.Done ∷ []
-
-  -- the type of the name that a `join` leaves behind
-  abbrev pub joined_type : Option (List ℕ) → Ty → Ty
-  joined_type None t = t
-  joined_type (Some g) t = ty.Seq t
-
-  abbrev pub sort_key_at : SortKey X → Scope R → Result Scalar Fault
-  sort_key_at k scope = on_scalar world (meant k.value scope) (λ s. Ok s)
-
-  -- a clause of a query at the place of the first scope maps a stream of scopes to a stream of scopes
-  abbrev pub clause_meaning : Scope R → Clause X → Stream (Scope R) → Stream (Scope R)
-  clause_meaning outer (clause.From n f) scopes =
-      expand_by (λ s. stream_of world (meant f s)) (λ s. extended n (item_type_at f s) s) scopes.0 scopes.1
-  clause_meaning outer (clause.Let n f) scopes =
-      select_by (λ s. on_ok (meant f s) (extended n (or_null (typed f (names_at world s))) s)) scopes.0 scopes.1
-  clause_meaning outer (clause.Where c) scopes = where_by (condition_at c) scopes.0 scopes.1
-  clause_meaning outer (clause.Join j) scopes =
-      join_by (inner_items outer j) (meant j.outer_key) (joined_values j.into)
-      (extended (joined_name j) (joined_type j.into (item_type_at j.source outer))) scopes.0 scopes.1
-  clause_meaning outer (clause.OrderBy ks) scopes = order_by (λ k. k.descending) sort_key_at ks scopes.0 scopes.1
-
-  abbrev pub clauses_meaning : Scope R → List (Clause X) → Stream (Scope R) → Stream (Scope R)
-  clauses_meaning outer [] scopes = scopes
-  clauses_meaning outer (c ∷ cs) scopes = clauses_meaning outer cs (clause_meaning outer c scopes)
-
-  -- `select` gives a value for each scope; `group` the keys in order of their first appearance, each with its elements
-  abbrev pub last_meaning : Last X → Stream (Scope R) → Stream (Value R)
-  last_meaning (last.Select v) scopes = select_by (meant v) scopes.0 scopes.1
-  last_meaning (last.Group v key) scopes = group_by same_keys (meant key) (meant v) as_group scopes.0 scopes.1
-
-  abbrev pub body_meaning : Scope R → Body X → Stream (Scope R) → Stream (Value R)
-  body_meaning outer body scopes = last_meaning body.last (clauses_meaning outer body.clauses scopes)
-
-  -- the scopes of a query's first clause
-  abbrev pub source_scopes : Query X → Scope R → Stream (Scope R)
-  source_scopes q outer = bound_stream q.name (item_type_at q.source outer) outer (stream_of world (meant q.source outer))
-
-  -- the type of what a body gives, whose range variable has this type
-  abbrev pub body_type_at : Scope R → Body X → List ℕ → Ty → Ty
-  body_type_at outer body name t = or_null (body_items typed (names_at world outer) body (with_local (names_at world outer) name t))
-
-  -- what follows by `into` goes on with the items, of this type, by its range variable alone
-  abbrev pub continued : Scope R → List (Continuation X) → Ty → Stream (Value R) → Stream (Value R)
-  continued outer [] t items = items
-  continued outer (next ∷ rest) t items =
-      continued outer rest (body_type_at outer next.body next.name t) (body_meaning outer next.body (bound_stream next.name t outer items))
-
-  -- «Clause meaning»: the stream of a query at the place of this scope
-  unfoldable pub query_meaning : Query X → Scope R → Stream (Value R)
-  query_meaning q outer =
-      continued outer q.rest (body_type_at outer q.body q.name (item_type_at q.source outer)) (body_meaning outer q.body (source_scopes q outer))
-
--- ---- expressions
-
--- an expression, and what it means
-abbrev pub Meant : Type 0 → Type 0
-Meant R = Expr × Meaning R
-
--- a query is the sequence of its stream
-abbrev pub sequence : {R : Type 0} → Stream (Value R) → Value R
-sequence items = value.Seq items.0 items.1
-
-module _ {R : Type 0} (world : World R) where
   -- the meaning of an argument that is there
-  abbrev pub meaning_at : {E : Type 0} → Scope R → Option (E × Meaning R) → Result (Value R) Fault
-  meaning_at scope None = Err world.unknown
-  meaning_at scope (Some a) = a.1 scope
+  abbrev pub argument_meaning : Scope R → Option (E × Meaning R) → Result (Value R) Fault
+  argument_meaning scope None = Err world.unknown
+  argument_meaning scope (Some a) = a.1 scope
 
-  -- an operator that evaluates two scalars, which stand where expressions of these types do
-  abbrev pub operated_meaning : Binary → Option Ty → Option Ty → Result (Value R) Fault → Result (Value R) Fault → Result (Value R) Fault
-  operated_meaning sign t u a b = on_scalar world a (λ x. on_scalar world b (λ y. as_value (of_two world.unknown (operation_on sign t u x y) x y)))
+  -- a search in a text
+  abbrev pub search_meaning : Result (Value R) Fault → List ℕ → Result (Value R) Fault → Result (Value R) Fault
+  search_meaning a m argument = on_scalar world a (λ s. on_scalar world argument (λ t. as_value (of_search world.unknown (search_named m) s t)))
 
-  -- `==` and `!=`
-  abbrev pub compared_meaning : Binary → Result (Value R) Fault → Result (Value R) Fault → Result (Value R) Fault
-  compared_meaning sign a b = on_comparand world a (λ v. on_comparand world b (λ w. on_ok (same_values world v w) (λ same. Ok (truth_value (told sign same)))))
+  -- a search in a text, or a method of what is enumerated
+  abbrev pub method_meaning : E × Meaning R → List ℕ → List (Argument (E × Meaning R)) → Meaning R
+  method_meaning a m arguments scope =
+      if is_text_type (typed a (names_at world scope))
+      then search_meaning (meant a scope) m (argument_meaning scope (sole_argument arguments))
+      else called_meaning (enumerable_call m arguments) (item_type_at world typed meant a scope) (meant a scope) scope
 
--- An operand beside its meaning: `operand_type` tells its type where it is a scalar or a row, which is all that a node's meaning asks for.
-module _ {R E : Type 0} (world : World R) (operand_type : E → Names → Option Ty) where
-  -- the meaning of a node, over the meanings of what it holds
-  abbrev pub node_meaning : Node (E × Meaning R) → Meaning R
-  node_meaning (node.Integer n) scope = Ok (value.Scalar (scalar.Int n))
-  node_meaning (node.Name x) scope = name_value world x (binding_of x scope)
-  node_meaning (node.Text t) scope = Ok (value.Scalar (scalar.Text t))
-  node_meaning node.Null scope = Ok (value.Scalar scalar.Null)
-  node_meaning (node.Member a m) scope = on_ok (a.1 scope) (λ v. member_value world (operand_type a.0 (names_at world scope)) m (out-Value R v))
-  node_meaning (node.Method a m arguments) scope =
-      on_scalar world (a.1 scope) (λ s. on_scalar world (meaning_at world scope (sole_argument arguments)) (λ t. as_value (of_search world.unknown (search_named m) s t)))
-  node_meaning (node.Binary op a b) scope =
-      if is_equality op then compared_meaning world op (a.1 scope) (b.1 scope)
-      else operated_meaning world op (operand_type a.0 (names_at world scope)) (operand_type b.0 (names_at world scope)) (a.1 scope) (b.1 scope)
-  node_meaning (node.Unary unary.Minus a) scope = on_scalar world (a.1 scope) (λ s. as_value (negated world.unknown s))
-  node_meaning (node.Bool b) scope = Ok (truth_value b)
-  node_meaning (node.Unary unary.Not a) scope = on_truth world (a.1 scope) (λ t. Ok (truth_value (not t)))
-  -- the second operand is evaluated only where the first leaves it open
-  node_meaning (node.And a b) scope = on_truth world (a.1 scope) (λ t. if t then b.1 scope else Ok (truth_value false))
-  node_meaning (node.Or a b) scope = on_truth world (a.1 scope) (λ t. if t then Ok (truth_value true) else b.1 scope)
-  node_meaning (node.Coalesce a b) scope = on_scalar world (a.1 scope) (λ s. if is_null s then b.1 scope else Ok (value.Scalar s))
-  -- and of two values the one that is chosen
-  node_meaning (node.Conditional c a b) scope = on_truth world (c.1 scope) (λ t. if t then a.1 scope else b.1 scope)
-  node_meaning node scope = Err world.unknown
+  -- the members of a record, in order; the first fault is the result
+  abbrev pub members_meaning : List (Field (E × Meaning R)) → Scope R → Result (List (List ℕ × Value R)) Fault
+  members_meaning [] scope = Ok []
+  members_meaning (field ∷ fields) scope = on_ok (meant field.value scope) (λ v. on_ok (members_meaning fields scope) (λ members. Ok ((field.name, v) ∷ members)))
+
+  -- the type of a member, and of a method
+  abbrev pub member_type_at : E × Meaning R → List ℕ → Scope R → Option Ty
+  member_type_at a m scope = option_and_then (λ t. whole_member_type (names_at world scope) m (out-Ty t)) (typed a (names_at world scope))
+
+  abbrev pub method_type_at : E × Meaning R → List ℕ → List (Argument (E × Meaning R)) → Scope R → Option Ty
+  method_type_at a m arguments scope = method_type typed a m arguments (names_at world scope)
+
+  -- the meaning of a form, over the meanings of what it holds; a form without a clause of its own here means what `Meaning` says
+  abbrev pub whole_meaning : Node (E × Meaning R) → Meaning R
+  whole_meaning (node.Name x) scope = whole_name_value world x (binding_of x scope)
+  whole_meaning (node.Member a m) scope =
+      settled world (member_type_at a m scope) (on_ok (meant a scope) (λ v. whole_member_value world (typed a (names_at world scope)) m (out-Value R v)))
+  whole_meaning (node.Method a m arguments) scope = settled world (method_type_at a m arguments scope) (method_meaning a m arguments scope)
+  whole_meaning (node.New fields) scope = on_ok (members_meaning fields scope) (λ members. Ok (value.Rec members))
+  whole_meaning (node.Binary op a b) scope =
+      if is_equality op then whole_compared world op (meant a scope) (meant b scope) else node_meaning world type_of (node.Binary op a b) scope
+  whole_meaning n scope = node_meaning world type_of n scope
 
 module _ {R : Type 0} (world : World R) where
-  abbrev pub meaning_step : Expr-F (Meant R) → Meaning R
-  meaning_step (Expr-F.Node n) scope = node_meaning world type_of n scope
-  meaning_step (Expr-F.Query q) scope = Ok (sequence (query_meaning world (λ x. expression_type x.0) (λ x. x.1) q scope))
+  abbrev pub expression_meaning_step : Expr-F (Meant R) → Meaning R
+  expression_meaning_step (Expr-F.Node n) scope = whole_meaning world expression_type n scope
+  expression_meaning_step (Expr-F.Query q) scope = Ok (sequence (query_meaning world (λ x. expression_type x.0) (λ x. x.1) q scope))
 
-  -- «Scalar meaning»: the value of an expression, or its first fault
-  unfoldable pub meaning : Expr → Meaning R
-  meaning = para-Expr (Meaning R) meaning_step
+  -- the value of an expression of the whole language, or its first fault
+  unfoldable pub expression_meaning : Expr → Meaning R
+  expression_meaning = para-Expr (Meaning R) expression_meaning_step
 
-  -- «Clause meaning» of a query whose expressions mean this
-  abbrev pub stream_meaning : Query Expr → Scope R → Stream (Value R)
-  stream_meaning q scope = query_meaning world expression_type meaning q scope
-
-  -- whether an expression is true
-  abbrev pub truth_at : Expr → Scope R → Result Bool Fault
-  truth_at c scope = condition_at world type_of meaning c scope
+  -- the stream of a query of the whole language
+  abbrev pub items_meaning : Query Expr → Scope R → Stream (Value R)
+  items_meaning q scope = query_meaning world expression_type expression_meaning q scope

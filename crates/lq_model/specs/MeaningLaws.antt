@@ -1,93 +1,93 @@
--- Laws of meaning: what is typed has a meaning of its own, which is a value of its type or a fault.
+-- Laws of the meaning of the whole language: what is typed has a meaning of its own, which is a value of its type or a fault; and what
+-- is served has the meaning that `Meaning` gives it.
 use Rattle.std.specs.Prelude.{◌≡◌, ◌∷◌, List, [], ℕ, Some, Ok, slice_get}
-use Rattle.lq_value.specs.Tables.{Table}
 use Rattle.lq_value.specs.declared.scalar.Scalar.{Scalar}
 use Rattle.lq_value.specs.declared.scalar.Scalar.TheVariants as scalar
-use Rattle.lq_value.specs.declared.table.Column.{Column}
-use Rattle.lq_value.specs.declared.table.Schema.{Schema}
 use Rattle.lq_value.specs.declared.ty.Ty.{Ty, out-Ty}
 use Rattle.lq_value.specs.declared.ty.Ty.TheOpen.{Ty-F}
+use Rattle.lq_value.specs.declared.ty.Ty.TheVariants as ty
 use Rattle.lq_value.specs.declared.value.End.{End}
 use Rattle.lq_value.specs.declared.value.Fault.{Fault}
 use Rattle.lq_value.specs.declared.value.Value.{Value}
 use Rattle.lq_value.specs.declared.value.Value.TheVariants as value
-use Rattle.lq_model.specs.Meaning.{Scope, World, meaning, names_at, stream_meaning}
-use Rattle.lq_model.specs.Typing.{HasItemType, HasType, column_type, item_of, row_table, type_of_column}
-use Rattle.lq_model.specs.Visible.{TableRow}
+use Rattle.lq_model.specs.ClauseTyping.{expression_type, query_items}
+use Rattle.lq_model.specs.Worlds.{Scope, World, names_at}
+use Rattle.lq_model.specs.OperandMeaning.{sequence}
+use Rattle.lq_model.specs.RuleMeaning.{meaning, stream_meaning}
+use Rattle.lq_model.specs.ValuesOfTypes.{Every, HasCells, HoldsRows, IsOfScope, IsScalarOf, assuming}
+use Rattle.lq_model.specs.Stream.{Stream}
+use Rattle.lq_model.specs.RuleTyping.{HasRuleItemType, HasRuleType}
+use Rattle.lq_model.specs.Meaning.{expression_meaning, items_meaning}
 use Rattle.lq_model.specs.declared.syntax.Expr.{Expr}
 use Rattle.lq_model.specs.declared.syntax.Query.{Query}
 
--- each item of a list is such
-abbrev pub Every : {A : Type 0} → (A → Type 0) → List A → Type 0
-Every {A} P xs = (k : ℕ) (x : A) → slice_get xs k ≡ Some x → P x
-
--- ---- values of a type
-
--- A scalar may stand where a type has this layer. An int may be null where its type says so, a text always, and so may a row.
-abbrev pub IsScalarOf : Ty-F Ty → Scalar → Type 0
-IsScalarOf Ty-F.Int (scalar.Int n) = Unit {0}
-IsScalarOf Ty-F.IntN (scalar.Int n) = Unit {0}
-IsScalarOf Ty-F.IntN scalar.Null = Unit {0}
-IsScalarOf Ty-F.Bool (scalar.Bool b) = Unit {0}
-IsScalarOf Ty-F.Str (scalar.Text s) = Unit {0}
-IsScalarOf Ty-F.Str scalar.Null = Unit {0}
-IsScalarOf Ty-F.Null scalar.Null = Unit {0}
-IsScalarOf (Ty-F.Row n) scalar.Null = Unit {0}
-IsScalarOf layer s = ⊥
+-- What is said of values: one is of a type, and the members of a record are those of its type, in order.
+pub data ValueClaim (R : Type 0) : Type 0 where
+  IsA : Ty → Value R → ValueClaim R
+  AreMembers : List (List ℕ × Ty) → List (List ℕ × Value R) → ValueClaim R
 
 module _ {R : Type 0} (world : World R) where
-  -- A row has a cell of its type under each column of the table with this number.
-  abbrev pub HasCells : ℕ → R → Type 0
-  HasCells n r = (c : List ℕ) (t : Ty) → column_type world.schemas n c ≡ Some t → (s : Scalar) × (world.cell r c ≡ Some s) × IsScalarOf (out-Ty t) s
+  -- Which of it is so. A null record is the scalar null. All items of a sequence are of its items' type, whatever its ending is.
+  pub data Fits : ValueClaim R → Type 0 where
+    by_scalar : (t : Ty) (s : Scalar) → IsScalarOf (out-Ty t) s → Fits (IsA t (value.Scalar s))
+    by_null_record : (t : Ty) (ms : List (List ℕ × Ty)) → out-Ty t ≡ Ty-F.Rec ms → Fits (IsA t (value.Scalar scalar.Null))
+    by_row : (t : Ty) (n : ℕ) (r : R) → out-Ty t ≡ Ty-F.Row n → HasCells world n r → Fits (IsA t (value.Row r))
+    by_record : (t : Ty) (ms : List (List ℕ × Ty)) (vs : List (List ℕ × Value R)) → out-Ty t ≡ Ty-F.Rec ms → Fits (AreMembers ms vs) → Fits (IsA t (value.Rec vs))
+    by_group : (t k u : Ty) (key : Value R) (vs : List (Value R)) → out-Ty t ≡ Ty-F.Group k u → Fits (IsA k key)
+        → ((i : ℕ) (v : Value R) → slice_get vs i ≡ Some v → Fits (IsA u v)) → Fits (IsA t (value.Group key vs))
+    by_sequence : (t u : Ty) (vs : List (Value R)) (e : End) → out-Ty t ≡ Ty-F.Seq u
+        → ((i : ℕ) (v : Value R) → slice_get vs i ≡ Some v → Fits (IsA u v)) → Fits (IsA t (value.Seq vs e))
+    no_member : Fits (AreMembers [] [])
+    one_member : (n : List ℕ) (t : Ty) (v : Value R) (ms : List (List ℕ × Ty)) (vs : List (List ℕ × Value R)) → Fits (IsA t v) → Fits (AreMembers ms vs)
+        → Fits (AreMembers ((n, t) ∷ ms) ((n, v) ∷ vs))
 
-  -- A value is of a type.
-  pub data IsOf : Ty → Value R → Type 0 where
-    is_scalar : (t : Ty) (s : Scalar) → IsScalarOf (out-Ty t) s → IsOf t (value.Scalar s)
-    is_row : (t : Ty) (n : ℕ) (r : R) → row_table (out-Ty t) ≡ Some n → HasCells n r → IsOf t (value.Row r)
-    is_sequence : (t item : Ty) (xs : List (Value R)) (e : End) → item_of (out-Ty t) ≡ Some item
-        → ((k : ℕ) (v : Value R) → slice_get xs k ≡ Some v → IsOf item v) → IsOf t (value.Seq xs e)
+  -- a value is of a type
+  abbrev pub IsValueOf : Ty → Value R → Type 0
+  IsValueOf t v = Fits (IsA t v)
 
-  -- Each local name has a value of its type.
-  abbrev pub IsOfScope : Scope R → Type 0
-  IsOfScope scope = Every (λ b. IsOf b.ty b.value) scope
+  -- each name of the session has a value of its type
+  abbrev pub IsSessionOfValues : Type 0
+  IsSessionOfValues = Every (λ s. IsValueOf s.known.ty s.value) world.session
 
-  -- Each table has its rows, and these have their cells.
-  abbrev pub HoldsRows : Type 0
-  HoldsRows = (n : ℕ) (schema : Schema) → slice_get world.schemas n ≡ Some schema → (rows : List R) × (slice_get world.rows n ≡ Some rows) × Every (HasCells n) rows
-
--- the same world with this fault where an expression has no meaning
-abbrev pub assuming : {R : Type 0} → Fault → World R → World R
-assuming unknown world = record { schemas = world.schemas; rows = world.rows; session = world.session; cell = world.cell; unknown = unknown }
-
--- ---- the laws
+  -- each local name has a value of its type
+  abbrev pub IsScopeOfValues : Scope R → Type 0
+  IsScopeOfValues scope = Every (λ b. IsValueOf b.ty b.value) scope
 
 -- what a typed expression means is the same whatever stands where there is no meaning, and if it is a value, then one of its type
-abbrev pub HasMeaning : Type 0
-HasMeaning =
-    (world : World TableRow) → HoldsRows world → (scope : Scope TableRow) → IsOfScope world scope → (e : Expr) (t : Ty) → HasType (names_at world scope) e t
+abbrev pub HasMeaning : Type 0 → Type 0
+HasMeaning R =
+    (world : World R) → HoldsRows world → IsSessionOfValues world → (scope : Scope R) → IsScopeOfValues world scope → (e : Expr) (t : Ty)
+    → expression_type e (names_at world scope) ≡ Some t
     → (f g : Fault)
-    → (meaning (assuming f world) e scope ≡ meaning (assuming g world) e scope) × ((v : Value TableRow) → meaning (assuming f world) e scope ≡ Ok v → IsOf world t v)
+    → (expression_meaning (assuming f world) e scope ≡ expression_meaning (assuming g world) e scope)
+    × ((v : Value R) → expression_meaning (assuming f world) e scope ≡ Ok v → IsValueOf world t v)
 
 -- and so are a typed query's stream, and the items in it
-abbrev pub HasStream : Type 0
-HasStream =
-    (world : World TableRow) → HoldsRows world → (scope : Scope TableRow) → IsOfScope world scope → (q : Query Expr) (t : Ty) → HasItemType (names_at world scope) q t
+abbrev pub HasStream : Type 0 → Type 0
+HasStream R =
+    (world : World R) → HoldsRows world → IsSessionOfValues world → (scope : Scope R) → IsScopeOfValues world scope → (q : Query Expr) (t : Ty)
+    → query_items expression_type q (names_at world scope) ≡ Some t
     → (f g : Fault)
-    → (stream_meaning (assuming f world) q scope ≡ stream_meaning (assuming g world) q scope) × Every (IsOf world t) (stream_meaning (assuming f world) q scope).0
+    → (items_meaning (assuming f world) q scope ≡ items_meaning (assuming g world) q scope)
+    × Every (IsValueOf world t) (items_meaning (assuming f world) q scope).0
 
--- the items of a typed query are scalars: what is served has a value for JSON
-abbrev pub SelectsScalars : Type 0
-SelectsScalars =
-    (world : World TableRow) → HoldsRows world → (scope : Scope TableRow) → IsOfScope world scope → (q : Query Expr) (t : Ty) → HasItemType (names_at world scope) q t
-    → (f : Fault) → Every (λ v. (s : Scalar) × (v ≡ value.Scalar s)) (stream_meaning (assuming f world) q scope).0
+-- an expression of a sequence's type never faults: it is a stream, though this may end in a fault
+abbrev pub NeverFaults : Type 0 → Type 0
+NeverFaults R =
+    (world : World R) → HoldsRows world → IsSessionOfValues world → (scope : Scope R) → IsScopeOfValues world scope → (e : Expr) (t : Ty)
+    → expression_type e (names_at world scope) ≡ Some (ty.Seq t)
+    → (unknown : Fault) → (s : Stream (Value R)) × (expression_meaning (assuming unknown world) e scope ≡ Ok (sequence s))
 
--- ---- what the machine serves
+-- ---- what is served
 
--- There is one cell a column, of its type.
-abbrev pub HaveTypes : List Column → List Scalar → Type 0
-HaveTypes [] cells = Unit {0}
-HaveTypes (column ∷ columns) [] = ⊥
-HaveTypes (column ∷ columns) (cell ∷ cells) = IsScalarOf (out-Ty (type_of_column column.ty)) cell × HaveTypes columns cells
+-- what is served means in the whole language what it means as it is served
+abbrev pub KeepsRuleMeanings : Type 0 → Type 0
+KeepsRuleMeanings R =
+    (world : World R) → HoldsRows world → (scope : Scope R) → IsOfScope world scope → (e : Expr) (t : Ty) → HasRuleType (names_at world scope) e t → (unknown : Fault)
+    → expression_meaning (assuming unknown world) e scope ≡ meaning (assuming unknown world) e scope
 
-abbrev pub IsTypedTable : Table → Type 0
-IsTypedTable table = Every (λ row. HaveTypes table.schema.columns row.cells) table.rows
+-- and so does a query that is served
+abbrev pub KeepsRuleStreams : Type 0 → Type 0
+KeepsRuleStreams R =
+    (world : World R) → HoldsRows world → (scope : Scope R) → IsOfScope world scope → (q : Query Expr) (t : Ty) → HasRuleItemType (names_at world scope) q t → (unknown : Fault)
+    → items_meaning (assuming unknown world) q scope ≡ stream_meaning (assuming unknown world) q scope

@@ -6,7 +6,7 @@ use Rattle.lq_value.specs.declared.value.Fault.{Fault}
 use Rattle.lq_value.specs.declared.value.Fault.TheVariants as fault
 use Rattle.lq_model.specs.OperationLaws.{AreOfOneKind, IsNumber, IsText}
 use Rattle.lq_model.specs.Operations.{applied, operation_of}
-use Rattle.lq_model.specs.Typing.{is_ordering}
+use Rattle.lq_model.specs.OperandTypes.{is_ordering}
 use Rattle.lq_model.specs.declared.operation.Op.TheVariants as op
 use Rattle.lq_model.specs.declared.syntax.Binary.{Binary}
 

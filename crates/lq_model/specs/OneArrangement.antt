@@ -6,7 +6,7 @@ use Rattle.lq_value.specs.declared.value.End.TheVariants as end
 use Rattle.lq_value.specs.declared.value.Fault.{Fault}
 use Rattle.lq_model.specs.Arrangement.{Keyed, arranged, order_by}
 use Rattle.lq_model.specs.ArrangementLaws.{IsSorted, TellsOne}
-use Rattle.lq_model.specs.MeaningLaws.{Every}
+use Rattle.lq_model.specs.ValuesOfTypes.{Every}
 
 -- each item has one key for each direction
 abbrev pub HasEachKey : {A : Type 0} → List Bool → List (Keyed A) → Type 0

@@ -10,10 +10,13 @@ use Rattle.lq_value.specs.declared.value.Value.TheOpen.{Value-F}
 use Rattle.lq_value.specs.declared.value.Value.TheVariants as value
 use Rattle.lq_model.specs.Arrangement.{order_by}
 use Rattle.lq_model.specs.ClauseTyping.{are_sort_keys, from_type, group_type, if_placed, if_within, is_fresh, join_type, joined_name, let_type, source_type, when}
-use Rattle.lq_model.specs.Meaning.{Meaning, Scope, World, as_group, condition_at, inner_items, item_type_at, joined_type, joined_values, names_at, or_null, sort_key_at, stream_of}
+use Rattle.lq_model.specs.Worlds.{Meaning, Scope, World, names_at, or_null}
+use Rattle.lq_model.specs.OperandMeaning.{stream_of}
+use Rattle.lq_model.specs.ClauseMeaning.{as_group, condition_at, inner_items, item_type_at, joined_type, joined_values, sort_key_at}
 use Rattle.lq_model.specs.Operations.{on_ok}
 use Rattle.lq_model.specs.Stream.{Stream, expand_by, group_by, join_by, select_by, where_by}
-use Rattle.lq_model.specs.Typing.{Names, is_bool_type}
+use Rattle.lq_model.specs.Names.{Names}
+use Rattle.lq_model.specs.OperandTypes.{is_bool_type}
 use Rattle.lq_model.specs.declared.calls.Call.{Call}
 use Rattle.lq_model.specs.declared.calls.Operator.{Operator}
 use Rattle.lq_model.specs.declared.calls.Operator.TheVariants as operator

@@ -5,9 +5,10 @@ use Rattle.lq_value.specs.Tables.{Table}
 use Rattle.lq_value.specs.declared.scalar.Scalar.{Scalar}
 use Rattle.lq_value.specs.declared.table.Row.{Row}
 use Rattle.lq_value.specs.declared.table.Schema.{Schema}
-use Rattle.lq_model.specs.MeaningLaws.{Every}
+use Rattle.lq_model.specs.ValuesOfTypes.{Every}
 use Rattle.lq_model.specs.RuleLaws.{AreCellsOf, AreReadFor, IsRowOver}
-use Rattle.lq_model.specs.Visible.{Applies, GoesBy, HasCell, IsRefusedBy, IsVisible, TableRow, cell_named, goes_by, refuser_of, tables_as_seen, visible_to}
+use Rattle.lq_model.specs.TableRows.{TableRow, cell_named}
+use Rattle.lq_model.specs.Visible.{Applies, GoesBy, HasCell, IsRefusedBy, IsVisible, goes_by, refuser_of, tables_as_seen, visible_to}
 use Rattle.lq_model.specs.declared.policy.Action.{Action}
 use Rattle.lq_model.specs.declared.policy.Action.TheVariants as action
 use Rattle.lq_model.specs.declared.policy.Policy.{Policy}

@@ -9,12 +9,14 @@ use Rattle.lq_value.specs.declared.ty.Ty.TheVariants as ty
 use Rattle.lq_value.specs.declared.value.Fault.{Fault}
 use Rattle.lq_value.specs.declared.value.Value.TheVariants as value
 use Rattle.lq_model.specs.ClauseTyping.{expression_type}
-use Rattle.lq_model.specs.Meaning.{World, meaning}
-use Rattle.lq_model.specs.MeaningLaws.{HaveTypes}
+use Rattle.lq_model.specs.Worlds.{World}
+use Rattle.lq_model.specs.RuleMeaning.{meaning}
+use Rattle.lq_model.specs.ValuesOfTypes.{HaveTypes}
 use Rattle.lq_model.specs.Totality.{IsTotal}
 use Rattle.lq_model.specs.TotalityLaws.{is_held, is_held_rule, rule_names}
-use Rattle.lq_model.specs.Visible.{HasRule, cell_named, rule_holds, rule_scope, rule_world}
-use Rattle.lq_model.specs.WholeMeaning.{expression_meaning}
+use Rattle.lq_model.specs.TableRows.{cell_named}
+use Rattle.lq_model.specs.Visible.{HasRule, rule_holds, rule_scope, rule_world}
+use Rattle.lq_model.specs.Meaning.{expression_meaning}
 use Rattle.lq_model.specs.declared.policy.Action.{Action}
 use Rattle.lq_model.specs.declared.policy.Policy.{Policy}
 use Rattle.lq_model.specs.declared.policy.PolicyParts.{PolicyParts}

@@ -7,15 +7,16 @@ use Rattle.lq_value.specs.declared.ty.Ty.TheOpen.{Ty-F}
 use Rattle.lq_value.specs.declared.value.Fault.{Fault}
 use Rattle.lq_value.specs.declared.value.Value.{Value}
 use Rattle.lq_model.specs.ClauseTyping.{expression_type}
-use Rattle.lq_model.specs.Meaning.{World, stream_of}
+use Rattle.lq_model.specs.Worlds.{World}
+use Rattle.lq_model.specs.OperandMeaning.{stream_of}
 use Rattle.lq_model.specs.Rights.{Denied, denial}
 use Rattle.lq_model.specs.Served.{denied_data, error_data, stream_data, value_data}
 use Rattle.lq_model.specs.States.{State, cells_of, names_in, schemas_of, world_in}
 use Rattle.lq_model.specs.Types.{if_placed}
-use Rattle.lq_model.specs.Typing.{Names}
+use Rattle.lq_model.specs.Names.{Names}
 use Rattle.lq_model.specs.Uses.{expression_uses, shown_columns}
-use Rattle.lq_model.specs.Visible.{TableRow}
-use Rattle.lq_model.specs.WholeMeaning.{expression_meaning}
+use Rattle.lq_model.specs.TableRows.{TableRow}
+use Rattle.lq_model.specs.Meaning.{expression_meaning}
 use Rattle.lq_model.specs.declared.policy.PolicyParts.{PolicyParts}
 use Rattle.lq_model.specs.declared.rights.Use.{Use}
 use Rattle.lq_model.specs.declared.syntax.Expr.{Expr}

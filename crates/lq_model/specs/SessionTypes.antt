@@ -8,7 +8,7 @@ use Rattle.lq_model.specs.ClauseTyping.{expression_type, query_items}
 use Rattle.lq_model.specs.DefinitionLaws.{AreDefined}
 use Rattle.lq_model.specs.Definitions.{known_names, outer_names}
 use Rattle.lq_model.specs.Types.{is_within}
-use Rattle.lq_model.specs.WholeTypingLaws.{AreWithin}
+use Rattle.lq_model.specs.TypingLaws.{AreWithin}
 use Rattle.lq_model.specs.declared.session.Definition.{Definition}
 use Rattle.lq_model.specs.declared.syntax.Expr.{Expr}
 use Rattle.lq_model.specs.declared.syntax.Query.{Query}

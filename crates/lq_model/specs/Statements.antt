@@ -21,16 +21,19 @@ use Rattle.lq_value.specs.declared.value.Value.TheOpen.{Value-F}
 use Rattle.lq_value.specs.declared.value.Value.TheVariants as value
 use Rattle.lq_model.specs.ClauseTyping.{expression_type}
 use Rattle.lq_model.specs.Definitions.{definition_of}
-use Rattle.lq_model.specs.Meaning.{bound, condition_at}
+use Rattle.lq_model.specs.Worlds.{bound}
+use Rattle.lq_model.specs.ClauseMeaning.{condition_at}
 use Rattle.lq_model.specs.Rights.{Denied, denial}
 use Rattle.lq_model.specs.Served.{assigned_data, defined_data, deleted_data, denied_data, error_data, fault_data, inserted_data, role_data}
 use Rattle.lq_model.specs.States.{State, names_in, schemas_of, world_in}
 use Rattle.lq_model.specs.Stream.{Stream, where_by}
-use Rattle.lq_model.specs.Typing.{is_bool_type, is_scalar, table_number, with_local}
+use Rattle.lq_model.specs.Names.{table_number, with_local}
+use Rattle.lq_model.specs.OperandTypes.{is_bool_type, is_scalar}
 use Rattle.lq_model.specs.Uses.{expression_uses}
-use Rattle.lq_model.specs.Visible.{TableRow, refuser_of, visible_to}
-use Rattle.lq_model.specs.WholeMeaning.{expression_meaning}
-use Rattle.lq_model.specs.WholeTyping.{converts}
+use Rattle.lq_model.specs.TableRows.{TableRow}
+use Rattle.lq_model.specs.Visible.{refuser_of, visible_to}
+use Rattle.lq_model.specs.Meaning.{expression_meaning}
+use Rattle.lq_model.specs.Typing.{converts}
 use Rattle.lq_model.specs.declared.policy.Action.TheVariants as action
 use Rattle.lq_model.specs.declared.rights.Use.{Use}
 use Rattle.lq_model.specs.declared.rights.Use.TheVariants as used

@@ -6,10 +6,11 @@ use Rattle.lq_value.specs.declared.table.Schema.{Schema}
 use Rattle.lq_value.specs.declared.value.Fault.{Fault}
 use Rattle.lq_value.specs.declared.value.Fault.TheVariants as fault
 use Rattle.lq_model.specs.Definitions.{defining, known_names, outer_names}
-use Rattle.lq_model.specs.Meaning.{World}
+use Rattle.lq_model.specs.Worlds.{World}
 use Rattle.lq_model.specs.Served.{columns_in}
-use Rattle.lq_model.specs.Typing.{Names}
-use Rattle.lq_model.specs.Visible.{TableRow, cell_named, tables_as_seen}
+use Rattle.lq_model.specs.Names.{Names}
+use Rattle.lq_model.specs.TableRows.{TableRow, cell_named}
+use Rattle.lq_model.specs.Visible.{tables_as_seen}
 use Rattle.lq_model.specs.declared.policy.PolicyParts.{PolicyParts}
 use Rattle.lq_model.specs.declared.session.Definition.{Definition}
 

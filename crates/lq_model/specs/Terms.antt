@@ -2,11 +2,12 @@
 use Rattle.std.specs.Prelude.{Option, Ok, option_map}
 use Rattle.lq_value.specs.declared.ty.Ty.{Ty}
 use Rattle.lq_value.specs.declared.ty.Ty.TheVariants as ty
-use Rattle.lq_model.specs.Meaning.{Meaning, World, sequence}
+use Rattle.lq_model.specs.Worlds.{Meaning, World}
+use Rattle.lq_model.specs.OperandMeaning.{sequence}
 use Rattle.lq_model.specs.Operators.{call_items, call_meaning}
-use Rattle.lq_model.specs.Typing.{Names}
-use Rattle.lq_model.specs.WholeMeaning.{whole_meaning}
-use Rattle.lq_model.specs.WholeTyping.{whole_type}
+use Rattle.lq_model.specs.Names.{Names}
+use Rattle.lq_model.specs.Meaning.{whole_meaning}
+use Rattle.lq_model.specs.Typing.{whole_type}
 use Rattle.lq_model.specs.declared.calls.Term.{Term, fold-Term, para-Term}
 use Rattle.lq_model.specs.declared.calls.Term.TheOpen.{Term-F}
 

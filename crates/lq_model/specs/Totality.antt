@@ -2,7 +2,7 @@
 use Rattle.std.specs.Prelude.{◌≡◌, ◌∷◌, ◌&&◌, ◌||◌, if◌then◌else◌, List, [], ℕ, suc, ℤ, pos, Bool, true, false, codes, int_le}
 use Rattle.std.specs.Str.{bytes_eq}
 use Rattle.lq_model.specs.Members.{IsSearch, is_search}
-use Rattle.lq_model.specs.Typing.{is_comparison}
+use Rattle.lq_model.specs.OperandTypes.{is_comparison}
 use Rattle.lq_model.specs.declared.syntax.Argument.{Argument}
 use Rattle.lq_model.specs.declared.syntax.Argument.TheVariants as argument
 use Rattle.lq_model.specs.declared.syntax.Binary.{Binary}

@@ -6,11 +6,12 @@ use Rattle.lq_value.specs.declared.scalar.Scalar.TheVariants as scalar
 use Rattle.lq_value.specs.declared.table.Column.{Column}
 use Rattle.lq_value.specs.declared.ty.Ty.TheVariants as ty
 use Rattle.lq_value.specs.declared.value.Value.TheVariants as value
-use Rattle.lq_model.specs.Meaning.{meaning}
-use Rattle.lq_model.specs.MeaningLaws.{HaveTypes}
+use Rattle.lq_model.specs.RuleMeaning.{meaning}
+use Rattle.lq_model.specs.ValuesOfTypes.{HaveTypes}
 use Rattle.lq_model.specs.Operations.{is_int}
 use Rattle.lq_model.specs.Totality.{IsTotal, is_total}
-use Rattle.lq_model.specs.Typing.{HasType, Names}
+use Rattle.lq_model.specs.Names.{Names}
+use Rattle.lq_model.specs.RuleTyping.{HasRuleType}
 use Rattle.lq_model.specs.Visible.{rule_scope, rule_world}
 use Rattle.lq_model.specs.declared.syntax.Argument.TheVariants as argument
 use Rattle.lq_model.specs.declared.syntax.Expr.{Expr, fold-Expr}
@@ -59,5 +60,5 @@ is_held_rule = fold-Expr Bool is_held_step
 abbrev pub DecidesRules : Type 0
 DecidesRules =
     (table : List ℕ) (columns : List Column) (cells : List Scalar) → HaveTypes columns cells → list_all is_held cells ≡ true
-    → (user : List ℕ) (rule : Expr) → is_held_rule rule ≡ true → HasType (rule_names table columns) rule ty.Bool → IsTotal rule
+    → (user : List ℕ) (rule : Expr) → is_held_rule rule ≡ true → HasRuleType (rule_names table columns) rule ty.Bool → IsTotal rule
     → (b : Bool) × (meaning (rule_world (map (λ column. column.name) columns)) rule (rule_scope cells user) ≡ Ok (value.Scalar (scalar.Bool b)))

@@ -4,7 +4,8 @@ use Rattle.std.specs.Cmp.Lexicographic.{pointwise}
 use Rattle.std.specs.Str.{bytes_eq}
 use Rattle.lq_value.specs.declared.ty.Ty.{Ty, fold-Ty, out-Ty}
 use Rattle.lq_value.specs.declared.ty.Ty.TheOpen.{Ty-F}
-use Rattle.lq_model.specs.Typing.{Names, is_scalar, local_type}
+use Rattle.lq_model.specs.Names.{Names, local_type}
+use Rattle.lq_model.specs.OperandTypes.{is_scalar}
 
 -- ---- types
 

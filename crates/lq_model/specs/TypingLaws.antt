@@ -1,8 +1,12 @@
--- Laws of typing: there is one type at most, and the functions find the type that the rules give.
-use Rattle.std.specs.Prelude.{◌≡◌, ◌↔◌, Some}
+-- Laws of the typing of the whole language: there is one type at most, the functions find the type that the rules give,
+-- and no type is of more than 4,096 parts.
+use Rattle.std.specs.Prelude.{◌≡◌, ◌↔◌, List, ℕ, true, Some}
 use Rattle.lq_value.specs.declared.ty.Ty.{Ty}
+use Rattle.lq_value.specs.declared.ty.Ty.TheVariants as ty
 use Rattle.lq_model.specs.ClauseTyping.{expression_type, query_items}
-use Rattle.lq_model.specs.Typing.{Names, HasType, HasItemType, type_of, item_type}
+use Rattle.lq_model.specs.Types.{is_within}
+use Rattle.lq_model.specs.Names.{Names, SessionName, local_type, session_name}
+use Rattle.lq_model.specs.TypingRules.{HasQueryItems, HasType}
 use Rattle.lq_model.specs.declared.syntax.Expr.{Expr}
 use Rattle.lq_model.specs.declared.syntax.Query.{Query}
 
@@ -10,22 +14,29 @@ use Rattle.lq_model.specs.declared.syntax.Query.{Query}
 abbrev pub HasOneType : Type 0
 HasOneType = (names : Names) (e : Expr) (s t : Ty) → HasType names e s → HasType names e t → s ≡ t
 
--- under given names the items of a query have at most one type
-abbrev pub HasOneItemType : Type 0
-HasOneItemType = (names : Names) (q : Query Expr) (s t : Ty) → HasItemType names q s → HasItemType names q t → s ≡ t
+-- and so have the items of a query
+abbrev pub GivesOneType : Type 0
+GivesOneType = (names : Names) (q : Query Expr) (s t : Ty) → HasQueryItems names q s → HasQueryItems names q t → s ≡ t
 
 -- the function finds a type for an expression exactly where the rules give it
 abbrev pub FindsTypes : Type 0
-FindsTypes = (names : Names) (e : Expr) (t : Ty) → (type_of e names ≡ Some t) ↔ HasType names e t
+FindsTypes = (names : Names) (e : Expr) (t : Ty) → (expression_type e names ≡ Some t) ↔ HasType names e t
 
--- the function finds a type for a query's items exactly where the rules give it
-abbrev pub FindsItemTypes : Type 0
-FindsItemTypes = (names : Names) (q : Query Expr) (t : Ty) → (item_type type_of q names ≡ Some t) ↔ HasItemType names q t
+-- and for the items of a query
+abbrev pub FindsQueryItems : Type 0
+FindsQueryItems = (names : Names) (q : Query Expr) (t : Ty) → (query_items expression_type q names ≡ Some t) ↔ HasQueryItems names q t
 
--- what typing serves is a part of the types of whole expressions
-abbrev pub KeepsTypes : Type 0
-KeepsTypes = (names : Names) (e : Expr) (t : Ty) → type_of e names ≡ Some t → expression_type e names ≡ Some t
+-- ---- how large types are
 
--- and so is what it serves of queries
-abbrev pub KeepsItemTypes : Type 0
-KeepsItemTypes = (names : Names) (q : Query Expr) (t : Ty) → item_type type_of q names ≡ Some t → query_items expression_type q names ≡ Some t
+-- each local name has a type of at most 4,096 parts, and each name of the session
+pub record AreWithin (names : Names) : Type 0 where
+  pub locals : (x : List ℕ) (t : Ty) → local_type x names.locals ≡ Some t → is_within t ≡ true
+  pub session : (x : List ℕ) (known : SessionName) → session_name x names.session ≡ Some known → is_within known.ty ≡ true
+
+-- then so has every typed expression, though only records and methods of sequences are asked for it
+abbrev pub LimitsTypes : Type 0
+LimitsTypes = (names : Names) → AreWithin names → (e : Expr) (t : Ty) → expression_type e names ≡ Some t → is_within t ≡ true
+
+-- and the sequence of a query's items
+abbrev pub LimitsItems : Type 0
+LimitsItems = (names : Names) → AreWithin names → (q : Query Expr) (t : Ty) → query_items expression_type q names ≡ Some t → is_within (ty.Seq t) ≡ true

@@ -6,8 +6,9 @@ use Rattle.lq_value.specs.declared.ty.Ty.TheVariants as ty
 use Rattle.lq_model.specs.EnumerableCalls.{Given, Simple, Through, By, Plain, With, enumerable_call}
 use Rattle.lq_model.specs.Members.{IsSearch}
 use Rattle.lq_model.specs.Types.{are_join_keys, element_type, has_place, is_key, is_within}
-use Rattle.lq_model.specs.Typing.{Names, SessionName, are_comparable, are_joined, coalesced, column_type, is_comparison, is_equality, is_number, is_ordering, is_scalar, local_type, number_type, session_name, table_number, with_local}
-use Rattle.lq_model.specs.WholeTyping.{are_distinct, are_null_tests, given_type, member_of, simple_type, through_type, whole_chosen}
+use Rattle.lq_model.specs.Names.{Names, SessionName, column_type, local_type, session_name, table_number, with_local}
+use Rattle.lq_model.specs.OperandTypes.{are_comparable, are_joined, coalesced, is_comparison, is_equality, is_number, is_ordering, is_scalar, number_type}
+use Rattle.lq_model.specs.Typing.{are_distinct, are_null_tests, given_type, member_of, simple_type, through_type, whole_chosen}
 use Rattle.lq_model.specs.declared.syntax.Argument.{Argument}
 use Rattle.lq_model.specs.declared.syntax.Argument.TheVariants as argument
 use Rattle.lq_model.specs.declared.syntax.Binary.{Binary}
@@ -149,8 +150,8 @@ pub data IsRight : TypeClaim → Type 0 where
   by_query : (outer : Names) (q : Query Expr) (t u r : Ty) → IsRight (Gives outer q.source t) → local_type q.name outer.locals ≡ None
       → IsRight (BodyGives outer q.body (with_local outer q.name t) u) → IsRight (Continues outer q.rest u r) → IsRight (QueryGives outer q r)
 
-abbrev pub HasWholeType : Names → Expr → Ty → Type 0
-HasWholeType names e t = IsRight (Has names e t)
+abbrev pub HasType : Names → Expr → Ty → Type 0
+HasType names e t = IsRight (Has names e t)
 
 abbrev pub HasQueryItems : Names → Query Expr → Ty → Type 0
 HasQueryItems names q t = IsRight (QueryGives names q t)

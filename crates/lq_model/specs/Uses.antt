@@ -5,7 +5,7 @@ use Rattle.lq_value.specs.declared.table.Schema.{Schema}
 use Rattle.lq_value.specs.declared.ty.Ty.{Ty, fold-Ty, out-Ty}
 use Rattle.lq_value.specs.declared.ty.Ty.TheOpen.{Ty-F}
 use Rattle.lq_model.specs.ClauseTyping.{body_items, expression_type, names_after, sole_name, source_type}
-use Rattle.lq_model.specs.Typing.{Names, local_type, session_name, table_number, with_local}
+use Rattle.lq_model.specs.Names.{Names, local_type, session_name, table_number, with_local}
 use Rattle.lq_model.specs.declared.rights.Use.{Use}
 use Rattle.lq_model.specs.declared.rights.Use.TheVariants as of
 use Rattle.lq_model.specs.declared.syntax.Argument.{Argument}

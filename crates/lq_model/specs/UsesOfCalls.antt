@@ -4,7 +4,7 @@ use Rattle.lq_value.specs.declared.ty.Ty.{Ty}
 use Rattle.lq_model.specs.ClauseTyping.{from_type, join_type, joined_name, source_type}
 use Rattle.lq_model.specs.Operators.{Pattern, With, names_of, operators_items, pattern_after, sole_pattern}
 use Rattle.lq_model.specs.Terms.{term_type}
-use Rattle.lq_model.specs.Typing.{Names, with_local}
+use Rattle.lq_model.specs.Names.{Names, with_local}
 use Rattle.lq_model.specs.Uses.{node_uses, under}
 use Rattle.lq_model.specs.declared.calls.Call.{Call}
 use Rattle.lq_model.specs.declared.calls.Operator.{Operator}

@@ -12,8 +12,10 @@ use Rattle.lq_value.specs.declared.ty.Ty.TheVariants as ty
 use Rattle.lq_value.specs.declared.value.Value.TheVariants as value
 use Rattle.lq_value.specs.declared.value.Fault.{Fault}
 use Rattle.lq_value.specs.declared.value.Fault.TheVariants as fault
-use Rattle.lq_model.specs.Meaning.{Binding, Scope, World, truth_at}
-use Rattle.lq_model.specs.WholeMeaning.{expression_meaning}
+use Rattle.lq_model.specs.TableRows.{TableRow, cell_named}
+use Rattle.lq_model.specs.Worlds.{Binding, Scope, World}
+use Rattle.lq_model.specs.RuleMeaning.{truth_at}
+use Rattle.lq_model.specs.Meaning.{expression_meaning}
 use Rattle.lq_model.specs.declared.policy.Action.{Action}
 use Rattle.lq_model.specs.declared.policy.Action.TheVariants as action
 use Rattle.lq_model.specs.declared.policy.Policy.{Policy}
@@ -21,12 +23,6 @@ use Rattle.lq_model.specs.declared.policy.PolicyParts.{PolicyParts}
 use Rattle.lq_model.specs.declared.policy.Role.{Role}
 use Rattle.lq_model.specs.declared.policy.TablePart.{TablePart}
 use Rattle.lq_model.specs.declared.syntax.Expr.{Expr}
-
--- the cell under the column of this name
-abbrev pub cell_named : List (List ℕ) → List Scalar → List ℕ → Option Scalar
-cell_named [] cells name = None
-cell_named (column ∷ columns) [] name = None
-cell_named (column ∷ columns) (cell ∷ cells) name = if bytes_eq column name then Some cell else cell_named columns cells name
 
 -- ---- rules
 
@@ -280,11 +276,6 @@ pub data IsRefusedBy (columns : List Column) (parts : PolicyParts) (role : ℕ) 
       → (refusing : Policy) → IsFirstRefusing columns parts role table asked refusing → IsRefusedBy columns parts role table asked refusing.name
 
 -- ---- tables
-
--- a row, and the number of the table that it is of
-pub record TableRow : Type 0 where
-  pub table : ℕ
-  pub row : Row
 
 -- the rows of a table that a role may see, in order of number
 abbrev pub seen_rows : PolicyParts → ℕ → ℕ → List Row → List TableRow

@@ -7,6 +7,7 @@
 
 mod calls;
 pub mod clause_laws;
+pub mod definition_laws;
 pub mod enumerable_laws;
 pub mod grammar_laws;
 pub mod lexing_laws;

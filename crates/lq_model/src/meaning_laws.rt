@@ -2,32 +2,17 @@
 //! themselves do nothing.
 ghost use Rattle.lq_model.specs.ArrangementLaws.{ArrangesByKeys, KeepsTies};
 ghost use Rattle.lq_model.specs.KeyOrder.{TellsKeyOrder};
-ghost use Rattle.lq_model.specs.MeaningLaws.{HasMeaning, HasStream, SelectsScalars};
-ghost use Rattle.lq_model.specs.DefinitionLaws.{NamesAreKnown, NamesHaveMeanings, NamesHaveValues, ServesMeanings};
+ghost use Rattle.lq_model.specs.ValuesOfTypes.{HasRuleMeaning, HasRuleStream, SelectsScalars};
 ghost use Rattle.lq_model.specs.OneArrangement.{ArrangesItems, ArrangesOnce};
-ghost use Rattle.lq_model.specs.WholeMeaningLaws.{HasWholeMeaning, HasWholeStream, KeepsMeanings, KeepsStreams, NeverFaults};
+ghost use Rattle.lq_model.specs.MeaningLaws.{HasMeaning, HasStream, KeepsRuleMeanings, KeepsRuleStreams, NeverFaults};
 
 /// Where local names have values of their types and tables have their rows, a typed expression has
 /// a meaning of its own, the same whatever stands where there is none: a value of its type, or a
 /// fault. So has a typed query: its stream, of items of their type, which are scalars.
-pub fn typed_meanings()
-    ensures expression { HasMeaning }
-    ensures query { HasStream }
+pub fn rule_meanings()
+    ensures expression { HasRuleMeaning }
+    ensures query { HasRuleStream }
     ensures items { SelectsScalars }
-{}
-
-/// The names of a session are those that its definitions make known. Where tables have their rows, each
-/// has a value of its type, the same whatever stands where there is no meaning.
-pub fn session_values<R>()
-    ensures names { NamesAreKnown R }
-    ensures values { NamesHaveValues R }
-    ensures meanings { NamesHaveMeanings R }
-{}
-
-/// Over tables whose cells are of their columns' types, and under definitions as `var` makes them, no
-/// reply to `run` depends on what stands where an expression has no meaning.
-pub fn served_meanings()
-    ensures { ServesMeanings }
 {}
 
 /// Of two lists of sort keys one stands before the other exactly where, at the first place at which they
@@ -58,16 +43,16 @@ pub fn items_by_their_keys<A, S>()
 /// The same of the whole language, over rows of any kind: a typed expression, with records, groups and
 /// methods of sequences in it, has a meaning of its own, the same whatever stands where there is none:
 /// a value of its type, or a fault. So has a typed query: its stream, of items of their type.
-pub fn whole_meanings<R>()
-    ensures expression { HasWholeMeaning R }
-    ensures query { HasWholeStream R }
+pub fn typed_meanings<R>()
+    ensures expression { HasMeaning R }
+    ensures query { HasStream R }
 {}
 
 /// What is served means in the whole language what it means as it is served, where local names have
 /// values of their types and tables have their rows: expressions, and the streams of queries.
-pub fn kept_meanings<R>()
-    ensures expression { KeepsMeanings R }
-    ensures query { KeepsStreams R }
+pub fn rule_meanings_are_kept<R>()
+    ensures expression { KeepsRuleMeanings R }
+    ensures query { KeepsRuleStreams R }
 {}
 
 /// An expression whose type is that of a sequence never faults: a fault that is met in making it is the

@@ -11,10 +11,11 @@ use Rattle.lq_value.specs.declared.value.Value.TheOpen.{Value-F}
 use Rattle.lq_model.specs.Enumerable.{as_count, concat, element_at, except, intersect, skip, take_first, union}
 use Rattle.lq_model.specs.declared.methods.Given.{Given}
 use Rattle.lq_model.specs.declared.methods.Given.TheVariants as of
-use Rattle.lq_model.specs.Meaning.{World, items_of, on_scalar, scalar_of, stream_of}
+use Rattle.lq_model.specs.Worlds.{World}
+use Rattle.lq_model.specs.OperandMeaning.{items_of, on_scalar, scalar_of, stream_of}
 use Rattle.lq_model.specs.Operations.{on_ok}
 use Rattle.lq_model.specs.Stream.{Stream}
-use Rattle.lq_model.specs.WholeMeaning.{as_sequence, given_meaning, number_of}
+use Rattle.lq_model.specs.Meaning.{as_sequence, given_meaning, number_of}
 use Rattle.lq_operators.specs.Arguments.{nowhere}
 
 module _ {R : Type 0} (world : World R) (null : world.unknown ≡ fault.NullReference) where

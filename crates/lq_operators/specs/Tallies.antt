@@ -10,7 +10,7 @@ use Rattle.lq_model.specs.Enumerable.{at_end, summed}
 use Rattle.lq_model.specs.declared.methods.Simple.{Simple}
 use Rattle.lq_model.specs.declared.methods.Simple.TheVariants as simple
 use Rattle.lq_model.specs.Stream.{Stream}
-use Rattle.lq_model.specs.WholeMeaning.{no_number, numbers}
+use Rattle.lq_model.specs.Meaning.{no_number, numbers}
 use Rattle.lq_operators.specs.Numbers.{best_with}
 use Rattle.lq_operators.specs.declared.numbers.Extreme.TheVariants as extreme
 use Rattle.lq_operators.specs.declared.numbers.Tally.{Tally}

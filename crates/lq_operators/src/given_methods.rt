@@ -1,9 +1,9 @@
 //! Methods with an argument: a second sequence, a number of items, or a value.
 ghost use Rattle.std.specs.Prelude.{◌≡◌};
 ghost use Rattle.lq_value.specs.declared.value.Fault.TheVariants as fault;
-ghost use Rattle.lq_model.specs.Meaning.{World};
+ghost use Rattle.lq_model.specs.Worlds.{World};
 ghost use Rattle.lq_model.specs.declared.methods.Given.TheVariants as given;
-ghost use Rattle.lq_model.specs.WholeMeaning.{given_meaning};
+ghost use Rattle.lq_model.specs.Meaning.{given_meaning};
 ghost use Rattle.lq_operators.specs.Answers.{IsAnswer};
 ghost use Rattle.lq_operators.specs.Arguments.{nowhere};
 

@@ -4,7 +4,7 @@ ghost use Rattle.lq_value.specs.declared.ty.Ty.{Ty};
 ghost use Rattle.lq_value.specs.declared.value.Value.{Value, out-Value};
 ghost use Rattle.lq_model.specs.Enumerable.{in_front};
 ghost use Rattle.lq_model.specs.Stream.{Stream};
-ghost use Rattle.lq_model.specs.WholeMeaning.{number_in};
+ghost use Rattle.lq_model.specs.Meaning.{number_in};
 ghost use Rattle.lq_operators.specs.Numbers.{best_more, chosen, sum_more};
 ghost use Rattle.lq_operators.specs.Tallies.{begins, goes_on, tallied, told};
 

@@ -1,6 +1,6 @@
 //! Methods without an argument.
-ghost use Rattle.lq_model.specs.WholeMeaning.{simple_meaning};
-ghost use Rattle.lq_model.specs.Meaning.{as_value};
+ghost use Rattle.lq_model.specs.Meaning.{simple_meaning};
+ghost use Rattle.lq_model.specs.OperandMeaning.{as_value};
 ghost use Rattle.lq_operators.specs.Answers.{IsAnswer};
 ghost use Rattle.lq_operators.specs.Tallies.{tallied};
 

@@ -8,10 +8,11 @@ use Rattle.lq_value.specs.declared.value.Fault.{Fault}
 use Rattle.lq_value.specs.declared.value.Value.{Value, out-Value}
 use Rattle.lq_value.specs.declared.value.Value.TheOpen.{Value-F}
 use Rattle.lq_model.specs.Enumerable.{as_count, element_at, first, in_front, item_behind, single, take_first}
-use Rattle.lq_model.specs.Meaning.{World, as_value, scalar_of}
+use Rattle.lq_model.specs.Worlds.{World}
+use Rattle.lq_model.specs.OperandMeaning.{as_value, scalar_of}
 use Rattle.lq_model.specs.Operations.{on_ok}
 use Rattle.lq_model.specs.Stream.{Stream}
-use Rattle.lq_model.specs.WholeMeaning.{as_sequence, given_meaning, number_of, on_number, simple_meaning}
+use Rattle.lq_model.specs.Meaning.{as_sequence, given_meaning, number_of, on_number, simple_meaning}
 use Rattle.lq_model.specs.declared.methods.Given.{Given}
 use Rattle.lq_model.specs.declared.methods.Given.TheVariants as given
 use Rattle.lq_model.specs.declared.methods.Simple.{Simple}

@@ -7,11 +7,13 @@ use Rattle.lq_value.specs.declared.value.Fault.{Fault}
 use Rattle.lq_value.specs.declared.value.Value.{Value, out-Value}
 use Rattle.lq_value.specs.declared.value.Value.TheVariants as value
 use Rattle.lq_model.specs.Arrangement.{order_by}
-use Rattle.lq_model.specs.Meaning.{World, as_group, as_value, is_null, on_scalar, on_truth, sequence, scalar_of, stream_of, table_value, truth_value}
+use Rattle.lq_model.specs.Worlds.{World}
+use Rattle.lq_model.specs.OperandMeaning.{as_value, is_null, on_scalar, on_truth, sequence, scalar_of, stream_of, table_value, truth_value}
+use Rattle.lq_model.specs.ClauseMeaning.{as_group}
 use Rattle.lq_model.specs.Operations.{of_one, of_two, on_ok}
 use Rattle.lq_model.specs.Operators.{first, pair, second}
 use Rattle.lq_model.specs.Stream.{Stream, expand_by, group_by}
-use Rattle.lq_model.specs.WholeMeaning.{given_meaning, simple_meaning, through_meaning}
+use Rattle.lq_model.specs.Meaning.{given_meaning, simple_meaning, through_meaning}
 use Rattle.lq_model.specs.declared.methods.Given.{Given}
 use Rattle.lq_model.specs.declared.methods.Simple.{Simple}
 use Rattle.lq_model.specs.declared.methods.Through.{Through}

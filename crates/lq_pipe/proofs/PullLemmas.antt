@@ -10,7 +10,8 @@ use Rattle.lq_value.specs.declared.value.Value.TheVariants as value
 use Rattle.lq_model.specs.Enumerable.{in_front, take_first}
 use Rattle.lq_model.specs.Stream.{Stream, each, kept, one, select_by, then_ending, then_stream}
 use Rattle.lq_model.specs.declared.methods.Through.TheVariants as through
-use Rattle.lq_model.specs.Meaning.{World, items_of, sequence, stream_of, table_value}
+use Rattle.lq_model.specs.Worlds.{World}
+use Rattle.lq_model.specs.OperandMeaning.{items_of, sequence, stream_of, table_value}
 use Rattle.lq_model.specs.declared.methods.Given.{Given}
 use Rattle.lq_model.specs.declared.methods.Simple.{Simple}
 use Rattle.lq_model.specs.declared.operation.Op.{Op}

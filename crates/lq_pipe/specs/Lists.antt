@@ -1,5 +1,5 @@
 -- The parts of forms that hold forms, with these as what they mean.
-use Rattle.lq_model.specs.Meaning.{World}
+use Rattle.lq_model.specs.Worlds.{World}
 use Rattle.lq_model.specs.declared.syntax.Field.{Field}
 use Rattle.lq_model.specs.declared.syntax.SortKey.{SortKey}
 use Rattle.lq_tree.specs.FormMeaning.{Means, form_meaning}

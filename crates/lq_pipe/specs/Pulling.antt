@@ -6,7 +6,8 @@ use Rattle.lq_value.specs.declared.value.Fault.TheVariants as fault
 use Rattle.lq_value.specs.declared.value.Value.{Value}
 use Rattle.lq_value.specs.declared.value.Value.TheVariants as value
 use Rattle.lq_model.specs.Enumerable.{in_front}
-use Rattle.lq_model.specs.Meaning.{World, stream_of}
+use Rattle.lq_model.specs.Worlds.{World}
+use Rattle.lq_model.specs.OperandMeaning.{stream_of}
 use Rattle.lq_model.specs.Stream.{Stream, each, select_by, where_by}
 use Rattle.lq_model.specs.declared.methods.Through.TheVariants as through
 use Rattle.lq_tree.specs.FormMeaning.{Slots, form_meaning, is_true, with_item}

@@ -3,7 +3,8 @@ use Rattle.std.specs.Prelude.{◌≡◌, Bool, Result, Ok, Err}
 use Rattle.lq_value.specs.declared.scalar.Scalar.{Scalar}
 use Rattle.lq_value.specs.declared.value.Fault.{Fault}
 use Rattle.lq_value.specs.declared.value.Value.{Value, out-Value}
-use Rattle.lq_model.specs.Meaning.{World, scalar_of, stream_of}
+use Rattle.lq_model.specs.Worlds.{World}
+use Rattle.lq_model.specs.OperandMeaning.{scalar_of, stream_of}
 use Rattle.lq_model.specs.Operations.{on_ok, truth_of}
 use Rattle.lq_model.specs.Stream.{Stream}
 use Rattle.lq_operators.specs.declared.error.RunError.{RunError}

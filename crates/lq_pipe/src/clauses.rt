@@ -15,7 +15,7 @@ impl<'a, R: TableRow> Running<'a, R> {
     ghost use Rattle.std.specs.Prelude.{◌≡◌, IfOk, Ok};
     ghost use Rattle.lq_model.specs.Stream.{each, made, select_by, whole};
     ghost use Rattle.lq_model.specs.Arrangement.{all_of};
-    ghost use Rattle.lq_model.specs.Meaning.{sequence};
+    ghost use Rattle.lq_model.specs.OperandMeaning.{sequence};
     ghost use Rattle.lq_pipe.specs.Items.{expanded_of, joined_of, keyed_of, with_key_of};
     ghost use Rattle.lq_operators.specs.Matching.{pairs_of};
     ghost use Rattle.lq_value.specs.declared.value.End.TheVariants as end;

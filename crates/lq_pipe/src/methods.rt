@@ -14,12 +14,12 @@ use std::alloc::AllocError;
 impl<'a, R: TableRow> Running<'a, R> {
     ghost use Rattle.std.specs.Prelude.{◌≡◌, IfOk, Ok};
     ghost use Rattle.lq_value.specs.declared.ty.Ty.{Ty};
-    ghost use Rattle.lq_model.specs.Meaning.{as_value, stream_of};
+    ghost use Rattle.lq_model.specs.OperandMeaning.{as_value, stream_of};
     ghost use Rattle.lq_model.specs.Enumerable.{all};
     ghost use Rattle.lq_model.specs.Stream.{select_by};
     ghost use Rattle.lq_operators.specs.Answers.{IsAnswer};
     ghost use Rattle.lq_operators.specs.Tallies.{tallied};
-    ghost use Rattle.lq_model.specs.WholeMeaning.{as_truth, given_meaning, simple_meaning};
+    ghost use Rattle.lq_model.specs.Meaning.{as_truth, given_meaning, simple_meaning};
     ghost use Rattle.lq_tree.specs.declared.tree.Form.TheVariants as form;
     ghost use Rattle.lq_pipe.specs.Pulling.{pulled};
     ghost use Rattle.lq_pipe.specs.Running.{holds_of, items_meant, meant, of_item};

@@ -11,7 +11,7 @@ use lq_value::{List, Scalar, Txt, Value};
 impl<'a, R: TableRow> Running<'a, R> {
     ghost use Rattle.std.specs.Prelude.{IfSome, Ok, map};
     ghost use Rattle.lq_value.specs.declared.value.Fault.TheVariants as fault;
-    ghost use Rattle.lq_model.specs.Meaning.{as_value, on_scalar};
+    ghost use Rattle.lq_model.specs.OperandMeaning.{as_value, on_scalar};
     ghost use Rattle.lq_model.specs.Operations.{of_two};
     ghost use Rattle.lq_operators.specs.Answers.{IsAnswer};
     ghost use Rattle.lq_tree.specs.FormMeaning.{members_of};

@@ -3,9 +3,10 @@ ghost use Rattle.std.specs.Prelude.{◌≡◌, ◌∷◌, ◌++◌, [], if◌the
 ghost use Rattle.std.specs.Option.{option_copied};
 ghost use Rattle.lq_value.specs.declared.value.Value.{out-Value};
 ghost use Rattle.lq_model.specs.Enumerable.{at_end};
-ghost use Rattle.lq_model.specs.Meaning.{World, truth_value};
+ghost use Rattle.lq_model.specs.Worlds.{World};
+ghost use Rattle.lq_model.specs.OperandMeaning.{truth_value};
 ghost use Rattle.lq_model.specs.Operators.{first, pair, second};
-ghost use Rattle.lq_model.specs.WholeMeaning.{as_truth};
+ghost use Rattle.lq_model.specs.Meaning.{as_truth};
 ghost use Rattle.lq_operators.specs.Answers.{IsAnswer};
 ghost use Rattle.lq_tree.specs.FormMeaning.{is_null_value};
 

@@ -14,7 +14,7 @@ impl<'a, R: TableRow> Running<'a, R> {
     ghost use Rattle.std.specs.Prelude.{◌≡◌, ◌∷◌, [], true, IfOk, slice_get};
     ghost use Rattle.lq_value.specs.declared.value.Value.{Value};
     ghost use Rattle.lq_value.specs.declared.value.End.TheVariants as end;
-    ghost use Rattle.lq_model.specs.Meaning.{stream_of, table_value};
+    ghost use Rattle.lq_model.specs.OperandMeaning.{stream_of, table_value};
     ghost use Rattle.lq_model.specs.Enumerable.{take_first};
     ghost use Rattle.lq_pipe.specs.Pulling.{At, Steps, end_of, rows_or_none, base_stream, left, passed_at, passed_on, pulled, staged};
     ghost use Rattle.lq_pipe.specs.Running.{meant};

@@ -16,7 +16,8 @@ use Rattle.lq_store.specs.Rules.{name_of}
 use Rattle.lq_model.specs.RuleLaws.{AreReadFor, IsRuleOver}
 use Rattle.lq_model.specs.Totality.{is_total}
 use Rattle.lq_model.specs.TotalityLaws.{is_held_rule, rule_names}
-use Rattle.lq_model.specs.Typing.{is_bool_type, type_of}
+use Rattle.lq_model.specs.OperandTypes.{is_bool_type}
+use Rattle.lq_model.specs.RuleTyping.{type_of}
 use Rattle.lq_model.specs.Visible.{HasRule, using, check, using_for_check}
 use Rattle.lq_model.specs.declared.policy.Action.{Action}
 use Rattle.lq_model.specs.declared.policy.Policy.{Policy}
@@ -26,7 +27,7 @@ use Rattle.lq_model.specs.declared.syntax.Expr.{Expr}
 use Rattle.lq_model.proofs.MembershipLemmas.{has_cases, has_first, has_later, none_in_nil}
 use Rattle.lq_model.proofs.TotalityLemmas.{tells_total}
 use Rattle.lq_model.proofs.TypingLemmas.{is_truth}
-use Rattle.lq_model.proofs.WholeTypes.{keeps_types}
+use Rattle.lq_model.proofs.KeptTypes.{keeps_types}
 use Rattle.lq_policyfile.specs.Duplicates.{has_no_duplicates}
 use Rattle.lq_policyfile.specs.File.{document_of, most_bytes, of_document, of_entries, parts_of, policies_in, policy_part, refusal_of, table_part, unless_refused}
 use Rattle.lq_policyfile.specs.FileLaws.{AreHeld, ReadsForTables}

@@ -1,7 +1,7 @@
 //! The types of rules, and which of them can't fault.
 ghost use Rattle.std.specs.Prelude.{◌≡◌, option_map};
 ghost use Rattle.lq_model.specs.Totality.{is_total};
-ghost use Rattle.lq_model.specs.Typing.{column_named, type_of_column};
+ghost use Rattle.lq_model.specs.Names.{column_named, type_of_column};
 ghost use Rattle.lq_policyfile.specs.Names.{all_pass, passes};
 ghost use Rattle.lq_policyfile.specs.RuleChecks.{is_typed, policy_is_typed, rules_are_total, rules_are_typed};
 

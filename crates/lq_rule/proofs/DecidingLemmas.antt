@@ -3,7 +3,7 @@ use Rattle.std.proofs.Common.{◌≡◌, List, ℕ, true, Result, Ok, Err, ap, �
 use Rattle.lq_value.specs.declared.scalar.Scalar.{Scalar}
 use Rattle.lq_value.specs.declared.value.Fault.{Fault}
 use Rattle.lq_value.specs.declared.value.Fault.TheVariants as fault
-use Rattle.lq_model.specs.Meaning.{meaning, truth_at}
+use Rattle.lq_model.specs.RuleMeaning.{meaning, truth_at}
 use Rattle.lq_model.specs.Operations.{on_ok, truth_of}
 use Rattle.lq_model.specs.Totality.{is_total}
 use Rattle.lq_model.specs.Visible.{is_true, rule_scope, rule_world}

@@ -8,12 +8,16 @@ use Rattle.lq_value.specs.declared.ty.Ty.{Ty}
 use Rattle.lq_value.specs.declared.value.Fault.{Fault}
 use Rattle.lq_value.specs.declared.value.Fault.TheVariants as fault
 use Rattle.lq_value.specs.declared.value.Value.TheVariants.{outs-Row, outs-Scalar}
-use Rattle.lq_model.specs.Meaning.{binding_of, is_null, is_row_type, names_at, told}
+use Rattle.lq_model.specs.Worlds.{binding_of, names_at}
+use Rattle.lq_model.specs.OperandMeaning.{is_null, is_row_type, told}
 use Rattle.lq_model.specs.Members.{is_search, search_named, sole_argument}
 use Rattle.lq_model.specs.Operations.{has_value, negated, of_search, of_two, on_ok, operation_of, same_content, searched, truth, truth_of}
 use Rattle.lq_model.specs.Totality.{is_division, is_divisor, is_natural, is_row, is_sure, is_total, Strength, strength_of}
-use Rattle.lq_model.specs.Typing.{Names, is_comparison, is_equality, type_of}
-use Rattle.lq_model.specs.Visible.{cell_named, rule_scope, rule_world}
+use Rattle.lq_model.specs.Names.{Names}
+use Rattle.lq_model.specs.OperandTypes.{is_comparison, is_equality}
+use Rattle.lq_model.specs.RuleTyping.{type_of}
+use Rattle.lq_model.specs.TableRows.{cell_named}
+use Rattle.lq_model.specs.Visible.{rule_scope, rule_world}
 use Rattle.lq_model.specs.declared.operation.Op.{Op}
 use Rattle.lq_model.specs.declared.operation.Op.TheVariants as op
 use Rattle.lq_model.specs.declared.syntax.Argument.{Argument}

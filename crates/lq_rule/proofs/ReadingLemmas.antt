@@ -4,7 +4,7 @@ use Rattle.lq_value.specs.declared.scalar.Scalar.{Scalar}
 use Rattle.lq_value.specs.declared.scalar.Scalar.TheVariants as scalar
 use Rattle.lq_value.specs.declared.value.Fault.{Fault}
 use Rattle.lq_value.specs.declared.value.Fault.TheVariants as fault
-use Rattle.lq_model.specs.Meaning.{is_null}
+use Rattle.lq_model.specs.OperandMeaning.{is_null}
 use Rattle.lq_model.specs.Operations.{has_value, of_two, on_ok, operation_of, searched, truth}
 use Rattle.lq_model.specs.declared.operation.Op.{Op}
 use Rattle.lq_model.specs.declared.syntax.Binary.{Binary}

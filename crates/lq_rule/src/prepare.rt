@@ -6,7 +6,7 @@ ghost use Rattle.lq_value.specs.declared.value.Fault.TheVariants as fault;
 ghost use Rattle.lq_model.specs.Members.{is_search, search_named, sole_argument};
 ghost use Rattle.lq_model.specs.Operations.{negated};
 ghost use Rattle.lq_model.specs.Totality.{is_row};
-ghost use Rattle.lq_model.specs.Visible.{cell_named};
+ghost use Rattle.lq_model.specs.TableRows.{cell_named};
 ghost use Rattle.lq_model.specs.declared.syntax.Expr.{out-Expr};
 ghost use Rattle.lq_model.specs.declared.syntax.Expr.TheVariants as expr;
 ghost use Rattle.lq_model.specs.declared.syntax.Node.TheVariants as node;

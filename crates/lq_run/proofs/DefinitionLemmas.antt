@@ -12,7 +12,7 @@ use Rattle.lq_model.specs.DefinitionLaws.{AreDefined, AreDefinedAfter, IsDefined
 use Rattle.lq_model.specs.Definitions.{definition_of, known_as, known_names}
 use Rattle.lq_model.specs.States.{State, schemas_of}
 use Rattle.lq_model.specs.Statements.{assigning, renewed}
-use Rattle.lq_model.specs.Typing.{SessionName}
+use Rattle.lq_model.specs.Names.{SessionName}
 use Rattle.lq_model.specs.declared.session.Defined.TheVariants as of
 use Rattle.lq_model.specs.declared.session.Definition.{Definition}
 use Rattle.lq_model.proofs.KeptDefinitions.{defined_behind, known_name, known_now, others_stay, renewed_after}

@@ -6,8 +6,9 @@ use Rattle.lq_value.specs.declared.table.Row.{Row}
 use Rattle.lq_store.specs.Rules.{IsTable}
 use Rattle.lq_model.specs.DefinitionLaws.{AreDefined}
 use Rattle.lq_model.specs.States.{State, schemas_of, seen_by_role}
-use Rattle.lq_model.specs.MeaningLaws.{Every}
-use Rattle.lq_model.specs.Visible.{TableRow, visible_to}
+use Rattle.lq_model.specs.ValuesOfTypes.{Every}
+use Rattle.lq_model.specs.TableRows.{TableRow}
+use Rattle.lq_model.specs.Visible.{visible_to}
 use Rattle.lq_model.specs.declared.policy.Action.{Action}
 use Rattle.lq_policy.specs.RowRules.{admits}
 use Rattle.lq_policy.specs.declared.row_rules.RowRules.{RowRules}

@@ -3,7 +3,7 @@ use Rattle.std.specs.Prelude.{◌≡◌, List, ℕ, Some}
 use Rattle.lq_value.specs.declared.scalar.Scalar.{Scalar}
 use Rattle.lq_value.specs.declared.ty.Ty.{Ty, out-Ty}
 use Rattle.lq_model.specs.Definitions.{definition_of}
-use Rattle.lq_model.specs.MeaningLaws.{IsScalarOf}
+use Rattle.lq_model.specs.ValuesOfTypes.{IsScalarOf}
 use Rattle.lq_model.specs.States.{State}
 use Rattle.lq_model.specs.Statements.{assigning}
 use Rattle.lq_model.specs.declared.session.Defined.{Defined}

@@ -4,7 +4,7 @@ use Rattle.std.proofs.lemmas.List.{map-id}
 use Rattle.std.specs.Result.{result_unwrap_or}
 use Rattle.lq_value.specs.declared.scalar.Scalar.{Scalar}
 use Rattle.lq_value.specs.declared.value.Value.TheVariants.{outs-Row, outs-Scalar}
-use Rattle.lq_model.specs.Meaning.{meaning, truth_at}
+use Rattle.lq_model.specs.RuleMeaning.{meaning, truth_at}
 use Rattle.lq_model.specs.Totality.{is_total}
 use Rattle.lq_model.specs.Visible.{is_true, rule_holds, rule_scope, rule_world}
 use Rattle.lq_model.specs.declared.syntax.Expr.{Expr}

@@ -10,10 +10,14 @@ use Rattle.lq_value.specs.declared.value.Value.{Value, out-Value}
 use Rattle.lq_value.specs.declared.value.Value.TheOpen.{Value-F}
 use Rattle.lq_value.specs.declared.value.Value.TheVariants.{outs-Scalar, outs-Seq}
 use Rattle.lq_value.specs.declared.value.Value.TheVariants as value
-use Rattle.lq_model.specs.Meaning.{Binding, Scope, World, as_value, binding_of, cell_value, comparand, compared_meaning, is_null, meaning, member_value, name_value, names_at, on_comparand, on_scalar, on_truth, operated_meaning, same_values, scalar_of, table_value, told, truth_value}
+use Rattle.lq_model.specs.Worlds.{Binding, Scope, World, binding_of, names_at}
+use Rattle.lq_model.specs.OperandMeaning.{as_value, cell_value, comparand, is_null, member_value, name_value, on_comparand, on_scalar, on_truth, same_values, scalar_of, table_value, told, truth_value}
+use Rattle.lq_model.specs.RuleMeaning.{compared_meaning, meaning, operated_meaning}
 use Rattle.lq_model.specs.Members.{search_named, sole_argument}
 use Rattle.lq_model.specs.Operations.{negated, of_search, on_ok, truth_of}
-use Rattle.lq_model.specs.Typing.{Names, is_equality, table_number, type_of}
+use Rattle.lq_model.specs.Names.{Names, table_number}
+use Rattle.lq_model.specs.OperandTypes.{is_equality}
+use Rattle.lq_model.specs.RuleTyping.{type_of}
 use Rattle.lq_model.specs.declared.syntax.Argument.{Argument}
 use Rattle.lq_model.specs.declared.syntax.Binary.{Binary}
 use Rattle.lq_model.specs.declared.syntax.Expr.{Expr}

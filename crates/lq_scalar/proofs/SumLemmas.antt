@@ -2,7 +2,7 @@
 use Rattle.std.proofs.Common.{◌≡◌, ◌+◌, ◌∷◌, List, [], ℕ, ℤ, Bool, true, ap, ap₂, ◌∙◌, refl}
 use Rattle.lq_model.specs.Members.{sole_argument}
 use Rattle.lq_model.specs.Totality.{Claim, Holds, IsTotal, Sure, Total, is_division, sure_coalesce, sure_conditional, sure_text, sure_user, total_and, total_coalesce, total_column, total_comparison, total_conditional, total_division, total_has_value, total_integer, total_minus, total_not, total_null, total_or, total_search, total_text, total_truth, total_user}
-use Rattle.lq_model.specs.Typing.{is_comparison}
+use Rattle.lq_model.specs.OperandTypes.{is_comparison}
 use Rattle.lq_model.specs.declared.syntax.Argument.{Argument}
 use Rattle.lq_model.specs.declared.syntax.Argument.TheVariants as argument
 use Rattle.lq_model.specs.declared.syntax.Binary.{Binary}

@@ -6,7 +6,9 @@ use Rattle.lq_value.specs.declared.ty.Ty.{Ty}
 use Rattle.lq_value.specs.declared.value.Fault.{Fault}
 use Rattle.lq_value.specs.declared.value.Fault.TheVariants as fault
 use Rattle.lq_value.specs.declared.value.Value.{out-Value}
-use Rattle.lq_model.specs.Meaning.{Scope, World, binding_of, is_row_type, meaning, operation_on, told}
+use Rattle.lq_model.specs.Worlds.{Scope, World, binding_of}
+use Rattle.lq_model.specs.OperandMeaning.{is_row_type, operation_on, told}
+use Rattle.lq_model.specs.RuleMeaning.{meaning}
 use Rattle.lq_model.specs.Members.{member_named}
 use Rattle.lq_model.specs.Operations.{of_member, of_two, on_ok, same_content, truth_of}
 use Rattle.lq_model.specs.declared.syntax.Binary.{Binary}

@@ -2,7 +2,7 @@
 ghost use Rattle.std.specs.Prelude.{◌≡◌, int_le, int_lt};
 ghost use Rattle.lq_value.specs.declared.value.Fault.TheVariants as fault;
 ghost use Rattle.lq_model.specs.Operations.{compared, ordered_by, same_content};
-ghost use Rattle.lq_model.specs.Typing.{is_comparison};
+ghost use Rattle.lq_model.specs.OperandTypes.{is_comparison};
 ghost use Rattle.lq_scalar.specs.Operands.{shown_scalar};
 
 use crate::scalar_ref::ScalarRef;

@@ -3,7 +3,7 @@ ghost use Rattle.std.specs.Prelude.{◌≡◌, option_map, true};
 ghost use Rattle.lq_value.specs.declared.value.Fault.TheVariants as fault;
 ghost use Rattle.lq_model.specs.Members.{search_named};
 ghost use Rattle.lq_model.specs.Operations.{negated, of_search, on_ok, truth};
-ghost use Rattle.lq_model.specs.Typing.{is_equality};
+ghost use Rattle.lq_model.specs.OperandTypes.{is_equality};
 ghost use Rattle.lq_scalar.specs.Operands.{shown_scalar, shown_scalars};
 ghost use Rattle.lq_scalar.specs.Shapes.{operand_part, operand_scalar, told_parts};
 
@@ -86,8 +86,9 @@ impl<'a, N: Names, T: Joins> Evaluation<'a, N, T> {
     ghost use Rattle.std.specs.Prelude.{◌≡◌, ◌+◌};
     ghost use Rattle.lq_model.specs.Operations.{on_ok};
     ghost use Rattle.lq_scalar.specs.Shapes.{operand_scalar};
-    ghost use Rattle.lq_model.specs.Meaning.{binding_of, names_at};
-    ghost use Rattle.lq_model.specs.Typing.{is_text_type, type_of};
+    ghost use Rattle.lq_model.specs.Worlds.{binding_of, names_at};
+    ghost use Rattle.lq_model.specs.OperandTypes.{is_text_type};
+    ghost use Rattle.lq_model.specs.RuleTyping.{type_of};
     ghost use Rattle.lq_model.specs.declared.syntax.Expr.TheVariants as expr;
     ghost use Rattle.lq_model.specs.declared.syntax.Node.TheVariants as node;
     ghost use Rattle.lq_model.specs.declared.syntax.Unary.TheVariants as unary;

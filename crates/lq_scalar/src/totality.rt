@@ -2,7 +2,7 @@
 ghost use Rattle.std.specs.Prelude.{◌≡◌, ◌&&◌, if◌then◌else◌, false};
 ghost use Rattle.lq_model.specs.Members.{is_search};
 ghost use Rattle.lq_model.specs.Totality.{is_division, is_divisor, is_natural, is_row, is_sure, is_total};
-ghost use Rattle.lq_model.specs.Typing.{is_comparison};
+ghost use Rattle.lq_model.specs.OperandTypes.{is_comparison};
 ghost use Rattle.lq_model.specs.declared.syntax.Expr.{out-Expr};
 ghost use Rattle.lq_model.specs.declared.syntax.Expr.TheVariants as expr;
 

@@ -6,7 +6,8 @@ use Rattle.lq_model.specs.ClauseTyping.{expression_type}
 use Rattle.lq_model.specs.DefinitionLaws.{AreDefined}
 use Rattle.lq_model.specs.Operators.{One}
 use Rattle.lq_model.specs.States.{State, names_in, schemas_of}
-use Rattle.lq_model.specs.Typing.{Names, is_bool, is_bool_type, with_local}
+use Rattle.lq_model.specs.Names.{Names, with_local}
+use Rattle.lq_model.specs.OperandTypes.{is_bool, is_bool_type}
 use Rattle.lq_model.specs.Uses.{expression_uses}
 use Rattle.lq_model.specs.declared.rights.Use.{Use}
 use Rattle.lq_model.specs.declared.rights.Use.TheVariants as used

@@ -14,9 +14,10 @@ use Rattle.lq_model.specs.Served.{deleted_data, fault_data, line_of}
 use Rattle.lq_model.specs.States.{State, names_in, schemas_of}
 use Rattle.lq_model.specs.Statements.{Outcome, allowed_by, chosen, deleted, faulted, refused, rows_of, rows_of_named, rows_removed, with_table, without}
 use Rattle.lq_model.specs.ClauseTyping.{expression_type}
-use Rattle.lq_model.specs.Typing.{Names, is_bool_type, table_number, with_local}
+use Rattle.lq_model.specs.Names.{Names, table_number, with_local}
+use Rattle.lq_model.specs.OperandTypes.{is_bool_type}
 use Rattle.lq_model.specs.Uses.{expression_uses}
-use Rattle.lq_model.specs.Visible.{TableRow}
+use Rattle.lq_model.specs.TableRows.{TableRow}
 use Rattle.lq_model.specs.declared.rights.Use.{Use}
 use Rattle.lq_model.specs.declared.rights.Use.TheVariants as used
 use Rattle.lq_model.specs.declared.syntax.Expr.{Expr}

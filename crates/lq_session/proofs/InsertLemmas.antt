@@ -17,7 +17,7 @@ use Rattle.lq_model.specs.Rights.{Denied, denial}
 use Rattle.lq_model.specs.Served.{inserted_data}
 use Rattle.lq_model.specs.States.{State, schemas_of}
 use Rattle.lq_model.specs.Statements.{Outcome, allowed_by, are_of_columns, are_within_ranges, inserted, is_of_column, is_within_range, refused, row_for, row_for_named, row_put_in, row_within, with_row, with_table}
-use Rattle.lq_model.specs.Typing.{table_number}
+use Rattle.lq_model.specs.Names.{table_number}
 use Rattle.lq_model.specs.declared.rights.Use.TheVariants as used
 use Rattle.lq_session.specs.Rows.{tells_full, tells_typed, tells_within}
 

@@ -12,8 +12,9 @@ use Rattle.lq_model.specs.Definitions.{definition_of, known_after, known_names}
 use Rattle.lq_model.specs.Served.{assigned_data, line_of}
 use Rattle.lq_model.specs.States.{State, names_in, schemas_of}
 use Rattle.lq_model.specs.Statements.{Outcome, assigned, assigning, defined, defined_as, defined_by, evaluated, is_taken, refused}
-use Rattle.lq_model.specs.Typing.{is_scalar, table_number}
-use Rattle.lq_model.specs.WholeTyping.{converts}
+use Rattle.lq_model.specs.Names.{table_number}
+use Rattle.lq_model.specs.OperandTypes.{is_scalar}
+use Rattle.lq_model.specs.Typing.{converts}
 use Rattle.lq_model.specs.declared.session.Defined.{Defined}
 use Rattle.lq_model.specs.declared.session.Defined.TheVariants as of
 use Rattle.lq_model.specs.declared.session.Definition.{Definition}

@@ -6,8 +6,8 @@ use Rattle.lq_model.specs.DefinitionLaws.{AreDefined}
 use Rattle.lq_model.specs.Definitions.{defining}
 use Rattle.lq_model.specs.Serving.{run_denial, run_in, served, served_type, unless_denied}
 use Rattle.lq_model.specs.States.{State, names_in, schemas_of, seen_by_role, world_by}
-use Rattle.lq_model.specs.MeaningLaws.{Every}
-use Rattle.lq_model.specs.WholeMeaning.{expression_meaning}
+use Rattle.lq_model.specs.ValuesOfTypes.{Every}
+use Rattle.lq_model.specs.Meaning.{expression_meaning}
 use Rattle.lq_model.specs.declared.syntax.Expr.{Expr}
 
 -- over tables that a store keeps and names that stand for what `var` defined, what a `run` that isn't denied serves is the same whatever

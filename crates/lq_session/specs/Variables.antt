@@ -7,8 +7,8 @@ use Rattle.lq_model.specs.Definitions.{definition_of}
 use Rattle.lq_model.specs.Served.{assigned_data, defined_data}
 use Rattle.lq_model.specs.States.{State}
 use Rattle.lq_model.specs.Statements.{assigned, assigning, defining_also, evaluated, refused}
-use Rattle.lq_model.specs.Typing.{is_scalar}
-use Rattle.lq_model.specs.WholeTyping.{converts}
+use Rattle.lq_model.specs.OperandTypes.{is_scalar}
+use Rattle.lq_model.specs.Typing.{converts}
 use Rattle.lq_model.specs.declared.session.Defined.{Defined}
 use Rattle.lq_model.specs.declared.session.Defined.TheVariants as of
 use Rattle.lq_model.specs.declared.syntax.Expr.{Expr}

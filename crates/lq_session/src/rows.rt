@@ -4,7 +4,7 @@ ghost use Rattle.lq_value.specs.declared.ty.Ty.TheVariants as ty;
 ghost use Rattle.lq_model.specs.Opening.{is_past_opening};
 ghost use Rattle.lq_model.specs.States.{names_in};
 ghost use Rattle.lq_model.specs.Statements.{deleted, inserted, row_for, row_put_in, row_within, rows_of};
-ghost use Rattle.lq_model.specs.Typing.{with_local};
+ghost use Rattle.lq_model.specs.Names.{with_local};
 ghost use Rattle.lq_model.specs.Uses.{expression_uses};
 ghost use Rattle.lq_model.specs.declared.syntax.Expr.{Expr};
 ghost use Rattle.lq_run.specs.Statements.{TellsDenial, condition_in};

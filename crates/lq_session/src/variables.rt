@@ -8,7 +8,7 @@ ghost use Rattle.lq_model.specs.Opening.{is_past_opening};
 ghost use Rattle.lq_model.specs.Served.{defined_data};
 ghost use Rattle.lq_model.specs.States.{schemas_of};
 ghost use Rattle.lq_model.specs.Statements.{assigned, defined, defined_as, defining_also, is_taken};
-ghost use Rattle.lq_model.specs.Typing.{is_scalar};
+ghost use Rattle.lq_model.specs.OperandTypes.{is_scalar};
 ghost use Rattle.lq_run.specs.States.{IsValueFor};
 ghost use Rattle.lq_run.specs.Statements.{tree_in};
 ghost use Rattle.lq_session.specs.Performed.{Performs};

@@ -3,12 +3,15 @@ use Rattle.std.proofs.Common.{◌≡◌, ◌∷◌, if◌then◌else◌, List, �
 use Rattle.lq_value.specs.declared.ty.Ty.{Ty}
 use Rattle.lq_value.specs.declared.ty.Ty.TheVariants as ty
 use Rattle.lq_model.specs.ClauseTyping.{expression_step, expression_type, query_items}
-use Rattle.lq_model.specs.Meaning.{Binding, Meaning, Meant, Scope, World, binding_of, query_meaning, sequence}
+use Rattle.lq_model.specs.Worlds.{Binding, Meaning, Scope, World, binding_of}
+use Rattle.lq_model.specs.OperandMeaning.{sequence}
+use Rattle.lq_model.specs.ClauseMeaning.{query_meaning}
+use Rattle.lq_model.specs.RuleMeaning.{Meant}
 use Rattle.lq_model.specs.Operators.{call_items, call_meaning}
 use Rattle.lq_model.specs.Terms.{MeantTerm, term_meaning, term_meaning_step, term_step, term_type}
-use Rattle.lq_model.specs.Typing.{Names, local_type, with_local}
-use Rattle.lq_model.specs.WholeMeaning.{expression_meaning, expression_meaning_step, items_meaning, whole_meaning, whole_name_value}
-use Rattle.lq_model.specs.WholeTyping.{whole_type, whole_name_type}
+use Rattle.lq_model.specs.Names.{Names, local_type, with_local}
+use Rattle.lq_model.specs.Meaning.{expression_meaning, expression_meaning_step, items_meaning, whole_meaning, whole_name_value}
+use Rattle.lq_model.specs.Typing.{whole_type, whole_name_type}
 use Rattle.lq_model.specs.declared.calls.Call.{Call}
 use Rattle.lq_model.specs.declared.calls.Term.{Term, out-Term, roll-Term}
 use Rattle.lq_model.specs.declared.calls.Term.TheOpen.{Term-F}

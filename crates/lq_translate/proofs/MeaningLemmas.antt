@@ -7,11 +7,13 @@ use Rattle.lq_value.specs.declared.value.Fault.{Fault}
 use Rattle.lq_value.specs.declared.value.Value.{Value}
 use Rattle.lq_value.specs.declared.value.Value.TheVariants.{outs-Rec}
 use Rattle.lq_model.specs.ClauseTyping.{joined_name, source_type}
-use Rattle.lq_model.specs.Meaning.{Meaning, Scope, World, as_group, body_meaning, body_type_at, bound, bound_stream, clause_meaning, clauses_meaning, condition_at, continued, extended, inner_items, item_type_at, joined_type, joined_values, last_meaning, names_at, or_null, query_meaning, sort_key_at, stream_of, typed_locals, session_names}
+use Rattle.lq_model.specs.Worlds.{Meaning, Scope, World, bound, bound_stream, names_at, or_null, typed_locals, session_names}
+use Rattle.lq_model.specs.OperandMeaning.{stream_of}
+use Rattle.lq_model.specs.ClauseMeaning.{as_group, body_meaning, body_type_at, clause_meaning, clauses_meaning, condition_at, continued, extended, inner_items, item_type_at, joined_type, joined_values, last_meaning, query_meaning, sort_key_at}
 use Rattle.lq_model.specs.Operations.{on_ok}
 use Rattle.lq_model.specs.Operators.{Pattern, One, With, bind, call_meaning, first, first_member, locals_of, names_of, operator_meaning, operators_meaning, operators_type_at, pair, parts_meaning, result_of, second, second_member, source_type_under, type_under}
 use Rattle.lq_model.specs.Stream.{Stream, each, group_by, kept, made, on_value, one}
-use Rattle.lq_model.specs.Typing.{Names}
+use Rattle.lq_model.specs.Names.{Names}
 use Rattle.lq_model.specs.declared.calls.Operator.{Operator}
 use Rattle.lq_model.specs.declared.calls.Operator.TheVariants as operator
 use Rattle.lq_model.specs.declared.calls.Paired.TheVariants as paired

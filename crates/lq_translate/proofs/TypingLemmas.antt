@@ -6,7 +6,8 @@ use Rattle.lq_value.specs.declared.ty.Ty.TheVariants as ty
 use Rattle.lq_value.specs.declared.ty.Ty.TheVariants.{outs-Group}
 use Rattle.lq_model.specs.ClauseTyping.{are_sort_keys, body_items, continued_items, from_type, group_type, has_place, if_key, if_placed, if_within, is_fresh, join_type, joined_name, last_type, let_type, names_after_all, query_items, sole_name, source_type, when}
 use Rattle.lq_model.specs.Operators.{Pattern, One, With, call_items, names_of, operators_items, operators_type, paired_pattern, parts_items, pattern_type, sole_pattern, unnamed}
-use Rattle.lq_model.specs.Typing.{Names, is_bool_type, with_local}
+use Rattle.lq_model.specs.Names.{Names, with_local}
+use Rattle.lq_model.specs.OperandTypes.{is_bool_type}
 use Rattle.lq_model.specs.declared.calls.Operator.{Operator}
 use Rattle.lq_model.specs.declared.calls.Operator.TheVariants as operator
 use Rattle.lq_model.specs.declared.calls.Paired.TheVariants as paired

@@ -3,7 +3,8 @@ use Rattle.std.proofs.Common.{◌≡◌, ◌∷◌, ◌++◌, ◌&&◌, if◌the
 use Rattle.lq_value.specs.declared.ty.Ty.{Ty}
 use Rattle.lq_model.specs.ClauseTyping.{are_sort_keys, body_items, from_type, is_fresh, join_type, joined_name, let_type, sole_name, source_type, when}
 use Rattle.lq_model.specs.Operators.{Pattern, One, With, names_of, operators_items, paired_pattern, pattern_after, sole_pattern}
-use Rattle.lq_model.specs.Typing.{Names, is_bool_type, with_local}
+use Rattle.lq_model.specs.Names.{Names, with_local}
+use Rattle.lq_model.specs.OperandTypes.{is_bool_type}
 use Rattle.lq_model.specs.Uses.{body_uses, clause_uses, clauses_uses, continued_uses, last_uses, query_uses, under}
 use Rattle.lq_model.specs.UsesOfCalls.{call_uses, operators_uses, paired_uses, parts_uses}
 use Rattle.lq_model.specs.declared.calls.Operator.{Operator}

@@ -3,7 +3,7 @@ use Rattle.std.proofs.Common.{◌≡◌, ◌∷◌, ◌++◌, List, [], map, fla
 use Rattle.lq_value.specs.declared.ty.Ty.{Ty}
 use Rattle.lq_model.specs.ClauseTyping.{sole_name, source_type}
 use Rattle.lq_model.specs.Operators.{Pattern, sole_pattern}
-use Rattle.lq_model.specs.Typing.{Names}
+use Rattle.lq_model.specs.Names.{Names}
 use Rattle.lq_model.specs.Uses.{argument_uses, body_uses, clause_uses, clauses_uses, continued_uses, last_uses, node_uses, query_uses, under}
 use Rattle.lq_model.specs.UsesOfCalls.{call_uses, operator_uses, operators_uses, parts_uses}
 use Rattle.lq_model.specs.declared.calls.Call.{Call}

@@ -2,7 +2,7 @@
 use Rattle.std.proofs.Common.{◌≡◌, List, Some, ap, ◌∙◌, sym, if◌then◌else◌}
 use Rattle.lq_model.specs.ClauseTyping.{expression_type}
 use Rattle.lq_model.specs.Terms.{term_type}
-use Rattle.lq_model.specs.Typing.{Names, local_type, with_local}
+use Rattle.lq_model.specs.Names.{Names, local_type, with_local}
 use Rattle.lq_model.specs.Uses.{Used, expression_uses, name_uses, node_uses, query_uses, uses_step}
 use Rattle.lq_model.specs.UsesOfCalls.{UsedTerm, call_uses, term_uses, term_uses_step}
 use Rattle.lq_model.specs.declared.calls.Call.{Call}

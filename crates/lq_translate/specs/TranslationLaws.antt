@@ -3,13 +3,14 @@ use Rattle.std.specs.Prelude.{◌≡◌, ◌∷◌, List, [], ℕ, Bool, true, O
 use Rattle.lq_value.specs.declared.ty.Ty.{Ty}
 use Rattle.lq_value.specs.declared.value.Value.{Value}
 use Rattle.lq_model.specs.ClauseTyping.{expression_type, query_items}
-use Rattle.lq_model.specs.Meaning.{Meaning, Scope, World, query_meaning}
+use Rattle.lq_model.specs.Worlds.{Meaning, Scope, World}
+use Rattle.lq_model.specs.ClauseMeaning.{query_meaning}
 use Rattle.lq_model.specs.Operators.{call_items, call_meaning}
 use Rattle.lq_model.specs.Terms.{term_meaning, term_type}
-use Rattle.lq_model.specs.Typing.{Names, with_local}
+use Rattle.lq_model.specs.Names.{Names, with_local}
 use Rattle.lq_model.specs.Uses.{expression_uses, query_uses}
 use Rattle.lq_model.specs.UsesOfCalls.{call_uses, term_uses}
-use Rattle.lq_model.specs.WholeMeaning.{expression_meaning, items_meaning}
+use Rattle.lq_model.specs.Meaning.{expression_meaning, items_meaning}
 use Rattle.lq_model.specs.declared.rights.Use.{Use}
 use Rattle.lq_model.specs.declared.syntax.Expr.{Expr}
 use Rattle.lq_model.specs.declared.syntax.Query.{Query}

@@ -19,14 +19,17 @@ use Rattle.lq_value.specs.declared.value.Value.TheVariants.{outs-Seq}
 use Rattle.lq_model.specs.Arrangement.{Keyed, all_of, arranged, keyed, order_by, with_key}
 use Rattle.lq_model.specs.ClauseTyping.{element_type, has_place, is_fresh, is_key, is_within, joined_name, when}
 use Rattle.lq_model.specs.Maps.{map_key}
-use Rattle.lq_model.specs.Meaning.{Meaning, Scope, World, as_group, bound, condition_at, inner_items, is_null_layer, item_type_at, items_of, joined_type, joined_values, matches, names_at, on_scalar, or_null, sequence, sort_key_at, stream_of}
-use Rattle.lq_model.specs.MeaningLaws.{Every, HoldsRows}
+use Rattle.lq_model.specs.Worlds.{Meaning, Scope, World, bound, names_at, or_null}
+use Rattle.lq_model.specs.OperandMeaning.{items_of, on_scalar, sequence, stream_of}
+use Rattle.lq_model.specs.ClauseMeaning.{as_group, condition_at, inner_items, is_null_layer, item_type_at, joined_type, joined_values, matches, sort_key_at}
+use Rattle.lq_model.specs.ValuesOfTypes.{Every, HoldsRows}
 use Rattle.lq_model.specs.Operations.{on_ok}
 use Rattle.lq_model.specs.Operators.{Pattern, One, With, bind, call_meaning, element_at, lambda, names_of, operator_meaning, operators_items, operators_meaning, operators_type_at, pair, parts_meaning, pattern_after, pattern_behind, pattern_type, result_of, unnamed}
 use Rattle.lq_model.specs.Stream.{Stream, both, elements_of, expand_by, join_by, on_value, select_by, where_by, with_keys}
-use Rattle.lq_model.specs.Typing.{Names, is_scalar}
-use Rattle.lq_model.specs.WholeMeaning.{as_sequence}
-use Rattle.lq_model.specs.WholeMeaningLaws.{IsValueOf, by_group}
+use Rattle.lq_model.specs.Names.{Names}
+use Rattle.lq_model.specs.OperandTypes.{is_scalar}
+use Rattle.lq_model.specs.Meaning.{as_sequence}
+use Rattle.lq_model.specs.MeaningLaws.{IsValueOf, by_group}
 use Rattle.lq_model.specs.declared.calls.Call.{Call}
 use Rattle.lq_model.specs.declared.calls.Operator.{Operator}
 use Rattle.lq_model.specs.declared.calls.Operator.TheVariants as operator

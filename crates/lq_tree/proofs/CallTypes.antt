@@ -7,7 +7,8 @@ use Rattle.lq_value.specs.declared.ty.Ty.{Ty, out-Ty}
 use Rattle.lq_value.specs.declared.ty.Ty.TheVariants as ty
 use Rattle.lq_model.specs.ClauseTyping.{are_join_keys, are_sort_keys, element_type, group_type, has_place, if_key, if_placed, if_within, is_fresh, is_key, is_sort_key, is_within, join_type, joined_name, matched_type as matched, source_type, when}
 use Rattle.lq_model.specs.Operators.{Pattern, One, With, call_items, element_of, locals_of, names_of, operators_items, operators_type, paired_pattern, parts_items, pattern_after, pattern_type, sole_pattern, unnamed}
-use Rattle.lq_model.specs.Typing.{Names, is_bool, is_bool_type, with_local}
+use Rattle.lq_model.specs.Names.{Names, with_local}
+use Rattle.lq_model.specs.OperandTypes.{is_bool, is_bool_type}
 use Rattle.lq_model.specs.declared.calls.Call.{Call}
 use Rattle.lq_model.specs.declared.calls.Operator.{Operator}
 use Rattle.lq_model.specs.declared.calls.Operator.TheVariants as operator

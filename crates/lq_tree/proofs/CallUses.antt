@@ -7,7 +7,8 @@ use Rattle.lq_value.specs.declared.ty.Ty.{Ty, out-Ty}
 use Rattle.lq_value.specs.declared.ty.Ty.TheVariants as ty
 use Rattle.lq_model.specs.ClauseTyping.{are_join_keys, element_type, from_type, has_place, is_fresh, is_key, is_sort_key, is_within, join_type, joined_name, matched_type as matched, source_type, when}
 use Rattle.lq_model.specs.Operators.{Pattern, One, With, names_of, operators_items, pattern_type, sole_pattern}
-use Rattle.lq_model.specs.Typing.{Names, is_bool, with_local}
+use Rattle.lq_model.specs.Names.{Names, with_local}
+use Rattle.lq_model.specs.OperandTypes.{is_bool}
 use Rattle.lq_model.specs.Uses.{under}
 use Rattle.lq_model.specs.UsesOfCalls.{call_uses, element_uses, operator_uses, operators_uses, paired_uses, parts_uses}
 use Rattle.lq_model.specs.declared.calls.Call.{Call}

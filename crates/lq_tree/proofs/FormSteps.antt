@@ -3,7 +3,7 @@ use Rattle.std.proofs.Common.{◌≡◌, List, map, ℕ, Bool, ap, ◌∙◌}
 use Rattle.lq_value.specs.declared.scalar.Scalar.{Scalar}
 use Rattle.lq_value.specs.declared.ty.Ty.{Ty}
 use Rattle.lq_model.specs.Maps.{map_field, map_key}
-use Rattle.lq_model.specs.Meaning.{World}
+use Rattle.lq_model.specs.Worlds.{World}
 use Rattle.lq_model.specs.declared.methods.Given.{Given}
 use Rattle.lq_model.specs.declared.methods.Simple.{Simple}
 use Rattle.lq_model.specs.declared.methods.Through.{Through}

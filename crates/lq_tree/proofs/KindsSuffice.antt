@@ -15,12 +15,14 @@ use Rattle.lq_value.specs.declared.value.Value.TheVariants.{outs-Group as outs-v
 use Rattle.lq_model.specs.Arrangement.{Keyed, all_of, arranged, keyed, order_by, with_key}
 use Rattle.lq_model.specs.Enumerable.{all, as_count, concat, contains, element_at, except, intersect, skip, take_first, union}
 use Rattle.lq_model.specs.Maps.{map_field, map_key}
-use Rattle.lq_model.specs.Meaning.{World, as_group, as_value, cell_value, is_null, items_of, on_scalar, on_truth, scalar_of, stream_of, table_value}
-use Rattle.lq_model.specs.MeaningLaws.{assuming}
+use Rattle.lq_model.specs.Worlds.{World}
+use Rattle.lq_model.specs.OperandMeaning.{as_value, cell_value, is_null, items_of, on_scalar, on_truth, scalar_of, stream_of, table_value}
+use Rattle.lq_model.specs.ClauseMeaning.{as_group}
+use Rattle.lq_model.specs.ValuesOfTypes.{assuming}
 use Rattle.lq_model.specs.Operations.{of_one, of_two, on_ok, truth_of}
 use Rattle.lq_model.specs.Operators.{first, pair, second}
 use Rattle.lq_model.specs.Stream.{Stream, both, each, expand_by, group_by, groups_of, join_by, kept, made, on_value, one, whole, with_keys}
-use Rattle.lq_model.specs.WholeMeaning.{as_sequence, as_truth, given_meaning, number_of, on_number, simple_meaning, through_meaning}
+use Rattle.lq_model.specs.Meaning.{as_sequence, as_truth, given_meaning, number_of, on_number, simple_meaning, through_meaning}
 use Rattle.lq_model.specs.declared.methods.Given.{Given}
 use Rattle.lq_model.specs.declared.methods.Given.TheVariants as given
 use Rattle.lq_model.specs.declared.methods.Through.{Through}

@@ -9,10 +9,11 @@ use Rattle.lq_value.specs.declared.value.Fault.{Fault}
 use Rattle.lq_value.specs.declared.value.Value.{Value, out-Value}
 use Rattle.lq_value.specs.declared.value.Value.TheOpen.{Value-F}
 use Rattle.lq_model.specs.Enumerable.{any, count, default_if_empty, first, greatest, least, reversed, single, summed}
-use Rattle.lq_model.specs.Meaning.{as_group, as_value, is_null_layer, matches, sequence, truth_value}
+use Rattle.lq_model.specs.OperandMeaning.{as_value, sequence, truth_value}
+use Rattle.lq_model.specs.ClauseMeaning.{as_group, is_null_layer, matches}
 use Rattle.lq_model.specs.Operators.{first as first_part, first_member, pair, second, second_member}
 use Rattle.lq_model.specs.Stream.{Stream, elements_of, first_keys}
-use Rattle.lq_model.specs.WholeMeaning.{as_sequence, as_truth, default_layer, default_of, no_number, none_there, number_in, numbers, simple_meaning}
+use Rattle.lq_model.specs.Meaning.{as_sequence, as_truth, default_layer, default_of, no_number, none_there, number_in, numbers, simple_meaning}
 use Rattle.lq_model.specs.declared.methods.Simple.{Simple}
 use Rattle.lq_model.specs.declared.methods.Simple.TheVariants as simple
 use Rattle.lq_tree.specs.Rows.{mapped, result_map, stream_map}

@@ -17,15 +17,17 @@ use Rattle.lq_value.specs.declared.value.Fault.TheVariants as fault
 use Rattle.lq_value.specs.declared.value.Value.{Value, out-Value}
 use Rattle.lq_value.specs.declared.value.Value.TheOpen.{Value-F}
 use Rattle.lq_value.specs.declared.value.Value.TheVariants.{outs-Group as outs-value-Group, outs-Rec as outs-value-Rec, outs-Row as outs-value-Row, outs-Scalar}
-use Rattle.lq_model.specs.Meaning.{World, stream_of, as_value, cell_value, member_value, scalar_of}
-use Rattle.lq_model.specs.MeaningLaws.{IsScalarOf}
+use Rattle.lq_model.specs.Worlds.{World}
+use Rattle.lq_model.specs.OperandMeaning.{stream_of, as_value, cell_value, member_value, scalar_of}
+use Rattle.lq_model.specs.ValuesOfTypes.{IsScalarOf}
 use Rattle.lq_model.specs.Members.{member_named}
 use Rattle.lq_model.specs.Operations.{of_member, of_one, on_ok}
 use Rattle.lq_model.specs.Types.{when}
-use Rattle.lq_model.specs.Typing.{row_table, column_named, column_type, type_of_column}
-use Rattle.lq_model.specs.WholeMeaning.{as_sequence, has_members, is_sequence_layer, settled, member_found, member_in, whole_member_value}
-use Rattle.lq_model.specs.WholeMeaningLaws.{AreMembers, Fits, IsValueOf, no_member, one_member}
-use Rattle.lq_model.specs.WholeTyping.{member_of}
+use Rattle.lq_model.specs.Names.{column_named, column_type, type_of_column}
+use Rattle.lq_model.specs.OperandTypes.{row_table}
+use Rattle.lq_model.specs.Meaning.{as_sequence, has_members, is_sequence_layer, settled, member_found, member_in, whole_member_value}
+use Rattle.lq_model.specs.MeaningLaws.{AreMembers, Fits, IsValueOf, no_member, one_member}
+use Rattle.lq_model.specs.Typing.{member_of}
 use Rattle.lq_model.specs.declared.operation.Op.{Op}
 use Rattle.lq_model.specs.declared.operation.Op.TheVariants as op
 use Rattle.lq_model.proofs.AlikeStreams.{Agree, on_ok_agree}

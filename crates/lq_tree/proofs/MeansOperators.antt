@@ -12,14 +12,16 @@ use Rattle.lq_value.specs.declared.value.Value.{Value, out-Value}
 use Rattle.lq_value.specs.declared.value.Value.TheOpen.{Value-F}
 use Rattle.lq_value.specs.declared.value.Value.TheVariants as value
 use Rattle.lq_value.specs.declared.value.Value.TheVariants.{outs-Group as outs-value-Group, outs-Rec as outs-value-Rec, outs-Row as outs-value-Row, outs-Scalar}
-use Rattle.lq_model.specs.Meaning.{World, as_value, compared_meaning, is_null, on_scalar, on_truth, operated_meaning, operation_on, scalar_of, told, truth_value}
-use Rattle.lq_model.specs.MeaningLaws.{IsScalarOf}
+use Rattle.lq_model.specs.Worlds.{World}
+use Rattle.lq_model.specs.OperandMeaning.{as_value, is_null, on_scalar, on_truth, operation_on, scalar_of, told, truth_value}
+use Rattle.lq_model.specs.RuleMeaning.{compared_meaning, operated_meaning}
+use Rattle.lq_model.specs.ValuesOfTypes.{IsScalarOf}
 use Rattle.lq_model.specs.Operations.{negated, of_two, on_ok, operation_of, same_content, truth, truth_of}
 use Rattle.lq_model.specs.Operators.{first, pair, second}
-use Rattle.lq_model.specs.Typing.{are_comparable, are_joined, coalesced, is_bool, is_equality, is_number, is_ordering, is_text, joined_type, number_type, result_type, truth_type}
-use Rattle.lq_model.specs.WholeMeaning.{whole_compared, whole_same}
-use Rattle.lq_model.specs.WholeMeaningLaws.{IsValueOf, by_scalar}
-use Rattle.lq_model.specs.WholeTyping.{are_null_tests, whole_chosen, whole_operated_type}
+use Rattle.lq_model.specs.OperandTypes.{are_comparable, are_joined, coalesced, is_bool, is_equality, is_number, is_ordering, is_text, joined_type, number_type, result_type, truth_type}
+use Rattle.lq_model.specs.Meaning.{whole_compared, whole_same}
+use Rattle.lq_model.specs.MeaningLaws.{IsValueOf, by_scalar}
+use Rattle.lq_model.specs.Typing.{are_null_tests, whole_chosen, whole_operated_type}
 use Rattle.lq_model.specs.declared.operation.Op.{Op}
 use Rattle.lq_model.specs.declared.operation.Op.TheVariants as op
 use Rattle.lq_model.specs.declared.syntax.Binary.{Binary}

@@ -4,10 +4,12 @@ use Rattle.std.proofs.Common.{◌≡◌, ◌∷◌, ◌++◌, List, [], ℕ, tru
 use Rattle.lq_value.specs.declared.ty.Ty.{Ty, out-Ty}
 use Rattle.lq_value.specs.declared.ty.Ty.TheOpen.{Ty-F}
 use Rattle.lq_value.specs.declared.value.Value.{Value}
-use Rattle.lq_model.specs.Meaning.{World, stream_of}
-use Rattle.lq_model.specs.MeaningLaws.{HoldsRows}
-use Rattle.lq_model.specs.Typing.{column_type, is_number, is_text}
-use Rattle.lq_model.specs.WholeMeaningLaws.{IsValueOf}
+use Rattle.lq_model.specs.Worlds.{World}
+use Rattle.lq_model.specs.OperandMeaning.{stream_of}
+use Rattle.lq_model.specs.ValuesOfTypes.{HoldsRows}
+use Rattle.lq_model.specs.Names.{column_type}
+use Rattle.lq_model.specs.OperandTypes.{is_number, is_text}
+use Rattle.lq_model.specs.MeaningLaws.{IsValueOf}
 use Rattle.lq_model.specs.declared.methods.Through.TheVariants as through
 use Rattle.lq_model.specs.declared.operation.Op.TheVariants as op
 use Rattle.lq_model.proofs.AlikeStreams.{Pair, agree_ok, both_agree, select_alike}

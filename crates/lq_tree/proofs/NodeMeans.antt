@@ -14,17 +14,20 @@ use Rattle.lq_value.specs.declared.value.Value.{Value, out-Value}
 use Rattle.lq_value.specs.declared.value.Value.TheVariants as value
 use Rattle.lq_model.specs.EnumerableCalls.{EnumerableCall, By, Plain, With, enumerable_call}
 use Rattle.lq_model.specs.Maps.{map_argument, map_enumerable, map_field, map_node}
-use Rattle.lq_model.specs.Meaning.{Binding, Meaning, Scope, World, as_value, binding_of, bound, condition_at, item_type_at, names_at, on_scalar, or_null, stream_of, table_value, SessionValue}
-use Rattle.lq_model.specs.MeaningLaws.{Every, HasCells, HoldsRows, IsScalarOf}
+use Rattle.lq_model.specs.Worlds.{Binding, Meaning, Scope, World, binding_of, bound, names_at, or_null, SessionValue}
+use Rattle.lq_model.specs.OperandMeaning.{as_value, on_scalar, stream_of, table_value}
+use Rattle.lq_model.specs.ClauseMeaning.{condition_at, item_type_at}
+use Rattle.lq_model.specs.ValuesOfTypes.{Every, HasCells, HoldsRows, IsScalarOf}
 use Rattle.lq_model.specs.Members.{search_named, sole_argument}
 use Rattle.lq_model.specs.Operations.{of_search, on_ok}
 use Rattle.lq_model.specs.Operators.{One}
 use Rattle.lq_model.specs.Stream.{Stream}
 use Rattle.lq_model.specs.Types.{element_type, is_fresh, is_within}
-use Rattle.lq_model.specs.Typing.{Names, is_text, is_text_type, table_number, with_local, SessionName}
-use Rattle.lq_model.specs.WholeMeaning.{argument_meaning, as_sequence, called_meaning, enumerable_meaning, given_meaning, is_sequence_layer, members_meaning, method_type_at, search_meaning, settled, simple_meaning, through_meaning, whole_meaning, whole_member_value, global_value, session_value, whole_name_value}
-use Rattle.lq_model.specs.WholeMeaningLaws.{AreMembers, Fits, IsValueOf, by_record, by_row, no_member, one_member, IsSessionOfValues}
-use Rattle.lq_model.specs.WholeTyping.{given_type, simple_type, through_type, whole_type}
+use Rattle.lq_model.specs.Names.{Names, table_number, with_local, SessionName}
+use Rattle.lq_model.specs.OperandTypes.{is_text, is_text_type}
+use Rattle.lq_model.specs.Meaning.{argument_meaning, as_sequence, called_meaning, enumerable_meaning, given_meaning, is_sequence_layer, members_meaning, method_type_at, search_meaning, settled, simple_meaning, through_meaning, whole_meaning, whole_member_value, global_value, session_value, whole_name_value}
+use Rattle.lq_model.specs.MeaningLaws.{AreMembers, Fits, IsValueOf, by_record, by_row, no_member, one_member, IsSessionOfValues}
+use Rattle.lq_model.specs.Typing.{given_type, simple_type, through_type, whole_type}
 use Rattle.lq_model.specs.declared.operation.Op.{Op}
 use Rattle.lq_model.specs.declared.syntax.Argument.{Argument}
 use Rattle.lq_model.specs.declared.syntax.Field.{Field}

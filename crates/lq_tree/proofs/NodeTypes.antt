@@ -7,8 +7,9 @@ use Rattle.lq_model.specs.EnumerableCalls.{EnumerableCall, By, Plain, With, enum
 use Rattle.lq_model.specs.Maps.{map_argument, map_enumerable, map_field, map_node}
 use Rattle.lq_model.specs.Members.{is_search, sole_argument}
 use Rattle.lq_model.specs.Types.{if_placed, when}
-use Rattle.lq_model.specs.Typing.{Names, coalesced, is_bool, is_number, is_text_type, truth_type}
-use Rattle.lq_model.specs.WholeTyping.{argument_type, are_distinct, called_type, if_limited, members_type, method_type, record_type, whole_member_type, whole_operated_type, whole_type, whole_name_type}
+use Rattle.lq_model.specs.Names.{Names}
+use Rattle.lq_model.specs.OperandTypes.{coalesced, is_bool, is_number, is_text_type, truth_type}
+use Rattle.lq_model.specs.Typing.{argument_type, are_distinct, called_type, if_limited, members_type, method_type, record_type, whole_member_type, whole_operated_type, whole_type, whole_name_type}
 use Rattle.lq_model.specs.declared.syntax.Argument.{Argument}
 use Rattle.lq_model.specs.declared.syntax.Argument.TheVariants as argument
 use Rattle.lq_model.specs.declared.syntax.Field.{Field}

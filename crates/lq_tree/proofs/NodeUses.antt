@@ -10,16 +10,17 @@ use Rattle.lq_value.specs.declared.ty.Ty.TheVariants as ty
 use Rattle.lq_model.specs.ClauseTyping.{source_type}
 use Rattle.lq_model.specs.EnumerableCalls.{EnumerableCall, By, Plain, With, enumerable_call, method_with_lambda, method_with_value, simple_method}
 use Rattle.lq_model.specs.Maps.{map_field}
-use Rattle.lq_model.specs.Meaning.{told}
-use Rattle.lq_model.specs.MeaningLaws.{Every}
+use Rattle.lq_model.specs.OperandMeaning.{told}
+use Rattle.lq_model.specs.ValuesOfTypes.{Every}
 use Rattle.lq_model.specs.Members.{search_named, sole_argument}
 use Rattle.lq_model.specs.Operations.{operation_of}
 use Rattle.lq_model.specs.Operators.{Pattern, One, With as Pair}
 use Rattle.lq_model.specs.Types.{element_type, is_fresh, is_within, when}
-use Rattle.lq_model.specs.Typing.{Names, coalesced, is_bool, is_equality, is_number, is_text, table_number, with_local, SessionName}
+use Rattle.lq_model.specs.Names.{Names, table_number, with_local, SessionName}
+use Rattle.lq_model.specs.OperandTypes.{coalesced, is_bool, is_equality, is_number, is_text}
 use Rattle.lq_model.specs.Uses.{argument_uses, column_number, member_uses, name_uses, node_uses, under, global_uses}
-use Rattle.lq_model.specs.WholeMeaning.{is_sequence_layer}
-use Rattle.lq_model.specs.WholeTyping.{given_type, simple_type, through_type, whole_chosen, whole_operated_type}
+use Rattle.lq_model.specs.Meaning.{is_sequence_layer}
+use Rattle.lq_model.specs.Typing.{given_type, simple_type, through_type, whole_chosen, whole_operated_type}
 use Rattle.lq_model.specs.declared.operation.Op.TheVariants as op
 use Rattle.lq_model.specs.declared.rights.Use.{Use}
 use Rattle.lq_model.specs.declared.rights.Use.TheVariants as of

@@ -12,13 +12,14 @@ use Rattle.lq_value.specs.declared.value.Value.{Value, out-Value}
 use Rattle.lq_value.specs.declared.value.Value.TheOpen.{Value-F}
 use Rattle.lq_value.specs.declared.value.Value.TheVariants as value
 use Rattle.lq_value.specs.declared.value.Value.TheVariants.{outs-Rec as outs-value-Rec, outs-Scalar}
-use Rattle.lq_model.specs.Meaning.{World, items_of, stream_of}
-use Rattle.lq_model.specs.MeaningLaws.{Every, IsScalarOf}
+use Rattle.lq_model.specs.Worlds.{World}
+use Rattle.lq_model.specs.OperandMeaning.{items_of, stream_of}
+use Rattle.lq_model.specs.ValuesOfTypes.{Every, IsScalarOf}
 use Rattle.lq_model.specs.Members.{search_named}
 use Rattle.lq_model.specs.Types.{all_members, are_join_keys, are_widened, element_type, is_key, key_step, same_types}
-use Rattle.lq_model.specs.Typing.{are_comparable, are_joined, is_bool, is_equality, is_number, is_scalar, is_text, joined_type, result_type, truth_type}
-use Rattle.lq_model.specs.WholeMeaningLaws.{AreMembers, Fits, IsA, IsValueOf, ValueClaim, by_group, by_null_record, by_record, by_row, by_scalar, by_sequence, no_member, one_member}
-use Rattle.lq_model.specs.WholeTyping.{are_null_tests, converts, given_type, has_default, if_same, is_int, simple_type, takes_null, through_type, whole_operated_type, widens}
+use Rattle.lq_model.specs.OperandTypes.{are_comparable, are_joined, is_bool, is_equality, is_number, is_scalar, is_text, joined_type, result_type, truth_type}
+use Rattle.lq_model.specs.MeaningLaws.{AreMembers, Fits, IsA, IsValueOf, ValueClaim, by_group, by_null_record, by_record, by_row, by_scalar, by_sequence, no_member, one_member}
+use Rattle.lq_model.specs.Typing.{are_null_tests, converts, given_type, has_default, if_same, is_int, simple_type, takes_null, through_type, whole_operated_type, widens}
 use Rattle.lq_model.specs.declared.methods.Given.{Given}
 use Rattle.lq_model.specs.declared.methods.Given.TheVariants as given
 use Rattle.lq_model.specs.declared.methods.Simple.{Simple}

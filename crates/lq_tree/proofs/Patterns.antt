@@ -3,9 +3,10 @@ use Rattle.std.proofs.Common.{◌≡◌, List, ℕ, Option, Some, None, ap, ◌�
 use Rattle.std.proofs.lemmas.Option.{option_and_then_some, same_Some}
 use Rattle.lq_value.specs.declared.ty.Ty.{Ty}
 use Rattle.lq_model.specs.ClauseTyping.{are_join_keys, fresh_type, from_type, if_placed, is_fresh, join_type, joined_name, matched_type, source_type, when}
-use Rattle.lq_model.specs.Meaning.{Meaning, Scope, World, joined_type, names_at, or_null}
+use Rattle.lq_model.specs.Worlds.{Meaning, Scope, World, names_at, or_null}
+use Rattle.lq_model.specs.ClauseMeaning.{joined_type}
 use Rattle.lq_model.specs.Operators.{Pattern, With, names_of, paired_behind, paired_pattern, pattern_after, pattern_behind, unnamed}
-use Rattle.lq_model.specs.Typing.{Names, with_local}
+use Rattle.lq_model.specs.Names.{Names, with_local}
 use Rattle.lq_model.specs.declared.calls.Operator.{Operator}
 use Rattle.lq_model.specs.declared.calls.Operator.TheVariants as operator
 use Rattle.lq_model.specs.declared.calls.Paired.{Paired}

@@ -5,7 +5,8 @@ use Rattle.lq_value.specs.declared.value.Value.{Value}
 use Rattle.lq_value.specs.declared.value.Value.TheVariants as value
 use Rattle.lq_model.specs.Arrangement.{order_by}
 use Rattle.lq_model.specs.Maps.{map_field, map_key}
-use Rattle.lq_model.specs.Meaning.{SessionValue, World, stream_of}
+use Rattle.lq_model.specs.Worlds.{SessionValue, World}
+use Rattle.lq_model.specs.OperandMeaning.{stream_of}
 use Rattle.lq_model.specs.Operations.{on_ok}
 use Rattle.lq_model.specs.Stream.{Stream}
 use Rattle.lq_model.specs.declared.syntax.Field.{Field}

@@ -13,11 +13,13 @@ use Rattle.lq_value.specs.declared.value.Value.{Value, out-Value}
 use Rattle.lq_value.specs.declared.value.Value.TheOpen.{Value-F}
 use Rattle.lq_value.specs.declared.value.Value.TheVariants as value
 use Rattle.lq_model.specs.Enumerable.{all, as_count, concat, contains, element_at, except, intersect, skip, take_first, union}
-use Rattle.lq_model.specs.Meaning.{SessionValue, World, as_group, as_value, cell_value, is_null, items_of, matches, on_scalar, on_truth, scalar_of, sequence, stream_of, table_value, truth_value}
+use Rattle.lq_model.specs.Worlds.{SessionValue, World}
+use Rattle.lq_model.specs.OperandMeaning.{as_value, cell_value, is_null, items_of, on_scalar, on_truth, scalar_of, sequence, stream_of, table_value, truth_value}
+use Rattle.lq_model.specs.ClauseMeaning.{as_group, matches}
 use Rattle.lq_model.specs.Operations.{of_one, of_two, on_ok, truth_of}
 use Rattle.lq_model.specs.Operators.{first, pair, second}
 use Rattle.lq_model.specs.Stream.{Stream, expand_by, group_by, join_by, select_by, where_by, with_keys}
-use Rattle.lq_model.specs.WholeMeaning.{as_sequence, as_truth, given_meaning, number_of, on_number, simple_meaning, through_meaning}
+use Rattle.lq_model.specs.Meaning.{as_sequence, as_truth, given_meaning, number_of, on_number, simple_meaning, through_meaning}
 use Rattle.lq_model.specs.declared.methods.Given.{Given}
 use Rattle.lq_model.specs.declared.methods.Given.TheVariants as given
 use Rattle.lq_model.specs.declared.methods.Simple.{Simple}

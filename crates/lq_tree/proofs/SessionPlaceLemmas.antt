@@ -10,9 +10,9 @@ use Rattle.lq_value.specs.declared.ty.Ty.TheVariants as ty
 use Rattle.lq_model.specs.ClauseTyping.{expression_type}
 use Rattle.lq_model.specs.DefinitionLaws.{AreDefinedAfter, IsDefined}
 use Rattle.lq_model.specs.Definitions.{known_after, known_as, known_names, outer_names}
-use Rattle.lq_model.specs.Meaning.{or_null}
-use Rattle.lq_model.specs.MeaningLaws.{Every}
-use Rattle.lq_model.specs.Typing.{SessionName}
+use Rattle.lq_model.specs.Worlds.{or_null}
+use Rattle.lq_model.specs.ValuesOfTypes.{Every}
+use Rattle.lq_model.specs.Names.{SessionName}
 use Rattle.lq_model.specs.Uses.{expression_uses}
 use Rattle.lq_model.specs.declared.session.Defined.{Defined}
 use Rattle.lq_model.specs.declared.session.Defined.TheVariants as of

@@ -10,12 +10,13 @@ use Rattle.lq_value.specs.declared.value.Value.TheVariants.{outs-Seq}
 use Rattle.lq_model.specs.ClauseTyping.{expression_type}
 use Rattle.lq_model.specs.DefinitionLaws.{AreDefinedAfter, IsDefined}
 use Rattle.lq_model.specs.Definitions.{defining, known_as, outer_names, value_in, valued_as, with_session, world_after}
-use Rattle.lq_model.specs.Meaning.{Binding, SessionValue, World, items_of, sequence, session_names, stream_of}
-use Rattle.lq_model.specs.MeaningLaws.{HoldsRows}
+use Rattle.lq_model.specs.Worlds.{Binding, SessionValue, World, session_names}
+use Rattle.lq_model.specs.OperandMeaning.{items_of, sequence, stream_of}
+use Rattle.lq_model.specs.ValuesOfTypes.{HoldsRows}
 use Rattle.lq_model.specs.Stream.{Stream}
-use Rattle.lq_model.specs.Typing.{SessionName}
-use Rattle.lq_model.specs.WholeMeaning.{expression_meaning}
-use Rattle.lq_model.specs.WholeMeaningLaws.{IsSessionOfValues, IsValueOf}
+use Rattle.lq_model.specs.Names.{SessionName}
+use Rattle.lq_model.specs.Meaning.{expression_meaning}
+use Rattle.lq_model.specs.MeaningLaws.{IsSessionOfValues, IsValueOf}
 use Rattle.lq_model.specs.declared.session.Defined.{Defined}
 use Rattle.lq_model.specs.declared.session.Defined.TheVariants as of
 use Rattle.lq_model.specs.declared.session.Definition.{Definition}

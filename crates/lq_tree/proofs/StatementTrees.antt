@@ -7,15 +7,16 @@ use Rattle.lq_value.specs.declared.value.Value.TheVariants as value
 use Rattle.lq_model.specs.ClauseTyping.{expression_type}
 use Rattle.lq_model.specs.DefinitionLaws.{AreDefined}
 use Rattle.lq_model.specs.Definitions.{defining, known_names, outer_names, with_session}
-use Rattle.lq_model.specs.Meaning.{Binding, World, bound, sequence}
-use Rattle.lq_model.specs.MeaningLaws.{HoldsRows}
+use Rattle.lq_model.specs.Worlds.{Binding, World, bound}
+use Rattle.lq_model.specs.OperandMeaning.{sequence}
+use Rattle.lq_model.specs.ValuesOfTypes.{HoldsRows}
 use Rattle.lq_model.specs.Operators.{One, call_items, call_meaning}
 use Rattle.lq_model.specs.Terms.{term_meaning, term_type}
-use Rattle.lq_model.specs.Typing.{Names, with_local}
+use Rattle.lq_model.specs.Names.{Names, with_local}
 use Rattle.lq_model.specs.Uses.{expression_uses}
 use Rattle.lq_model.specs.UsesOfCalls.{call_uses, term_uses}
-use Rattle.lq_model.specs.WholeMeaning.{expression_meaning}
-use Rattle.lq_model.specs.WholeMeaningLaws.{IsSessionOfValues, IsValueOf, by_row}
+use Rattle.lq_model.specs.Meaning.{expression_meaning}
+use Rattle.lq_model.specs.MeaningLaws.{IsSessionOfValues, IsValueOf, by_row}
 use Rattle.lq_model.specs.declared.session.Definition.{Definition}
 use Rattle.lq_model.proofs.DefinitionLemmas.{names_have_values}
 use Rattle.lq_model.proofs.EveryItem.{every_none}

@@ -6,14 +6,15 @@ use Rattle.lq_value.specs.declared.ty.Ty.TheVariants as ty
 use Rattle.lq_value.specs.declared.value.Fault.{Fault}
 use Rattle.lq_value.specs.declared.value.Value.{Value}
 use Rattle.lq_model.specs.ClauseTyping.{expression_type, query_items}
-use Rattle.lq_model.specs.Meaning.{Meaning, Scope, World, sequence}
-use Rattle.lq_model.specs.MeaningLaws.{HoldsRows}
+use Rattle.lq_model.specs.Worlds.{Meaning, Scope, World}
+use Rattle.lq_model.specs.OperandMeaning.{sequence}
+use Rattle.lq_model.specs.ValuesOfTypes.{HoldsRows}
 use Rattle.lq_model.specs.Operators.{call_meaning}
 use Rattle.lq_model.specs.Stream.{Stream}
 use Rattle.lq_model.specs.Terms.{MeantTerm, term_meaning, term_meaning_step, term_type}
-use Rattle.lq_model.specs.Typing.{Names}
-use Rattle.lq_model.specs.WholeMeaning.{whole_meaning}
-use Rattle.lq_model.specs.WholeMeaningLaws.{IsSessionOfValues, IsValueOf}
+use Rattle.lq_model.specs.Names.{Names}
+use Rattle.lq_model.specs.Meaning.{whole_meaning}
+use Rattle.lq_model.specs.MeaningLaws.{IsSessionOfValues, IsValueOf}
 use Rattle.lq_model.specs.declared.calls.Call.{Call}
 use Rattle.lq_model.specs.declared.calls.Term.{Term}
 use Rattle.lq_model.specs.declared.calls.Term.TheVariants as term

@@ -5,8 +5,8 @@ use Rattle.lq_value.specs.declared.ty.Ty.{Ty}
 use Rattle.lq_value.specs.declared.ty.Ty.TheVariants as ty
 use Rattle.lq_model.specs.Operators.{call_items}
 use Rattle.lq_model.specs.Terms.{term_step, term_type}
-use Rattle.lq_model.specs.Typing.{Names}
-use Rattle.lq_model.specs.WholeTyping.{whole_type}
+use Rattle.lq_model.specs.Names.{Names}
+use Rattle.lq_model.specs.Typing.{whole_type}
 use Rattle.lq_model.specs.declared.calls.Call.{Call}
 use Rattle.lq_model.specs.declared.calls.Term.{Term}
 use Rattle.lq_model.specs.declared.calls.Term.TheVariants as term

@@ -4,7 +4,7 @@ use Rattle.std.proofs.Common.{◌≡◌, List, Option, Some, ap, ◌∙◌, sym}
 use Rattle.lq_value.specs.declared.table.Schema.{Schema}
 use Rattle.lq_value.specs.declared.ty.Ty.{Ty}
 use Rattle.lq_model.specs.Terms.{term_type}
-use Rattle.lq_model.specs.Typing.{Names}
+use Rattle.lq_model.specs.Names.{Names}
 use Rattle.lq_model.specs.Uses.{expression_uses}
 use Rattle.lq_model.specs.UsesOfCalls.{call_uses, term_uses}
 use Rattle.lq_model.specs.declared.calls.Call.{Call}

@@ -6,8 +6,8 @@ use Rattle.lq_model.specs.EnumerableCalls.{EnumerableCall, By, Plain, With, enum
 use Rattle.lq_model.specs.Members.{search_named, sole_argument}
 use Rattle.lq_model.specs.Operators.{One}
 use Rattle.lq_model.specs.Types.{is_fresh, when}
-use Rattle.lq_model.specs.Typing.{is_text}
-use Rattle.lq_model.specs.WholeTyping.{are_distinct}
+use Rattle.lq_model.specs.OperandTypes.{is_text}
+use Rattle.lq_model.specs.Typing.{are_distinct}
 use Rattle.lq_model.specs.declared.calls.Call.{Call}
 use Rattle.lq_model.specs.declared.calls.Operator.{Operator}
 use Rattle.lq_model.specs.declared.calls.Operator.TheVariants as operator

@@ -10,8 +10,9 @@ use Rattle.lq_value.specs.declared.ty.Ty.TheVariants as ty
 use Rattle.lq_model.specs.EnumerableCalls.{EnumerableCall, By, Plain, With, enumerable_call}
 use Rattle.lq_model.specs.Members.{search_named, sole_argument}
 use Rattle.lq_model.specs.Types.{element_type, has_place, if_placed, is_fresh, is_key, is_within, when}
-use Rattle.lq_model.specs.Typing.{Names, column_named, is_bool, is_bool_type, is_text, is_text_type, local_type, of_operands, table_number, truth_type, type_of_column, session_name}
-use Rattle.lq_model.specs.WholeTyping.{argument_type, are_distinct, called_type, enumerable_type, given_type, if_limited, lambda_type, member_of, members_type, method_type, record_type, search_type, simple_type, through_type, whole_chosen, whole_choice_type, whole_member_type, global_type, whole_name_type}
+use Rattle.lq_model.specs.Names.{Names, column_named, local_type, table_number, type_of_column, session_name}
+use Rattle.lq_model.specs.OperandTypes.{is_bool, is_bool_type, is_text, is_text_type, of_operands, truth_type}
+use Rattle.lq_model.specs.Typing.{argument_type, are_distinct, called_type, enumerable_type, given_type, if_limited, lambda_type, member_of, members_type, method_type, record_type, search_type, simple_type, through_type, whole_chosen, whole_choice_type, whole_member_type, global_type, whole_name_type}
 use Rattle.lq_model.specs.declared.methods.Given.{Given}
 use Rattle.lq_model.specs.declared.methods.Given.TheVariants as given
 use Rattle.lq_model.specs.declared.methods.Through.{Through}

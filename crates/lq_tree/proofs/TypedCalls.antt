@@ -10,7 +10,7 @@ use Rattle.lq_value.specs.declared.ty.Ty.TheVariants.{outs-Seq}
 use Rattle.lq_model.specs.ClauseTyping.{joined_name}
 use Rattle.lq_model.specs.Operators.{Pattern, One, With, pair_type, pattern_type}
 use Rattle.lq_model.specs.Types.{are_join_keys, element_type, has_place, is_fresh, is_key, is_sort_key, is_within, when}
-use Rattle.lq_model.specs.Typing.{is_bool}
+use Rattle.lq_model.specs.OperandTypes.{is_bool}
 use Rattle.lq_model.specs.declared.calls.Call.{Call}
 use Rattle.lq_model.specs.declared.calls.Operator.{Operator}
 use Rattle.lq_model.specs.declared.calls.Operator.TheVariants as operator

@@ -15,14 +15,16 @@ use Rattle.lq_value.specs.declared.value.Value.{Value, out-Value}
 use Rattle.lq_value.specs.declared.value.Value.TheVariants as value
 use Rattle.lq_value.specs.declared.value.Value.TheVariants.{outs-Rec as outs-value-Rec, outs-Scalar, outs-Seq as outs-value-Seq}
 use Rattle.lq_model.specs.Maps.{map_field, map_key}
-use Rattle.lq_model.specs.Meaning.{World, as_group, as_value, is_null_layer, items_of, matches, on_scalar, scalar_of, sequence, stream_of, table_value, truth_value}
-use Rattle.lq_model.specs.MeaningLaws.{Every, HasCells, HoldsRows, IsScalarOf}
+use Rattle.lq_model.specs.Worlds.{World}
+use Rattle.lq_model.specs.OperandMeaning.{as_value, items_of, on_scalar, scalar_of, sequence, stream_of, table_value, truth_value}
+use Rattle.lq_model.specs.ClauseMeaning.{as_group, is_null_layer, matches}
+use Rattle.lq_model.specs.ValuesOfTypes.{Every, HasCells, HoldsRows, IsScalarOf}
 use Rattle.lq_model.specs.Members.{search_named}
 use Rattle.lq_model.specs.Operations.{of_one, of_two, on_ok, searched, truth}
 use Rattle.lq_model.specs.Operators.{first, pair, pair_type, second}
 use Rattle.lq_model.specs.Stream.{Stream, elements_of}
 use Rattle.lq_model.specs.Types.{when}
-use Rattle.lq_model.specs.WholeMeaningLaws.{AreMembers, Fits, IsA, IsValueOf, ValueClaim, by_group, by_null_record, by_record, by_row, by_scalar, by_sequence, no_member, one_member}
+use Rattle.lq_model.specs.MeaningLaws.{AreMembers, Fits, IsA, IsValueOf, ValueClaim, by_group, by_null_record, by_record, by_row, by_scalar, by_sequence, no_member, one_member}
 use Rattle.lq_model.specs.declared.methods.Through.TheVariants as through
 use Rattle.lq_model.specs.declared.operation.Op.{Op}
 use Rattle.lq_model.specs.declared.operation.Op.TheVariants as op

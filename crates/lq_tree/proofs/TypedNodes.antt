@@ -11,15 +11,16 @@ use Rattle.lq_value.specs.declared.ty.Ty.TheOpen.{Ty-F}
 use Rattle.lq_value.specs.declared.ty.Ty.TheVariants as ty
 use Rattle.lq_value.specs.declared.ty.Ty.TheVariants.{outs-Bool, outs-Int, outs-Null, outs-Str}
 use Rattle.lq_model.specs.EnumerableCalls.{EnumerableCall, By, Plain, With, enumerable_call}
-use Rattle.lq_model.specs.Meaning.{told}
-use Rattle.lq_model.specs.MeaningLaws.{Every, IsScalarOf}
+use Rattle.lq_model.specs.OperandMeaning.{told}
+use Rattle.lq_model.specs.ValuesOfTypes.{Every, IsScalarOf}
 use Rattle.lq_model.specs.Members.{search_named, sole_argument}
 use Rattle.lq_model.specs.Operations.{operation_of}
 use Rattle.lq_model.specs.Operators.{Pattern, One, With as Pair}
 use Rattle.lq_model.specs.Types.{element_type, is_fresh, is_within, when}
-use Rattle.lq_model.specs.Typing.{are_comparable, are_joined, coalesced, column_named, is_bool, is_equality, is_number, is_text, joined_type, result_type, table_number, truth_type, type_of_column}
-use Rattle.lq_model.specs.WholeMeaning.{is_sequence_layer}
-use Rattle.lq_model.specs.WholeTyping.{are_null_tests, given_type, simple_type, through_type, whole_chosen, whole_operated_type}
+use Rattle.lq_model.specs.Names.{column_named, table_number, type_of_column}
+use Rattle.lq_model.specs.OperandTypes.{are_comparable, are_joined, coalesced, is_bool, is_equality, is_number, is_text, joined_type, result_type, truth_type}
+use Rattle.lq_model.specs.Meaning.{is_sequence_layer}
+use Rattle.lq_model.specs.Typing.{are_null_tests, given_type, simple_type, through_type, whole_chosen, whole_operated_type}
 use Rattle.lq_model.specs.declared.operation.Op.{Op}
 use Rattle.lq_model.specs.declared.operation.Op.TheVariants as op
 use Rattle.lq_model.specs.declared.syntax.Argument.{Argument}

@@ -5,9 +5,9 @@ use Rattle.lq_value.specs.declared.ty.Ty.{Ty}
 use Rattle.lq_value.specs.declared.ty.Ty.TheVariants as ty
 use Rattle.lq_model.specs.DefinitionLaws.{AreDefinedAfter, IsDefined}
 use Rattle.lq_model.specs.Definitions.{known_as}
-use Rattle.lq_model.specs.Meaning.{or_null}
-use Rattle.lq_model.specs.MeaningLaws.{Every}
-use Rattle.lq_model.specs.Typing.{SessionName}
+use Rattle.lq_model.specs.Worlds.{or_null}
+use Rattle.lq_model.specs.ValuesOfTypes.{Every}
+use Rattle.lq_model.specs.Names.{SessionName}
 use Rattle.lq_model.specs.declared.session.Defined.{Defined}
 use Rattle.lq_model.specs.declared.session.Defined.TheVariants as of
 use Rattle.lq_model.specs.declared.session.Definition.{Definition}

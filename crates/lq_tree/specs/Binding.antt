@@ -11,15 +11,16 @@ use Rattle.lq_value.specs.declared.ty.Ty.TheOpen.{Ty-F}
 use Rattle.lq_value.specs.declared.ty.Ty.TheVariants as ty
 use Rattle.lq_model.specs.ClauseTyping.{joined_name}
 use Rattle.lq_model.specs.EnumerableCalls.{EnumerableCall, By, Plain, With, enumerable_call}
-use Rattle.lq_model.specs.Meaning.{told}
+use Rattle.lq_model.specs.OperandMeaning.{told}
 use Rattle.lq_model.specs.Members.{search_named, sole_argument}
 use Rattle.lq_model.specs.Operations.{operation_of}
 use Rattle.lq_model.specs.Operators.{Pattern, One, pattern_type, unnamed}
 use Rattle.lq_model.specs.Operators as of
 use Rattle.lq_model.specs.Types.{are_join_keys, element_type, has_place, is_fresh, is_key, is_sort_key, is_within, when}
-use Rattle.lq_model.specs.Typing.{coalesced, is_bool, is_equality, is_number, is_text, table_number, type_of_column}
-use Rattle.lq_model.specs.WholeMeaning.{is_sequence_layer}
-use Rattle.lq_model.specs.WholeTyping.{are_distinct, given_type, simple_type, through_type, whole_chosen, whole_operated_type}
+use Rattle.lq_model.specs.Names.{table_number, type_of_column}
+use Rattle.lq_model.specs.OperandTypes.{coalesced, is_bool, is_equality, is_number, is_text}
+use Rattle.lq_model.specs.Meaning.{is_sequence_layer}
+use Rattle.lq_model.specs.Typing.{are_distinct, given_type, simple_type, through_type, whole_chosen, whole_operated_type}
 use Rattle.lq_model.specs.declared.calls.Call.{Call}
 use Rattle.lq_model.specs.declared.calls.Operator.{Operator}
 use Rattle.lq_model.specs.declared.calls.Operator.TheVariants as operator

@@ -5,14 +5,15 @@ use Rattle.lq_value.specs.declared.ty.Ty.{Ty}
 use Rattle.lq_value.specs.declared.ty.Ty.TheVariants as ty
 use Rattle.lq_value.specs.declared.value.Value.{Value}
 use Rattle.lq_model.specs.ClauseTyping.{expression_type, query_items}
-use Rattle.lq_model.specs.Meaning.{names_at, Binding, Scope, World, sequence, SessionValue}
-use Rattle.lq_model.specs.MeaningLaws.{HoldsRows}
+use Rattle.lq_model.specs.Worlds.{names_at, Binding, Scope, World, SessionValue}
+use Rattle.lq_model.specs.OperandMeaning.{sequence}
+use Rattle.lq_model.specs.ValuesOfTypes.{HoldsRows}
 use Rattle.lq_model.specs.Operators.{call_items, call_meaning}
 use Rattle.lq_model.specs.Terms.{term_meaning, term_type}
 use Rattle.lq_model.specs.Uses.{expression_uses}
 use Rattle.lq_model.specs.UsesOfCalls.{call_uses, term_uses}
-use Rattle.lq_model.specs.WholeMeaning.{expression_meaning, items_meaning}
-use Rattle.lq_model.specs.WholeMeaningLaws.{IsScopeOfValues, IsValueOf, IsSessionOfValues}
+use Rattle.lq_model.specs.Meaning.{expression_meaning, items_meaning}
+use Rattle.lq_model.specs.MeaningLaws.{IsScopeOfValues, IsValueOf, IsSessionOfValues}
 use Rattle.lq_model.specs.declared.calls.Call.{Call}
 use Rattle.lq_model.specs.declared.calls.Term.{Term}
 use Rattle.lq_model.specs.declared.syntax.Expr.{Expr}

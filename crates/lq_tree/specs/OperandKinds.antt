@@ -10,11 +10,12 @@ use Rattle.lq_value.specs.declared.ty.Ty.TheOpen.{Ty-F}
 use Rattle.lq_value.specs.declared.value.End.{End}
 use Rattle.lq_value.specs.declared.value.Value.{Value}
 use Rattle.lq_value.specs.declared.value.Value.TheVariants as value
-use Rattle.lq_model.specs.Meaning.{World, stream_of}
+use Rattle.lq_model.specs.Worlds.{World}
+use Rattle.lq_model.specs.OperandMeaning.{stream_of}
 use Rattle.lq_model.specs.Operators.{pair}
 use Rattle.lq_model.specs.Stream.{with_keys}
-use Rattle.lq_model.specs.Typing.{is_number as is_number_type}
-use Rattle.lq_model.specs.WholeTyping.{has_default}
+use Rattle.lq_model.specs.OperandTypes.{is_number as is_number_type}
+use Rattle.lq_model.specs.Typing.{has_default}
 use Rattle.lq_model.specs.declared.methods.Given.{Given}
 use Rattle.lq_model.specs.declared.methods.Given.TheVariants as given
 use Rattle.lq_model.specs.declared.methods.Simple.{Simple}

@@ -5,7 +5,8 @@ use Rattle.lq_value.specs.declared.table.Schema.{Schema}
 use Rattle.lq_value.specs.declared.ty.Ty.{Ty}
 use Rattle.lq_value.specs.declared.value.Fault.{Fault}
 use Rattle.lq_value.specs.declared.value.Value.{Value}
-use Rattle.lq_model.specs.Meaning.{World, stream_of}
+use Rattle.lq_model.specs.Worlds.{World}
+use Rattle.lq_model.specs.OperandMeaning.{stream_of}
 use Rattle.lq_model.specs.Served.{stream_data, value_data}
 use Rattle.lq_model.specs.Stream.{Stream}
 use Rattle.lq_tree.specs.FormMeaning.{form_meaning}

@@ -4,7 +4,7 @@ use Rattle.lq_value.specs.declared.value.Fault.{Fault}
 use Rattle.lq_value.specs.declared.value.Value.{Value, fold-Value}
 use Rattle.lq_value.specs.declared.value.Value.TheOpen.{Value-F}
 use Rattle.lq_value.specs.declared.value.Value.TheVariants as value
-use Rattle.lq_model.specs.Meaning.{World}
+use Rattle.lq_model.specs.Worlds.{World}
 use Rattle.lq_model.specs.Stream.{Stream}
 
 -- what is there replaced; a fault stays

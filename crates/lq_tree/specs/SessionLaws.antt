@@ -6,14 +6,15 @@ use Rattle.lq_value.specs.declared.value.Value.TheVariants as value
 use Rattle.lq_model.specs.ClauseTyping.{expression_type}
 use Rattle.lq_model.specs.DefinitionLaws.{AreDefined}
 use Rattle.lq_model.specs.Definitions.{defining, known_names, outer_names, with_session}
-use Rattle.lq_model.specs.Meaning.{SessionValue, World, bound, sequence}
-use Rattle.lq_model.specs.MeaningLaws.{HasCells, HoldsRows}
+use Rattle.lq_model.specs.Worlds.{SessionValue, World, bound}
+use Rattle.lq_model.specs.OperandMeaning.{sequence}
+use Rattle.lq_model.specs.ValuesOfTypes.{HasCells, HoldsRows}
 use Rattle.lq_model.specs.Operators.{call_items, call_meaning}
 use Rattle.lq_model.specs.Terms.{term_meaning, term_type}
-use Rattle.lq_model.specs.Typing.{with_local}
+use Rattle.lq_model.specs.Names.{with_local}
 use Rattle.lq_model.specs.Uses.{expression_uses}
 use Rattle.lq_model.specs.UsesOfCalls.{call_uses, term_uses}
-use Rattle.lq_model.specs.WholeMeaning.{expression_meaning}
+use Rattle.lq_model.specs.Meaning.{expression_meaning}
 use Rattle.lq_model.specs.declared.calls.Call.{Call}
 use Rattle.lq_model.specs.declared.calls.Term.{Term}
 use Rattle.lq_model.specs.declared.session.Definition.{Definition}

@@ -6,10 +6,11 @@ use Rattle.lq_value.specs.declared.value.Fault.{Fault}
 use Rattle.lq_value.specs.declared.value.Value.{Value}
 use Rattle.lq_value.specs.declared.value.Value.TheVariants as value
 use Rattle.lq_model.specs.DefinitionLaws.{AreDefined}
-use Rattle.lq_model.specs.Meaning.{World, stream_of}
-use Rattle.lq_model.specs.MeaningLaws.{Every, HoldsRows, assuming}
+use Rattle.lq_model.specs.Worlds.{World}
+use Rattle.lq_model.specs.OperandMeaning.{stream_of}
+use Rattle.lq_model.specs.ValuesOfTypes.{Every, HoldsRows, assuming}
 use Rattle.lq_model.specs.Operators.{pair}
-use Rattle.lq_model.specs.WholeMeaningLaws.{IsValueOf}
+use Rattle.lq_model.specs.MeaningLaws.{IsValueOf}
 use Rattle.lq_model.specs.declared.calls.Call.{Call}
 use Rattle.lq_model.specs.declared.calls.Term.{Term}
 use Rattle.lq_model.specs.declared.session.Definition.{Definition}

@@ -6,12 +6,13 @@ use Rattle.lq_value.specs.declared.table.Schema.{Schema}
 use Rattle.lq_value.specs.declared.ty.Ty.{Ty, out-Ty}
 use Rattle.lq_value.specs.declared.ty.Ty.TheOpen.{Ty-F}
 use Rattle.lq_value.specs.declared.ty.Ty.TheVariants as ty
-use Rattle.lq_model.specs.MeaningLaws.{IsScalarOf}
+use Rattle.lq_model.specs.ValuesOfTypes.{IsScalarOf}
 use Rattle.lq_model.specs.Members.{search_named}
 use Rattle.lq_model.specs.Operators.{Pattern, One, With, pair_type}
 use Rattle.lq_model.specs.Types.{are_join_keys, element_type, is_key, is_sort_key}
-use Rattle.lq_model.specs.Typing.{coalesced, column_type, is_bool, is_number, is_text}
-use Rattle.lq_model.specs.WholeTyping.{given_type, simple_type, through_type, whole_chosen, whole_operated_type}
+use Rattle.lq_model.specs.Names.{column_type}
+use Rattle.lq_model.specs.OperandTypes.{coalesced, is_bool, is_number, is_text}
+use Rattle.lq_model.specs.Typing.{given_type, simple_type, through_type, whole_chosen, whole_operated_type}
 use Rattle.lq_model.specs.declared.methods.Given.{Given}
 use Rattle.lq_model.specs.declared.methods.Simple.{Simple}
 use Rattle.lq_model.specs.declared.methods.Through.{Through}

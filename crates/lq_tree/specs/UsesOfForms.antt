@@ -1,7 +1,7 @@
 -- «Uses» of the forms of a typed tree: the tables and columns in it, in the order of the text that it comes from. A group's elements stand
 -- in that text before its key.
 use Rattle.std.specs.Prelude.{◌≡◌, ◌∷◌, ◌++◌, List, [], ℕ, flat_map}
-use Rattle.lq_model.specs.MeaningLaws.{Every}
+use Rattle.lq_model.specs.ValuesOfTypes.{Every}
 use Rattle.lq_model.specs.declared.rights.Use.{Use}
 use Rattle.lq_model.specs.declared.rights.Use.TheVariants as of
 use Rattle.lq_tree.specs.Places.{Places}

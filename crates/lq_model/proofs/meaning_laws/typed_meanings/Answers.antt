@@ -1,11 +1,8 @@
-use Rattle.lq_model.proofs.MeaningLemmas.{has_meaning, has_stream, selects_scalars}
+use Rattle.lq_model.proofs.TypedMeanings.{has_whole_meaning, has_whole_stream}
 use Rattle.lq_model.proofs.meaning_laws.typed_meanings.Goals as goal
 
 pub returns-clause-expression : goal.returns-clause-expression
-returns-clause-expression c = has_meaning
+returns-clause-expression c start = has_whole_meaning
 
 pub returns-clause-query : goal.returns-clause-query
-returns-clause-query c = has_stream
-
-pub returns-clause-items : goal.returns-clause-items
-returns-clause-items c = selects_scalars
+returns-clause-query c start = has_whole_stream
