@@ -2,8 +2,8 @@
 use Rattle.std.proofs.Common.{◌≡◌, ◌∷◌, ◌||◌, if◌then◌else◌, not, List, [], map, ℕ, Bool, true, false, Option, Some, None, ap, ◌∙◌, refl, sym, Bor, option_map, is_some}
 use Rattle.std.specs.Str.{bytes_eq}
 use Rattle.lq_value.specs.declared.ty.Ty.{Ty}
-use Rattle.lq_model.specs.Operators.{Pattern, One, With}
-use Rattle.lq_model.specs.Names.{local_type}
+use Rattle.lq_language.specs.Operators.{Pattern, One, With}
+use Rattle.lq_language.specs.Names.{local_type}
 use Rattle.lq_tree.specs.Places.{Place, Places, place_of, places_of, with_item, with_name}
 use Rattle.lq_tree.specs.SessionPlaces.{places_outside}
 use Rattle.lq_tree.specs.declared.tree.Form.{Form}

@@ -1,6 +1,6 @@
 -- Methods by their names, in lists.
 use Rattle.std.proofs.Common.{◌≡◌, List, ℕ, refl}
-use Rattle.lq_model.specs.EnumerableCalls.{by_name, method_with_lambda, method_with_value, simple_method}
+use Rattle.lq_language.specs.EnumerableCalls.{by_name, method_with_lambda, method_with_value, simple_method}
 use Rattle.lq_bind.specs.MethodNames.{names_with_lambdas, names_with_values, simple_names}
 
 pub simple_is : (m : List ℕ) → simple_method m ≡ by_name m simple_names

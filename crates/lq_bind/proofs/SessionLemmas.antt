@@ -2,9 +2,9 @@
 use Rattle.std.proofs.Common.{◌≡◌, List, ℕ, take, slice_get, Option, Some, None, ap, ◌∙◌, refl, sym, option_and_then, option_map}
 use Rattle.lq_value.specs.Tables.{first_named}
 use Rattle.lq_value.specs.declared.table.Schema.{Schema}
-use Rattle.lq_model.specs.declared.session.Defined.{Defined}
-use Rattle.lq_model.specs.declared.session.Defined.TheVariants as of
-use Rattle.lq_model.specs.declared.session.Definition.{Definition}
+use Rattle.lq_machine.specs.declared.session.Defined.{Defined}
+use Rattle.lq_machine.specs.declared.session.Defined.TheVariants as of
+use Rattle.lq_machine.specs.declared.session.Definition.{Definition}
 use Rattle.lq_tree.specs.Binding.{tree_of}
 use Rattle.lq_tree.specs.Places.{SessionPlace}
 use Rattle.lq_tree.specs.SessionPlaces.{placed_as, session_places}

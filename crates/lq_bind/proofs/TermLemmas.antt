@@ -6,15 +6,15 @@ use Rattle.std.specs.Str.{bytes_eq}
 use Rattle.lq_value.specs.Tables.{Table, first_named}
 use Rattle.lq_value.specs.declared.table.Schema.{Schema}
 use Rattle.lq_value.specs.declared.ty.Ty.{Ty}
-use Rattle.lq_model.specs.States.{schemas_of}
-use Rattle.lq_model.specs.Names.{table_number}
-use Rattle.lq_model.specs.Operators.{Pattern}
-use Rattle.lq_model.specs.declared.calls.Call.{Call}
-use Rattle.lq_model.specs.declared.calls.Paired.{Paired}
-use Rattle.lq_model.specs.declared.calls.Term.{Term}
-use Rattle.lq_model.specs.declared.calls.Term.TheVariants as term
-use Rattle.lq_model.specs.declared.syntax.Join.{Join}
-use Rattle.lq_model.specs.declared.syntax.Node.{Node}
+use Rattle.lq_machine.specs.States.{schemas_of}
+use Rattle.lq_language.specs.Names.{table_number}
+use Rattle.lq_language.specs.Operators.{Pattern}
+use Rattle.lq_language.specs.declared.calls.Call.{Call}
+use Rattle.lq_language.specs.declared.calls.Paired.{Paired}
+use Rattle.lq_language.specs.declared.calls.Term.{Term}
+use Rattle.lq_language.specs.declared.calls.Term.TheVariants as term
+use Rattle.lq_grammar.specs.declared.syntax.Join.{Join}
+use Rattle.lq_grammar.specs.declared.syntax.Node.{Node}
 use Rattle.lq_store.specs.Rules.{name_of}
 use Rattle.lq_tree.specs.Binding.{Binds, Stage, call_items_tree, call_tree, global_tree, if_fresh, join_keys, join_stage, joined_stage, matched_type, name_tree, node_tree, query_tree, source_tree}
 use Rattle.lq_tree.specs.Places.{Place, Places, with_item}

@@ -3,10 +3,10 @@
 use Rattle.std.proofs.Common.{◌≡◌, ◌≤◌, ◌<◌, ◌∷◌, ◌+◌, ◌*◌, List, [], ℕ, zero, suc, take, slice_get, Option, Some, None, arith, option_and_then, option_map, ap, refl, sym}
 use Rattle.std.proofs.lemmas.Option.{none-some, same_Some, some_pair_parts}
 use Rattle.lq_value.specs.Tables.{first_named}
-use Rattle.lq_model.proofs.calls.Term.TheLaws.{the_size}
-use Rattle.lq_model.specs.declared.session.Defined.{Defined}
-use Rattle.lq_model.specs.declared.session.Defined.TheVariants as of
-use Rattle.lq_model.specs.declared.session.Definition.{Definition}
+use Rattle.lq_language.proofs.calls.Term.TheLaws.{the_size}
+use Rattle.lq_machine.specs.declared.session.Defined.{Defined}
+use Rattle.lq_machine.specs.declared.session.Defined.TheVariants as of
+use Rattle.lq_machine.specs.declared.session.Definition.{Definition}
 use Rattle.lq_translate.specs.Translated.{translated}
 use Rattle.lq_bind.specs.Bound.{defined_before}
 

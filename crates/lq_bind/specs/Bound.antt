@@ -5,15 +5,15 @@ use Rattle.lq_value.specs.declared.scalar.Scalar.{Scalar}
 use Rattle.lq_value.specs.declared.table.Schema.{Schema}
 use Rattle.lq_value.specs.declared.ty.Ty.{Ty}
 use Rattle.lq_value.specs.declared.ty.Ty.TheVariants as ty
-use Rattle.lq_model.specs.States.{schemas_of}
-use Rattle.lq_model.specs.Operators.{Pattern}
-use Rattle.lq_model.specs.Types.{when}
-use Rattle.lq_model.specs.declared.calls.Term.{Term}
-use Rattle.lq_model.specs.declared.session.Defined.{Defined}
-use Rattle.lq_model.specs.declared.session.Defined.TheVariants as of
-use Rattle.lq_model.specs.declared.session.Definition.{Definition}
-use Rattle.lq_model.specs.declared.syntax.Expr.{Expr}
-use Rattle.lq_model.specs.declared.syntax.Join.{Join}
+use Rattle.lq_machine.specs.States.{schemas_of}
+use Rattle.lq_language.specs.Operators.{Pattern}
+use Rattle.lq_language.specs.Types.{when}
+use Rattle.lq_language.specs.declared.calls.Term.{Term}
+use Rattle.lq_machine.specs.declared.session.Defined.{Defined}
+use Rattle.lq_machine.specs.declared.session.Defined.TheVariants as of
+use Rattle.lq_machine.specs.declared.session.Definition.{Definition}
+use Rattle.lq_grammar.specs.declared.syntax.Expr.{Expr}
+use Rattle.lq_grammar.specs.declared.syntax.Join.{Join}
 use Rattle.lq_translate.specs.Translated.{translated}
 use Rattle.lq_tree.specs.Binding.{Binds, if_fresh, join_keys, source_tree, term_tree, tree_of}
 use Rattle.lq_tree.specs.Places.{Places, SessionPlace, session_place, with_item}

@@ -1,8 +1,8 @@
 -- The places that a frame stands for, and what the variables of an item stand for.
 use Rattle.std.specs.Prelude.{◌||◌, [], List, ℕ, Bool, Option, option_map}
 use Rattle.std.specs.Str.{bytes_eq}
-use Rattle.lq_model.specs.Operators.{Pattern, One, With}
-use Rattle.lq_model.specs.Types.{is_fresh}
+use Rattle.lq_language.specs.Operators.{Pattern, One, With}
+use Rattle.lq_language.specs.Types.{is_fresh}
 use Rattle.lq_tree.specs.Binding.{Stage, stage_of, tree_of}
 use Rattle.lq_tree.specs.Places.{Place, Places, SessionPlace, names_of_places, with_item, with_name}
 use Rattle.lq_tree.specs.SessionPlaces.{places_outside}

@@ -1,11 +1,11 @@
 -- The names of methods of sequences, in lists (.NET, Enumerable).
 use Rattle.std.specs.Prelude.{◌∷◌, List, [], ℕ, codes}
-use Rattle.lq_model.specs.declared.methods.Given.{Given}
-use Rattle.lq_model.specs.declared.methods.Given.TheVariants as given
-use Rattle.lq_model.specs.declared.methods.Simple.{Simple}
-use Rattle.lq_model.specs.declared.methods.Simple.TheVariants as simple
-use Rattle.lq_model.specs.declared.methods.Through.{Through}
-use Rattle.lq_model.specs.declared.methods.Through.TheVariants as through
+use Rattle.lq_language.specs.declared.methods.Given.{Given}
+use Rattle.lq_language.specs.declared.methods.Given.TheVariants as given
+use Rattle.lq_language.specs.declared.methods.Simple.{Simple}
+use Rattle.lq_language.specs.declared.methods.Simple.TheVariants as simple
+use Rattle.lq_language.specs.declared.methods.Through.{Through}
+use Rattle.lq_language.specs.declared.methods.Through.TheVariants as through
 
 abbrev pub simple_names : List (List ℕ × Simple)
 simple_names =

@@ -1,6 +1,6 @@
 -- What binding answers: a tree; or that there is none, as the expression has no type or the statement is past its limits.
 use Rattle.std.specs.Prelude.{◌≡◌, ◌||◌, ℕ, true, false, Bool, Option, Some, None, Result, Ok, Err, nat_lt}
-use Rattle.lq_model.specs.Opening.{rank_limit, size_limit}
+use Rattle.lq_machine.specs.Opening.{rank_limit, size_limit}
 use Rattle.lq_tree.specs.declared.tree.Tree.{Tree}
 use Rattle.lq_bind.specs.declared.error.BindError.{BindError}
 use Rattle.lq_bind.specs.declared.error.BindError.TheVariants as error

@@ -1,7 +1,9 @@
 //! The binding of terms (ECMA-334, expressions).
 use crate::frames::Frame;
 use crate::{members, names, operations};
-use lq_model::{Argument, Binary, Definition, Node, Term, Unary};
+use lq_grammar::{Argument, Binary, Node, Unary};
+use lq_language::Term;
+use lq_machine::Definition;
 use lq_store::Store;
 use lq_tree::Tree;
 use lq_value::List;
@@ -19,7 +21,7 @@ pub(crate) struct Binder<'a> {
 
 impl Binder<'_> {
     ghost use Rattle.std.specs.Prelude.{◌≡◌, IfOk, option_and_then};
-    ghost use Rattle.lq_model.specs.States.{schemas_of};
+    ghost use Rattle.lq_machine.specs.States.{schemas_of};
     ghost use Rattle.lq_tree.specs.Binding.{and_tree, binary_tree, coalesce_tree, conditional_tree, member_tree, node_tree, of_three_trees, of_two_trees};
     ghost use Rattle.lq_tree.specs.Binding.{method_tree, or_tree, unary_tree};
     ghost use Rattle.lq_bind.specs.Bound.{places_at, trees_in};

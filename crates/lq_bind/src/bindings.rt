@@ -1,6 +1,6 @@
 //! The binding of whole expressions, queries and conditions.
 ghost use Rattle.std.specs.Prelude.{◌≡◌, false};
-ghost use Rattle.lq_model.specs.States.{schemas_of};
+ghost use Rattle.lq_machine.specs.States.{schemas_of};
 ghost use Rattle.lq_value.specs.declared.ty.Ty.TheVariants as ty;
 ghost use Rattle.lq_tree.specs.Binding.{call_tree, term_tree};
 ghost use Rattle.lq_tree.specs.Places.{with_name};
@@ -10,7 +10,8 @@ ghost use Rattle.lq_bind.specs.Outcomes.{IsBound, is_past};
 use crate::binder::Binder;
 use crate::error::BindError;
 use crate::frames::Frame;
-use lq_model::{Call, Definition, Term};
+use lq_language::{Call, Term};
+use lq_machine::Definition;
 use lq_store::Store;
 use lq_tree::Tree;
 use lq_value::{Txt, Ty};

@@ -1,10 +1,10 @@
 //! The trees of records (ECMA-334, anonymous object creation expressions).
 ghost use Rattle.std.specs.Prelude.{◌≡◌, IfOk, map};
-ghost use Rattle.lq_model.specs.Typing.{are_distinct, is_new};
+ghost use Rattle.lq_language.specs.Typing.{are_distinct, is_new};
 ghost use Rattle.lq_tree.specs.Binding.{fields_tree, form_of_field, type_of_field};
 
 use crate::operations::into_form;
-use lq_model::Field;
+use lq_grammar::Field;
 use lq_tree::{Form, Tree};
 use lq_typing::copy_ty;
 use lq_value::{Held, List, Txt, Ty};

@@ -7,7 +7,8 @@ ghost use Rattle.lq_bind.specs.Bound.{defined_before};
 use crate::binder::Binder;
 use crate::frames::Frame;
 use crate::names;
-use lq_model::{Defined, Definition, Expr};
+use lq_grammar::Expr;
+use lq_machine::{Defined, Definition};
 use lq_translate::translate_expression;
 use lq_tree::Tree;
 use std::alloc::AllocError;
@@ -43,8 +44,8 @@ fn definition_of<'a>(
 
 impl Binder<'_> {
     ghost use Rattle.std.specs.Prelude.{◌≡◌, IfOk};
-    ghost use Rattle.lq_model.specs.States.{schemas_of};
-    ghost use Rattle.lq_model.specs.Names.{table_number};
+    ghost use Rattle.lq_machine.specs.States.{schemas_of};
+    ghost use Rattle.lq_language.specs.Names.{table_number};
     ghost use Rattle.lq_tree.specs.Binding.{global_tree, name_tree};
     ghost use Rattle.lq_tree.specs.Places.{place_of};
     ghost use Rattle.lq_bind.specs.Bound.{defined_tree, opened_tree, places_at, session_in, session_tree};

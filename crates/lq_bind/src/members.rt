@@ -5,13 +5,13 @@ ghost use Rattle.std.specs.List.{position_from};
 ghost use Rattle.std.specs.Str.{bytes_eq};
 ghost use Rattle.lq_value.specs.declared.ty.Ty.{out-Ty};
 ghost use Rattle.lq_value.specs.Tables.{first_named};
-ghost use Rattle.lq_model.specs.States.{schemas_of};
-ghost use Rattle.lq_model.specs.Names.{type_of_column};
+ghost use Rattle.lq_machine.specs.States.{schemas_of};
+ghost use Rattle.lq_language.specs.Names.{type_of_column};
 ghost use Rattle.lq_tree.specs.Binding.{column_tree, group_key_tree, member_layer, member_tree, nullable_tree, record_member_tree, text_tree, tree_of};
 ghost use Rattle.lq_tree.specs.declared.tree.Form.TheVariants as form;
 
 use crate::placed;
-use lq_model::Op;
+use lq_language::Op;
 use lq_store::Store;
 use lq_tree::{Form, Tree};
 use lq_typing::copy_ty;

@@ -1,10 +1,10 @@
 //! Methods by their names (.NET, `Enumerable` and `String`).
 ghost use Rattle.std.specs.Prelude.{◌≡◌};
-ghost use Rattle.lq_model.specs.EnumerableCalls.{by_name, method_with_lambda, method_with_value, simple_method};
-ghost use Rattle.lq_model.specs.Members.{search_named};
+ghost use Rattle.lq_language.specs.EnumerableCalls.{by_name, method_with_lambda, method_with_value, simple_method};
+ghost use Rattle.lq_language.specs.Members.{search_named};
 ghost use Rattle.lq_bind.specs.MethodNames.{names_with_lambdas, names_with_values, simple_names};
 
-use lq_model::{Given, Op, Simple, Through};
+use lq_language::{Given, Op, Simple, Through};
 
 /// The method of this name in the list of those without an argument.
 fn simple_by_name(name: &str) -> Option<Simple>

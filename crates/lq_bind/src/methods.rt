@@ -3,7 +3,8 @@ use crate::binder::Binder;
 use crate::frames::Frame;
 use crate::method_names::{method_with_lambda, method_with_value, search_named, simple_method};
 use crate::{operations, placed, sources};
-use lq_model::{Argument, Term};
+use lq_grammar::Argument;
+use lq_language::Term;
 use lq_tree::{Form, Tree};
 use lq_typing::is_text;
 use lq_value::{Held, Txt, Ty};
@@ -11,9 +12,9 @@ use std::alloc::AllocError;
 
 impl Binder<'_> {
     ghost use Rattle.std.specs.Prelude.{◌≡◌, IfOk, option_and_then, option_map};
-    ghost use Rattle.lq_model.specs.EnumerableCalls.{By, With, enumerable_call, method_with_lambda, method_with_value};
-    ghost use Rattle.lq_model.specs.States.{schemas_of};
-    ghost use Rattle.lq_model.specs.Members.{sole_argument};
+    ghost use Rattle.lq_language.specs.EnumerableCalls.{By, With, enumerable_call, method_with_lambda, method_with_value};
+    ghost use Rattle.lq_machine.specs.States.{schemas_of};
+    ghost use Rattle.lq_language.specs.Members.{sole_argument};
     ghost use Rattle.lq_tree.specs.Binding.{called_tree, enumerable_tree, lambda_tree, method_tree, search_tree};
     ghost use Rattle.lq_bind.specs.Bound.{places_at, trees_in};
 

@@ -2,8 +2,8 @@
 ghost use Rattle.std.specs.Prelude.{◌≡◌, IfOk, Some, option_map};
 ghost use Rattle.lq_value.specs.declared.scalar.Scalar.TheVariants as scalar;
 ghost use Rattle.lq_value.specs.declared.ty.Ty.TheVariants as ty;
-ghost use Rattle.lq_model.specs.States.{schemas_of};
-ghost use Rattle.lq_model.specs.Names.{table_number};
+ghost use Rattle.lq_machine.specs.States.{schemas_of};
+ghost use Rattle.lq_language.specs.Names.{table_number};
 ghost use Rattle.lq_tree.specs.SessionPlaces.{tree_or_null};
 ghost use Rattle.lq_bind.specs.Bound.{literal_tree, rows_tree};
 

@@ -1,16 +1,17 @@
 //! The trees of operators over the trees of their operands (ECMA-334, operators).
 ghost use Rattle.std.specs.Prelude.{◌≡◌, true, IfOk};
 ghost use Rattle.lq_value.specs.declared.ty.Ty.{out-Ty};
-ghost use Rattle.lq_model.specs.OperandMeaning.{told};
-ghost use Rattle.lq_model.specs.Operations.{operation_of};
-ghost use Rattle.lq_model.specs.declared.syntax.Unary.TheVariants as unary;
+ghost use Rattle.lq_language.specs.OperandMeaning.{told};
+ghost use Rattle.lq_language.specs.Operations.{operation_of};
+ghost use Rattle.lq_grammar.specs.declared.syntax.Unary.TheVariants as unary;
 ghost use Rattle.lq_tree.specs.Binding.{and_tree, binary_form, binary_tree, coalesce_tree, conditional_tree, equality_form, is_literal, is_object};
 ghost use Rattle.lq_tree.specs.Binding.{operation_at, or_tree, search_form, tested_first, tested_second, typed_tree, unary_tree};
-ghost use Rattle.lq_model.specs.Typing.{whole_chosen};
+ghost use Rattle.lq_language.specs.Typing.{whole_chosen};
 ghost use Rattle.lq_tree.specs.declared.tree.Form.{out-Form};
 ghost use Rattle.lq_tree.specs.declared.tree.Form.TheVariants as form;
 
-use lq_model::{Binary, Op, Unary};
+use lq_grammar::{Binary, Unary};
+use lq_language::Op;
 use lq_tree::{Form, Tree};
 use lq_typing::{chosen, coalesced, is_bool, is_equality, is_number, is_text, operated_type};
 use lq_value::{Held, Ty};

@@ -1,7 +1,7 @@
 //! The binding of calls that pair items: `SelectMany`, `Join` and `GroupJoin` (ECMA-334, from and join
 //! clauses).
 ghost use Rattle.std.specs.Prelude.{◌≡◌, IfOk, option_map};
-ghost use Rattle.lq_model.specs.ClauseTyping.{joined_name};
+ghost use Rattle.lq_language.specs.ClauseTyping.{joined_name};
 ghost use Rattle.lq_bind.specs.Bound.{joined_type};
 ghost use Rattle.lq_bind.specs.Frames.{places_in};
 
@@ -9,7 +9,8 @@ use crate::binder::Binder;
 use crate::frames::Frame;
 use crate::stage_forms::{self, Sides};
 use crate::variables::{Behind, Variables};
-use lq_model::{Join, Paired, Term};
+use lq_grammar::Join;
+use lq_language::{Paired, Term};
 use lq_tree::{Form, Tree};
 use lq_value::{Held, Txt, Ty};
 use std::alloc::{AllocError, Global};
@@ -83,9 +84,9 @@ fn joined_name(join: &Join<Term>) -> &Txt
 
 impl Binder<'_> {
     ghost use Rattle.std.specs.Prelude.{◌≡◌, IfOk, is_some, option_and_then, option_map};
-    ghost use Rattle.lq_model.specs.ClauseTyping.{joined_name};
-    ghost use Rattle.lq_model.specs.States.{schemas_of};
-    ghost use Rattle.lq_model.specs.Operators.{unnamed};
+    ghost use Rattle.lq_language.specs.ClauseTyping.{joined_name};
+    ghost use Rattle.lq_machine.specs.States.{schemas_of};
+    ghost use Rattle.lq_language.specs.Operators.{unnamed};
     ghost use Rattle.lq_tree.specs.Binding.{expanded_stage, if_fresh, join_keys, joined_stage, paired_stage, placed_tree, select_many_stage, source_tree, stage_of};
     ghost use Rattle.lq_tree.specs.Places.{with_item, with_name};
     ghost use Rattle.lq_tree.specs.declared.tree.Form.TheVariants as form;

@@ -3,14 +3,15 @@ use crate::binder::Binder;
 use crate::frames::Frame;
 use crate::variables::{Behind, Variables};
 use crate::{placed, stage_forms};
-use lq_model::{Call, Operator, Part, SortKey, Term};
+use lq_grammar::SortKey;
+use lq_language::{Call, Operator, Part, Term};
 use lq_tree::Tree;
 use lq_value::Txt;
 use std::alloc::AllocError;
 
 impl Binder<'_> {
     ghost use Rattle.std.specs.Prelude.{◌≡◌, IfOk, option_and_then, option_map};
-    ghost use Rattle.lq_model.specs.States.{schemas_of};
+    ghost use Rattle.lq_machine.specs.States.{schemas_of};
     ghost use Rattle.lq_tree.specs.Binding.{body_tree, call_items_tree, call_tree, grouped_stage, keyed_tree, let_stage, operator_stage, order_stage};
     ghost use Rattle.lq_tree.specs.Binding.{part_tree, placed_tree, element_tree, select_stage, source_tree, walked, where_stage};
     ghost use Rattle.lq_tree.specs.Places.{with_item};

@@ -3,14 +3,15 @@
 use crate::binder::Binder;
 use crate::frames::Frame;
 use crate::{fields, placed};
-use lq_model::{Field, SortKey, Term};
+use lq_grammar::{Field, SortKey};
+use lq_language::Term;
 use lq_tree::{Form, Tree};
 use lq_value::{List, Txt};
 use std::alloc::AllocError;
 
 impl Binder<'_> {
     ghost use Rattle.std.specs.Prelude.{◌≡◌, IfOk};
-    ghost use Rattle.lq_model.specs.States.{schemas_of};
+    ghost use Rattle.lq_machine.specs.States.{schemas_of};
     ghost use Rattle.lq_tree.specs.Binding.{field_tree, gathered, key_tree, record_tree};
     ghost use Rattle.lq_bind.specs.Bound.{places_at, trees_in};
 

@@ -1,11 +1,11 @@
 //! The trees of methods on what is enumerated (.NET, `Enumerable`).
 ghost use Rattle.std.specs.Prelude.{◌≡◌, IfOk, Some};
-ghost use Rattle.lq_model.specs.Typing.{given_type, simple_type, through_type};
+ghost use Rattle.lq_language.specs.Typing.{given_type, simple_type, through_type};
 ghost use Rattle.lq_tree.specs.Binding.{typed_tree};
 ghost use Rattle.lq_tree.specs.declared.tree.Form.TheVariants as form;
 
 use crate::operations::into_form;
-use lq_model::{Given, Simple, Through};
+use lq_language::{Given, Simple, Through};
 use lq_tree::{Form, Tree};
 use lq_typing::{given_type, simple_type, through_type};
 use lq_value::{Held, Ty};

@@ -1,11 +1,11 @@
 //! What stands behind a call, over the trees of what it takes (ECMA-334, query expression translation;
 //! .NET, `Enumerable`).
 ghost use Rattle.std.specs.Prelude.{◌≡◌, ◌+◌, IfOk, Some, option_map};
-ghost use Rattle.lq_model.specs.Operators.{One, With, pattern_type, unnamed};
-ghost use Rattle.lq_model.specs.declared.methods.Through.TheVariants as through;
+ghost use Rattle.lq_language.specs.Operators.{One, With, pattern_type, unnamed};
+ghost use Rattle.lq_language.specs.declared.methods.Through.TheVariants as through;
 ghost use Rattle.lq_value.specs.declared.ty.Ty.TheVariants as ty;
 ghost use Rattle.lq_tree.specs.Binding.{condition_tree, items_of_stage, placed_tree, stage_of, tree_of};
-ghost use Rattle.lq_model.specs.Types.{are_join_keys, is_within, when};
+ghost use Rattle.lq_language.specs.Types.{are_join_keys, is_within, when};
 ghost use Rattle.lq_tree.specs.declared.tree.Form.TheVariants as form;
 ghost use Rattle.lq_bind.specs.Frames.{found_stage, pattern_in, places_in, stage_in};
 
@@ -13,7 +13,8 @@ use crate::frames::Frame;
 use crate::operations::into_form;
 use crate::placed;
 use crate::variables::{Behind, Variables, unnamed};
-use lq_model::{SortKey, Through};
+use lq_grammar::SortKey;
+use lq_language::Through;
 use lq_tree::{Form, Joined, Tree};
 use lq_typing::{are_join_keys, element_type, is_within};
 use lq_value::{Held, List, Txt, Ty};

@@ -1,6 +1,6 @@
 //! The variables of an item: what it stands for between two calls (ECMA-334, transparent identifiers).
 ghost use Rattle.std.specs.Prelude.{◌≡◌, [], IfOk, option_map};
-ghost use Rattle.lq_model.specs.Operators.{One, With, pair_type, pattern_type, unnamed};
+ghost use Rattle.lq_language.specs.Operators.{One, With, pair_type, pattern_type, unnamed};
 ghost use Rattle.lq_tree.specs.Places.{place_of, places_of};
 ghost use Rattle.lq_bind.specs.Frames.{is_among, pattern_in, tree_at};
 

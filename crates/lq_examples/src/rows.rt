@@ -1,6 +1,7 @@
 //! Sessions over tables that are written out here.
 use lq_load::table_from_csv;
-use lq_model::{Policy, PolicyParts, RightRule, Role, TablePart, Use};
+use lq_language::{RightRule, Use};
+use lq_security::{Policy, PolicyParts, Role, TablePart};
 use lq_policy::{Action, Policies, rules_are_total};
 use lq_serve::{Device, serve};
 use lq_session::Session;

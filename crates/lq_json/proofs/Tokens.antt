@@ -13,7 +13,7 @@ use Rattle.serde_json.proofs.Texts.{print-outline}
 use Rattle.lq_value.specs.declared.value.End.TheVariants as end
 use Rattle.lq_value.specs.declared.value.Fault.{Fault}
 use Rattle.lq_value.specs.declared.value.Fault.TheVariants as fault
-use Rattle.lq_model.specs.Served.{line_of, stream_members}
+use Rattle.lq_machine.specs.Served.{line_of, stream_members}
 use Rattle.lq_json.specs.Items.{fault_front}
 use Rattle.lq_json.specs.Texts.{flat, front, tokens_of}
 

@@ -4,9 +4,9 @@ use Rattle.serde_json.specs.Data.{Data, object}
 use Rattle.lq_value.specs.declared.scalar.Scalar.{Scalar}
 use Rattle.lq_value.specs.declared.value.End.{End}
 use Rattle.lq_value.specs.declared.value.Value.{Value}
-use Rattle.lq_model.specs.States.{schemas_of}
-use Rattle.lq_model.specs.Served.{assigned_data, defined_data, deleted_data, denied_data, error_data, fault_data, inserted_data, nested_fault, role_data, stream_data, stream_members, unless_fault, value_data}
-use Rattle.lq_model.specs.Stream.{Stream, made}
+use Rattle.lq_machine.specs.States.{schemas_of}
+use Rattle.lq_machine.specs.Served.{assigned_data, defined_data, deleted_data, denied_data, error_data, fault_data, inserted_data, nested_fault, role_data, stream_data, stream_members, unless_fault, value_data}
+use Rattle.lq_language.specs.Stream.{Stream, made}
 use Rattle.lq_json.specs.Forms.{data_by}
 use Rattle.lq_json.specs.Items.{bytes_before, tokens_in}
 use Rattle.lq_json.specs.Texts.{flat}

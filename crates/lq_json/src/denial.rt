@@ -1,10 +1,10 @@
 //! The line of a denial: the rule that denies a use, and the use as it is named.
 ghost use Rattle.std.specs.Prelude.{◌≡◌, codes, slice_get, string_bytes, IfOk};
-ghost use Rattle.lq_model.specs.States.{schemas_of};
-ghost use Rattle.lq_model.specs.Served.{columns_in, denied_data, line_of, name_at, name_of_table, use_name};
+ghost use Rattle.lq_machine.specs.States.{schemas_of};
+ghost use Rattle.lq_machine.specs.Served.{columns_in, denied_data, line_of, name_at, name_of_table, use_name};
 
 use crate::line::Line;
-use lq_model::Use;
+use lq_language::Use;
 use lq_store::Store;
 use serde_json::Map;
 use std::alloc::{AllocError, Global};

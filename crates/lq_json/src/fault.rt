@@ -1,6 +1,6 @@
 //! Faults: their names, and those inside of values.
 ghost use Rattle.std.specs.Prelude.{◌≡◌, map};
-ghost use Rattle.lq_model.specs.Served.{fault_at, fault_name, first_member, first_of, nested_fault};
+ghost use Rattle.lq_machine.specs.Served.{fault_at, fault_name, first_member, first_of, nested_fault};
 
 use lq_value::{End, Fault, RowRef, Txt, Value};
 

@@ -5,7 +5,7 @@ ghost use Rattle.serde_json.specs.Data.{Data, boolean, null, number, object, str
 ghost use Rattle.serde_json.specs.Find.{of_integer};
 ghost use Rattle.serde_json.specs.Written.{compact_text};
 ghost use Rattle.lq_value.specs.declared.value.End.TheVariants as end;
-ghost use Rattle.lq_model.specs.Served.{line_of, stream_members};
+ghost use Rattle.lq_machine.specs.Served.{line_of, stream_members};
 ghost use Rattle.lq_json.specs.Forms.{data_by};
 ghost use Rattle.lq_json.specs.Items.{Holds, Pushes, fault_front};
 

@@ -1,6 +1,6 @@
 //! Reply lines.
 ghost use Rattle.std.specs.Prelude.{◌≡◌};
-ghost use Rattle.lq_model.specs.Machine.{memory_line};
+ghost use Rattle.lq_machine.specs.Machine.{memory_line};
 
 use std::marker::Model;
 

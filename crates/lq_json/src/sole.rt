@@ -4,7 +4,7 @@ ghost use Rattle.serde_json.specs.Data.{number, string};
 ghost use Rattle.serde_json.specs.Find.{of_integer};
 ghost use Rattle.serde_json.specs.Written.{has_float};
 ghost use Rattle.serde_json.specs.View.{view};
-ghost use Rattle.lq_model.specs.Served.{line_of, sole_member};
+ghost use Rattle.lq_machine.specs.Served.{line_of, sole_member};
 
 use crate::line::Line;
 use serde_json::{Map, Value};

@@ -2,7 +2,7 @@
 ghost use Rattle.std.specs.Prelude.{◌≡◌, ◌++◌, map, slice_get, OnOk};
 ghost use Rattle.serde_json.specs.Data.{array, object};
 ghost use Rattle.serde_json.specs.View.{items_of};
-ghost use Rattle.lq_model.specs.Served.{scalar_data};
+ghost use Rattle.lq_machine.specs.Served.{scalar_data};
 ghost use Rattle.lq_json.specs.Forms.{cell_data, cells_in, data_by, fields_by, member_data};
 ghost use Rattle.lq_json.specs.Texts.{tokens_of};
 

@@ -6,11 +6,11 @@ use Rattle.std.specs.List.{prefix_len}
 use Rattle.std.proofs.lemmas.List.Sums.{sum_by-append, sum_by-le}
 use Rattle.std.proofs.lemmas.List.{take-append-drop}
 use Rattle.std.proofs.lemmas.Str.{len_utf8_bounds}
-use Rattle.lq_model.proofs.Pieces.{piece_within, turn}
-use Rattle.lq_model.specs.Tokens.{piece, tokens_from, word, text}
-use Rattle.lq_model.specs.Words.{continues_name, kind_of_word}
-use Rattle.lq_model.specs.declared.token.Kind.{Kind}
-use Rattle.lq_model.specs.declared.token.Token.{Token}
+use Rattle.lq_grammar.proofs.Pieces.{piece_within, turn}
+use Rattle.lq_grammar.specs.Tokens.{piece, tokens_from, word, text}
+use Rattle.lq_grammar.specs.Words.{continues_name, kind_of_word}
+use Rattle.lq_grammar.specs.declared.token.Kind.{Kind}
+use Rattle.lq_grammar.specs.declared.token.Token.{Token}
 
 pub piece_fits : (text cs : List ℕ) (c more : ℕ) (kind : Option Kind) → piece c cs ≡ Some (kind, more) → text ≡ c ∷ cs → more + 1 ≤ length text
 piece_fits text cs c more kind found is = let within : more ≤ length cs = piece_within c cs (kind, more) found in omega (arith, ap length is)

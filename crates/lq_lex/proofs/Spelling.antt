@@ -5,7 +5,7 @@ use Rattle.std.specs.Option.{option_map_or}
 use Rattle.std.specs.Str.{encode_utf8_all}
 use Rattle.std.specs.Char.{encode_utf8}
 use Rattle.std.proofs.lemmas.List.{at_drop_more, at_drop_all}
-use Rattle.lq_model.specs.TextLiterals.{Place, Step, closes, step, step_inside, length_from, spelled_before, spelled_from}
+use Rattle.lq_grammar.specs.TextLiterals.{Place, Step, closes, step, step_inside, length_from, spelled_before, spelled_from}
 
 -- ---- one turn of the loop that counts
 

@@ -1,7 +1,7 @@
 -- A scan that tells whether a text has no token.
 use Rattle.std.specs.Prelude.{◌==◌, ◌∷◌, List, [], ℕ, Bool, true, false, if◌then◌else◌, Option, Some, None}
 use Rattle.std.specs.Option.{option_map_or}
-use Rattle.lq_model.specs.Tokens.{is_blank}
+use Rattle.lq_grammar.specs.Tokens.{is_blank}
 use Rattle.lq_lex.specs.declared.blank.Scan.{Scan}
 use Rattle.lq_lex.specs.declared.blank.Scan.TheVariants as scan
 

@@ -2,9 +2,9 @@
 use Rattle.std.specs.Prelude.{◌==◌, ◌&&◌, ◌∷◌, List, [], ℕ, Bool, true, false, not, if◌then◌else◌, map}
 use Rattle.std.specs.Str.{bytes_eq}
 use Rattle.std.specs.Borrow.{Bor}
-use Rattle.lq_model.specs.Tokens.{is_digit}
-use Rattle.lq_model.specs.Words.{starts_name, continues_name}
-use Rattle.lq_model.specs.declared.token.Kind.{Kind}
+use Rattle.lq_grammar.specs.Tokens.{is_digit}
+use Rattle.lq_grammar.specs.Words.{starts_name, continues_name}
+use Rattle.lq_grammar.specs.declared.token.Kind.{Kind}
 use Rattle.lq_lex.specs.declared.letters.Class.{Class}
 use Rattle.lq_lex.specs.declared.letters.Class.TheVariants as class
 

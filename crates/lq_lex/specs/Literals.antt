@@ -1,6 +1,6 @@
 -- The places of the reader of text literals, as the definition has them.
 use Rattle.std.specs.Prelude.{Option, ℕ}
-use Rattle.lq_model.specs.TextLiterals as literal
+use Rattle.lq_grammar.specs.TextLiterals as literal
 use Rattle.lq_lex.specs.declared.literals.Place.{Place}
 use Rattle.lq_lex.specs.declared.literals.Place.TheVariants as place
 

@@ -1,7 +1,7 @@
 -- What the results of the lexer say of the definitions.
 use Rattle.std.specs.Prelude.{◌≡◌, List, ℕ, true, false, Option, Some, None, Result, Ok, Err}
-use Rattle.lq_model.specs.Tokens.{is_too_long, tokens_in}
-use Rattle.lq_model.specs.declared.token.Token.{Token}
+use Rattle.lq_grammar.specs.Tokens.{is_too_long, tokens_in}
+use Rattle.lq_grammar.specs.declared.token.Token.{Token}
 use Rattle.lq_lex.specs.declared.error.LexError.{LexError}
 use Rattle.lq_lex.specs.declared.error.LexError.TheVariants as lex
 

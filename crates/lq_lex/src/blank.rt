@@ -1,7 +1,7 @@
 //! Lines without a token, which are recognized with no memory.
 ghost use Rattle.std.specs.Prelude.{◌≡◌, ◌↔◌, IsTrue, [], Some};
 ghost use Rattle.std.specs.Str.{chars};
-ghost use Rattle.lq_model.specs.Tokens.{tokens_of};
+ghost use Rattle.lq_grammar.specs.Tokens.{tokens_of};
 ghost use Rattle.lq_lex.specs.Blank as spec;
 
 use crate::letters;

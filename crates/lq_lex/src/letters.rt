@@ -1,8 +1,8 @@
 //! Classes of characters (ECMA-334, lexical structure).
 ghost use Rattle.std.specs.Prelude.{◌≡◌, ◌≤◌, length};
 ghost use Rattle.std.specs.List.{prefix_len};
-ghost use Rattle.lq_model.specs.Tokens as token;
-ghost use Rattle.lq_model.specs.Words as name;
+ghost use Rattle.lq_grammar.specs.Tokens as token;
+ghost use Rattle.lq_grammar.specs.Words as name;
 ghost use Rattle.lq_lex.specs.Letters as spec;
 
 /// A class of characters.
@@ -31,7 +31,7 @@ pub fn is_digit(c: char) -> bool
 }
 
 /// Whether a name may start with `c`.
-#[tactic(auto, unfolding(lq_model::specs::Words::starts_name))]
+#[tactic(auto, unfolding(lq_grammar::specs::Words::starts_name))]
 pub fn starts_name(c: char) -> bool
     ensures { result ≡ name.starts_name c }
 {
@@ -39,7 +39,7 @@ pub fn starts_name(c: char) -> bool
 }
 
 /// Whether a name may go on with `c`.
-#[tactic(auto, unfolding(lq_model::specs::Words::continues_name))]
+#[tactic(auto, unfolding(lq_grammar::specs::Words::continues_name))]
 pub fn continues_name(c: char) -> bool
     ensures { result ≡ name.continues_name c }
 {

@@ -1,15 +1,15 @@
 //! Cuts a text into tokens.
 ghost use Rattle.std.specs.Prelude.{◌≡◌, ◌≤◌, ◌∷◌, length, sum_by};
 ghost use Rattle.std.specs.Char.{len_utf8};
-ghost use Rattle.lq_model.specs.Script.{line_limit};
-ghost use Rattle.lq_model.specs.Tokens as token;
-ghost use Rattle.lq_model.specs.Tokens.{tokens_in, tokens_from};
+ghost use Rattle.lq_grammar.specs.Script.{line_limit};
+ghost use Rattle.lq_grammar.specs.Tokens as token;
+ghost use Rattle.lq_grammar.specs.Tokens.{tokens_in, tokens_from};
 ghost use Rattle.lq_lex.specs.Outcome.{Cuts, CutsLine};
 
 use crate::error::LexError;
 use crate::letters::Class;
 use crate::{letters, literals, signs, words};
-use lq_model::{Kind, Token};
+use lq_grammar::{Kind, Token};
 use std::alloc::Global;
 
 /// The most bytes of a line, its line feed not counted, and of a rule.
@@ -70,7 +70,7 @@ fn text_literal(behind: &[char]) -> Option<Piece>
 
 /// The longest piece at the head of `text`, which is `first` before `behind`; `None` where nothing
 /// begins so.
-#[tactic(auto, unfolding(lq_model::specs::Tokens::piece))]
+#[tactic(auto, unfolding(lq_grammar::specs::Tokens::piece))]
 fn piece(text: &[char], first: char, behind: &[char]) -> Option<Piece>
     requires { text.now ≡ first ∷ behind.now }
     ensures { result ≡ token.piece first behind.now }
@@ -122,7 +122,7 @@ fn cut(alloc: Global, characters: &[char]) -> Result<Vec<Token>, LexError>
 }
 
 /// The tokens of a text that is within its limit.
-#[tactic(auto, using(std::proofs::lemmas::Str::chars_from_encodes), unfolding(lq_model::specs::Tokens::tokens_in))]
+#[tactic(auto, using(std::proofs::lemmas::Str::chars_from_encodes), unfolding(lq_grammar::specs::Tokens::tokens_in))]
 fn tokens_within(alloc: Global, line: &str) -> Result<Vec<Token>, LexError>
     requires { length line.now ≤ line_limit }
     ensures { Cuts (λ v. v.items) (tokens_in line.now) result }
@@ -136,7 +136,7 @@ fn tokens_within(alloc: Global, line: &str) -> Result<Vec<Token>, LexError>
 /// A text over 65,536 bytes is refused as `TooLong`, whatever stands in it, and one within that limit
 /// as `Lexical` where something in it begins no token. `Memory` says nothing of the text but that it
 /// is within the limit.
-#[tactic(auto, unfolding(lq_model::specs::Tokens::is_too_long))]
+#[tactic(auto, unfolding(lq_grammar::specs::Tokens::is_too_long))]
 pub fn tokens(alloc: Global, line: &str) -> Result<Vec<Token>, LexError>
     ensures { CutsLine (λ v. v.items) line.now result }
 {

@@ -1,8 +1,8 @@
 //! Literals: how far they go, and their values.
 ghost use Rattle.std.specs.Prelude.{◌≡◌, ◌≤◌, ◌+◌, ◌*◌, pos, nat_le, nat_lt, if◌then◌else◌, option_map, option_and_then, IfOk};
-ghost use Rattle.lq_model.specs.TextLiterals as literal;
-ghost use Rattle.lq_model.specs.TextLiterals.{text_value};
-ghost use Rattle.lq_model.specs.Tokens.{decimal_value};
+ghost use Rattle.lq_grammar.specs.TextLiterals as literal;
+ghost use Rattle.lq_grammar.specs.TextLiterals.{text_value};
+ghost use Rattle.lq_grammar.specs.Tokens.{decimal_value};
 ghost use Rattle.lq_lex.specs.Literals as spec;
 
 use lq_value::Txt;

@@ -1,9 +1,9 @@
 //! Signs, the longest first.
 ghost use Rattle.std.specs.Prelude.{◌≡◌};
-ghost use Rattle.lq_model.specs.Tokens as token;
+ghost use Rattle.lq_grammar.specs.Tokens as token;
 
 use crate::lexer::Piece;
-use lq_model::Kind;
+use lq_grammar::Kind;
 
 /// The sign of `first` alone, which no longer sign begins with.
 fn short_sign(first: char) -> Option<Piece>

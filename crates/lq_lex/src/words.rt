@@ -1,12 +1,12 @@
 //! Names and the reserved words, which are no names.
 ghost use Rattle.std.specs.Prelude.{◌≡◌, if◌then◌else◌, true};
 ghost use Rattle.std.specs.Str.{bytes_eq, chars};
-ghost use Rattle.lq_model.specs.Tokens as token;
-ghost use Rattle.lq_model.specs.Words.{continues_name, kind_among, kind_of_word, starts_name};
+ghost use Rattle.lq_grammar.specs.Tokens as token;
+ghost use Rattle.lq_grammar.specs.Words.{continues_name, kind_among, kind_of_word, starts_name};
 ghost use Rattle.lq_lex.specs.Letters as spec;
 
 use crate::letters;
-use lq_model::Kind;
+use lq_grammar::Kind;
 
 /// The reserved words, which are no names.
 const RESERVED: [(&[u8], Kind); 26] = [

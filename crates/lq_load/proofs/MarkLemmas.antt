@@ -6,7 +6,7 @@ use Rattle.std.specs.Str.{IsUtf8}
 use Rattle.std.proofs.lemmas.Bool.{and_parts, eqb-true}
 use Rattle.std.proofs.lemmas.Str.{IsUtf8-append, IsUtf8-encode, IsUtf8-past_char}
 use Rattle.csv.specs.Reading.{is_bom, strip_bom}
-use Rattle.lq_model.specs.Script.{without_marks}
+use Rattle.lq_grammar.specs.Script.{without_marks}
 
 -- the bytes of a byte order mark
 abbrev mark : List ℕ

@@ -4,7 +4,7 @@ use Rattle.std.specs.Prelude.{IsUtf8, chars}
 use Rattle.std.specs.Str.{is_utf8}
 use Rattle.std.proofs.lemmas.Bool.{and_parts}
 use Rattle.std.proofs.lemmas.Str.{IsUtf8-from_is_utf8, is_utf8-from_IsUtf8}
-use Rattle.lq_model.specs.Tokens.{is_name, spells_name}
+use Rattle.lq_grammar.specs.Tokens.{is_name, spells_name}
 
 -- names are text
 pub is_name-text : (text : List ℕ) → is_name text ≡ true → IsUtf8 text

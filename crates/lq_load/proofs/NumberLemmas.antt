@@ -3,7 +3,7 @@ use Rattle.std.proofs.Common.{drop-cons, ◌≡◌, ◌<◌, ◌+◌, ◌*◌, �
 use Rattle.std.specs.Prelude.{nat_le}
 use Rattle.std.specs.List.{fold, list_all}
 use Rattle.std.proofs.lemmas.Bool.Decides.{nat_tests}
-use Rattle.lq_model.specs.Tokens.{is_digit}
+use Rattle.lq_grammar.specs.Tokens.{is_digit}
 use Rattle.lq_load.specs.Cells.{bounded, natural_of}
 
 -- a value above the limit stays above it

@@ -11,7 +11,7 @@ use Rattle.lq_value.specs.declared.scalar.Scalar.{Scalar}
 use Rattle.lq_store.specs.Calls.{unless_memory, with_row}
 use Rattle.lq_store.specs.declared.error.StoreError.{StoreError}
 use Rattle.lq_store.specs.declared.error.StoreError.TheVariants as store
-use Rattle.lq_model.specs.Script.{without_marks}
+use Rattle.lq_grammar.specs.Script.{without_marks}
 use Rattle.lq_load.specs.TableFile.{UnlessMemory, and_then, cells_from, table_limit, table_of, table_of_records, with_record}
 use Rattle.lq_load.specs.declared.load_error.LoadError.{LoadError}
 use Rattle.lq_load.specs.declared.load_error.LoadError.TheVariants.{Memory, Csv, Header, DuplicateName, Cell, TooLarge}

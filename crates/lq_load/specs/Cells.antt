@@ -8,7 +8,7 @@ use Rattle.lq_value.specs.declared.table.ColumnType.TheVariants as ty
 use Rattle.lq_value.specs.declared.scalar.Scalar.{Scalar}
 use Rattle.lq_value.specs.declared.scalar.Scalar.TheVariants as scalar
 use Rattle.lq_store.specs.Rules.{is_in_range}
-use Rattle.lq_model.specs.Tokens.{decimal_value, is_digit}
+use Rattle.lq_grammar.specs.Tokens.{decimal_value, is_digit}
 
 -- the number that one or more digits spell
 abbrev pub natural_of : List ℕ → Option ℕ

@@ -5,7 +5,7 @@ use Rattle.std.specs.Str.{bytes_eq}
 use Rattle.lq_value.specs.declared.table.Column.{Column}
 use Rattle.lq_value.specs.declared.table.ColumnType.{ColumnType}
 use Rattle.lq_value.specs.declared.table.ColumnType.TheVariants as ty
-use Rattle.lq_model.specs.Tokens.{is_name}
+use Rattle.lq_grammar.specs.Tokens.{is_name}
 use Rattle.lq_load.specs.Cells.{int_of}
 use Rattle.lq_load.specs.declared.load_error.LoadError.{LoadError}
 use Rattle.lq_load.specs.declared.load_error.LoadError.TheVariants.{Header, DuplicateName}

@@ -5,7 +5,7 @@ use Rattle.lq_value.specs.Tables.{Table}
 use Rattle.lq_value.specs.declared.table.Column.{Column}
 use Rattle.lq_value.specs.declared.scalar.Scalar.{Scalar}
 use Rattle.lq_store.specs.Calls.{with_row}
-use Rattle.lq_model.specs.Script.{without_marks}
+use Rattle.lq_grammar.specs.Script.{without_marks}
 use Rattle.lq_load.specs.Cells.{cell_of}
 use Rattle.lq_load.specs.Headers.{columns_from}
 use Rattle.lq_load.specs.declared.load_error.LoadError.{LoadError}

@@ -6,8 +6,8 @@ use Rattle.lq_value.specs.Tables.{Table}
 use Rattle.lq_value.specs.declared.scalar.Scalar.{Scalar}
 use Rattle.lq_value.specs.declared.table.Column.{Column}
 use Rattle.lq_value.specs.declared.table.Row.{Row}
-use Rattle.lq_model.specs.ValuesOfTypes.{Every}
-use Rattle.lq_model.specs.Script.{without_marks}
+use Rattle.lq_language.specs.ValuesOfTypes.{Every}
+use Rattle.lq_grammar.specs.Script.{without_marks}
 use Rattle.lq_load.specs.Cells.{cell_of}
 use Rattle.lq_load.specs.Headers.{column_of}
 use Rattle.lq_load.specs.TableFile.{column_limit, table_limit, table_of}

@@ -3,7 +3,7 @@ ghost use Rattle.std.specs.Prelude.{◌≡◌, ◌==◌, ◌+◌, [], if◌then�
 ghost use Rattle.std.specs.List.{position};
 ghost use Rattle.std.specs.Option.{ok_or};
 ghost use Rattle.csv.specs.Records.{fields_of};
-ghost use Rattle.lq_model.specs.Tokens.{is_name};
+ghost use Rattle.lq_grammar.specs.Tokens.{is_name};
 ghost use Rattle.lq_load.specs.Headers.{column_of, columns_from, has_name};
 ghost use Rattle.lq_load.specs.TableFile.{LoadsAs};
 ghost use Rattle.lq_load.specs.declared.load_error.LoadError.TheVariants.{Header};

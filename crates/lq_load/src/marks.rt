@@ -1,7 +1,7 @@
 //! Byte order marks.
 ghost use Rattle.std.specs.Prelude.{◌≡◌, ◌≤◌, ◌↔◌, length};
 ghost use Rattle.std.specs.Str.{IsUtf8};
-ghost use Rattle.lq_model.specs.Script.{without_marks};
+ghost use Rattle.lq_grammar.specs.Script.{without_marks};
 
 // A byte order mark, in UTF-8.
 const MARK: [u8; 3] = [0xef, 0xbb, 0xbf];

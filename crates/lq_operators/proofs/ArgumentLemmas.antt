@@ -8,14 +8,14 @@ use Rattle.lq_value.specs.declared.value.Fault.{Fault}
 use Rattle.lq_value.specs.declared.value.Fault.TheVariants as fault
 use Rattle.lq_value.specs.declared.value.Value.{Value, out-Value}
 use Rattle.lq_value.specs.declared.value.Value.TheOpen.{Value-F}
-use Rattle.lq_model.specs.Enumerable.{as_count, concat, element_at, except, intersect, skip, take_first, union}
-use Rattle.lq_model.specs.declared.methods.Given.{Given}
-use Rattle.lq_model.specs.declared.methods.Given.TheVariants as of
-use Rattle.lq_model.specs.Worlds.{World}
-use Rattle.lq_model.specs.OperandMeaning.{items_of, on_scalar, scalar_of, stream_of}
-use Rattle.lq_model.specs.Operations.{on_ok}
-use Rattle.lq_model.specs.Stream.{Stream}
-use Rattle.lq_model.specs.Meaning.{as_sequence, given_meaning, number_of}
+use Rattle.lq_language.specs.Enumerable.{as_count, concat, element_at, except, intersect, skip, take_first, union}
+use Rattle.lq_language.specs.declared.methods.Given.{Given}
+use Rattle.lq_language.specs.declared.methods.Given.TheVariants as of
+use Rattle.lq_language.specs.Worlds.{World}
+use Rattle.lq_language.specs.OperandMeaning.{items_of, on_scalar, scalar_of, stream_of}
+use Rattle.lq_language.specs.Operations.{on_ok}
+use Rattle.lq_language.specs.Stream.{Stream}
+use Rattle.lq_language.specs.Meaning.{as_sequence, given_meaning, number_of}
 use Rattle.lq_operators.specs.Arguments.{nowhere}
 
 module _ {R : Type 0} (world : World R) (null : world.unknown ≡ fault.NullReference) where

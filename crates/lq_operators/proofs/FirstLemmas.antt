@@ -3,7 +3,7 @@ use Rattle.std.proofs.Common.{◌≡◌, ◌∷◌, ◌++◌, ◌+◌, ◌<◌, 
 use Rattle.std.specs.List.{list_any}
 use Rattle.std.proofs.lemmas.List.{at_drop_more, drop_all, take_more}
 use Rattle.std.proofs.lemmas.List.Folds.{list_any-append}
-use Rattle.lq_model.specs.Stream.{first_keys}
+use Rattle.lq_language.specs.Stream.{first_keys}
 use Rattle.lq_operators.specs.Places.{firsts_from, new_from, sifted}
 
 module _ {A : Type 0} (same : A → A → Bool) where

@@ -4,7 +4,7 @@ use Rattle.lq_value.specs.declared.value.End.{End}
 use Rattle.lq_value.specs.declared.value.End.TheVariants as end
 use Rattle.lq_value.specs.declared.value.Fault.{Fault}
 use Rattle.lq_value.specs.declared.value.Fault.TheVariants as fault
-use Rattle.lq_model.specs.Enumerable.{first, in_front, item_behind, last_of, single, last, take_first}
+use Rattle.lq_language.specs.Enumerable.{first, in_front, item_behind, last_of, single, last, take_first}
 
 module _ {A : Type 0} where
   pub last_pushed : (none : Result A Fault) (xs : List A) (x : A) → last_of none (xs ++ x ∷ []) ≡ Ok x

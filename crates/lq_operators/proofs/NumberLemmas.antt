@@ -9,13 +9,13 @@ use Rattle.lq_value.specs.declared.value.End.{End}
 use Rattle.lq_value.specs.declared.value.Fault.{Fault}
 use Rattle.lq_value.specs.declared.value.Fault.TheVariants as fault
 use Rattle.lq_value.specs.declared.value.Value.{Value, out-Value}
-use Rattle.lq_model.specs.Enumerable.{at_end, in_front, summed}
-use Rattle.lq_model.specs.declared.methods.Simple.{Simple}
-use Rattle.lq_model.specs.declared.methods.Simple.TheVariants as simple
-use Rattle.lq_model.specs.OperandMeaning.{as_value}
-use Rattle.lq_model.specs.Operations.{is_int, on_ok}
-use Rattle.lq_model.specs.Stream.{Stream}
-use Rattle.lq_model.specs.Meaning.{no_number, number_in, numbers, simple_meaning}
+use Rattle.lq_language.specs.Enumerable.{at_end, in_front, summed}
+use Rattle.lq_language.specs.declared.methods.Simple.{Simple}
+use Rattle.lq_language.specs.declared.methods.Simple.TheVariants as simple
+use Rattle.lq_language.specs.OperandMeaning.{as_value}
+use Rattle.lq_language.specs.Operations.{is_int, on_ok}
+use Rattle.lq_language.specs.Stream.{Stream}
+use Rattle.lq_language.specs.Meaning.{no_number, number_in, numbers, simple_meaning}
 use Rattle.lq_operators.specs.Numbers.{best_more, best_with, sum_more}
 use Rattle.lq_operators.specs.Tallies.{begins, goes_on, tallied, told}
 use Rattle.lq_operators.specs.declared.numbers.Extreme.{Extreme}

@@ -7,8 +7,8 @@ use Rattle.lq_value.specs.Keys.{key_value}
 use Rattle.lq_value.specs.Lookups.{places, places_from}
 use Rattle.lq_value.specs.SameAndOrder.{same_values}
 use Rattle.lq_value.specs.declared.value.Value.{Value}
-use Rattle.lq_model.specs.ClauseMeaning.{as_group}
-use Rattle.lq_model.specs.Stream.{elements_of, first_keys, groups_of}
+use Rattle.lq_language.specs.ClauseMeaning.{as_group}
+use Rattle.lq_language.specs.Stream.{elements_of, first_keys, groups_of}
 use Rattle.lq_operators.specs.Places.{group_at, passes, passes_at, picked}
 use Rattle.lq_operators.proofs.PlaceLemmas.{head_there, places_of_keys, same_keyed}
 

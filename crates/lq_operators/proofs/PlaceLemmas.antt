@@ -10,7 +10,7 @@ use Rattle.lq_value.specs.declared.key.Key.{Key}
 use Rattle.lq_value.specs.declared.value.Value.{Value}
 use Rattle.lq_value.proofs.KeyLemmas.{tells_equal_keys}
 use Rattle.lq_value.proofs.SamenessLemmas.{tells_keys}
-use Rattle.lq_model.specs.Enumerable.{is_among}
+use Rattle.lq_language.specs.Enumerable.{is_among}
 use Rattle.lq_operators.specs.Places.{passes, passes_at, passes_before}
 
 module _ {A : Type 0} where

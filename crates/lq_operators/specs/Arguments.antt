@@ -1,7 +1,7 @@
 -- What an argument stands for where it is no sequence or no number, and what is kept by whether it is among others.
 use Rattle.std.specs.Prelude.{if◌then◌else◌, not, [], Bool, None}
 use Rattle.lq_value.specs.declared.value.Fault.TheVariants as fault
-use Rattle.lq_model.specs.Worlds.{World}
+use Rattle.lq_language.specs.Worlds.{World}
 
 -- A world of no tables and no names. Of a world an argument's meaning takes only what stands where there is none, here a null reference.
 abbrev pub nowhere : {R : Type 0} → World R

@@ -4,8 +4,8 @@ use Rattle.lq_value.specs.declared.scalar.Scalar.{Scalar}
 use Rattle.lq_value.specs.declared.scalar.Scalar.TheVariants as scalar
 use Rattle.lq_value.specs.declared.value.Fault.{Fault}
 use Rattle.lq_value.specs.declared.value.Fault.TheVariants as fault
-use Rattle.lq_model.specs.Enumerable.{extreme, greater, lesser}
-use Rattle.lq_model.specs.Operations.{is_int}
+use Rattle.lq_language.specs.Enumerable.{extreme, greater, lesser}
+use Rattle.lq_language.specs.Operations.{is_int}
 use Rattle.lq_operators.specs.declared.numbers.Extreme.{Extreme}
 use Rattle.lq_operators.specs.declared.numbers.Extreme.TheVariants.{Least, Greatest}
 

@@ -8,7 +8,7 @@ use Rattle.lq_value.specs.SameAndOrder.{same_values}
 use Rattle.lq_value.specs.declared.key.Key.{Key}
 use Rattle.lq_value.specs.declared.value.Value.{Value}
 use Rattle.lq_value.specs.declared.value.Value.TheVariants as value
-use Rattle.lq_model.specs.Stream.{elements_of}
+use Rattle.lq_language.specs.Stream.{elements_of}
 use Rattle.lq_lookup.specs.Found.{found}
 use Rattle.lq_lookup.specs.declared.nulls.Nulls.{Nulls}
 

@@ -6,11 +6,11 @@ use Rattle.lq_value.specs.declared.ty.Ty.{Ty}
 use Rattle.lq_value.specs.declared.value.End.{End}
 use Rattle.lq_value.specs.declared.value.Fault.{Fault}
 use Rattle.lq_value.specs.declared.value.Value.{Value}
-use Rattle.lq_model.specs.Enumerable.{at_end, summed}
-use Rattle.lq_model.specs.declared.methods.Simple.{Simple}
-use Rattle.lq_model.specs.declared.methods.Simple.TheVariants as simple
-use Rattle.lq_model.specs.Stream.{Stream}
-use Rattle.lq_model.specs.Meaning.{no_number, numbers}
+use Rattle.lq_language.specs.Enumerable.{at_end, summed}
+use Rattle.lq_language.specs.declared.methods.Simple.{Simple}
+use Rattle.lq_language.specs.declared.methods.Simple.TheVariants as simple
+use Rattle.lq_language.specs.Stream.{Stream}
+use Rattle.lq_language.specs.Meaning.{no_number, numbers}
 use Rattle.lq_operators.specs.Numbers.{best_with}
 use Rattle.lq_operators.specs.declared.numbers.Extreme.TheVariants as extreme
 use Rattle.lq_operators.specs.declared.numbers.Tally.{Tally}

@@ -1,8 +1,8 @@
 //! What an argument stands for: a sequence, or a number.
 ghost use Rattle.std.specs.Prelude.{◌≡◌};
 ghost use Rattle.lq_value.specs.declared.value.Value.{out-Value};
-ghost use Rattle.lq_model.specs.OperandMeaning.{items_of, on_scalar, stream_of};
-ghost use Rattle.lq_model.specs.Meaning.{number_of};
+ghost use Rattle.lq_language.specs.OperandMeaning.{items_of, on_scalar, stream_of};
+ghost use Rattle.lq_language.specs.Meaning.{number_of};
 ghost use Rattle.lq_operators.specs.Arguments.{nowhere};
 
 use crate::sequences::Stream;

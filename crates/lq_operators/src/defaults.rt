@@ -1,6 +1,6 @@
 //! What stands where there is no item.
 ghost use Rattle.std.specs.Prelude.{◌≡◌};
-ghost use Rattle.lq_model.specs.Meaning.{default_of, no_number};
+ghost use Rattle.lq_language.specs.Meaning.{default_of, no_number};
 
 use lq_value::{Fault, RowRef, Scalar, Ty, Value};
 

@@ -1,6 +1,6 @@
 //! The ending of a source.
 ghost use Rattle.std.specs.Prelude.{◌≡◌};
-ghost use Rattle.lq_model.specs.Enumerable.{at_end};
+ghost use Rattle.lq_language.specs.Enumerable.{at_end};
 
 use lq_value::{End, Fault};
 

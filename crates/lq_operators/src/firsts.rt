@@ -2,7 +2,7 @@
 ghost use Rattle.std.specs.Prelude.{◌≡◌, [], map, IfOk};
 ghost use Rattle.lq_value.specs.Keys.{key_value};
 ghost use Rattle.lq_value.specs.SameAndOrder.{same_values};
-ghost use Rattle.lq_model.specs.Stream.{first_keys};
+ghost use Rattle.lq_language.specs.Stream.{first_keys};
 ghost use Rattle.lq_operators.specs.Places.{FindsKeys, new_from, sifted};
 
 use crate::keys::{is_among_before, lookup_of};

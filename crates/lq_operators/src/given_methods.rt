@@ -1,9 +1,9 @@
 //! Methods with an argument: a second sequence, a number of items, or a value.
 ghost use Rattle.std.specs.Prelude.{◌≡◌};
 ghost use Rattle.lq_value.specs.declared.value.Fault.TheVariants as fault;
-ghost use Rattle.lq_model.specs.Worlds.{World};
-ghost use Rattle.lq_model.specs.declared.methods.Given.TheVariants as given;
-ghost use Rattle.lq_model.specs.Meaning.{given_meaning};
+ghost use Rattle.lq_language.specs.Worlds.{World};
+ghost use Rattle.lq_language.specs.declared.methods.Given.TheVariants as given;
+ghost use Rattle.lq_language.specs.Meaning.{given_meaning};
 ghost use Rattle.lq_operators.specs.Answers.{IsAnswer};
 ghost use Rattle.lq_operators.specs.Arguments.{nowhere};
 
@@ -13,7 +13,7 @@ use crate::items::element_at;
 use crate::sequences::{Stream, sequence};
 use crate::sets::{concat, contains, except, intersect, union};
 use crate::slices::{as_count, skip, take_first};
-use lq_model::Given;
+use lq_language::Given;
 use lq_value::{End, Fault, List, RowRef, Scalar, Value};
 use std::alloc::Global;
 

@@ -2,8 +2,8 @@
 ghost use Rattle.std.specs.Prelude.{◌≡◌, map, IfOk};
 ghost use Rattle.lq_value.specs.Keys.{key_value};
 ghost use Rattle.lq_value.specs.SameAndOrder.{same_values};
-ghost use Rattle.lq_model.specs.ClauseMeaning.{as_group};
-ghost use Rattle.lq_model.specs.Stream.{first_keys, groups_of};
+ghost use Rattle.lq_language.specs.ClauseMeaning.{as_group};
+ghost use Rattle.lq_language.specs.Stream.{first_keys, groups_of};
 ghost use Rattle.lq_operators.specs.Places.{FindsKeys, group_at};
 
 use crate::firsts::copied_firsts;

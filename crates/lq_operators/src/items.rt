@@ -1,6 +1,6 @@
 //! One item of a sequence: the first, the last, the only one, the one at a place.
 ghost use Rattle.std.specs.Prelude.{◌≡◌};
-ghost use Rattle.lq_model.specs.Enumerable.{any, element_at, first, last, single};
+ghost use Rattle.lq_language.specs.Enumerable.{any, element_at, first, last, single};
 
 use crate::ending::at_end;
 use crate::slices::skip;

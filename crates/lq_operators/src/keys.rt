@@ -3,7 +3,7 @@ ghost use Rattle.std.specs.Prelude.{◌≡◌, map, take, IfOk};
 ghost use Rattle.std.specs.List.{list_any};
 ghost use Rattle.lq_value.specs.Keys.{key_value};
 ghost use Rattle.lq_value.specs.SameAndOrder.{same_values};
-ghost use Rattle.lq_model.specs.Enumerable.{is_among};
+ghost use Rattle.lq_language.specs.Enumerable.{is_among};
 ghost use Rattle.lq_operators.specs.Places.{FindsKeys, passes_at, passes_before};
 
 use lq_lookup::{Lookup, Nulls};

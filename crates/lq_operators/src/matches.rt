@@ -2,7 +2,7 @@
 ghost use Rattle.std.specs.Prelude.{◌≡◌, map};
 ghost use Rattle.lq_value.specs.Keys.{key_value};
 ghost use Rattle.lq_value.specs.declared.value.Value.{out-Value};
-ghost use Rattle.lq_model.specs.ClauseMeaning.{is_null_layer};
+ghost use Rattle.lq_language.specs.ClauseMeaning.{is_null_layer};
 ghost use Rattle.lq_operators.specs.Places.{FindsKeys};
 
 use crate::keys::lookup_of;
@@ -23,7 +23,7 @@ pub struct Matches<R> {
 
 impl<R: RowRef> Matches<R> {
     ghost use Rattle.std.specs.Prelude.{◌≡◌, IfOk};
-    ghost use Rattle.lq_model.specs.ClauseMeaning.{matches};
+    ghost use Rattle.lq_language.specs.ClauseMeaning.{matches};
     ghost use Rattle.lq_operators.specs.Matching.{pairs_of};
 
     /// The pairs of a key and its item, in their order.

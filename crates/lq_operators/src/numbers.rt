@@ -2,15 +2,15 @@
 ghost use Rattle.std.specs.Prelude.{◌≡◌};
 ghost use Rattle.lq_value.specs.declared.ty.Ty.{Ty};
 ghost use Rattle.lq_value.specs.declared.value.Value.{Value, out-Value};
-ghost use Rattle.lq_model.specs.Enumerable.{in_front};
-ghost use Rattle.lq_model.specs.Stream.{Stream};
-ghost use Rattle.lq_model.specs.Meaning.{number_in};
+ghost use Rattle.lq_language.specs.Enumerable.{in_front};
+ghost use Rattle.lq_language.specs.Stream.{Stream};
+ghost use Rattle.lq_language.specs.Meaning.{number_in};
 ghost use Rattle.lq_operators.specs.Numbers.{best_more, chosen, sum_more};
 ghost use Rattle.lq_operators.specs.Tallies.{begins, goes_on, tallied, told};
 
 use crate::defaults::no_number;
 use crate::ending::at_end;
-use lq_model::Simple;
+use lq_language::Simple;
 use lq_value::{End, Fault, RowRef, Scalar, Ty, Value};
 
 /// Which of two numbers is looked for.

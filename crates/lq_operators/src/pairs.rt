@@ -4,7 +4,7 @@ ghost use Rattle.std.specs.List.{zip};
 ghost use Rattle.std.specs.Option.{option_to_list};
 ghost use Rattle.lq_value.specs.Keys.{key_value};
 ghost use Rattle.lq_value.specs.SameAndOrder.{same_values};
-ghost use Rattle.lq_model.specs.Stream.{elements_of};
+ghost use Rattle.lq_language.specs.Stream.{elements_of};
 ghost use Rattle.lq_operators.specs.Places.{FindsKeys, picked};
 
 use crate::keys::is_same_at;

@@ -1,7 +1,7 @@
 //! Sequences made of the items of one: turned round, or with a default in the place of none.
 ghost use Rattle.std.specs.Prelude.{◌≡◌, IfOk};
-ghost use Rattle.lq_model.specs.Enumerable.{default_if_empty, reversed};
-ghost use Rattle.lq_model.specs.OperandMeaning.{sequence};
+ghost use Rattle.lq_language.specs.Enumerable.{default_if_empty, reversed};
+ghost use Rattle.lq_language.specs.OperandMeaning.{sequence};
 
 use lq_value::{End, List, RowRef, Value};
 use std::alloc::{AllocError, Global};

@@ -2,7 +2,7 @@
 ghost use Rattle.std.specs.Prelude.{◌≡◌, ◌++◌, filter, map, IfOk};
 ghost use Rattle.lq_value.specs.Keys.{key_value};
 ghost use Rattle.lq_value.specs.SameAndOrder.{same_values};
-ghost use Rattle.lq_model.specs.Enumerable.{concat, contains, except, intersect, is_among, union};
+ghost use Rattle.lq_language.specs.Enumerable.{concat, contains, except, intersect, is_among, union};
 ghost use Rattle.lq_operators.specs.Arguments.{kept_by};
 ghost use Rattle.lq_operators.specs.Places.{FindsKeys};
 

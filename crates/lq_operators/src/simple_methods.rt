@@ -1,6 +1,6 @@
 //! Methods without an argument.
-ghost use Rattle.lq_model.specs.Meaning.{simple_meaning};
-ghost use Rattle.lq_model.specs.OperandMeaning.{as_value};
+ghost use Rattle.lq_language.specs.Meaning.{simple_meaning};
+ghost use Rattle.lq_language.specs.OperandMeaning.{as_value};
 ghost use Rattle.lq_operators.specs.Answers.{IsAnswer};
 ghost use Rattle.lq_operators.specs.Tallies.{tallied};
 
@@ -10,7 +10,7 @@ use crate::firsts::distinct;
 use crate::items::{any, first, last, single};
 use crate::numbers::{Extreme, Tally, tallied};
 use crate::sequences::{default_if_empty, reversed, sequence};
-use lq_model::Simple;
+use lq_language::Simple;
 use lq_value::{End, Fault, List, RowRef, Scalar, Ty, Value};
 use std::alloc::Global;
 

@@ -1,6 +1,6 @@
 //! The items from a place on, or up to it.
 ghost use Rattle.std.specs.Prelude.{◌≡◌, drop};
-ghost use Rattle.lq_model.specs.Enumerable.{as_count, take_first};
+ghost use Rattle.lq_language.specs.Enumerable.{as_count, take_first};
 
 use lq_value::{End, List};
 

@@ -8,9 +8,9 @@ use Rattle.std.proofs.lemmas.Slice.Eq.{bytes_eq-Decides}
 use Rattle.lq_value.specs.declared.scalar.Scalar.{Scalar}
 use Rattle.lq_value.specs.declared.table.Column.{Column}
 use Rattle.lq_value.specs.declared.table.Schema.{Schema}
-use Rattle.lq_model.specs.Served.{columns_in}
-use Rattle.lq_model.specs.TableRows.{cell_named}
-use Rattle.lq_model.specs.Typing.{are_distinct, is_new}
+use Rattle.lq_machine.specs.Served.{columns_in}
+use Rattle.lq_language.specs.TableRows.{cell_named}
+use Rattle.lq_language.specs.Typing.{are_distinct, is_new}
 use Rattle.lq_tree.specs.FormMeaning.{column_name, name_of_column}
 use Rattle.lq_pipe.specs.Worlds.{HaveDistinctColumns}
 

@@ -7,16 +7,16 @@ use Rattle.lq_value.specs.declared.value.End.{End}
 use Rattle.lq_value.specs.declared.value.Fault.{Fault}
 use Rattle.lq_value.specs.declared.value.Value.{Value, out-Value}
 use Rattle.lq_value.specs.declared.value.Value.TheOpen.{Value-F}
-use Rattle.lq_model.specs.Enumerable.{as_count, element_at, first, in_front, item_behind, single, take_first}
-use Rattle.lq_model.specs.Worlds.{World}
-use Rattle.lq_model.specs.OperandMeaning.{as_value, scalar_of}
-use Rattle.lq_model.specs.Operations.{on_ok}
-use Rattle.lq_model.specs.Stream.{Stream}
-use Rattle.lq_model.specs.Meaning.{as_sequence, given_meaning, number_of, on_number, simple_meaning}
-use Rattle.lq_model.specs.declared.methods.Given.{Given}
-use Rattle.lq_model.specs.declared.methods.Given.TheVariants as given
-use Rattle.lq_model.specs.declared.methods.Simple.{Simple}
-use Rattle.lq_model.specs.declared.methods.Simple.TheVariants as simple
+use Rattle.lq_language.specs.Enumerable.{as_count, element_at, first, in_front, item_behind, single, take_first}
+use Rattle.lq_language.specs.Worlds.{World}
+use Rattle.lq_language.specs.OperandMeaning.{as_value, scalar_of}
+use Rattle.lq_language.specs.Operations.{on_ok}
+use Rattle.lq_language.specs.Stream.{Stream}
+use Rattle.lq_language.specs.Meaning.{as_sequence, given_meaning, number_of, on_number, simple_meaning}
+use Rattle.lq_language.specs.declared.methods.Given.{Given}
+use Rattle.lq_language.specs.declared.methods.Given.TheVariants as given
+use Rattle.lq_language.specs.declared.methods.Simple.{Simple}
+use Rattle.lq_language.specs.declared.methods.Simple.TheVariants as simple
 use Rattle.lq_operators.specs.Tallies.{begins, goes_on, tallied, told}
 use Rattle.lq_operators.specs.declared.numbers.Tally.{Tally}
 use Rattle.lq_operators.specs.declared.numbers.Tally.TheVariants as tally

@@ -6,20 +6,20 @@ use Rattle.lq_value.specs.declared.ty.Ty.{Ty}
 use Rattle.lq_value.specs.declared.value.Fault.{Fault}
 use Rattle.lq_value.specs.declared.value.Value.{Value, out-Value}
 use Rattle.lq_value.specs.declared.value.Value.TheVariants as value
-use Rattle.lq_model.specs.Arrangement.{order_by}
-use Rattle.lq_model.specs.Worlds.{World}
-use Rattle.lq_model.specs.OperandMeaning.{as_value, is_null, on_scalar, on_truth, sequence, scalar_of, stream_of, table_value, truth_value}
-use Rattle.lq_model.specs.ClauseMeaning.{as_group}
-use Rattle.lq_model.specs.Operations.{of_one, of_two, on_ok}
-use Rattle.lq_model.specs.Operators.{first, pair, second}
-use Rattle.lq_model.specs.Stream.{Stream, expand_by, group_by}
-use Rattle.lq_model.specs.Meaning.{given_meaning, simple_meaning, through_meaning}
-use Rattle.lq_model.specs.declared.methods.Given.{Given}
-use Rattle.lq_model.specs.declared.methods.Simple.{Simple}
-use Rattle.lq_model.specs.declared.methods.Through.{Through}
-use Rattle.lq_model.specs.declared.operation.Op.{Op}
-use Rattle.lq_model.specs.declared.syntax.Field.{Field}
-use Rattle.lq_model.specs.declared.syntax.SortKey.{SortKey}
+use Rattle.lq_language.specs.Arrangement.{order_by}
+use Rattle.lq_language.specs.Worlds.{World}
+use Rattle.lq_language.specs.OperandMeaning.{as_value, is_null, on_scalar, on_truth, sequence, scalar_of, stream_of, table_value, truth_value}
+use Rattle.lq_language.specs.ClauseMeaning.{as_group}
+use Rattle.lq_language.specs.Operations.{of_one, of_two, on_ok}
+use Rattle.lq_language.specs.Operators.{first, pair, second}
+use Rattle.lq_language.specs.Stream.{Stream, expand_by, group_by}
+use Rattle.lq_language.specs.Meaning.{given_meaning, simple_meaning, through_meaning}
+use Rattle.lq_language.specs.declared.methods.Given.{Given}
+use Rattle.lq_language.specs.declared.methods.Simple.{Simple}
+use Rattle.lq_language.specs.declared.methods.Through.{Through}
+use Rattle.lq_language.specs.declared.operation.Op.{Op}
+use Rattle.lq_grammar.specs.declared.syntax.Field.{Field}
+use Rattle.lq_grammar.specs.declared.syntax.SortKey.{SortKey}
 use Rattle.lq_operators.specs.Answers.{IsAnswer}
 use Rattle.lq_operators.specs.declared.error.RunError.{RunError}
 use Rattle.lq_tree.specs.FormMeaning.{Means, Slots, cell_in, form_meaning, form_step, if_there, is_null_value, is_true, joined_stream, key_in, member_at, members_of, sort_key, with_item, with_items}

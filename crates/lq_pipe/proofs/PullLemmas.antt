@@ -7,16 +7,16 @@ use Rattle.lq_value.specs.declared.value.Fault.{Fault}
 use Rattle.lq_value.specs.declared.value.Fault.TheVariants as fault
 use Rattle.lq_value.specs.declared.value.Value.{Value}
 use Rattle.lq_value.specs.declared.value.Value.TheVariants as value
-use Rattle.lq_model.specs.Enumerable.{in_front, take_first}
-use Rattle.lq_model.specs.Stream.{Stream, each, kept, one, select_by, then_ending, then_stream}
-use Rattle.lq_model.specs.declared.methods.Through.TheVariants as through
-use Rattle.lq_model.specs.Worlds.{World}
-use Rattle.lq_model.specs.OperandMeaning.{items_of, sequence, stream_of, table_value}
-use Rattle.lq_model.specs.declared.methods.Given.{Given}
-use Rattle.lq_model.specs.declared.methods.Simple.{Simple}
-use Rattle.lq_model.specs.declared.operation.Op.{Op}
-use Rattle.lq_model.specs.declared.syntax.Field.{Field}
-use Rattle.lq_model.specs.declared.syntax.SortKey.{SortKey}
+use Rattle.lq_language.specs.Enumerable.{in_front, take_first}
+use Rattle.lq_language.specs.Stream.{Stream, each, kept, one, select_by, then_ending, then_stream}
+use Rattle.lq_language.specs.declared.methods.Through.TheVariants as through
+use Rattle.lq_language.specs.Worlds.{World}
+use Rattle.lq_language.specs.OperandMeaning.{items_of, sequence, stream_of, table_value}
+use Rattle.lq_language.specs.declared.methods.Given.{Given}
+use Rattle.lq_language.specs.declared.methods.Simple.{Simple}
+use Rattle.lq_language.specs.declared.operation.Op.{Op}
+use Rattle.lq_grammar.specs.declared.syntax.Field.{Field}
+use Rattle.lq_grammar.specs.declared.syntax.SortKey.{SortKey}
 use Rattle.lq_value.specs.declared.scalar.Scalar.{Scalar}
 use Rattle.lq_value.specs.declared.ty.Ty.{Ty}
 use Rattle.lq_tree.specs.FormMeaning.{Slots, form_meaning, is_true, with_item}

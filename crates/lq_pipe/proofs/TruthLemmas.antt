@@ -5,11 +5,11 @@ use Rattle.lq_value.specs.declared.scalar.Scalar.TheVariants as scalar
 use Rattle.lq_value.specs.declared.value.Fault.{Fault}
 use Rattle.lq_value.specs.declared.value.Value.{Value}
 use Rattle.lq_value.specs.declared.value.Value.TheVariants as value
-use Rattle.lq_model.specs.Worlds.{World}
-use Rattle.lq_model.specs.OperandMeaning.{as_value, scalar_of, truth_value}
-use Rattle.lq_model.specs.Operations.{of_two, on_ok, operation_of, truth_of}
-use Rattle.lq_model.specs.declared.operation.Op.{Op}
-use Rattle.lq_model.specs.declared.syntax.Binary.{Binary}
+use Rattle.lq_language.specs.Worlds.{World}
+use Rattle.lq_language.specs.OperandMeaning.{as_value, scalar_of, truth_value}
+use Rattle.lq_language.specs.Operations.{of_two, on_ok, operation_of, truth_of}
+use Rattle.lq_language.specs.declared.operation.Op.{Op}
+use Rattle.lq_grammar.specs.declared.syntax.Binary.{Binary}
 use Rattle.lq_tree.specs.FormMeaning.{Slots, form_meaning}
 use Rattle.lq_tree.specs.declared.tree.Form.{Form}
 use Rattle.lq_tree.specs.declared.tree.Form.TheVariants as form

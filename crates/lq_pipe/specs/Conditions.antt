@@ -3,8 +3,8 @@ use Rattle.std.specs.Prelude.{◌∷◌, List, [], Bool, Result}
 use Rattle.lq_value.specs.declared.value.End.TheVariants as end
 use Rattle.lq_value.specs.declared.value.Fault.{Fault}
 use Rattle.lq_value.specs.declared.value.Value.TheVariants as value
-use Rattle.lq_model.specs.Worlds.{World}
-use Rattle.lq_model.specs.Stream.{Stream, where_by}
+use Rattle.lq_language.specs.Worlds.{World}
+use Rattle.lq_language.specs.Stream.{Stream, where_by}
 use Rattle.lq_tree.specs.FormMeaning.{form_meaning, is_true}
 use Rattle.lq_tree.specs.declared.tree.Form.{Form}
 

@@ -4,10 +4,10 @@ use Rattle.lq_value.specs.SameAndOrder.{same_values as same_keys}
 use Rattle.lq_value.specs.declared.value.End.TheVariants as end
 use Rattle.lq_value.specs.declared.value.Fault.{Fault}
 use Rattle.lq_value.specs.declared.value.Value.{Value}
-use Rattle.lq_model.specs.Worlds.{World}
-use Rattle.lq_model.specs.OperandMeaning.{stream_of}
-use Rattle.lq_model.specs.ClauseMeaning.{as_group}
-use Rattle.lq_model.specs.Stream.{Stream, both, groups_of, made, on_value}
+use Rattle.lq_language.specs.Worlds.{World}
+use Rattle.lq_language.specs.OperandMeaning.{stream_of}
+use Rattle.lq_language.specs.ClauseMeaning.{as_group}
+use Rattle.lq_language.specs.Stream.{Stream, both, groups_of, made, on_value}
 use Rattle.lq_tree.specs.FormMeaning.{Slots, form_meaning, matched, with_item, with_items}
 use Rattle.lq_tree.specs.declared.tree.Form.{Form}
 use Rattle.lq_tree.specs.declared.tree.Joined.{Joined}

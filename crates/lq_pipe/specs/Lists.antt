@@ -1,7 +1,7 @@
 -- The parts of forms that hold forms, with these as what they mean.
-use Rattle.lq_model.specs.Worlds.{World}
-use Rattle.lq_model.specs.declared.syntax.Field.{Field}
-use Rattle.lq_model.specs.declared.syntax.SortKey.{SortKey}
+use Rattle.lq_language.specs.Worlds.{World}
+use Rattle.lq_grammar.specs.declared.syntax.Field.{Field}
+use Rattle.lq_grammar.specs.declared.syntax.SortKey.{SortKey}
 use Rattle.lq_tree.specs.FormMeaning.{Means, form_meaning}
 use Rattle.lq_tree.specs.declared.tree.Form.{Form}
 use Rattle.lq_tree.specs.declared.tree.Joined.{Joined}

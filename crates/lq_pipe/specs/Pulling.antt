@@ -5,11 +5,11 @@ use Rattle.lq_value.specs.declared.value.End.TheVariants as end
 use Rattle.lq_value.specs.declared.value.Fault.TheVariants as fault
 use Rattle.lq_value.specs.declared.value.Value.{Value}
 use Rattle.lq_value.specs.declared.value.Value.TheVariants as value
-use Rattle.lq_model.specs.Enumerable.{in_front}
-use Rattle.lq_model.specs.Worlds.{World}
-use Rattle.lq_model.specs.OperandMeaning.{stream_of}
-use Rattle.lq_model.specs.Stream.{Stream, each, select_by, where_by}
-use Rattle.lq_model.specs.declared.methods.Through.TheVariants as through
+use Rattle.lq_language.specs.Enumerable.{in_front}
+use Rattle.lq_language.specs.Worlds.{World}
+use Rattle.lq_language.specs.OperandMeaning.{stream_of}
+use Rattle.lq_language.specs.Stream.{Stream, each, select_by, where_by}
+use Rattle.lq_language.specs.declared.methods.Through.TheVariants as through
 use Rattle.lq_tree.specs.FormMeaning.{Slots, form_meaning, is_true, with_item}
 use Rattle.lq_tree.specs.declared.tree.Form.{Form, para-Form}
 use Rattle.lq_tree.specs.declared.tree.Form.TheOpen.{Form-F}

@@ -3,10 +3,10 @@ use Rattle.std.specs.Prelude.{◌≡◌, Bool, Result, Ok, Err}
 use Rattle.lq_value.specs.declared.scalar.Scalar.{Scalar}
 use Rattle.lq_value.specs.declared.value.Fault.{Fault}
 use Rattle.lq_value.specs.declared.value.Value.{Value, out-Value}
-use Rattle.lq_model.specs.Worlds.{World}
-use Rattle.lq_model.specs.OperandMeaning.{scalar_of, stream_of}
-use Rattle.lq_model.specs.Operations.{on_ok, truth_of}
-use Rattle.lq_model.specs.Stream.{Stream}
+use Rattle.lq_language.specs.Worlds.{World}
+use Rattle.lq_language.specs.OperandMeaning.{scalar_of, stream_of}
+use Rattle.lq_language.specs.Operations.{on_ok, truth_of}
+use Rattle.lq_language.specs.Stream.{Stream}
 use Rattle.lq_operators.specs.declared.error.RunError.{RunError}
 use Rattle.lq_operators.specs.declared.error.RunError.TheVariants as error
 use Rattle.lq_tree.specs.FormMeaning.{form_meaning, is_true, with_item}

@@ -3,11 +3,11 @@ use Rattle.std.specs.Prelude.{◌≡◌, List, [], map, ℕ, true, slice_get}
 use Rattle.lq_value.specs.declared.scalar.Scalar.{Scalar}
 use Rattle.lq_value.specs.declared.table.Schema.{Schema}
 use Rattle.lq_value.specs.declared.value.Fault.TheVariants as fault
-use Rattle.lq_model.specs.Worlds.{World}
-use Rattle.lq_model.specs.ValuesOfTypes.{Every}
-use Rattle.lq_model.specs.Served.{columns_in}
-use Rattle.lq_model.specs.TableRows.{cell_named}
-use Rattle.lq_model.specs.Typing.{are_distinct}
+use Rattle.lq_language.specs.Worlds.{World}
+use Rattle.lq_language.specs.ValuesOfTypes.{Every}
+use Rattle.lq_machine.specs.Served.{columns_in}
+use Rattle.lq_language.specs.TableRows.{cell_named}
+use Rattle.lq_language.specs.Typing.{are_distinct}
 use Rattle.lq_pipe.specs.declared.tables.TableRows.{TableRows}
 
 module _ {R : Type 0} where

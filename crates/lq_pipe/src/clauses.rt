@@ -5,7 +5,7 @@ use crate::slots::Slots;
 use crate::stages::{Stage, Step};
 use crate::tables::TableRow;
 use crate::{arrangements, sequences};
-use lq_model::SortKey;
+use lq_grammar::SortKey;
 use lq_operators::{Matches, RunError};
 use lq_tree::{Form, Joined};
 use lq_value::{End, Fault, List, Scalar, Value};
@@ -13,9 +13,9 @@ use std::alloc::AllocError;
 
 impl<'a, R: TableRow> Running<'a, R> {
     ghost use Rattle.std.specs.Prelude.{◌≡◌, IfOk, Ok};
-    ghost use Rattle.lq_model.specs.Stream.{each, made, select_by, whole};
-    ghost use Rattle.lq_model.specs.Arrangement.{all_of};
-    ghost use Rattle.lq_model.specs.OperandMeaning.{sequence};
+    ghost use Rattle.lq_language.specs.Stream.{each, made, select_by, whole};
+    ghost use Rattle.lq_language.specs.Arrangement.{all_of};
+    ghost use Rattle.lq_language.specs.OperandMeaning.{sequence};
     ghost use Rattle.lq_pipe.specs.Items.{expanded_of, joined_of, keyed_of, with_key_of};
     ghost use Rattle.lq_operators.specs.Matching.{pairs_of};
     ghost use Rattle.lq_value.specs.declared.value.End.TheVariants as end;

@@ -3,7 +3,7 @@ use crate::running::Running;
 use crate::scalars;
 use crate::slots::Slots;
 use crate::tables::TableRow;
-use lq_model::Op;
+use lq_language::Op;
 use lq_operators::RunError;
 use lq_tree::Form;
 

@@ -3,7 +3,7 @@ ghost use Rattle.std.specs.Prelude.{◌≡◌};
 ghost use Rattle.lq_value.specs.declared.value.Value.{out-Value};
 ghost use Rattle.lq_pipe.specs.Counts.{needed, needed_by, read, up_to};
 
-use lq_model::{Given, Simple};
+use lq_language::{Given, Simple};
 use lq_value::{Fault, RowRef, Scalar, Value};
 
 /// So many items are read by a method without an argument, where there is a limit to them: the

@@ -2,11 +2,11 @@
 ghost use Rattle.std.specs.Prelude.{◌≡◌, ◌∷◌, ◌++◌, [], if◌then◌else◌, not, true, Ok, IfOk, OnOk, option_map, slice_get};
 ghost use Rattle.std.specs.Option.{option_copied};
 ghost use Rattle.lq_value.specs.declared.value.Value.{out-Value};
-ghost use Rattle.lq_model.specs.Enumerable.{at_end};
-ghost use Rattle.lq_model.specs.Worlds.{World};
-ghost use Rattle.lq_model.specs.OperandMeaning.{truth_value};
-ghost use Rattle.lq_model.specs.Operators.{first, pair, second};
-ghost use Rattle.lq_model.specs.Meaning.{as_truth};
+ghost use Rattle.lq_language.specs.Enumerable.{at_end};
+ghost use Rattle.lq_language.specs.Worlds.{World};
+ghost use Rattle.lq_language.specs.OperandMeaning.{truth_value};
+ghost use Rattle.lq_language.specs.Operators.{first, pair, second};
+ghost use Rattle.lq_language.specs.Meaning.{as_truth};
 ghost use Rattle.lq_operators.specs.Answers.{IsAnswer};
 ghost use Rattle.lq_tree.specs.FormMeaning.{is_null_value};
 

@@ -8,7 +8,7 @@ use crate::running::Running;
 use crate::scalars;
 use crate::slots::Slots;
 use crate::tables::{TableRow, TableRows, cell};
-use lq_model::Op;
+use lq_language::Op;
 use lq_operators::RunError;
 use lq_tree::{Form, Tree};
 use lq_value::{End, Fault, Scalar, Value};

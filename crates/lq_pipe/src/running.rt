@@ -1,6 +1,6 @@
 //! The running of forms.
 ghost use Rattle.std.specs.Prelude.{◌≡◌, IfSome, Ok};
-ghost use Rattle.lq_model.specs.Worlds.{World};
+ghost use Rattle.lq_language.specs.Worlds.{World};
 ghost use Rattle.lq_value.specs.declared.value.Value.TheVariants as value;
 ghost use Rattle.lq_pipe.specs.Running.{meant};
 ghost use Rattle.lq_pipe.specs.Worlds.{HaveDistinctColumns, schemas_in};
@@ -49,7 +49,7 @@ pub(crate) struct Running<'a, R> {
 impl<'a, R: TableRow> Running<'a, R> {
     ghost use Rattle.std.specs.Prelude.{◌≡◌, IfOk, Ok, slice_get};
     ghost use Rattle.lq_value.specs.declared.value.Value.{out-Value};
-    ghost use Rattle.lq_model.specs.OperandMeaning.{stream_of, table_value};
+    ghost use Rattle.lq_language.specs.OperandMeaning.{stream_of, table_value};
     ghost use Rattle.lq_operators.specs.Answers.{IsAnswer};
     ghost use Rattle.lq_tree.specs.FormMeaning.{cell_in, if_there, key_in, member_at};
     ghost use Rattle.lq_tree.specs.declared.tree.Form.TheVariants as form;

@@ -1,8 +1,8 @@
 //! The tables that a tree reads.
 ghost use Rattle.std.specs.Prelude.{◌≡◌, map, slice_get, option_and_then, option_map};
 ghost use Rattle.std.specs.Option.{option_copied};
-ghost use Rattle.lq_model.specs.Served.{columns_in};
-ghost use Rattle.lq_model.specs.TableRows.{cell_named};
+ghost use Rattle.lq_machine.specs.Served.{columns_in};
+ghost use Rattle.lq_language.specs.TableRows.{cell_named};
 ghost use Rattle.lq_tree.specs.FormMeaning.{name_of_column};
 ghost use Rattle.lq_pipe.specs.Worlds.{HaveDistinctColumns, schemas_in, world_of};
 

@@ -1,6 +1,6 @@
 //! The value and the stream of a typed tree.
 ghost use Rattle.std.specs.Prelude.{◌≡◌, [], IfOk};
-ghost use Rattle.lq_model.specs.OperandMeaning.{stream_of};
+ghost use Rattle.lq_language.specs.OperandMeaning.{stream_of};
 ghost use Rattle.lq_operators.specs.Answers.{IsAnswer};
 ghost use Rattle.lq_tree.specs.FormMeaning.{form_meaning};
 ghost use Rattle.lq_pipe.specs.Worlds.{HaveDistinctColumns, schemas_in, world_of};

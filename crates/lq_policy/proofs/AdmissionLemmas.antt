@@ -3,10 +3,10 @@ use Rattle.std.proofs.Common.{◌≡◌, ◌∙◌, ℕ, zero, suc, ◌+◌, ◌
 use Rattle.std.specs.List.{list_all, list_any}
 use Rattle.std.proofs.lemmas.List.{drop_more}
 use Rattle.lq_value.specs.declared.scalar.Scalar.{Scalar}
-use Rattle.lq_model.specs.Visible.{admit, allows, permits}
-use Rattle.lq_model.specs.declared.policy.Policy.{Policy}
-use Rattle.lq_model.specs.declared.policy.Role.{Role}
-use Rattle.lq_model.specs.declared.policy.TablePart.{TablePart}
+use Rattle.lq_security.specs.Visible.{admit, allows, permits}
+use Rattle.lq_security.specs.declared.policy.Policy.{Policy}
+use Rattle.lq_security.specs.declared.policy.Role.{Role}
+use Rattle.lq_security.specs.declared.policy.TablePart.{TablePart}
 use Rattle.lq_policy.specs.Asking.{bears_on}
 use Rattle.lq_policy.specs.Guards.{asked_at}
 use Rattle.lq_policy.specs.RowRules.{admits_by, allowed_by, permitted_by}

@@ -4,13 +4,13 @@ use Rattle.std.specs.List.{AllZip}
 use Rattle.std.specs.Option.{option_or}
 use Rattle.std.proofs.lemmas.Bool.{eqb-true}
 use Rattle.lq_value.specs.declared.scalar.Scalar.{Scalar}
-use Rattle.lq_model.specs.Visible.{check_or_using, holds_on, is_listed, is_same_action, rule_for}
-use Rattle.lq_model.specs.declared.policy.Action.{Action}
-use Rattle.lq_model.specs.declared.policy.Action.TheVariants as action
-use Rattle.lq_model.specs.declared.policy.Policy.{Policy}
-use Rattle.lq_model.specs.declared.policy.Role.{Role}
-use Rattle.lq_model.specs.declared.policy.TablePart.{TablePart}
-use Rattle.lq_model.specs.declared.syntax.Expr.{Expr}
+use Rattle.lq_security.specs.Visible.{check_or_using, holds_on, is_listed, is_same_action, rule_for}
+use Rattle.lq_security.specs.declared.policy.Action.{Action}
+use Rattle.lq_security.specs.declared.policy.Action.TheVariants as action
+use Rattle.lq_security.specs.declared.policy.Policy.{Policy}
+use Rattle.lq_security.specs.declared.policy.Role.{Role}
+use Rattle.lq_security.specs.declared.policy.TablePart.{TablePart}
+use Rattle.lq_grammar.specs.declared.syntax.Expr.{Expr}
 use Rattle.lq_rule.specs.declared.rule.PreparedRule.{PreparedRule}
 use Rattle.lq_policy.specs.Asking.{bears_on}
 use Rattle.lq_policy.specs.Guards.{Guards, IsGuarded, IsPrepared, IsRuleOf, columns_at, decides_on, prepared_for, rule_in}

@@ -2,8 +2,8 @@
 use Rattle.std.proofs.Common.{◌≡◌, ◌∙◌, ℕ, zero, suc, ◌+◌, ◌<◌, Bool, true, false, ◌||◌, ◌==◌, List, [], ◌∷◌, ◌++◌, length, get_or, slice_get, flat_map, Option, Some, refl, ap, sym, subst, ◌⊎◌, inl, inr, length-append, drop, arith}
 use Rattle.std.specs.List.{list_any}
 use Rattle.std.proofs.lemmas.List.{drop_more}
-use Rattle.lq_model.specs.Visible.{goes_by_after, memberships_after}
-use Rattle.lq_model.specs.declared.policy.Role.{Role}
+use Rattle.lq_security.specs.Visible.{goes_by_after, memberships_after}
+use Rattle.lq_security.specs.declared.policy.Role.{Role}
 use Rattle.lq_policy.specs.Memberships.{TellMemberships, goes_by_marks, is_in, is_marked}
 use Rattle.lq_policy.specs.declared.role_set.RoleSet.{RoleSet}
 

@@ -2,8 +2,8 @@
 use Rattle.std.proofs.Common.{◌≡◌, ◌∙◌, ℕ, Bool, true, false, ◌&&◌, ◌||◌, ◌==◌, List, [], ◌∷◌, Option, Some, None, slice_get, refl, ap, sym, ◌⊎◌, inl, inr}
 use Rattle.std.specs.List.{list_any}
 use Rattle.std.proofs.lemmas.Bool.{eq-eqb, eqb-true}
-use Rattle.lq_model.specs.Visible.{goes_by, is_named, memberships_after}
-use Rattle.lq_model.specs.declared.policy.Role.{Role}
+use Rattle.lq_security.specs.Visible.{goes_by, is_named, memberships_after}
+use Rattle.lq_security.specs.declared.policy.Role.{Role}
 use Rattle.lq_policy.specs.Memberships.{TellMemberships, goes_by_marks, is_in, is_marked}
 use Rattle.lq_policy.specs.Roles.{IsAnyNumber, goes_by_name}
 use Rattle.lq_policy.specs.declared.role_set.RoleSet.{RoleSet}

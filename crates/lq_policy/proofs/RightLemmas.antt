@@ -2,14 +2,14 @@
 use Rattle.std.proofs.Common.{◌≡◌, ◌&&◌, ◌||◌, not, List, [], ◌∷◌, ℕ, Bool, true, false, Result, Ok, Err, IfOk, ap, ◌∙◌, sym, refl}
 use Rattle.std.specs.declared.alloc.AllocError.{AllocError}
 use Rattle.std.specs.List.{list_any}
-use Rattle.lq_model.proofs.RightLemmas.{same_use}
-use Rattle.lq_model.specs.Rights.{bears, covers, is_same_use, is_withheld, may_use}
-use Rattle.lq_model.specs.Visible.{is_listed}
-use Rattle.lq_model.specs.declared.policy.PolicyParts.{PolicyParts}
-use Rattle.lq_model.specs.declared.policy.Role.{Role}
-use Rattle.lq_model.specs.declared.rights.RightRule.{RightRule}
-use Rattle.lq_model.specs.declared.rights.Use.{Use}
-use Rattle.lq_model.specs.declared.rights.Use.TheVariants as of
+use Rattle.lq_security.proofs.RightLemmas.{same_use}
+use Rattle.lq_security.specs.Rights.{bears, covers, is_same_use, is_withheld, may_use}
+use Rattle.lq_security.specs.Visible.{is_listed}
+use Rattle.lq_security.specs.declared.policy.PolicyParts.{PolicyParts}
+use Rattle.lq_security.specs.declared.policy.Role.{Role}
+use Rattle.lq_language.specs.declared.rights.RightRule.{RightRule}
+use Rattle.lq_language.specs.declared.rights.Use.{Use}
+use Rattle.lq_language.specs.declared.rights.Use.TheVariants as of
 use Rattle.lq_policy.specs.RoleRights.{gives, grants_by, is_among}
 use Rattle.lq_policy.specs.declared.use_set.UseSet.{UseSet}
 

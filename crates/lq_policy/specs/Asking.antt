@@ -1,9 +1,9 @@
 -- Accesses, the policies that apply to them, and rows as rules are asked about them.
 use Rattle.std.specs.Prelude.{List, Bool}
-use Rattle.lq_model.specs.Visible.{Asked as AskedOf, applies}
-use Rattle.lq_model.specs.declared.policy.Policy.{Policy}
-use Rattle.lq_model.specs.declared.policy.PolicyParts.{PolicyParts}
-use Rattle.lq_model.specs.declared.policy.Role.{Role}
+use Rattle.lq_security.specs.Visible.{Asked as AskedOf, applies}
+use Rattle.lq_security.specs.declared.policy.Policy.{Policy}
+use Rattle.lq_security.specs.declared.policy.PolicyParts.{PolicyParts}
+use Rattle.lq_security.specs.declared.policy.Role.{Role}
 use Rattle.lq_policy.specs.Guards.{asked_at}
 use Rattle.lq_policy.specs.Roles.{number_of}
 use Rattle.lq_policy.specs.declared.access.Access.{Access}

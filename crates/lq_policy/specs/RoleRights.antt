@@ -1,13 +1,13 @@
 -- What a role may use, worked out once.
 use Rattle.std.specs.Prelude.{◌≡◌, ◌&&◌, not, List, ℕ, Bool, Option, Some, None}
 use Rattle.std.specs.List.{list_any}
-use Rattle.lq_model.specs.Rights.{is_column_of, is_same_use, may_use}
-use Rattle.lq_model.specs.Visible.{is_listed}
-use Rattle.lq_model.specs.declared.policy.PolicyParts.{PolicyParts}
-use Rattle.lq_model.specs.declared.policy.Role.{Role}
-use Rattle.lq_model.specs.declared.rights.RightRule.{RightRule}
-use Rattle.lq_model.specs.declared.rights.Use.{Use}
-use Rattle.lq_model.specs.declared.rights.Use.TheVariants as of
+use Rattle.lq_security.specs.Rights.{is_column_of, is_same_use, may_use}
+use Rattle.lq_security.specs.Visible.{is_listed}
+use Rattle.lq_security.specs.declared.policy.PolicyParts.{PolicyParts}
+use Rattle.lq_security.specs.declared.policy.Role.{Role}
+use Rattle.lq_language.specs.declared.rights.RightRule.{RightRule}
+use Rattle.lq_language.specs.declared.rights.Use.{Use}
+use Rattle.lq_language.specs.declared.rights.Use.TheVariants as of
 use Rattle.lq_policy.specs.Roles.{number_of}
 use Rattle.lq_policy.specs.declared.role_rights.RoleRights.{RoleRights}
 use Rattle.lq_policy.specs.declared.use_set.UseSet.{UseSet}

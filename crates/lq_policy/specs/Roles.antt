@@ -3,9 +3,9 @@ use Rattle.std.specs.Prelude.{◌≡◌, List, ℕ, Bool, true, false, MatchBool
 use Rattle.std.specs.Borrow.{Bor}
 use Rattle.std.specs.List.{list_any}
 use Rattle.lq_value.specs.Tables.{first_named}
-use Rattle.lq_model.specs.Visible.{goes_by, is_named}
-use Rattle.lq_model.specs.declared.policy.PolicyParts.{PolicyParts}
-use Rattle.lq_model.specs.declared.policy.Role.{Role}
+use Rattle.lq_security.specs.Visible.{goes_by, is_named}
+use Rattle.lq_security.specs.declared.policy.PolicyParts.{PolicyParts}
+use Rattle.lq_security.specs.declared.policy.Role.{Role}
 use Rattle.lq_policy.specs.declared.access.RoleId.{RoleId}
 
 -- the number that a role stands for

@@ -1,9 +1,9 @@
 -- The condition that policies keep.
 use Rattle.std.specs.Prelude.{◌&&◌, List, Bool, true, Option, Some, None}
 use Rattle.std.specs.List.{list_all}
-use Rattle.lq_model.specs.Totality.{is_total}
-use Rattle.lq_model.specs.declared.policy.Policy.{Policy}
-use Rattle.lq_model.specs.declared.syntax.Expr.{Expr}
+use Rattle.lq_security.specs.Totality.{is_total}
+use Rattle.lq_security.specs.declared.policy.Policy.{Policy}
+use Rattle.lq_grammar.specs.declared.syntax.Expr.{Expr}
 
 -- a rule that is there is total by its form
 abbrev pub rule_is_total : Option Expr → Bool

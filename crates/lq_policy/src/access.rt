@@ -1,5 +1,5 @@
 //! Who does what with the rows of which table.
-use lq_model::Action;
+use lq_security::Action;
 
 /// A role, by its number among the roles of its policies.
 #[derive(Clone, Copy, Debug, Drop, Eq, PartialEq)]

@@ -5,7 +5,8 @@ ghost use Rattle.std.specs.Option.{option_copied};
 ghost use Rattle.lq_policy.specs.Guards.{IsGuarded, IsPrepared, columns_at, rule_in};
 ghost use Rattle.lq_policy.specs.Rules.{rule_is_total, rules_are_total};
 
-use lq_model::{Action, Expr, Policy, TablePart};
+use lq_grammar::Expr;
+use lq_security::{Action, Policy, TablePart};
 use lq_rule::PreparedRule;
 use lq_value::Txt;
 use std::alloc::{AllocError, Global};

@@ -16,6 +16,7 @@ mod use_set;
 
 pub use access::RoleId;
 pub use error::PolicyError;
-pub use lq_model::{Action, Use};
+pub use lq_language::Use;
+pub use lq_security::Action;
 pub use policies::{Policies, rules_are_total};
 pub use row_rules::RowRules;

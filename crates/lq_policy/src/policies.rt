@@ -1,7 +1,7 @@
 //! Policies, which decide on each row.
 ghost use Rattle.std.specs.Prelude.{◌≡◌, [], true, IfOk};
 ghost use Rattle.std.specs.List.{AllZip};
-ghost use Rattle.lq_model.specs.Visible.{is_same_action, memberships_after};
+ghost use Rattle.lq_security.specs.Visible.{is_same_action, memberships_after};
 ghost use Rattle.lq_policy.specs.Guards.{IsGuarded};
 ghost use Rattle.lq_policy.specs.Memberships.{TellMemberships};
 ghost use Rattle.lq_policy.specs.Rules.{policy_is_total, rule_is_total, rules_are_total};
@@ -14,7 +14,8 @@ use crate::guard::{Guard, guards, rule_at};
 use crate::role_rights::RoleRights;
 use crate::role_set::{RoleSet, goes_by, memberships};
 use crate::row_rules::{RowRules, Ruled, Verdict};
-use lq_model::{Action, Expr, Policy, PolicyParts};
+use lq_grammar::Expr;
+use lq_security::{Action, Policy, PolicyParts};
 use lq_rule::PreparedRule;
 use lq_scalar::is_total;
 use lq_value::{Scalar, Txt};
@@ -37,11 +38,11 @@ pub struct Policies {
 }
 
 impl Model for Policies {
-    ghost use Rattle.lq_model.specs.declared.policy.PolicyParts.{PolicyParts};
+    ghost use Rattle.lq_security.specs.declared.policy.PolicyParts.{PolicyParts};
 
     ghost Value = { PolicyParts };
 
-    ghost use Rattle.lq_model.specs.contracts.syntax.Expr as expr;
+    ghost use Rattle.lq_grammar.specs.contracts.syntax.Expr as expr;
     ghost use Rattle.std.specs.Coded.{codes};
 
     ghost coded = { Prim.hlevel (codes, expr.the_row.coded) };
@@ -50,7 +51,7 @@ impl Model for Policies {
 
     ghost use Rattle.std.specs.Prelude.{[]};
     ghost use Rattle.std.specs.List.{AllZip};
-    ghost use Rattle.lq_model.specs.Visible.{memberships_after};
+    ghost use Rattle.lq_security.specs.Visible.{memberships_after};
     ghost use Rattle.lq_policy.specs.Guards.{IsGuarded};
     ghost use Rattle.lq_policy.specs.Memberships.{TellMemberships};
     ghost use Rattle.lq_policy.specs.RoleRights.{TellsRights};
@@ -110,7 +111,7 @@ impl Policies {
     ghost use Rattle.std.specs.Prelude.{◌≡◌, ◌&&◌, ◌||◌, not, List, ℕ, Some, filter, option_map, slice_get, true, IfOk, IfErr};
     ghost use Rattle.std.specs.List.{list_all, list_any};
     ghost use Rattle.std.specs.Option.{option_copied};
-    ghost use Rattle.lq_model.specs.Visible.{admit, admitted_by, admitted_for, admitted_to, allows, applying, first_refusing, holds_on, is_listed, permits, refuser_among, refuser_for, refuser_of, rule_for, visible_to};
+    ghost use Rattle.lq_security.specs.Visible.{admit, admitted_by, admitted_for, admitted_to, allows, applying, first_refusing, holds_on, is_listed, permits, refuser_among, refuser_for, refuser_of, rule_for, visible_to};
     ghost use Rattle.lq_policy.specs.Asking.{asked_of, bears_on};
     ghost use Rattle.lq_policy.specs.Guards.{IsRuleOf, asked_at, columns_at};
     ghost use Rattle.lq_policy.specs.Roles.{goes_by_name, number_of, refused_under, role_number};
@@ -300,7 +301,7 @@ impl Policies {
     ///
     /// Where the table's row security is on, a role that these policies don't have may do nothing
     /// with it. With a table that they don't know nobody may do anything. Takes no memory.
-    #[tactic(auto, unfolding(lq_model::specs::Visible::visible_to))]
+    #[tactic(auto, unfolding(lq_security::specs::Visible::visible_to))]
     pub fn visible(&self, role: RoleId, action: Action, table: u16, cells: &[Scalar]) -> bool
         ensures { result ≡ visible_to self.now (number_of role) action table cells.now }
     {
@@ -369,7 +370,7 @@ impl Policies {
     }
 
     /// The name of what refuses a new row of the table.
-    #[tactic(auto, unfolding(lq_model::specs::Visible::refuser_of))]
+    #[tactic(auto, unfolding(lq_security::specs::Visible::refuser_of))]
     fn refuser(&self, role: RoleId, table: u16, cells: &[Scalar]) -> Option<&str>
         ensures { option_copied result ≡ refuser_of self.now (number_of role) table cells.now }
     {
@@ -484,7 +485,7 @@ impl Policies {
 
     /// What bears on the role's action on the table, worked out once. It admits the rows that
     /// `visible` tells.
-    #[tactic(auto, unfolding(lq_model::specs::Visible::visible_to))]
+    #[tactic(auto, unfolding(lq_security::specs::Visible::visible_to))]
     pub fn rules_for(
         &self,
         alloc: Global,

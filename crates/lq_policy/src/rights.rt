@@ -1,13 +1,13 @@
 //! Rights: what a role may use, and the name of the rule that denies it.
 ghost use Rattle.std.specs.Prelude.{◌≡◌};
 ghost use Rattle.std.specs.List.{list_any};
-ghost use Rattle.lq_model.specs.Rights.{covers, is_column_of, is_same_use};
+ghost use Rattle.lq_security.specs.Rights.{covers, is_column_of, is_same_use};
 
 use crate::access::RoleId;
 use crate::policies::Policies;
 use crate::role_rights::{RoleRights, add_open, add_rights};
 use crate::use_set::UseSet;
-use lq_model::{RightRule, Use};
+use lq_language::{RightRule, Use};
 use std::alloc::{AllocError, Global};
 
 /// The name under which a use is denied that no withhold bears on.
@@ -50,10 +50,10 @@ impl Policies {
     ghost use Rattle.std.specs.Prelude.{◌≡◌, ◌&&◌, not, Some, IfOk, IfSome};
     ghost use Rattle.std.specs.List.{list_any};
     ghost use Rattle.std.specs.Option.{option_copied};
-    ghost use Rattle.lq_model.specs.Rights.{bears, concerns, denier_of, first_concerning, is_withheld, may_use, opens};
+    ghost use Rattle.lq_security.specs.Rights.{bears, concerns, denier_of, first_concerning, is_withheld, may_use, opens};
     ghost use Rattle.lq_policy.specs.RoleRights.{TellsRights, grants_by, is_among};
     ghost use Rattle.lq_policy.specs.Roles.{number_of, refused_under};
-    ghost use Rattle.lq_model.specs.declared.rights.Use.{Use};
+    ghost use Rattle.lq_language.specs.declared.rights.Use.{Use};
 
     /// The rights that the rules which apply to a role cover.
     fn covered(
@@ -174,7 +174,7 @@ impl Policies {
     }
 
     /// Whether the role may use this, by the rules.
-    #[tactic(auto, unfolding(lq_model::specs::Rights::may_use))]
+    #[tactic(auto, unfolding(lq_security::specs::Rights::may_use))]
     fn may_use_by_rules(&self, role: RoleId, used: Use) -> bool
         ensures { result ≡ may_use self.now (number_of role) used }
     {
@@ -228,7 +228,7 @@ impl Policies {
     ///
     /// A use is denied under the name of the first withhold that applies and covers it (of a table
     /// any of its columns), or under `no-grant` where there is none.
-    #[tactic(auto, unfolding(lq_model::specs::Rights::denier_of))]
+    #[tactic(auto, unfolding(lq_security::specs::Rights::denier_of))]
     pub fn right(&self, role: RoleId, used: Use) -> Result<(), &str>
         ensures { refused_under result ≡ denier_of self.now (number_of role) used }
     {

@@ -1,13 +1,13 @@
 //! What a role may use, worked out once.
 ghost use Rattle.std.specs.Prelude.{◌≡◌, ◌&&◌, ◌||◌, not, IfOk};
 ghost use Rattle.std.specs.List.{list_any};
-ghost use Rattle.lq_model.specs.Rights.{is_same_use};
-ghost use Rattle.lq_model.specs.declared.rights.Use.{Use};
+ghost use Rattle.lq_security.specs.Rights.{is_same_use};
+ghost use Rattle.lq_language.specs.declared.rights.Use.{Use};
 ghost use Rattle.lq_policy.specs.RoleRights.{gives, is_among};
 
 use crate::access::RoleId;
 use crate::use_set::UseSet;
-use lq_model::Use;
+use lq_language::Use;
 use std::alloc::AllocError;
 
 /// A role, and all that it may use.

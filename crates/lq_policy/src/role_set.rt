@@ -2,11 +2,11 @@
 ghost use Rattle.std.specs.Prelude.{◌≡◌, [], ℕ, slice_get, IfOk};
 ghost use Rattle.std.specs.List.{list_any};
 ghost use Rattle.std.specs.Option.{option_copied};
-ghost use Rattle.lq_model.specs.Visible.{is_named, memberships_after};
+ghost use Rattle.lq_security.specs.Visible.{is_named, memberships_after};
 ghost use Rattle.lq_policy.specs.Memberships.{TellMemberships, goes_by_marks, is_marked};
 ghost use Rattle.lq_policy.specs.Roles.{goes_by_name};
 
-use lq_model::Role;
+use lq_security::Role;
 use std::alloc::{AllocError, Global};
 
 /// A set of roles, by their numbers.
@@ -18,7 +18,7 @@ pub(crate) struct RoleSet {
 
 impl RoleSet {
     ghost use Rattle.std.specs.Prelude.{◌≡◌, ◌==◌, ◌≤◌, ◌&&◌, ◌||◌, false, ℕ, length, slice_get, IfOk};
-    ghost use Rattle.lq_model.specs.Visible.{is_named};
+    ghost use Rattle.lq_security.specs.Visible.{is_named};
     ghost use Rattle.lq_policy.specs.Memberships.{goes_by_marks, is_marked};
     ghost use Rattle.lq_policy.specs.Roles.{IsAnyNumber};
 

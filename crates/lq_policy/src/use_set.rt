@@ -1,10 +1,10 @@
 //! Sets of uses.
-ghost use Rattle.lq_model.specs.declared.rights.Use.{Use};
-ghost use Rattle.lq_model.specs.Rights.{is_same_use};
+ghost use Rattle.lq_language.specs.declared.rights.Use.{Use};
+ghost use Rattle.lq_security.specs.Rights.{is_same_use};
 ghost use Rattle.lq_policy.specs.RoleRights.{is_among};
 
 use indexmap::IndexSet;
-use lq_model::Use;
+use lq_language::Use;
 use std::alloc::{AllocError, Global};
 
 /// Uses, each once.

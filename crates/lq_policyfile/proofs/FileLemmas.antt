@@ -8,9 +8,9 @@ use Rattle.std.proofs.lemmas.Str.{IsUtf8-from_is_utf8, is_utf8-from_IsUtf8}
 use Rattle.toml.specs.Parse.{parse_document}
 use Rattle.lq_value.specs.Tables.{Table}
 use Rattle.lq_value.specs.declared.table.Schema.{Schema}
-use Rattle.lq_model.specs.Totality.{is_total}
-use Rattle.lq_model.specs.declared.policy.TablePart.{TablePart}
-use Rattle.lq_model.specs.declared.syntax.Expr.{Expr}
+use Rattle.lq_security.specs.Totality.{is_total}
+use Rattle.lq_security.specs.declared.policy.TablePart.{TablePart}
+use Rattle.lq_grammar.specs.declared.syntax.Expr.{Expr}
 use Rattle.lq_policy.specs.Rules as totals
 use Rattle.lq_policy.specs.Rules.{rule_is_total}
 use Rattle.lq_policyfile.specs.File.{document_of, policy_part, table_part}

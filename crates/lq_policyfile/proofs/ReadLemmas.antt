@@ -13,21 +13,21 @@ use Rattle.lq_value.specs.declared.table.Schema.{Schema}
 use Rattle.lq_value.specs.declared.ty.Ty.{Ty}
 use Rattle.lq_value.specs.declared.ty.Ty.TheVariants as ty
 use Rattle.lq_store.specs.Rules.{name_of}
-use Rattle.lq_model.specs.RuleLaws.{AreReadFor, IsRuleOver}
-use Rattle.lq_model.specs.Totality.{is_total}
-use Rattle.lq_model.specs.TotalityLaws.{is_held_rule, rule_names}
-use Rattle.lq_model.specs.OperandTypes.{is_bool_type}
-use Rattle.lq_model.specs.RuleTyping.{type_of}
-use Rattle.lq_model.specs.Visible.{HasRule, using, check, using_for_check}
-use Rattle.lq_model.specs.declared.policy.Action.{Action}
-use Rattle.lq_model.specs.declared.policy.Policy.{Policy}
-use Rattle.lq_model.specs.declared.policy.PolicyParts.{PolicyParts}
-use Rattle.lq_model.specs.declared.policy.TablePart.{TablePart}
-use Rattle.lq_model.specs.declared.syntax.Expr.{Expr}
-use Rattle.lq_model.proofs.MembershipLemmas.{has_cases, has_first, has_later, none_in_nil}
-use Rattle.lq_model.proofs.TotalityLemmas.{tells_total}
-use Rattle.lq_model.proofs.TypingLemmas.{is_truth}
-use Rattle.lq_model.proofs.KeptTypes.{keeps_types}
+use Rattle.lq_security.specs.RuleLaws.{AreReadFor, IsRuleOver}
+use Rattle.lq_security.specs.Totality.{is_total}
+use Rattle.lq_security.specs.TotalityLaws.{is_held_rule, rule_names}
+use Rattle.lq_language.specs.OperandTypes.{is_bool_type}
+use Rattle.lq_language.specs.RuleTyping.{type_of}
+use Rattle.lq_security.specs.Visible.{HasRule, using, check, using_for_check}
+use Rattle.lq_security.specs.declared.policy.Action.{Action}
+use Rattle.lq_security.specs.declared.policy.Policy.{Policy}
+use Rattle.lq_security.specs.declared.policy.PolicyParts.{PolicyParts}
+use Rattle.lq_security.specs.declared.policy.TablePart.{TablePart}
+use Rattle.lq_grammar.specs.declared.syntax.Expr.{Expr}
+use Rattle.lq_security.proofs.MembershipLemmas.{has_cases, has_first, has_later, none_in_nil}
+use Rattle.lq_security.proofs.TotalityLemmas.{tells_total}
+use Rattle.lq_language.proofs.TypingLemmas.{is_truth}
+use Rattle.lq_language.proofs.KeptTypes.{keeps_types}
 use Rattle.lq_policyfile.specs.Duplicates.{has_no_duplicates}
 use Rattle.lq_policyfile.specs.File.{document_of, most_bytes, of_document, of_entries, parts_of, policies_in, policy_part, refusal_of, table_part, unless_refused}
 use Rattle.lq_policyfile.specs.FileLaws.{AreHeld, ReadsForTables}

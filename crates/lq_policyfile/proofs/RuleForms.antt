@@ -2,25 +2,25 @@
 use Rattle.std.proofs.Common.{◌≡◌, ◌∷◌, ◌&&◌, ◌||◌, not, List, [], map, ℕ, ℤ, Bool, true, false, ap, ap₂, ◌∙◌, sym, refl}
 use Rattle.std.specs.List.{list_all}
 use Rattle.lq_value.specs.declared.table.Column.{Column}
-use Rattle.lq_model.specs.Totality.{is_row}
-use Rattle.lq_model.specs.declared.syntax.Argument.{Argument}
-use Rattle.lq_model.specs.declared.syntax.Argument.TheVariants as argument
-use Rattle.lq_model.specs.declared.syntax.Binary.{Binary}
-use Rattle.lq_model.specs.declared.syntax.Clause.{Clause}
-use Rattle.lq_model.specs.declared.syntax.Clause.TheVariants as clause
-use Rattle.lq_model.specs.declared.syntax.Continuation.{Continuation}
-use Rattle.lq_model.specs.declared.syntax.Expr.{Expr, map-Expr, out-Expr, para-roll-Expr, roll-Expr}
-use Rattle.lq_model.specs.declared.syntax.Expr.TheOpen.{Expr-F}
-use Rattle.lq_model.specs.declared.syntax.Expr.TheVariants as expr
-use Rattle.lq_model.specs.declared.syntax.Expr.TheVariants.{outs-Node, outs-Query, rolls-Node, rolls-Query}
-use Rattle.lq_model.specs.declared.syntax.Field.{Field}
-use Rattle.lq_model.specs.declared.syntax.Last.{Last}
-use Rattle.lq_model.specs.declared.syntax.Last.TheVariants as last
-use Rattle.lq_model.specs.declared.syntax.Node.{Node}
-use Rattle.lq_model.specs.declared.syntax.Node.TheVariants as node
-use Rattle.lq_model.specs.declared.syntax.Query.{Query}
-use Rattle.lq_model.specs.declared.syntax.SortKey.{SortKey}
-use Rattle.lq_model.specs.declared.syntax.Unary.{Unary}
+use Rattle.lq_security.specs.Totality.{is_row}
+use Rattle.lq_grammar.specs.declared.syntax.Argument.{Argument}
+use Rattle.lq_grammar.specs.declared.syntax.Argument.TheVariants as argument
+use Rattle.lq_grammar.specs.declared.syntax.Binary.{Binary}
+use Rattle.lq_grammar.specs.declared.syntax.Clause.{Clause}
+use Rattle.lq_grammar.specs.declared.syntax.Clause.TheVariants as clause
+use Rattle.lq_grammar.specs.declared.syntax.Continuation.{Continuation}
+use Rattle.lq_grammar.specs.declared.syntax.Expr.{Expr, map-Expr, out-Expr, para-roll-Expr, roll-Expr}
+use Rattle.lq_grammar.specs.declared.syntax.Expr.TheOpen.{Expr-F}
+use Rattle.lq_grammar.specs.declared.syntax.Expr.TheVariants as expr
+use Rattle.lq_grammar.specs.declared.syntax.Expr.TheVariants.{outs-Node, outs-Query, rolls-Node, rolls-Query}
+use Rattle.lq_grammar.specs.declared.syntax.Field.{Field}
+use Rattle.lq_grammar.specs.declared.syntax.Last.{Last}
+use Rattle.lq_grammar.specs.declared.syntax.Last.TheVariants as last
+use Rattle.lq_grammar.specs.declared.syntax.Node.{Node}
+use Rattle.lq_grammar.specs.declared.syntax.Node.TheVariants as node
+use Rattle.lq_grammar.specs.declared.syntax.Query.{Query}
+use Rattle.lq_grammar.specs.declared.syntax.SortKey.{SortKey}
+use Rattle.lq_grammar.specs.declared.syntax.Unary.{Unary}
 use Rattle.lq_policyfile.specs.RuleNames.{Told, argument_knows, clause_knows, clauses_know, continuation_knows, has_column, hidden_behind, hidden_by, knows, knows_step, last_knows, query_knows, told}
 
 pub ruleset layers = (outs-Node, outs-Query)

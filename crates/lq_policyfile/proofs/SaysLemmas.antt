@@ -11,8 +11,8 @@ use Rattle.std.proofs.lemmas.Slice.Eq.{bytes_eq-Decides}
 use Rattle.std.proofs.lemmas.Str.{IsUtf8-from_is_utf8, encodes-chars}
 use Rattle.std.proofs.lemmas.Str.Pattern.{split_once_first}
 use Rattle.unicode_ident.proofs.Computing.{unicode_ident}
-use Rattle.lq_model.specs.Tokens.{is_name, spells_name}
-use Rattle.lq_model.specs.Words.{continues_name, starts_name}
+use Rattle.lq_grammar.specs.Tokens.{is_name, spells_name}
+use Rattle.lq_grammar.specs.Words.{continues_name, starts_name}
 use Rattle.lq_policyfile.specs.Outcome.{Reads}
 use Rattle.lq_policyfile.specs.Rights.{IsRead, Says, around, by_dot, change_in_words, columns_in_words, dotted, predicate_in_words, right_of, spaced}
 use Rattle.lq_policyfile.specs.declared.entry.RightForm.{RightForm}

@@ -6,12 +6,12 @@ use Rattle.toml.specs.Data.{Members}
 use Rattle.toml.specs.Parse.{parse_document}
 use Rattle.lq_value.specs.Tables.{Table}
 use Rattle.lq_value.specs.declared.table.Schema.{Schema}
-use Rattle.lq_model.specs.declared.policy.Action.{Action}
-use Rattle.lq_model.specs.declared.policy.Action.TheVariants as action
-use Rattle.lq_model.specs.declared.policy.Policy.{Policy}
-use Rattle.lq_model.specs.declared.policy.PolicyParts.{PolicyParts}
-use Rattle.lq_model.specs.declared.policy.Role.{Role}
-use Rattle.lq_model.specs.declared.policy.TablePart.{TablePart}
+use Rattle.lq_security.specs.declared.policy.Action.{Action}
+use Rattle.lq_security.specs.declared.policy.Action.TheVariants as action
+use Rattle.lq_security.specs.declared.policy.Policy.{Policy}
+use Rattle.lq_security.specs.declared.policy.PolicyParts.{PolicyParts}
+use Rattle.lq_security.specs.declared.policy.Role.{Role}
+use Rattle.lq_security.specs.declared.policy.TablePart.{TablePart}
 use Rattle.lq_policyfile.specs.Duplicates.{has_no_duplicates}
 use Rattle.lq_policyfile.specs.Names.{names_are_known, role_names}
 use Rattle.lq_policyfile.specs.RightUses.{right_rule, table_number}

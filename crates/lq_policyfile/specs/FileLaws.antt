@@ -2,13 +2,13 @@
 use Rattle.std.specs.Prelude.{◌≡◌, List, map, ℕ, true, Ok}
 use Rattle.std.specs.List.{Contains}
 use Rattle.lq_value.specs.Tables.{Table}
-use Rattle.lq_model.specs.RuleLaws.{AreReadFor}
-use Rattle.lq_model.specs.TotalityLaws.{is_held_rule}
-use Rattle.lq_model.specs.Visible.{HasRule}
-use Rattle.lq_model.specs.declared.policy.Action.{Action}
-use Rattle.lq_model.specs.declared.policy.Policy.{Policy}
-use Rattle.lq_model.specs.declared.policy.PolicyParts.{PolicyParts}
-use Rattle.lq_model.specs.declared.syntax.Expr.{Expr}
+use Rattle.lq_security.specs.RuleLaws.{AreReadFor}
+use Rattle.lq_security.specs.TotalityLaws.{is_held_rule}
+use Rattle.lq_security.specs.Visible.{HasRule}
+use Rattle.lq_security.specs.declared.policy.Action.{Action}
+use Rattle.lq_security.specs.declared.policy.Policy.{Policy}
+use Rattle.lq_security.specs.declared.policy.PolicyParts.{PolicyParts}
+use Rattle.lq_grammar.specs.declared.syntax.Expr.{Expr}
 use Rattle.lq_policyfile.specs.File.{policies_in}
 
 -- The integer literals of each rule are ints of 32 bits. In the definitions numbers have no end; Rust holds the literals, so that no other

@@ -5,7 +5,7 @@ use Rattle.std.specs.Str.{bytes_eq}
 use Rattle.lq_value.specs.Tables.{Table, first_named}
 use Rattle.lq_value.specs.declared.table.Column.{Column}
 use Rattle.lq_store.specs.Rules.{name_of}
-use Rattle.lq_model.specs.declared.syntax.Expr.{Expr}
+use Rattle.lq_grammar.specs.declared.syntax.Expr.{Expr}
 use Rattle.lq_policyfile.specs.RuleNames.{has_column, knows}
 use Rattle.lq_policyfile.specs.declared.entry.FileEntries.{FileEntries}
 use Rattle.lq_policyfile.specs.declared.entry.PolicyEntry.{PolicyEntry}

@@ -3,10 +3,10 @@ use Rattle.std.specs.Prelude.{◌∷◌, List, [], ℕ, flat_map, unwrap_or}
 use Rattle.lq_value.specs.Tables.{Table, first_named}
 use Rattle.lq_value.specs.declared.table.Column.{Column}
 use Rattle.lq_store.specs.Rules.{name_of}
-use Rattle.lq_model.specs.Uses.{columns_from}
-use Rattle.lq_model.specs.declared.rights.RightRule.{RightRule}
-use Rattle.lq_model.specs.declared.rights.Use.{Use}
-use Rattle.lq_model.specs.declared.rights.Use.TheVariants as of
+use Rattle.lq_language.specs.Uses.{columns_from}
+use Rattle.lq_language.specs.declared.rights.RightRule.{RightRule}
+use Rattle.lq_language.specs.declared.rights.Use.{Use}
+use Rattle.lq_language.specs.declared.rights.Use.TheVariants as of
 use Rattle.lq_policyfile.specs.Names.{columns_of}
 use Rattle.lq_policyfile.specs.declared.entry.RightEntry.{RightEntry}
 use Rattle.lq_policyfile.specs.declared.entry.RightForm.{RightForm}

@@ -2,7 +2,7 @@
 use Rattle.std.specs.Prelude.{◌++◌, ◌+◌, ◌==◌, ◌≡◌, if◌then◌else◌, List, ℕ, true, Option, Some, None, Result, Ok, Err, codes, drop, option_and_then, option_map, take}
 use Rattle.std.specs.List.{position}
 use Rattle.std.specs.Str.{bytes_eq}
-use Rattle.lq_model.specs.Tokens.{is_name}
+use Rattle.lq_grammar.specs.Tokens.{is_name}
 use Rattle.lq_policyfile.specs.declared.entry.RightForm.{RightForm}
 use Rattle.lq_policyfile.specs.declared.entry.RightForm.TheVariants as form
 use Rattle.lq_policyfile.specs.declared.error.ShapeError.{ShapeError}

@@ -3,11 +3,11 @@ use Rattle.std.specs.Prelude.{List, [], Bool}
 use Rattle.std.specs.List.{list_all}
 use Rattle.lq_value.specs.Tables.{Table}
 use Rattle.lq_value.specs.declared.table.Column.{Column}
-use Rattle.lq_model.specs.Totality.{is_total}
-use Rattle.lq_model.specs.TotalityLaws.{rule_names}
-use Rattle.lq_model.specs.OperandTypes.{is_bool_type}
-use Rattle.lq_model.specs.RuleTyping.{type_of}
-use Rattle.lq_model.specs.declared.syntax.Expr.{Expr}
+use Rattle.lq_security.specs.Totality.{is_total}
+use Rattle.lq_security.specs.TotalityLaws.{rule_names}
+use Rattle.lq_language.specs.OperandTypes.{is_bool_type}
+use Rattle.lq_language.specs.RuleTyping.{type_of}
+use Rattle.lq_grammar.specs.declared.syntax.Expr.{Expr}
 use Rattle.lq_policyfile.specs.Names.{all_pass, columns_of}
 use Rattle.lq_policyfile.specs.declared.entry.PolicyEntry.{PolicyEntry}
 

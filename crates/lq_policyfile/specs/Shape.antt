@@ -2,10 +2,10 @@
 use Rattle.std.specs.Prelude.{◌∷◌, ◌&&◌, not, if◌then◌else◌, List, [], ℕ, Bool, false, Option, Some, None, option_and_then, option_map, length, nat_le, codes, is_none, is_some}
 use Rattle.std.specs.Str.{bytes_eq}
 use Rattle.toml.specs.Data.{Data, Members, as_bool, as_str, as_table}
-use Rattle.lq_model.specs.Tokens.{is_name}
-use Rattle.lq_model.specs.Reading.{Reading, Says, rule_reading_of}
-use Rattle.lq_model.specs.declared.policy.Action.TheVariants as action
-use Rattle.lq_model.specs.declared.syntax.Expr.{Expr}
+use Rattle.lq_grammar.specs.Tokens.{is_name}
+use Rattle.lq_grammar.specs.Reading.{Reading, Says, rule_reading_of}
+use Rattle.lq_security.specs.declared.policy.Action.TheVariants as action
+use Rattle.lq_grammar.specs.declared.syntax.Expr.{Expr}
 use Rattle.lq_policyfile.specs.Reading.{array_of, by_text, has_only, optional, passing, required, texts}
 use Rattle.lq_policyfile.specs.Rights.{right_of}
 use Rattle.lq_policyfile.specs.declared.entry.Actions.{Actions}

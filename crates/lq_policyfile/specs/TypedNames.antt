@@ -5,7 +5,7 @@ use Rattle.lq_value.specs.declared.table.Column.{Column}
 use Rattle.lq_value.specs.declared.ty.Ty.TheVariants as ty
 use Rattle.lq_value.specs.declared.value.Fault.TheVariants as fault
 use Rattle.lq_value.specs.declared.value.Value.TheVariants as value
-use Rattle.lq_model.specs.Worlds.{Scope, World}
+use Rattle.lq_language.specs.Worlds.{Scope, World}
 
 abbrev pub typed_world : List Column → World (Unit {0})
 typed_world columns =

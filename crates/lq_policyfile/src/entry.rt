@@ -1,5 +1,6 @@
 //! The entries of a policy file as plain data, before names are looked up.
-use lq_model::{Action, Expr};
+use lq_grammar::Expr;
+use lq_security::Action;
 use lq_value::{List, Txt};
 
 /// A role.

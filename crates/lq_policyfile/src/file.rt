@@ -15,7 +15,7 @@ use crate::names::names_are_known;
 use crate::parts::parts_of;
 use crate::rule_checks::{rules_are_total, rules_are_typed};
 use crate::shape::entries_of;
-use lq_model::PolicyParts;
+use lq_security::PolicyParts;
 use lq_policy::{Policies, PolicyError};
 use lq_store::Store;
 use std::alloc::{AllocError, Global};

@@ -10,7 +10,7 @@ use crate::entry::{FileEntries, PolicyEntry, RoleEntry, Rules, TableEntry};
 use crate::name_set::NameSet;
 use crate::rights::entries_are_known;
 use crate::rule_names::knows;
-use lq_model::Expr;
+use lq_grammar::Expr;
 use lq_store::{Column, Store};
 use lq_value::Txt;
 use std::alloc::{AllocError, Global};

@@ -10,7 +10,7 @@ use crate::duplicates::names_of;
 use crate::entry::{Actions, FileEntries, Kind, PolicyEntry, RoleEntry, TableEntry};
 use crate::name_set::NameSet;
 use crate::right_uses::right_rules;
-use lq_model::{Action, Policy, PolicyParts, Role, TablePart};
+use lq_security::{Action, Policy, PolicyParts, Role, TablePart};
 use lq_store::{Column, Schema, Store};
 use lq_value::{List, Txt};
 use std::alloc::{AllocError, Global};

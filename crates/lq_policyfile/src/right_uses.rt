@@ -1,13 +1,13 @@
 //! What rights are for, where their names are known.
 ghost use Rattle.std.specs.Prelude.{◌≡◌, ◌++◌, ◌≤◌, flat_map, length, map, unwrap_or, IfOk, IfSome, OnOk, ◌<◌};
 ghost use Rattle.lq_value.specs.Tables.{first_named};
-ghost use Rattle.lq_model.specs.Uses.{columns_from};
+ghost use Rattle.lq_language.specs.Uses.{columns_from};
 ghost use Rattle.lq_policyfile.specs.RightUses.{column_number, right_rule, uses_of};
 
 use crate::entry::{RightEntry, RightForm};
 use crate::names::columns_of;
 use crate::parts::table_number;
-use lq_model::{RightRule, Use};
+use lq_language::{RightRule, Use};
 use lq_store::{Column, Store};
 use lq_value::List;
 use std::alloc::{AllocError, Global};

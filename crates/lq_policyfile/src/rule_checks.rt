@@ -1,13 +1,13 @@
 //! The types of rules, and which of them can't fault.
 ghost use Rattle.std.specs.Prelude.{◌≡◌, option_map};
-ghost use Rattle.lq_model.specs.Totality.{is_total};
-ghost use Rattle.lq_model.specs.Names.{column_named, type_of_column};
+ghost use Rattle.lq_security.specs.Totality.{is_total};
+ghost use Rattle.lq_language.specs.Names.{column_named, type_of_column};
 ghost use Rattle.lq_policyfile.specs.Names.{all_pass, passes};
 ghost use Rattle.lq_policyfile.specs.RuleChecks.{is_typed, policy_is_typed, rules_are_total, rules_are_typed};
 
 use crate::entry::{PolicyEntry, Rules};
 use crate::names::columns_of;
-use lq_model::Expr;
+use lq_grammar::Expr;
 use lq_scalar::{ExprType, Named, Names, ScalarRef, is_total, type_of};
 use lq_store::{Column, ColumnType, Store};
 use lq_value::Scalar;

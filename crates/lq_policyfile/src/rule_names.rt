@@ -1,14 +1,12 @@
 //! Which rules name only what is there. They are looked through whole, also where they have no type.
 ghost use Rattle.std.specs.Prelude.{◌≡◌};
 ghost use Rattle.std.specs.List.{list_all};
-ghost use Rattle.lq_model.specs.Totality.{is_row};
-ghost use Rattle.lq_model.specs.declared.syntax.Expr.{out-Expr};
-ghost use Rattle.lq_model.specs.declared.syntax.Expr.TheVariants as expr;
+ghost use Rattle.lq_security.specs.Totality.{is_row};
+ghost use Rattle.lq_grammar.specs.declared.syntax.Expr.{out-Expr};
+ghost use Rattle.lq_grammar.specs.declared.syntax.Expr.TheVariants as expr;
 ghost use Rattle.lq_policyfile.specs.RuleNames.{argument_knows, body_knows, clause_knows, continuation_knows, has_column, hidden_behind, hidden_by, join_knows, knows, last_knows, query_knows};
 
-use lq_model::{
-    Argument, Body, Clause, Continuation, Expr, Field, Join, Last, Node, Query, SortKey,
-};
+use lq_grammar::{Argument, Body, Clause, Continuation, Expr, Field, Join, Last, Node, Query, SortKey};
 use lq_store::Column;
 
 /// Whether there is a column of this name.

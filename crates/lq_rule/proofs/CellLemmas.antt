@@ -4,7 +4,7 @@ use Rattle.std.specs.List.{position_from}
 use Rattle.std.specs.Prelude.{option_map}
 use Rattle.lq_value.specs.declared.scalar.Scalar.{Scalar}
 use Rattle.lq_value.specs.declared.value.Fault.TheVariants as fault
-use Rattle.lq_model.specs.TableRows.{cell_named}
+use Rattle.lq_language.specs.TableRows.{cell_named}
 use Rattle.lq_scalar.specs.Shapes.{scalar_or_fault}
 use Rattle.lq_rule.specs.Reading.{place_of, read}
 use Rattle.lq_rule.specs.declared.prepared.Prepared.TheVariants as prepared

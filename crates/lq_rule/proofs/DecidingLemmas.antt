@@ -3,11 +3,11 @@ use Rattle.std.proofs.Common.{◌≡◌, List, ℕ, true, Result, Ok, Err, ap, �
 use Rattle.lq_value.specs.declared.scalar.Scalar.{Scalar}
 use Rattle.lq_value.specs.declared.value.Fault.{Fault}
 use Rattle.lq_value.specs.declared.value.Fault.TheVariants as fault
-use Rattle.lq_model.specs.RuleMeaning.{meaning, truth_at}
-use Rattle.lq_model.specs.Operations.{on_ok, truth_of}
-use Rattle.lq_model.specs.Totality.{is_total}
-use Rattle.lq_model.specs.Visible.{is_true, rule_scope, rule_world}
-use Rattle.lq_model.specs.declared.syntax.Expr.{Expr}
+use Rattle.lq_language.specs.RuleMeaning.{meaning, truth_at}
+use Rattle.lq_language.specs.Operations.{on_ok, truth_of}
+use Rattle.lq_security.specs.Totality.{is_total}
+use Rattle.lq_security.specs.Visible.{is_true, rule_scope, rule_world}
+use Rattle.lq_grammar.specs.declared.syntax.Expr.{Expr}
 use Rattle.lq_scalar.specs.Named.{Shape}
 use Rattle.lq_scalar.specs.Shapes.{faulting, scalar_shape, shape_of, truth_in, truth_of_expression}
 use Rattle.lq_scalar.proofs.ShapeLemmas.{truth_viewed}

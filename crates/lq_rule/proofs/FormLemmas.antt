@@ -8,33 +8,33 @@ use Rattle.lq_value.specs.declared.ty.Ty.{Ty}
 use Rattle.lq_value.specs.declared.value.Fault.{Fault}
 use Rattle.lq_value.specs.declared.value.Fault.TheVariants as fault
 use Rattle.lq_value.specs.declared.value.Value.TheVariants.{outs-Row, outs-Scalar}
-use Rattle.lq_model.specs.Worlds.{binding_of, names_at}
-use Rattle.lq_model.specs.OperandMeaning.{is_null, is_row_type, told}
-use Rattle.lq_model.specs.Members.{is_search, search_named, sole_argument}
-use Rattle.lq_model.specs.Operations.{has_value, negated, of_search, of_two, on_ok, operation_of, same_content, searched, truth, truth_of}
-use Rattle.lq_model.specs.Totality.{is_division, is_divisor, is_natural, is_row, is_sure, is_total, Strength, strength_of}
-use Rattle.lq_model.specs.Names.{Names}
-use Rattle.lq_model.specs.OperandTypes.{is_comparison, is_equality}
-use Rattle.lq_model.specs.RuleTyping.{type_of}
-use Rattle.lq_model.specs.TableRows.{cell_named}
-use Rattle.lq_model.specs.Visible.{rule_scope, rule_world}
-use Rattle.lq_model.specs.declared.operation.Op.{Op}
-use Rattle.lq_model.specs.declared.operation.Op.TheVariants as op
-use Rattle.lq_model.specs.declared.syntax.Argument.{Argument}
-use Rattle.lq_model.specs.declared.syntax.Argument.TheVariants as argument
-use Rattle.lq_model.specs.declared.syntax.Binary.{Binary}
-use Rattle.lq_model.specs.declared.syntax.Binary.TheVariants as binary
-use Rattle.lq_model.specs.declared.syntax.Expr.{Expr, out-Expr}
-use Rattle.lq_model.specs.declared.syntax.Expr.TheOpen.{Expr-F}
-use Rattle.lq_model.specs.declared.syntax.Expr.TheVariants as expr
-use Rattle.lq_model.specs.declared.syntax.Expr.TheVariants.{outs-Node, outs-Query}
-use Rattle.lq_model.specs.declared.syntax.Field.{Field}
-use Rattle.lq_model.specs.declared.syntax.Node.{Node}
-use Rattle.lq_model.specs.declared.syntax.Node.TheVariants as node
-use Rattle.lq_model.specs.declared.syntax.Query.{Query}
-use Rattle.lq_model.specs.declared.syntax.Unary.TheVariants as unary
-use Rattle.lq_model.proofs.RuleTypes.{total_no_row}
-use Rattle.lq_model.proofs.TotalityLemmas.{has_sure_argument, is_total_binary, strength_and, strength_binary, strength_coalesce, strength_conditional, strength_host, strength_member, strength_method, strength_minus, strength_name, strength_new, strength_not, strength_or, strength_query, tells_total}
+use Rattle.lq_language.specs.Worlds.{binding_of, names_at}
+use Rattle.lq_language.specs.OperandMeaning.{is_null, is_row_type, told}
+use Rattle.lq_language.specs.Members.{is_search, search_named, sole_argument}
+use Rattle.lq_language.specs.Operations.{has_value, negated, of_search, of_two, on_ok, operation_of, same_content, searched, truth, truth_of}
+use Rattle.lq_security.specs.Totality.{is_division, is_divisor, is_natural, is_row, is_sure, is_total, Strength, strength_of}
+use Rattle.lq_language.specs.Names.{Names}
+use Rattle.lq_language.specs.OperandTypes.{is_comparison, is_equality}
+use Rattle.lq_language.specs.RuleTyping.{type_of}
+use Rattle.lq_language.specs.TableRows.{cell_named}
+use Rattle.lq_security.specs.Visible.{rule_scope, rule_world}
+use Rattle.lq_language.specs.declared.operation.Op.{Op}
+use Rattle.lq_language.specs.declared.operation.Op.TheVariants as op
+use Rattle.lq_grammar.specs.declared.syntax.Argument.{Argument}
+use Rattle.lq_grammar.specs.declared.syntax.Argument.TheVariants as argument
+use Rattle.lq_grammar.specs.declared.syntax.Binary.{Binary}
+use Rattle.lq_grammar.specs.declared.syntax.Binary.TheVariants as binary
+use Rattle.lq_grammar.specs.declared.syntax.Expr.{Expr, out-Expr}
+use Rattle.lq_grammar.specs.declared.syntax.Expr.TheOpen.{Expr-F}
+use Rattle.lq_grammar.specs.declared.syntax.Expr.TheVariants as expr
+use Rattle.lq_grammar.specs.declared.syntax.Expr.TheVariants.{outs-Node, outs-Query}
+use Rattle.lq_grammar.specs.declared.syntax.Field.{Field}
+use Rattle.lq_grammar.specs.declared.syntax.Node.{Node}
+use Rattle.lq_grammar.specs.declared.syntax.Node.TheVariants as node
+use Rattle.lq_grammar.specs.declared.syntax.Query.{Query}
+use Rattle.lq_grammar.specs.declared.syntax.Unary.TheVariants as unary
+use Rattle.lq_security.proofs.RuleTypes.{total_no_row}
+use Rattle.lq_security.proofs.TotalityLemmas.{has_sure_argument, is_total_binary, strength_and, strength_binary, strength_coalesce, strength_conditional, strength_host, strength_member, strength_method, strength_minus, strength_name, strength_new, strength_not, strength_or, strength_query, tells_total}
 use Rattle.lq_scalar.specs.Named.{Shape, TheRow, shape_at, shape_in}
 use Rattle.lq_scalar.specs.Shapes.{member_of_scalar, member_shape, operated_scalars, scalar_in, scalar_or_fault, scalar_shape, shape_of, told_parts, told_shapes, truth_in, truth_shape}
 use Rattle.lq_scalar.proofs.ShapeLemmas.{shape_binary, shape_both, shape_choice, shape_coalesce, shape_either, shape_integer, shape_member, shape_method, shape_minus, shape_name, shape_not, shape_null, shape_text, shape_truth}

@@ -4,10 +4,10 @@ use Rattle.lq_value.specs.declared.scalar.Scalar.{Scalar}
 use Rattle.lq_value.specs.declared.scalar.Scalar.TheVariants as scalar
 use Rattle.lq_value.specs.declared.value.Fault.{Fault}
 use Rattle.lq_value.specs.declared.value.Fault.TheVariants as fault
-use Rattle.lq_model.specs.OperandMeaning.{is_null}
-use Rattle.lq_model.specs.Operations.{has_value, of_two, on_ok, operation_of, searched, truth}
-use Rattle.lq_model.specs.declared.operation.Op.{Op}
-use Rattle.lq_model.specs.declared.syntax.Binary.{Binary}
+use Rattle.lq_language.specs.OperandMeaning.{is_null}
+use Rattle.lq_language.specs.Operations.{has_value, of_two, on_ok, operation_of, searched, truth}
+use Rattle.lq_language.specs.declared.operation.Op.{Op}
+use Rattle.lq_grammar.specs.declared.syntax.Binary.{Binary}
 use Rattle.lq_scalar.specs.Shapes.{scalar_or_fault}
 use Rattle.lq_rule.specs.Reading.{Reading, on_truth, read, reading_step, with_literal}
 use Rattle.lq_rule.specs.declared.prepared.Prepared.{Prepared, fold_out-Prepared, map-Prepared, out-Prepared}

@@ -2,16 +2,16 @@
 use Rattle.std.proofs.Common.{◌≡◌, ◌&&◌, List, ℕ, Bool, true, false, codes, ap, ◌∙◌, sym, refl, subst, true≢false}
 use Rattle.std.proofs.lemmas.Bool.{and_parts, and_from}
 use Rattle.std.proofs.lemmas.Slice.Eq.{bytes_eq-Decides}
-use Rattle.lq_model.specs.Totality.{Strength, is_divisor, is_row, is_sure, is_total, strength_of}
-use Rattle.lq_model.specs.declared.syntax.Expr.{Expr, ind-Expr, map-Expr, out-Expr, roll-Expr}
-use Rattle.lq_model.specs.declared.syntax.Expr.TheOpen.{Expr-F}
-use Rattle.lq_model.specs.declared.syntax.Expr.TheVariants as expr
-use Rattle.lq_model.specs.declared.syntax.Expr.TheVariants.{rolls-Node, rolls-Query}
-use Rattle.lq_model.specs.declared.syntax.Expr.TheViews.{roll-out-Expr}
-use Rattle.lq_model.specs.declared.syntax.Node.{Node}
-use Rattle.lq_model.specs.declared.syntax.Node.TheVariants as node
-use Rattle.lq_model.specs.declared.syntax.Unary.TheVariants as unary
-use Rattle.lq_model.proofs.TotalityLemmas.{strength_and, strength_binary, strength_coalesce, strength_conditional, strength_host, strength_integer, strength_member, strength_method, strength_minus, strength_name, strength_new, strength_not, strength_null, strength_or, strength_query, strength_text, strength_truth}
+use Rattle.lq_security.specs.Totality.{Strength, is_divisor, is_row, is_sure, is_total, strength_of}
+use Rattle.lq_grammar.specs.declared.syntax.Expr.{Expr, ind-Expr, map-Expr, out-Expr, roll-Expr}
+use Rattle.lq_grammar.specs.declared.syntax.Expr.TheOpen.{Expr-F}
+use Rattle.lq_grammar.specs.declared.syntax.Expr.TheVariants as expr
+use Rattle.lq_grammar.specs.declared.syntax.Expr.TheVariants.{rolls-Node, rolls-Query}
+use Rattle.lq_grammar.specs.declared.syntax.Expr.TheViews.{roll-out-Expr}
+use Rattle.lq_grammar.specs.declared.syntax.Node.{Node}
+use Rattle.lq_grammar.specs.declared.syntax.Node.TheVariants as node
+use Rattle.lq_grammar.specs.declared.syntax.Unary.TheVariants as unary
+use Rattle.lq_security.proofs.TotalityLemmas.{strength_and, strength_binary, strength_coalesce, strength_conditional, strength_host, strength_integer, strength_member, strength_method, strength_minus, strength_name, strength_new, strength_not, strength_null, strength_or, strength_query, strength_text, strength_truth}
 
 -- ---- what stands in a layer
 

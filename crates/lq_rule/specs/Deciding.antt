@@ -2,9 +2,9 @@
 use Rattle.std.specs.Prelude.{◌≡◌, List, ℕ, Bool}
 use Rattle.lq_value.specs.declared.scalar.Scalar.{Scalar}
 use Rattle.lq_value.specs.declared.value.Fault.TheVariants as fault
-use Rattle.lq_model.specs.Operations.{on_ok, truth_of}
-use Rattle.lq_model.specs.Visible.{is_true, rule_holds}
-use Rattle.lq_model.specs.declared.syntax.Expr.{Expr}
+use Rattle.lq_language.specs.Operations.{on_ok, truth_of}
+use Rattle.lq_security.specs.Visible.{is_true, rule_holds}
+use Rattle.lq_grammar.specs.declared.syntax.Expr.{Expr}
 use Rattle.lq_rule.specs.Reading.{read}
 use Rattle.lq_rule.specs.declared.rule.PreparedRule.{PreparedRule}
 

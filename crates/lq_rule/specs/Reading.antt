@@ -6,9 +6,9 @@ use Rattle.lq_value.specs.declared.scalar.Scalar.{Scalar}
 use Rattle.lq_value.specs.declared.scalar.Scalar.TheVariants as scalar
 use Rattle.lq_value.specs.declared.value.Fault.{Fault}
 use Rattle.lq_value.specs.declared.value.Fault.TheVariants as fault
-use Rattle.lq_model.specs.OperandMeaning.{is_null}
-use Rattle.lq_model.specs.Operations.{has_value, of_two, on_ok, operation_of, searched, truth, truth_of}
-use Rattle.lq_model.specs.declared.syntax.Binary.{Binary}
+use Rattle.lq_language.specs.OperandMeaning.{is_null}
+use Rattle.lq_language.specs.Operations.{has_value, of_two, on_ok, operation_of, searched, truth, truth_of}
+use Rattle.lq_grammar.specs.declared.syntax.Binary.{Binary}
 use Rattle.lq_scalar.specs.Shapes.{scalar_or_fault}
 use Rattle.lq_rule.specs.declared.prepared.Prepared.{Prepared, fold-Prepared}
 use Rattle.lq_rule.specs.declared.prepared.Prepared.TheOpen.{Prepared-F}

@@ -2,11 +2,11 @@
 use Rattle.std.specs.Prelude.{◌≡◌, List, ℕ, ℤ, true, Option, Some, None, Result, Ok, Err}
 use Rattle.lq_value.specs.declared.scalar.Scalar.{Scalar}
 use Rattle.lq_value.specs.declared.value.Fault.{Fault}
-use Rattle.lq_model.specs.Totality.{is_total}
-use Rattle.lq_model.specs.Visible.{rule_scope, rule_world}
-use Rattle.lq_model.specs.declared.syntax.Expr.{Expr}
-use Rattle.lq_model.specs.declared.syntax.Expr.TheOpen.{Expr-F}
-use Rattle.lq_model.specs.declared.syntax.Node.TheVariants as node
+use Rattle.lq_security.specs.Totality.{is_total}
+use Rattle.lq_security.specs.Visible.{rule_scope, rule_world}
+use Rattle.lq_grammar.specs.declared.syntax.Expr.{Expr}
+use Rattle.lq_grammar.specs.declared.syntax.Expr.TheOpen.{Expr-F}
+use Rattle.lq_grammar.specs.declared.syntax.Node.TheVariants as node
 use Rattle.lq_scalar.specs.Shapes.{scalar_shape, shape_of}
 use Rattle.lq_rule.specs.Reading.{read}
 use Rattle.lq_rule.specs.declared.prepared.Prepared.{Prepared}

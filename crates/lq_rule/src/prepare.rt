@@ -3,14 +3,14 @@ ghost use Rattle.std.specs.Prelude.{◌≡◌, IfOk, IfSome, List, ℕ, Some, tr
 ghost use Rattle.lq_value.specs.declared.scalar.Scalar.{Scalar};
 ghost use Rattle.lq_value.specs.declared.scalar.Scalar.TheVariants as scalar;
 ghost use Rattle.lq_value.specs.declared.value.Fault.TheVariants as fault;
-ghost use Rattle.lq_model.specs.Members.{is_search, search_named, sole_argument};
-ghost use Rattle.lq_model.specs.Operations.{negated};
-ghost use Rattle.lq_model.specs.Totality.{is_row};
-ghost use Rattle.lq_model.specs.TableRows.{cell_named};
-ghost use Rattle.lq_model.specs.declared.syntax.Expr.{out-Expr};
-ghost use Rattle.lq_model.specs.declared.syntax.Expr.TheVariants as expr;
-ghost use Rattle.lq_model.specs.declared.syntax.Node.TheVariants as node;
-ghost use Rattle.lq_model.specs.declared.syntax.Unary.TheVariants as unary;
+ghost use Rattle.lq_language.specs.Members.{is_search, search_named, sole_argument};
+ghost use Rattle.lq_language.specs.Operations.{negated};
+ghost use Rattle.lq_security.specs.Totality.{is_row};
+ghost use Rattle.lq_language.specs.TableRows.{cell_named};
+ghost use Rattle.lq_grammar.specs.declared.syntax.Expr.{out-Expr};
+ghost use Rattle.lq_grammar.specs.declared.syntax.Expr.TheVariants as expr;
+ghost use Rattle.lq_grammar.specs.declared.syntax.Node.TheVariants as node;
+ghost use Rattle.lq_grammar.specs.declared.syntax.Unary.TheVariants as unary;
 ghost use Rattle.lq_scalar.specs.Operands.{int_or_overflow};
 ghost use Rattle.lq_scalar.specs.Shapes.{scalar_or_fault};
 ghost use Rattle.lq_rule.specs.Reading.{place_of, read};
@@ -18,7 +18,8 @@ ghost use Rattle.lq_rule.specs.Standing.{StandsFor, integer_in, known};
 ghost use Rattle.lq_rule.specs.declared.prepared.Prepared.TheVariants as prepared;
 
 use crate::prepared::Prepared;
-use lq_model::{Argument, Binary, Expr, Node, Op, Unary};
+use lq_grammar::{Argument, Binary, Expr, Node, Unary};
+use lq_language::Op;
 use lq_value::{Fault, Held, List, Scalar, Txt};
 use std::alloc::{AllocError, Global};
 

@@ -2,12 +2,13 @@
 ghost use Rattle.std.specs.Prelude.{◌≡◌, not, Ok, slice_get};
 ghost use Rattle.lq_value.specs.declared.scalar.Scalar.TheVariants as scalar;
 ghost use Rattle.lq_value.specs.declared.value.Fault.TheVariants as fault;
-ghost use Rattle.lq_model.specs.Operations.{has_value, of_two, on_ok, operation_of, searched, truth, truth_of};
-ghost use Rattle.lq_model.specs.Visible.{is_true};
+ghost use Rattle.lq_language.specs.Operations.{has_value, of_two, on_ok, operation_of, searched, truth, truth_of};
+ghost use Rattle.lq_security.specs.Visible.{is_true};
 ghost use Rattle.lq_scalar.specs.Operands.{shown_scalar, shown_scalars};
 ghost use Rattle.lq_scalar.specs.Shapes.{scalar_or_fault};
 
-use lq_model::{Binary, Op};
+use lq_grammar::Binary;
+use lq_language::Op;
 use lq_scalar::{ScalarRef, has_value, operate, searched};
 use lq_value::{Fault, Held, Scalar};
 
@@ -103,8 +104,8 @@ fn found<'a>(op: Op, text: ScalarRef<'_>, needle: ScalarRef<'_>) -> Result<Scala
 impl Prepared {
     ghost use Rattle.std.specs.Prelude.{◌≡◌};
     ghost use Rattle.lq_value.specs.declared.value.Fault.TheVariants as fault;
-    ghost use Rattle.lq_model.specs.Operations.{on_ok, truth_of};
-    ghost use Rattle.lq_model.specs.Visible.{is_true};
+    ghost use Rattle.lq_language.specs.Operations.{on_ok, truth_of};
+    ghost use Rattle.lq_security.specs.Visible.{is_true};
     ghost use Rattle.lq_scalar.specs.Operands.{shown_scalars};
     ghost use Rattle.lq_rule.specs.Reading.{read};
 

@@ -1,7 +1,7 @@
 //! Rules prepared for the rows of a table (PostgreSQL, CREATE POLICY).
 use crate::prepare::prepared;
 use crate::prepared::Prepared;
-use lq_model::Expr;
+use lq_grammar::Expr;
 use lq_value::{Scalar, Txt};
 use std::alloc::{AllocError, Global};
 
@@ -13,7 +13,7 @@ pub struct PreparedRule {
 
 impl PreparedRule {
     ghost use Rattle.std.specs.Prelude.{◌≡◌, IfOk, true};
-    ghost use Rattle.lq_model.specs.Totality.{is_total};
+    ghost use Rattle.lq_security.specs.Totality.{is_total};
     ghost use Rattle.lq_rule.specs.Deciding.{DecidesAs, decides};
 
     /// Prepares a rule, which is total, for rows with these columns. Copies the texts that stand in it;

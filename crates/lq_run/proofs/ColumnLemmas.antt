@@ -10,9 +10,9 @@ use Rattle.lq_value.specs.declared.table.Column.{Column}
 use Rattle.lq_value.specs.declared.table.Schema.{Schema}
 use Rattle.lq_store.specs.Rules.{is_fair_range, keeps_rules}
 use Rattle.lq_store.specs.Rules.{are_distinct as keep_distinct}
-use Rattle.lq_model.specs.ValuesOfTypes.{Every}
-use Rattle.lq_model.specs.States.{State}
-use Rattle.lq_model.specs.Typing.{are_distinct, is_new}
+use Rattle.lq_language.specs.ValuesOfTypes.{Every}
+use Rattle.lq_machine.specs.States.{State}
+use Rattle.lq_language.specs.Typing.{are_distinct, is_new}
 use Rattle.lq_pipe.specs.Worlds.{HaveDistinctColumns, schemas_in}
 use Rattle.lq_pipe.specs.declared.tables.TableRows.{TableRows}
 use Rattle.lq_run.specs.SeenRows.{AreSeen}

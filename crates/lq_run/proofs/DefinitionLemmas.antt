@@ -8,14 +8,14 @@ use Rattle.lq_value.specs.declared.table.Schema.{Schema}
 use Rattle.lq_value.specs.declared.ty.Ty.{Ty}
 use Rattle.lq_store.specs.Calls.{Inserts, InsertsInto, Pushes, count_listed, without_rows}
 use Rattle.lq_store.specs.declared.error.StoreError.{StoreError}
-use Rattle.lq_model.specs.DefinitionLaws.{AreDefined, AreDefinedAfter, IsDefined, IsNew}
-use Rattle.lq_model.specs.Definitions.{definition_of, known_as, known_names}
-use Rattle.lq_model.specs.States.{State, schemas_of}
-use Rattle.lq_model.specs.Statements.{assigning, renewed}
-use Rattle.lq_model.specs.Names.{SessionName}
-use Rattle.lq_model.specs.declared.session.Defined.TheVariants as of
-use Rattle.lq_model.specs.declared.session.Definition.{Definition}
-use Rattle.lq_model.proofs.KeptDefinitions.{defined_behind, known_name, known_now, others_stay, renewed_after}
+use Rattle.lq_machine.specs.DefinitionLaws.{AreDefined, AreDefinedAfter, IsDefined, IsNew}
+use Rattle.lq_machine.specs.Definitions.{definition_of, known_as, known_names}
+use Rattle.lq_machine.specs.States.{State, schemas_of}
+use Rattle.lq_machine.specs.Statements.{assigning, renewed}
+use Rattle.lq_language.specs.Names.{SessionName}
+use Rattle.lq_machine.specs.declared.session.Defined.TheVariants as of
+use Rattle.lq_machine.specs.declared.session.Definition.{Definition}
+use Rattle.lq_machine.proofs.KeptDefinitions.{defined_behind, known_name, known_now, others_stay, renewed_after}
 use Rattle.lq_tree.proofs.TypeLemmas.{later}
 use Rattle.lq_run.specs.States.{Assigns, IsValueFor, with_value}
 use Rattle.lq_run.proofs.TableLemmas.{within}

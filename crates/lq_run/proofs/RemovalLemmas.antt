@@ -15,22 +15,22 @@ use Rattle.lq_value.specs.declared.value.Fault.{Fault}
 use Rattle.lq_value.specs.declared.value.Fault.TheVariants as fault
 use Rattle.lq_value.specs.declared.value.Value.{Value}
 use Rattle.lq_value.specs.declared.value.Value.TheVariants as value
-use Rattle.lq_model.specs.ClauseTyping.{expression_type}
-use Rattle.lq_model.specs.Worlds.{World, bound}
-use Rattle.lq_model.specs.OperandMeaning.{on_scalar}
-use Rattle.lq_model.specs.ClauseMeaning.{condition_at}
-use Rattle.lq_model.specs.ValuesOfTypes.{Every, HasCells, HaveTypes}
-use Rattle.lq_model.specs.Operations.{truth_of}
-use Rattle.lq_model.specs.States.{State, schemas_of, world_in}
-use Rattle.lq_model.specs.Statements.{chosen, removable}
-use Rattle.lq_model.specs.Stream.{Stream, kept, then_ending, then_stream, where_by}
-use Rattle.lq_model.specs.TableRows.{TableRow}
-use Rattle.lq_model.specs.Visible.{visible_to}
-use Rattle.lq_model.specs.Meaning.{expression_meaning}
-use Rattle.lq_model.specs.declared.policy.Action.TheVariants as action
-use Rattle.lq_model.specs.declared.syntax.Expr.{Expr}
-use Rattle.lq_model.proofs.EveryItem.{each_same, every_filter, every_map}
-use Rattle.lq_model.proofs.SeenTables.{column_by}
+use Rattle.lq_language.specs.ClauseTyping.{expression_type}
+use Rattle.lq_language.specs.Worlds.{World, bound}
+use Rattle.lq_language.specs.OperandMeaning.{on_scalar}
+use Rattle.lq_language.specs.ClauseMeaning.{condition_at}
+use Rattle.lq_language.specs.ValuesOfTypes.{Every, HasCells, HaveTypes}
+use Rattle.lq_language.specs.Operations.{truth_of}
+use Rattle.lq_machine.specs.States.{State, schemas_of, world_in}
+use Rattle.lq_machine.specs.Statements.{chosen, removable}
+use Rattle.lq_language.specs.Stream.{Stream, kept, then_ending, then_stream, where_by}
+use Rattle.lq_language.specs.TableRows.{TableRow}
+use Rattle.lq_security.specs.Visible.{visible_to}
+use Rattle.lq_language.specs.Meaning.{expression_meaning}
+use Rattle.lq_security.specs.declared.policy.Action.TheVariants as action
+use Rattle.lq_grammar.specs.declared.syntax.Expr.{Expr}
+use Rattle.lq_language.proofs.EveryItem.{each_same, every_filter, every_map}
+use Rattle.lq_machine.proofs.SeenTables.{column_by}
 use Rattle.lq_tree.specs.FormMeaning.{form_meaning, is_true}
 use Rattle.lq_tree.specs.Rows.{stream_map}
 use Rattle.lq_tree.specs.declared.tree.Form.{Form}

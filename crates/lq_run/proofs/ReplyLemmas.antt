@@ -5,19 +5,19 @@ use Rattle.lq_value.specs.declared.ty.Ty.{Ty, out-Ty}
 use Rattle.lq_value.specs.declared.ty.Ty.TheOpen.{Ty-F}
 use Rattle.lq_value.specs.declared.value.Fault.{Fault}
 use Rattle.lq_value.specs.declared.value.Value.{Value}
-use Rattle.lq_model.specs.ClauseTyping.{expression_type}
-use Rattle.lq_model.specs.DefinitionLaws.{AreDefined}
-use Rattle.lq_model.specs.Worlds.{World}
-use Rattle.lq_model.specs.Rights.{Denied, denial}
-use Rattle.lq_model.specs.Served.{error_data, line_of}
-use Rattle.lq_model.specs.Serving.{run_denial, run_reply, served, served_as, served_type, unless_denied, used_by}
-use Rattle.lq_model.specs.States.{State, cells_of, names_in, schemas_of, world_in}
-use Rattle.lq_model.specs.Types.{has_place, if_placed, when}
-use Rattle.lq_model.specs.Uses.{shown_columns}
-use Rattle.lq_model.specs.TableRows.{TableRow}
-use Rattle.lq_model.specs.Meaning.{expression_meaning}
-use Rattle.lq_model.specs.declared.rights.Use.{Use}
-use Rattle.lq_model.specs.declared.syntax.Expr.{Expr}
+use Rattle.lq_language.specs.ClauseTyping.{expression_type}
+use Rattle.lq_machine.specs.DefinitionLaws.{AreDefined}
+use Rattle.lq_language.specs.Worlds.{World}
+use Rattle.lq_security.specs.Rights.{Denied, denial}
+use Rattle.lq_machine.specs.Served.{error_data, line_of}
+use Rattle.lq_machine.specs.Serving.{run_denial, run_reply, served, served_as, served_type, unless_denied, used_by}
+use Rattle.lq_machine.specs.States.{State, cells_of, names_in, schemas_of, world_in}
+use Rattle.lq_language.specs.Types.{has_place, if_placed, when}
+use Rattle.lq_language.specs.Uses.{shown_columns}
+use Rattle.lq_language.specs.TableRows.{TableRow}
+use Rattle.lq_language.specs.Meaning.{expression_meaning}
+use Rattle.lq_language.specs.declared.rights.Use.{Use}
+use Rattle.lq_grammar.specs.declared.syntax.Expr.{Expr}
 use Rattle.lq_tree.specs.FormMeaning.{form_meaning}
 use Rattle.lq_tree.specs.UsesOfForms.{form_uses}
 use Rattle.lq_tree.specs.declared.tree.Tree.{Tree}

@@ -4,9 +4,9 @@ use Rattle.lq_value.specs.declared.scalar.Scalar.{Scalar}
 use Rattle.lq_value.specs.declared.table.Schema.{Schema}
 use Rattle.lq_value.specs.declared.ty.Ty.{Ty, out-Ty}
 use Rattle.lq_value.specs.declared.ty.Ty.TheOpen.{Ty-F}
-use Rattle.lq_model.specs.Worlds.{World}
-use Rattle.lq_model.specs.OperandMeaning.{stream_of}
-use Rattle.lq_model.specs.Served.{stream_data, value_data}
+use Rattle.lq_language.specs.Worlds.{World}
+use Rattle.lq_language.specs.OperandMeaning.{stream_of}
+use Rattle.lq_machine.specs.Served.{stream_data, value_data}
 use Rattle.lq_tree.specs.FormMeaning.{form_meaning}
 use Rattle.lq_tree.specs.Rows.{OverRows}
 use Rattle.lq_tree.specs.declared.tree.Form.{Form}

@@ -8,18 +8,18 @@ use Rattle.lq_value.specs.declared.value.Fault.{Fault}
 use Rattle.lq_value.specs.declared.value.Value.{Value, out-Value}
 use Rattle.lq_value.specs.declared.value.Value.TheOpen.{Value-F}
 use Rattle.lq_value.specs.declared.value.Value.TheVariants.{outs-Scalar}
-use Rattle.lq_model.specs.DefinitionLaws.{AreDefined}
-use Rattle.lq_model.specs.ValuesOfTypes.{IsScalarOf}
-use Rattle.lq_model.specs.Rights.{Denied, denial}
-use Rattle.lq_model.specs.Served.{denied_data, error_data, fault_data, line_of}
-use Rattle.lq_model.specs.States.{State, names_in, schemas_of, world_in}
-use Rattle.lq_model.specs.Statements.{Outcome, allowed_by, refused, with_scalar, with_value}
-use Rattle.lq_model.specs.Uses.{expression_uses}
-use Rattle.lq_model.specs.TableRows.{TableRow}
-use Rattle.lq_model.specs.Meaning.{expression_meaning}
-use Rattle.lq_model.specs.declared.rights.Use.{Use}
-use Rattle.lq_model.specs.declared.syntax.Expr.{Expr}
-use Rattle.lq_model.proofs.ValuesOfTypes.{is_plain, plain_value}
+use Rattle.lq_machine.specs.DefinitionLaws.{AreDefined}
+use Rattle.lq_language.specs.ValuesOfTypes.{IsScalarOf}
+use Rattle.lq_security.specs.Rights.{Denied, denial}
+use Rattle.lq_machine.specs.Served.{denied_data, error_data, fault_data, line_of}
+use Rattle.lq_machine.specs.States.{State, names_in, schemas_of, world_in}
+use Rattle.lq_machine.specs.Statements.{Outcome, allowed_by, refused, with_scalar, with_value}
+use Rattle.lq_language.specs.Uses.{expression_uses}
+use Rattle.lq_language.specs.TableRows.{TableRow}
+use Rattle.lq_language.specs.Meaning.{expression_meaning}
+use Rattle.lq_language.specs.declared.rights.Use.{Use}
+use Rattle.lq_grammar.specs.declared.syntax.Expr.{Expr}
+use Rattle.lq_language.proofs.ValuesOfTypes.{is_plain, plain_value}
 use Rattle.lq_tree.specs.FormMeaning.{form_meaning}
 use Rattle.lq_tree.specs.Rows.{mapped, result_map}
 use Rattle.lq_tree.specs.UsesOfForms.{form_uses}

@@ -8,10 +8,10 @@ use Rattle.std.proofs.lemmas.Option.{none-some, same_Some}
 use Rattle.lq_value.specs.Tables.{Table}
 use Rattle.lq_value.specs.declared.scalar.Scalar.{Scalar}
 use Rattle.lq_value.specs.declared.table.Row.{Row}
-use Rattle.lq_model.specs.TableRows.{TableRow}
-use Rattle.lq_model.specs.Visible.{seen_from, seen_rows, tables_as_seen, visible_to}
-use Rattle.lq_model.specs.declared.policy.Action.{Action}
-use Rattle.lq_model.specs.declared.policy.PolicyParts.{PolicyParts}
+use Rattle.lq_language.specs.TableRows.{TableRow}
+use Rattle.lq_security.specs.Visible.{seen_from, seen_rows, tables_as_seen, visible_to}
+use Rattle.lq_security.specs.declared.policy.Action.{Action}
+use Rattle.lq_security.specs.declared.policy.PolicyParts.{PolicyParts}
 use Rattle.lq_policy.specs.RowRules.{admits}
 use Rattle.lq_policy.specs.declared.row_rules.RowRules.{RowRules}
 use Rattle.lq_run.specs.SeenRows.{admitted_rows, shown_row, shown_rows}

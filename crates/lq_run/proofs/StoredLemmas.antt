@@ -13,8 +13,8 @@ use Rattle.lq_value.specs.declared.ty.Ty.{Ty, out-Ty}
 use Rattle.lq_value.specs.declared.ty.Ty.TheOpen.{Ty-F}
 use Rattle.lq_value.specs.declared.ty.Ty.TheVariants.{outs-Bool, outs-Int, outs-IntN, outs-Str}
 use Rattle.lq_store.specs.Rules.{IsTable, are_in_ranges, fit_columns, fits_schema, have_types, is_of_type}
-use Rattle.lq_model.specs.ValuesOfTypes.{Every, HaveTypes, IsScalarOf, IsTypedTable}
-use Rattle.lq_model.specs.Names.{type_of_column}
+use Rattle.lq_language.specs.ValuesOfTypes.{Every, HaveTypes, IsScalarOf, IsTypedTable}
+use Rattle.lq_language.specs.Names.{type_of_column}
 
 typed_cell : (t : ColumnType) (cell : Scalar) → is_of_type t cell ≡ true → IsScalarOf (out-Ty (type_of_column t)) cell
 typed_cell of.Int (scalar.Int n) h = subst (λ (u : Ty-F Ty). IsScalarOf u (scalar.Int n)) (sym outs-Int) tt

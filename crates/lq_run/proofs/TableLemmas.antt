@@ -7,9 +7,9 @@ use Rattle.std.proofs.lemmas.Option.{none-some, same_Some}
 use Rattle.std.proofs.lemmas.Simd.{map-map}
 use Rattle.lq_value.specs.Tables.{Table}
 use Rattle.lq_store.specs.Rules.{IsTable}
-use Rattle.lq_model.specs.DefinitionLaws.{AreDefined}
-use Rattle.lq_model.specs.States.{State, schemas_of, seen_by_role}
-use Rattle.lq_model.specs.ValuesOfTypes.{Every}
+use Rattle.lq_machine.specs.DefinitionLaws.{AreDefined}
+use Rattle.lq_machine.specs.States.{State, schemas_of, seen_by_role}
+use Rattle.lq_language.specs.ValuesOfTypes.{Every}
 use Rattle.lq_pipe.specs.Worlds.{rows_in, schemas_in}
 use Rattle.lq_pipe.specs.declared.tables.TableRows.{TableRows}
 use Rattle.lq_run.specs.SeenRows.{AreSeen, row_lists, shown_row, shown_rows}

@@ -7,20 +7,20 @@ use Rattle.lq_value.specs.declared.value.Fault.TheVariants as fault
 use Rattle.lq_value.specs.declared.value.Value.{Value}
 use Rattle.lq_value.specs.declared.value.Value.TheVariants as value
 use Rattle.lq_store.specs.Rules.{IsTable}
-use Rattle.lq_model.specs.DefinitionLaws.{AreDefined}
-use Rattle.lq_model.specs.Definitions.{with_session}
-use Rattle.lq_model.specs.Worlds.{Binding, World, bound}
-use Rattle.lq_model.specs.ValuesOfTypes.{Every, HasCells, HoldsRows}
-use Rattle.lq_model.specs.Operators.{One}
-use Rattle.lq_model.specs.Served.{columns_in}
-use Rattle.lq_model.specs.States.{State, schemas_of, seen_by_role, world_in, world_of}
-use Rattle.lq_model.specs.TableRows.{TableRow, cell_named}
-use Rattle.lq_model.specs.Meaning.{expression_meaning}
-use Rattle.lq_model.specs.MeaningLaws.{IsSessionOfValues, IsValueOf, by_row}
-use Rattle.lq_model.specs.declared.syntax.Expr.{Expr}
-use Rattle.lq_model.proofs.DefinitionLemmas.{names_have_values}
-use Rattle.lq_model.proofs.EveryItem.{every_none}
-use Rattle.lq_model.proofs.SeenTables.{holds_seen}
+use Rattle.lq_machine.specs.DefinitionLaws.{AreDefined}
+use Rattle.lq_machine.specs.Definitions.{with_session}
+use Rattle.lq_language.specs.Worlds.{Binding, World, bound}
+use Rattle.lq_language.specs.ValuesOfTypes.{Every, HasCells, HoldsRows}
+use Rattle.lq_language.specs.Operators.{One}
+use Rattle.lq_machine.specs.Served.{columns_in}
+use Rattle.lq_machine.specs.States.{State, schemas_of, seen_by_role, world_in, world_of}
+use Rattle.lq_language.specs.TableRows.{TableRow, cell_named}
+use Rattle.lq_language.specs.Meaning.{expression_meaning}
+use Rattle.lq_language.specs.MeaningLaws.{IsSessionOfValues, IsValueOf, by_row}
+use Rattle.lq_grammar.specs.declared.syntax.Expr.{Expr}
+use Rattle.lq_machine.proofs.DefinitionLemmas.{names_have_values}
+use Rattle.lq_language.proofs.EveryItem.{every_none}
+use Rattle.lq_machine.proofs.SeenTables.{holds_seen}
 use Rattle.lq_translate.specs.Translated.{translated}
 use Rattle.lq_translate.proofs.Alike.{terms_mean}
 use Rattle.lq_tree.specs.BindingLaws.{GivesAll}

@@ -2,9 +2,9 @@
 use Rattle.std.specs.Prelude.{◌++◌, List, map, ℕ}
 use Rattle.lq_value.specs.declared.table.Row.{Row}
 use Rattle.lq_value.specs.declared.value.End.{End}
-use Rattle.lq_model.specs.Worlds.{World}
-use Rattle.lq_model.specs.Stream.{Stream}
-use Rattle.lq_model.specs.TableRows.{TableRow}
+use Rattle.lq_language.specs.Worlds.{World}
+use Rattle.lq_language.specs.Stream.{Stream}
+use Rattle.lq_language.specs.TableRows.{TableRow}
 use Rattle.lq_tree.specs.declared.tree.Form.{Form}
 use Rattle.lq_pipe.specs.Conditions.{rows_true}
 use Rattle.lq_policy.specs.declared.row_rules.RowRules.{RowRules}

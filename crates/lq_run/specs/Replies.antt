@@ -1,9 +1,9 @@
 -- What the line of a tree answers: every expression that is bound to the tree.
 use Rattle.std.specs.Prelude.{◌≡◌, List, ℕ, Some}
-use Rattle.lq_model.specs.Serving.{run_in, run_reply}
-use Rattle.lq_model.specs.States.{State, names_in, world_in}
-use Rattle.lq_model.specs.Served.{line_of}
-use Rattle.lq_model.specs.declared.syntax.Expr.{Expr}
+use Rattle.lq_machine.specs.Serving.{run_in, run_reply}
+use Rattle.lq_machine.specs.States.{State, names_in, world_in}
+use Rattle.lq_machine.specs.Served.{line_of}
+use Rattle.lq_grammar.specs.declared.syntax.Expr.{Expr}
 use Rattle.lq_tree.specs.declared.tree.Tree.{Tree}
 use Rattle.lq_run.specs.Statements.{tree_in}
 

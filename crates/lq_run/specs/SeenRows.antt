@@ -4,12 +4,12 @@ use Rattle.std.specs.declared.alloc.Global.{Global}
 use Rattle.lq_value.specs.declared.scalar.Scalar.{Scalar}
 use Rattle.lq_value.specs.declared.table.Row.{Row}
 use Rattle.lq_store.specs.Rules.{IsTable}
-use Rattle.lq_model.specs.DefinitionLaws.{AreDefined}
-use Rattle.lq_model.specs.States.{State, schemas_of, seen_by_role}
-use Rattle.lq_model.specs.ValuesOfTypes.{Every}
-use Rattle.lq_model.specs.TableRows.{TableRow}
-use Rattle.lq_model.specs.Visible.{visible_to}
-use Rattle.lq_model.specs.declared.policy.Action.{Action}
+use Rattle.lq_machine.specs.DefinitionLaws.{AreDefined}
+use Rattle.lq_machine.specs.States.{State, schemas_of, seen_by_role}
+use Rattle.lq_language.specs.ValuesOfTypes.{Every}
+use Rattle.lq_language.specs.TableRows.{TableRow}
+use Rattle.lq_security.specs.Visible.{visible_to}
+use Rattle.lq_security.specs.declared.policy.Action.{Action}
 use Rattle.lq_policy.specs.RowRules.{admits}
 use Rattle.lq_policy.specs.declared.row_rules.RowRules.{RowRules}
 use Rattle.lq_pipe.specs.Worlds.{rows_in, schemas_in}

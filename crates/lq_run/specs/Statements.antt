@@ -12,16 +12,16 @@ use Rattle.lq_value.specs.declared.value.End.{End}
 use Rattle.lq_value.specs.declared.value.Fault.{Fault}
 use Rattle.lq_value.specs.declared.value.Value.{Value}
 use Rattle.lq_value.specs.declared.value.Value.TheOpen.{Value-F}
-use Rattle.lq_model.specs.ValuesOfTypes.{IsScalarOf}
-use Rattle.lq_model.specs.Rights.{Denied, denial}
-use Rattle.lq_model.specs.Served.{denied_data, line_of}
-use Rattle.lq_model.specs.States.{State, schemas_of, world_in}
-use Rattle.lq_model.specs.Statements.{Outcome, chosen, evaluated, with_value}
-use Rattle.lq_model.specs.Stream.{Stream}
-use Rattle.lq_model.specs.TableRows.{TableRow}
-use Rattle.lq_model.specs.Meaning.{expression_meaning}
-use Rattle.lq_model.specs.declared.rights.Use.{Use}
-use Rattle.lq_model.specs.declared.syntax.Expr.{Expr}
+use Rattle.lq_language.specs.ValuesOfTypes.{IsScalarOf}
+use Rattle.lq_security.specs.Rights.{Denied, denial}
+use Rattle.lq_machine.specs.Served.{denied_data, line_of}
+use Rattle.lq_machine.specs.States.{State, schemas_of, world_in}
+use Rattle.lq_machine.specs.Statements.{Outcome, chosen, evaluated, with_value}
+use Rattle.lq_language.specs.Stream.{Stream}
+use Rattle.lq_language.specs.TableRows.{TableRow}
+use Rattle.lq_language.specs.Meaning.{expression_meaning}
+use Rattle.lq_language.specs.declared.rights.Use.{Use}
+use Rattle.lq_grammar.specs.declared.syntax.Expr.{Expr}
 use Rattle.lq_bind.specs.Outcomes.{IsBound}
 use Rattle.lq_bind.specs.declared.error.BindError.{BindError}
 use Rattle.lq_translate.specs.Translated.{translated}

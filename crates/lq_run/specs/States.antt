@@ -2,13 +2,13 @@
 use Rattle.std.specs.Prelude.{◌≡◌, List, ℕ, Some}
 use Rattle.lq_value.specs.declared.scalar.Scalar.{Scalar}
 use Rattle.lq_value.specs.declared.ty.Ty.{Ty, out-Ty}
-use Rattle.lq_model.specs.Definitions.{definition_of}
-use Rattle.lq_model.specs.ValuesOfTypes.{IsScalarOf}
-use Rattle.lq_model.specs.States.{State}
-use Rattle.lq_model.specs.Statements.{assigning}
-use Rattle.lq_model.specs.declared.session.Defined.{Defined}
-use Rattle.lq_model.specs.declared.session.Defined.TheVariants as of
-use Rattle.lq_model.specs.declared.session.Definition.{Definition}
+use Rattle.lq_machine.specs.Definitions.{definition_of}
+use Rattle.lq_language.specs.ValuesOfTypes.{IsScalarOf}
+use Rattle.lq_machine.specs.States.{State}
+use Rattle.lq_machine.specs.Statements.{assigning}
+use Rattle.lq_machine.specs.declared.session.Defined.{Defined}
+use Rattle.lq_machine.specs.declared.session.Defined.TheVariants as of
+use Rattle.lq_machine.specs.declared.session.Definition.{Definition}
 
 -- a name is that of a variable, and this is a value of the variable's type
 abbrev pub IsValueFor : List Definition → List ℕ → Scalar → Type 0

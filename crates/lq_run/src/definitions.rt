@@ -3,7 +3,7 @@ ghost use Rattle.std.specs.Prelude.{◌≡◌};
 ghost use Rattle.lq_value.specs.Tables.{first_named};
 ghost use Rattle.lq_run.specs.States.{with_value};
 
-use lq_model::{Defined, Definition};
+use lq_machine::{Defined, Definition};
 use lq_value::Scalar;
 
 /// The place of the first definition of this name.

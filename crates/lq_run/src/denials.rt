@@ -1,7 +1,7 @@
 //! The line of a denial.
 ghost use Rattle.std.specs.Prelude.{◌≡◌, IfOk};
-ghost use Rattle.lq_model.specs.States.{schemas_of};
-ghost use Rattle.lq_model.specs.Served.{denied_data, line_of};
+ghost use Rattle.lq_machine.specs.States.{schemas_of};
+ghost use Rattle.lq_machine.specs.Served.{denied_data, line_of};
 ghost use Rattle.lq_run.specs.Statements.{TellsDenial};
 
 use crate::seen::SeenRow;

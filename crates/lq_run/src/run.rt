@@ -1,8 +1,8 @@
 //! The answer to `run`.
 ghost use Rattle.std.specs.Prelude.{◌≡◌, false, IfOk};
-ghost use Rattle.lq_model.specs.Opening.{is_past_opening};
-ghost use Rattle.lq_model.specs.Served.{line_of};
-ghost use Rattle.lq_model.specs.Serving.{run_in};
+ghost use Rattle.lq_machine.specs.Opening.{is_past_opening};
+ghost use Rattle.lq_machine.specs.Served.{line_of};
+ghost use Rattle.lq_machine.specs.Serving.{run_in};
 ghost use Rattle.lq_run.specs.Replies.{AnswersTree, ServesTree};
 
 use crate::denials::denied;
@@ -12,7 +12,8 @@ use crate::state::State;
 use crate::tables::with_rows;
 use crate::trees::tree_of;
 use lq_json::Line;
-use lq_model::{Expr, Opened};
+use lq_grammar::Expr;
+use lq_machine::Opened;
 use lq_tree::{Tree, ty};
 use lq_typing::has_place;
 use lq_use::uses;

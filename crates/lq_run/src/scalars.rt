@@ -2,7 +2,7 @@
 ghost use Rattle.std.specs.Prelude.{◌≡◌, true, IfOk};
 ghost use Rattle.lq_value.specs.declared.ty.Ty.{out-Ty};
 ghost use Rattle.lq_value.specs.declared.value.Value.{out-Value};
-ghost use Rattle.lq_model.specs.Served.{fault_data, line_of};
+ghost use Rattle.lq_machine.specs.Served.{fault_data, line_of};
 ghost use Rattle.lq_run.specs.Statements.{EvaluatesTree, YieldsTree, is_of_scalars, scalar_in};
 
 use crate::denials::denied;

@@ -1,6 +1,6 @@
 //! The rows of tables that a role sees.
 ghost use Rattle.std.specs.Prelude.{◌≡◌, ◌<◌, Some, IfOk, length, map, option_map, slice_get};
-ghost use Rattle.lq_model.specs.States.{seen_by_role};
+ghost use Rattle.lq_machine.specs.States.{seen_by_role};
 ghost use Rattle.lq_run.specs.SeenRows.{admitted_rows, shown_row, shown_rows, visible_rows};
 
 use crate::state::State;

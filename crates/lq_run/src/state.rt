@@ -1,6 +1,6 @@
 //! What a session is between two statements.
 use crate::definitions::{place_of, renew};
-use lq_model::{Defined, Definition};
+use lq_machine::{Defined, Definition};
 use lq_policy::{Policies, RoleId};
 use lq_store::{Store, StoreError};
 use lq_value::{Scalar, Txt};
@@ -19,9 +19,9 @@ pub struct State {
 }
 
 impl Model for State {
-    ghost use Rattle.lq_model.specs.DefinitionLaws.{AreDefined};
-    ghost use Rattle.lq_model.specs.States.{State, schemas_of};
-    ghost use Rattle.lq_model.specs.contracts.syntax.Expr as expr;
+    ghost use Rattle.lq_machine.specs.DefinitionLaws.{AreDefined};
+    ghost use Rattle.lq_machine.specs.States.{State, schemas_of};
+    ghost use Rattle.lq_grammar.specs.contracts.syntax.Expr as expr;
     ghost use Rattle.lq_value.specs.contracts.ty.Ty as ty;
     ghost use Rattle.lq_policy.specs.Roles.{number_of};
     ghost use Rattle.std.specs.Coded.{codes};
@@ -37,10 +37,10 @@ impl Model for State {
 
 impl State {
     ghost use Rattle.std.specs.Prelude.{◌≡◌, ◌<◌, [], IfSome, IfErr, OnOk, length, set, slice_get};
-    ghost use Rattle.lq_model.specs.DefinitionLaws.{AreDefined, IsDefined, IsNew};
-    ghost use Rattle.lq_model.specs.Definitions.{known_names};
-    ghost use Rattle.lq_model.specs.States.{schemas_of};
-    ghost use Rattle.lq_model.specs.Statements.{defining_also};
+    ghost use Rattle.lq_machine.specs.DefinitionLaws.{AreDefined, IsDefined, IsNew};
+    ghost use Rattle.lq_machine.specs.Definitions.{known_names};
+    ghost use Rattle.lq_machine.specs.States.{schemas_of};
+    ghost use Rattle.lq_machine.specs.Statements.{defining_also};
     ghost use Rattle.lq_policy.specs.Roles.{number_of};
     ghost use Rattle.lq_run.specs.States.{Assigns, IsValueFor};
     ghost use Rattle.lq_store.specs.Calls.{Inserts, count_listed, shown_pushed, without_rows};

@@ -1,11 +1,12 @@
 //! The trees of expressions, where a statement stands.
 ghost use Rattle.std.specs.Prelude.{◌≡◌, false, IfOk};
-ghost use Rattle.lq_model.specs.Opening.{is_past_opening};
+ghost use Rattle.lq_machine.specs.Opening.{is_past_opening};
 ghost use Rattle.lq_run.specs.Statements.{FindsTree, condition_in, tree_in};
 
 use crate::state::State;
 use lq_bind::{BindError, Scope, bind_condition, bind_term};
-use lq_model::{Expr, Opened};
+use lq_grammar::Expr;
+use lq_machine::Opened;
 use lq_translate::translate_expression;
 use lq_tree::Tree;
 use lq_value::Txt;

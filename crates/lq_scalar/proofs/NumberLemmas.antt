@@ -7,7 +7,7 @@ use Rattle.std.specs.Ordering.{int_eq}
 use Rattle.std.proofs.lemmas.Bool.{le-leb, leb-true}
 use Rattle.lq_value.specs.declared.scalar.Scalar.TheVariants as scalar
 use Rattle.lq_value.specs.declared.value.Fault.TheVariants as fault
-use Rattle.lq_model.specs.Operations.{checked, divided, is_int, left_over, on_ok}
+use Rattle.lq_language.specs.Operations.{checked, divided, is_int, left_over, on_ok}
 use Rattle.lq_scalar.specs.Operands.{int_or_overflow}
 
 is_fit : (z : ℤ) → is_int z ≡ true → SFits w32 z

@@ -4,11 +4,11 @@ use Rattle.std.proofs.lemmas.List.{map-id}
 use Rattle.std.specs.Result.{result_unwrap_or}
 use Rattle.lq_value.specs.declared.scalar.Scalar.{Scalar}
 use Rattle.lq_value.specs.declared.value.Value.TheVariants.{outs-Row, outs-Scalar}
-use Rattle.lq_model.specs.RuleMeaning.{meaning, truth_at}
-use Rattle.lq_model.specs.Totality.{is_total}
-use Rattle.lq_model.specs.Visible.{is_true, rule_holds, rule_scope, rule_world}
-use Rattle.lq_model.specs.declared.syntax.Expr.{Expr}
-use Rattle.lq_model.proofs.TotalityLemmas.{tells_total}
+use Rattle.lq_language.specs.RuleMeaning.{meaning, truth_at}
+use Rattle.lq_security.specs.Totality.{is_total}
+use Rattle.lq_security.specs.Visible.{is_true, rule_holds, rule_scope, rule_world}
+use Rattle.lq_grammar.specs.declared.syntax.Expr.{Expr}
+use Rattle.lq_security.proofs.TotalityLemmas.{tells_total}
 use Rattle.lq_scalar.specs.Shapes.{IsSparing, IsTruth, faulting, shape_of, truth_of_expression}
 use Rattle.lq_scalar.specs.Sums.{sums_in}
 use Rattle.lq_scalar.specs.declared.error.ScalarError.{ScalarError}

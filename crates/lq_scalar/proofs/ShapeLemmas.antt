@@ -10,23 +10,23 @@ use Rattle.lq_value.specs.declared.value.Value.{Value, out-Value}
 use Rattle.lq_value.specs.declared.value.Value.TheOpen.{Value-F}
 use Rattle.lq_value.specs.declared.value.Value.TheVariants.{outs-Scalar, outs-Seq}
 use Rattle.lq_value.specs.declared.value.Value.TheVariants as value
-use Rattle.lq_model.specs.Worlds.{Binding, Scope, World, binding_of, names_at}
-use Rattle.lq_model.specs.OperandMeaning.{as_value, cell_value, comparand, is_null, member_value, name_value, on_comparand, on_scalar, on_truth, same_values, scalar_of, table_value, told, truth_value}
-use Rattle.lq_model.specs.RuleMeaning.{compared_meaning, meaning, operated_meaning}
-use Rattle.lq_model.specs.Members.{search_named, sole_argument}
-use Rattle.lq_model.specs.Operations.{negated, of_search, on_ok, truth_of}
-use Rattle.lq_model.specs.Names.{Names, table_number}
-use Rattle.lq_model.specs.OperandTypes.{is_equality}
-use Rattle.lq_model.specs.RuleTyping.{type_of}
-use Rattle.lq_model.specs.declared.syntax.Argument.{Argument}
-use Rattle.lq_model.specs.declared.syntax.Binary.{Binary}
-use Rattle.lq_model.specs.declared.syntax.Expr.{Expr}
-use Rattle.lq_model.specs.declared.syntax.Expr.TheVariants as expr
-use Rattle.lq_model.specs.declared.syntax.Field.{Field}
-use Rattle.lq_model.specs.declared.syntax.Node.TheVariants as node
-use Rattle.lq_model.specs.declared.syntax.Query.{Query}
-use Rattle.lq_model.specs.declared.syntax.Unary.TheVariants as unary
-use Rattle.lq_model.proofs.Opens.{argument_meaning, meaning_binary, meaning_both, meaning_choice, meaning_coalesce, meaning_either, meaning_host, meaning_integer, meaning_member, meaning_method, meaning_minus, meaning_name, meaning_not, meaning_null, meaning_query, meaning_record, meaning_text, meaning_truth}
+use Rattle.lq_language.specs.Worlds.{Binding, Scope, World, binding_of, names_at}
+use Rattle.lq_language.specs.OperandMeaning.{as_value, cell_value, comparand, is_null, member_value, name_value, on_comparand, on_scalar, on_truth, same_values, scalar_of, table_value, told, truth_value}
+use Rattle.lq_language.specs.RuleMeaning.{compared_meaning, meaning, operated_meaning}
+use Rattle.lq_language.specs.Members.{search_named, sole_argument}
+use Rattle.lq_language.specs.Operations.{negated, of_search, on_ok, truth_of}
+use Rattle.lq_language.specs.Names.{Names, table_number}
+use Rattle.lq_language.specs.OperandTypes.{is_equality}
+use Rattle.lq_language.specs.RuleTyping.{type_of}
+use Rattle.lq_grammar.specs.declared.syntax.Argument.{Argument}
+use Rattle.lq_grammar.specs.declared.syntax.Binary.{Binary}
+use Rattle.lq_grammar.specs.declared.syntax.Expr.{Expr}
+use Rattle.lq_grammar.specs.declared.syntax.Expr.TheVariants as expr
+use Rattle.lq_grammar.specs.declared.syntax.Field.{Field}
+use Rattle.lq_grammar.specs.declared.syntax.Node.TheVariants as node
+use Rattle.lq_grammar.specs.declared.syntax.Query.{Query}
+use Rattle.lq_grammar.specs.declared.syntax.Unary.TheVariants as unary
+use Rattle.lq_language.proofs.Opens.{argument_meaning, meaning_binary, meaning_both, meaning_choice, meaning_coalesce, meaning_either, meaning_host, meaning_integer, meaning_member, meaning_method, meaning_minus, meaning_name, meaning_not, meaning_null, meaning_query, meaning_record, meaning_text, meaning_truth}
 use Rattle.lq_scalar.specs.declared.operand.Operand.{Operand}
 use Rattle.lq_scalar.specs.declared.operand.Operand.TheVariants as operand
 use Rattle.lq_scalar.specs.Named.{Shape, TheRow, TheScalar, shape_at, shape_in}

@@ -1,20 +1,20 @@
 -- How many `+` stand in an expression, form by form; in a rule that is total stands none.
 use Rattle.std.proofs.Common.{◌≡◌, ◌+◌, ◌∷◌, List, [], ℕ, ℤ, Bool, true, ap, ap₂, ◌∙◌, refl}
-use Rattle.lq_model.specs.Members.{sole_argument}
-use Rattle.lq_model.specs.Totality.{Claim, Holds, IsTotal, Sure, Total, is_division, sure_coalesce, sure_conditional, sure_text, sure_user, total_and, total_coalesce, total_column, total_comparison, total_conditional, total_division, total_has_value, total_integer, total_minus, total_not, total_null, total_or, total_search, total_text, total_truth, total_user}
-use Rattle.lq_model.specs.OperandTypes.{is_comparison}
-use Rattle.lq_model.specs.declared.syntax.Argument.{Argument}
-use Rattle.lq_model.specs.declared.syntax.Argument.TheVariants as argument
-use Rattle.lq_model.specs.declared.syntax.Binary.{Binary}
-use Rattle.lq_model.specs.declared.syntax.Binary.TheVariants as binary
-use Rattle.lq_model.specs.declared.syntax.Expr.{Expr, fold_out-Expr, map-Expr, out-Expr}
-use Rattle.lq_model.specs.declared.syntax.Expr.TheOpen.{Expr-F}
-use Rattle.lq_model.specs.declared.syntax.Expr.TheVariants.{outs-Node, outs-Query}
-use Rattle.lq_model.specs.declared.syntax.Expr.TheVariants as expr
-use Rattle.lq_model.specs.declared.syntax.Node.{Node}
-use Rattle.lq_model.specs.declared.syntax.Node.TheVariants as node
-use Rattle.lq_model.specs.declared.syntax.Unary.{Unary}
-use Rattle.lq_model.specs.declared.syntax.Unary.TheVariants as unary
+use Rattle.lq_language.specs.Members.{sole_argument}
+use Rattle.lq_security.specs.Totality.{Claim, Holds, IsTotal, Sure, Total, is_division, sure_coalesce, sure_conditional, sure_text, sure_user, total_and, total_coalesce, total_column, total_comparison, total_conditional, total_division, total_has_value, total_integer, total_minus, total_not, total_null, total_or, total_search, total_text, total_truth, total_user}
+use Rattle.lq_language.specs.OperandTypes.{is_comparison}
+use Rattle.lq_grammar.specs.declared.syntax.Argument.{Argument}
+use Rattle.lq_grammar.specs.declared.syntax.Argument.TheVariants as argument
+use Rattle.lq_grammar.specs.declared.syntax.Binary.{Binary}
+use Rattle.lq_grammar.specs.declared.syntax.Binary.TheVariants as binary
+use Rattle.lq_grammar.specs.declared.syntax.Expr.{Expr, fold_out-Expr, map-Expr, out-Expr}
+use Rattle.lq_grammar.specs.declared.syntax.Expr.TheOpen.{Expr-F}
+use Rattle.lq_grammar.specs.declared.syntax.Expr.TheVariants.{outs-Node, outs-Query}
+use Rattle.lq_grammar.specs.declared.syntax.Expr.TheVariants as expr
+use Rattle.lq_grammar.specs.declared.syntax.Node.{Node}
+use Rattle.lq_grammar.specs.declared.syntax.Node.TheVariants as node
+use Rattle.lq_grammar.specs.declared.syntax.Unary.{Unary}
+use Rattle.lq_grammar.specs.declared.syntax.Unary.TheVariants as unary
 use Rattle.lq_scalar.specs.Sums.{sum_sign, sums_in, sums_of_argument, sums_step}
 
 abbrev layer_sums : Expr-F Expr → ℕ

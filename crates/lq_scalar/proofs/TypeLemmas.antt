@@ -3,7 +3,7 @@ use Rattle.std.proofs.Common.{◌≡◌}
 use Rattle.lq_value.specs.declared.ty.Ty.{out-Ty}
 use Rattle.lq_value.specs.declared.ty.Ty.TheVariants.{outs-Bool, outs-Int, outs-IntN, outs-Null, outs-Row, outs-Seq, outs-Str}
 use Rattle.lq_value.specs.declared.ty.Ty.TheVariants as ty
-use Rattle.lq_model.proofs.Opens.{type_binary, type_integer, type_member, type_name, type_text, type_truth, type_null, type_minus, type_not, type_both, type_either, type_coalesce, type_choice, type_host, type_record, type_method, type_query}
+use Rattle.lq_language.proofs.Opens.{type_binary, type_integer, type_member, type_name, type_text, type_truth, type_null, type_minus, type_not, type_both, type_either, type_coalesce, type_choice, type_host, type_record, type_method, type_query}
 use Rattle.lq_scalar.specs.Named.{layer_of, shown_type}
 use Rattle.lq_scalar.specs.declared.names.ExprType.{ExprType}
 use Rattle.lq_scalar.specs.declared.names.ExprType.TheVariants as kind

@@ -8,7 +8,7 @@ use Rattle.lq_value.specs.declared.value.Fault.{Fault}
 use Rattle.lq_value.specs.declared.value.Fault.TheVariants as fault
 use Rattle.lq_value.specs.declared.value.Value.{Value, out-Value}
 use Rattle.lq_value.specs.declared.value.Value.TheOpen.{Value-F}
-use Rattle.lq_model.specs.Worlds.{Binding, World}
+use Rattle.lq_language.specs.Worlds.{Binding, World}
 use Rattle.lq_scalar.specs.Operands.{shown_scalar}
 use Rattle.lq_scalar.specs.declared.names.ExprType.{ExprType}
 use Rattle.lq_scalar.specs.declared.names.ExprType.TheVariants as kind

@@ -6,13 +6,13 @@ use Rattle.lq_value.specs.declared.ty.Ty.{Ty}
 use Rattle.lq_value.specs.declared.value.Fault.{Fault}
 use Rattle.lq_value.specs.declared.value.Fault.TheVariants as fault
 use Rattle.lq_value.specs.declared.value.Value.{out-Value}
-use Rattle.lq_model.specs.Worlds.{Scope, World, binding_of}
-use Rattle.lq_model.specs.OperandMeaning.{is_row_type, operation_on, told}
-use Rattle.lq_model.specs.RuleMeaning.{meaning}
-use Rattle.lq_model.specs.Members.{member_named}
-use Rattle.lq_model.specs.Operations.{of_member, of_two, on_ok, same_content, truth_of}
-use Rattle.lq_model.specs.declared.syntax.Binary.{Binary}
-use Rattle.lq_model.specs.declared.syntax.Expr.{Expr}
+use Rattle.lq_language.specs.Worlds.{Scope, World, binding_of}
+use Rattle.lq_language.specs.OperandMeaning.{is_row_type, operation_on, told}
+use Rattle.lq_language.specs.RuleMeaning.{meaning}
+use Rattle.lq_language.specs.Members.{member_named}
+use Rattle.lq_language.specs.Operations.{of_member, of_two, on_ok, same_content, truth_of}
+use Rattle.lq_grammar.specs.declared.syntax.Binary.{Binary}
+use Rattle.lq_grammar.specs.declared.syntax.Expr.{Expr}
 use Rattle.lq_scalar.specs.Named.{Shape, TheRow, TheScalar, cell_in, row_at, shape_in}
 use Rattle.lq_scalar.specs.Operands.{shown_scalar}
 use Rattle.lq_scalar.specs.Sums.{sums_in}

@@ -1,12 +1,12 @@
 -- Where an evaluation may make a text: how many `+` stand in an expression that is evaluated here.
 use Rattle.std.specs.Prelude.{◌+◌, ℕ, Option, Some, None}
-use Rattle.lq_model.specs.Members.{sole_argument}
-use Rattle.lq_model.specs.declared.syntax.Binary.{Binary}
-use Rattle.lq_model.specs.declared.syntax.Binary.TheVariants as binary
-use Rattle.lq_model.specs.declared.syntax.Expr.{Expr, fold-Expr}
-use Rattle.lq_model.specs.declared.syntax.Expr.TheOpen.{Expr-F}
-use Rattle.lq_model.specs.declared.syntax.Node.{Node}
-use Rattle.lq_model.specs.declared.syntax.Node.TheVariants as node
+use Rattle.lq_language.specs.Members.{sole_argument}
+use Rattle.lq_grammar.specs.declared.syntax.Binary.{Binary}
+use Rattle.lq_grammar.specs.declared.syntax.Binary.TheVariants as binary
+use Rattle.lq_grammar.specs.declared.syntax.Expr.{Expr, fold-Expr}
+use Rattle.lq_grammar.specs.declared.syntax.Expr.TheOpen.{Expr-F}
+use Rattle.lq_grammar.specs.declared.syntax.Node.{Node}
+use Rattle.lq_grammar.specs.declared.syntax.Node.TheVariants as node
 
 abbrev pub sum_sign : Binary → ℕ
 sum_sign binary.Add = 1

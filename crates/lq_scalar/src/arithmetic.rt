@@ -1,11 +1,11 @@
 //! Arithmetic, checked, with null (ECMA-334, arithmetic operators).
 ghost use Rattle.std.specs.Prelude.{◌≡◌};
 ghost use Rattle.lq_value.specs.declared.value.Fault.TheVariants as fault;
-ghost use Rattle.lq_model.specs.Operations.{arithmetic, computed, divided, left_over, negated};
+ghost use Rattle.lq_language.specs.Operations.{arithmetic, computed, divided, left_over, negated};
 ghost use Rattle.lq_scalar.specs.Operands.{int_or_overflow, ints_in, numbers_in, shown_scalar};
 
 use crate::scalar_ref::ScalarRef;
-use lq_model::Op;
+use lq_language::Op;
 use lq_value::Fault;
 
 /// What an operator of arithmetic gives to two numbers: null, where one is null. None stands for null.

@@ -1,7 +1,7 @@
 //! The cell of a row under the name of a column.
 ghost use Rattle.std.specs.Prelude.{◌≡◌, map};
 ghost use Rattle.std.specs.Option.{option_copied};
-ghost use Rattle.lq_model.specs.TableRows.{cell_named};
+ghost use Rattle.lq_language.specs.TableRows.{cell_named};
 
 use lq_value::{Column, Scalar, Txt};
 

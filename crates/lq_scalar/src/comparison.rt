@@ -1,12 +1,12 @@
 //! Comparisons of scalars (ECMA-334, relational and equality operators).
 ghost use Rattle.std.specs.Prelude.{◌≡◌, int_le, int_lt};
 ghost use Rattle.lq_value.specs.declared.value.Fault.TheVariants as fault;
-ghost use Rattle.lq_model.specs.Operations.{compared, ordered_by, same_content};
-ghost use Rattle.lq_model.specs.OperandTypes.{is_comparison};
+ghost use Rattle.lq_language.specs.Operations.{compared, ordered_by, same_content};
+ghost use Rattle.lq_language.specs.OperandTypes.{is_comparison};
 ghost use Rattle.lq_scalar.specs.Operands.{shown_scalar};
 
 use crate::scalar_ref::ScalarRef;
-use lq_model::Binary;
+use lq_grammar::Binary;
 use lq_value::Fault;
 
 /// Whether the operator compares its operands.

@@ -9,7 +9,7 @@ use crate::evaluation::Evaluation;
 use crate::names::Names;
 use crate::operand::Operand;
 use crate::scalar_ref::ScalarRef;
-use lq_model::Expr;
+use lq_grammar::Expr;
 use lq_value::{Fault, Scalar, Txt};
 use std::alloc::Global;
 

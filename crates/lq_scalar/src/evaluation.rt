@@ -1,9 +1,9 @@
 //! Evaluation of expressions to a row or a scalar, or to their first fault (ECMA-334, expressions).
 ghost use Rattle.std.specs.Prelude.{◌≡◌, option_map, true};
 ghost use Rattle.lq_value.specs.declared.value.Fault.TheVariants as fault;
-ghost use Rattle.lq_model.specs.Members.{search_named};
-ghost use Rattle.lq_model.specs.Operations.{negated, of_search, on_ok, truth};
-ghost use Rattle.lq_model.specs.OperandTypes.{is_equality};
+ghost use Rattle.lq_language.specs.Members.{search_named};
+ghost use Rattle.lq_language.specs.Operations.{negated, of_search, on_ok, truth};
+ghost use Rattle.lq_language.specs.OperandTypes.{is_equality};
 ghost use Rattle.lq_scalar.specs.Operands.{shown_scalar, shown_scalars};
 ghost use Rattle.lq_scalar.specs.Shapes.{operand_part, operand_scalar, told_parts};
 
@@ -16,7 +16,7 @@ use crate::scalar_ref::ScalarRef;
 use crate::signs::{negate, operate};
 use crate::texts::{Joins, joined};
 use crate::types::{is_row, is_text, type_of};
-use lq_model::{Argument, Binary, Expr, Node, Unary};
+use lq_grammar::{Argument, Binary, Expr, Node, Unary};
 use lq_value::{Fault, List};
 
 fn is_equality(sign: Binary) -> bool
@@ -84,19 +84,19 @@ pub(crate) struct Evaluation<'a, N, T> {
 
 impl<'a, N: Names, T: Joins> Evaluation<'a, N, T> {
     ghost use Rattle.std.specs.Prelude.{◌≡◌, ◌+◌};
-    ghost use Rattle.lq_model.specs.Operations.{on_ok};
+    ghost use Rattle.lq_language.specs.Operations.{on_ok};
     ghost use Rattle.lq_scalar.specs.Shapes.{operand_scalar};
-    ghost use Rattle.lq_model.specs.Worlds.{binding_of, names_at};
-    ghost use Rattle.lq_model.specs.OperandTypes.{is_text_type};
-    ghost use Rattle.lq_model.specs.RuleTyping.{type_of};
-    ghost use Rattle.lq_model.specs.declared.syntax.Expr.TheVariants as expr;
-    ghost use Rattle.lq_model.specs.declared.syntax.Node.TheVariants as node;
-    ghost use Rattle.lq_model.specs.declared.syntax.Unary.TheVariants as unary;
-    ghost use Rattle.lq_model.specs.declared.syntax.Binary.TheVariants as binary;
+    ghost use Rattle.lq_language.specs.Worlds.{binding_of, names_at};
+    ghost use Rattle.lq_language.specs.OperandTypes.{is_text_type};
+    ghost use Rattle.lq_language.specs.RuleTyping.{type_of};
+    ghost use Rattle.lq_grammar.specs.declared.syntax.Expr.TheVariants as expr;
+    ghost use Rattle.lq_grammar.specs.declared.syntax.Node.TheVariants as node;
+    ghost use Rattle.lq_grammar.specs.declared.syntax.Unary.TheVariants as unary;
+    ghost use Rattle.lq_grammar.specs.declared.syntax.Binary.TheVariants as binary;
     ghost use Rattle.lq_value.specs.declared.scalar.Scalar.TheVariants as scalar;
     ghost use Rattle.lq_scalar.specs.Named.{cell_in, row_at, shape_at};
     ghost use Rattle.lq_scalar.specs.Operands.{IsAnswer, shown_scalar, shown_scalars};
-    ghost use Rattle.lq_model.specs.Members.{sole_argument};
+    ghost use Rattle.lq_language.specs.Members.{sole_argument};
     ghost use Rattle.lq_scalar.specs.Sums.{sum_sign, sums_in, sums_of_argument};
     ghost use Rattle.lq_scalar.specs.Shapes.{IsEvaluated, IsOperand, IsSparing, IsTruth, shape_of_argument, truth_of_expression, scalar_or_fault, member_of_null, member_shape, operated_scalars, scalar_shape, shape_of, shown_operand, shown_operands};
 

@@ -2,14 +2,14 @@
 //! `Nullable<int>` and `String`).
 ghost use Rattle.std.specs.Prelude.{◌≡◌};
 ghost use Rattle.lq_value.specs.declared.value.Fault.TheVariants as fault;
-ghost use Rattle.lq_model.specs.Members.{search_named};
-ghost use Rattle.lq_model.specs.Operations.{has_value, of_search, value_of};
+ghost use Rattle.lq_language.specs.Members.{search_named};
+ghost use Rattle.lq_language.specs.Operations.{has_value, of_search, value_of};
 ghost use Rattle.lq_scalar.specs.Operands.{ints_in, shown_scalar, shown_scalars};
 ghost use Rattle.lq_scalar.specs.Shapes.{named_member};
 
 use crate::scalar_ref::ScalarRef;
 use crate::texts::{length_of, searched};
-use lq_model::Op;
+use lq_language::Op;
 use lq_value::Fault;
 
 /// Whether an `int?` has a value (.NET, `Nullable<int>.HasValue`). Truth values and texts, which no

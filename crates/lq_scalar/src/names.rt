@@ -1,7 +1,7 @@
 //! What the names of an expression stand for, and the types of what it holds.
 ghost use Rattle.std.specs.Prelude.{◌≡◌};
-ghost use Rattle.lq_model.specs.Names.{type_of_column};
-ghost use Rattle.lq_model.specs.OperandTypes.{is_scalar};
+ghost use Rattle.lq_language.specs.Names.{type_of_column};
+ghost use Rattle.lq_language.specs.OperandTypes.{is_scalar};
 ghost use Rattle.lq_scalar.specs.Named.{layer_of, shown_type};
 
 use crate::scalar_ref::ScalarRef;
@@ -64,9 +64,9 @@ pub enum Named<'a> {
 pub trait Names {
     ghost use Rattle.std.specs.Prelude.{◌≡◌, option_map};
     ghost use Rattle.std.specs.Option.{option_copied};
-    ghost use Rattle.lq_model.specs.Worlds.{Scope, World, binding_of, names_at};
-    ghost use Rattle.lq_model.specs.Names.{column_type, local_type};
-    ghost use Rattle.lq_model.specs.RuleTyping.{name_type};
+    ghost use Rattle.lq_language.specs.Worlds.{Scope, World, binding_of, names_at};
+    ghost use Rattle.lq_language.specs.Names.{column_type, local_type};
+    ghost use Rattle.lq_language.specs.RuleTyping.{name_type};
     ghost use Rattle.lq_scalar.specs.Named.{cell_in, row_at, shape_at, shown_named, shown_type};
 
     /// A row as it is meant.

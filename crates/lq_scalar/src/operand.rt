@@ -15,8 +15,8 @@ pub(crate) enum Operand<'a> {
 
 impl Operand<'_> {
     ghost use Rattle.std.specs.Prelude.{◌≡◌, option_map, Ok};
-    ghost use Rattle.lq_model.specs.OperandMeaning.{is_null};
-    ghost use Rattle.lq_model.specs.Operations.{on_ok, truth_of};
+    ghost use Rattle.lq_language.specs.OperandMeaning.{is_null};
+    ghost use Rattle.lq_language.specs.Operations.{on_ok, truth_of};
     ghost use Rattle.lq_value.specs.declared.value.Fault.TheVariants as fault;
     ghost use Rattle.lq_scalar.specs.Operands.{shown_scalar, shown_scalars};
     ghost use Rattle.lq_scalar.specs.Shapes.{operand_part, operand_scalar};

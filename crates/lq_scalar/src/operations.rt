@@ -1,7 +1,7 @@
 //! An operator or member, applied to the values of its operands.
 ghost use Rattle.std.specs.Prelude.{◌≡◌};
 ghost use Rattle.lq_value.specs.declared.value.Fault.TheVariants as fault;
-ghost use Rattle.lq_model.specs.Operations.{applied, compared, of_one, of_two, truth, truth_of};
+ghost use Rattle.lq_language.specs.Operations.{applied, compared, of_one, of_two, truth, truth_of};
 ghost use Rattle.lq_scalar.specs.Operands.{IsAnswer, number_or_null};
 
 use crate::arithmetic::{arithmetic, negated};
@@ -10,7 +10,8 @@ use crate::error::ScalarError;
 use crate::members::{has_value, value_of};
 use crate::scalar_ref::ScalarRef;
 use crate::texts::{joined, length_of, searched};
-use lq_model::{Binary, Op};
+use lq_grammar::Binary;
+use lq_language::Op;
 use lq_value::{Fault, Scalar};
 use std::alloc::Global;
 

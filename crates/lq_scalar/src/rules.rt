@@ -1,15 +1,15 @@
 //! Rules of row policies, read on a row (PostgreSQL, CREATE POLICY). A rule's names are `row`, with
 //! its columns, and `user`, the name of the role.
 ghost use Rattle.std.specs.Prelude.{◌≡◌, true};
-ghost use Rattle.lq_model.specs.Totality.{is_total};
-ghost use Rattle.lq_model.specs.Visible.{rule_holds};
+ghost use Rattle.lq_security.specs.Totality.{is_total};
+ghost use Rattle.lq_security.specs.Visible.{rule_holds};
 
 use crate::cell::cell_named;
 use crate::evaluation::Evaluation;
 use crate::names::{ExprType, Named, Names};
 use crate::scalar_ref::ScalarRef;
 use crate::texts::NoTexts;
-use lq_model::Expr;
+use lq_grammar::Expr;
 use lq_value::{Scalar, Txt};
 
 /// A row as a rule reads it: its cells, in the order of its columns' names.
@@ -31,7 +31,7 @@ struct RuleNames<'a> {
 impl Names for RuleNames<'_> {
     ghost use Rattle.std.specs.Prelude.{List};
     ghost use Rattle.lq_value.specs.declared.scalar.Scalar.{Scalar};
-    ghost use Rattle.lq_model.specs.Visible.{rule_scope, rule_world};
+    ghost use Rattle.lq_security.specs.Visible.{rule_scope, rule_world};
 
     ghost Row = { List Scalar };
 

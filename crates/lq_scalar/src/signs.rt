@@ -2,13 +2,14 @@
 //! operators).
 ghost use Rattle.std.specs.Prelude.{◌≡◌};
 ghost use Rattle.lq_value.specs.declared.value.Fault.TheVariants as fault;
-ghost use Rattle.lq_model.specs.Operations.{negated, of_two, operation_of};
+ghost use Rattle.lq_language.specs.Operations.{negated, of_two, operation_of};
 ghost use Rattle.lq_scalar.specs.Operands.{number_or_null, shown_scalar, shown_scalars};
 
 use crate::arithmetic::{arithmetic, negated};
 use crate::comparison::compared;
 use crate::scalar_ref::ScalarRef;
-use lq_model::{Binary, Op};
+use lq_grammar::Binary;
+use lq_language::Op;
 use lq_value::Fault;
 
 /// What a sign between two numbers gives: what they compare as, or their sum and the like. Takes no

@@ -3,13 +3,13 @@
 ghost use Rattle.std.specs.Prelude.{◌≡◌};
 ghost use Rattle.std.specs.Str.{chars};
 ghost use Rattle.lq_value.specs.declared.value.Fault.TheVariants as fault;
-ghost use Rattle.lq_model.specs.Operations.{found, joined, length_of, searched, utf16_units};
+ghost use Rattle.lq_language.specs.Operations.{found, joined, length_of, searched, utf16_units};
 ghost use Rattle.lq_scalar.specs.Operands.{IsText, ints_in, shown_scalar, units_within};
 
 use crate::arithmetic::int_or_overflow;
 use crate::error::ScalarError;
 use crate::scalar_ref::ScalarRef;
-use lq_model::Op;
+use lq_language::Op;
 use lq_value::{Fault, Txt};
 use std::alloc::{AllocError, Global};
 

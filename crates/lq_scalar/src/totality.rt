@@ -1,13 +1,13 @@
 //! Which rules of row policies are total: by their form they can't fault where they are typed as truth values.
 ghost use Rattle.std.specs.Prelude.{◌≡◌, ◌&&◌, if◌then◌else◌, false};
-ghost use Rattle.lq_model.specs.Members.{is_search};
-ghost use Rattle.lq_model.specs.Totality.{is_division, is_divisor, is_natural, is_row, is_sure, is_total};
-ghost use Rattle.lq_model.specs.OperandTypes.{is_comparison};
-ghost use Rattle.lq_model.specs.declared.syntax.Expr.{out-Expr};
-ghost use Rattle.lq_model.specs.declared.syntax.Expr.TheVariants as expr;
+ghost use Rattle.lq_language.specs.Members.{is_search};
+ghost use Rattle.lq_security.specs.Totality.{is_division, is_divisor, is_natural, is_row, is_sure, is_total};
+ghost use Rattle.lq_language.specs.OperandTypes.{is_comparison};
+ghost use Rattle.lq_grammar.specs.declared.syntax.Expr.{out-Expr};
+ghost use Rattle.lq_grammar.specs.declared.syntax.Expr.TheVariants as expr;
 
 use crate::comparison::is_comparison;
-use lq_model::{Argument, Binary, Expr, Node, Unary};
+use lq_grammar::{Argument, Binary, Expr, Node, Unary};
 
 /// What is known of an expression of a rule by its form. Both are told at once, so that no expression
 /// is looked at twice.

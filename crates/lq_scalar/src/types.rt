@@ -1,16 +1,16 @@
 //! The types of expressions over names.
 ghost use Rattle.std.specs.Prelude.{◌≡◌, ◌&&◌, option_map};
-ghost use Rattle.lq_model.specs.Worlds.{names_at};
-ghost use Rattle.lq_model.specs.OperandMeaning.{is_row_type};
-ghost use Rattle.lq_model.specs.OperandTypes.{are_comparable, are_joined, chosen, coalesced, if_number, is_bool_type, is_number, is_ordering, is_text_type, joined_type, member_type, number_type, operated_type, truth_type};
-ghost use Rattle.lq_model.specs.RuleTyping.{type_of};
-ghost use Rattle.lq_model.specs.declared.syntax.Expr.TheVariants as expr;
+ghost use Rattle.lq_language.specs.Worlds.{names_at};
+ghost use Rattle.lq_language.specs.OperandMeaning.{is_row_type};
+ghost use Rattle.lq_language.specs.OperandTypes.{are_comparable, are_joined, chosen, coalesced, if_number, is_bool_type, is_number, is_ordering, is_text_type, joined_type, member_type, number_type, operated_type, truth_type};
+ghost use Rattle.lq_language.specs.RuleTyping.{type_of};
+ghost use Rattle.lq_grammar.specs.declared.syntax.Expr.TheVariants as expr;
 ghost use Rattle.lq_scalar.specs.Named.{layer_of, shown_type};
 ghost use Rattle.lq_scalar.specs.declared.names.ExprType.TheVariants as kind;
 
 use crate::names::{ExprType, Names};
 use crate::totality::is_search;
-use lq_model::{Argument, Binary, Expr, Node, Unary};
+use lq_grammar::{Argument, Binary, Expr, Node, Unary};
 
 /// Whether values of the type are numbers or, where it is `int?`, null.
 fn is_number(known: ExprType) -> bool

@@ -1,6 +1,6 @@
 -- How the program ends follows from what serving promises of its outcome.
 use Rattle.std.proofs.Common.{◌≡◌, ◌≢◌, ◌↔◌, ◌∙◌, ℕ, Bool, true, false, List, Option, Ok, Err, IfOk, IfErr, ap, refl, subst, sym}
-use Rattle.lq_model.specs.States.{State}
+use Rattle.lq_machine.specs.States.{State}
 use Rattle.lq_serve.specs.Devices.{Writes}
 use Rattle.lq_serve.specs.Ending.{Comes, Finished, IsUntouched, Outcome, is_read_fault, is_write_fault, status_of_outcome, told_of_outcome}
 use Rattle.lq_serve.specs.ScriptRun.{IsNoText, IsTooLong, ServedInPart, ServedWhole}

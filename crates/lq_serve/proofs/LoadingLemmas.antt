@@ -5,7 +5,7 @@ use Rattle.lq_value.specs.Tables.{Table}
 use Rattle.lq_store.specs.Calls.{addition_refusal_of, unless_memory}
 use Rattle.lq_store.specs.declared.error.StoreError.{StoreError}
 use Rattle.lq_store.specs.declared.error.StoreError.TheVariants as store
-use Rattle.lq_model.specs.Tokens.{is_name}
+use Rattle.lq_grammar.specs.Tokens.{is_name}
 use Rattle.lq_serve.specs.declared.file_fault.FileFault.{FileFault}
 use Rattle.lq_serve.specs.declared.file_fault.FileFault.TheVariants as fault
 use Rattle.lq_serve.specs.declared.files.Reading.{Reading}

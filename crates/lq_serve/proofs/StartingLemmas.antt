@@ -1,8 +1,8 @@
 -- Sessions that start behind their tables, policies and role, and those that don't.
 use Rattle.std.proofs.Common.{◌≡◌, ◌≢◌, ℕ, List, [], ◌∷◌, ◌++◌, Option, Some, None, Result, Ok, Err, IfSome, IfOk, IfErr, refl, subst, sym, ◌∙◌, ap, append_assoc, append-nil}
 use Rattle.lq_value.specs.Tables.{Table}
-use Rattle.lq_model.specs.States.{State}
-use Rattle.lq_model.specs.declared.policy.PolicyParts.{PolicyParts}
+use Rattle.lq_machine.specs.States.{State}
+use Rattle.lq_security.specs.declared.policy.PolicyParts.{PolicyParts}
 use Rattle.lq_policy.specs.Roles.{role_number}
 use Rattle.lq_policyfile.specs.Outcome.{Answers}
 use Rattle.lq_policyfile.specs.declared.error.PolicyFileError.{PolicyFileError}

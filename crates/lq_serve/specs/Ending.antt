@@ -1,6 +1,6 @@
 -- How the program ends for whoever started it: by a status and a line.
 use Rattle.std.specs.Prelude.{◌≡◌, ◌∷◌, ◌++◌, ℕ, Bool, true, false, List, [], Option, Result, Ok, Err, codes}
-use Rattle.lq_model.specs.States.{State}
+use Rattle.lq_machine.specs.States.{State}
 use Rattle.lq_serve.specs.Devices.{Writes}
 use Rattle.lq_serve.specs.ScriptRun.{IsNoText, IsTooLong, ServedInPart, ServedWhole}
 use Rattle.lq_serve.specs.declared.serve_error.ServeError.{ServeError}

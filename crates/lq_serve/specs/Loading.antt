@@ -7,7 +7,7 @@ use Rattle.lq_value.specs.Tables.{Table}
 use Rattle.lq_store.specs.Calls.{addition_refusal_of}
 use Rattle.lq_store.specs.declared.error.StoreError.{StoreError}
 use Rattle.lq_store.specs.declared.error.StoreError.TheVariants as store
-use Rattle.lq_model.specs.Tokens.{is_name}
+use Rattle.lq_grammar.specs.Tokens.{is_name}
 use Rattle.lq_serve.specs.Files.{Adds, AddsFront, first_bytes}
 use Rattle.lq_load.specs.TableFile.{table_limit, table_of}
 use Rattle.lq_serve.specs.declared.file_fault.FileFault.{FileFault}

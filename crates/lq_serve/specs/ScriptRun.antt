@@ -2,11 +2,11 @@
 use Rattle.std.specs.Prelude.{◌≡◌, ◌++◌, ℕ, List, Option, IfSome, length}
 use Rattle.std.specs.Str.{IsUtf8}
 use Rattle.std.specs.Io.KnownBytes.{Appends}
-use Rattle.lq_model.specs.Script.{IsInSize, stepped_lines}
-use Rattle.lq_model.specs.HostCalls.{HostCall}
-use Rattle.lq_model.specs.Machine.{Reply}
-use Rattle.lq_model.specs.States.{State}
-use Rattle.lq_model.specs.Output.{Answers, Runs, bytes_of, joined, one_if_some, count_of_replies, IsCutOff}
+use Rattle.lq_grammar.specs.Script.{IsInSize, stepped_lines}
+use Rattle.lq_machine.specs.HostCalls.{HostCall}
+use Rattle.lq_machine.specs.Machine.{Reply}
+use Rattle.lq_machine.specs.States.{State}
+use Rattle.lq_machine.specs.Output.{Answers, Runs, bytes_of, joined, one_if_some, count_of_replies, IsCutOff}
 use Rattle.lq_serve.specs.Devices.{AppendsFront}
 use Rattle.lq_serve.specs.declared.script_run.Summary.{Summary}
 

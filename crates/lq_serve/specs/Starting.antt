@@ -1,8 +1,8 @@
 -- The session that the program starts with: over its tables, under its policies, in its role; or the line of the first fault.
 use Rattle.std.specs.Prelude.{◌≡◌, ◌≢◌, ◌+◌, ◌∷◌, ◌++◌, List, [], ℕ, map, string_bytes, Option, Some, None, IfSome, Result, Ok, Err}
 use Rattle.lq_value.specs.Tables.{Table}
-use Rattle.lq_model.specs.States.{State}
-use Rattle.lq_model.specs.declared.policy.PolicyParts.{PolicyParts}
+use Rattle.lq_machine.specs.States.{State}
+use Rattle.lq_security.specs.declared.policy.PolicyParts.{PolicyParts}
 use Rattle.lq_options.specs.declared.asked.Options.{Options}
 use Rattle.lq_policy.specs.Roles.{role_number}
 use Rattle.lq_policyfile.specs.File.{most_bytes, policies_in}

@@ -1,6 +1,6 @@
 //! A script's bytes: reading them whole, and their sizes.
 ghost use Rattle.std.specs.Prelude.{◌≡◌, ◌≢◌, ◌+◌, ◌<◌, ◌≤◌, ◌↔◌, false, true, length, vec_len, IfOk, IfErr, IfSome};
-ghost use Rattle.lq_model.specs.Script.{fits, script_limit};
+ghost use Rattle.lq_grammar.specs.Script.{fits, script_limit};
 ghost use Rattle.lq_serve.specs.Devices.{inner_of, read_count, late_count, late_count_next, is_ended, is_failed, TakesAtMost};
 
 use crate::device::Device;

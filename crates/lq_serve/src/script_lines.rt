@@ -1,6 +1,6 @@
 //! Cutting a script's text into its lines.
 ghost use Rattle.std.specs.Prelude.{◌≡◌, ◌∷◌, ◌<◌, length};
-ghost use Rattle.lq_model.specs.Script.{lines_of};
+ghost use Rattle.lq_grammar.specs.Script.{lines_of};
 
 // The first line without its line feed, and the text behind it.
 pub(crate) fn first_line(text: &str) -> (&str, &str)

@@ -1,6 +1,6 @@
 //! Serving a script: reading it whole, stepping its lines in order, and writing their replies.
 ghost use Rattle.std.specs.Prelude.{◌≡◌, ◌≢◌, ◌+◌, ◌≤◌, ◌↔◌, List, ℕ, false, true, length, IfOk, IfErr, OnOk, OnErr, IfSome};
-ghost use Rattle.lq_model.specs.Script.{lines_of, script_limit};
+ghost use Rattle.lq_grammar.specs.Script.{lines_of, script_limit};
 ghost use Rattle.lq_session.specs.States.{state_of};
 ghost use Rattle.lq_serve.specs.Devices.{inner_of, read_count, late_count, late_count_next, is_ended, is_failed, TakesAtMost};
 ghost use Rattle.lq_serve.specs.ScriptRun.{IsNoText, IsTooLong, Served, ServedInPart, ServedWhole, Stopped, Told, ToldInPart};

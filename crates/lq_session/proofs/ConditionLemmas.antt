@@ -2,16 +2,16 @@
 use Rattle.std.proofs.Common.{◌≡◌, ◌∙◌, ◌∷◌, ◌++◌, List, [], ℕ, Bool, false, Option, Some, None, ap, option_map, subst, sym}
 use Rattle.lq_value.specs.declared.ty.Ty.{Ty, out-Ty}
 use Rattle.lq_value.specs.declared.ty.Ty.TheVariants as ty
-use Rattle.lq_model.specs.ClauseTyping.{expression_type}
-use Rattle.lq_model.specs.DefinitionLaws.{AreDefined}
-use Rattle.lq_model.specs.Operators.{One}
-use Rattle.lq_model.specs.States.{State, names_in, schemas_of}
-use Rattle.lq_model.specs.Names.{Names, with_local}
-use Rattle.lq_model.specs.OperandTypes.{is_bool, is_bool_type}
-use Rattle.lq_model.specs.Uses.{expression_uses}
-use Rattle.lq_model.specs.declared.rights.Use.{Use}
-use Rattle.lq_model.specs.declared.rights.Use.TheVariants as used
-use Rattle.lq_model.specs.declared.syntax.Expr.{Expr}
+use Rattle.lq_language.specs.ClauseTyping.{expression_type}
+use Rattle.lq_machine.specs.DefinitionLaws.{AreDefined}
+use Rattle.lq_language.specs.Operators.{One}
+use Rattle.lq_machine.specs.States.{State, names_in, schemas_of}
+use Rattle.lq_language.specs.Names.{Names, with_local}
+use Rattle.lq_language.specs.OperandTypes.{is_bool, is_bool_type}
+use Rattle.lq_language.specs.Uses.{expression_uses}
+use Rattle.lq_language.specs.declared.rights.Use.{Use}
+use Rattle.lq_language.specs.declared.rights.Use.TheVariants as used
+use Rattle.lq_grammar.specs.declared.syntax.Expr.{Expr}
 use Rattle.lq_translate.specs.Translated.{translated}
 use Rattle.lq_translate.proofs.Alike.{terms_typed}
 use Rattle.lq_tree.specs.Places.{Places, names_of_places, with_name}

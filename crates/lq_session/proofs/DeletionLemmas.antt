@@ -9,18 +9,18 @@ use Rattle.lq_value.specs.declared.value.End.{End}
 use Rattle.lq_value.specs.declared.value.End.TheVariants as end
 use Rattle.lq_value.specs.declared.value.Fault.{Fault}
 use Rattle.lq_store.specs.Calls.{count_listed, is_listed, without_rows}
-use Rattle.lq_model.specs.Rights.{Denied, denial}
-use Rattle.lq_model.specs.Served.{deleted_data, fault_data, line_of}
-use Rattle.lq_model.specs.States.{State, names_in, schemas_of}
-use Rattle.lq_model.specs.Statements.{Outcome, allowed_by, chosen, deleted, faulted, refused, rows_of, rows_of_named, rows_removed, with_table, without}
-use Rattle.lq_model.specs.ClauseTyping.{expression_type}
-use Rattle.lq_model.specs.Names.{Names, table_number, with_local}
-use Rattle.lq_model.specs.OperandTypes.{is_bool_type}
-use Rattle.lq_model.specs.Uses.{expression_uses}
-use Rattle.lq_model.specs.TableRows.{TableRow}
-use Rattle.lq_model.specs.declared.rights.Use.{Use}
-use Rattle.lq_model.specs.declared.rights.Use.TheVariants as used
-use Rattle.lq_model.specs.declared.syntax.Expr.{Expr}
+use Rattle.lq_security.specs.Rights.{Denied, denial}
+use Rattle.lq_machine.specs.Served.{deleted_data, fault_data, line_of}
+use Rattle.lq_machine.specs.States.{State, names_in, schemas_of}
+use Rattle.lq_machine.specs.Statements.{Outcome, allowed_by, chosen, deleted, faulted, refused, rows_of, rows_of_named, rows_removed, with_table, without}
+use Rattle.lq_language.specs.ClauseTyping.{expression_type}
+use Rattle.lq_language.specs.Names.{Names, table_number, with_local}
+use Rattle.lq_language.specs.OperandTypes.{is_bool_type}
+use Rattle.lq_language.specs.Uses.{expression_uses}
+use Rattle.lq_language.specs.TableRows.{TableRow}
+use Rattle.lq_language.specs.declared.rights.Use.{Use}
+use Rattle.lq_language.specs.declared.rights.Use.TheVariants as used
+use Rattle.lq_grammar.specs.declared.syntax.Expr.{Expr}
 use Rattle.lq_run.specs.Statements.{TellsDenial}
 use Rattle.lq_session.specs.Performed.{Performs}
 use Rattle.lq_session.proofs.Outcomes.{told}

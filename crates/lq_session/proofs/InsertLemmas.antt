@@ -13,12 +13,12 @@ use Rattle.lq_store.specs.Calls.{Inserts, InsertsInto, insertion_refusal_of, ref
 use Rattle.lq_store.specs.Rules.{are_in_ranges, have_types, is_in_range, is_of_type}
 use Rattle.lq_store.specs.declared.error.StoreError.{StoreError}
 use Rattle.lq_store.specs.declared.error.StoreError.TheVariants.{Arity, CellType, CellRange, Full}
-use Rattle.lq_model.specs.Rights.{Denied, denial}
-use Rattle.lq_model.specs.Served.{inserted_data}
-use Rattle.lq_model.specs.States.{State, schemas_of}
-use Rattle.lq_model.specs.Statements.{Outcome, allowed_by, are_of_columns, are_within_ranges, inserted, is_of_column, is_within_range, refused, row_for, row_for_named, row_put_in, row_within, with_row, with_table}
-use Rattle.lq_model.specs.Names.{table_number}
-use Rattle.lq_model.specs.declared.rights.Use.TheVariants as used
+use Rattle.lq_security.specs.Rights.{Denied, denial}
+use Rattle.lq_machine.specs.Served.{inserted_data}
+use Rattle.lq_machine.specs.States.{State, schemas_of}
+use Rattle.lq_machine.specs.Statements.{Outcome, allowed_by, are_of_columns, are_within_ranges, inserted, is_of_column, is_within_range, refused, row_for, row_for_named, row_put_in, row_within, with_row, with_table}
+use Rattle.lq_language.specs.Names.{table_number}
+use Rattle.lq_language.specs.declared.rights.Use.TheVariants as used
 use Rattle.lq_session.specs.Rows.{tells_full, tells_typed, tells_within}
 
 -- ---- the rules of tables are those of the machine

@@ -7,18 +7,18 @@ use Rattle.std.specs.declared.alloc.AllocError.{AllocError}
 use Rattle.std.proofs.lemmas.Bool.{ltb-false}
 use Rattle.std.proofs.lemmas.Bool.Decides.{nat_tests}
 use Rattle.std.proofs.lemmas.Str.{encodes-chars, length-le-encodes}
-use Rattle.lq_model.specs.Machine.{perform, perform_opened}
-use Rattle.lq_model.specs.Opening.{is_past_opening, opened_behind, opened_from, opened_named, opening_among, opening_of}
-use Rattle.lq_model.specs.Served.{error_data, line_of}
-use Rattle.lq_model.specs.States.{State}
-use Rattle.lq_model.specs.Tokens.{is_too_long, piece, text_of, tokens_from, tokens_in, tokens_of, with_piece}
-use Rattle.lq_model.specs.declared.session.Definition.{Definition}
-use Rattle.lq_model.specs.declared.session.Opened.{Opened}
-use Rattle.lq_model.specs.declared.syntax.Statement.{Statement}
-use Rattle.lq_model.specs.declared.syntax.Statement.TheVariants as statement
-use Rattle.lq_model.specs.declared.token.Kind.{Kind}
-use Rattle.lq_model.specs.declared.token.Kind.TheVariants as k
-use Rattle.lq_model.specs.declared.token.Token.{Token}
+use Rattle.lq_machine.specs.Machine.{perform, perform_opened}
+use Rattle.lq_machine.specs.Opening.{is_past_opening, opened_behind, opened_from, opened_named, opening_among, opening_of}
+use Rattle.lq_machine.specs.Served.{error_data, line_of}
+use Rattle.lq_machine.specs.States.{State}
+use Rattle.lq_grammar.specs.Tokens.{is_too_long, piece, text_of, tokens_from, tokens_in, tokens_of, with_piece}
+use Rattle.lq_machine.specs.declared.session.Definition.{Definition}
+use Rattle.lq_machine.specs.declared.session.Opened.{Opened}
+use Rattle.lq_grammar.specs.declared.syntax.Statement.{Statement}
+use Rattle.lq_grammar.specs.declared.syntax.Statement.TheVariants as statement
+use Rattle.lq_grammar.specs.declared.token.Kind.{Kind}
+use Rattle.lq_grammar.specs.declared.token.Kind.TheVariants as k
+use Rattle.lq_grammar.specs.declared.token.Token.{Token}
 use Rattle.lq_session.specs.Openings.{OpensFor, keeps_opened, within_limits}
 use Rattle.lq_session.specs.Performed.{Performs}
 

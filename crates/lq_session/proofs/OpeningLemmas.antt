@@ -3,13 +3,13 @@ use Rattle.std.proofs.Common.{◌≡◌, ◌∷◌, ◌++◌, ◌+◌, ◌<◌, 
 use Rattle.std.specs.Prelude.{nat_lt}
 use Rattle.std.proofs.lemmas.Bool.Decides.{nat_tests}
 use Rattle.std.proofs.lemmas.List.{at_drop_more}
-use Rattle.lq_model.specs.Opening.{is_past_opening, opened_behind, opened_from, opening, rank_with, size_with}
-use Rattle.lq_model.specs.Tokens.{text_of}
-use Rattle.lq_model.specs.declared.session.Definition.{Definition}
-use Rattle.lq_model.specs.declared.token.Kind.{Kind}
-use Rattle.lq_model.specs.declared.token.Kind.TheVariants as k
-use Rattle.lq_model.specs.declared.token.Token.{Token}
-use Rattle.lq_model.specs.declared.session.Opened.{Opened}
+use Rattle.lq_machine.specs.Opening.{is_past_opening, opened_behind, opened_from, opening, rank_with, size_with}
+use Rattle.lq_grammar.specs.Tokens.{text_of}
+use Rattle.lq_machine.specs.declared.session.Definition.{Definition}
+use Rattle.lq_grammar.specs.declared.token.Kind.{Kind}
+use Rattle.lq_grammar.specs.declared.token.Kind.TheVariants as k
+use Rattle.lq_grammar.specs.declared.token.Token.{Token}
+use Rattle.lq_machine.specs.declared.session.Opened.{Opened}
 use Rattle.lq_session.specs.Openings.{opened_with, within_limits}
 
 -- ---- more tokens

@@ -1,9 +1,9 @@
 -- From what is told of the outcome of a statement to what is performed.
 use Rattle.std.proofs.Common.{◌≡◌, List, ℕ, Result, Ok, Err, IfOk, sym, refl, subst}
 use Rattle.std.specs.declared.alloc.AllocError.{AllocError}
-use Rattle.lq_model.specs.Served.{error_data, line_of}
-use Rattle.lq_model.specs.States.{State}
-use Rattle.lq_model.specs.Statements.{Outcome, refused}
+use Rattle.lq_machine.specs.Served.{error_data, line_of}
+use Rattle.lq_machine.specs.States.{State}
+use Rattle.lq_machine.specs.Statements.{Outcome, refused}
 use Rattle.lq_session.specs.Performed.{Performs}
 
 -- a line that is told of an outcome that leaves the state; memory that is refused leaves it, too

@@ -1,17 +1,17 @@
 -- From what a statement's calls give to the machine's step.
 use Rattle.std.proofs.Common.{◌≡◌, ◌∷◌, List, [], ℕ, Bool, true, false, if◌then◌else◌, Option, Some, None, IsSome, Ok, ap, ap₂, ◌∙◌, sym, refl, codes}
-use Rattle.lq_model.specs.Machine.{Reply, perform_opened, step, step_by}
-use Rattle.lq_model.specs.Opening.{opening_of}
-use Rattle.lq_model.specs.Output.{Answers, as_machine}
-use Rattle.lq_model.specs.Served.{error_data, line_of}
-use Rattle.lq_model.specs.States.{State}
-use Rattle.lq_model.specs.Depth.{is_deep}
-use Rattle.lq_model.specs.Reading.{Reading, IsNoSyntax, IsTooDeep, Nothing, Says, reading_of, reading_of_tokens, says_or_not}
-use Rattle.lq_model.specs.Parsing.{statement_of}
-use Rattle.lq_model.specs.Tokens.{tokens_of}
-use Rattle.lq_model.specs.declared.session.Opened.{Opened}
-use Rattle.lq_model.specs.declared.syntax.Statement.{Statement}
-use Rattle.lq_model.specs.declared.token.Token.{Token}
+use Rattle.lq_machine.specs.Machine.{Reply, perform_opened, step, step_by}
+use Rattle.lq_machine.specs.Opening.{opening_of}
+use Rattle.lq_machine.specs.Output.{Answers, as_machine}
+use Rattle.lq_machine.specs.Served.{error_data, line_of}
+use Rattle.lq_machine.specs.States.{State}
+use Rattle.lq_grammar.specs.Depth.{is_deep}
+use Rattle.lq_grammar.specs.Reading.{Reading, IsNoSyntax, IsTooDeep, Nothing, Says, reading_of, reading_of_tokens, says_or_not}
+use Rattle.lq_grammar.specs.Parsing.{statement_of}
+use Rattle.lq_grammar.specs.Tokens.{tokens_of}
+use Rattle.lq_machine.specs.declared.session.Opened.{Opened}
+use Rattle.lq_grammar.specs.declared.syntax.Statement.{Statement}
+use Rattle.lq_grammar.specs.declared.token.Token.{Token}
 use Rattle.lq_session.specs.Performed.{Performs, Steps}
 
 -- ---- lines with and without a statement

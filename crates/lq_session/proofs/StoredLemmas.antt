@@ -1,5 +1,5 @@
 -- What the tables of a store serve has a meaning.
-use Rattle.lq_model.proofs.MachineMeanings.{serves_meanings}
+use Rattle.lq_machine.proofs.MachineMeanings.{serves_meanings}
 use Rattle.lq_run.proofs.StoredLemmas.{typed_tables}
 use Rattle.lq_session.specs.StoredMeanings.{ServesStoredMeanings}
 

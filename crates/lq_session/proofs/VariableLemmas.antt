@@ -6,23 +6,23 @@ use Rattle.std.proofs.lemmas.Option.{none-some, same_Some}
 use Rattle.lq_value.specs.declared.scalar.Scalar.{Scalar}
 use Rattle.lq_value.specs.declared.ty.Ty.{Ty, out-Ty}
 use Rattle.lq_value.specs.declared.ty.Ty.TheOpen.{Ty-F}
-use Rattle.lq_model.specs.ClauseTyping.{expression_type}
-use Rattle.lq_model.specs.DefinitionLaws.{IsNew}
-use Rattle.lq_model.specs.Definitions.{definition_of, known_after, known_names}
-use Rattle.lq_model.specs.Served.{assigned_data, line_of}
-use Rattle.lq_model.specs.States.{State, names_in, schemas_of}
-use Rattle.lq_model.specs.Statements.{Outcome, assigned, assigning, defined, defined_as, defined_by, evaluated, is_taken, refused}
-use Rattle.lq_model.specs.Names.{table_number}
-use Rattle.lq_model.specs.OperandTypes.{is_scalar}
-use Rattle.lq_model.specs.Typing.{converts}
-use Rattle.lq_model.specs.declared.session.Defined.{Defined}
-use Rattle.lq_model.specs.declared.session.Defined.TheVariants as of
-use Rattle.lq_model.specs.declared.session.Definition.{Definition}
-use Rattle.lq_model.specs.declared.session.Opened.{Opened}
-use Rattle.lq_model.specs.declared.syntax.Expr.{Expr}
-use Rattle.lq_model.proofs.KeptDefinitions.{converted, unknown_name}
-use Rattle.lq_model.proofs.StatementLemmas.{assigned_other, assigned_query, assigned_unknown, assigned_untyped, assigns}
-use Rattle.lq_model.proofs.ValuesOfTypes.{is_plain}
+use Rattle.lq_language.specs.ClauseTyping.{expression_type}
+use Rattle.lq_machine.specs.DefinitionLaws.{IsNew}
+use Rattle.lq_machine.specs.Definitions.{definition_of, known_after, known_names}
+use Rattle.lq_machine.specs.Served.{assigned_data, line_of}
+use Rattle.lq_machine.specs.States.{State, names_in, schemas_of}
+use Rattle.lq_machine.specs.Statements.{Outcome, assigned, assigning, defined, defined_as, defined_by, evaluated, is_taken, refused}
+use Rattle.lq_language.specs.Names.{table_number}
+use Rattle.lq_language.specs.OperandTypes.{is_scalar}
+use Rattle.lq_language.specs.Typing.{converts}
+use Rattle.lq_machine.specs.declared.session.Defined.{Defined}
+use Rattle.lq_machine.specs.declared.session.Defined.TheVariants as of
+use Rattle.lq_machine.specs.declared.session.Definition.{Definition}
+use Rattle.lq_machine.specs.declared.session.Opened.{Opened}
+use Rattle.lq_grammar.specs.declared.syntax.Expr.{Expr}
+use Rattle.lq_machine.proofs.KeptDefinitions.{converted, unknown_name}
+use Rattle.lq_machine.proofs.StatementLemmas.{assigned_other, assigned_query, assigned_unknown, assigned_untyped, assigns}
+use Rattle.lq_language.proofs.ValuesOfTypes.{is_plain}
 use Rattle.lq_tree.specs.declared.tree.Tree.{Tree}
 use Rattle.lq_tree.proofs.SessionPlaceLemmas.{types_of_statements}
 use Rattle.lq_run.specs.States.{IsValueFor}

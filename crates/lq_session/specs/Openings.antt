@@ -1,12 +1,12 @@
 -- What is opened so far, and the limits of it; and what of it a statement tells.
 use Rattle.std.specs.Prelude.{◌≡◌, if◌then◌else◌, List, ℕ, Bool, true, false, Option, Some, None}
-use Rattle.lq_model.specs.Machine.{perform}
-use Rattle.lq_model.specs.Opening.{is_past_opening, opening_of, rank_with, size_with}
-use Rattle.lq_model.specs.States.{State}
-use Rattle.lq_model.specs.declared.session.Definition.{Definition}
-use Rattle.lq_model.specs.declared.session.Opened.{Opened}
-use Rattle.lq_model.specs.declared.syntax.Statement.{Statement}
-use Rattle.lq_model.specs.declared.syntax.Statement.TheVariants as statement
+use Rattle.lq_machine.specs.Machine.{perform}
+use Rattle.lq_machine.specs.Opening.{is_past_opening, opening_of, rank_with, size_with}
+use Rattle.lq_machine.specs.States.{State}
+use Rattle.lq_machine.specs.declared.session.Definition.{Definition}
+use Rattle.lq_machine.specs.declared.session.Opened.{Opened}
+use Rattle.lq_grammar.specs.declared.syntax.Statement.{Statement}
+use Rattle.lq_grammar.specs.declared.syntax.Statement.TheVariants as statement
 
 -- what is opened, if that is within the limits
 abbrev pub within_limits : Opened → Option Opened

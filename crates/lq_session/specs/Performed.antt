@@ -3,10 +3,10 @@ use Rattle.std.specs.Prelude.{◌≡◌, List, [], ℕ, Option, Some, Result, Ok
 use Rattle.std.specs.declared.alloc.AllocError.{AllocError}
 use Rattle.lq_value.specs.Tables.{Table}
 use Rattle.lq_value.specs.declared.scalar.Scalar.{Scalar}
-use Rattle.lq_model.specs.Machine.{Reply}
-use Rattle.lq_model.specs.Served.{line_of}
-use Rattle.lq_model.specs.States.{State}
-use Rattle.lq_model.specs.Statements.{Outcome}
+use Rattle.lq_machine.specs.Machine.{Reply}
+use Rattle.lq_machine.specs.Served.{line_of}
+use Rattle.lq_machine.specs.States.{State}
+use Rattle.lq_machine.specs.Statements.{Outcome}
 use Rattle.lq_session.specs.declared.replies.NoRow.{NoRow}
 
 -- a row that stands in no reply

@@ -2,15 +2,15 @@
 use Rattle.std.specs.Prelude.{◌≡◌, List, ℕ, Bool, true, false, Option, Some, None, Result}
 use Rattle.std.specs.declared.alloc.AllocError.{AllocError}
 use Rattle.lq_value.specs.declared.scalar.Scalar.{Scalar}
-use Rattle.lq_model.specs.Served.{denied_data, inserted_data, line_of}
+use Rattle.lq_machine.specs.Served.{denied_data, inserted_data, line_of}
 use Rattle.lq_store.specs.Calls.{insertion_refusal_of}
 use Rattle.lq_store.specs.declared.error.StoreError.{StoreError}
 use Rattle.lq_store.specs.declared.error.StoreError.TheVariants as error
-use Rattle.lq_model.specs.States.{State, schemas_of}
-use Rattle.lq_model.specs.Statements.{chosen, rows_of, rows_removed, with_row, with_table}
-use Rattle.lq_model.specs.Visible.{refuser_of}
-use Rattle.lq_model.specs.declared.rights.Use.TheVariants as used
-use Rattle.lq_model.specs.declared.syntax.Expr.{Expr}
+use Rattle.lq_machine.specs.States.{State, schemas_of}
+use Rattle.lq_machine.specs.Statements.{chosen, rows_of, rows_removed, with_row, with_table}
+use Rattle.lq_security.specs.Visible.{refuser_of}
+use Rattle.lq_language.specs.declared.rights.Use.TheVariants as used
+use Rattle.lq_grammar.specs.declared.syntax.Expr.{Expr}
 use Rattle.lq_run.specs.Statements.{condition_in}
 use Rattle.lq_tree.specs.declared.tree.Tree.{Tree}
 use Rattle.lq_session.specs.Performed.{PerformsAt}

@@ -2,13 +2,13 @@
 use Rattle.std.specs.Prelude.{◌≡◌, []}
 use Rattle.lq_value.specs.declared.value.Fault.{Fault}
 use Rattle.lq_store.specs.Rules.{IsTable}
-use Rattle.lq_model.specs.DefinitionLaws.{AreDefined}
-use Rattle.lq_model.specs.Definitions.{defining}
-use Rattle.lq_model.specs.Serving.{run_denial, run_in, served, served_type, unless_denied}
-use Rattle.lq_model.specs.States.{State, names_in, schemas_of, seen_by_role, world_by}
-use Rattle.lq_model.specs.ValuesOfTypes.{Every}
-use Rattle.lq_model.specs.Meaning.{expression_meaning}
-use Rattle.lq_model.specs.declared.syntax.Expr.{Expr}
+use Rattle.lq_machine.specs.DefinitionLaws.{AreDefined}
+use Rattle.lq_machine.specs.Definitions.{defining}
+use Rattle.lq_machine.specs.Serving.{run_denial, run_in, served, served_type, unless_denied}
+use Rattle.lq_machine.specs.States.{State, names_in, schemas_of, seen_by_role, world_by}
+use Rattle.lq_language.specs.ValuesOfTypes.{Every}
+use Rattle.lq_language.specs.Meaning.{expression_meaning}
+use Rattle.lq_grammar.specs.declared.syntax.Expr.{Expr}
 
 -- over tables that a store keeps and names that stand for what `var` defined, what a `run` that isn't denied serves is the same whatever
 -- stands where an expression has no meaning

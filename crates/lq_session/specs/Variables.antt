@@ -3,15 +3,15 @@ use Rattle.std.specs.Prelude.{◌≡◌, if◌then◌else◌, List, ℕ, Option,
 use Rattle.std.specs.declared.alloc.AllocError.{AllocError}
 use Rattle.lq_value.specs.declared.scalar.Scalar.{Scalar}
 use Rattle.lq_value.specs.declared.ty.Ty.{Ty, out-Ty}
-use Rattle.lq_model.specs.Definitions.{definition_of}
-use Rattle.lq_model.specs.Served.{assigned_data, defined_data}
-use Rattle.lq_model.specs.States.{State}
-use Rattle.lq_model.specs.Statements.{assigned, assigning, defining_also, evaluated, refused}
-use Rattle.lq_model.specs.OperandTypes.{is_scalar}
-use Rattle.lq_model.specs.Typing.{converts}
-use Rattle.lq_model.specs.declared.session.Defined.{Defined}
-use Rattle.lq_model.specs.declared.session.Defined.TheVariants as of
-use Rattle.lq_model.specs.declared.syntax.Expr.{Expr}
+use Rattle.lq_machine.specs.Definitions.{definition_of}
+use Rattle.lq_machine.specs.Served.{assigned_data, defined_data}
+use Rattle.lq_machine.specs.States.{State}
+use Rattle.lq_machine.specs.Statements.{assigned, assigning, defining_also, evaluated, refused}
+use Rattle.lq_language.specs.OperandTypes.{is_scalar}
+use Rattle.lq_language.specs.Typing.{converts}
+use Rattle.lq_machine.specs.declared.session.Defined.{Defined}
+use Rattle.lq_machine.specs.declared.session.Defined.TheVariants as of
+use Rattle.lq_grammar.specs.declared.syntax.Expr.{Expr}
 use Rattle.lq_run.specs.Statements.{tree_in}
 use Rattle.lq_tree.specs.declared.tree.Tree.{Tree}
 use Rattle.lq_session.specs.Performed.{Performs}

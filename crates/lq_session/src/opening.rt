@@ -1,13 +1,14 @@
 //! What a statement opens: the named queries whose names stand among its tokens.
 ghost use Rattle.std.specs.Prelude.{◌≡◌, ◌∷◌, [], IfOk, false, length, option_to_list};
 ghost use Rattle.std.specs.Option.{option_copied};
-ghost use Rattle.lq_model.specs.Definitions.{definition_of};
-ghost use Rattle.lq_model.specs.Opening.{is_past_opening, opened_as, opened_behind, opened_named, opening, opening_of};
-ghost use Rattle.lq_model.specs.Tokens.{text_of};
+ghost use Rattle.lq_machine.specs.Definitions.{definition_of};
+ghost use Rattle.lq_machine.specs.Opening.{is_past_opening, opened_as, opened_behind, opened_named, opening, opening_of};
+ghost use Rattle.lq_grammar.specs.Tokens.{text_of};
 ghost use Rattle.lq_session.specs.Openings.{OpensFor, keeps_opened, opened_with, within_limits};
 
 use lq_lex::{LexError, tokens};
-use lq_model::{Defined, Definition, Kind, Opened, Statement, Token};
+use lq_grammar::{Kind, Statement, Token};
+use lq_machine::{Defined, Definition, Opened};
 use lq_syntax::bytes_of;
 use std::alloc::{AllocError, Global};
 
@@ -124,7 +125,7 @@ fn opening_of_tokens(line: &[u8], definitions: &[Definition], tokens: &[Token]) 
 /// What the statement on a line opens: each named query among these definitions whose name stands
 /// among the line's tokens, but not behind a `.`. None where its tokens are more than 65,536
 /// together with those of all that it opens, or more than 8 named queries stand one in the other.
-#[tactic(auto, unfolding(lq_model::specs::Opening::opening_of, lq_model::specs::Tokens::tokens_of))]
+#[tactic(auto, unfolding(lq_machine::specs::Opening::opening_of, lq_grammar::specs::Tokens::tokens_of))]
 fn opening(
     alloc: Global,
     line: &str,

@@ -1,7 +1,7 @@
 //! The lines of replies that hold no value.
 ghost use Rattle.std.specs.Prelude.{◌≡◌, [], IfOk};
 ghost use Rattle.lq_json.specs.Replies.{reply_data};
-ghost use Rattle.lq_model.specs.Served.{line_of};
+ghost use Rattle.lq_machine.specs.Served.{line_of};
 ghost use Rattle.lq_session.specs.Performed.{no_cells};
 
 use lq_json::{Line, Reply, reply_line};

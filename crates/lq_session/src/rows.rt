@@ -1,12 +1,12 @@
 //! Rows that statements put into tables, and those that they remove.
 ghost use Rattle.std.specs.Prelude.{◌≡◌, ◌<◌, ◌∷◌, List, ℕ, Some, IfOk, false, length, true};
 ghost use Rattle.lq_value.specs.declared.ty.Ty.TheVariants as ty;
-ghost use Rattle.lq_model.specs.Opening.{is_past_opening};
-ghost use Rattle.lq_model.specs.States.{names_in};
-ghost use Rattle.lq_model.specs.Statements.{deleted, inserted, row_for, row_put_in, row_within, rows_of};
-ghost use Rattle.lq_model.specs.Names.{with_local};
-ghost use Rattle.lq_model.specs.Uses.{expression_uses};
-ghost use Rattle.lq_model.specs.declared.syntax.Expr.{Expr};
+ghost use Rattle.lq_machine.specs.Opening.{is_past_opening};
+ghost use Rattle.lq_machine.specs.States.{names_in};
+ghost use Rattle.lq_machine.specs.Statements.{deleted, inserted, row_for, row_put_in, row_within, rows_of};
+ghost use Rattle.lq_language.specs.Names.{with_local};
+ghost use Rattle.lq_language.specs.Uses.{expression_uses};
+ghost use Rattle.lq_grammar.specs.declared.syntax.Expr.{Expr};
 ghost use Rattle.lq_run.specs.Statements.{TellsDenial, condition_in};
 ghost use Rattle.lq_store.specs.Calls.{insertion_refusal_of};
 ghost use Rattle.lq_session.specs.Performed.{Performs, PerformsAt};
@@ -14,7 +14,8 @@ ghost use Rattle.lq_session.specs.Rows.{DeletesWhere, PutsRow, RemovesRows, Tell
 
 use crate::replies::reply;
 use lq_json::{Line, Reply};
-use lq_model::{Expr, Opened};
+use lq_grammar::Expr;
+use lq_machine::Opened;
 use lq_policy::Use;
 use lq_run::{State, chosen_rows, condition_of, denied, refusal};
 use lq_store::StoreError;

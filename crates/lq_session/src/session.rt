@@ -5,7 +5,7 @@ use crate::opening::opening_for;
 use crate::statements::perform;
 use lq_json::Line;
 use lq_lex::is_blank;
-use lq_model::Statement;
+use lq_grammar::Statement;
 use lq_policy::{Policies, RoleId};
 use lq_run::{State, refusal};
 use lq_store::Store;
@@ -22,10 +22,10 @@ pub struct Session {
 
 impl Session {
     ghost use Rattle.std.specs.Prelude.{◌≡◌, [], IfOk};
-    ghost use Rattle.lq_model.specs.Machine.{perform_opened, step};
-    ghost use Rattle.lq_model.specs.Opening.{opening_of};
-    ghost use Rattle.lq_model.specs.Output.{Answers};
-    ghost use Rattle.lq_model.specs.Served.{error_data, line_of};
+    ghost use Rattle.lq_machine.specs.Machine.{perform_opened, step};
+    ghost use Rattle.lq_machine.specs.Opening.{opening_of};
+    ghost use Rattle.lq_machine.specs.Output.{Answers};
+    ghost use Rattle.lq_machine.specs.Served.{error_data, line_of};
     ghost use Rattle.lq_session.specs.Performed.{Performs, Steps};
     ghost use Rattle.lq_session.specs.States.{state_of};
 

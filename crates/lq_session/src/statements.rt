@@ -1,15 +1,16 @@
 //! What statements do: dispatch, and the change of roles.
 ghost use Rattle.std.specs.Prelude.{◌≡◌, false};
-ghost use Rattle.lq_model.specs.Machine.{perform};
-ghost use Rattle.lq_model.specs.Opening.{is_past_opening};
-ghost use Rattle.lq_model.specs.Statements.{taking_role};
+ghost use Rattle.lq_machine.specs.Machine.{perform};
+ghost use Rattle.lq_machine.specs.Opening.{is_past_opening};
+ghost use Rattle.lq_machine.specs.Statements.{taking_role};
 ghost use Rattle.lq_session.specs.Performed.{Performs};
 
 use crate::replies::reply;
 use crate::rows::{delete, insert};
 use crate::variables::{assign, define};
 use lq_json::{Line, Reply};
-use lq_model::{Opened, Statement};
+use lq_grammar::Statement;
+use lq_machine::Opened;
 use lq_run::{State, refusal, run_line};
 use std::alloc::{AllocError, Global};
 
@@ -37,7 +38,7 @@ pub(crate) fn perform(
 }
 
 /// The session goes by the role of this name from now on; refused as `role` where there is none.
-#[tactic(auto, using(lq_model::proofs::StatementLemmas::of_roles))]
+#[tactic(auto, using(lq_machine::proofs::StatementLemmas::of_roles))]
 fn take_role(alloc: Global, name: &str, state: &mut State) -> Result<Line, AllocError>
     ensures { Performs (taking_role state.old name.now) state.old result state.new }
 {

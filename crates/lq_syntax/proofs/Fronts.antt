@@ -2,10 +2,10 @@
 use Rattle.std.proofs.Common.{◌≡◌, suc, ◌-◌, ◌≤◌, false, true, List, [], ◌∷◌, length, get_or, take, drop, refl, arith}
 use Rattle.std.specs.Prelude.{Some, None}
 use Rattle.std.proofs.Math.Seq.{take-length}
-use Rattle.lq_model.specs.Parsing.{same_kind, begins_with, begins_with_two, expect, peek, behind}
-use Rattle.lq_model.specs.declared.token.Kind.{Kind}
-use Rattle.lq_model.specs.declared.token.Kind.TheVariants as k
-use Rattle.lq_model.specs.declared.token.Token.{Token}
+use Rattle.lq_grammar.specs.Parsing.{same_kind, begins_with, begins_with_two, expect, peek, behind}
+use Rattle.lq_grammar.specs.declared.token.Kind.{Kind}
+use Rattle.lq_grammar.specs.declared.token.Kind.TheVariants as k
+use Rattle.lq_grammar.specs.declared.token.Token.{Token}
 use Rattle.lq_syntax.specs.Outcome.{next_token}
 use Rattle.lq_syntax.specs.Parts.{any_token}
 

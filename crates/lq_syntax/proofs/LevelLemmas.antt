@@ -4,7 +4,7 @@ use Rattle.std.specs.Prelude.{nat_lt}
 use Rattle.std.proofs.Math.ListN.{set}
 use Rattle.std.proofs.lemmas.Bool.{lt-ltb, le-ltb}
 use Rattle.std.proofs.lemmas.List.{get_or-set_same, get_or-set_other, length-set}
-use Rattle.lq_model.specs.Depth.{Opens, Closes, Weighs, behind_token, is_past, weight}
+use Rattle.lq_grammar.specs.Depth.{Opens, Closes, Weighs, behind_token, is_past, weight}
 use Rattle.lq_syntax.specs.Levels.{IsWithin, levels_of, levels_to}
 use Rattle.lq_syntax.specs.declared.depth.Levels.{Levels}
 

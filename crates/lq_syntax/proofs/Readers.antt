@@ -2,22 +2,22 @@
 use Rattle.std.proofs.Common.{◌≡◌, ℕ, suc, Bool, true, false, List, [], ◌∷◌, ◌++◌, refl, cond, length, ◌-◌}
 use Rattle.std.specs.Prelude.{Option, Some, None, ◌==◌, slice_get, is_some}
 use Rattle.std.proofs.lemmas.Option.{some_pair_parts}
-use Rattle.lq_model.specs.Parsing.{Parser, ◌>>=◌, after, arguments, begins_with, behind, body, chain, clauses_by, continuations, expect, field, more_fields, name, operations, peek, selections, same_kind, is_least, cell, cell_by, field_by, start, start_by, statement_line, statement_by}
-use Rattle.lq_model.specs.Grammar.{member_of, operation_of, operator}
-use Rattle.lq_model.specs.Tokens.{decimal_value, text_of}
-use Rattle.lq_model.specs.declared.syntax.Argument.{Argument}
-use Rattle.lq_model.specs.declared.syntax.Body.{Body}
-use Rattle.lq_model.specs.declared.syntax.Clause.{Clause}
-use Rattle.lq_model.specs.declared.syntax.Continuation.{Continuation}
-use Rattle.lq_model.specs.declared.syntax.Expr.{Expr}
-use Rattle.lq_model.specs.declared.syntax.Expr.TheVariants as expr
-use Rattle.lq_model.specs.declared.syntax.Field.{Field}
-use Rattle.lq_model.specs.declared.syntax.Infix.{Infix}
-use Rattle.lq_model.specs.declared.syntax.Level.{Level}
-use Rattle.lq_model.specs.declared.syntax.Level.TheVariants as level
-use Rattle.lq_model.specs.declared.syntax.Node.TheVariants as node
-use Rattle.lq_model.specs.declared.token.Kind.TheVariants as k
-use Rattle.lq_model.specs.declared.token.Token.{Token}
+use Rattle.lq_grammar.specs.Parsing.{Parser, ◌>>=◌, after, arguments, begins_with, behind, body, chain, clauses_by, continuations, expect, field, more_fields, name, operations, peek, selections, same_kind, is_least, cell, cell_by, field_by, start, start_by, statement_line, statement_by}
+use Rattle.lq_grammar.specs.Grammar.{member_of, operation_of, operator}
+use Rattle.lq_grammar.specs.Tokens.{decimal_value, text_of}
+use Rattle.lq_grammar.specs.declared.syntax.Argument.{Argument}
+use Rattle.lq_grammar.specs.declared.syntax.Body.{Body}
+use Rattle.lq_grammar.specs.declared.syntax.Clause.{Clause}
+use Rattle.lq_grammar.specs.declared.syntax.Continuation.{Continuation}
+use Rattle.lq_grammar.specs.declared.syntax.Expr.{Expr}
+use Rattle.lq_grammar.specs.declared.syntax.Expr.TheVariants as expr
+use Rattle.lq_grammar.specs.declared.syntax.Field.{Field}
+use Rattle.lq_grammar.specs.declared.syntax.Infix.{Infix}
+use Rattle.lq_grammar.specs.declared.syntax.Level.{Level}
+use Rattle.lq_grammar.specs.declared.syntax.Level.TheVariants as level
+use Rattle.lq_grammar.specs.declared.syntax.Node.TheVariants as node
+use Rattle.lq_grammar.specs.declared.token.Kind.TheVariants as k
+use Rattle.lq_grammar.specs.declared.token.Token.{Token}
 use Rattle.lq_syntax.specs.Parts.{any_token, found_or_refuse, named_by, named_last}
 
 pub cell_none : (line : List ℕ) (tokens : List Token) → any_token tokens ≡ None → cell line tokens ≡ None

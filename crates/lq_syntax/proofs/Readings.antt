@@ -1,16 +1,16 @@
 -- What the reading of a line or a rule says in the words of the grammar.
 use Rattle.std.proofs.Common.{◌≡◌, ◌↔◌, ◌∷◌, if◌then◌else◌, List, [], ℕ, Bool, true, false, Option, Some, None, Result, Ok, Err, IfOk, IfSome, IsNone, refl, ap, ◌∙◌, sym}
 use Rattle.std.proofs.lemmas.Option.{same_Some}
-use Rattle.lq_model.specs.Depth.{is_deep}
-use Rattle.lq_model.specs.Grammar as part
-use Rattle.lq_model.specs.Parsing.{rule_of, statement_of}
-use Rattle.lq_model.specs.Reading.{IsPastDepth, IsSpelled, Reading, Nothing, Says, IsNoSyntax, IsTooDeep, reading_of, reading_of_tokens, rule_in_tokens, rule_reading_of, says_or_not}
-use Rattle.lq_model.specs.Tokens.{tokens_of}
-use Rattle.lq_model.specs.declared.syntax.Expr.{Expr}
-use Rattle.lq_model.specs.declared.syntax.Statement.{Statement}
-use Rattle.lq_model.specs.declared.token.Token.{Token}
-use Rattle.lq_model.proofs.Completeness.{rule_complete, statement_complete}
-use Rattle.lq_model.proofs.Soundness.{rule_sound, statement_sound}
+use Rattle.lq_grammar.specs.Depth.{is_deep}
+use Rattle.lq_grammar.specs.Grammar as part
+use Rattle.lq_grammar.specs.Parsing.{rule_of, statement_of}
+use Rattle.lq_grammar.specs.Reading.{IsPastDepth, IsSpelled, Reading, Nothing, Says, IsNoSyntax, IsTooDeep, reading_of, reading_of_tokens, rule_in_tokens, rule_reading_of, says_or_not}
+use Rattle.lq_grammar.specs.Tokens.{tokens_of}
+use Rattle.lq_grammar.specs.declared.syntax.Expr.{Expr}
+use Rattle.lq_grammar.specs.declared.syntax.Statement.{Statement}
+use Rattle.lq_grammar.specs.declared.token.Token.{Token}
+use Rattle.lq_grammar.proofs.Completeness.{rule_complete, statement_complete}
+use Rattle.lq_grammar.proofs.Soundness.{rule_sound, statement_sound}
 use Rattle.lq_syntax.specs.Texts.{ReadsLine, ReadsRule, said}
 use Rattle.lq_syntax.specs.declared.error.SyntaxError.{SyntaxError}
 use Rattle.lq_syntax.specs.declared.error.SyntaxError.TheVariants as syntax

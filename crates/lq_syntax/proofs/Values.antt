@@ -2,7 +2,7 @@
 use Rattle.std.proofs.Common.{◌≡◌, ℕ, ◌+◌, ◌*◌, ◌-◌, ◌<◌, ◌≤◌, List, [], ◌∷◌, length, get_or, drop, arith}
 use Rattle.std.specs.List.{fold}
 use Rattle.std.proofs.lemmas.List.{at_drop_more}
-use Rattle.lq_model.specs.Tokens.{decimal_value}
+use Rattle.lq_grammar.specs.Tokens.{decimal_value}
 
 value_grows : (digits : List ℕ) (value : ℕ) → value ≤ fold (λ v d. v * 10 + (d - 48)) value digits
 value_grows [] value = omega arith

@@ -1,7 +1,7 @@
 -- The levels of a text's depth, as the code keeps them: an array from the outermost on.
 use Rattle.std.specs.Prelude.{◌≡◌, ◌≤◌, ◌∷◌, List, [], ℕ, zero, suc, length, get_or}
-use Rattle.lq_model.specs.Depth as depth
-use Rattle.lq_model.specs.Depth.{Effect, weight}
+use Rattle.lq_grammar.specs.Depth as depth
+use Rattle.lq_grammar.specs.Depth.{Effect, weight}
 use Rattle.lq_syntax.specs.declared.depth.Effect.{Effect as CodeEffect}
 use Rattle.lq_syntax.specs.declared.depth.Effect.TheVariants as effect
 use Rattle.lq_syntax.specs.declared.depth.Levels.{Levels}

@@ -3,10 +3,10 @@ use Rattle.std.specs.Prelude.{List, ℕ, Result}
 use Rattle.std.specs.Borrow.{Bor}
 use Rattle.std.specs.declared.alloc.Global.{Global}
 use denote.Ref.{MutBor}
-use Rattle.lq_model.specs.Parsing.{expression}
-use Rattle.lq_model.specs.declared.syntax.Expr.{Expr}
-use Rattle.lq_model.specs.declared.syntax.Level.{Level}
-use Rattle.lq_model.specs.declared.token.Token.{Token}
+use Rattle.lq_grammar.specs.Parsing.{expression}
+use Rattle.lq_grammar.specs.declared.syntax.Expr.{Expr}
+use Rattle.lq_grammar.specs.declared.syntax.Level.{Level}
+use Rattle.lq_grammar.specs.declared.token.Token.{Token}
 use Rattle.lq_syntax.specs.declared.error.ParseError.{ParseError}
 use Rattle.lq_syntax.specs.Outcome.{Reads}
 

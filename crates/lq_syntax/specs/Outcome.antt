@@ -1,7 +1,7 @@
 -- What the results of the parser say of the functions that it follows.
 use Rattle.std.specs.Prelude.{◌≡◌, ◌∷◌, List, [], ℕ, Option, Some, None, Result, Ok, Err}
-use Rattle.lq_model.specs.declared.token.Kind.TheVariants as k
-use Rattle.lq_model.specs.declared.token.Token.{Token}
+use Rattle.lq_grammar.specs.declared.token.Kind.TheVariants as k
+use Rattle.lq_grammar.specs.declared.token.Token.{Token}
 use Rattle.lq_syntax.specs.declared.error.ParseError.{ParseError}
 use Rattle.lq_syntax.specs.declared.error.ParseError.TheVariants as parse
 use Rattle.lq_syntax.specs.declared.error.SyntaxError.{SyntaxError}

@@ -2,22 +2,22 @@
 use Rattle.std.specs.Prelude.{◌∷◌, if◌then◌else◌, List, [], ℕ, Option, Some, None, Result, Ok, Err, ℤ, length}
 use Rattle.lq_value.specs.declared.scalar.Scalar.{Scalar}
 use Rattle.lq_value.specs.declared.scalar.Scalar.TheVariants as scalar
-use Rattle.lq_model.specs.Parsing.{◌>>=◌, Parser, cell_below_zero, cells, clause_by, clauses, continuations, expect, field_by, fields, group_name, last_before, name, pure, refuse, same_kind, source, value_and_end}
-use Rattle.lq_model.specs.Tokens.{decimal_value, text_of}
-use Rattle.lq_model.specs.declared.syntax.Clause.{Clause}
-use Rattle.lq_model.specs.declared.syntax.Clause.TheVariants as clause
-use Rattle.lq_model.specs.declared.syntax.Continuation.{Continuation}
-use Rattle.lq_model.specs.declared.syntax.Expr.{Expr}
-use Rattle.lq_model.specs.declared.syntax.Expr.TheVariants as expr
-use Rattle.lq_model.specs.declared.syntax.Field.{Field}
-use Rattle.lq_model.specs.declared.syntax.Level.{Level}
-use Rattle.lq_model.specs.declared.syntax.Level.TheVariants as level
-use Rattle.lq_model.specs.declared.syntax.Node.TheVariants as node
-use Rattle.lq_model.specs.declared.syntax.Statement.{Statement}
-use Rattle.lq_model.specs.declared.syntax.Statement.TheVariants as statement
-use Rattle.lq_model.specs.declared.token.Kind.{Kind}
-use Rattle.lq_model.specs.declared.token.Kind.TheVariants as k
-use Rattle.lq_model.specs.declared.token.Token.{Token}
+use Rattle.lq_grammar.specs.Parsing.{◌>>=◌, Parser, cell_below_zero, cells, clause_by, clauses, continuations, expect, field_by, fields, group_name, last_before, name, pure, refuse, same_kind, source, value_and_end}
+use Rattle.lq_grammar.specs.Tokens.{decimal_value, text_of}
+use Rattle.lq_grammar.specs.declared.syntax.Clause.{Clause}
+use Rattle.lq_grammar.specs.declared.syntax.Clause.TheVariants as clause
+use Rattle.lq_grammar.specs.declared.syntax.Continuation.{Continuation}
+use Rattle.lq_grammar.specs.declared.syntax.Expr.{Expr}
+use Rattle.lq_grammar.specs.declared.syntax.Expr.TheVariants as expr
+use Rattle.lq_grammar.specs.declared.syntax.Field.{Field}
+use Rattle.lq_grammar.specs.declared.syntax.Level.{Level}
+use Rattle.lq_grammar.specs.declared.syntax.Level.TheVariants as level
+use Rattle.lq_grammar.specs.declared.syntax.Node.TheVariants as node
+use Rattle.lq_grammar.specs.declared.syntax.Statement.{Statement}
+use Rattle.lq_grammar.specs.declared.syntax.Statement.TheVariants as statement
+use Rattle.lq_grammar.specs.declared.token.Kind.{Kind}
+use Rattle.lq_grammar.specs.declared.token.Kind.TheVariants as k
+use Rattle.lq_grammar.specs.declared.token.Token.{Token}
 use Rattle.lq_syntax.specs.declared.error.ParseError.{ParseError}
 use Rattle.lq_syntax.specs.declared.error.ParseError.TheVariants as parse
 

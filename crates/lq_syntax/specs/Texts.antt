@@ -1,6 +1,6 @@
 -- What the reading of a text says of it.
 use Rattle.std.specs.Prelude.{◌≡◌, Option, Some, None, Result, Ok, Err}
-use Rattle.lq_model.specs.Reading.{Reading, Nothing, Says, IsNoSyntax, IsTooDeep}
+use Rattle.lq_grammar.specs.Reading.{Reading, Nothing, Says, IsNoSyntax, IsTooDeep}
 use Rattle.lq_syntax.specs.declared.error.SyntaxError.{SyntaxError}
 use Rattle.lq_syntax.specs.declared.error.SyntaxError.TheVariants as syntax
 

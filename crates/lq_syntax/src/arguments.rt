@@ -1,7 +1,7 @@
 //! The arguments of methods.
 ghost use Rattle.std.specs.Prelude.{◌≡◌};
-ghost use Rattle.lq_model.specs.Parsing as parsing;
-ghost use Rattle.lq_model.specs.Parsing.{expression};
+ghost use Rattle.lq_grammar.specs.Parsing as parsing;
+ghost use Rattle.lq_grammar.specs.Parsing.{expression};
 ghost use Rattle.lq_syntax.specs.Nests.{Nests};
 ghost use Rattle.lq_syntax.specs.Outcome.{Reads};
 
@@ -9,7 +9,7 @@ use crate::cursor::Tokens;
 use crate::error::ParseError;
 use crate::grammar::Grammar;
 use crate::literals;
-use lq_model::{Argument, Expr, Kind, Level};
+use lq_grammar::{Argument, Expr, Kind, Level};
 use lq_value::List;
 use std::alloc::Global;
 
@@ -18,7 +18,7 @@ impl<'a, F: Fn(Global, &[u8], &mut Tokens<'_>, usize, Level) -> Result<Expr, Par
     F,
 > {
     /// `cond | name "=>" cond`
-    #[tactic(auto, unfolding(lq_model::specs::Parsing::argument_at))]
+    #[tactic(auto, unfolding(lq_grammar::specs::Parsing::argument_at))]
     fn argument(&self, tokens: &mut Tokens<'_>) -> Result<Argument<Expr>, ParseError>
         requires { Nests self.now.depth (F.pre self.now.inner) (F.post self.now.inner) }
         ensures { Reads (parsing.argument_at self.now.line.now (expression self.now.line.now self.now.depth) tokens.old) result tokens.new }
@@ -33,7 +33,7 @@ impl<'a, F: Fn(Global, &[u8], &mut Tokens<'_>, usize, Level) -> Result<Expr, Par
     }
 
     /// `arg {"," arg}`
-    #[tactic(auto, unfolding(lq_model::specs::Parsing::some_arguments))]
+    #[tactic(auto, unfolding(lq_grammar::specs::Parsing::some_arguments))]
     fn some_arguments(&self, tokens: &mut Tokens<'_>) -> Result<List<Argument<Expr>>, ParseError>
         requires { Nests self.now.depth (F.pre self.now.inner) (F.post self.now.inner) }
         ensures { Reads (parsing.some_arguments self.now.line.now (expression self.now.line.now self.now.depth) tokens.old) result tokens.new }
@@ -51,7 +51,7 @@ impl<'a, F: Fn(Global, &[u8], &mut Tokens<'_>, usize, Level) -> Result<Expr, Par
     }
 
     /// Behind `(`: `[arg {"," arg}] ")"`
-    #[tactic(auto, unfolding(lq_model::specs::Parsing::arguments, lq_model::specs::Parsing::after))]
+    #[tactic(auto, unfolding(lq_grammar::specs::Parsing::arguments, lq_grammar::specs::Parsing::after))]
     pub fn arguments(&self, tokens: &mut Tokens<'_>) -> Result<List<Argument<Expr>>, ParseError>
         requires { Nests self.now.depth (F.pre self.now.inner) (F.post self.now.inner) }
         ensures { Reads (parsing.arguments self.now.line.now (expression self.now.line.now self.now.depth) tokens.old) result tokens.new }

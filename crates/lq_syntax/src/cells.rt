@@ -1,13 +1,13 @@
 //! The cells of an inserted row.
 ghost use Rattle.std.specs.Prelude.{◌≡◌};
-ghost use Rattle.lq_model.specs.Parsing as parsing;
+ghost use Rattle.lq_grammar.specs.Parsing as parsing;
 ghost use Rattle.lq_syntax.specs.Outcome.{Reads};
 ghost use Rattle.lq_syntax.specs.Parts as part;
 
 use crate::cursor::Tokens;
 use crate::error::ParseError;
 use crate::literals;
-use lq_model::{Kind, Token};
+use lq_grammar::{Kind, Token};
 use lq_value::{List, Scalar};
 use std::alloc::Global;
 
@@ -59,7 +59,7 @@ fn cell(alloc: Global, line: &[u8], tokens: &mut Tokens<'_>) -> Result<Scalar, P
 }
 
 /// `cell {"," cell}`
-#[tactic(auto, unfolding(lq_model::specs::Parsing::cells))]
+#[tactic(auto, unfolding(lq_grammar::specs::Parsing::cells))]
 pub fn cells(
     alloc: Global,
     line: &[u8],

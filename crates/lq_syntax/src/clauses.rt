@@ -1,7 +1,7 @@
 //! The clauses of queries (ECMA-334, query expressions).
 ghost use Rattle.std.specs.Prelude.{◌≡◌};
-ghost use Rattle.lq_model.specs.Parsing as parsing;
-ghost use Rattle.lq_model.specs.Parsing.{expression};
+ghost use Rattle.lq_grammar.specs.Parsing as parsing;
+ghost use Rattle.lq_grammar.specs.Parsing.{expression};
 ghost use Rattle.lq_syntax.specs.Nests.{Nests};
 ghost use Rattle.lq_syntax.specs.Outcome.{Reads};
 ghost use Rattle.std.specs.Prelude.{is_some};
@@ -11,7 +11,7 @@ use crate::cursor::Tokens;
 use crate::error::ParseError;
 use crate::grammar::Grammar;
 use crate::literals;
-use lq_model::{Clause, Expr, Join, Kind, Level, SortKey};
+use lq_grammar::{Clause, Expr, Join, Kind, Level, SortKey};
 use lq_value::{Held, List, Txt};
 use std::alloc::Global;
 
@@ -20,7 +20,7 @@ impl<'a, F: Fn(Global, &[u8], &mut Tokens<'_>, usize, Level) -> Result<Expr, Par
     F,
 > {
     /// `"in" cond`
-    #[tactic(auto, unfolding(lq_model::specs::Parsing::source))]
+    #[tactic(auto, unfolding(lq_grammar::specs::Parsing::source))]
     pub fn source(&self, tokens: &mut Tokens<'_>) -> Result<Expr, ParseError>
         requires { Nests self.now.depth (F.pre self.now.inner) (F.post self.now.inner) }
         ensures { Reads (parsing.source self.now.line.now (expression self.now.line.now self.now.depth) tokens.old) result tokens.new }
@@ -30,7 +30,7 @@ impl<'a, F: Fn(Global, &[u8], &mut Tokens<'_>, usize, Level) -> Result<Expr, Par
     }
 
     /// `cond ["ascending" | "descending"]`
-    #[tactic(auto, unfolding(lq_model::specs::Parsing::key, lq_model::specs::Parsing::after))]
+    #[tactic(auto, unfolding(lq_grammar::specs::Parsing::key, lq_grammar::specs::Parsing::after))]
     fn key(&self, tokens: &mut Tokens<'_>) -> Result<SortKey<Expr>, ParseError>
         requires { Nests self.now.depth (F.pre self.now.inner) (F.post self.now.inner) }
         ensures { Reads (parsing.key self.now.line.now (expression self.now.line.now self.now.depth) tokens.old) result tokens.new }
@@ -47,7 +47,7 @@ impl<'a, F: Fn(Global, &[u8], &mut Tokens<'_>, usize, Level) -> Result<Expr, Par
     }
 
     /// `key {"," key}`
-    #[tactic(auto, unfolding(lq_model::specs::Parsing::keys))]
+    #[tactic(auto, unfolding(lq_grammar::specs::Parsing::keys))]
     fn keys(&self, tokens: &mut Tokens<'_>) -> Result<List<SortKey<Expr>>, ParseError>
         requires { Nests self.now.depth (F.pre self.now.inner) (F.post self.now.inner) }
         ensures { Reads (parsing.keys self.now.line.now (expression self.now.line.now self.now.depth) tokens.old) result tokens.new }
@@ -65,7 +65,7 @@ impl<'a, F: Fn(Global, &[u8], &mut Tokens<'_>, usize, Level) -> Result<Expr, Par
     }
 
     /// `["into" name]`
-    #[tactic(auto, unfolding(lq_model::specs::Parsing::group_name, lq_model::specs::Parsing::after))]
+    #[tactic(auto, unfolding(lq_grammar::specs::Parsing::group_name, lq_grammar::specs::Parsing::after))]
     fn group_name(&self, tokens: &mut Tokens<'_>) -> Result<Option<Txt>, ParseError>
         requires { Nests self.now.depth (F.pre self.now.inner) (F.post self.now.inner) }
         ensures { Reads (parsing.group_name self.now.line.now (expression self.now.line.now self.now.depth) tokens.old) result tokens.new }
@@ -101,7 +101,7 @@ impl<'a, F: Fn(Global, &[u8], &mut Tokens<'_>, usize, Level) -> Result<Expr, Par
     }
 
     /// Behind `join`: `name "in" cond "on" cond "equals" cond ["into" name]`
-    #[tactic(auto, unfolding(lq_model::specs::Parsing::join))]
+    #[tactic(auto, unfolding(lq_grammar::specs::Parsing::join))]
     fn join(&self, tokens: &mut Tokens<'_>) -> Result<Clause<Expr>, ParseError>
         requires { Nests self.now.depth (F.pre self.now.inner) (F.post self.now.inner) }
         ensures { Reads (parsing.join self.now.line.now (expression self.now.line.now self.now.depth) tokens.old) result tokens.new }

@@ -1,11 +1,11 @@
 //! A cursor over the tokens of a text.
 ghost use Rattle.std.specs.Prelude.{◌≡◌, ◌==◌, ◌∷◌, [], Some, length, IsTrue, IsFalse, MatchOption};
-ghost use Rattle.lq_model.specs.Parsing as parsing;
+ghost use Rattle.lq_grammar.specs.Parsing as parsing;
 ghost use Rattle.lq_syntax.specs.Outcome.{Reads, next_token};
 ghost use Rattle.lq_syntax.specs.Parts.{any_token};
 
 use crate::error::ParseError;
-use lq_model::{Kind, Token};
+use lq_grammar::{Kind, Token};
 use std::marker::Model;
 
 /// The tokens that are still to be read.
@@ -16,7 +16,7 @@ pub struct Tokens<'a> {
 
 impl<'a> Model for Tokens<'a> {
     ghost use Rattle.std.specs.Prelude.{List};
-    ghost use Rattle.lq_model.specs.declared.token.Token.{Token};
+    ghost use Rattle.lq_grammar.specs.declared.token.Token.{Token};
 
     ghost Value = { List Token };
 

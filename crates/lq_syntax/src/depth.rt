@@ -1,9 +1,9 @@
 //! How deep a text is, which is looked at before it is read: its open brackets, and the weight of its tokens.
 ghost use Rattle.std.specs.Prelude.{◌≡◌, false};
-ghost use Rattle.lq_model.specs.Depth as depth;
+ghost use Rattle.lq_grammar.specs.Depth as depth;
 ghost use Rattle.lq_syntax.specs.Levels.{effect_shown};
 
-use lq_model::{Kind, Token};
+use lq_grammar::{Kind, Token};
 
 /// The most brackets that may be open at a place.
 const BRACKET_LIMIT: usize = 64;
@@ -51,7 +51,7 @@ struct Levels {
 
 impl Levels {
     ghost use Rattle.std.specs.Prelude.{◌≡◌, false};
-    ghost use Rattle.lq_model.specs.Depth as depth;
+    ghost use Rattle.lq_grammar.specs.Depth as depth;
     ghost use Rattle.lq_syntax.specs.Levels.{IsWithin, effect_shown, levels_of};
 
     /// The levels before the first token.
@@ -135,7 +135,7 @@ impl Levels {
 
 /// Whether a place of a text with these tokens is past the limits: more than 64 brackets are open there,
 /// or it weighs more than 256.
-#[tactic(auto, unfolding(lq_model::specs::Depth::is_deep))]
+#[tactic(auto, unfolding(lq_grammar::specs::Depth::is_deep))]
 pub fn is_deep(tokens: &[Token]) -> bool
     ensures { result ≡ depth.is_deep tokens.now }
 {

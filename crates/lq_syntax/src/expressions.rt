@@ -1,7 +1,7 @@
 //! The lines of the grammar that hold expressions, above the primary ones (ECMA-334, expressions).
 ghost use Rattle.std.specs.Prelude.{◌≡◌};
-ghost use Rattle.lq_model.specs.Parsing as parsing;
-ghost use Rattle.lq_model.specs.Parsing.{expression};
+ghost use Rattle.lq_grammar.specs.Parsing as parsing;
+ghost use Rattle.lq_grammar.specs.Parsing.{expression};
 ghost use Rattle.lq_syntax.specs.Nests.{Nests};
 ghost use Rattle.lq_syntax.specs.Outcome.{Reads};
 
@@ -9,7 +9,7 @@ use crate::cursor::Tokens;
 use crate::error::ParseError;
 use crate::grammar::Grammar;
 use crate::{literals, operators};
-use lq_model::{Expr, Kind, Level, Node, Unary};
+use lq_grammar::{Expr, Kind, Level, Node, Unary};
 use lq_value::Held;
 use std::alloc::Global;
 
@@ -32,7 +32,7 @@ impl<'a, F: Fn(Global, &[u8], &mut Tokens<'_>, usize, Level) -> Result<Expr, Par
     }
 
     /// Behind a minus sign: 2147483648 or a unary expression.
-    #[tactic(auto, unfolding(lq_model::specs::Parsing::below_zero))]
+    #[tactic(auto, unfolding(lq_grammar::specs::Parsing::below_zero))]
     fn below_zero(&self, tokens: &mut Tokens<'_>) -> Result<Expr, ParseError>
         requires { Nests self.now.depth (F.pre self.now.inner) (F.post self.now.inner) }
         ensures { Reads (parsing.below_zero self.now.line.now (expression self.now.line.now self.now.depth) tokens.old) result tokens.new }
@@ -46,7 +46,7 @@ impl<'a, F: Fn(Global, &[u8], &mut Tokens<'_>, usize, Level) -> Result<Expr, Par
     }
 
     /// `primary | ("!" | "-") unary`
-    #[tactic(auto, unfolding(lq_model::specs::Parsing::prefix, lq_model::specs::Parsing::after))]
+    #[tactic(auto, unfolding(lq_grammar::specs::Parsing::prefix, lq_grammar::specs::Parsing::after))]
     fn prefix(&self, tokens: &mut Tokens<'_>) -> Result<Expr, ParseError>
         requires { Nests self.now.depth (F.pre self.now.inner) (F.post self.now.inner) }
         ensures { Reads (parsing.prefix self.now.line.now (expression self.now.line.now self.now.depth) tokens.old) result tokens.new }
@@ -83,7 +83,7 @@ impl<'a, F: Fn(Global, &[u8], &mut Tokens<'_>, usize, Level) -> Result<Expr, Par
     }
 
     /// `or ["??" coal]`
-    #[tactic(auto, unfolding(lq_model::specs::Parsing::coalescing, lq_model::specs::Parsing::after))]
+    #[tactic(auto, unfolding(lq_grammar::specs::Parsing::coalescing, lq_grammar::specs::Parsing::after))]
     fn coalescing(&self, tokens: &mut Tokens<'_>) -> Result<Expr, ParseError>
         requires { Nests self.now.depth (F.pre self.now.inner) (F.post self.now.inner) }
         ensures { Reads (parsing.coalescing self.now.line.now (expression self.now.line.now self.now.depth) tokens.old) result tokens.new }
@@ -98,7 +98,7 @@ impl<'a, F: Fn(Global, &[u8], &mut Tokens<'_>, usize, Level) -> Result<Expr, Par
     }
 
     /// `coal ["?" cond ":" cond]`
-    #[tactic(auto, unfolding(lq_model::specs::Parsing::conditional, lq_model::specs::Parsing::after))]
+    #[tactic(auto, unfolding(lq_grammar::specs::Parsing::conditional, lq_grammar::specs::Parsing::after))]
     fn conditional(&self, tokens: &mut Tokens<'_>) -> Result<Expr, ParseError>
         requires { Nests self.now.depth (F.pre self.now.inner) (F.post self.now.inner) }
         ensures { Reads (parsing.conditional self.now.line.now (expression self.now.line.now self.now.depth) tokens.old) result tokens.new }
@@ -115,7 +115,7 @@ impl<'a, F: Fn(Global, &[u8], &mut Tokens<'_>, usize, Level) -> Result<Expr, Par
     }
 
     /// A query or a conditional expression.
-    #[tactic(auto, unfolding(lq_model::specs::Parsing::top))]
+    #[tactic(auto, unfolding(lq_grammar::specs::Parsing::top))]
     fn top(&self, tokens: &mut Tokens<'_>) -> Result<Expr, ParseError>
         requires { Nests self.now.depth (F.pre self.now.inner) (F.post self.now.inner) }
         ensures { Reads (parsing.top self.now.line.now (expression self.now.line.now self.now.depth) tokens.old) result tokens.new }
@@ -128,7 +128,7 @@ impl<'a, F: Fn(Global, &[u8], &mut Tokens<'_>, usize, Level) -> Result<Expr, Par
     }
 
     /// A line of the grammar that is led back to, from its first rule on.
-    #[tactic(auto, unfolding(lq_model::specs::Parsing::rule))]
+    #[tactic(auto, unfolding(lq_grammar::specs::Parsing::rule))]
     pub fn rule(&self, tokens: &mut Tokens<'_>, level: Level) -> Result<Expr, ParseError>
         requires { Nests self.now.depth (F.pre self.now.inner) (F.post self.now.inner) }
         ensures { Reads (parsing.rule self.now.line.now (expression self.now.line.now self.now.depth) level tokens.old) result tokens.new }

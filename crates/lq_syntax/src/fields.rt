@@ -1,8 +1,8 @@
 //! The members of anonymous objects.
 ghost use Rattle.std.specs.Prelude.{◌≡◌, ◌-◌, length, slice_get};
 ghost use Rattle.std.specs.Prelude.{List as Listed};
-ghost use Rattle.lq_model.specs.Parsing as parsing;
-ghost use Rattle.lq_model.specs.Parsing.{expression};
+ghost use Rattle.lq_grammar.specs.Parsing as parsing;
+ghost use Rattle.lq_grammar.specs.Parsing.{expression};
 ghost use Rattle.lq_syntax.specs.Nests.{Nests};
 ghost use Rattle.lq_syntax.specs.Outcome.{Reads};
 ghost use Rattle.lq_syntax.specs.Parts as part;
@@ -11,7 +11,7 @@ use crate::cursor::Tokens;
 use crate::error::ParseError;
 use crate::grammar::Grammar;
 use crate::literals;
-use lq_model::{Expr, Field, Kind, Level, Token};
+use lq_grammar::{Expr, Field, Kind, Level, Token};
 use lq_value::{List, Txt};
 use std::alloc::Global;
 
@@ -39,7 +39,7 @@ impl<'a, F: Fn(Global, &[u8], &mut Tokens<'_>, usize, Level) -> Result<Expr, Par
     }
 
     /// The name that a token is.
-    #[tactic(auto, unfolding(lq_model::specs::Parsing::same_kind))]
+    #[tactic(auto, unfolding(lq_grammar::specs::Parsing::same_kind))]
     fn named_by(&self, token: Option<Token>) -> Result<Txt, ParseError>
         ensures { (left : Listed Token) → Reads (part.named_by self.now.line.now token left) result left }
     {
@@ -66,7 +66,7 @@ impl<'a, F: Fn(Global, &[u8], &mut Tokens<'_>, usize, Level) -> Result<Expr, Par
     }
 
     /// `name "=" cond | name | primary "." name`
-    #[tactic(auto, unfolding(lq_model::specs::Parsing::field))]
+    #[tactic(auto, unfolding(lq_grammar::specs::Parsing::field))]
     fn field(&self, tokens: &mut Tokens<'_>) -> Result<Field<Expr>, ParseError>
         requires { Nests self.now.depth (F.pre self.now.inner) (F.post self.now.inner) }
         ensures { Reads (parsing.field self.now.line.now (expression self.now.line.now self.now.depth) tokens.old) result tokens.new }
@@ -78,7 +78,7 @@ impl<'a, F: Fn(Global, &[u8], &mut Tokens<'_>, usize, Level) -> Result<Expr, Par
     }
 
     /// `[member {"," member} [","]] "}"`
-    #[tactic(auto, unfolding(lq_model::specs::Parsing::fields, lq_model::specs::Parsing::after))]
+    #[tactic(auto, unfolding(lq_grammar::specs::Parsing::fields, lq_grammar::specs::Parsing::after))]
     pub fn fields(&self, tokens: &mut Tokens<'_>) -> Result<List<Field<Expr>>, ParseError>
         requires { Nests self.now.depth (F.pre self.now.inner) (F.post self.now.inner) }
         ensures { Reads (parsing.fields self.now.line.now (expression self.now.line.now self.now.depth) tokens.old) result tokens.new }

@@ -1,13 +1,13 @@
 //! The rules of the grammar as methods. What leads back to an expression takes the parser of those as
 //! a parameter, so that no rule reaches itself.
 ghost use Rattle.std.specs.Prelude.{◌≡◌};
-ghost use Rattle.lq_model.specs.Parsing as parsing;
+ghost use Rattle.lq_grammar.specs.Parsing as parsing;
 ghost use Rattle.lq_syntax.specs.Nests.{Nests};
 ghost use Rattle.lq_syntax.specs.Outcome.{Reads};
 
 use crate::cursor::Tokens;
 use crate::error::ParseError;
-use lq_model::{Expr, Level};
+use lq_grammar::{Expr, Level};
 use lq_value::Held;
 use std::alloc::Global;
 

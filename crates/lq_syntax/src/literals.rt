@@ -1,8 +1,8 @@
 //! The texts of tokens, and the values that literals spell.
 ghost use Rattle.std.specs.Prelude.{◌≡◌, ◌==◌, IfOk, None, Some, if◌then◌else◌, nat_le, nat_lt, neg_ℤ, pos};
-ghost use Rattle.lq_model.specs.TextLiterals as literal;
-ghost use Rattle.lq_model.specs.Parsing as parsing;
-ghost use Rattle.lq_model.specs.Tokens.{decimal_value, text_of};
+ghost use Rattle.lq_grammar.specs.TextLiterals as literal;
+ghost use Rattle.lq_grammar.specs.Parsing as parsing;
+ghost use Rattle.lq_grammar.specs.Tokens.{decimal_value, text_of};
 ghost use Rattle.lq_syntax.specs.Outcome.{Reads};
 ghost use Rattle.lq_syntax.specs.declared.error.ParseError.TheVariants as parse;
 ghost use Rattle.std.specs.Prelude.{IfErr};
@@ -10,7 +10,7 @@ ghost use Rattle.std.specs.Prelude.{IfErr};
 use crate::cursor::Tokens;
 use crate::error::ParseError;
 use lq_lex::{int_value, text_value};
-use lq_model::{Kind, Token};
+use lq_grammar::{Kind, Token};
 use lq_value::Txt;
 use std::alloc::Global;
 
@@ -52,7 +52,7 @@ pub fn content_of(alloc: Global, line: &[u8], token: Token) -> Result<Txt, Parse
 }
 
 /// A name.
-#[tactic(auto, unfolding(lq_model::specs::Parsing::name))]
+#[tactic(auto, unfolding(lq_grammar::specs::Parsing::name))]
 pub fn name(alloc: Global, line: &[u8], tokens: &mut Tokens<'_>) -> Result<Txt, ParseError>
     ensures { Reads (parsing.name line.now tokens.old) result tokens.new }
 {

@@ -1,8 +1,8 @@
 //! Signs between two operands.
 ghost use Rattle.std.specs.Prelude.{◌≡◌};
-ghost use Rattle.lq_model.specs.Grammar as grammar;
+ghost use Rattle.lq_grammar.specs.Grammar as grammar;
 
-use lq_model::{Binary, Expr, Infix, Kind, Node};
+use lq_grammar::{Binary, Expr, Infix, Kind, Node};
 use lq_value::Held;
 
 /// How many levels of them there are.

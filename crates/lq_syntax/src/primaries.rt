@@ -1,9 +1,9 @@
 //! Primary expressions (ECMA-334, primary expressions).
 ghost use Rattle.std.specs.Prelude.{◌≡◌};
 ghost use Rattle.std.specs.Prelude.{List as Listed};
-ghost use Rattle.lq_model.specs.Parsing as parsing;
-ghost use Rattle.lq_model.specs.Parsing.{expression};
-ghost use Rattle.lq_model.specs.Tokens.{decimal_value, text_of};
+ghost use Rattle.lq_grammar.specs.Parsing as parsing;
+ghost use Rattle.lq_grammar.specs.Parsing.{expression};
+ghost use Rattle.lq_grammar.specs.Tokens.{decimal_value, text_of};
 ghost use Rattle.lq_syntax.specs.Nests.{Nests};
 ghost use Rattle.lq_syntax.specs.Outcome.{Reads};
 ghost use Rattle.lq_syntax.specs.Parts as part;
@@ -12,7 +12,7 @@ use crate::cursor::Tokens;
 use crate::error::ParseError;
 use crate::grammar::Grammar;
 use crate::literals;
-use lq_model::{Expr, Kind, Level, Node, Token};
+use lq_grammar::{Expr, Kind, Level, Node, Token};
 use lq_value::{Held, List};
 use std::alloc::Global;
 
@@ -100,7 +100,7 @@ impl<'a, F: Fn(Global, &[u8], &mut Tokens<'_>, usize, Level) -> Result<Expr, Par
     }
 
     /// `primary {"." name ["(" [arg {"," arg}] ")"]}`
-    #[tactic(auto, unfolding(lq_model::specs::Parsing::primary))]
+    #[tactic(auto, unfolding(lq_grammar::specs::Parsing::primary))]
     pub fn primary(&self, tokens: &mut Tokens<'_>) -> Result<Expr, ParseError>
         requires { Nests self.now.depth (F.pre self.now.inner) (F.post self.now.inner) }
         ensures { Reads (parsing.primary self.now.line.now (expression self.now.line.now self.now.depth) tokens.old) result tokens.new }

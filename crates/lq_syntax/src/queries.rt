@@ -1,7 +1,7 @@
 //! Query expressions (ECMA-334, query expressions).
 ghost use Rattle.std.specs.Prelude.{◌≡◌};
-ghost use Rattle.lq_model.specs.Parsing as parsing;
-ghost use Rattle.lq_model.specs.Parsing.{expression};
+ghost use Rattle.lq_grammar.specs.Parsing as parsing;
+ghost use Rattle.lq_grammar.specs.Parsing.{expression};
 ghost use Rattle.lq_syntax.specs.Nests.{Nests};
 ghost use Rattle.lq_syntax.specs.Outcome.{Reads};
 ghost use Rattle.lq_syntax.specs.Parts as part;
@@ -10,7 +10,7 @@ use crate::cursor::Tokens;
 use crate::error::ParseError;
 use crate::grammar::Grammar;
 use crate::literals;
-use lq_model::{Body, Continuation, Expr, Kind, Last, Level, Query};
+use lq_grammar::{Body, Continuation, Expr, Kind, Last, Level, Query};
 use lq_value::{Held, List};
 use std::alloc::Global;
 
@@ -19,7 +19,7 @@ impl<'a, F: Fn(Global, &[u8], &mut Tokens<'_>, usize, Level) -> Result<Expr, Par
     F,
 > {
     /// `"select" cond | "group" cond "by" cond`
-    #[tactic(auto, unfolding(lq_model::specs::Parsing::ending, lq_model::specs::Parsing::after))]
+    #[tactic(auto, unfolding(lq_grammar::specs::Parsing::ending, lq_grammar::specs::Parsing::after))]
     fn ending(&self, tokens: &mut Tokens<'_>) -> Result<Last<Expr>, ParseError>
         requires { Nests self.now.depth (F.pre self.now.inner) (F.post self.now.inner) }
         ensures { Reads (parsing.ending self.now.line.now (expression self.now.line.now self.now.depth) tokens.old) result tokens.new }
@@ -35,7 +35,7 @@ impl<'a, F: Fn(Global, &[u8], &mut Tokens<'_>, usize, Level) -> Result<Expr, Par
     }
 
     /// The clauses of a body, and what ends it.
-    #[tactic(auto, unfolding(lq_model::specs::Parsing::body))]
+    #[tactic(auto, unfolding(lq_grammar::specs::Parsing::body))]
     fn body(&self, tokens: &mut Tokens<'_>) -> Result<Body<Expr>, ParseError>
         requires { Nests self.now.depth (F.pre self.now.inner) (F.post self.now.inner) }
         ensures { Reads (parsing.body self.now.line.now (expression self.now.line.now self.now.depth) tokens.old) result tokens.new }
@@ -63,7 +63,7 @@ impl<'a, F: Fn(Global, &[u8], &mut Tokens<'_>, usize, Level) -> Result<Expr, Par
     }
 
     /// `"from" name "in" cond body {"into" name body}`
-    #[tactic(auto, unfolding(lq_model::specs::Parsing::query))]
+    #[tactic(auto, unfolding(lq_grammar::specs::Parsing::query))]
     pub fn query(&self, tokens: &mut Tokens<'_>) -> Result<Query<Expr>, ParseError>
         requires { Nests self.now.depth (F.pre self.now.inner) (F.post self.now.inner) }
         ensures { Reads (parsing.query self.now.line.now (expression self.now.line.now self.now.depth) tokens.old) result tokens.new }

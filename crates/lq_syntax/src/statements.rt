@@ -1,7 +1,7 @@
 //! The statements of a script.
 ghost use Rattle.std.specs.Prelude.{◌≡◌};
-ghost use Rattle.lq_model.specs.Parsing as parsing;
-ghost use Rattle.lq_model.specs.Parsing.{expression};
+ghost use Rattle.lq_grammar.specs.Parsing as parsing;
+ghost use Rattle.lq_grammar.specs.Parsing.{expression};
 ghost use Rattle.lq_syntax.specs.Nests.{Nests};
 ghost use Rattle.lq_syntax.specs.Outcome.{Reads};
 ghost use Rattle.lq_syntax.specs.Parts as part;
@@ -10,7 +10,7 @@ use crate::cursor::Tokens;
 use crate::error::ParseError;
 use crate::grammar::Grammar;
 use crate::{cells, literals};
-use lq_model::{Expr, Kind, Level, Statement, Token};
+use lq_grammar::{Expr, Kind, Level, Statement, Token};
 use std::alloc::Global;
 
 impl<'a, F: Fn(Global, &[u8], &mut Tokens<'_>, usize, Level) -> Result<Expr, ParseError>> Grammar<
@@ -18,7 +18,7 @@ impl<'a, F: Fn(Global, &[u8], &mut Tokens<'_>, usize, Level) -> Result<Expr, Par
     F,
 > {
     /// `top ";"`
-    #[tactic(auto, unfolding(lq_model::specs::Parsing::value_and_end))]
+    #[tactic(auto, unfolding(lq_grammar::specs::Parsing::value_and_end))]
     fn value_and_end(&self, tokens: &mut Tokens<'_>) -> Result<Expr, ParseError>
         requires { Nests self.now.depth (F.pre self.now.inner) (F.post self.now.inner) }
         ensures { Reads (parsing.value_and_end self.now.line.now (expression self.now.line.now self.now.depth) tokens.old) result tokens.new }

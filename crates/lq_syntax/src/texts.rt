@@ -1,15 +1,15 @@
 //! Reads the text of a line, and the text of a rule.
 ghost use Rattle.std.specs.Prelude.{◌≡◌, ◌<◌, ◌↔◌, [], length, IfOk, IfSome, IsNone};
-ghost use Rattle.lq_model.specs.Grammar as part;
-ghost use Rattle.lq_model.specs.Reading.{IsPastDepth, IsSpelled, reading_of, reading_of_tokens, rule_in_tokens, rule_reading_of};
-ghost use Rattle.lq_model.specs.Tokens.{tokens_of};
+ghost use Rattle.lq_grammar.specs.Grammar as part;
+ghost use Rattle.lq_grammar.specs.Reading.{IsPastDepth, IsSpelled, reading_of, reading_of_tokens, rule_in_tokens, rule_reading_of};
+ghost use Rattle.lq_grammar.specs.Tokens.{tokens_of};
 ghost use Rattle.lq_syntax.specs.Texts.{ReadsLine, ReadsRule};
 
 use crate::depth::is_deep;
 use crate::error::SyntaxError;
 use crate::parse::{rule, statement};
 use lq_lex::{LexError, tokens};
-use lq_model::{Expr, Statement, Token};
+use lq_grammar::{Expr, Statement, Token};
 use std::alloc::Global;
 
 /// What the tokens of a line say.
@@ -42,7 +42,7 @@ fn read_rule_tokens(alloc: Global, text: &str, tokens: &[Token]) -> Result<Expr,
 }
 
 /// What a line says.
-#[tactic(auto, unfolding(lq_model::specs::Reading::reading_of, lq_model::specs::Tokens::tokens_of))]
+#[tactic(auto, unfolding(lq_grammar::specs::Reading::reading_of, lq_grammar::specs::Tokens::tokens_of))]
 fn read_line(alloc: Global, line: &str) -> Result<Option<Statement>, SyntaxError>
     ensures { ReadsLine (reading_of line.now) result }
 {
@@ -54,7 +54,7 @@ fn read_line(alloc: Global, line: &str) -> Result<Option<Statement>, SyntaxError
 }
 
 /// What the text of a rule says.
-#[tactic(auto, unfolding(lq_model::specs::Reading::rule_reading_of, lq_model::specs::Tokens::tokens_of))]
+#[tactic(auto, unfolding(lq_grammar::specs::Reading::rule_reading_of, lq_grammar::specs::Tokens::tokens_of))]
 fn read_rule(alloc: Global, text: &str) -> Result<Expr, SyntaxError>
     ensures { ReadsRule (rule_reading_of text.now) result }
 {

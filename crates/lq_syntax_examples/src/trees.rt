@@ -1,5 +1,5 @@
 //! Trees of rules. What the trees of queries are, and which lines are no statement, the replies show (tests/cli).
-use lq_model::{Binary, Expr, Node};
+use lq_grammar::{Binary, Expr, Node};
 use lq_syntax::{SyntaxError, parse_rule};
 use std::alloc::Global;
 use std::test::Fail;

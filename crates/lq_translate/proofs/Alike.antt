@@ -2,27 +2,27 @@
 use Rattle.std.proofs.Common.{◌≡◌, ◌∷◌, if◌then◌else◌, List, ℕ, true, Option, Some, Ok, ap, ◌∙◌, sym, refl, option_map, bytes_eq, true≢false}
 use Rattle.lq_value.specs.declared.ty.Ty.{Ty}
 use Rattle.lq_value.specs.declared.ty.Ty.TheVariants as ty
-use Rattle.lq_model.specs.ClauseTyping.{expression_step, expression_type, query_items}
-use Rattle.lq_model.specs.Worlds.{Binding, Meaning, Scope, World, binding_of}
-use Rattle.lq_model.specs.OperandMeaning.{sequence}
-use Rattle.lq_model.specs.ClauseMeaning.{query_meaning}
-use Rattle.lq_model.specs.RuleMeaning.{Meant}
-use Rattle.lq_model.specs.Operators.{call_items, call_meaning}
-use Rattle.lq_model.specs.Terms.{MeantTerm, term_meaning, term_meaning_step, term_step, term_type}
-use Rattle.lq_model.specs.Names.{Names, local_type, with_local}
-use Rattle.lq_model.specs.Meaning.{expression_meaning, expression_meaning_step, items_meaning, whole_meaning, whole_name_value}
-use Rattle.lq_model.specs.Typing.{whole_type, whole_name_type}
-use Rattle.lq_model.specs.declared.calls.Call.{Call}
-use Rattle.lq_model.specs.declared.calls.Term.{Term, out-Term, roll-Term}
-use Rattle.lq_model.specs.declared.calls.Term.TheOpen.{Term-F}
-use Rattle.lq_model.specs.declared.calls.Term.TheVariants as term
-use Rattle.lq_model.specs.declared.calls.Term.TheVariants.{rolls-Node}
-use Rattle.lq_model.specs.declared.calls.Term.TheViews.{roll-out-Term}
-use Rattle.lq_model.specs.declared.syntax.Expr.{Expr}
-use Rattle.lq_model.specs.declared.syntax.Expr.TheVariants as expr
-use Rattle.lq_model.specs.declared.syntax.Node.{Node}
-use Rattle.lq_model.specs.declared.syntax.Node.TheVariants as node
-use Rattle.lq_model.specs.declared.syntax.Query.{Query}
+use Rattle.lq_language.specs.ClauseTyping.{expression_step, expression_type, query_items}
+use Rattle.lq_language.specs.Worlds.{Binding, Meaning, Scope, World, binding_of}
+use Rattle.lq_language.specs.OperandMeaning.{sequence}
+use Rattle.lq_language.specs.ClauseMeaning.{query_meaning}
+use Rattle.lq_language.specs.RuleMeaning.{Meant}
+use Rattle.lq_language.specs.Operators.{call_items, call_meaning}
+use Rattle.lq_language.specs.Terms.{MeantTerm, term_meaning, term_meaning_step, term_step, term_type}
+use Rattle.lq_language.specs.Names.{Names, local_type, with_local}
+use Rattle.lq_language.specs.Meaning.{expression_meaning, expression_meaning_step, items_meaning, whole_meaning, whole_name_value}
+use Rattle.lq_language.specs.Typing.{whole_type, whole_name_type}
+use Rattle.lq_language.specs.declared.calls.Call.{Call}
+use Rattle.lq_language.specs.declared.calls.Term.{Term, out-Term, roll-Term}
+use Rattle.lq_language.specs.declared.calls.Term.TheOpen.{Term-F}
+use Rattle.lq_language.specs.declared.calls.Term.TheVariants as term
+use Rattle.lq_language.specs.declared.calls.Term.TheVariants.{rolls-Node}
+use Rattle.lq_language.specs.declared.calls.Term.TheViews.{roll-out-Term}
+use Rattle.lq_grammar.specs.declared.syntax.Expr.{Expr}
+use Rattle.lq_grammar.specs.declared.syntax.Expr.TheVariants as expr
+use Rattle.lq_grammar.specs.declared.syntax.Node.{Node}
+use Rattle.lq_grammar.specs.declared.syntax.Node.TheVariants as node
+use Rattle.lq_grammar.specs.declared.syntax.Query.{Query}
 use Rattle.lq_translate.specs.Maps.{map_call, map_node, map_query}
 use Rattle.lq_translate.specs.Translated.{is_name, layer_is_name, translated, translated_query, translated_step}
 use Rattle.lq_translate.specs.TranslationLaws.{NamesMean, NamesTyped}

@@ -1,9 +1,9 @@
 -- The last clause of a body is the only one whose call may make the value of a `select`.
 use Rattle.std.proofs.Common.{◌≡◌, ◌∷◌, ◌++◌, ◌&&◌, if◌then◌else◌, List, [], map, ℕ, Bool, true, false, not, Option, None, ap, ◌∙◌, refl}
-use Rattle.lq_model.specs.declared.calls.Operator.{Operator}
-use Rattle.lq_model.specs.declared.syntax.Clause.{Clause}
-use Rattle.lq_model.specs.declared.syntax.Clause.TheVariants as clause
-use Rattle.lq_model.specs.declared.syntax.Last.{Last}
+use Rattle.lq_language.specs.declared.calls.Operator.{Operator}
+use Rattle.lq_grammar.specs.declared.syntax.Clause.{Clause}
+use Rattle.lq_grammar.specs.declared.syntax.Clause.TheVariants as clause
+use Rattle.lq_grammar.specs.declared.syntax.Last.{Last}
 use Rattle.lq_translate.specs.Translation.{fused_value, keeps_sole, operators_of, paired_operator, widens, with_clause}
 
 module _ {X : Type 0} (is_name : X → List ℕ → Bool) (n : List ℕ) (d : Clause X) (l : Last X) where

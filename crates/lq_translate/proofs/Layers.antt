@@ -1,32 +1,32 @@
 -- The layers of expressions and terms: what a fold gives to a node, to a query and to calls, by the maps of `Maps`. The formers are those
 -- that the types of the trees give, by the place at which a part stands in them.
 use Rattle.std.proofs.Common.{◌≡◌, List, map, Some, None, ap, ◌∙◌, sym, refl, subst}
-use Rattle.lq_model.specs.declared.calls.Call.{Call}
-use Rattle.lq_model.specs.declared.calls.Operator.{Operator}
-use Rattle.lq_model.specs.declared.calls.Operator.TheVariants as operator
-use Rattle.lq_model.specs.declared.calls.Paired.TheVariants as paired
-use Rattle.lq_model.specs.declared.calls.Part.{Part}
-use Rattle.lq_model.specs.declared.calls.Term.{Term, fold-Term, fold_out-Term, map-Term, para-Term, para-roll-Term}
-use Rattle.lq_model.specs.declared.calls.Term.TheOpen.{Term-F}
-use Rattle.lq_model.specs.declared.calls.Term.TheShapes as calls
-use Rattle.lq_model.specs.declared.calls.Term.TheVariants as term
-use Rattle.lq_model.specs.declared.calls.Term.TheVariants.{outs-Call, outs-Node as outs-term-Node, rolls-Call, rolls-Node as rolls-term-Node}
-use Rattle.lq_model.specs.declared.syntax.Argument.{Argument}
-use Rattle.lq_model.specs.declared.syntax.Argument.TheVariants as argument
-use Rattle.lq_model.specs.declared.syntax.Body.{Body}
-use Rattle.lq_model.specs.declared.syntax.Clause.{Clause}
-use Rattle.lq_model.specs.declared.syntax.Clause.TheVariants as clause
-use Rattle.lq_model.specs.declared.syntax.Continuation.{Continuation}
-use Rattle.lq_model.specs.declared.syntax.Expr.{Expr, fold-Expr, fold_out-Expr, ind-Expr, map-Expr, para-Expr, para-roll-Expr, roll-Expr}
-use Rattle.lq_model.specs.declared.syntax.Expr.TheOpen.{Expr-F}
-use Rattle.lq_model.specs.declared.syntax.Expr.TheShapes as shapes
-use Rattle.lq_model.specs.declared.syntax.Expr.TheVariants as expr
-use Rattle.lq_model.specs.declared.syntax.Expr.TheVariants.{outs-Node, outs-Query, rolls-Node, rolls-Query}
-use Rattle.lq_model.specs.declared.syntax.Last.{Last}
-use Rattle.lq_model.specs.declared.syntax.Last.TheVariants as last
-use Rattle.lq_model.specs.declared.syntax.Node.{Node}
-use Rattle.lq_model.specs.declared.syntax.Node.TheVariants as node
-use Rattle.lq_model.specs.declared.syntax.Query.{Query}
+use Rattle.lq_language.specs.declared.calls.Call.{Call}
+use Rattle.lq_language.specs.declared.calls.Operator.{Operator}
+use Rattle.lq_language.specs.declared.calls.Operator.TheVariants as operator
+use Rattle.lq_language.specs.declared.calls.Paired.TheVariants as paired
+use Rattle.lq_language.specs.declared.calls.Part.{Part}
+use Rattle.lq_language.specs.declared.calls.Term.{Term, fold-Term, fold_out-Term, map-Term, para-Term, para-roll-Term}
+use Rattle.lq_language.specs.declared.calls.Term.TheOpen.{Term-F}
+use Rattle.lq_language.specs.declared.calls.Term.TheShapes as calls
+use Rattle.lq_language.specs.declared.calls.Term.TheVariants as term
+use Rattle.lq_language.specs.declared.calls.Term.TheVariants.{outs-Call, outs-Node as outs-term-Node, rolls-Call, rolls-Node as rolls-term-Node}
+use Rattle.lq_grammar.specs.declared.syntax.Argument.{Argument}
+use Rattle.lq_grammar.specs.declared.syntax.Argument.TheVariants as argument
+use Rattle.lq_grammar.specs.declared.syntax.Body.{Body}
+use Rattle.lq_grammar.specs.declared.syntax.Clause.{Clause}
+use Rattle.lq_grammar.specs.declared.syntax.Clause.TheVariants as clause
+use Rattle.lq_grammar.specs.declared.syntax.Continuation.{Continuation}
+use Rattle.lq_grammar.specs.declared.syntax.Expr.{Expr, fold-Expr, fold_out-Expr, ind-Expr, map-Expr, para-Expr, para-roll-Expr, roll-Expr}
+use Rattle.lq_grammar.specs.declared.syntax.Expr.TheOpen.{Expr-F}
+use Rattle.lq_grammar.specs.declared.syntax.Expr.TheShapes as shapes
+use Rattle.lq_grammar.specs.declared.syntax.Expr.TheVariants as expr
+use Rattle.lq_grammar.specs.declared.syntax.Expr.TheVariants.{outs-Node, outs-Query, rolls-Node, rolls-Query}
+use Rattle.lq_grammar.specs.declared.syntax.Last.{Last}
+use Rattle.lq_grammar.specs.declared.syntax.Last.TheVariants as last
+use Rattle.lq_grammar.specs.declared.syntax.Node.{Node}
+use Rattle.lq_grammar.specs.declared.syntax.Node.TheVariants as node
+use Rattle.lq_grammar.specs.declared.syntax.Query.{Query}
 use Rattle.lq_translate.specs.Maps.{map_argument, map_body, map_call, map_clause, map_last, map_next, map_node, map_operator, map_part, map_query}
 
 map_ext : {A B : Type 0} (f g : A → B) → ((x : A) → f x ≡ g x) → (xs : List A) → map f xs ≡ map g xs

@@ -6,26 +6,26 @@ use Rattle.lq_value.specs.declared.value.End.TheVariants as end
 use Rattle.lq_value.specs.declared.value.Fault.{Fault}
 use Rattle.lq_value.specs.declared.value.Value.{Value}
 use Rattle.lq_value.specs.declared.value.Value.TheVariants.{outs-Rec}
-use Rattle.lq_model.specs.ClauseTyping.{joined_name, source_type}
-use Rattle.lq_model.specs.Worlds.{Meaning, Scope, World, bound, bound_stream, names_at, or_null, typed_locals, session_names}
-use Rattle.lq_model.specs.OperandMeaning.{stream_of}
-use Rattle.lq_model.specs.ClauseMeaning.{as_group, body_meaning, body_type_at, clause_meaning, clauses_meaning, condition_at, continued, extended, inner_items, item_type_at, joined_type, joined_values, last_meaning, query_meaning, sort_key_at}
-use Rattle.lq_model.specs.Operations.{on_ok}
-use Rattle.lq_model.specs.Operators.{Pattern, One, With, bind, call_meaning, first, first_member, locals_of, names_of, operator_meaning, operators_meaning, operators_type_at, pair, parts_meaning, result_of, second, second_member, source_type_under, type_under}
-use Rattle.lq_model.specs.Stream.{Stream, each, group_by, kept, made, on_value, one}
-use Rattle.lq_model.specs.Names.{Names}
-use Rattle.lq_model.specs.declared.calls.Operator.{Operator}
-use Rattle.lq_model.specs.declared.calls.Operator.TheVariants as operator
-use Rattle.lq_model.specs.declared.calls.Paired.TheVariants as paired
-use Rattle.lq_model.specs.declared.syntax.Body.{Body}
-use Rattle.lq_model.specs.declared.syntax.Clause.{Clause}
-use Rattle.lq_model.specs.declared.syntax.Clause.TheVariants as clause
-use Rattle.lq_model.specs.declared.syntax.Continuation.{Continuation}
-use Rattle.lq_model.specs.declared.syntax.Join.{Join}
-use Rattle.lq_model.specs.declared.syntax.Last.{Last}
-use Rattle.lq_model.specs.declared.syntax.Last.TheVariants as last
-use Rattle.lq_model.specs.declared.syntax.Query.{Query}
-use Rattle.lq_model.specs.declared.syntax.SortKey.{SortKey}
+use Rattle.lq_language.specs.ClauseTyping.{joined_name, source_type}
+use Rattle.lq_language.specs.Worlds.{Meaning, Scope, World, bound, bound_stream, names_at, or_null, typed_locals, session_names}
+use Rattle.lq_language.specs.OperandMeaning.{stream_of}
+use Rattle.lq_language.specs.ClauseMeaning.{as_group, body_meaning, body_type_at, clause_meaning, clauses_meaning, condition_at, continued, extended, inner_items, item_type_at, joined_type, joined_values, last_meaning, query_meaning, sort_key_at}
+use Rattle.lq_language.specs.Operations.{on_ok}
+use Rattle.lq_language.specs.Operators.{Pattern, One, With, bind, call_meaning, first, first_member, locals_of, names_of, operator_meaning, operators_meaning, operators_type_at, pair, parts_meaning, result_of, second, second_member, source_type_under, type_under}
+use Rattle.lq_language.specs.Stream.{Stream, each, group_by, kept, made, on_value, one}
+use Rattle.lq_language.specs.Names.{Names}
+use Rattle.lq_language.specs.declared.calls.Operator.{Operator}
+use Rattle.lq_language.specs.declared.calls.Operator.TheVariants as operator
+use Rattle.lq_language.specs.declared.calls.Paired.TheVariants as paired
+use Rattle.lq_grammar.specs.declared.syntax.Body.{Body}
+use Rattle.lq_grammar.specs.declared.syntax.Clause.{Clause}
+use Rattle.lq_grammar.specs.declared.syntax.Clause.TheVariants as clause
+use Rattle.lq_grammar.specs.declared.syntax.Continuation.{Continuation}
+use Rattle.lq_grammar.specs.declared.syntax.Join.{Join}
+use Rattle.lq_grammar.specs.declared.syntax.Last.{Last}
+use Rattle.lq_grammar.specs.declared.syntax.Last.TheVariants as last
+use Rattle.lq_grammar.specs.declared.syntax.Query.{Query}
+use Rattle.lq_grammar.specs.declared.syntax.SortKey.{SortKey}
 use Rattle.lq_translate.specs.Translation.{body_operators, call_of, last_operators, operators_of, part_of}
 use Rattle.lq_translate.specs.TranslationLaws.{NamesMean, NamesTyped}
 use Rattle.lq_translate.proofs.StreamLemmas.{each_alike, each_each, each_ext, each_made, each_map, each_natural, each_of, each_one, group_map, kept_mapped, map_same, mapped, order_natural, value_alike, whole_alike, whole_each, whole_ext}

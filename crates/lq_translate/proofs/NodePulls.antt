@@ -4,24 +4,24 @@ use Rattle.lq_value.specs.declared.ty.Ty.{Ty, out-Ty}
 use Rattle.lq_value.specs.declared.value.Fault.{Fault}
 use Rattle.lq_value.specs.declared.value.Value.{Value}
 use Rattle.lq_value.specs.declared.value.Value.TheVariants as value
-use Rattle.lq_model.specs.EnumerableCalls.{EnumerableCall, By, Plain, With, enumerable_call, method_with_lambda, method_with_value, simple_method}
-use Rattle.lq_model.specs.Worlds.{Meaning, Scope, World, names_at, or_null}
-use Rattle.lq_model.specs.Members.{is_search, sole_argument}
-use Rattle.lq_model.specs.Operations.{on_ok}
-use Rattle.lq_model.specs.Types.{element_type}
-use Rattle.lq_model.specs.Names.{Names}
-use Rattle.lq_model.specs.OperandTypes.{is_text_type, truth_type}
-use Rattle.lq_model.specs.Meaning.{argument_meaning, called_meaning, members_meaning, method_meaning, search_meaning, settled, typed, whole_meaning}
-use Rattle.lq_model.specs.Typing.{argument_type, called_type, method_type}
-use Rattle.lq_model.specs.declared.methods.Given.{Given}
-use Rattle.lq_model.specs.declared.methods.Simple.{Simple}
-use Rattle.lq_model.specs.declared.methods.Through.{Through}
-use Rattle.lq_model.specs.declared.syntax.Argument.{Argument}
-use Rattle.lq_model.specs.declared.syntax.Argument.TheVariants as argument
-use Rattle.lq_model.specs.declared.syntax.Field.{Field}
-use Rattle.lq_model.specs.declared.syntax.Node.{Node}
-use Rattle.lq_model.specs.declared.syntax.Node.TheVariants as node
-use Rattle.lq_model.specs.declared.syntax.Unary.TheVariants as unary
+use Rattle.lq_language.specs.EnumerableCalls.{EnumerableCall, By, Plain, With, enumerable_call, method_with_lambda, method_with_value, simple_method}
+use Rattle.lq_language.specs.Worlds.{Meaning, Scope, World, names_at, or_null}
+use Rattle.lq_language.specs.Members.{is_search, sole_argument}
+use Rattle.lq_language.specs.Operations.{on_ok}
+use Rattle.lq_language.specs.Types.{element_type}
+use Rattle.lq_language.specs.Names.{Names}
+use Rattle.lq_language.specs.OperandTypes.{is_text_type, truth_type}
+use Rattle.lq_language.specs.Meaning.{argument_meaning, called_meaning, members_meaning, method_meaning, search_meaning, settled, typed, whole_meaning}
+use Rattle.lq_language.specs.Typing.{argument_type, called_type, method_type}
+use Rattle.lq_language.specs.declared.methods.Given.{Given}
+use Rattle.lq_language.specs.declared.methods.Simple.{Simple}
+use Rattle.lq_language.specs.declared.methods.Through.{Through}
+use Rattle.lq_grammar.specs.declared.syntax.Argument.{Argument}
+use Rattle.lq_grammar.specs.declared.syntax.Argument.TheVariants as argument
+use Rattle.lq_grammar.specs.declared.syntax.Field.{Field}
+use Rattle.lq_grammar.specs.declared.syntax.Node.{Node}
+use Rattle.lq_grammar.specs.declared.syntax.Node.TheVariants as node
+use Rattle.lq_grammar.specs.declared.syntax.Unary.TheVariants as unary
 use Rattle.lq_translate.specs.Maps.{map_argument, map_enumerable, map_field, map_node}
 
 -- ---- two replacements in turn

@@ -6,28 +6,28 @@ use Rattle.lq_value.specs.declared.value.End.{End}
 use Rattle.lq_value.specs.declared.value.End.TheVariants as end
 use Rattle.lq_value.specs.declared.value.Fault.{Fault}
 use Rattle.lq_value.specs.declared.value.Value.{Value}
-use Rattle.lq_model.specs.Arrangement.{Keyed, all_of, arranged, keyed, order_by, with_key}
-use Rattle.lq_model.specs.ClauseTyping.{are_sort_keys, body_items, continued_items, if_within, is_sort_key, last_type, names_after, names_after_all, query_items, sole_name, source_type, when}
-use Rattle.lq_model.specs.Worlds.{Meaning, Scope, World, bound_stream, names_at, or_null}
-use Rattle.lq_model.specs.OperandMeaning.{stream_of}
-use Rattle.lq_model.specs.ClauseMeaning.{body_meaning, body_type_at, clause_meaning, clauses_meaning, continued, item_type_at, last_meaning, query_meaning, sort_key_at}
-use Rattle.lq_model.specs.Operations.{on_ok}
-use Rattle.lq_model.specs.Operators.{Pattern, One, bind, call_items, call_meaning, operator_meaning, operators_items, operators_meaning, operators_type, operators_type_at, parts_items, parts_meaning, pattern_after, pattern_behind, sole_pattern}
-use Rattle.lq_model.specs.Stream.{Stream, on_value, whole}
-use Rattle.lq_model.specs.Names.{Names}
-use Rattle.lq_model.specs.declared.calls.Call.{Call}
-use Rattle.lq_model.specs.declared.calls.Operator.{Operator}
-use Rattle.lq_model.specs.declared.calls.Operator.TheVariants as operator
-use Rattle.lq_model.specs.declared.calls.Paired.TheVariants as paired
-use Rattle.lq_model.specs.declared.calls.Part.{Part}
-use Rattle.lq_model.specs.declared.syntax.Body.{Body}
-use Rattle.lq_model.specs.declared.syntax.Clause.{Clause}
-use Rattle.lq_model.specs.declared.syntax.Clause.TheVariants as clause
-use Rattle.lq_model.specs.declared.syntax.Continuation.{Continuation}
-use Rattle.lq_model.specs.declared.syntax.Last.{Last}
-use Rattle.lq_model.specs.declared.syntax.Last.TheVariants as last
-use Rattle.lq_model.specs.declared.syntax.Query.{Query}
-use Rattle.lq_model.specs.declared.syntax.SortKey.{SortKey}
+use Rattle.lq_language.specs.Arrangement.{Keyed, all_of, arranged, keyed, order_by, with_key}
+use Rattle.lq_language.specs.ClauseTyping.{are_sort_keys, body_items, continued_items, if_within, is_sort_key, last_type, names_after, names_after_all, query_items, sole_name, source_type, when}
+use Rattle.lq_language.specs.Worlds.{Meaning, Scope, World, bound_stream, names_at, or_null}
+use Rattle.lq_language.specs.OperandMeaning.{stream_of}
+use Rattle.lq_language.specs.ClauseMeaning.{body_meaning, body_type_at, clause_meaning, clauses_meaning, continued, item_type_at, last_meaning, query_meaning, sort_key_at}
+use Rattle.lq_language.specs.Operations.{on_ok}
+use Rattle.lq_language.specs.Operators.{Pattern, One, bind, call_items, call_meaning, operator_meaning, operators_items, operators_meaning, operators_type, operators_type_at, parts_items, parts_meaning, pattern_after, pattern_behind, sole_pattern}
+use Rattle.lq_language.specs.Stream.{Stream, on_value, whole}
+use Rattle.lq_language.specs.Names.{Names}
+use Rattle.lq_language.specs.declared.calls.Call.{Call}
+use Rattle.lq_language.specs.declared.calls.Operator.{Operator}
+use Rattle.lq_language.specs.declared.calls.Operator.TheVariants as operator
+use Rattle.lq_language.specs.declared.calls.Paired.TheVariants as paired
+use Rattle.lq_language.specs.declared.calls.Part.{Part}
+use Rattle.lq_grammar.specs.declared.syntax.Body.{Body}
+use Rattle.lq_grammar.specs.declared.syntax.Clause.{Clause}
+use Rattle.lq_grammar.specs.declared.syntax.Clause.TheVariants as clause
+use Rattle.lq_grammar.specs.declared.syntax.Continuation.{Continuation}
+use Rattle.lq_grammar.specs.declared.syntax.Last.{Last}
+use Rattle.lq_grammar.specs.declared.syntax.Last.TheVariants as last
+use Rattle.lq_grammar.specs.declared.syntax.Query.{Query}
+use Rattle.lq_grammar.specs.declared.syntax.SortKey.{SortKey}
 use Rattle.lq_translate.specs.Maps.{map_body, map_call, map_clause, map_key, map_last, map_next, map_operator, map_part, map_query}
 
 -- ---- types

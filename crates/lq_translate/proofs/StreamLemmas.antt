@@ -5,9 +5,9 @@ use Rattle.lq_value.specs.declared.scalar.Scalar.{Scalar}
 use Rattle.lq_value.specs.declared.value.End.{End}
 use Rattle.lq_value.specs.declared.value.End.TheVariants as end
 use Rattle.lq_value.specs.declared.value.Fault.{Fault}
-use Rattle.lq_model.specs.Arrangement.{Keyed, all_of, arranged, inserted, is_greater, keyed, order_by, order_of_keys, with_key}
-use Rattle.lq_model.specs.Operations.{on_ok}
-use Rattle.lq_model.specs.Stream.{Stream, both, each, group_by, groups_of, kept, made, on_value, one, then_ending, then_stream, whole}
+use Rattle.lq_language.specs.Arrangement.{Keyed, all_of, arranged, inserted, is_greater, keyed, order_by, order_of_keys, with_key}
+use Rattle.lq_language.specs.Operations.{on_ok}
+use Rattle.lq_language.specs.Stream.{Stream, both, each, group_by, groups_of, kept, made, on_value, one, then_ending, then_stream, whole}
 
 abbrev pub mapped : {A B : Type 0} → (A → B) → Stream A → Stream B
 mapped d s = (map d s.0, s.1)

@@ -4,20 +4,20 @@ use Rattle.lq_value.specs.declared.ty.Ty.{Ty, out-Ty}
 use Rattle.lq_value.specs.declared.ty.Ty.TheOpen.{Ty-F}
 use Rattle.lq_value.specs.declared.ty.Ty.TheVariants as ty
 use Rattle.lq_value.specs.declared.ty.Ty.TheVariants.{outs-Group}
-use Rattle.lq_model.specs.ClauseTyping.{are_sort_keys, body_items, continued_items, from_type, group_type, has_place, if_key, if_placed, if_within, is_fresh, join_type, joined_name, last_type, let_type, names_after_all, query_items, sole_name, source_type, when}
-use Rattle.lq_model.specs.Operators.{Pattern, One, With, call_items, names_of, operators_items, operators_type, paired_pattern, parts_items, pattern_type, sole_pattern, unnamed}
-use Rattle.lq_model.specs.Names.{Names, with_local}
-use Rattle.lq_model.specs.OperandTypes.{is_bool_type}
-use Rattle.lq_model.specs.declared.calls.Operator.{Operator}
-use Rattle.lq_model.specs.declared.calls.Operator.TheVariants as operator
-use Rattle.lq_model.specs.declared.calls.Paired.TheVariants as paired
-use Rattle.lq_model.specs.declared.syntax.Body.{Body}
-use Rattle.lq_model.specs.declared.syntax.Clause.{Clause}
-use Rattle.lq_model.specs.declared.syntax.Clause.TheVariants as clause
-use Rattle.lq_model.specs.declared.syntax.Continuation.{Continuation}
-use Rattle.lq_model.specs.declared.syntax.Last.{Last}
-use Rattle.lq_model.specs.declared.syntax.Last.TheVariants as last
-use Rattle.lq_model.specs.declared.syntax.Query.{Query}
+use Rattle.lq_language.specs.ClauseTyping.{are_sort_keys, body_items, continued_items, from_type, group_type, has_place, if_key, if_placed, if_within, is_fresh, join_type, joined_name, last_type, let_type, names_after_all, query_items, sole_name, source_type, when}
+use Rattle.lq_language.specs.Operators.{Pattern, One, With, call_items, names_of, operators_items, operators_type, paired_pattern, parts_items, pattern_type, sole_pattern, unnamed}
+use Rattle.lq_language.specs.Names.{Names, with_local}
+use Rattle.lq_language.specs.OperandTypes.{is_bool_type}
+use Rattle.lq_language.specs.declared.calls.Operator.{Operator}
+use Rattle.lq_language.specs.declared.calls.Operator.TheVariants as operator
+use Rattle.lq_language.specs.declared.calls.Paired.TheVariants as paired
+use Rattle.lq_grammar.specs.declared.syntax.Body.{Body}
+use Rattle.lq_grammar.specs.declared.syntax.Clause.{Clause}
+use Rattle.lq_grammar.specs.declared.syntax.Clause.TheVariants as clause
+use Rattle.lq_grammar.specs.declared.syntax.Continuation.{Continuation}
+use Rattle.lq_grammar.specs.declared.syntax.Last.{Last}
+use Rattle.lq_grammar.specs.declared.syntax.Last.TheVariants as last
+use Rattle.lq_grammar.specs.declared.syntax.Query.{Query}
 use Rattle.lq_translate.specs.Translation.{body_operators, call_of, last_operators, operators_of, part_of}
 use Rattle.lq_translate.specs.TranslationLaws.{NamesTyped}
 

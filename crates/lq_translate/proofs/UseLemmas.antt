@@ -1,23 +1,23 @@
 -- The calls of a query use what its clauses use, in the same order.
 use Rattle.std.proofs.Common.{◌≡◌, ◌∷◌, ◌++◌, ◌&&◌, if◌then◌else◌, List, [], map, ℕ, Bool, true, false, Option, Some, None, ap, ◌∙◌, sym, refl, subst, option_and_then, option_map}
 use Rattle.lq_value.specs.declared.ty.Ty.{Ty}
-use Rattle.lq_model.specs.ClauseTyping.{are_sort_keys, body_items, from_type, is_fresh, join_type, joined_name, let_type, sole_name, source_type, when}
-use Rattle.lq_model.specs.Operators.{Pattern, One, With, names_of, operators_items, paired_pattern, pattern_after, sole_pattern}
-use Rattle.lq_model.specs.Names.{Names, with_local}
-use Rattle.lq_model.specs.OperandTypes.{is_bool_type}
-use Rattle.lq_model.specs.Uses.{body_uses, clause_uses, clauses_uses, continued_uses, last_uses, query_uses, under}
-use Rattle.lq_model.specs.UsesOfCalls.{call_uses, operators_uses, paired_uses, parts_uses}
-use Rattle.lq_model.specs.declared.calls.Operator.{Operator}
-use Rattle.lq_model.specs.declared.calls.Operator.TheVariants as operator
-use Rattle.lq_model.specs.declared.calls.Paired.TheVariants as paired
-use Rattle.lq_model.specs.declared.rights.Use.{Use}
-use Rattle.lq_model.specs.declared.syntax.Body.{Body}
-use Rattle.lq_model.specs.declared.syntax.Clause.{Clause}
-use Rattle.lq_model.specs.declared.syntax.Clause.TheVariants as clause
-use Rattle.lq_model.specs.declared.syntax.Continuation.{Continuation}
-use Rattle.lq_model.specs.declared.syntax.Last.{Last}
-use Rattle.lq_model.specs.declared.syntax.Last.TheVariants as last
-use Rattle.lq_model.specs.declared.syntax.Query.{Query}
+use Rattle.lq_language.specs.ClauseTyping.{are_sort_keys, body_items, from_type, is_fresh, join_type, joined_name, let_type, sole_name, source_type, when}
+use Rattle.lq_language.specs.Operators.{Pattern, One, With, names_of, operators_items, paired_pattern, pattern_after, sole_pattern}
+use Rattle.lq_language.specs.Names.{Names, with_local}
+use Rattle.lq_language.specs.OperandTypes.{is_bool_type}
+use Rattle.lq_language.specs.Uses.{body_uses, clause_uses, clauses_uses, continued_uses, last_uses, query_uses, under}
+use Rattle.lq_language.specs.UsesOfCalls.{call_uses, operators_uses, paired_uses, parts_uses}
+use Rattle.lq_language.specs.declared.calls.Operator.{Operator}
+use Rattle.lq_language.specs.declared.calls.Operator.TheVariants as operator
+use Rattle.lq_language.specs.declared.calls.Paired.TheVariants as paired
+use Rattle.lq_language.specs.declared.rights.Use.{Use}
+use Rattle.lq_grammar.specs.declared.syntax.Body.{Body}
+use Rattle.lq_grammar.specs.declared.syntax.Clause.{Clause}
+use Rattle.lq_grammar.specs.declared.syntax.Clause.TheVariants as clause
+use Rattle.lq_grammar.specs.declared.syntax.Continuation.{Continuation}
+use Rattle.lq_grammar.specs.declared.syntax.Last.{Last}
+use Rattle.lq_grammar.specs.declared.syntax.Last.TheVariants as last
+use Rattle.lq_grammar.specs.declared.syntax.Query.{Query}
 use Rattle.lq_translate.specs.Translation.{body_operators, call_of, last_operators, operators_of, part_of}
 use Rattle.lq_translate.specs.TranslationLaws.{NamesTyped, NamesUsed}
 use Rattle.lq_translate.proofs.TypingLemmas.{Fits, body_same as body_typed, fits_any, still_fits}

@@ -1,30 +1,30 @@
 -- What a node, a query and calls use is a matter of what the expressions in them use: these may be replaced before or after.
 use Rattle.std.proofs.Common.{◌≡◌, ◌∷◌, ◌++◌, List, [], map, flat_map, Option, Some, None, ap, refl}
 use Rattle.lq_value.specs.declared.ty.Ty.{Ty}
-use Rattle.lq_model.specs.ClauseTyping.{sole_name, source_type}
-use Rattle.lq_model.specs.Operators.{Pattern, sole_pattern}
-use Rattle.lq_model.specs.Names.{Names}
-use Rattle.lq_model.specs.Uses.{argument_uses, body_uses, clause_uses, clauses_uses, continued_uses, last_uses, node_uses, query_uses, under}
-use Rattle.lq_model.specs.UsesOfCalls.{call_uses, operator_uses, operators_uses, parts_uses}
-use Rattle.lq_model.specs.declared.calls.Call.{Call}
-use Rattle.lq_model.specs.declared.calls.Operator.{Operator}
-use Rattle.lq_model.specs.declared.calls.Operator.TheVariants as operator
-use Rattle.lq_model.specs.declared.calls.Paired.TheVariants as paired
-use Rattle.lq_model.specs.declared.calls.Part.{Part}
-use Rattle.lq_model.specs.declared.rights.Use.{Use}
-use Rattle.lq_model.specs.declared.syntax.Argument.{Argument}
-use Rattle.lq_model.specs.declared.syntax.Argument.TheVariants as argument
-use Rattle.lq_model.specs.declared.syntax.Body.{Body}
-use Rattle.lq_model.specs.declared.syntax.Clause.{Clause}
-use Rattle.lq_model.specs.declared.syntax.Clause.TheVariants as clause
-use Rattle.lq_model.specs.declared.syntax.Continuation.{Continuation}
-use Rattle.lq_model.specs.declared.syntax.Field.{Field}
-use Rattle.lq_model.specs.declared.syntax.Last.{Last}
-use Rattle.lq_model.specs.declared.syntax.Last.TheVariants as last
-use Rattle.lq_model.specs.declared.syntax.Node.{Node}
-use Rattle.lq_model.specs.declared.syntax.Node.TheVariants as node
-use Rattle.lq_model.specs.declared.syntax.Query.{Query}
-use Rattle.lq_model.specs.declared.syntax.SortKey.{SortKey}
+use Rattle.lq_language.specs.ClauseTyping.{sole_name, source_type}
+use Rattle.lq_language.specs.Operators.{Pattern, sole_pattern}
+use Rattle.lq_language.specs.Names.{Names}
+use Rattle.lq_language.specs.Uses.{argument_uses, body_uses, clause_uses, clauses_uses, continued_uses, last_uses, node_uses, query_uses, under}
+use Rattle.lq_language.specs.UsesOfCalls.{call_uses, operator_uses, operators_uses, parts_uses}
+use Rattle.lq_language.specs.declared.calls.Call.{Call}
+use Rattle.lq_language.specs.declared.calls.Operator.{Operator}
+use Rattle.lq_language.specs.declared.calls.Operator.TheVariants as operator
+use Rattle.lq_language.specs.declared.calls.Paired.TheVariants as paired
+use Rattle.lq_language.specs.declared.calls.Part.{Part}
+use Rattle.lq_language.specs.declared.rights.Use.{Use}
+use Rattle.lq_grammar.specs.declared.syntax.Argument.{Argument}
+use Rattle.lq_grammar.specs.declared.syntax.Argument.TheVariants as argument
+use Rattle.lq_grammar.specs.declared.syntax.Body.{Body}
+use Rattle.lq_grammar.specs.declared.syntax.Clause.{Clause}
+use Rattle.lq_grammar.specs.declared.syntax.Clause.TheVariants as clause
+use Rattle.lq_grammar.specs.declared.syntax.Continuation.{Continuation}
+use Rattle.lq_grammar.specs.declared.syntax.Field.{Field}
+use Rattle.lq_grammar.specs.declared.syntax.Last.{Last}
+use Rattle.lq_grammar.specs.declared.syntax.Last.TheVariants as last
+use Rattle.lq_grammar.specs.declared.syntax.Node.{Node}
+use Rattle.lq_grammar.specs.declared.syntax.Node.TheVariants as node
+use Rattle.lq_grammar.specs.declared.syntax.Query.{Query}
+use Rattle.lq_grammar.specs.declared.syntax.SortKey.{SortKey}
 use Rattle.lq_translate.specs.Maps.{map_argument, map_body, map_call, map_clause, map_field, map_key, map_last, map_next, map_node, map_operator, map_part, map_query}
 use Rattle.lq_translate.proofs.QueryPulls.{body_typed, clause_typed, items_typed, operator_typed}
 

@@ -1,19 +1,19 @@
 -- Whole expressions: what one is translated to uses what it uses.
 use Rattle.std.proofs.Common.{◌≡◌, List, Some, ap, ◌∙◌, sym, if◌then◌else◌}
-use Rattle.lq_model.specs.ClauseTyping.{expression_type}
-use Rattle.lq_model.specs.Terms.{term_type}
-use Rattle.lq_model.specs.Names.{Names, local_type, with_local}
-use Rattle.lq_model.specs.Uses.{Used, expression_uses, name_uses, node_uses, query_uses, uses_step}
-use Rattle.lq_model.specs.UsesOfCalls.{UsedTerm, call_uses, term_uses, term_uses_step}
-use Rattle.lq_model.specs.declared.calls.Call.{Call}
-use Rattle.lq_model.specs.declared.calls.Term.{Term}
-use Rattle.lq_model.specs.declared.calls.Term.TheVariants as term
-use Rattle.lq_model.specs.declared.rights.Use.{Use}
-use Rattle.lq_model.specs.declared.syntax.Expr.{Expr}
-use Rattle.lq_model.specs.declared.syntax.Expr.TheVariants as expr
-use Rattle.lq_model.specs.declared.syntax.Node.{Node}
-use Rattle.lq_model.specs.declared.syntax.Node.TheVariants as node
-use Rattle.lq_model.specs.declared.syntax.Query.{Query}
+use Rattle.lq_language.specs.ClauseTyping.{expression_type}
+use Rattle.lq_language.specs.Terms.{term_type}
+use Rattle.lq_language.specs.Names.{Names, local_type, with_local}
+use Rattle.lq_language.specs.Uses.{Used, expression_uses, name_uses, node_uses, query_uses, uses_step}
+use Rattle.lq_language.specs.UsesOfCalls.{UsedTerm, call_uses, term_uses, term_uses_step}
+use Rattle.lq_language.specs.declared.calls.Call.{Call}
+use Rattle.lq_language.specs.declared.calls.Term.{Term}
+use Rattle.lq_language.specs.declared.calls.Term.TheVariants as term
+use Rattle.lq_language.specs.declared.rights.Use.{Use}
+use Rattle.lq_grammar.specs.declared.syntax.Expr.{Expr}
+use Rattle.lq_grammar.specs.declared.syntax.Expr.TheVariants as expr
+use Rattle.lq_grammar.specs.declared.syntax.Node.{Node}
+use Rattle.lq_grammar.specs.declared.syntax.Node.TheVariants as node
+use Rattle.lq_grammar.specs.declared.syntax.Query.{Query}
 use Rattle.lq_translate.specs.Maps.{map_node, map_query}
 use Rattle.lq_translate.specs.Translated.{is_name, translated, translated_query}
 use Rattle.lq_translate.specs.TranslationLaws.{NamesUsed}

@@ -1,13 +1,13 @@
 -- Parts of trees with each expression in them replaced, so that all else stays as it is: those of expressions, as `lq_model` has them,
 -- and those of calls.
 use Rattle.std.specs.Prelude.{map, option_map}
-pub use Rattle.lq_model.specs.Maps.{map_argument, map_body, map_clause, map_enumerable, map_field, map_join, map_key, map_last, map_next, map_node, map_query}
-use Rattle.lq_model.specs.declared.calls.Call.{Call}
-use Rattle.lq_model.specs.declared.calls.Operator.{Operator}
-use Rattle.lq_model.specs.declared.calls.Operator.TheVariants as operator
-use Rattle.lq_model.specs.declared.calls.Paired.{Paired}
-use Rattle.lq_model.specs.declared.calls.Paired.TheVariants as paired
-use Rattle.lq_model.specs.declared.calls.Part.{Part}
+pub use Rattle.lq_language.specs.Maps.{map_argument, map_body, map_clause, map_enumerable, map_field, map_join, map_key, map_last, map_next, map_node, map_query}
+use Rattle.lq_language.specs.declared.calls.Call.{Call}
+use Rattle.lq_language.specs.declared.calls.Operator.{Operator}
+use Rattle.lq_language.specs.declared.calls.Operator.TheVariants as operator
+use Rattle.lq_language.specs.declared.calls.Paired.{Paired}
+use Rattle.lq_language.specs.declared.calls.Paired.TheVariants as paired
+use Rattle.lq_language.specs.declared.calls.Part.{Part}
 
 module _ {X Y : Type 0} (f : X → Y) where
   abbrev pub map_paired : Paired X → Paired Y

@@ -1,15 +1,15 @@
 -- Whole expressions translated: each query, wherever it stands, is replaced by the calls that it stands for.
 use Rattle.std.specs.Prelude.{List, ℕ, Bool, false}
 use Rattle.std.specs.Str.{bytes_eq}
-use Rattle.lq_model.specs.declared.calls.Call.{Call}
-use Rattle.lq_model.specs.declared.calls.Term.{Term, out-Term}
-use Rattle.lq_model.specs.declared.calls.Term.TheOpen.{Term-F}
-use Rattle.lq_model.specs.declared.calls.Term.TheVariants as term
-use Rattle.lq_model.specs.declared.syntax.Expr.{Expr, fold-Expr}
-use Rattle.lq_model.specs.declared.syntax.Expr.TheOpen.{Expr-F}
-use Rattle.lq_model.specs.declared.syntax.Node.{Node}
-use Rattle.lq_model.specs.declared.syntax.Node.TheVariants as node
-use Rattle.lq_model.specs.declared.syntax.Query.{Query}
+use Rattle.lq_language.specs.declared.calls.Call.{Call}
+use Rattle.lq_language.specs.declared.calls.Term.{Term, out-Term}
+use Rattle.lq_language.specs.declared.calls.Term.TheOpen.{Term-F}
+use Rattle.lq_language.specs.declared.calls.Term.TheVariants as term
+use Rattle.lq_grammar.specs.declared.syntax.Expr.{Expr, fold-Expr}
+use Rattle.lq_grammar.specs.declared.syntax.Expr.TheOpen.{Expr-F}
+use Rattle.lq_grammar.specs.declared.syntax.Node.{Node}
+use Rattle.lq_grammar.specs.declared.syntax.Node.TheVariants as node
+use Rattle.lq_grammar.specs.declared.syntax.Query.{Query}
 use Rattle.lq_translate.specs.Maps.{map_query}
 use Rattle.lq_translate.specs.Translation.{call_of}
 

@@ -1,19 +1,19 @@
 -- The translation of a query to operator calls, a rule a clause (ECMA-334, query expression translation). `is_name` tells whether an
 -- expression is nothing but this name.
 use Rattle.std.specs.Prelude.{◌∷◌, ◌&&◌, if◌then◌else◌, not, List, [], map, ℕ, Bool, true, false, Option, Some, None}
-use Rattle.lq_model.specs.declared.calls.Call.{Call}
-use Rattle.lq_model.specs.declared.calls.Operator.{Operator}
-use Rattle.lq_model.specs.declared.calls.Operator.TheVariants as operator
-use Rattle.lq_model.specs.declared.calls.Paired.{Paired}
-use Rattle.lq_model.specs.declared.calls.Paired.TheVariants as paired
-use Rattle.lq_model.specs.declared.calls.Part.{Part}
-use Rattle.lq_model.specs.declared.syntax.Body.{Body}
-use Rattle.lq_model.specs.declared.syntax.Clause.{Clause}
-use Rattle.lq_model.specs.declared.syntax.Clause.TheVariants as clause
-use Rattle.lq_model.specs.declared.syntax.Continuation.{Continuation}
-use Rattle.lq_model.specs.declared.syntax.Last.{Last}
-use Rattle.lq_model.specs.declared.syntax.Last.TheVariants as last
-use Rattle.lq_model.specs.declared.syntax.Query.{Query}
+use Rattle.lq_language.specs.declared.calls.Call.{Call}
+use Rattle.lq_language.specs.declared.calls.Operator.{Operator}
+use Rattle.lq_language.specs.declared.calls.Operator.TheVariants as operator
+use Rattle.lq_language.specs.declared.calls.Paired.{Paired}
+use Rattle.lq_language.specs.declared.calls.Paired.TheVariants as paired
+use Rattle.lq_language.specs.declared.calls.Part.{Part}
+use Rattle.lq_grammar.specs.declared.syntax.Body.{Body}
+use Rattle.lq_grammar.specs.declared.syntax.Clause.{Clause}
+use Rattle.lq_grammar.specs.declared.syntax.Clause.TheVariants as clause
+use Rattle.lq_grammar.specs.declared.syntax.Continuation.{Continuation}
+use Rattle.lq_grammar.specs.declared.syntax.Last.{Last}
+use Rattle.lq_grammar.specs.declared.syntax.Last.TheVariants as last
+use Rattle.lq_grammar.specs.declared.syntax.Query.{Query}
 
 module _ {X : Type 0} where
   -- the call of a clause; where it pairs items, with what comes of each pair

@@ -2,18 +2,18 @@
 use Rattle.std.specs.Prelude.{◌≡◌, ◌∷◌, List, [], ℕ, Bool, true, Option, Some, Ok}
 use Rattle.lq_value.specs.declared.ty.Ty.{Ty}
 use Rattle.lq_value.specs.declared.value.Value.{Value}
-use Rattle.lq_model.specs.ClauseTyping.{expression_type, query_items}
-use Rattle.lq_model.specs.Worlds.{Meaning, Scope, World}
-use Rattle.lq_model.specs.ClauseMeaning.{query_meaning}
-use Rattle.lq_model.specs.Operators.{call_items, call_meaning}
-use Rattle.lq_model.specs.Terms.{term_meaning, term_type}
-use Rattle.lq_model.specs.Names.{Names, with_local}
-use Rattle.lq_model.specs.Uses.{expression_uses, query_uses}
-use Rattle.lq_model.specs.UsesOfCalls.{call_uses, term_uses}
-use Rattle.lq_model.specs.Meaning.{expression_meaning, items_meaning}
-use Rattle.lq_model.specs.declared.rights.Use.{Use}
-use Rattle.lq_model.specs.declared.syntax.Expr.{Expr}
-use Rattle.lq_model.specs.declared.syntax.Query.{Query}
+use Rattle.lq_language.specs.ClauseTyping.{expression_type, query_items}
+use Rattle.lq_language.specs.Worlds.{Meaning, Scope, World}
+use Rattle.lq_language.specs.ClauseMeaning.{query_meaning}
+use Rattle.lq_language.specs.Operators.{call_items, call_meaning}
+use Rattle.lq_language.specs.Terms.{term_meaning, term_type}
+use Rattle.lq_language.specs.Names.{Names, with_local}
+use Rattle.lq_language.specs.Uses.{expression_uses, query_uses}
+use Rattle.lq_language.specs.UsesOfCalls.{call_uses, term_uses}
+use Rattle.lq_language.specs.Meaning.{expression_meaning, items_meaning}
+use Rattle.lq_language.specs.declared.rights.Use.{Use}
+use Rattle.lq_grammar.specs.declared.syntax.Expr.{Expr}
+use Rattle.lq_grammar.specs.declared.syntax.Query.{Query}
 use Rattle.lq_translate.specs.Translated.{translated, translated_query}
 use Rattle.lq_translate.specs.Translation.{call_of}
 

@@ -1,10 +1,11 @@
 //! The calls of a query, whatever stands in it for expressions.
 ghost use Rattle.std.specs.Prelude.{◌≡◌, ◌++◌, ◌∷◌, ◌&&◌, [], map, false, true, not, IfOk, OnOk};
-ghost use Rattle.lq_model.specs.declared.calls.Paired.TheVariants as paired;
-ghost use Rattle.lq_model.specs.declared.syntax.Last.TheVariants as last;
+ghost use Rattle.lq_language.specs.declared.calls.Paired.TheVariants as paired;
+ghost use Rattle.lq_grammar.specs.declared.syntax.Last.TheVariants as last;
 ghost use Rattle.lq_translate.specs.Translation.{body_operators, call_of, clause_operator, has_result, keeps_sole, last_operators, operators_of, paired_operator, part_of, widens};
 
-use lq_model::{Body, Call, Clause, Continuation, Last, Operator, Paired, Part, Query};
+use lq_grammar::{Body, Clause, Continuation, Last, Query};
+use lq_language::{Call, Operator, Paired, Part};
 use lq_value::{List, Txt};
 use std::alloc::{AllocError, Global};
 

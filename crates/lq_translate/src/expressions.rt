@@ -1,16 +1,14 @@
 //! Whole expressions translated: a copy of each, in which every query is the calls that it stands for.
 ghost use Rattle.std.specs.Prelude.{◌≡◌, IfOk, map};
-ghost use Rattle.lq_model.specs.declared.calls.Term.TheVariants as term;
-ghost use Rattle.lq_model.specs.declared.syntax.Expr.TheVariants as expr;
-ghost use Rattle.lq_model.specs.declared.syntax.Node.TheVariants as node;
+ghost use Rattle.lq_language.specs.declared.calls.Term.TheVariants as term;
+ghost use Rattle.lq_grammar.specs.declared.syntax.Expr.TheVariants as expr;
+ghost use Rattle.lq_grammar.specs.declared.syntax.Node.TheVariants as node;
 ghost use Rattle.lq_translate.specs.Maps.{map_argument, map_body, map_clause, map_field, map_join, map_key, map_last, map_next, map_node, map_query};
 ghost use Rattle.lq_translate.specs.Translated.{translated, translated_query};
 
 use crate::calls::{Named, call_of_query};
-use lq_model::{
-    Argument, Binary, Body, Call, Clause, Continuation, Expr, Field, Join, Last, Node, Query,
-    SortKey, Term, Unary,
-};
+use lq_grammar::{Argument, Binary, Body, Clause, Continuation, Expr, Field, Join, Last, Node, Query, SortKey, Unary};
+use lq_language::{Call, Term};
 use lq_value::{Held, List, Txt};
 use std::alloc::{AllocError, Global};
 

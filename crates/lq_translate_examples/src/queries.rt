@@ -1,5 +1,6 @@
 //! The calls that queries stand for, each query spelled as a script has it.
-use lq_model::{Call, Expr, Operator, Paired, Query, Statement, Term};
+use lq_grammar::{Expr, Query, Statement};
+use lq_language::{Call, Operator, Paired, Term};
 use lq_syntax::{SyntaxError, parse_statement};
 use lq_translate::translate;
 use std::alloc::{AllocError, Global};

@@ -16,35 +16,35 @@ use Rattle.lq_value.specs.declared.value.Fault.{Fault}
 use Rattle.lq_value.specs.declared.value.Value.{Value, out-Value}
 use Rattle.lq_value.specs.declared.value.Value.TheVariants as value
 use Rattle.lq_value.specs.declared.value.Value.TheVariants.{outs-Seq}
-use Rattle.lq_model.specs.Arrangement.{Keyed, all_of, arranged, keyed, order_by, with_key}
-use Rattle.lq_model.specs.ClauseTyping.{element_type, has_place, is_fresh, is_key, is_within, joined_name, when}
-use Rattle.lq_model.specs.Maps.{map_key}
-use Rattle.lq_model.specs.Worlds.{Meaning, Scope, World, bound, names_at, or_null}
-use Rattle.lq_model.specs.OperandMeaning.{items_of, on_scalar, sequence, stream_of}
-use Rattle.lq_model.specs.ClauseMeaning.{as_group, condition_at, inner_items, is_null_layer, item_type_at, joined_type, joined_values, matches, sort_key_at}
-use Rattle.lq_model.specs.ValuesOfTypes.{Every, HoldsRows}
-use Rattle.lq_model.specs.Operations.{on_ok}
-use Rattle.lq_model.specs.Operators.{Pattern, One, With, bind, call_meaning, element_at, lambda, names_of, operator_meaning, operators_items, operators_meaning, operators_type_at, pair, parts_meaning, pattern_after, pattern_behind, pattern_type, result_of, unnamed}
-use Rattle.lq_model.specs.Stream.{Stream, both, elements_of, expand_by, join_by, on_value, select_by, where_by, with_keys}
-use Rattle.lq_model.specs.Names.{Names}
-use Rattle.lq_model.specs.OperandTypes.{is_scalar}
-use Rattle.lq_model.specs.Meaning.{as_sequence}
-use Rattle.lq_model.specs.MeaningLaws.{IsValueOf, by_group}
-use Rattle.lq_model.specs.declared.calls.Call.{Call}
-use Rattle.lq_model.specs.declared.calls.Operator.{Operator}
-use Rattle.lq_model.specs.declared.calls.Operator.TheVariants as operator
-use Rattle.lq_model.specs.declared.calls.Paired.{Paired}
-use Rattle.lq_model.specs.declared.calls.Paired.TheVariants as paired
-use Rattle.lq_model.specs.declared.calls.Part.{Part}
-use Rattle.lq_model.specs.declared.methods.Through.TheVariants as through
-use Rattle.lq_model.specs.declared.syntax.Join.{Join}
-use Rattle.lq_model.specs.declared.syntax.SortKey.{SortKey}
-use Rattle.lq_model.proofs.AlikeStreams.{Agree, Alike, KeysAlike, Pair, agree_ok, both_agree, every_element, expand_alike, group_alike, join_alike, on_ok_agree, order_alike, select_alike, where_alike}
-use Rattle.lq_model.proofs.EveryItem.{every_more, every_none, first_of, others_of}
-use Rattle.lq_model.proofs.Findings.{map_by, when_by}
-use Rattle.lq_model.proofs.TypedMethods.{scalar_after, stream_alike, truth_same}
-use Rattle.lq_model.proofs.TypingLemmas.{is_truth}
-use Rattle.lq_model.proofs.ValuesOfTypes.{gets_ok, is_plain, sequence_is}
+use Rattle.lq_language.specs.Arrangement.{Keyed, all_of, arranged, keyed, order_by, with_key}
+use Rattle.lq_language.specs.ClauseTyping.{element_type, has_place, is_fresh, is_key, is_within, joined_name, when}
+use Rattle.lq_language.specs.Maps.{map_key}
+use Rattle.lq_language.specs.Worlds.{Meaning, Scope, World, bound, names_at, or_null}
+use Rattle.lq_language.specs.OperandMeaning.{items_of, on_scalar, sequence, stream_of}
+use Rattle.lq_language.specs.ClauseMeaning.{as_group, condition_at, inner_items, is_null_layer, item_type_at, joined_type, joined_values, matches, sort_key_at}
+use Rattle.lq_language.specs.ValuesOfTypes.{Every, HoldsRows}
+use Rattle.lq_language.specs.Operations.{on_ok}
+use Rattle.lq_language.specs.Operators.{Pattern, One, With, bind, call_meaning, element_at, lambda, names_of, operator_meaning, operators_items, operators_meaning, operators_type_at, pair, parts_meaning, pattern_after, pattern_behind, pattern_type, result_of, unnamed}
+use Rattle.lq_language.specs.Stream.{Stream, both, elements_of, expand_by, join_by, on_value, select_by, where_by, with_keys}
+use Rattle.lq_language.specs.Names.{Names}
+use Rattle.lq_language.specs.OperandTypes.{is_scalar}
+use Rattle.lq_language.specs.Meaning.{as_sequence}
+use Rattle.lq_language.specs.MeaningLaws.{IsValueOf, by_group}
+use Rattle.lq_language.specs.declared.calls.Call.{Call}
+use Rattle.lq_language.specs.declared.calls.Operator.{Operator}
+use Rattle.lq_language.specs.declared.calls.Operator.TheVariants as operator
+use Rattle.lq_language.specs.declared.calls.Paired.{Paired}
+use Rattle.lq_language.specs.declared.calls.Paired.TheVariants as paired
+use Rattle.lq_language.specs.declared.calls.Part.{Part}
+use Rattle.lq_language.specs.declared.methods.Through.TheVariants as through
+use Rattle.lq_grammar.specs.declared.syntax.Join.{Join}
+use Rattle.lq_grammar.specs.declared.syntax.SortKey.{SortKey}
+use Rattle.lq_language.proofs.AlikeStreams.{Agree, Alike, KeysAlike, Pair, agree_ok, both_agree, every_element, expand_alike, group_alike, join_alike, on_ok_agree, order_alike, select_alike, where_alike}
+use Rattle.lq_language.proofs.EveryItem.{every_more, every_none, first_of, others_of}
+use Rattle.lq_language.proofs.Findings.{map_by, when_by}
+use Rattle.lq_language.proofs.TypedMethods.{scalar_after, stream_alike, truth_same}
+use Rattle.lq_language.proofs.TypingLemmas.{is_truth}
+use Rattle.lq_language.proofs.ValuesOfTypes.{gets_ok, is_plain, sequence_is}
 use Rattle.lq_tree.specs.Binding.{Binds, Stage, body_tree, call_items_tree, call_tree, condition_tree, element_tree, expanded_stage, gathered, grouped_stage, group_stage, if_fresh, inner_stage, items_of_stage, items_of_tree, join_keys, join_stage, joined_form, joined_stage, key_tree, keyed_tree, keys_of, let_stage, matched_stage, matched_type, operator_stage, order_stage, paired_stage, part_tree, placed_tree, query_tree, select_many_stage, select_stage, sequence_tree, sortable_tree, source_tree, stage_of, tree_of, walk_step, walked, where_stage}
 use Rattle.lq_tree.specs.FormMeaning.{Means, Slots, form_meaning, is_true, matched, sort_key}
 use Rattle.lq_tree.specs.Places.{Places, names_of_places, with_item, with_name}

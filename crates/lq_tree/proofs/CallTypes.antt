@@ -5,18 +5,18 @@ use Rattle.std.specs.List.{fold}
 use Rattle.lq_value.specs.declared.table.Schema.{Schema}
 use Rattle.lq_value.specs.declared.ty.Ty.{Ty, out-Ty}
 use Rattle.lq_value.specs.declared.ty.Ty.TheVariants as ty
-use Rattle.lq_model.specs.ClauseTyping.{are_join_keys, are_sort_keys, element_type, group_type, has_place, if_key, if_placed, if_within, is_fresh, is_key, is_sort_key, is_within, join_type, joined_name, matched_type as matched, source_type, when}
-use Rattle.lq_model.specs.Operators.{Pattern, One, With, call_items, element_of, locals_of, names_of, operators_items, operators_type, paired_pattern, parts_items, pattern_after, pattern_type, sole_pattern, unnamed}
-use Rattle.lq_model.specs.Names.{Names, with_local}
-use Rattle.lq_model.specs.OperandTypes.{is_bool, is_bool_type}
-use Rattle.lq_model.specs.declared.calls.Call.{Call}
-use Rattle.lq_model.specs.declared.calls.Operator.{Operator}
-use Rattle.lq_model.specs.declared.calls.Operator.TheVariants as operator
-use Rattle.lq_model.specs.declared.calls.Paired.{Paired}
-use Rattle.lq_model.specs.declared.calls.Paired.TheVariants as paired
-use Rattle.lq_model.specs.declared.calls.Part.{Part}
-use Rattle.lq_model.specs.declared.syntax.Join.{Join}
-use Rattle.lq_model.specs.declared.syntax.SortKey.{SortKey}
+use Rattle.lq_language.specs.ClauseTyping.{are_join_keys, are_sort_keys, element_type, group_type, has_place, if_key, if_placed, if_within, is_fresh, is_key, is_sort_key, is_within, join_type, joined_name, matched_type as matched, source_type, when}
+use Rattle.lq_language.specs.Operators.{Pattern, One, With, call_items, element_of, locals_of, names_of, operators_items, operators_type, paired_pattern, parts_items, pattern_after, pattern_type, sole_pattern, unnamed}
+use Rattle.lq_language.specs.Names.{Names, with_local}
+use Rattle.lq_language.specs.OperandTypes.{is_bool, is_bool_type}
+use Rattle.lq_language.specs.declared.calls.Call.{Call}
+use Rattle.lq_language.specs.declared.calls.Operator.{Operator}
+use Rattle.lq_language.specs.declared.calls.Operator.TheVariants as operator
+use Rattle.lq_language.specs.declared.calls.Paired.{Paired}
+use Rattle.lq_language.specs.declared.calls.Paired.TheVariants as paired
+use Rattle.lq_language.specs.declared.calls.Part.{Part}
+use Rattle.lq_grammar.specs.declared.syntax.Join.{Join}
+use Rattle.lq_grammar.specs.declared.syntax.SortKey.{SortKey}
 use Rattle.lq_tree.specs.Binding.{Binds, Stage, body_tree, call_items_tree, call_tree, condition_tree, element_tree, expanded_stage, group_stage, grouped_stage, if_fresh, inner_stage, items_of_stage, items_of_tree, join_stage, joined_stage, key_tree, keyed_tree, keys_of, matched_stage, matched_type, operator_stage, paired_stage, part_tree, placed_tree, query_tree, sequence_tree, sortable_tree, source_tree, stage_of, tree_of, walk_step, walked}
 use Rattle.lq_tree.specs.Places.{Place, Places, names_of_places, places_of, with_item, with_name}
 use Rattle.lq_tree.specs.declared.tree.Form.{Form}

@@ -5,24 +5,24 @@ use Rattle.std.specs.List.{fold}
 use Rattle.lq_value.specs.declared.table.Schema.{Schema}
 use Rattle.lq_value.specs.declared.ty.Ty.{Ty, out-Ty}
 use Rattle.lq_value.specs.declared.ty.Ty.TheVariants as ty
-use Rattle.lq_model.specs.ClauseTyping.{are_join_keys, element_type, from_type, has_place, is_fresh, is_key, is_sort_key, is_within, join_type, joined_name, matched_type as matched, source_type, when}
-use Rattle.lq_model.specs.Operators.{Pattern, One, With, names_of, operators_items, pattern_type, sole_pattern}
-use Rattle.lq_model.specs.Names.{Names, with_local}
-use Rattle.lq_model.specs.OperandTypes.{is_bool}
-use Rattle.lq_model.specs.Uses.{under}
-use Rattle.lq_model.specs.UsesOfCalls.{call_uses, element_uses, operator_uses, operators_uses, paired_uses, parts_uses}
-use Rattle.lq_model.specs.declared.calls.Call.{Call}
-use Rattle.lq_model.specs.declared.calls.Operator.{Operator}
-use Rattle.lq_model.specs.declared.calls.Operator.TheVariants as operator
-use Rattle.lq_model.specs.declared.calls.Paired.{Paired}
-use Rattle.lq_model.specs.declared.calls.Paired.TheVariants as paired
-use Rattle.lq_model.specs.declared.calls.Part.{Part}
-use Rattle.lq_model.specs.declared.methods.Through.TheVariants as through
-use Rattle.lq_model.specs.declared.rights.Use.{Use}
-use Rattle.lq_model.specs.declared.syntax.Join.{Join}
-use Rattle.lq_model.specs.declared.syntax.SortKey.{SortKey}
-use Rattle.lq_model.specs.Maps.{map_key}
-use Rattle.lq_model.proofs.Findings.{map_by, when_by}
+use Rattle.lq_language.specs.ClauseTyping.{are_join_keys, element_type, from_type, has_place, is_fresh, is_key, is_sort_key, is_within, join_type, joined_name, matched_type as matched, source_type, when}
+use Rattle.lq_language.specs.Operators.{Pattern, One, With, names_of, operators_items, pattern_type, sole_pattern}
+use Rattle.lq_language.specs.Names.{Names, with_local}
+use Rattle.lq_language.specs.OperandTypes.{is_bool}
+use Rattle.lq_language.specs.Uses.{under}
+use Rattle.lq_language.specs.UsesOfCalls.{call_uses, element_uses, operator_uses, operators_uses, paired_uses, parts_uses}
+use Rattle.lq_language.specs.declared.calls.Call.{Call}
+use Rattle.lq_language.specs.declared.calls.Operator.{Operator}
+use Rattle.lq_language.specs.declared.calls.Operator.TheVariants as operator
+use Rattle.lq_language.specs.declared.calls.Paired.{Paired}
+use Rattle.lq_language.specs.declared.calls.Paired.TheVariants as paired
+use Rattle.lq_language.specs.declared.calls.Part.{Part}
+use Rattle.lq_language.specs.declared.methods.Through.TheVariants as through
+use Rattle.lq_language.specs.declared.rights.Use.{Use}
+use Rattle.lq_grammar.specs.declared.syntax.Join.{Join}
+use Rattle.lq_grammar.specs.declared.syntax.SortKey.{SortKey}
+use Rattle.lq_language.specs.Maps.{map_key}
+use Rattle.lq_language.proofs.Findings.{map_by, when_by}
 use Rattle.lq_tree.specs.Binding.{Binds, Stage, body_tree, call_items_tree, call_tree, element_tree, expanded_stage, grouped_stage, if_fresh, inner_stage, items_of_stage, items_of_tree, joined_stage, key_tree, keyed_tree, keys_of, join_keys, matched_stage, matched_type, operator_stage, paired_stage, part_tree, placed_tree, query_tree, sequence_tree, sortable_tree, source_tree, stage_of, walk_step, walked, gathered}
 use Rattle.lq_tree.specs.Places.{Places, names_of_places, with_item, with_name}
 use Rattle.lq_tree.specs.UsesOfForms.{UseWhatIsKnown, form_uses}

@@ -12,25 +12,25 @@ use Rattle.lq_value.specs.declared.value.Value.{Value, out-Value}
 use Rattle.lq_value.specs.declared.value.Value.TheOpen.{Value-F}
 use Rattle.lq_value.specs.declared.value.Value.TheVariants as value
 use Rattle.lq_value.specs.declared.value.Value.TheVariants.{outs-Group as outs-value-Group, outs-Rec as outs-value-Rec, outs-Row as outs-value-Row, outs-Scalar, outs-Seq as outs-value-Seq}
-use Rattle.lq_model.specs.Arrangement.{Keyed, all_of, arranged, keyed, order_by, with_key}
-use Rattle.lq_model.specs.Enumerable.{all, as_count, concat, contains, element_at, except, intersect, skip, take_first, union}
-use Rattle.lq_model.specs.Maps.{map_field, map_key}
-use Rattle.lq_model.specs.Worlds.{World}
-use Rattle.lq_model.specs.OperandMeaning.{as_value, cell_value, is_null, items_of, on_scalar, on_truth, scalar_of, stream_of, table_value}
-use Rattle.lq_model.specs.ClauseMeaning.{as_group}
-use Rattle.lq_model.specs.ValuesOfTypes.{assuming}
-use Rattle.lq_model.specs.Operations.{of_one, of_two, on_ok, truth_of}
-use Rattle.lq_model.specs.Operators.{first, pair, second}
-use Rattle.lq_model.specs.Stream.{Stream, both, each, expand_by, group_by, groups_of, join_by, kept, made, on_value, one, whole, with_keys}
-use Rattle.lq_model.specs.Meaning.{as_sequence, as_truth, given_meaning, number_of, on_number, simple_meaning, through_meaning}
-use Rattle.lq_model.specs.declared.methods.Given.{Given}
-use Rattle.lq_model.specs.declared.methods.Given.TheVariants as given
-use Rattle.lq_model.specs.declared.methods.Through.{Through}
-use Rattle.lq_model.specs.declared.methods.Through.TheVariants as through
-use Rattle.lq_model.specs.declared.operation.Op.{Op}
-use Rattle.lq_model.specs.declared.operation.Op.TheVariants as op
-use Rattle.lq_model.specs.declared.syntax.SortKey.{SortKey}
-use Rattle.lq_model.proofs.EveryItem.{each_same}
+use Rattle.lq_language.specs.Arrangement.{Keyed, all_of, arranged, keyed, order_by, with_key}
+use Rattle.lq_language.specs.Enumerable.{all, as_count, concat, contains, element_at, except, intersect, skip, take_first, union}
+use Rattle.lq_language.specs.Maps.{map_field, map_key}
+use Rattle.lq_language.specs.Worlds.{World}
+use Rattle.lq_language.specs.OperandMeaning.{as_value, cell_value, is_null, items_of, on_scalar, on_truth, scalar_of, stream_of, table_value}
+use Rattle.lq_language.specs.ClauseMeaning.{as_group}
+use Rattle.lq_language.specs.ValuesOfTypes.{assuming}
+use Rattle.lq_language.specs.Operations.{of_one, of_two, on_ok, truth_of}
+use Rattle.lq_language.specs.Operators.{first, pair, second}
+use Rattle.lq_language.specs.Stream.{Stream, both, each, expand_by, group_by, groups_of, join_by, kept, made, on_value, one, whole, with_keys}
+use Rattle.lq_language.specs.Meaning.{as_sequence, as_truth, given_meaning, number_of, on_number, simple_meaning, through_meaning}
+use Rattle.lq_language.specs.declared.methods.Given.{Given}
+use Rattle.lq_language.specs.declared.methods.Given.TheVariants as given
+use Rattle.lq_language.specs.declared.methods.Through.{Through}
+use Rattle.lq_language.specs.declared.methods.Through.TheVariants as through
+use Rattle.lq_language.specs.declared.operation.Op.{Op}
+use Rattle.lq_language.specs.declared.operation.Op.TheVariants as op
+use Rattle.lq_grammar.specs.declared.syntax.SortKey.{SortKey}
+use Rattle.lq_language.proofs.EveryItem.{each_same}
 use Rattle.lq_tree.specs.FormMeaning.{Means, Slots, cell_in, form_meaning, if_there, is_null_value, is_true, joined_stream, key_in, matched, member_at, members_of, name_of_column, sort_key}
 use Rattle.lq_tree.specs.OperandKinds.{Among, Finds, HasCell, HasMember, IsEnumerable, IsGroup, IsScalar, IsScalarThat, MeetsKinds, Run, Runs, RunsFields, RunsKeys, TakesArgument, TakesMade, is_count, is_number, is_text, is_truth, items_in, takes_one, takes_two}
 use Rattle.lq_tree.specs.OperandKinds as kind

@@ -1,20 +1,20 @@
 -- Terms by induction: what holds of a node and of calls where it holds of all terms in them holds of every term. The formers are those that
 -- the types of the trees give, by the place at which a part stands in them.
 use Rattle.std.proofs.Common.{◌≡◌, List, map, Some, None, ap, sym, refl, subst}
-use Rattle.lq_model.specs.declared.calls.Call.{Call}
-use Rattle.lq_model.specs.declared.calls.Operator.{Operator}
-use Rattle.lq_model.specs.declared.calls.Operator.TheVariants as operator
-use Rattle.lq_model.specs.declared.calls.Paired.TheVariants as paired
-use Rattle.lq_model.specs.declared.calls.Part.{Part}
-use Rattle.lq_model.specs.declared.calls.Term.{Term, ind-Term, map-Term, roll-Term}
-use Rattle.lq_model.specs.declared.calls.Term.TheOpen.{Term-F}
-use Rattle.lq_model.specs.declared.calls.Term.TheShapes as calls
-use Rattle.lq_model.specs.declared.calls.Term.TheVariants as term
-use Rattle.lq_model.specs.declared.calls.Term.TheVariants.{rolls-Call, rolls-Node}
-use Rattle.lq_model.specs.declared.syntax.Argument.{Argument}
-use Rattle.lq_model.specs.declared.syntax.Argument.TheVariants as argument
-use Rattle.lq_model.specs.declared.syntax.Node.{Node}
-use Rattle.lq_model.specs.declared.syntax.Node.TheVariants as node
+use Rattle.lq_language.specs.declared.calls.Call.{Call}
+use Rattle.lq_language.specs.declared.calls.Operator.{Operator}
+use Rattle.lq_language.specs.declared.calls.Operator.TheVariants as operator
+use Rattle.lq_language.specs.declared.calls.Paired.TheVariants as paired
+use Rattle.lq_language.specs.declared.calls.Part.{Part}
+use Rattle.lq_language.specs.declared.calls.Term.{Term, ind-Term, map-Term, roll-Term}
+use Rattle.lq_language.specs.declared.calls.Term.TheOpen.{Term-F}
+use Rattle.lq_language.specs.declared.calls.Term.TheShapes as calls
+use Rattle.lq_language.specs.declared.calls.Term.TheVariants as term
+use Rattle.lq_language.specs.declared.calls.Term.TheVariants.{rolls-Call, rolls-Node}
+use Rattle.lq_grammar.specs.declared.syntax.Argument.{Argument}
+use Rattle.lq_grammar.specs.declared.syntax.Argument.TheVariants as argument
+use Rattle.lq_grammar.specs.declared.syntax.Node.{Node}
+use Rattle.lq_grammar.specs.declared.syntax.Node.TheVariants as node
 use Rattle.lq_translate.specs.Maps.{map_argument, map_call, map_node, map_operator, map_part}
 
 map_ext : {A B : Type 0} (f g : A → B) → ((x : A) → f x ≡ g x) → (xs : List A) → map f xs ≡ map g xs

@@ -8,14 +8,14 @@ use Rattle.lq_value.specs.declared.ty.Ty.TheOpen.{Ty-F}
 use Rattle.lq_value.specs.declared.value.Fault.{Fault}
 use Rattle.lq_value.specs.declared.value.Value.{Value, out-Value}
 use Rattle.lq_value.specs.declared.value.Value.TheOpen.{Value-F}
-use Rattle.lq_model.specs.Enumerable.{any, count, default_if_empty, first, greatest, least, reversed, single, summed}
-use Rattle.lq_model.specs.OperandMeaning.{as_value, sequence, truth_value}
-use Rattle.lq_model.specs.ClauseMeaning.{as_group, is_null_layer, matches}
-use Rattle.lq_model.specs.Operators.{first as first_part, first_member, pair, second, second_member}
-use Rattle.lq_model.specs.Stream.{Stream, elements_of, first_keys}
-use Rattle.lq_model.specs.Meaning.{as_sequence, as_truth, default_layer, default_of, no_number, none_there, number_in, numbers, simple_meaning}
-use Rattle.lq_model.specs.declared.methods.Simple.{Simple}
-use Rattle.lq_model.specs.declared.methods.Simple.TheVariants as simple
+use Rattle.lq_language.specs.Enumerable.{any, count, default_if_empty, first, greatest, least, reversed, single, summed}
+use Rattle.lq_language.specs.OperandMeaning.{as_value, sequence, truth_value}
+use Rattle.lq_language.specs.ClauseMeaning.{as_group, is_null_layer, matches}
+use Rattle.lq_language.specs.Operators.{first as first_part, first_member, pair, second, second_member}
+use Rattle.lq_language.specs.Stream.{Stream, elements_of, first_keys}
+use Rattle.lq_language.specs.Meaning.{as_sequence, as_truth, default_layer, default_of, no_number, none_there, number_in, numbers, simple_meaning}
+use Rattle.lq_language.specs.declared.methods.Simple.{Simple}
+use Rattle.lq_language.specs.declared.methods.Simple.TheVariants as simple
 use Rattle.lq_tree.specs.Rows.{mapped, result_map, stream_map}
 use Rattle.lq_tree.proofs.MappedMethods.{any_natural, count_natural, default_natural, distinct_natural, filter_map_natural, first_natural, last_natural, reversed_natural, single_natural}
 use Rattle.lq_tree.proofs.MappedStreams.{elements_natural, pair_map}

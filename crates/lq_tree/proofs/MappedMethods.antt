@@ -5,9 +5,9 @@ use mathlib.Core.List.{reverse_aux}
 use Rattle.lq_value.specs.declared.value.End.{End}
 use Rattle.lq_value.specs.declared.value.End.TheVariants as end
 use Rattle.lq_value.specs.declared.value.Fault.{Fault}
-use Rattle.lq_model.specs.Enumerable.{all, any, at_end, concat, contains, count, default_if_empty, distinct, element_at, except, first, in_front, intersect, is_among, item_behind, last, last_of, reversed, single, skip, summed, take_first, union}
-use Rattle.lq_model.specs.Operations.{on_ok}
-use Rattle.lq_model.specs.Stream.{Stream, first_keys}
+use Rattle.lq_language.specs.Enumerable.{all, any, at_end, concat, contains, count, default_if_empty, distinct, element_at, except, first, in_front, intersect, is_among, item_behind, last, last_of, reversed, single, skip, summed, take_first, union}
+use Rattle.lq_language.specs.Operations.{on_ok}
+use Rattle.lq_language.specs.Stream.{Stream, first_keys}
 use Rattle.lq_tree.specs.Rows.{result_map, stream_map}
 use Rattle.lq_tree.proofs.MappedStreams.{filter_natural, first_keys_natural, map_twice, then_natural, whole_natural}
 

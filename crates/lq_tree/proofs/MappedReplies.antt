@@ -9,9 +9,9 @@ use Rattle.lq_value.specs.declared.value.Fault.{Fault}
 use Rattle.lq_value.specs.declared.value.Value.{Value, map-Value, out-Value, roll-Value}
 use Rattle.lq_value.specs.declared.value.Value.TheOpen.{Value-F}
 use Rattle.lq_value.specs.declared.value.Value.TheViews.{out-roll-Value}
-use Rattle.lq_model.specs.Served.{fault_at, fault_step, first_member, first_of, group_data, item_data, layer_data, nested_fault, or_next, record_data, record_members, row_data, sequence_data, served_item, served_stream, stream_data, unless_fault, value_data}
-use Rattle.lq_model.specs.Stream.{Stream, each, one}
-use Rattle.lq_model.proofs.ServedLemmas.{fault_out, item_out}
+use Rattle.lq_machine.specs.Served.{fault_at, fault_step, first_member, first_of, group_data, item_data, layer_data, nested_fault, or_next, record_data, record_members, row_data, sequence_data, served_item, served_stream, stream_data, unless_fault, value_data}
+use Rattle.lq_language.specs.Stream.{Stream, each, one}
+use Rattle.lq_machine.proofs.ServedLemmas.{fault_out, item_out}
 use Rattle.lq_translate.proofs.StreamLemmas.{each_map}
 use Rattle.lq_tree.specs.RowLaws.{ServesAlikeOverRows}
 use Rattle.lq_tree.specs.Rows.{mapped, result_map, stream_map}

@@ -6,9 +6,9 @@ use Rattle.lq_value.specs.declared.scalar.Scalar.{Scalar}
 use Rattle.lq_value.specs.declared.value.End.{End}
 use Rattle.lq_value.specs.declared.value.End.TheVariants as end
 use Rattle.lq_value.specs.declared.value.Fault.{Fault}
-use Rattle.lq_model.specs.Arrangement.{Keyed, all_of, arranged, keyed, order_by, with_key}
-use Rattle.lq_model.specs.Operations.{on_ok}
-use Rattle.lq_model.specs.Stream.{Stream, both, each, elements_of, expand_by, first_keys, group_by, groups_of, join_by, kept, made, on_value, one, select_by, then_ending, where_by, whole, with_keys}
+use Rattle.lq_language.specs.Arrangement.{Keyed, all_of, arranged, keyed, order_by, with_key}
+use Rattle.lq_language.specs.Operations.{on_ok}
+use Rattle.lq_language.specs.Stream.{Stream, both, each, elements_of, expand_by, first_keys, group_by, groups_of, join_by, kept, made, on_value, one, select_by, then_ending, where_by, whole, with_keys}
 use Rattle.lq_tree.specs.Rows.{result_map, stream_map}
 use Rattle.lq_translate.proofs.StreamLemmas.{each_natural, kept_mapped, order_natural}
 

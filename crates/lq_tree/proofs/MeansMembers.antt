@@ -17,25 +17,25 @@ use Rattle.lq_value.specs.declared.value.Fault.TheVariants as fault
 use Rattle.lq_value.specs.declared.value.Value.{Value, out-Value}
 use Rattle.lq_value.specs.declared.value.Value.TheOpen.{Value-F}
 use Rattle.lq_value.specs.declared.value.Value.TheVariants.{outs-Group as outs-value-Group, outs-Rec as outs-value-Rec, outs-Row as outs-value-Row, outs-Scalar}
-use Rattle.lq_model.specs.Worlds.{World}
-use Rattle.lq_model.specs.OperandMeaning.{stream_of, as_value, cell_value, member_value, scalar_of}
-use Rattle.lq_model.specs.ValuesOfTypes.{IsScalarOf}
-use Rattle.lq_model.specs.Members.{member_named}
-use Rattle.lq_model.specs.Operations.{of_member, of_one, on_ok}
-use Rattle.lq_model.specs.Types.{when}
-use Rattle.lq_model.specs.Names.{column_named, column_type, type_of_column}
-use Rattle.lq_model.specs.OperandTypes.{row_table}
-use Rattle.lq_model.specs.Meaning.{as_sequence, has_members, is_sequence_layer, settled, member_found, member_in, whole_member_value}
-use Rattle.lq_model.specs.MeaningLaws.{AreMembers, Fits, IsValueOf, no_member, one_member}
-use Rattle.lq_model.specs.Typing.{member_of}
-use Rattle.lq_model.specs.declared.operation.Op.{Op}
-use Rattle.lq_model.specs.declared.operation.Op.TheVariants as op
-use Rattle.lq_model.proofs.AlikeStreams.{Agree, on_ok_agree}
-use Rattle.lq_model.proofs.Findings.{map_by, when_by}
-use Rattle.lq_model.proofs.ScalarResults.{Gives, given_of, has_value_given, length_given, value_given}
-use Rattle.lq_model.proofs.TypedMethods.{column_agrees, key_agrees, member_agrees, scalar_member_agrees, settled_agree}
-use Rattle.lq_model.proofs.TypingLemmas.{is_of_layer, type_with}
-use Rattle.lq_model.proofs.ValuesOfTypes.{RecordOrNull, RowOrNull, a_record, a_row, group_value, is_plain, no_record, no_row, plain_value, record_value, row_value}
+use Rattle.lq_language.specs.Worlds.{World}
+use Rattle.lq_language.specs.OperandMeaning.{stream_of, as_value, cell_value, member_value, scalar_of}
+use Rattle.lq_language.specs.ValuesOfTypes.{IsScalarOf}
+use Rattle.lq_language.specs.Members.{member_named}
+use Rattle.lq_language.specs.Operations.{of_member, of_one, on_ok}
+use Rattle.lq_language.specs.Types.{when}
+use Rattle.lq_language.specs.Names.{column_named, column_type, type_of_column}
+use Rattle.lq_language.specs.OperandTypes.{row_table}
+use Rattle.lq_language.specs.Meaning.{as_sequence, has_members, is_sequence_layer, settled, member_found, member_in, whole_member_value}
+use Rattle.lq_language.specs.MeaningLaws.{AreMembers, Fits, IsValueOf, no_member, one_member}
+use Rattle.lq_language.specs.Typing.{member_of}
+use Rattle.lq_language.specs.declared.operation.Op.{Op}
+use Rattle.lq_language.specs.declared.operation.Op.TheVariants as op
+use Rattle.lq_language.proofs.AlikeStreams.{Agree, on_ok_agree}
+use Rattle.lq_language.proofs.Findings.{map_by, when_by}
+use Rattle.lq_language.proofs.ScalarResults.{Gives, given_of, has_value_given, length_given, value_given}
+use Rattle.lq_language.proofs.TypedMethods.{column_agrees, key_agrees, member_agrees, scalar_member_agrees, settled_agree}
+use Rattle.lq_language.proofs.TypingLemmas.{is_of_layer, type_with}
+use Rattle.lq_language.proofs.ValuesOfTypes.{RecordOrNull, RowOrNull, a_record, a_row, group_value, is_plain, no_record, no_row, plain_value, record_value, row_value}
 use Rattle.lq_tree.specs.Binding.{group_key_tree, member_layer, member_tree, settled_form, settled_tree, nullable_tree, record_member_tree, text_tree, tree_of}
 use Rattle.lq_tree.specs.FormMeaning.{Slots, cell_in, column_name, form_meaning, if_there, key_in, member_at, name_of_column}
 use Rattle.lq_tree.specs.declared.tree.Form.{Form}

@@ -12,28 +12,28 @@ use Rattle.lq_value.specs.declared.value.Value.{Value, out-Value}
 use Rattle.lq_value.specs.declared.value.Value.TheOpen.{Value-F}
 use Rattle.lq_value.specs.declared.value.Value.TheVariants as value
 use Rattle.lq_value.specs.declared.value.Value.TheVariants.{outs-Group as outs-value-Group, outs-Rec as outs-value-Rec, outs-Row as outs-value-Row, outs-Scalar}
-use Rattle.lq_model.specs.Worlds.{World}
-use Rattle.lq_model.specs.OperandMeaning.{as_value, is_null, on_scalar, on_truth, operation_on, scalar_of, told, truth_value}
-use Rattle.lq_model.specs.RuleMeaning.{compared_meaning, operated_meaning}
-use Rattle.lq_model.specs.ValuesOfTypes.{IsScalarOf}
-use Rattle.lq_model.specs.Operations.{negated, of_two, on_ok, operation_of, same_content, truth, truth_of}
-use Rattle.lq_model.specs.Operators.{first, pair, second}
-use Rattle.lq_model.specs.OperandTypes.{are_comparable, are_joined, coalesced, is_bool, is_equality, is_number, is_ordering, is_text, joined_type, number_type, result_type, truth_type}
-use Rattle.lq_model.specs.Meaning.{whole_compared, whole_same}
-use Rattle.lq_model.specs.MeaningLaws.{IsValueOf, by_scalar}
-use Rattle.lq_model.specs.Typing.{are_null_tests, whole_chosen, whole_operated_type}
-use Rattle.lq_model.specs.declared.operation.Op.{Op}
-use Rattle.lq_model.specs.declared.operation.Op.TheVariants as op
-use Rattle.lq_model.specs.declared.syntax.Binary.{Binary}
-use Rattle.lq_model.specs.declared.syntax.Binary.TheVariants as binary
-use Rattle.lq_model.specs.declared.syntax.Unary.TheVariants as unary
-use Rattle.lq_model.proofs.AlikeStreams.{Agree, agree_err, agree_ok, on_ok_agree}
-use Rattle.lq_model.proofs.Findings.{if_by, map_by, when_by}
-use Rattle.lq_model.proofs.ScalarResults.{Gives, arithmetic_of, coalesced_fits, given_of, joined_given, minus_given, ordering_given, signed}
-use Rattle.lq_model.proofs.TypedMethods.{given_agree, scalar_after, truth_after}
-use Rattle.lq_model.proofs.TypedOperators.{Keeps, choice_keeps, coalesced_plain, decides, plain_keeps}
-use Rattle.lq_model.proofs.TypingLemmas.{compares_not, is_truth}
-use Rattle.lq_model.proofs.ValuesOfTypes.{RecordOrNull, RowOrNull, a_record, a_row, group_value, is_plain, no_record, no_row, number_plain, plain_value, record_value, row_value, truth_is}
+use Rattle.lq_language.specs.Worlds.{World}
+use Rattle.lq_language.specs.OperandMeaning.{as_value, is_null, on_scalar, on_truth, operation_on, scalar_of, told, truth_value}
+use Rattle.lq_language.specs.RuleMeaning.{compared_meaning, operated_meaning}
+use Rattle.lq_language.specs.ValuesOfTypes.{IsScalarOf}
+use Rattle.lq_language.specs.Operations.{negated, of_two, on_ok, operation_of, same_content, truth, truth_of}
+use Rattle.lq_language.specs.Operators.{first, pair, second}
+use Rattle.lq_language.specs.OperandTypes.{are_comparable, are_joined, coalesced, is_bool, is_equality, is_number, is_ordering, is_text, joined_type, number_type, result_type, truth_type}
+use Rattle.lq_language.specs.Meaning.{whole_compared, whole_same}
+use Rattle.lq_language.specs.MeaningLaws.{IsValueOf, by_scalar}
+use Rattle.lq_language.specs.Typing.{are_null_tests, whole_chosen, whole_operated_type}
+use Rattle.lq_language.specs.declared.operation.Op.{Op}
+use Rattle.lq_language.specs.declared.operation.Op.TheVariants as op
+use Rattle.lq_grammar.specs.declared.syntax.Binary.{Binary}
+use Rattle.lq_grammar.specs.declared.syntax.Binary.TheVariants as binary
+use Rattle.lq_grammar.specs.declared.syntax.Unary.TheVariants as unary
+use Rattle.lq_language.proofs.AlikeStreams.{Agree, agree_err, agree_ok, on_ok_agree}
+use Rattle.lq_language.proofs.Findings.{if_by, map_by, when_by}
+use Rattle.lq_language.proofs.ScalarResults.{Gives, arithmetic_of, coalesced_fits, given_of, joined_given, minus_given, ordering_given, signed}
+use Rattle.lq_language.proofs.TypedMethods.{given_agree, scalar_after, truth_after}
+use Rattle.lq_language.proofs.TypedOperators.{Keeps, choice_keeps, coalesced_plain, decides, plain_keeps}
+use Rattle.lq_language.proofs.TypingLemmas.{compares_not, is_truth}
+use Rattle.lq_language.proofs.ValuesOfTypes.{RecordOrNull, RowOrNull, a_record, a_row, group_value, is_plain, no_record, no_row, number_plain, plain_value, record_value, row_value, truth_is}
 use Rattle.lq_tree.specs.Binding.{and_tree, binary_form, binary_tree, coalesce_tree, conditional_tree, equality_form, is_literal, is_object, operation_at, or_tree, tested_first, tested_second, tree_of, unary_tree}
 use Rattle.lq_tree.specs.FormMeaning.{Slots, form_meaning, is_null_value}
 use Rattle.lq_tree.specs.declared.tree.Form.{Form, out-Form}

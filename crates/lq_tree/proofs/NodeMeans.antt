@@ -12,37 +12,37 @@ use Rattle.lq_value.specs.declared.value.End.TheVariants as end
 use Rattle.lq_value.specs.declared.value.Fault.{Fault}
 use Rattle.lq_value.specs.declared.value.Value.{Value, out-Value}
 use Rattle.lq_value.specs.declared.value.Value.TheVariants as value
-use Rattle.lq_model.specs.EnumerableCalls.{EnumerableCall, By, Plain, With, enumerable_call}
-use Rattle.lq_model.specs.Maps.{map_argument, map_enumerable, map_field, map_node}
-use Rattle.lq_model.specs.Worlds.{Binding, Meaning, Scope, World, binding_of, bound, names_at, or_null, SessionValue}
-use Rattle.lq_model.specs.OperandMeaning.{as_value, on_scalar, stream_of, table_value}
-use Rattle.lq_model.specs.ClauseMeaning.{condition_at, item_type_at}
-use Rattle.lq_model.specs.ValuesOfTypes.{Every, HasCells, HoldsRows, IsScalarOf}
-use Rattle.lq_model.specs.Members.{search_named, sole_argument}
-use Rattle.lq_model.specs.Operations.{of_search, on_ok}
-use Rattle.lq_model.specs.Operators.{One}
-use Rattle.lq_model.specs.Stream.{Stream}
-use Rattle.lq_model.specs.Types.{element_type, is_fresh, is_within}
-use Rattle.lq_model.specs.Names.{Names, table_number, with_local, SessionName}
-use Rattle.lq_model.specs.OperandTypes.{is_text, is_text_type}
-use Rattle.lq_model.specs.Meaning.{argument_meaning, as_sequence, called_meaning, enumerable_meaning, given_meaning, is_sequence_layer, members_meaning, method_type_at, search_meaning, settled, simple_meaning, through_meaning, whole_meaning, whole_member_value, global_value, session_value, whole_name_value}
-use Rattle.lq_model.specs.MeaningLaws.{AreMembers, Fits, IsValueOf, by_record, by_row, no_member, one_member, IsSessionOfValues}
-use Rattle.lq_model.specs.Typing.{given_type, simple_type, through_type, whole_type}
-use Rattle.lq_model.specs.declared.operation.Op.{Op}
-use Rattle.lq_model.specs.declared.syntax.Argument.{Argument}
-use Rattle.lq_model.specs.declared.syntax.Field.{Field}
-use Rattle.lq_model.specs.declared.syntax.Node.{Node}
-use Rattle.lq_model.specs.declared.syntax.Node.TheVariants as node
-use Rattle.lq_model.specs.declared.syntax.Unary.TheVariants as unary
-use Rattle.lq_model.proofs.AlikeStreams.{Agree, agree_err, agree_ok, on_ok_agree}
-use Rattle.lq_model.proofs.EveryItem.{every_map, table_there, first_of, others_of}
-use Rattle.lq_model.proofs.Findings.{map_by, when_by}
-use Rattle.lq_model.proofs.MemberLemmas.{search_given as search_known}
-use Rattle.lq_model.proofs.MethodPulls.{call_maps}
-use Rattle.lq_model.proofs.ScalarResults.{given_of, search_given}
-use Rattle.lq_model.proofs.TypedMethods.{given_agree, given_typed, scalar_after, simple_typed, stream_alike, through_typed, truth_same}
-use Rattle.lq_model.proofs.TypingLemmas.{is_text_of, is_truth}
-use Rattle.lq_model.proofs.ValuesOfTypes.{is_plain, scalar_is, sequence_is}
+use Rattle.lq_language.specs.EnumerableCalls.{EnumerableCall, By, Plain, With, enumerable_call}
+use Rattle.lq_language.specs.Maps.{map_argument, map_enumerable, map_field, map_node}
+use Rattle.lq_language.specs.Worlds.{Binding, Meaning, Scope, World, binding_of, bound, names_at, or_null, SessionValue}
+use Rattle.lq_language.specs.OperandMeaning.{as_value, on_scalar, stream_of, table_value}
+use Rattle.lq_language.specs.ClauseMeaning.{condition_at, item_type_at}
+use Rattle.lq_language.specs.ValuesOfTypes.{Every, HasCells, HoldsRows, IsScalarOf}
+use Rattle.lq_language.specs.Members.{search_named, sole_argument}
+use Rattle.lq_language.specs.Operations.{of_search, on_ok}
+use Rattle.lq_language.specs.Operators.{One}
+use Rattle.lq_language.specs.Stream.{Stream}
+use Rattle.lq_language.specs.Types.{element_type, is_fresh, is_within}
+use Rattle.lq_language.specs.Names.{Names, table_number, with_local, SessionName}
+use Rattle.lq_language.specs.OperandTypes.{is_text, is_text_type}
+use Rattle.lq_language.specs.Meaning.{argument_meaning, as_sequence, called_meaning, enumerable_meaning, given_meaning, is_sequence_layer, members_meaning, method_type_at, search_meaning, settled, simple_meaning, through_meaning, whole_meaning, whole_member_value, global_value, session_value, whole_name_value}
+use Rattle.lq_language.specs.MeaningLaws.{AreMembers, Fits, IsValueOf, by_record, by_row, no_member, one_member, IsSessionOfValues}
+use Rattle.lq_language.specs.Typing.{given_type, simple_type, through_type, whole_type}
+use Rattle.lq_language.specs.declared.operation.Op.{Op}
+use Rattle.lq_grammar.specs.declared.syntax.Argument.{Argument}
+use Rattle.lq_grammar.specs.declared.syntax.Field.{Field}
+use Rattle.lq_grammar.specs.declared.syntax.Node.{Node}
+use Rattle.lq_grammar.specs.declared.syntax.Node.TheVariants as node
+use Rattle.lq_grammar.specs.declared.syntax.Unary.TheVariants as unary
+use Rattle.lq_language.proofs.AlikeStreams.{Agree, agree_err, agree_ok, on_ok_agree}
+use Rattle.lq_language.proofs.EveryItem.{every_map, table_there, first_of, others_of}
+use Rattle.lq_language.proofs.Findings.{map_by, when_by}
+use Rattle.lq_language.proofs.MemberLemmas.{search_given as search_known}
+use Rattle.lq_language.proofs.MethodPulls.{call_maps}
+use Rattle.lq_language.proofs.ScalarResults.{given_of, search_given}
+use Rattle.lq_language.proofs.TypedMethods.{given_agree, given_typed, scalar_after, simple_typed, stream_alike, through_typed, truth_same}
+use Rattle.lq_language.proofs.TypingLemmas.{is_text_of, is_truth}
+use Rattle.lq_language.proofs.ValuesOfTypes.{is_plain, scalar_is, sequence_is}
 use Rattle.lq_tree.specs.Binding.{Binds, and_tree, binary_tree, coalesce_tree, conditional_tree, member_tree, of_two_trees, or_tree, called_tree, enumerable_tree, field_tree, fields_tree, form_of_field, gathered, lambda_tree, name_tree, node_tree, placed_tree, record_tree, search_form, search_tree, settled_tree, tree_of, type_of_field, within_tree, global_tree}
 use Rattle.lq_tree.specs.FormMeaning.{Slots, form_meaning, is_true, members_of}
 use Rattle.lq_tree.specs.Places.{Place, Places, names_of_places, place_of, with_name, SessionPlace, session_place}

@@ -3,20 +3,20 @@ use Rattle.std.proofs.Common.{◌≡◌, ◌∷◌, ◌&&◌, if◌then◌else�
 use Rattle.lq_value.specs.declared.table.Schema.{Schema}
 use Rattle.lq_value.specs.declared.ty.Ty.{Ty, out-Ty}
 use Rattle.lq_value.specs.declared.ty.Ty.TheVariants as ty
-use Rattle.lq_model.specs.EnumerableCalls.{EnumerableCall, By, Plain, With, enumerable_call}
-use Rattle.lq_model.specs.Maps.{map_argument, map_enumerable, map_field, map_node}
-use Rattle.lq_model.specs.Members.{is_search, sole_argument}
-use Rattle.lq_model.specs.Types.{if_placed, when}
-use Rattle.lq_model.specs.Names.{Names}
-use Rattle.lq_model.specs.OperandTypes.{coalesced, is_bool, is_number, is_text_type, truth_type}
-use Rattle.lq_model.specs.Typing.{argument_type, are_distinct, called_type, if_limited, members_type, method_type, record_type, whole_member_type, whole_operated_type, whole_type, whole_name_type}
-use Rattle.lq_model.specs.declared.syntax.Argument.{Argument}
-use Rattle.lq_model.specs.declared.syntax.Argument.TheVariants as argument
-use Rattle.lq_model.specs.declared.syntax.Field.{Field}
-use Rattle.lq_model.specs.declared.syntax.Node.{Node}
-use Rattle.lq_model.specs.declared.syntax.Node.TheVariants as node
-use Rattle.lq_model.specs.declared.syntax.Unary.TheVariants as unary
-use Rattle.lq_model.proofs.MethodPulls.{call_maps}
+use Rattle.lq_language.specs.EnumerableCalls.{EnumerableCall, By, Plain, With, enumerable_call}
+use Rattle.lq_language.specs.Maps.{map_argument, map_enumerable, map_field, map_node}
+use Rattle.lq_language.specs.Members.{is_search, sole_argument}
+use Rattle.lq_language.specs.Types.{if_placed, when}
+use Rattle.lq_language.specs.Names.{Names}
+use Rattle.lq_language.specs.OperandTypes.{coalesced, is_bool, is_number, is_text_type, truth_type}
+use Rattle.lq_language.specs.Typing.{argument_type, are_distinct, called_type, if_limited, members_type, method_type, record_type, whole_member_type, whole_operated_type, whole_type, whole_name_type}
+use Rattle.lq_grammar.specs.declared.syntax.Argument.{Argument}
+use Rattle.lq_grammar.specs.declared.syntax.Argument.TheVariants as argument
+use Rattle.lq_grammar.specs.declared.syntax.Field.{Field}
+use Rattle.lq_grammar.specs.declared.syntax.Node.{Node}
+use Rattle.lq_grammar.specs.declared.syntax.Node.TheVariants as node
+use Rattle.lq_grammar.specs.declared.syntax.Unary.TheVariants as unary
+use Rattle.lq_language.proofs.MethodPulls.{call_maps}
 use Rattle.lq_tree.specs.Binding.{Binds, and_tree, binary_form, binary_tree, coalesce_tree, member_tree, node_tree, or_tree, unary_tree}
 use Rattle.lq_tree.specs.Places.{Places, names_of_places, place_of}
 use Rattle.lq_tree.specs.declared.tree.Form.TheVariants as form

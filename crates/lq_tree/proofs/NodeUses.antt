@@ -7,33 +7,33 @@ use Rattle.lq_value.specs.declared.table.Schema.{Schema}
 use Rattle.lq_value.specs.declared.ty.Ty.{Ty, out-Ty}
 use Rattle.lq_value.specs.declared.ty.Ty.TheOpen.{Ty-F}
 use Rattle.lq_value.specs.declared.ty.Ty.TheVariants as ty
-use Rattle.lq_model.specs.ClauseTyping.{source_type}
-use Rattle.lq_model.specs.EnumerableCalls.{EnumerableCall, By, Plain, With, enumerable_call, method_with_lambda, method_with_value, simple_method}
-use Rattle.lq_model.specs.Maps.{map_field}
-use Rattle.lq_model.specs.OperandMeaning.{told}
-use Rattle.lq_model.specs.ValuesOfTypes.{Every}
-use Rattle.lq_model.specs.Members.{search_named, sole_argument}
-use Rattle.lq_model.specs.Operations.{operation_of}
-use Rattle.lq_model.specs.Operators.{Pattern, One, With as Pair}
-use Rattle.lq_model.specs.Types.{element_type, is_fresh, is_within, when}
-use Rattle.lq_model.specs.Names.{Names, table_number, with_local, SessionName}
-use Rattle.lq_model.specs.OperandTypes.{coalesced, is_bool, is_equality, is_number, is_text}
-use Rattle.lq_model.specs.Uses.{argument_uses, column_number, member_uses, name_uses, node_uses, under, global_uses}
-use Rattle.lq_model.specs.Meaning.{is_sequence_layer}
-use Rattle.lq_model.specs.Typing.{given_type, simple_type, through_type, whole_chosen, whole_operated_type}
-use Rattle.lq_model.specs.declared.operation.Op.TheVariants as op
-use Rattle.lq_model.specs.declared.rights.Use.{Use}
-use Rattle.lq_model.specs.declared.rights.Use.TheVariants as of
-use Rattle.lq_model.specs.declared.syntax.Argument.{Argument}
-use Rattle.lq_model.specs.declared.syntax.Argument.TheVariants as argument
-use Rattle.lq_model.specs.declared.syntax.Binary.{Binary}
-use Rattle.lq_model.specs.declared.syntax.Field.{Field}
-use Rattle.lq_model.specs.declared.syntax.Node.{Node}
-use Rattle.lq_model.specs.declared.syntax.Node.TheVariants as node
-use Rattle.lq_model.specs.declared.syntax.Unary.{Unary}
-use Rattle.lq_model.specs.declared.syntax.Unary.TheVariants as unary
-use Rattle.lq_model.proofs.EveryItem.{every_more, first_of, others_of}
-use Rattle.lq_model.proofs.Findings.{map_by, when_by}
+use Rattle.lq_language.specs.ClauseTyping.{source_type}
+use Rattle.lq_language.specs.EnumerableCalls.{EnumerableCall, By, Plain, With, enumerable_call, method_with_lambda, method_with_value, simple_method}
+use Rattle.lq_language.specs.Maps.{map_field}
+use Rattle.lq_language.specs.OperandMeaning.{told}
+use Rattle.lq_language.specs.ValuesOfTypes.{Every}
+use Rattle.lq_language.specs.Members.{search_named, sole_argument}
+use Rattle.lq_language.specs.Operations.{operation_of}
+use Rattle.lq_language.specs.Operators.{Pattern, One, With as Pair}
+use Rattle.lq_language.specs.Types.{element_type, is_fresh, is_within, when}
+use Rattle.lq_language.specs.Names.{Names, table_number, with_local, SessionName}
+use Rattle.lq_language.specs.OperandTypes.{coalesced, is_bool, is_equality, is_number, is_text}
+use Rattle.lq_language.specs.Uses.{argument_uses, column_number, member_uses, name_uses, node_uses, under, global_uses}
+use Rattle.lq_language.specs.Meaning.{is_sequence_layer}
+use Rattle.lq_language.specs.Typing.{given_type, simple_type, through_type, whole_chosen, whole_operated_type}
+use Rattle.lq_language.specs.declared.operation.Op.TheVariants as op
+use Rattle.lq_language.specs.declared.rights.Use.{Use}
+use Rattle.lq_language.specs.declared.rights.Use.TheVariants as of
+use Rattle.lq_grammar.specs.declared.syntax.Argument.{Argument}
+use Rattle.lq_grammar.specs.declared.syntax.Argument.TheVariants as argument
+use Rattle.lq_grammar.specs.declared.syntax.Binary.{Binary}
+use Rattle.lq_grammar.specs.declared.syntax.Field.{Field}
+use Rattle.lq_grammar.specs.declared.syntax.Node.{Node}
+use Rattle.lq_grammar.specs.declared.syntax.Node.TheVariants as node
+use Rattle.lq_grammar.specs.declared.syntax.Unary.{Unary}
+use Rattle.lq_grammar.specs.declared.syntax.Unary.TheVariants as unary
+use Rattle.lq_language.proofs.EveryItem.{every_more, first_of, others_of}
+use Rattle.lq_language.proofs.Findings.{map_by, when_by}
 use Rattle.lq_tree.specs.Binding.{Binds, and_tree, binary_form, binary_tree, called_tree, coalesce_tree, column_tree, conditional_tree, enumerable_tree, field_tree, fields_tree, form_of_field, gathered, is_literal, is_object, lambda_tree, member_layer, member_tree, name_tree, node_tree, of_two_trees, operation_at, or_tree, placed_tree, record_tree, search_form, search_tree, settled_form, settled_tree, tested_first, tested_second, tree_of, unary_tree, within_tree, global_tree}
 use Rattle.lq_tree.specs.Places.{Place, Places, names_of_places, place_of, places_of, with_item, with_name, SessionPlace, session_place}
 use Rattle.lq_tree.specs.UsesOfForms.{UseWhatIsKnown, form_uses}

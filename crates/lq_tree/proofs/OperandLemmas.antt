@@ -12,30 +12,30 @@ use Rattle.lq_value.specs.declared.value.Value.{Value, out-Value}
 use Rattle.lq_value.specs.declared.value.Value.TheOpen.{Value-F}
 use Rattle.lq_value.specs.declared.value.Value.TheVariants as value
 use Rattle.lq_value.specs.declared.value.Value.TheVariants.{outs-Rec as outs-value-Rec, outs-Scalar}
-use Rattle.lq_model.specs.Worlds.{World}
-use Rattle.lq_model.specs.OperandMeaning.{items_of, stream_of}
-use Rattle.lq_model.specs.ValuesOfTypes.{Every, IsScalarOf}
-use Rattle.lq_model.specs.Members.{search_named}
-use Rattle.lq_model.specs.Types.{all_members, are_join_keys, are_widened, element_type, is_key, key_step, same_types}
-use Rattle.lq_model.specs.OperandTypes.{are_comparable, are_joined, is_bool, is_equality, is_number, is_scalar, is_text, joined_type, result_type, truth_type}
-use Rattle.lq_model.specs.MeaningLaws.{AreMembers, Fits, IsA, IsValueOf, ValueClaim, by_group, by_null_record, by_record, by_row, by_scalar, by_sequence, no_member, one_member}
-use Rattle.lq_model.specs.Typing.{are_null_tests, converts, given_type, has_default, if_same, is_int, simple_type, takes_null, through_type, whole_operated_type, widens}
-use Rattle.lq_model.specs.declared.methods.Given.{Given}
-use Rattle.lq_model.specs.declared.methods.Given.TheVariants as given
-use Rattle.lq_model.specs.declared.methods.Simple.{Simple}
-use Rattle.lq_model.specs.declared.methods.Simple.TheVariants as simple
-use Rattle.lq_model.specs.declared.methods.Through.{Through}
-use Rattle.lq_model.specs.declared.methods.Through.TheVariants as through
-use Rattle.lq_model.specs.declared.operation.Op.{Op}
-use Rattle.lq_model.specs.declared.operation.Op.TheVariants as op
-use Rattle.lq_model.specs.declared.syntax.Binary.{Binary}
-use Rattle.lq_model.specs.declared.syntax.Binary.TheVariants as binary
-use Rattle.lq_model.proofs.AlikeStreams.{every_append}
-use Rattle.lq_model.proofs.EveryItem.{every_none}
-use Rattle.lq_model.proofs.Findings.{if_by, when_by}
-use Rattle.lq_model.proofs.SameTypes.{same_type}
-use Rattle.lq_model.proofs.TypedMethods.{stream_alike}
-use Rattle.lq_model.proofs.ValuesOfTypes.{Gets, RecordOrNull, RowOrNull, a_record, a_row, group_value, is_plain, no_record, no_row, plain_value, record_value, row_value, scalar_is, sequence_value}
+use Rattle.lq_language.specs.Worlds.{World}
+use Rattle.lq_language.specs.OperandMeaning.{items_of, stream_of}
+use Rattle.lq_language.specs.ValuesOfTypes.{Every, IsScalarOf}
+use Rattle.lq_language.specs.Members.{search_named}
+use Rattle.lq_language.specs.Types.{all_members, are_join_keys, are_widened, element_type, is_key, key_step, same_types}
+use Rattle.lq_language.specs.OperandTypes.{are_comparable, are_joined, is_bool, is_equality, is_number, is_scalar, is_text, joined_type, result_type, truth_type}
+use Rattle.lq_language.specs.MeaningLaws.{AreMembers, Fits, IsA, IsValueOf, ValueClaim, by_group, by_null_record, by_record, by_row, by_scalar, by_sequence, no_member, one_member}
+use Rattle.lq_language.specs.Typing.{are_null_tests, converts, given_type, has_default, if_same, is_int, simple_type, takes_null, through_type, whole_operated_type, widens}
+use Rattle.lq_language.specs.declared.methods.Given.{Given}
+use Rattle.lq_language.specs.declared.methods.Given.TheVariants as given
+use Rattle.lq_language.specs.declared.methods.Simple.{Simple}
+use Rattle.lq_language.specs.declared.methods.Simple.TheVariants as simple
+use Rattle.lq_language.specs.declared.methods.Through.{Through}
+use Rattle.lq_language.specs.declared.methods.Through.TheVariants as through
+use Rattle.lq_language.specs.declared.operation.Op.{Op}
+use Rattle.lq_language.specs.declared.operation.Op.TheVariants as op
+use Rattle.lq_grammar.specs.declared.syntax.Binary.{Binary}
+use Rattle.lq_grammar.specs.declared.syntax.Binary.TheVariants as binary
+use Rattle.lq_language.proofs.AlikeStreams.{every_append}
+use Rattle.lq_language.proofs.EveryItem.{every_none}
+use Rattle.lq_language.proofs.Findings.{if_by, when_by}
+use Rattle.lq_language.proofs.SameTypes.{same_type}
+use Rattle.lq_language.proofs.TypedMethods.{stream_alike}
+use Rattle.lq_language.proofs.ValuesOfTypes.{Gets, RecordOrNull, RowOrNull, a_record, a_row, group_value, is_plain, no_record, no_row, plain_value, record_value, row_value, scalar_is, sequence_value}
 use Rattle.lq_tree.specs.Binding.{is_object, operation_at}
 use Rattle.lq_tree.specs.OperandKinds.{IsEnumerable, IsScalar, IsScalarThat, Takes, TakesArgument, TakesItem, TakesMade, TakesSource, a_group, a_sequence, is_count, is_truth, suits, suits_through, takes_two}
 use Rattle.lq_tree.specs.OperandKinds as kind

@@ -2,16 +2,16 @@
 use Rattle.std.proofs.Common.{◌≡◌, List, ℕ, Option, Some, None, ap, ◌∙◌, sym, subst}
 use Rattle.std.proofs.lemmas.Option.{option_and_then_some, same_Some}
 use Rattle.lq_value.specs.declared.ty.Ty.{Ty}
-use Rattle.lq_model.specs.ClauseTyping.{are_join_keys, fresh_type, from_type, if_placed, is_fresh, join_type, joined_name, matched_type, source_type, when}
-use Rattle.lq_model.specs.Worlds.{Meaning, Scope, World, names_at, or_null}
-use Rattle.lq_model.specs.ClauseMeaning.{joined_type}
-use Rattle.lq_model.specs.Operators.{Pattern, With, names_of, paired_behind, paired_pattern, pattern_after, pattern_behind, unnamed}
-use Rattle.lq_model.specs.Names.{Names, with_local}
-use Rattle.lq_model.specs.declared.calls.Operator.{Operator}
-use Rattle.lq_model.specs.declared.calls.Operator.TheVariants as operator
-use Rattle.lq_model.specs.declared.calls.Paired.{Paired}
-use Rattle.lq_model.specs.declared.calls.Paired.TheVariants as paired
-use Rattle.lq_model.proofs.Findings.{map_by, when_by}
+use Rattle.lq_language.specs.ClauseTyping.{are_join_keys, fresh_type, from_type, if_placed, is_fresh, join_type, joined_name, matched_type, source_type, when}
+use Rattle.lq_language.specs.Worlds.{Meaning, Scope, World, names_at, or_null}
+use Rattle.lq_language.specs.ClauseMeaning.{joined_type}
+use Rattle.lq_language.specs.Operators.{Pattern, With, names_of, paired_behind, paired_pattern, pattern_after, pattern_behind, unnamed}
+use Rattle.lq_language.specs.Names.{Names, with_local}
+use Rattle.lq_language.specs.declared.calls.Operator.{Operator}
+use Rattle.lq_language.specs.declared.calls.Operator.TheVariants as operator
+use Rattle.lq_language.specs.declared.calls.Paired.{Paired}
+use Rattle.lq_language.specs.declared.calls.Paired.TheVariants as paired
+use Rattle.lq_language.proofs.Findings.{map_by, when_by}
 
 or_null_is : (o : Option Ty) (t : Ty) → o ≡ Some t → or_null o ≡ t
 or_null_is o t h = ap or_null h

@@ -3,14 +3,14 @@ use Rattle.std.proofs.Common.{◌≡◌, ◌∷◌, List, [], map, ℕ, Option, 
 use Rattle.lq_value.specs.declared.scalar.Scalar.{Scalar}
 use Rattle.lq_value.specs.declared.value.Value.{Value}
 use Rattle.lq_value.specs.declared.value.Value.TheVariants as value
-use Rattle.lq_model.specs.Arrangement.{order_by}
-use Rattle.lq_model.specs.Maps.{map_field, map_key}
-use Rattle.lq_model.specs.Worlds.{SessionValue, World}
-use Rattle.lq_model.specs.OperandMeaning.{stream_of}
-use Rattle.lq_model.specs.Operations.{on_ok}
-use Rattle.lq_model.specs.Stream.{Stream}
-use Rattle.lq_model.specs.declared.syntax.Field.{Field}
-use Rattle.lq_model.specs.declared.syntax.SortKey.{SortKey}
+use Rattle.lq_language.specs.Arrangement.{order_by}
+use Rattle.lq_language.specs.Maps.{map_field, map_key}
+use Rattle.lq_language.specs.Worlds.{SessionValue, World}
+use Rattle.lq_language.specs.OperandMeaning.{stream_of}
+use Rattle.lq_language.specs.Operations.{on_ok}
+use Rattle.lq_language.specs.Stream.{Stream}
+use Rattle.lq_grammar.specs.declared.syntax.Field.{Field}
+use Rattle.lq_grammar.specs.declared.syntax.SortKey.{SortKey}
 use Rattle.lq_tree.specs.FormMeaning.{Means, Slots, form_meaning, form_step, members_of, sort_key}
 use Rattle.lq_tree.specs.RowLaws.{MeansAlikeOverRows, StreamsAlikeOverRows}
 use Rattle.lq_tree.specs.Rows.{OverRows, mapped, result_map, stream_map}

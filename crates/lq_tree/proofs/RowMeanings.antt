@@ -12,20 +12,20 @@ use Rattle.lq_value.specs.declared.value.Fault.{Fault}
 use Rattle.lq_value.specs.declared.value.Value.{Value, out-Value}
 use Rattle.lq_value.specs.declared.value.Value.TheOpen.{Value-F}
 use Rattle.lq_value.specs.declared.value.Value.TheVariants as value
-use Rattle.lq_model.specs.Enumerable.{all, as_count, concat, contains, element_at, except, intersect, skip, take_first, union}
-use Rattle.lq_model.specs.Worlds.{SessionValue, World}
-use Rattle.lq_model.specs.OperandMeaning.{as_value, cell_value, is_null, items_of, on_scalar, on_truth, scalar_of, sequence, stream_of, table_value, truth_value}
-use Rattle.lq_model.specs.ClauseMeaning.{as_group, matches}
-use Rattle.lq_model.specs.Operations.{of_one, of_two, on_ok, truth_of}
-use Rattle.lq_model.specs.Operators.{first, pair, second}
-use Rattle.lq_model.specs.Stream.{Stream, expand_by, group_by, join_by, select_by, where_by, with_keys}
-use Rattle.lq_model.specs.Meaning.{as_sequence, as_truth, given_meaning, number_of, on_number, simple_meaning, through_meaning}
-use Rattle.lq_model.specs.declared.methods.Given.{Given}
-use Rattle.lq_model.specs.declared.methods.Given.TheVariants as given
-use Rattle.lq_model.specs.declared.methods.Simple.{Simple}
-use Rattle.lq_model.specs.declared.methods.Through.{Through}
-use Rattle.lq_model.specs.declared.methods.Through.TheVariants as through
-use Rattle.lq_model.specs.declared.operation.Op.{Op}
+use Rattle.lq_language.specs.Enumerable.{all, as_count, concat, contains, element_at, except, intersect, skip, take_first, union}
+use Rattle.lq_language.specs.Worlds.{SessionValue, World}
+use Rattle.lq_language.specs.OperandMeaning.{as_value, cell_value, is_null, items_of, on_scalar, on_truth, scalar_of, sequence, stream_of, table_value, truth_value}
+use Rattle.lq_language.specs.ClauseMeaning.{as_group, matches}
+use Rattle.lq_language.specs.Operations.{of_one, of_two, on_ok, truth_of}
+use Rattle.lq_language.specs.Operators.{first, pair, second}
+use Rattle.lq_language.specs.Stream.{Stream, expand_by, group_by, join_by, select_by, where_by, with_keys}
+use Rattle.lq_language.specs.Meaning.{as_sequence, as_truth, given_meaning, number_of, on_number, simple_meaning, through_meaning}
+use Rattle.lq_language.specs.declared.methods.Given.{Given}
+use Rattle.lq_language.specs.declared.methods.Given.TheVariants as given
+use Rattle.lq_language.specs.declared.methods.Simple.{Simple}
+use Rattle.lq_language.specs.declared.methods.Through.{Through}
+use Rattle.lq_language.specs.declared.methods.Through.TheVariants as through
+use Rattle.lq_language.specs.declared.operation.Op.{Op}
 use Rattle.lq_tree.specs.FormMeaning.{Means, Slots, cell_in, form_step, if_there, is_null_value, is_true, joined_stream, key_in, matched, member_at, name_of_column, with_item, with_items}
 use Rattle.lq_tree.specs.Rows.{mapped, result_map, stream_map}
 use Rattle.lq_tree.specs.declared.tree.Form.TheOpen.{Form-F}

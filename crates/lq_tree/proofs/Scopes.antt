@@ -6,18 +6,18 @@ use Rattle.lq_value.specs.declared.ty.Ty.TheVariants.{outs-Rec}
 use Rattle.lq_value.specs.declared.value.Fault.{Fault}
 use Rattle.lq_value.specs.declared.value.Value.{Value}
 use Rattle.lq_value.specs.declared.value.Value.TheVariants.{outs-Rec as outs-value-Rec}
-use Rattle.lq_model.specs.Worlds.{Binding, Scope, World, binding_of, names_at, typed_locals, SessionValue, session_names}
-use Rattle.lq_model.specs.Operations.{on_ok}
-use Rattle.lq_model.specs.Operators.{Pattern, One, With, bind, first, first_member, pair, pair_type, pattern_type, second, second_member}
-use Rattle.lq_model.specs.MeaningLaws.{by_record, IsScopeOfValues, IsValueOf, no_member, one_member}
-use Rattle.lq_model.proofs.EveryItem.{every_more, first_of, others_of}
+use Rattle.lq_language.specs.Worlds.{Binding, Scope, World, binding_of, names_at, typed_locals, SessionValue, session_names}
+use Rattle.lq_language.specs.Operations.{on_ok}
+use Rattle.lq_language.specs.Operators.{Pattern, One, With, bind, first, first_member, pair, pair_type, pattern_type, second, second_member}
+use Rattle.lq_language.specs.MeaningLaws.{by_record, IsScopeOfValues, IsValueOf, no_member, one_member}
+use Rattle.lq_language.proofs.EveryItem.{every_more, first_of, others_of}
 use Rattle.lq_tree.specs.BindingLaws.{Holds, Reaches, ReachesAll, GivesAll}
 use Rattle.lq_tree.specs.FormMeaning.{Slots, form_meaning, if_there}
 use Rattle.lq_tree.specs.Places.{Place, Places, names_of_places, place_of, places_of, with_item, SessionPlace}
 use Rattle.lq_tree.specs.declared.tree.Form.{Form}
 use Rattle.lq_tree.specs.declared.tree.Form.TheVariants as form
 use Rattle.lq_tree.proofs.FormSteps.{of_first, of_second, of_slot}
-use Rattle.lq_model.specs.Names.{SessionName}
+use Rattle.lq_language.specs.Names.{SessionName}
 
 -- ---- slots
 

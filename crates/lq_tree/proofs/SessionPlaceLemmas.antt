@@ -7,20 +7,20 @@ use Rattle.lq_value.specs.Tables.{first_named}
 use Rattle.lq_value.specs.declared.table.Schema.{Schema}
 use Rattle.lq_value.specs.declared.ty.Ty.{Ty}
 use Rattle.lq_value.specs.declared.ty.Ty.TheVariants as ty
-use Rattle.lq_model.specs.ClauseTyping.{expression_type}
-use Rattle.lq_model.specs.DefinitionLaws.{AreDefinedAfter, IsDefined}
-use Rattle.lq_model.specs.Definitions.{known_after, known_as, known_names, outer_names}
-use Rattle.lq_model.specs.Worlds.{or_null}
-use Rattle.lq_model.specs.ValuesOfTypes.{Every}
-use Rattle.lq_model.specs.Names.{SessionName}
-use Rattle.lq_model.specs.Uses.{expression_uses}
-use Rattle.lq_model.specs.declared.session.Defined.{Defined}
-use Rattle.lq_model.specs.declared.session.Defined.TheVariants as of
-use Rattle.lq_model.specs.declared.session.Definition.{Definition}
-use Rattle.lq_model.specs.declared.session.Opened.{Opened}
-use Rattle.lq_model.specs.declared.syntax.Expr.{Expr}
-use Rattle.lq_model.proofs.AlikeStreams.{every_append}
-use Rattle.lq_model.proofs.EveryItem.{every_more, every_none}
+use Rattle.lq_language.specs.ClauseTyping.{expression_type}
+use Rattle.lq_machine.specs.DefinitionLaws.{AreDefinedAfter, IsDefined}
+use Rattle.lq_machine.specs.Definitions.{known_after, known_as, known_names, outer_names}
+use Rattle.lq_language.specs.Worlds.{or_null}
+use Rattle.lq_language.specs.ValuesOfTypes.{Every}
+use Rattle.lq_language.specs.Names.{SessionName}
+use Rattle.lq_language.specs.Uses.{expression_uses}
+use Rattle.lq_machine.specs.declared.session.Defined.{Defined}
+use Rattle.lq_machine.specs.declared.session.Defined.TheVariants as of
+use Rattle.lq_machine.specs.declared.session.Definition.{Definition}
+use Rattle.lq_machine.specs.declared.session.Opened.{Opened}
+use Rattle.lq_grammar.specs.declared.syntax.Expr.{Expr}
+use Rattle.lq_language.proofs.AlikeStreams.{every_append}
+use Rattle.lq_language.proofs.EveryItem.{every_more, every_none}
 use Rattle.lq_translate.specs.Translated.{translated}
 use Rattle.lq_translate.proofs.Alike.{terms_typed}
 use Rattle.lq_tree.specs.Binding.{term_tree, tree_of}

@@ -7,23 +7,23 @@ use Rattle.lq_value.specs.declared.ty.Ty.TheVariants as ty
 use Rattle.lq_value.specs.declared.value.Fault.{Fault}
 use Rattle.lq_value.specs.declared.value.Value.{Value}
 use Rattle.lq_value.specs.declared.value.Value.TheVariants.{outs-Seq}
-use Rattle.lq_model.specs.ClauseTyping.{expression_type}
-use Rattle.lq_model.specs.DefinitionLaws.{AreDefinedAfter, IsDefined}
-use Rattle.lq_model.specs.Definitions.{defining, known_as, outer_names, value_in, valued_as, with_session, world_after}
-use Rattle.lq_model.specs.Worlds.{Binding, SessionValue, World, session_names}
-use Rattle.lq_model.specs.OperandMeaning.{items_of, sequence, stream_of}
-use Rattle.lq_model.specs.ValuesOfTypes.{HoldsRows}
-use Rattle.lq_model.specs.Stream.{Stream}
-use Rattle.lq_model.specs.Names.{SessionName}
-use Rattle.lq_model.specs.Meaning.{expression_meaning}
-use Rattle.lq_model.specs.MeaningLaws.{IsSessionOfValues, IsValueOf}
-use Rattle.lq_model.specs.declared.session.Defined.{Defined}
-use Rattle.lq_model.specs.declared.session.Defined.TheVariants as of
-use Rattle.lq_model.specs.declared.session.Definition.{Definition}
-use Rattle.lq_model.specs.declared.syntax.Expr.{Expr}
-use Rattle.lq_model.proofs.DefinitionLemmas.{names_have_values}
-use Rattle.lq_model.proofs.EveryItem.{every_none}
-use Rattle.lq_model.proofs.SequenceLemmas.{never_faults}
+use Rattle.lq_language.specs.ClauseTyping.{expression_type}
+use Rattle.lq_machine.specs.DefinitionLaws.{AreDefinedAfter, IsDefined}
+use Rattle.lq_machine.specs.Definitions.{defining, known_as, outer_names, value_in, valued_as, with_session, world_after}
+use Rattle.lq_language.specs.Worlds.{Binding, SessionValue, World, session_names}
+use Rattle.lq_language.specs.OperandMeaning.{items_of, sequence, stream_of}
+use Rattle.lq_language.specs.ValuesOfTypes.{HoldsRows}
+use Rattle.lq_language.specs.Stream.{Stream}
+use Rattle.lq_language.specs.Names.{SessionName}
+use Rattle.lq_language.specs.Meaning.{expression_meaning}
+use Rattle.lq_language.specs.MeaningLaws.{IsSessionOfValues, IsValueOf}
+use Rattle.lq_machine.specs.declared.session.Defined.{Defined}
+use Rattle.lq_machine.specs.declared.session.Defined.TheVariants as of
+use Rattle.lq_machine.specs.declared.session.Definition.{Definition}
+use Rattle.lq_grammar.specs.declared.syntax.Expr.{Expr}
+use Rattle.lq_machine.proofs.DefinitionLemmas.{names_have_values}
+use Rattle.lq_language.proofs.EveryItem.{every_none}
+use Rattle.lq_language.proofs.SequenceLemmas.{never_faults}
 use Rattle.lq_translate.specs.Translated.{translated}
 use Rattle.lq_translate.proofs.Alike.{terms_mean}
 use Rattle.lq_tree.specs.Binding.{term_tree}

@@ -4,22 +4,22 @@ use Rattle.lq_value.specs.declared.table.Schema.{Schema}
 use Rattle.lq_value.specs.declared.ty.Ty.TheVariants as ty
 use Rattle.lq_value.specs.declared.ty.Ty.TheVariants.{outs-Row}
 use Rattle.lq_value.specs.declared.value.Value.TheVariants as value
-use Rattle.lq_model.specs.ClauseTyping.{expression_type}
-use Rattle.lq_model.specs.DefinitionLaws.{AreDefined}
-use Rattle.lq_model.specs.Definitions.{defining, known_names, outer_names, with_session}
-use Rattle.lq_model.specs.Worlds.{Binding, World, bound}
-use Rattle.lq_model.specs.OperandMeaning.{sequence}
-use Rattle.lq_model.specs.ValuesOfTypes.{HoldsRows}
-use Rattle.lq_model.specs.Operators.{One, call_items, call_meaning}
-use Rattle.lq_model.specs.Terms.{term_meaning, term_type}
-use Rattle.lq_model.specs.Names.{Names, with_local}
-use Rattle.lq_model.specs.Uses.{expression_uses}
-use Rattle.lq_model.specs.UsesOfCalls.{call_uses, term_uses}
-use Rattle.lq_model.specs.Meaning.{expression_meaning}
-use Rattle.lq_model.specs.MeaningLaws.{IsSessionOfValues, IsValueOf, by_row}
-use Rattle.lq_model.specs.declared.session.Definition.{Definition}
-use Rattle.lq_model.proofs.DefinitionLemmas.{names_have_values}
-use Rattle.lq_model.proofs.EveryItem.{every_none}
+use Rattle.lq_language.specs.ClauseTyping.{expression_type}
+use Rattle.lq_machine.specs.DefinitionLaws.{AreDefined}
+use Rattle.lq_machine.specs.Definitions.{defining, known_names, outer_names, with_session}
+use Rattle.lq_language.specs.Worlds.{Binding, World, bound}
+use Rattle.lq_language.specs.OperandMeaning.{sequence}
+use Rattle.lq_language.specs.ValuesOfTypes.{HoldsRows}
+use Rattle.lq_language.specs.Operators.{One, call_items, call_meaning}
+use Rattle.lq_language.specs.Terms.{term_meaning, term_type}
+use Rattle.lq_language.specs.Names.{Names, with_local}
+use Rattle.lq_language.specs.Uses.{expression_uses}
+use Rattle.lq_language.specs.UsesOfCalls.{call_uses, term_uses}
+use Rattle.lq_language.specs.Meaning.{expression_meaning}
+use Rattle.lq_language.specs.MeaningLaws.{IsSessionOfValues, IsValueOf, by_row}
+use Rattle.lq_machine.specs.declared.session.Definition.{Definition}
+use Rattle.lq_machine.proofs.DefinitionLemmas.{names_have_values}
+use Rattle.lq_language.proofs.EveryItem.{every_none}
 use Rattle.lq_translate.specs.Translated.{translated}
 use Rattle.lq_translate.proofs.Alike.{terms_mean, terms_typed}
 use Rattle.lq_tree.specs.BindingLaws.{GivesAll}

@@ -5,21 +5,21 @@ use Rattle.lq_value.specs.declared.ty.Ty.{Ty}
 use Rattle.lq_value.specs.declared.ty.Ty.TheVariants as ty
 use Rattle.lq_value.specs.declared.value.Fault.{Fault}
 use Rattle.lq_value.specs.declared.value.Value.{Value}
-use Rattle.lq_model.specs.ClauseTyping.{expression_type, query_items}
-use Rattle.lq_model.specs.Worlds.{Meaning, Scope, World}
-use Rattle.lq_model.specs.OperandMeaning.{sequence}
-use Rattle.lq_model.specs.ValuesOfTypes.{HoldsRows}
-use Rattle.lq_model.specs.Operators.{call_meaning}
-use Rattle.lq_model.specs.Stream.{Stream}
-use Rattle.lq_model.specs.Terms.{MeantTerm, term_meaning, term_meaning_step, term_type}
-use Rattle.lq_model.specs.Names.{Names}
-use Rattle.lq_model.specs.Meaning.{whole_meaning}
-use Rattle.lq_model.specs.MeaningLaws.{IsSessionOfValues, IsValueOf}
-use Rattle.lq_model.specs.declared.calls.Call.{Call}
-use Rattle.lq_model.specs.declared.calls.Term.{Term}
-use Rattle.lq_model.specs.declared.calls.Term.TheVariants as term
-use Rattle.lq_model.specs.declared.syntax.Node.{Node}
-use Rattle.lq_model.proofs.AlikeStreams.{Agree}
+use Rattle.lq_language.specs.ClauseTyping.{expression_type, query_items}
+use Rattle.lq_language.specs.Worlds.{Meaning, Scope, World}
+use Rattle.lq_language.specs.OperandMeaning.{sequence}
+use Rattle.lq_language.specs.ValuesOfTypes.{HoldsRows}
+use Rattle.lq_language.specs.Operators.{call_meaning}
+use Rattle.lq_language.specs.Stream.{Stream}
+use Rattle.lq_language.specs.Terms.{MeantTerm, term_meaning, term_meaning_step, term_type}
+use Rattle.lq_language.specs.Names.{Names}
+use Rattle.lq_language.specs.Meaning.{whole_meaning}
+use Rattle.lq_language.specs.MeaningLaws.{IsSessionOfValues, IsValueOf}
+use Rattle.lq_language.specs.declared.calls.Call.{Call}
+use Rattle.lq_language.specs.declared.calls.Term.{Term}
+use Rattle.lq_language.specs.declared.calls.Term.TheVariants as term
+use Rattle.lq_grammar.specs.declared.syntax.Node.{Node}
+use Rattle.lq_language.proofs.AlikeStreams.{Agree}
 use Rattle.lq_translate.specs.Maps.{map_call, map_node}
 use Rattle.lq_translate.specs.Translated.{translated, translated_query}
 use Rattle.lq_translate.proofs.Alike.{items_typed, streams_mean, terms_mean, terms_typed}

@@ -3,14 +3,14 @@ use Rattle.std.proofs.Common.{◌≡◌, List, Option, ap, ◌∙◌, sym, optio
 use Rattle.lq_value.specs.declared.table.Schema.{Schema}
 use Rattle.lq_value.specs.declared.ty.Ty.{Ty}
 use Rattle.lq_value.specs.declared.ty.Ty.TheVariants as ty
-use Rattle.lq_model.specs.Operators.{call_items}
-use Rattle.lq_model.specs.Terms.{term_step, term_type}
-use Rattle.lq_model.specs.Names.{Names}
-use Rattle.lq_model.specs.Typing.{whole_type}
-use Rattle.lq_model.specs.declared.calls.Call.{Call}
-use Rattle.lq_model.specs.declared.calls.Term.{Term}
-use Rattle.lq_model.specs.declared.calls.Term.TheVariants as term
-use Rattle.lq_model.specs.declared.syntax.Node.{Node}
+use Rattle.lq_language.specs.Operators.{call_items}
+use Rattle.lq_language.specs.Terms.{term_step, term_type}
+use Rattle.lq_language.specs.Names.{Names}
+use Rattle.lq_language.specs.Typing.{whole_type}
+use Rattle.lq_language.specs.declared.calls.Call.{Call}
+use Rattle.lq_language.specs.declared.calls.Term.{Term}
+use Rattle.lq_language.specs.declared.calls.Term.TheVariants as term
+use Rattle.lq_grammar.specs.declared.syntax.Node.{Node}
 use Rattle.lq_translate.specs.Maps.{map_call, map_node}
 use Rattle.lq_translate.proofs.Layers.{fold_call, fold_term_node}
 use Rattle.lq_translate.proofs.NodePulls.{map_nodes}

@@ -3,16 +3,16 @@
 use Rattle.std.proofs.Common.{◌≡◌, List, Option, Some, ap, ◌∙◌, sym}
 use Rattle.lq_value.specs.declared.table.Schema.{Schema}
 use Rattle.lq_value.specs.declared.ty.Ty.{Ty}
-use Rattle.lq_model.specs.Terms.{term_type}
-use Rattle.lq_model.specs.Names.{Names}
-use Rattle.lq_model.specs.Uses.{expression_uses}
-use Rattle.lq_model.specs.UsesOfCalls.{call_uses, term_uses}
-use Rattle.lq_model.specs.declared.calls.Call.{Call}
-use Rattle.lq_model.specs.declared.calls.Term.{Term}
-use Rattle.lq_model.specs.declared.calls.Term.TheVariants as term
-use Rattle.lq_model.specs.declared.rights.Use.{Use}
-use Rattle.lq_model.specs.declared.syntax.Expr.{Expr}
-use Rattle.lq_model.specs.declared.syntax.Node.{Node}
+use Rattle.lq_language.specs.Terms.{term_type}
+use Rattle.lq_language.specs.Names.{Names}
+use Rattle.lq_language.specs.Uses.{expression_uses}
+use Rattle.lq_language.specs.UsesOfCalls.{call_uses, term_uses}
+use Rattle.lq_language.specs.declared.calls.Call.{Call}
+use Rattle.lq_language.specs.declared.calls.Term.{Term}
+use Rattle.lq_language.specs.declared.calls.Term.TheVariants as term
+use Rattle.lq_language.specs.declared.rights.Use.{Use}
+use Rattle.lq_grammar.specs.declared.syntax.Expr.{Expr}
+use Rattle.lq_grammar.specs.declared.syntax.Node.{Node}
 use Rattle.lq_translate.specs.Maps.{map_call, map_node}
 use Rattle.lq_translate.specs.Translated.{translated}
 use Rattle.lq_translate.proofs.UsePulls.{call_pull as call_uses_pull, node_pull as node_uses_pull}

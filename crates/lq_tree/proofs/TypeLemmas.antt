@@ -7,20 +7,20 @@ use Rattle.lq_value.specs.declared.table.Schema.{Schema}
 use Rattle.lq_value.specs.declared.ty.Ty.{Ty, out-Ty}
 use Rattle.lq_value.specs.declared.ty.Ty.TheOpen.{Ty-F}
 use Rattle.lq_value.specs.declared.ty.Ty.TheVariants as ty
-use Rattle.lq_model.specs.EnumerableCalls.{EnumerableCall, By, Plain, With, enumerable_call}
-use Rattle.lq_model.specs.Members.{search_named, sole_argument}
-use Rattle.lq_model.specs.Types.{element_type, has_place, if_placed, is_fresh, is_key, is_within, when}
-use Rattle.lq_model.specs.Names.{Names, column_named, local_type, table_number, type_of_column, session_name}
-use Rattle.lq_model.specs.OperandTypes.{is_bool, is_bool_type, is_text, is_text_type, of_operands, truth_type}
-use Rattle.lq_model.specs.Typing.{argument_type, are_distinct, called_type, enumerable_type, given_type, if_limited, lambda_type, member_of, members_type, method_type, record_type, search_type, simple_type, through_type, whole_chosen, whole_choice_type, whole_member_type, global_type, whole_name_type}
-use Rattle.lq_model.specs.declared.methods.Given.{Given}
-use Rattle.lq_model.specs.declared.methods.Given.TheVariants as given
-use Rattle.lq_model.specs.declared.methods.Through.{Through}
-use Rattle.lq_model.specs.declared.methods.Through.TheVariants as through
-use Rattle.lq_model.specs.declared.operation.Op.{Op}
-use Rattle.lq_model.specs.declared.operation.Op.TheVariants as op
-use Rattle.lq_model.specs.declared.syntax.Argument.{Argument}
-use Rattle.lq_model.specs.declared.syntax.Field.{Field}
+use Rattle.lq_language.specs.EnumerableCalls.{EnumerableCall, By, Plain, With, enumerable_call}
+use Rattle.lq_language.specs.Members.{search_named, sole_argument}
+use Rattle.lq_language.specs.Types.{element_type, has_place, if_placed, is_fresh, is_key, is_within, when}
+use Rattle.lq_language.specs.Names.{Names, column_named, local_type, table_number, type_of_column, session_name}
+use Rattle.lq_language.specs.OperandTypes.{is_bool, is_bool_type, is_text, is_text_type, of_operands, truth_type}
+use Rattle.lq_language.specs.Typing.{argument_type, are_distinct, called_type, enumerable_type, given_type, if_limited, lambda_type, member_of, members_type, method_type, record_type, search_type, simple_type, through_type, whole_chosen, whole_choice_type, whole_member_type, global_type, whole_name_type}
+use Rattle.lq_language.specs.declared.methods.Given.{Given}
+use Rattle.lq_language.specs.declared.methods.Given.TheVariants as given
+use Rattle.lq_language.specs.declared.methods.Through.{Through}
+use Rattle.lq_language.specs.declared.methods.Through.TheVariants as through
+use Rattle.lq_language.specs.declared.operation.Op.{Op}
+use Rattle.lq_language.specs.declared.operation.Op.TheVariants as op
+use Rattle.lq_grammar.specs.declared.syntax.Argument.{Argument}
+use Rattle.lq_grammar.specs.declared.syntax.Field.{Field}
 use Rattle.lq_tree.specs.Binding.{Binds, called_tree, column_tree, conditional_tree, enumerable_tree, field_tree, fields_tree, gathered, lambda_tree, member_layer, member_tree, method_tree, name_tree, of_three_trees, of_two_trees, placed_tree, record_member_tree, record_tree, search_form, search_tree, settled_tree, tree_of, type_of_field, typed_tree, within_tree, global_tree}
 use Rattle.lq_tree.specs.Places.{Place, Places, names_of_places, place_of, with_name, SessionPlace, session_place}
 use Rattle.lq_tree.specs.declared.tree.Form.{Form}

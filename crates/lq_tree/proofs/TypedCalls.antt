@@ -7,19 +7,19 @@ use Rattle.lq_value.specs.declared.table.Schema.{Schema}
 use Rattle.lq_value.specs.declared.ty.Ty.{Ty, out-Ty}
 use Rattle.lq_value.specs.declared.ty.Ty.TheVariants as ty
 use Rattle.lq_value.specs.declared.ty.Ty.TheVariants.{outs-Seq}
-use Rattle.lq_model.specs.ClauseTyping.{joined_name}
-use Rattle.lq_model.specs.Operators.{Pattern, One, With, pair_type, pattern_type}
-use Rattle.lq_model.specs.Types.{are_join_keys, element_type, has_place, is_fresh, is_key, is_sort_key, is_within, when}
-use Rattle.lq_model.specs.OperandTypes.{is_bool}
-use Rattle.lq_model.specs.declared.calls.Call.{Call}
-use Rattle.lq_model.specs.declared.calls.Operator.{Operator}
-use Rattle.lq_model.specs.declared.calls.Operator.TheVariants as operator
-use Rattle.lq_model.specs.declared.calls.Paired.{Paired}
-use Rattle.lq_model.specs.declared.calls.Paired.TheVariants as paired
-use Rattle.lq_model.specs.declared.calls.Part.{Part}
-use Rattle.lq_model.specs.declared.syntax.Join.{Join}
-use Rattle.lq_model.specs.declared.syntax.SortKey.{SortKey}
-use Rattle.lq_model.proofs.Findings.{map_by, when_by}
+use Rattle.lq_language.specs.ClauseTyping.{joined_name}
+use Rattle.lq_language.specs.Operators.{Pattern, One, With, pair_type, pattern_type}
+use Rattle.lq_language.specs.Types.{are_join_keys, element_type, has_place, is_fresh, is_key, is_sort_key, is_within, when}
+use Rattle.lq_language.specs.OperandTypes.{is_bool}
+use Rattle.lq_language.specs.declared.calls.Call.{Call}
+use Rattle.lq_language.specs.declared.calls.Operator.{Operator}
+use Rattle.lq_language.specs.declared.calls.Operator.TheVariants as operator
+use Rattle.lq_language.specs.declared.calls.Paired.{Paired}
+use Rattle.lq_language.specs.declared.calls.Paired.TheVariants as paired
+use Rattle.lq_language.specs.declared.calls.Part.{Part}
+use Rattle.lq_grammar.specs.declared.syntax.Join.{Join}
+use Rattle.lq_grammar.specs.declared.syntax.SortKey.{SortKey}
+use Rattle.lq_language.proofs.Findings.{map_by, when_by}
 use Rattle.lq_tree.specs.Binding.{Binds, Stage, body_tree, call_items_tree, call_tree, element_tree, expanded_stage, gathered, grouped_stage, if_fresh, inner_stage, items_of_stage, items_of_tree, joined_stage, key_tree, keyed_tree, keys_of, join_keys, matched_stage, matched_type, operator_stage, paired_stage, part_tree, placed_tree, query_tree, sequence_tree, sortable_tree, source_tree, stage_of, walk_step, walked}
 use Rattle.lq_tree.specs.Places.{Places, names_of_places, with_item, with_name}
 use Rattle.lq_tree.specs.TypedForms.{Both, Gives, IsTyped, Many, Of, Shape, Sorts, matched_items, shape_of, type_of_shape, with_slot, with_slots}

@@ -14,29 +14,29 @@ use Rattle.lq_value.specs.declared.value.Fault.TheVariants as fault
 use Rattle.lq_value.specs.declared.value.Value.{Value, out-Value}
 use Rattle.lq_value.specs.declared.value.Value.TheVariants as value
 use Rattle.lq_value.specs.declared.value.Value.TheVariants.{outs-Rec as outs-value-Rec, outs-Scalar, outs-Seq as outs-value-Seq}
-use Rattle.lq_model.specs.Maps.{map_field, map_key}
-use Rattle.lq_model.specs.Worlds.{World}
-use Rattle.lq_model.specs.OperandMeaning.{as_value, items_of, on_scalar, scalar_of, sequence, stream_of, table_value, truth_value}
-use Rattle.lq_model.specs.ClauseMeaning.{as_group, is_null_layer, matches}
-use Rattle.lq_model.specs.ValuesOfTypes.{Every, HasCells, HoldsRows, IsScalarOf}
-use Rattle.lq_model.specs.Members.{search_named}
-use Rattle.lq_model.specs.Operations.{of_one, of_two, on_ok, searched, truth}
-use Rattle.lq_model.specs.Operators.{first, pair, pair_type, second}
-use Rattle.lq_model.specs.Stream.{Stream, elements_of}
-use Rattle.lq_model.specs.Types.{when}
-use Rattle.lq_model.specs.MeaningLaws.{AreMembers, Fits, IsA, IsValueOf, ValueClaim, by_group, by_null_record, by_record, by_row, by_scalar, by_sequence, no_member, one_member}
-use Rattle.lq_model.specs.declared.methods.Through.TheVariants as through
-use Rattle.lq_model.specs.declared.operation.Op.{Op}
-use Rattle.lq_model.specs.declared.operation.Op.TheVariants as op
-use Rattle.lq_model.specs.declared.syntax.Binary.{Binary}
-use Rattle.lq_model.specs.declared.syntax.Binary.TheVariants as binary
-use Rattle.lq_model.specs.declared.syntax.SortKey.{SortKey}
-use Rattle.lq_model.proofs.AlikeStreams.{Agree, KeysAlike, Pair, agree_err, both_agree, agree_ok, every_element, expand_alike, group_alike, join_alike, order_alike, select_alike, where_alike}
-use Rattle.lq_model.proofs.EveryItem.{every_map, every_more, every_none}
-use Rattle.lq_model.proofs.ScalarResults.{Gives as Given_as, given_of, has_value_given, length_given, value_given}
-use Rattle.lq_model.proofs.TypedMethods.{given_agree, given_typed, scalar_after, simple_typed, stream_alike, through_typed}
-use Rattle.lq_model.proofs.TypingLemmas.{is_of_layer, type_with}
-use Rattle.lq_model.proofs.ValuesOfTypes.{RecordOrNull, a_record, is_plain, no_record, record_value, truth_is}
+use Rattle.lq_language.specs.Maps.{map_field, map_key}
+use Rattle.lq_language.specs.Worlds.{World}
+use Rattle.lq_language.specs.OperandMeaning.{as_value, items_of, on_scalar, scalar_of, sequence, stream_of, table_value, truth_value}
+use Rattle.lq_language.specs.ClauseMeaning.{as_group, is_null_layer, matches}
+use Rattle.lq_language.specs.ValuesOfTypes.{Every, HasCells, HoldsRows, IsScalarOf}
+use Rattle.lq_language.specs.Members.{search_named}
+use Rattle.lq_language.specs.Operations.{of_one, of_two, on_ok, searched, truth}
+use Rattle.lq_language.specs.Operators.{first, pair, pair_type, second}
+use Rattle.lq_language.specs.Stream.{Stream, elements_of}
+use Rattle.lq_language.specs.Types.{when}
+use Rattle.lq_language.specs.MeaningLaws.{AreMembers, Fits, IsA, IsValueOf, ValueClaim, by_group, by_null_record, by_record, by_row, by_scalar, by_sequence, no_member, one_member}
+use Rattle.lq_language.specs.declared.methods.Through.TheVariants as through
+use Rattle.lq_language.specs.declared.operation.Op.{Op}
+use Rattle.lq_language.specs.declared.operation.Op.TheVariants as op
+use Rattle.lq_grammar.specs.declared.syntax.Binary.{Binary}
+use Rattle.lq_grammar.specs.declared.syntax.Binary.TheVariants as binary
+use Rattle.lq_grammar.specs.declared.syntax.SortKey.{SortKey}
+use Rattle.lq_language.proofs.AlikeStreams.{Agree, KeysAlike, Pair, agree_err, both_agree, agree_ok, every_element, expand_alike, group_alike, join_alike, order_alike, select_alike, where_alike}
+use Rattle.lq_language.proofs.EveryItem.{every_map, every_more, every_none}
+use Rattle.lq_language.proofs.ScalarResults.{Gives as Given_as, given_of, has_value_given, length_given, value_given}
+use Rattle.lq_language.proofs.TypedMethods.{given_agree, given_typed, scalar_after, simple_typed, stream_alike, through_typed}
+use Rattle.lq_language.proofs.TypingLemmas.{is_of_layer, type_with}
+use Rattle.lq_language.proofs.ValuesOfTypes.{RecordOrNull, a_record, is_plain, no_record, record_value, truth_is}
 use Rattle.lq_tree.specs.Binding.{binary_form, is_object, operation_at, tested_first, tested_second, tree_of}
 use Rattle.lq_tree.specs.FormMeaning.{Means, Slots, cell_in, form_meaning, if_there, is_true, key_in, matched, member_at, members_of, sort_key}
 use Rattle.lq_tree.specs.TypedForms.{Both, FormClaim, Gives, Has, IsTyped, IsTypedForm, Many, Members, Of, Shape, Sorts, matched_items, type_of_shape, with_slot, with_slots}

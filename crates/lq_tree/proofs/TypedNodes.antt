@@ -10,30 +10,30 @@ use Rattle.lq_value.specs.declared.ty.Ty.{Ty, out-Ty}
 use Rattle.lq_value.specs.declared.ty.Ty.TheOpen.{Ty-F}
 use Rattle.lq_value.specs.declared.ty.Ty.TheVariants as ty
 use Rattle.lq_value.specs.declared.ty.Ty.TheVariants.{outs-Bool, outs-Int, outs-Null, outs-Str}
-use Rattle.lq_model.specs.EnumerableCalls.{EnumerableCall, By, Plain, With, enumerable_call}
-use Rattle.lq_model.specs.OperandMeaning.{told}
-use Rattle.lq_model.specs.ValuesOfTypes.{Every, IsScalarOf}
-use Rattle.lq_model.specs.Members.{search_named, sole_argument}
-use Rattle.lq_model.specs.Operations.{operation_of}
-use Rattle.lq_model.specs.Operators.{Pattern, One, With as Pair}
-use Rattle.lq_model.specs.Types.{element_type, is_fresh, is_within, when}
-use Rattle.lq_model.specs.Names.{column_named, table_number, type_of_column}
-use Rattle.lq_model.specs.OperandTypes.{are_comparable, are_joined, coalesced, is_bool, is_equality, is_number, is_text, joined_type, result_type, truth_type}
-use Rattle.lq_model.specs.Meaning.{is_sequence_layer}
-use Rattle.lq_model.specs.Typing.{are_null_tests, given_type, simple_type, through_type, whole_chosen, whole_operated_type}
-use Rattle.lq_model.specs.declared.operation.Op.{Op}
-use Rattle.lq_model.specs.declared.operation.Op.TheVariants as op
-use Rattle.lq_model.specs.declared.syntax.Argument.{Argument}
-use Rattle.lq_model.specs.declared.syntax.Binary.{Binary}
-use Rattle.lq_model.specs.declared.syntax.Binary.TheVariants as binary
-use Rattle.lq_model.specs.declared.syntax.Field.{Field}
-use Rattle.lq_model.specs.declared.syntax.Node.{Node}
-use Rattle.lq_model.specs.declared.syntax.Node.TheVariants as node
-use Rattle.lq_model.specs.declared.syntax.Unary.{Unary}
-use Rattle.lq_model.specs.declared.syntax.Unary.TheVariants as unary
-use Rattle.lq_model.proofs.EveryItem.{every_more, first_of, others_of, table_there}
-use Rattle.lq_model.proofs.Findings.{if_by, map_by, when_by}
-use Rattle.lq_model.proofs.TypingLemmas.{is_of_layer, type_with}
+use Rattle.lq_language.specs.EnumerableCalls.{EnumerableCall, By, Plain, With, enumerable_call}
+use Rattle.lq_language.specs.OperandMeaning.{told}
+use Rattle.lq_language.specs.ValuesOfTypes.{Every, IsScalarOf}
+use Rattle.lq_language.specs.Members.{search_named, sole_argument}
+use Rattle.lq_language.specs.Operations.{operation_of}
+use Rattle.lq_language.specs.Operators.{Pattern, One, With as Pair}
+use Rattle.lq_language.specs.Types.{element_type, is_fresh, is_within, when}
+use Rattle.lq_language.specs.Names.{column_named, table_number, type_of_column}
+use Rattle.lq_language.specs.OperandTypes.{are_comparable, are_joined, coalesced, is_bool, is_equality, is_number, is_text, joined_type, result_type, truth_type}
+use Rattle.lq_language.specs.Meaning.{is_sequence_layer}
+use Rattle.lq_language.specs.Typing.{are_null_tests, given_type, simple_type, through_type, whole_chosen, whole_operated_type}
+use Rattle.lq_language.specs.declared.operation.Op.{Op}
+use Rattle.lq_language.specs.declared.operation.Op.TheVariants as op
+use Rattle.lq_grammar.specs.declared.syntax.Argument.{Argument}
+use Rattle.lq_grammar.specs.declared.syntax.Binary.{Binary}
+use Rattle.lq_grammar.specs.declared.syntax.Binary.TheVariants as binary
+use Rattle.lq_grammar.specs.declared.syntax.Field.{Field}
+use Rattle.lq_grammar.specs.declared.syntax.Node.{Node}
+use Rattle.lq_grammar.specs.declared.syntax.Node.TheVariants as node
+use Rattle.lq_grammar.specs.declared.syntax.Unary.{Unary}
+use Rattle.lq_grammar.specs.declared.syntax.Unary.TheVariants as unary
+use Rattle.lq_language.proofs.EveryItem.{every_more, first_of, others_of, table_there}
+use Rattle.lq_language.proofs.Findings.{if_by, map_by, when_by}
+use Rattle.lq_language.proofs.TypingLemmas.{is_of_layer, type_with}
 use Rattle.lq_tree.specs.Binding.{Binds, and_tree, binary_form, binary_tree, called_tree, coalesce_tree, column_tree, conditional_tree, enumerable_tree, field_tree, fields_tree, form_of_field, gathered, global_tree, is_literal, is_object, lambda_tree, member_layer, member_tree, name_tree, node_tree, of_two_trees, operation_at, or_tree, placed_tree, record_tree, search_form, search_tree, settled_tree, tested_first, tested_second, tree_of, type_of_field, unary_tree, within_tree}
 use Rattle.lq_tree.specs.FormMeaning.{column_name}
 use Rattle.lq_tree.specs.Places.{Place, Places, SessionPlace, names_of_places, place_of, places_of, session_place, with_item, with_name}

@@ -3,16 +3,16 @@ use Rattle.std.proofs.Common.{◌∷◌, ◌++◌, List, [], length, ℕ, Option
 use Rattle.lq_value.specs.declared.table.Schema.{Schema}
 use Rattle.lq_value.specs.declared.ty.Ty.{Ty}
 use Rattle.lq_value.specs.declared.ty.Ty.TheVariants as ty
-use Rattle.lq_model.specs.DefinitionLaws.{AreDefinedAfter, IsDefined}
-use Rattle.lq_model.specs.Definitions.{known_as}
-use Rattle.lq_model.specs.Worlds.{or_null}
-use Rattle.lq_model.specs.ValuesOfTypes.{Every}
-use Rattle.lq_model.specs.Names.{SessionName}
-use Rattle.lq_model.specs.declared.session.Defined.{Defined}
-use Rattle.lq_model.specs.declared.session.Defined.TheVariants as of
-use Rattle.lq_model.specs.declared.session.Definition.{Definition}
-use Rattle.lq_model.proofs.AlikeStreams.{every_append}
-use Rattle.lq_model.proofs.EveryItem.{every_more, every_none}
+use Rattle.lq_machine.specs.DefinitionLaws.{AreDefinedAfter, IsDefined}
+use Rattle.lq_machine.specs.Definitions.{known_as}
+use Rattle.lq_language.specs.Worlds.{or_null}
+use Rattle.lq_language.specs.ValuesOfTypes.{Every}
+use Rattle.lq_language.specs.Names.{SessionName}
+use Rattle.lq_machine.specs.declared.session.Defined.{Defined}
+use Rattle.lq_machine.specs.declared.session.Defined.TheVariants as of
+use Rattle.lq_machine.specs.declared.session.Definition.{Definition}
+use Rattle.lq_language.proofs.AlikeStreams.{every_append}
+use Rattle.lq_language.proofs.EveryItem.{every_more, every_none}
 use Rattle.lq_tree.specs.Binding.{tree_of}
 use Rattle.lq_tree.specs.Places.{Place, SessionPlace}
 use Rattle.lq_tree.specs.SessionPlaces.{defined_form, form_or_null, known_of, placed_after, placed_as, places_outside, session_places, statement_places}

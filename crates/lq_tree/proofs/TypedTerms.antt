@@ -1,10 +1,10 @@
 -- The tree of a term is typed, and so is that of an expression, through the term that it is translated to: by induction over the terms in it.
 use Rattle.std.proofs.Common.{◌≡◌, List, Some, ap, ◌∙◌, sym}
 use Rattle.lq_value.specs.declared.table.Schema.{Schema}
-use Rattle.lq_model.specs.declared.calls.Call.{Call}
-use Rattle.lq_model.specs.declared.calls.Term.{Term}
-use Rattle.lq_model.specs.declared.calls.Term.TheVariants as term
-use Rattle.lq_model.specs.declared.syntax.Node.{Node}
+use Rattle.lq_language.specs.declared.calls.Call.{Call}
+use Rattle.lq_language.specs.declared.calls.Term.{Term}
+use Rattle.lq_language.specs.declared.calls.Term.TheVariants as term
+use Rattle.lq_grammar.specs.declared.syntax.Node.{Node}
 use Rattle.lq_translate.specs.Maps.{map_call, map_node}
 use Rattle.lq_translate.specs.Translated.{translated}
 use Rattle.lq_tree.specs.Binding.{Binds, term_tree}

@@ -9,39 +9,39 @@ use Rattle.lq_value.specs.declared.table.Schema.{Schema}
 use Rattle.lq_value.specs.declared.ty.Ty.{Ty, out-Ty}
 use Rattle.lq_value.specs.declared.ty.Ty.TheOpen.{Ty-F}
 use Rattle.lq_value.specs.declared.ty.Ty.TheVariants as ty
-use Rattle.lq_model.specs.ClauseTyping.{joined_name}
-use Rattle.lq_model.specs.EnumerableCalls.{EnumerableCall, By, Plain, With, enumerable_call}
-use Rattle.lq_model.specs.OperandMeaning.{told}
-use Rattle.lq_model.specs.Members.{search_named, sole_argument}
-use Rattle.lq_model.specs.Operations.{operation_of}
-use Rattle.lq_model.specs.Operators.{Pattern, One, pattern_type, unnamed}
-use Rattle.lq_model.specs.Operators as of
-use Rattle.lq_model.specs.Types.{are_join_keys, element_type, has_place, is_fresh, is_key, is_sort_key, is_within, when}
-use Rattle.lq_model.specs.Names.{table_number, type_of_column}
-use Rattle.lq_model.specs.OperandTypes.{coalesced, is_bool, is_equality, is_number, is_text}
-use Rattle.lq_model.specs.Meaning.{is_sequence_layer}
-use Rattle.lq_model.specs.Typing.{are_distinct, given_type, simple_type, through_type, whole_chosen, whole_operated_type}
-use Rattle.lq_model.specs.declared.calls.Call.{Call}
-use Rattle.lq_model.specs.declared.calls.Operator.{Operator}
-use Rattle.lq_model.specs.declared.calls.Operator.TheVariants as operator
-use Rattle.lq_model.specs.declared.calls.Paired.{Paired}
-use Rattle.lq_model.specs.declared.calls.Paired.TheVariants as paired
-use Rattle.lq_model.specs.declared.calls.Part.{Part}
-use Rattle.lq_model.specs.declared.calls.Term.{Term, fold-Term}
-use Rattle.lq_model.specs.declared.calls.Term.TheOpen.{Term-F}
-use Rattle.lq_model.specs.declared.methods.Through.TheVariants as through
-use Rattle.lq_model.specs.declared.operation.Op.{Op}
-use Rattle.lq_model.specs.declared.operation.Op.TheVariants as op
-use Rattle.lq_model.specs.declared.syntax.Argument.{Argument}
-use Rattle.lq_model.specs.declared.syntax.Binary.{Binary}
-use Rattle.lq_model.specs.declared.syntax.Binary.TheVariants as binary
-use Rattle.lq_model.specs.declared.syntax.Field.{Field}
-use Rattle.lq_model.specs.declared.syntax.Join.{Join}
-use Rattle.lq_model.specs.declared.syntax.Node.{Node}
-use Rattle.lq_model.specs.declared.syntax.Node.TheVariants as node
-use Rattle.lq_model.specs.declared.syntax.SortKey.{SortKey}
-use Rattle.lq_model.specs.declared.syntax.Unary.{Unary}
-use Rattle.lq_model.specs.declared.syntax.Unary.TheVariants as unary
+use Rattle.lq_language.specs.ClauseTyping.{joined_name}
+use Rattle.lq_language.specs.EnumerableCalls.{EnumerableCall, By, Plain, With, enumerable_call}
+use Rattle.lq_language.specs.OperandMeaning.{told}
+use Rattle.lq_language.specs.Members.{search_named, sole_argument}
+use Rattle.lq_language.specs.Operations.{operation_of}
+use Rattle.lq_language.specs.Operators.{Pattern, One, pattern_type, unnamed}
+use Rattle.lq_language.specs.Operators as of
+use Rattle.lq_language.specs.Types.{are_join_keys, element_type, has_place, is_fresh, is_key, is_sort_key, is_within, when}
+use Rattle.lq_language.specs.Names.{table_number, type_of_column}
+use Rattle.lq_language.specs.OperandTypes.{coalesced, is_bool, is_equality, is_number, is_text}
+use Rattle.lq_language.specs.Meaning.{is_sequence_layer}
+use Rattle.lq_language.specs.Typing.{are_distinct, given_type, simple_type, through_type, whole_chosen, whole_operated_type}
+use Rattle.lq_language.specs.declared.calls.Call.{Call}
+use Rattle.lq_language.specs.declared.calls.Operator.{Operator}
+use Rattle.lq_language.specs.declared.calls.Operator.TheVariants as operator
+use Rattle.lq_language.specs.declared.calls.Paired.{Paired}
+use Rattle.lq_language.specs.declared.calls.Paired.TheVariants as paired
+use Rattle.lq_language.specs.declared.calls.Part.{Part}
+use Rattle.lq_language.specs.declared.calls.Term.{Term, fold-Term}
+use Rattle.lq_language.specs.declared.calls.Term.TheOpen.{Term-F}
+use Rattle.lq_language.specs.declared.methods.Through.TheVariants as through
+use Rattle.lq_language.specs.declared.operation.Op.{Op}
+use Rattle.lq_language.specs.declared.operation.Op.TheVariants as op
+use Rattle.lq_grammar.specs.declared.syntax.Argument.{Argument}
+use Rattle.lq_grammar.specs.declared.syntax.Binary.{Binary}
+use Rattle.lq_grammar.specs.declared.syntax.Binary.TheVariants as binary
+use Rattle.lq_grammar.specs.declared.syntax.Field.{Field}
+use Rattle.lq_grammar.specs.declared.syntax.Join.{Join}
+use Rattle.lq_grammar.specs.declared.syntax.Node.{Node}
+use Rattle.lq_grammar.specs.declared.syntax.Node.TheVariants as node
+use Rattle.lq_grammar.specs.declared.syntax.SortKey.{SortKey}
+use Rattle.lq_grammar.specs.declared.syntax.Unary.{Unary}
+use Rattle.lq_grammar.specs.declared.syntax.Unary.TheVariants as unary
 use Rattle.lq_tree.specs.Places.{Place, Places, names_of_places, place_of, session_place, with_item, with_name}
 use Rattle.lq_tree.specs.declared.tree.Form.{Form, out-Form}
 use Rattle.lq_tree.specs.declared.tree.Form.TheOpen.{Form-F}

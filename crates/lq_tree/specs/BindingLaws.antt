@@ -4,20 +4,20 @@ use Rattle.lq_value.specs.declared.table.Schema.{Schema}
 use Rattle.lq_value.specs.declared.ty.Ty.{Ty}
 use Rattle.lq_value.specs.declared.ty.Ty.TheVariants as ty
 use Rattle.lq_value.specs.declared.value.Value.{Value}
-use Rattle.lq_model.specs.ClauseTyping.{expression_type, query_items}
-use Rattle.lq_model.specs.Worlds.{names_at, Binding, Scope, World, SessionValue}
-use Rattle.lq_model.specs.OperandMeaning.{sequence}
-use Rattle.lq_model.specs.ValuesOfTypes.{HoldsRows}
-use Rattle.lq_model.specs.Operators.{call_items, call_meaning}
-use Rattle.lq_model.specs.Terms.{term_meaning, term_type}
-use Rattle.lq_model.specs.Uses.{expression_uses}
-use Rattle.lq_model.specs.UsesOfCalls.{call_uses, term_uses}
-use Rattle.lq_model.specs.Meaning.{expression_meaning, items_meaning}
-use Rattle.lq_model.specs.MeaningLaws.{IsScopeOfValues, IsValueOf, IsSessionOfValues}
-use Rattle.lq_model.specs.declared.calls.Call.{Call}
-use Rattle.lq_model.specs.declared.calls.Term.{Term}
-use Rattle.lq_model.specs.declared.syntax.Expr.{Expr}
-use Rattle.lq_model.specs.declared.syntax.Query.{Query}
+use Rattle.lq_language.specs.ClauseTyping.{expression_type, query_items}
+use Rattle.lq_language.specs.Worlds.{names_at, Binding, Scope, World, SessionValue}
+use Rattle.lq_language.specs.OperandMeaning.{sequence}
+use Rattle.lq_language.specs.ValuesOfTypes.{HoldsRows}
+use Rattle.lq_language.specs.Operators.{call_items, call_meaning}
+use Rattle.lq_language.specs.Terms.{term_meaning, term_type}
+use Rattle.lq_language.specs.Uses.{expression_uses}
+use Rattle.lq_language.specs.UsesOfCalls.{call_uses, term_uses}
+use Rattle.lq_language.specs.Meaning.{expression_meaning, items_meaning}
+use Rattle.lq_language.specs.MeaningLaws.{IsScopeOfValues, IsValueOf, IsSessionOfValues}
+use Rattle.lq_language.specs.declared.calls.Call.{Call}
+use Rattle.lq_language.specs.declared.calls.Term.{Term}
+use Rattle.lq_grammar.specs.declared.syntax.Expr.{Expr}
+use Rattle.lq_grammar.specs.declared.syntax.Query.{Query}
 use Rattle.lq_translate.specs.Translated.{translated, translated_query}
 use Rattle.lq_tree.specs.Binding.{call_tree, term_tree, tree_of}
 use Rattle.lq_tree.specs.FormMeaning.{Slots, form_meaning}

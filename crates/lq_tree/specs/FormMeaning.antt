@@ -10,16 +10,16 @@ use Rattle.lq_value.specs.declared.value.Fault.TheVariants as fault
 use Rattle.lq_value.specs.declared.value.Value.{Value, out-Value}
 use Rattle.lq_value.specs.declared.value.Value.TheOpen.{Value-F}
 use Rattle.lq_value.specs.declared.value.Value.TheVariants as value
-use Rattle.lq_model.specs.Arrangement.{order_by}
-use Rattle.lq_model.specs.Worlds.{World}
-use Rattle.lq_model.specs.OperandMeaning.{as_value, cell_value, is_null, on_scalar, on_truth, sequence, stream_of, table_value, truth_value}
-use Rattle.lq_model.specs.ClauseMeaning.{as_group, matches}
-use Rattle.lq_model.specs.Operations.{of_one, of_two, on_ok, truth_of}
-use Rattle.lq_model.specs.Operators.{first, pair, second}
-use Rattle.lq_model.specs.Stream.{Stream, expand_by, group_by, join_by, with_keys}
-use Rattle.lq_model.specs.Meaning.{given_meaning, simple_meaning, through_meaning}
-use Rattle.lq_model.specs.declared.syntax.Field.{Field}
-use Rattle.lq_model.specs.declared.syntax.SortKey.{SortKey}
+use Rattle.lq_language.specs.Arrangement.{order_by}
+use Rattle.lq_language.specs.Worlds.{World}
+use Rattle.lq_language.specs.OperandMeaning.{as_value, cell_value, is_null, on_scalar, on_truth, sequence, stream_of, table_value, truth_value}
+use Rattle.lq_language.specs.ClauseMeaning.{as_group, matches}
+use Rattle.lq_language.specs.Operations.{of_one, of_two, on_ok, truth_of}
+use Rattle.lq_language.specs.Operators.{first, pair, second}
+use Rattle.lq_language.specs.Stream.{Stream, expand_by, group_by, join_by, with_keys}
+use Rattle.lq_language.specs.Meaning.{given_meaning, simple_meaning, through_meaning}
+use Rattle.lq_grammar.specs.declared.syntax.Field.{Field}
+use Rattle.lq_grammar.specs.declared.syntax.SortKey.{SortKey}
 use Rattle.lq_tree.specs.declared.tree.Joined.{Joined}
 use Rattle.lq_tree.specs.declared.tree.Form.{Form, fold-Form}
 use Rattle.lq_tree.specs.declared.tree.Form.TheOpen.{Form-F}

@@ -3,8 +3,8 @@ use Rattle.std.specs.Prelude.{◌∷◌, ◌+◌, if◌then◌else◌, List, [],
 use Rattle.std.specs.Str.{bytes_eq}
 use Rattle.lq_value.specs.declared.table.Schema.{Schema}
 use Rattle.lq_value.specs.declared.ty.Ty.{Ty}
-use Rattle.lq_model.specs.Operators.{Pattern, One, With}
-use Rattle.lq_model.specs.Names.{Names, SessionName}
+use Rattle.lq_language.specs.Operators.{Pattern, One, With}
+use Rattle.lq_language.specs.Names.{Names, SessionName}
 use Rattle.lq_tree.specs.declared.tree.Form.{Form}
 use Rattle.lq_tree.specs.declared.tree.Form.TheVariants as form
 

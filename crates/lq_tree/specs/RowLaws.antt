@@ -5,10 +5,10 @@ use Rattle.lq_value.specs.declared.table.Schema.{Schema}
 use Rattle.lq_value.specs.declared.ty.Ty.{Ty}
 use Rattle.lq_value.specs.declared.value.Fault.{Fault}
 use Rattle.lq_value.specs.declared.value.Value.{Value}
-use Rattle.lq_model.specs.Worlds.{World}
-use Rattle.lq_model.specs.OperandMeaning.{stream_of}
-use Rattle.lq_model.specs.Served.{stream_data, value_data}
-use Rattle.lq_model.specs.Stream.{Stream}
+use Rattle.lq_language.specs.Worlds.{World}
+use Rattle.lq_language.specs.OperandMeaning.{stream_of}
+use Rattle.lq_machine.specs.Served.{stream_data, value_data}
+use Rattle.lq_language.specs.Stream.{Stream}
 use Rattle.lq_tree.specs.FormMeaning.{form_meaning}
 use Rattle.lq_tree.specs.Rows.{OverRows, mapped, result_map, stream_map}
 use Rattle.lq_tree.specs.declared.tree.Form.{Form}

@@ -4,8 +4,8 @@ use Rattle.lq_value.specs.declared.value.Fault.{Fault}
 use Rattle.lq_value.specs.declared.value.Value.{Value, fold-Value}
 use Rattle.lq_value.specs.declared.value.Value.TheOpen.{Value-F}
 use Rattle.lq_value.specs.declared.value.Value.TheVariants as value
-use Rattle.lq_model.specs.Worlds.{World}
-use Rattle.lq_model.specs.Stream.{Stream}
+use Rattle.lq_language.specs.Worlds.{World}
+use Rattle.lq_language.specs.Stream.{Stream}
 
 -- what is there replaced; a fault stays
 abbrev pub result_map : {A B : Type 0} → (A → B) → Result A Fault → Result B Fault

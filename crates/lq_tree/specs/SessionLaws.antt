@@ -3,22 +3,22 @@ use Rattle.std.specs.Prelude.{◌≡◌, ◌∷◌, List, [], ℕ, Some, Ok, opt
 use Rattle.lq_value.specs.declared.table.Schema.{Schema}
 use Rattle.lq_value.specs.declared.ty.Ty.TheVariants as ty
 use Rattle.lq_value.specs.declared.value.Value.TheVariants as value
-use Rattle.lq_model.specs.ClauseTyping.{expression_type}
-use Rattle.lq_model.specs.DefinitionLaws.{AreDefined}
-use Rattle.lq_model.specs.Definitions.{defining, known_names, outer_names, with_session}
-use Rattle.lq_model.specs.Worlds.{SessionValue, World, bound}
-use Rattle.lq_model.specs.OperandMeaning.{sequence}
-use Rattle.lq_model.specs.ValuesOfTypes.{HasCells, HoldsRows}
-use Rattle.lq_model.specs.Operators.{call_items, call_meaning}
-use Rattle.lq_model.specs.Terms.{term_meaning, term_type}
-use Rattle.lq_model.specs.Names.{with_local}
-use Rattle.lq_model.specs.Uses.{expression_uses}
-use Rattle.lq_model.specs.UsesOfCalls.{call_uses, term_uses}
-use Rattle.lq_model.specs.Meaning.{expression_meaning}
-use Rattle.lq_model.specs.declared.calls.Call.{Call}
-use Rattle.lq_model.specs.declared.calls.Term.{Term}
-use Rattle.lq_model.specs.declared.session.Definition.{Definition}
-use Rattle.lq_model.specs.declared.syntax.Expr.{Expr}
+use Rattle.lq_language.specs.ClauseTyping.{expression_type}
+use Rattle.lq_machine.specs.DefinitionLaws.{AreDefined}
+use Rattle.lq_machine.specs.Definitions.{defining, known_names, outer_names, with_session}
+use Rattle.lq_language.specs.Worlds.{SessionValue, World, bound}
+use Rattle.lq_language.specs.OperandMeaning.{sequence}
+use Rattle.lq_language.specs.ValuesOfTypes.{HasCells, HoldsRows}
+use Rattle.lq_language.specs.Operators.{call_items, call_meaning}
+use Rattle.lq_language.specs.Terms.{term_meaning, term_type}
+use Rattle.lq_language.specs.Names.{with_local}
+use Rattle.lq_language.specs.Uses.{expression_uses}
+use Rattle.lq_language.specs.UsesOfCalls.{call_uses, term_uses}
+use Rattle.lq_language.specs.Meaning.{expression_meaning}
+use Rattle.lq_language.specs.declared.calls.Call.{Call}
+use Rattle.lq_language.specs.declared.calls.Term.{Term}
+use Rattle.lq_machine.specs.declared.session.Definition.{Definition}
+use Rattle.lq_grammar.specs.declared.syntax.Expr.{Expr}
 use Rattle.lq_translate.specs.Translated.{translated}
 use Rattle.lq_tree.specs.Binding.{call_tree, term_tree}
 use Rattle.lq_tree.specs.BindingLaws.{GivesAll}

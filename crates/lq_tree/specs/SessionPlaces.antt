@@ -4,11 +4,11 @@ use Rattle.std.specs.Prelude.{◌∷◌, ◌++◌, List, [], map, ℕ, Option, S
 use Rattle.lq_value.specs.declared.scalar.Scalar.TheVariants as scalar
 use Rattle.lq_value.specs.declared.table.Schema.{Schema}
 use Rattle.lq_value.specs.declared.ty.Ty.TheVariants as ty
-use Rattle.lq_model.specs.Definitions.{known_as}
-use Rattle.lq_model.specs.Names.{SessionName}
-use Rattle.lq_model.specs.declared.session.Defined.{Defined}
-use Rattle.lq_model.specs.declared.session.Defined.TheVariants as of
-use Rattle.lq_model.specs.declared.session.Definition.{Definition}
+use Rattle.lq_machine.specs.Definitions.{known_as}
+use Rattle.lq_language.specs.Names.{SessionName}
+use Rattle.lq_machine.specs.declared.session.Defined.{Defined}
+use Rattle.lq_machine.specs.declared.session.Defined.TheVariants as of
+use Rattle.lq_machine.specs.declared.session.Definition.{Definition}
 use Rattle.lq_translate.specs.Translated.{translated}
 use Rattle.lq_tree.specs.Binding.{term_tree, tree_of}
 use Rattle.lq_tree.specs.Places.{Places, SessionPlace}

@@ -5,16 +5,16 @@ use Rattle.lq_value.specs.declared.value.End.{End}
 use Rattle.lq_value.specs.declared.value.Fault.{Fault}
 use Rattle.lq_value.specs.declared.value.Value.{Value}
 use Rattle.lq_value.specs.declared.value.Value.TheVariants as value
-use Rattle.lq_model.specs.DefinitionLaws.{AreDefined}
-use Rattle.lq_model.specs.Worlds.{World}
-use Rattle.lq_model.specs.OperandMeaning.{stream_of}
-use Rattle.lq_model.specs.ValuesOfTypes.{Every, HoldsRows, assuming}
-use Rattle.lq_model.specs.Operators.{pair}
-use Rattle.lq_model.specs.MeaningLaws.{IsValueOf}
-use Rattle.lq_model.specs.declared.calls.Call.{Call}
-use Rattle.lq_model.specs.declared.calls.Term.{Term}
-use Rattle.lq_model.specs.declared.session.Definition.{Definition}
-use Rattle.lq_model.specs.declared.syntax.Expr.{Expr}
+use Rattle.lq_machine.specs.DefinitionLaws.{AreDefined}
+use Rattle.lq_language.specs.Worlds.{World}
+use Rattle.lq_language.specs.OperandMeaning.{stream_of}
+use Rattle.lq_language.specs.ValuesOfTypes.{Every, HoldsRows, assuming}
+use Rattle.lq_language.specs.Operators.{pair}
+use Rattle.lq_language.specs.MeaningLaws.{IsValueOf}
+use Rattle.lq_language.specs.declared.calls.Call.{Call}
+use Rattle.lq_language.specs.declared.calls.Term.{Term}
+use Rattle.lq_machine.specs.declared.session.Definition.{Definition}
+use Rattle.lq_grammar.specs.declared.syntax.Expr.{Expr}
 use Rattle.lq_translate.specs.Translated.{translated}
 use Rattle.lq_tree.specs.Binding.{call_tree, term_tree}
 use Rattle.lq_tree.specs.FormMeaning.{Slots, form_meaning}

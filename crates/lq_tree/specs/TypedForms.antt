@@ -6,22 +6,22 @@ use Rattle.lq_value.specs.declared.table.Schema.{Schema}
 use Rattle.lq_value.specs.declared.ty.Ty.{Ty, out-Ty}
 use Rattle.lq_value.specs.declared.ty.Ty.TheOpen.{Ty-F}
 use Rattle.lq_value.specs.declared.ty.Ty.TheVariants as ty
-use Rattle.lq_model.specs.ValuesOfTypes.{IsScalarOf}
-use Rattle.lq_model.specs.Members.{search_named}
-use Rattle.lq_model.specs.Operators.{Pattern, One, With, pair_type}
-use Rattle.lq_model.specs.Types.{are_join_keys, element_type, is_key, is_sort_key}
-use Rattle.lq_model.specs.Names.{column_type}
-use Rattle.lq_model.specs.OperandTypes.{coalesced, is_bool, is_number, is_text}
-use Rattle.lq_model.specs.Typing.{given_type, simple_type, through_type, whole_chosen, whole_operated_type}
-use Rattle.lq_model.specs.declared.methods.Given.{Given}
-use Rattle.lq_model.specs.declared.methods.Simple.{Simple}
-use Rattle.lq_model.specs.declared.methods.Through.{Through}
-use Rattle.lq_model.specs.declared.methods.Through.TheVariants as through
-use Rattle.lq_model.specs.declared.operation.Op.{Op}
-use Rattle.lq_model.specs.declared.operation.Op.TheVariants as op
-use Rattle.lq_model.specs.declared.syntax.Binary.{Binary}
-use Rattle.lq_model.specs.declared.syntax.Field.{Field}
-use Rattle.lq_model.specs.declared.syntax.SortKey.{SortKey}
+use Rattle.lq_language.specs.ValuesOfTypes.{IsScalarOf}
+use Rattle.lq_language.specs.Members.{search_named}
+use Rattle.lq_language.specs.Operators.{Pattern, One, With, pair_type}
+use Rattle.lq_language.specs.Types.{are_join_keys, element_type, is_key, is_sort_key}
+use Rattle.lq_language.specs.Names.{column_type}
+use Rattle.lq_language.specs.OperandTypes.{coalesced, is_bool, is_number, is_text}
+use Rattle.lq_language.specs.Typing.{given_type, simple_type, through_type, whole_chosen, whole_operated_type}
+use Rattle.lq_language.specs.declared.methods.Given.{Given}
+use Rattle.lq_language.specs.declared.methods.Simple.{Simple}
+use Rattle.lq_language.specs.declared.methods.Through.{Through}
+use Rattle.lq_language.specs.declared.methods.Through.TheVariants as through
+use Rattle.lq_language.specs.declared.operation.Op.{Op}
+use Rattle.lq_language.specs.declared.operation.Op.TheVariants as op
+use Rattle.lq_grammar.specs.declared.syntax.Binary.{Binary}
+use Rattle.lq_grammar.specs.declared.syntax.Field.{Field}
+use Rattle.lq_grammar.specs.declared.syntax.SortKey.{SortKey}
 use Rattle.lq_tree.specs.Binding.{is_object, operation_at}
 use Rattle.lq_tree.specs.FormMeaning.{name_of_column}
 use Rattle.lq_tree.specs.declared.tree.Form.{Form}

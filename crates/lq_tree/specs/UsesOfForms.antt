@@ -1,9 +1,9 @@
 -- «Uses» of the forms of a typed tree: the tables and columns in it, in the order of the text that it comes from. A group's elements stand
 -- in that text before its key.
 use Rattle.std.specs.Prelude.{◌≡◌, ◌∷◌, ◌++◌, List, [], ℕ, flat_map}
-use Rattle.lq_model.specs.ValuesOfTypes.{Every}
-use Rattle.lq_model.specs.declared.rights.Use.{Use}
-use Rattle.lq_model.specs.declared.rights.Use.TheVariants as of
+use Rattle.lq_language.specs.ValuesOfTypes.{Every}
+use Rattle.lq_language.specs.declared.rights.Use.{Use}
+use Rattle.lq_language.specs.declared.rights.Use.TheVariants as of
 use Rattle.lq_tree.specs.Places.{Places}
 use Rattle.lq_tree.specs.declared.tree.Form.{Form, fold-Form}
 use Rattle.lq_tree.specs.declared.tree.Form.TheOpen.{Form-F}

@@ -2,7 +2,8 @@
 //! body of a lambda has one slot more than what it stands in, or two, where it takes two items.
 ghost use Rattle.std.specs.Prelude.{◌≡◌};
 
-use lq_model::{Field, Given, Op, Simple, SortKey, Through};
+use lq_grammar::{Field, SortKey};
+use lq_language::{Given, Op, Simple, Through};
 use lq_value::{Held, List, Scalar, Ty};
 
 /// The parts of a join, whose outer sequence stands beside it (.NET, `Enumerable.Join` and

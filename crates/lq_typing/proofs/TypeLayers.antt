@@ -5,7 +5,7 @@ use Rattle.lq_value.specs.declared.ty.Ty.{Ty, fold_out-Ty, map-Ty, out-Ty}
 use Rattle.lq_value.specs.declared.ty.Ty.TheOpen.{Ty-F}
 use Rattle.lq_value.specs.declared.ty.Ty.TheVariants as ty
 use Rattle.lq_value.specs.declared.ty.Ty.TheVariants.{outs-Bool, outs-Group, outs-Int, outs-IntN, outs-Null, outs-Rec, outs-Row, outs-Seq, outs-Str}
-use Rattle.lq_model.specs.Types.{all_members, is_key, key_step, parts_of, parts_step, same_layers, same_step, same_types, sum_of_members, tested_member}
+use Rattle.lq_language.specs.Types.{all_members, is_key, key_step, parts_of, parts_step, same_layers, same_step, same_types, sum_of_members, tested_member}
 use Rattle.lq_typing.specs.TypeParts.{are_keys, member_parts, same_member, same_members, same_parts}
 
 pub ruleset layers = (outs-Int, outs-IntN, outs-Bool, outs-Str, outs-Null, outs-Row, outs-Rec, outs-Seq, outs-Group)

@@ -4,7 +4,7 @@ use Rattle.std.specs.Cmp.Lexicographic.{pointwise}
 use Rattle.std.specs.Str.{bytes_eq}
 use Rattle.lq_value.specs.declared.ty.Ty.{Ty}
 use Rattle.lq_value.specs.declared.ty.Ty.TheOpen.{Ty-F}
-use Rattle.lq_model.specs.Types.{is_key, parts_of, same_types}
+use Rattle.lq_language.specs.Types.{is_key, parts_of, same_types}
 
 -- whether all members are of key types
 abbrev pub are_keys : List (List ℕ × Ty) → Bool

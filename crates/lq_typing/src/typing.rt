@@ -2,14 +2,15 @@
 ghost use Rattle.std.specs.Prelude.{◌≡◌, ◌&&◌, IfOk, None, Some, option_and_then};
 ghost use Rattle.lq_value.specs.declared.ty.Ty.{out-Ty};
 ghost use Rattle.lq_value.specs.declared.ty.Ty.TheVariants as ty;
-ghost use Rattle.lq_model.specs.Types.{are_join_keys, are_widened, when};
-ghost use Rattle.lq_model.specs.OperandTypes.{are_comparable, are_joined, chosen, coalesced, is_equality, is_ordering, joined_type, number_type, operated_type, result_type};
-ghost use Rattle.lq_model.specs.Typing.{are_null_tests, given_type, if_int, if_same, if_same_keys, simple_type, through_type, whole_chosen, whole_operated_type};
+ghost use Rattle.lq_language.specs.Types.{are_join_keys, are_widened, when};
+ghost use Rattle.lq_language.specs.OperandTypes.{are_comparable, are_joined, chosen, coalesced, is_equality, is_ordering, joined_type, number_type, operated_type, result_type};
+ghost use Rattle.lq_language.specs.Typing.{are_null_tests, given_type, if_int, if_same, if_same_keys, simple_type, through_type, whole_chosen, whole_operated_type};
 
 use crate::types::{
     converts, copy_ty, has_default, has_place, is_bool, is_int, is_key, is_number, same_types,
 };
-use lq_model::{Binary, Given, Simple, Through};
+use lq_grammar::Binary;
+use lq_language::{Given, Simple, Through};
 use lq_value::{Held, List, Txt, Ty};
 use std::alloc::{AllocError, Global};
 

@@ -3,9 +3,9 @@ use Rattle.std.proofs.Common.{◌≡◌, ◌∷◌, ◌+◌, ◌<◌, ◌≤◌,
 use Rattle.std.proofs.lemmas.Bool.{cases_lt}
 use Rattle.std.proofs.lemmas.Option.{get_or_from_slice_get, none-some, slice_get_within}
 use Rattle.std.specs.Borrow.{Bor}
-use Rattle.lq_model.specs.Rights.{denial, denied_or, denier_of, first_concerning, may_use}
-use Rattle.lq_model.specs.declared.policy.PolicyParts.{PolicyParts}
-use Rattle.lq_model.specs.declared.rights.Use.{Use}
+use Rattle.lq_security.specs.Rights.{denial, denied_or, denier_of, first_concerning, may_use}
+use Rattle.lq_security.specs.declared.policy.PolicyParts.{PolicyParts}
+use Rattle.lq_language.specs.declared.rights.Use.{Use}
 use Rattle.lq_use.specs.Decisions.{AreAllowedBefore}
 
 module _ (parts : PolicyParts) (role : ℕ) where

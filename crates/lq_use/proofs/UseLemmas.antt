@@ -12,12 +12,12 @@ use Rattle.lq_value.specs.declared.ty.Ty as of_ty
 use Rattle.lq_value.specs.declared.ty.Ty.TheOpen.{Ty-F}
 use Rattle.lq_value.specs.declared.ty.Ty.TheVariants as ty
 use Rattle.lq_value.specs.declared.ty.Ty.TheVariants.{outs-Group, outs-Rec, outs-Row, outs-Seq}
-use Rattle.lq_model.specs.Uses.{all_columns, columns_from, shown_columns, shown_step}
-use Rattle.lq_model.specs.States.{schemas_of}
-use Rattle.lq_model.specs.Maps.{map_field, map_key}
-use Rattle.lq_model.specs.declared.rights.Use.{Use}
-use Rattle.lq_model.specs.declared.syntax.Field.{Field}
-use Rattle.lq_model.specs.declared.syntax.SortKey.{SortKey}
+use Rattle.lq_language.specs.Uses.{all_columns, columns_from, shown_columns, shown_step}
+use Rattle.lq_machine.specs.States.{schemas_of}
+use Rattle.lq_language.specs.Maps.{map_field, map_key}
+use Rattle.lq_language.specs.declared.rights.Use.{Use}
+use Rattle.lq_grammar.specs.declared.syntax.Field.{Field}
+use Rattle.lq_grammar.specs.declared.syntax.SortKey.{SortKey}
 use Rattle.lq_tree.specs.UsesOfForms.{form_uses}
 use Rattle.lq_tree.specs.declared.tree.Form.{Form}
 use Rattle.lq_tree.specs.declared.tree.Form.TheVariants as form

@@ -1,8 +1,8 @@
 -- What a decision on uses answers: nothing is denied, or the first use to which the role has no right.
 use Rattle.std.specs.Prelude.{◌≡◌, ◌<◌, ℕ, List, true, Some, None, Result, Ok, Err, slice_get}
-use Rattle.lq_model.specs.Rights.{denial, may_use}
-use Rattle.lq_model.specs.declared.policy.PolicyParts.{PolicyParts}
-use Rattle.lq_model.specs.declared.rights.Use.{Use}
+use Rattle.lq_security.specs.Rights.{denial, may_use}
+use Rattle.lq_security.specs.declared.policy.PolicyParts.{PolicyParts}
+use Rattle.lq_language.specs.declared.rights.Use.{Use}
 use Rattle.lq_use.specs.declared.decisions.Denied.{Denied}
 
 -- The role may use each use that stands before the place.

@@ -2,8 +2,8 @@
 use Rattle.std.specs.Prelude.{◌++◌, List, [], Bool, true, false}
 use Rattle.lq_value.specs.declared.table.Schema.{Schema}
 use Rattle.lq_value.specs.declared.ty.Ty.{Ty}
-use Rattle.lq_model.specs.Uses.{shown_columns}
-use Rattle.lq_model.specs.declared.rights.Use.{Use}
+use Rattle.lq_language.specs.Uses.{shown_columns}
+use Rattle.lq_language.specs.declared.rights.Use.{Use}
 use Rattle.lq_tree.specs.UsesOfForms.{form_uses}
 use Rattle.lq_tree.specs.declared.tree.Joined.{Joined}
 use Rattle.lq_tree.specs.declared.tree.Form.{Form}

@@ -1,6 +1,6 @@
 //! Whether a role has a right to each of some uses.
 ghost use Rattle.std.specs.Prelude.{◌≡◌, option_map};
-ghost use Rattle.lq_model.specs.Rights.{denier_of};
+ghost use Rattle.lq_security.specs.Rights.{denier_of};
 ghost use Rattle.lq_policy.specs.Roles.{number_of};
 ghost use Rattle.lq_use.specs.Decisions.{Decides};
 

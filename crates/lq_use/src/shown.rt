@@ -1,7 +1,7 @@
 //! The columns that values of a type show.
 ghost use Rattle.std.specs.Prelude.{◌≡◌, ◌≤◌, ◌++◌, flat_map, length, slice_get, OnOk};
-ghost use Rattle.lq_model.specs.States.{schemas_of};
-ghost use Rattle.lq_model.specs.Uses.{all_columns, columns_from, shown_columns};
+ghost use Rattle.lq_machine.specs.States.{schemas_of};
+ghost use Rattle.lq_language.specs.Uses.{all_columns, columns_from, shown_columns};
 
 use lq_policy::Use;
 use lq_store::Store;

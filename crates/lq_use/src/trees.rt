@@ -1,11 +1,11 @@
 //! The uses of typed trees.
 ghost use Rattle.std.specs.Prelude.{◌≡◌, ◌∷◌, ◌++◌, [], flat_map, IfOk, OnOk};
-ghost use Rattle.lq_model.specs.States.{schemas_of};
+ghost use Rattle.lq_machine.specs.States.{schemas_of};
 ghost use Rattle.lq_tree.specs.UsesOfForms.{form_uses};
 ghost use Rattle.lq_use.specs.Served.{join_uses, uses_served};
 
 use crate::shown::add_columns;
-use lq_model::{Field, SortKey};
+use lq_grammar::{Field, SortKey};
 use lq_policy::Use;
 use lq_store::Store;
 use lq_tree::{Form, Joined, Tree, ty};

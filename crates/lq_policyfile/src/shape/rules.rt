@@ -1,14 +1,15 @@
 //! The rules of policies.
 ghost use Rattle.std.specs.Prelude.{◌≡◌, option_map, Some};
 ghost use Rattle.toml.specs.View.{table_view};
-ghost use Rattle.lq_model.specs.Reading.{rule_reading_of};
+ghost use Rattle.lq_grammar.specs.Reading.{rule_reading_of};
 ghost use Rattle.lq_policyfile.specs.Outcome.{Reads};
 ghost use Rattle.lq_policyfile.specs.Shape.{are_in_place, rule_fields, rules_in, tree_of};
 
 use crate::entry::{Actions, Rules};
 use crate::error::ShapeError;
 use crate::shape::value::{Shaped, optional};
-use lq_model::{Action, Expr};
+use lq_grammar::Expr;
+use lq_security::Action;
 use lq_syntax::{SyntaxError, parse_rule};
 use std::alloc::Global;
 use toml::{Table, Value};

@@ -5,7 +5,7 @@ ghost use Rattle.lq_policyfile.specs.Shape.{actions_of, kind_of};
 use crate::entry::{Actions, Kind};
 use crate::error::ShapeError;
 use crate::shape::value::Shaped;
-use lq_model::Action;
+use lq_security::Action;
 use std::alloc::Global;
 use toml::Value;
 

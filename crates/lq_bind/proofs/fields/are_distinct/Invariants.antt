@@ -1,5 +1,5 @@
 use Rattle.std.proofs.Common.{◌≡◌, length, map}
-use Rattle.lq_model.specs.Typing.{are_distinct}
+use Rattle.lq_language.specs.Typing.{are_distinct}
 use Rattle.lq_bind.proofs.fields.are_distinct.Given as goal
 
 -- the members so far have names of their own, so that those that are left decide

@@ -1,5 +1,5 @@
 use Rattle.std.proofs.Common.{◌≡◌, drop, map}
-use Rattle.lq_model.specs.Typing.{is_new}
+use Rattle.lq_language.specs.Typing.{is_new}
 use Rattle.lq_bind.proofs.fields.is_new.Given as goal
 
 -- the members so far have other names, so that those that are left decide

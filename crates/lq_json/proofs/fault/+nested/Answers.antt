@@ -1,6 +1,6 @@
 -- The first fault in a record is the first one in its members.
 use Rattle.std.proofs.Common.{◌∙◌, ap, map, sym}
-use Rattle.lq_model.specs.Served.{first_member, nested_fault}
+use Rattle.lq_machine.specs.Served.{first_member, nested_fault}
 use Rattle.lq_json.proofs.Opens.{record_fault}
 use Rattle.lq_json.proofs.fault.+nested.Goals as goal
 

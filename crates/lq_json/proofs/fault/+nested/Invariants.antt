@@ -1,5 +1,5 @@
 use Rattle.std.proofs.Common.{◌≡◌, drop, map}
-use Rattle.lq_model.specs.Served.{first_member, first_of, nested_fault}
+use Rattle.lq_machine.specs.Served.{first_member, first_of, nested_fault}
 use Rattle.lq_json.proofs.fault.+nested.Given as goal
 
 -- the first fault is one of the items to come

@@ -1,7 +1,7 @@
 -- Items are written by the form of their type.
 use Rattle.std.proofs.Common.{◌≡◌, ◌∙◌, List, ℕ, IfOk, ap, subst}
-use Rattle.lq_model.specs.States.{schemas_of}
-use Rattle.lq_model.specs.Served.{line_of}
+use Rattle.lq_machine.specs.States.{schemas_of}
+use Rattle.lq_machine.specs.Served.{line_of}
 use Rattle.lq_json.specs.Replies.{served_by, stream_reply}
 use Rattle.lq_json.proofs.FormLemmas.{stream_made}
 use Rattle.lq_json.proofs.reply.items_line.Goals as goal

@@ -1,8 +1,8 @@
 -- A value without a fault is written by the form of its type.
 use Rattle.std.proofs.Common.{◌≡◌, ◌∙◌, List, ℕ, IfOk, ap, codes, subst, sym}
 use Rattle.serde_json.specs.Data.{no_members, object, put}
-use Rattle.lq_model.specs.States.{schemas_of}
-use Rattle.lq_model.specs.Served.{line_of}
+use Rattle.lq_machine.specs.States.{schemas_of}
+use Rattle.lq_machine.specs.Served.{line_of}
 use Rattle.lq_json.specs.Forms.{data_by}
 use Rattle.lq_json.specs.declared.form.Form.{Form}
 use Rattle.lq_json.proofs.FormLemmas.{value_made}

@@ -1,7 +1,7 @@
 use Rattle.std.proofs.Common.{◌≡◌, ◌≤◌, ◌+◌, ◌++◌, length}
 use Rattle.std.specs.Prelude.{option_map, sum_by}
 use Rattle.std.specs.Char.{len_utf8}
-use Rattle.lq_model.specs.Tokens.{tokens_from}
+use Rattle.lq_grammar.specs.Tokens.{tokens_from}
 use Rattle.lq_lex.proofs.lexer.cut.Given as goal
 
 abbrev pub invariant-loop-text : goal.invariant-loop-text

@@ -1,6 +1,6 @@
 use Rattle.std.proofs.Common.{◌≡◌, ◌≤◌, ◌+◌, ◌*◌, ◌-◌, drop}
 use Rattle.std.specs.List.{fold}
-use Rattle.lq_model.specs.Tokens.{decimal_value}
+use Rattle.lq_grammar.specs.Tokens.{decimal_value}
 use Rattle.lq_lex.proofs.literals.is_small.Given as goal
 
 abbrev pub invariant-loop-digit : goal.invariant-loop-digit

@@ -1,6 +1,6 @@
 use Rattle.std.proofs.Common.{◌≡◌, ◌+◌, length}
 use Rattle.std.specs.Prelude.{option_map}
-use Rattle.lq_model.specs.TextLiterals.{length_from, plain}
+use Rattle.lq_grammar.specs.TextLiterals.{length_from, plain}
 use Rattle.lq_lex.specs.Literals.{place_of}
 use Rattle.lq_lex.proofs.literals.length_of_text.Given as goal
 

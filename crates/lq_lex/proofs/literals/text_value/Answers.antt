@@ -5,7 +5,7 @@ use Rattle.std.proofs.lemmas.List.{length_push}
 use Rattle.std.proofs.lemmas.Iterator.{YieldsList-from_chars}
 use Rattle.std.proofs.lemmas.Iterator.Adapters.{YieldsList-from_skip}
 use Rattle.std.proofs.lemmas.Iterator.Consumers.{YieldsList-turn, YieldsList-end}
-use Rattle.lq_model.specs.TextLiterals.{step_inside, text_value}
+use Rattle.lq_grammar.specs.TextLiterals.{step_inside, text_value}
 use Rattle.lq_lex.specs.Literals.{place_of, step_of}
 use Rattle.lq_lex.proofs.Spelling.{spelling_stops, spelling_ends, spelling_goes, spelling_grows}
 use Rattle.lq_lex.proofs.literals.text_value.Goals as goal

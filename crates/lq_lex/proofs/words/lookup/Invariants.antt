@@ -1,5 +1,5 @@
 use Rattle.std.proofs.Common.{◌≡◌, length}
-use Rattle.lq_model.specs.Words.{kind_among}
+use Rattle.lq_grammar.specs.Words.{kind_among}
 use Rattle.lq_lex.specs.Letters.{words}
 use Rattle.lq_lex.proofs.words.lookup.Given as goal
 

@@ -1,7 +1,7 @@
 use Rattle.std.proofs.Common.{◌≡◌, arith}
 use Rattle.csv.specs.Reading.{default_config, records, strip_bom}
 use Rattle.lq_load.specs.CsvRecords.{records_left}
-use Rattle.lq_model.specs.Script.{without_marks}
+use Rattle.lq_grammar.specs.Script.{without_marks}
 use Rattle.lq_load.proofs.TableFileLemmas.{records-few, table_of-large, table_of-small}
 use Rattle.lq_load.proofs.table_file.table_from_csv.Goals as goal
 

@@ -4,7 +4,7 @@ use Rattle.std.proofs.lemmas.Iterator.Consumers.{YieldsList-end}
 use Rattle.std.proofs.lemmas.List.{map-id}
 use Rattle.lq_value.specs.SameAndOrder.{same_values}
 use Rattle.lq_value.specs.declared.value.Value.{Value}
-use Rattle.lq_model.specs.Enumerable.{is_among}
+use Rattle.lq_language.specs.Enumerable.{is_among}
 use Rattle.lq_operators.specs.Arguments.{kept_by}
 use Rattle.lq_operators.proofs.sets.chosen_by.Goals as goal
 

@@ -1,6 +1,6 @@
 use Rattle.std.proofs.Common.{◌≡◌, filter}
 use Rattle.lq_value.specs.SameAndOrder.{same_values}
-use Rattle.lq_model.specs.Enumerable.{is_among}
+use Rattle.lq_language.specs.Enumerable.{is_among}
 use Rattle.lq_operators.specs.Arguments.{kept_by}
 use Rattle.lq_operators.proofs.sets.chosen_by.Given as goal
 

@@ -1,6 +1,6 @@
 use Rattle.std.proofs.Common.{◌≡◌, drop}
 use Rattle.lq_value.specs.SameAndOrder.{same_values}
-use Rattle.lq_model.specs.Enumerable.{contains}
+use Rattle.lq_language.specs.Enumerable.{contains}
 use Rattle.lq_operators.proofs.sets.contains.Given as goal
 
 -- none so far is the same, so that the items left decide

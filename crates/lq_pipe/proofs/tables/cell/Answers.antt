@@ -1,6 +1,6 @@
 use Rattle.std.proofs.Common.{ap, option_and_then, slice_get, sym, ◌∙◌}
-use Rattle.lq_model.specs.Served.{columns_in}
-use Rattle.lq_model.specs.TableRows.{cell_named}
+use Rattle.lq_machine.specs.Served.{columns_in}
+use Rattle.lq_language.specs.TableRows.{cell_named}
 use Rattle.lq_pipe.specs.Worlds.{schemas_in}
 use Rattle.lq_pipe.proofs.CellLemmas.{cell_found}
 use Rattle.lq_pipe.proofs.tables.cell.Goals as goal

@@ -1,6 +1,6 @@
 use Rattle.std.proofs.Common.{◌≡◌, ◌&&◌, ◌||◌, not, drop}
 use Rattle.std.specs.List.{list_any}
-use Rattle.lq_model.specs.declared.rights.Use.{Use}
+use Rattle.lq_language.specs.declared.rights.Use.{Use}
 use Rattle.lq_policy.specs.RoleRights.{gives, is_among}
 use Rattle.lq_policy.proofs.role_rights.add_open.Given as goal
 

@@ -1,7 +1,7 @@
 use Rattle.std.proofs.Common.{◌≡◌, ◌||◌, drop}
 use Rattle.std.specs.List.{list_any}
-use Rattle.lq_model.specs.Rights.{is_same_use}
-use Rattle.lq_model.specs.declared.rights.Use.{Use}
+use Rattle.lq_security.specs.Rights.{is_same_use}
+use Rattle.lq_language.specs.declared.rights.Use.{Use}
 use Rattle.lq_policy.specs.RoleRights.{is_among}
 use Rattle.lq_policy.proofs.role_rights.add_rights.Given as goal
 

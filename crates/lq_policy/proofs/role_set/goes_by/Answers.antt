@@ -1,7 +1,7 @@
 -- The sets of roles tell the roles that one goes by, and so whether one of them has the name.
 use Rattle.std.proofs.Common.{◌∙◌, Option, ap, sym}
-use Rattle.lq_model.specs.Visible.{is_named}
-use Rattle.lq_model.specs.declared.policy.Role.{Role}
+use Rattle.lq_security.specs.Visible.{is_named}
+use Rattle.lq_security.specs.declared.policy.Role.{Role}
 use Rattle.lq_policy.proofs.NameLemmas.{other_name, own_name, untold_name}
 use Rattle.lq_policy.proofs.role_set.goes_by.Goals as goal
 

@@ -1,5 +1,5 @@
 use Rattle.std.proofs.Common.{◌≡◌, ◌∷◌, ◌++◌, ◌+◌, List, [], drop, map, ap, append_assoc, sym, ◌∙◌}
-use Rattle.lq_model.specs.declared.policy.TablePart.{TablePart}
+use Rattle.lq_security.specs.declared.policy.TablePart.{TablePart}
 use Rattle.lq_policyfile.specs.File.{table_part}
 use Rattle.lq_policyfile.proofs.FileLemmas.{next_table}
 use Rattle.lq_policyfile.proofs.parts.tables_of.Goals as goal

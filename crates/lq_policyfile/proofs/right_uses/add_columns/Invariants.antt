@@ -1,5 +1,5 @@
 use Rattle.std.proofs.Common.{◌≡◌, ◌≤◌, ◌+◌, ◌++◌, length}
-use Rattle.lq_model.specs.Uses.{columns_from}
+use Rattle.lq_language.specs.Uses.{columns_from}
 use Rattle.lq_policyfile.proofs.right_uses.add_columns.Given as goal
 
 -- the columns that are left follow, from this number on

@@ -1,5 +1,5 @@
 use Rattle.std.proofs.Common.{◌≡◌, length}
-use Rattle.lq_model.specs.Names.{column_named}
+use Rattle.lq_language.specs.Names.{column_named}
 use Rattle.lq_policyfile.proofs.rule_checks.type_of_named.Given as goal
 
 -- the column is sought among those that are left

@@ -1,6 +1,6 @@
 -- What each function goes down by: the depth of what it prepares, and at one depth the node, its form, two operands, an operand.
 use Rattle.std.proofs.Common.{◌+◌, ◌*◌, max}
-use Rattle.lq_model.proofs.syntax.Expr.TheLaws.{the_size}
+use Rattle.lq_grammar.proofs.syntax.Expr.TheLaws.{the_size}
 use Rattle.lq_rule.proofs.prepare.+preparing.Given as goal
 
 abbrev pub decreases-prepared : goal.decreases-prepared

@@ -1,9 +1,9 @@
 -- The first denial of the uses, and its line.
 use Rattle.std.proofs.Common.{◌≡◌, ◌∙◌, IfOk, Ok, Result, Some, slice_index_or, subst, sym}
 use Rattle.std.proofs.lemmas.Option.{get_or_from_slice_get}
-use Rattle.lq_model.specs.States.{schemas_of}
-use Rattle.lq_model.specs.Rights.{Denied, denial}
-use Rattle.lq_model.specs.Served.{denied_data, line_of}
+use Rattle.lq_machine.specs.States.{schemas_of}
+use Rattle.lq_security.specs.Rights.{Denied, denial}
+use Rattle.lq_machine.specs.Served.{denied_data, line_of}
 use Rattle.lq_policy.specs.Roles.{number_of}
 use Rattle.lq_use.specs.Decisions.{Tells}
 use Rattle.lq_run.proofs.denials.denied.Goals as goal

@@ -1,7 +1,7 @@
 -- The rows that are found are those that the machine chooses.
 use Rattle.std.proofs.Common.{◌∙◌, List, ap, option_map, slice_get, subst, sym}
-use Rattle.lq_model.specs.Visible.{visible_to}
-use Rattle.lq_model.specs.declared.policy.Action.TheVariants as action
+use Rattle.lq_security.specs.Visible.{visible_to}
+use Rattle.lq_security.specs.declared.policy.Action.TheVariants as action
 use Rattle.lq_pipe.specs.declared.tables.TableRows.{TableRows}
 use Rattle.lq_run.specs.SeenRows.{AreSeen}
 use Rattle.lq_run.specs.declared.seen.SeenRow.{SeenRow}

@@ -2,9 +2,9 @@
 use Rattle.std.proofs.Common.{◌≡◌, ◌∙◌, ◌++◌, List, Option, ap, codes, subst, true, false}
 use Rattle.std.proofs.lemmas.Result.{IfOk-weaker}
 use Rattle.lq_value.specs.Tables.{Table}
-use Rattle.lq_model.specs.States.{schemas_of}
-use Rattle.lq_model.specs.Served.{error_data, line_of}
-use Rattle.lq_model.specs.Uses.{shown_columns}
+use Rattle.lq_machine.specs.States.{schemas_of}
+use Rattle.lq_machine.specs.Served.{error_data, line_of}
+use Rattle.lq_language.specs.Uses.{shown_columns}
 use Rattle.lq_json.specs.declared.line.Line.{Line}
 use Rattle.lq_tree.specs.UsesOfForms.{form_uses}
 use Rattle.lq_run.specs.Replies.{AnswersTree, ServesTree}

@@ -1,7 +1,7 @@
 -- An expression without a tree is refused.
 use Rattle.std.proofs.Common.{◌≡◌, ◌∙◌, codes, sym}
 use Rattle.std.proofs.lemmas.Result.{IfOk-weaker}
-use Rattle.lq_model.specs.Served.{error_data, line_of}
+use Rattle.lq_machine.specs.Served.{error_data, line_of}
 use Rattle.lq_run.specs.Replies.{run_line}
 use Rattle.lq_run.proofs.ReplyLemmas.{no_tree}
 use Rattle.lq_run.proofs.run.run_line.Goals as goal

@@ -2,8 +2,8 @@
 use Rattle.std.proofs.Common.{◌≡◌, ◌∙◌, List, ap, subst, sym}
 use Rattle.std.proofs.lemmas.Result.{IfOk-weaker}
 use Rattle.lq_value.specs.Tables.{Table}
-use Rattle.lq_model.specs.States.{schemas_of}
-use Rattle.lq_model.specs.Served.{line_of}
+use Rattle.lq_machine.specs.States.{schemas_of}
+use Rattle.lq_machine.specs.Served.{line_of}
 use Rattle.lq_pipe.specs.Worlds.{world_of}
 use Rattle.lq_pipe.specs.declared.tables.TableRows.{TableRows}
 use Rattle.lq_run.specs.Replies.{ServesTree}

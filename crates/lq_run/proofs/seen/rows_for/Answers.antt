@@ -1,5 +1,5 @@
 use Rattle.std.proofs.Common.{◌∙◌, ap, sym, option_map, slice_get}
-use Rattle.lq_model.specs.Visible.{visible_to}
+use Rattle.lq_security.specs.Visible.{visible_to}
 use Rattle.lq_run.proofs.SeenLemmas.{seen_answer}
 use Rattle.lq_run.proofs.seen.rows_for.Goals as goal
 

@@ -1,5 +1,5 @@
 use Rattle.std.proofs.Common.{◌≡◌, ◌-◌, length, map, take}
-use Rattle.lq_model.specs.Visible.{seen_from}
+use Rattle.lq_security.specs.Visible.{seen_from}
 use Rattle.lq_run.specs.SeenRows.{shown_rows}
 use Rattle.lq_run.proofs.seen.seen_tables.Given as goal
 

@@ -1,5 +1,5 @@
 use Rattle.std.proofs.Common.{◌≡◌, length, map}
-use Rattle.lq_model.specs.TableRows.{cell_named}
+use Rattle.lq_language.specs.TableRows.{cell_named}
 use Rattle.lq_scalar.proofs.cell.cell_named.Given as goal
 
 -- the column is sought among those that are left

@@ -1,6 +1,6 @@
 use Rattle.std.proofs.Common.{◌≡◌, ◌+◌, length, drop}
 use Rattle.std.specs.Str.{chars}
-use Rattle.lq_model.specs.Operations.{utf16_units}
+use Rattle.lq_language.specs.Operations.{utf16_units}
 use Rattle.lq_scalar.proofs.texts.utf16_units.Given as goal
 
 -- the units so far and those of the characters that are left

@@ -1,5 +1,5 @@
 use Rattle.std.proofs.Common.{rules, ◌≡◌, true, false, Err, subst}
-use Rattle.lq_model.specs.Tokens.{is_name}
+use Rattle.lq_grammar.specs.Tokens.{is_name}
 use Rattle.lq_serve.specs.Loading.{Answered, read_limit, table_name}
 use Rattle.lq_serve.proofs.LoadingLemmas.{Adds-nil, Answered-all, Answered-fault, Answered-then, known_bytes, known_is, read-failed, read-whole, readings_of_one-named, readings_of_one-unnamed, table_in-unnamed}
 use Rattle.lq_serve.proofs.loading.read_table.Goals as goal

@@ -1,7 +1,7 @@
 use Rattle.std.proofs.Common.{◌≡◌, ◌≤◌, ◌+◌, false, length}
 use denote.Text.{Utf8}
 use denote.Shadow.{shadow}
-use Rattle.lq_model.specs.Script.{lines_of}
+use Rattle.lq_grammar.specs.Script.{lines_of}
 use Rattle.lq_session.specs.States.{state_of}
 use Rattle.lq_serve.specs.Devices.{inner_of, is_failed}
 use Rattle.lq_serve.proofs.ScriptRunLemmas.{UnderWay}

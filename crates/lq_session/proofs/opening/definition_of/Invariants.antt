@@ -1,5 +1,5 @@
 use Rattle.std.proofs.Common.{◌≡◌, drop}
-use Rattle.lq_model.specs.Definitions.{definition_of}
+use Rattle.lq_machine.specs.Definitions.{definition_of}
 use Rattle.lq_session.proofs.opening.definition_of.Given as goal
 
 -- the name is looked for among the definitions that are left

@@ -1,7 +1,7 @@
 use Rattle.std.proofs.Common.{sym, ◌∙◌}
-use Rattle.lq_model.specs.Opening.{opening}
-use Rattle.lq_model.specs.declared.token.Kind.TheVariants as k
-use Rattle.lq_model.specs.declared.token.Token.{Token}
+use Rattle.lq_machine.specs.Opening.{opening}
+use Rattle.lq_grammar.specs.declared.token.Kind.TheVariants as k
+use Rattle.lq_grammar.specs.declared.token.Token.{Token}
 use Rattle.lq_session.proofs.OpeningLemmas.{many_tokens, token_past, token_within}
 use Rattle.lq_session.proofs.opening.opening_of_tokens.Goals as goal
 

@@ -1,5 +1,5 @@
 use Rattle.std.proofs.Common.{◌≡◌, drop, false}
-use Rattle.lq_model.specs.Opening.{is_past_opening, opened_from, opening}
+use Rattle.lq_machine.specs.Opening.{is_past_opening, opened_from, opening}
 use Rattle.lq_session.specs.Openings.{opened_with}
 use Rattle.lq_session.proofs.opening.opening_of_tokens.Given as goal
 

@@ -1,6 +1,6 @@
 -- A fault removes nothing; the rows that are removed are those that the machine chooses.
 use Rattle.std.proofs.Common.{◌∙◌, sym}
-use Rattle.lq_model.specs.Statements.{chosen}
+use Rattle.lq_machine.specs.Statements.{chosen}
 use Rattle.lq_session.proofs.DeletionLemmas.{removes, removes_none}
 use Rattle.lq_session.proofs.rows.delete_chosen.Goals as goal
 

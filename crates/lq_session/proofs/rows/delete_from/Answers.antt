@@ -1,6 +1,6 @@
 -- A condition without a tree is refused.
 use Rattle.std.proofs.Common.{◌∙◌, Some, codes, sym}
-use Rattle.lq_model.specs.Statements.{rows_of}
+use Rattle.lq_machine.specs.Statements.{rows_of}
 use Rattle.lq_session.proofs.ConditionLemmas.{no_condition_type}
 use Rattle.lq_session.proofs.DeletionLemmas.{no_condition}
 use Rattle.lq_session.proofs.Outcomes.{refuses}

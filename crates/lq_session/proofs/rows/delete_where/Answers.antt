@@ -1,7 +1,7 @@
 -- What is no truth value is refused; the first denial is told, and the rows go where nothing is denied.
 use Rattle.std.proofs.Common.{Option, Some, codes, false, subst, true}
 use Rattle.lq_json.specs.declared.line.Line.{Line}
-use Rattle.lq_model.specs.Statements.{rows_of}
+use Rattle.lq_machine.specs.Statements.{rows_of}
 use Rattle.lq_run.specs.Statements.{TellsDenial}
 use Rattle.lq_session.proofs.ConditionLemmas.{condition_is}
 use Rattle.lq_session.proofs.DeletionLemmas.{deletion_allowed, deletion_told, denied_uses, no_condition}

@@ -1,8 +1,8 @@
 -- The removal is used first, and then what the condition uses.
 use Rattle.std.proofs.Common.{◌∙◌, ◌∷◌, List, ap}
 use Rattle.std.proofs.lemmas.Result.{IfOk-weaker}
-use Rattle.lq_model.specs.declared.rights.Use.{Use}
-use Rattle.lq_model.specs.declared.rights.Use.TheVariants as used
+use Rattle.lq_language.specs.declared.rights.Use.{Use}
+use Rattle.lq_language.specs.declared.rights.Use.TheVariants as used
 use Rattle.lq_run.specs.Statements.{TellsDenial}
 use Rattle.lq_session.proofs.ConditionLemmas.{tells_same}
 use Rattle.lq_session.proofs.rows.deletion_denied.Goals as goal

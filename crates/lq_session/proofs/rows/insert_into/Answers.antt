@@ -1,7 +1,7 @@
 -- Nothing is denied, and the row is put in.
 use Rattle.std.proofs.Common.{◌∷◌, ◌∙◌, [], Option, subst, sym}
 use Rattle.lq_json.specs.declared.line.Line.{Line}
-use Rattle.lq_model.specs.declared.rights.Use.TheVariants as used
+use Rattle.lq_language.specs.declared.rights.Use.TheVariants as used
 use Rattle.lq_run.specs.Statements.{TellsDenial}
 use Rattle.lq_store.specs.Calls.{insertion_refusal_of}
 use Rattle.lq_session.proofs.InsertLemmas.{allowed_row}

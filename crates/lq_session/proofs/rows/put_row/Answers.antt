@@ -1,7 +1,7 @@
 -- A row that isn't put in leaves the state.
 use Rattle.std.proofs.Common.{◌∙◌, List, ap}
 use Rattle.lq_value.specs.Tables.{Table}
-use Rattle.lq_model.specs.States.{State}
+use Rattle.lq_machine.specs.States.{State}
 use Rattle.lq_session.proofs.InsertLemmas.{stays}
 use Rattle.lq_session.proofs.rows.put_row.Goals as goal
 

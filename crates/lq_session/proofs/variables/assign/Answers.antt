@@ -1,6 +1,6 @@
 -- Where no tree may be assigned the statement is refused.
 use Rattle.std.proofs.Common.{Option, codes, subst}
-use Rattle.lq_model.specs.Statements.{assigned}
+use Rattle.lq_machine.specs.Statements.{assigned}
 use Rattle.lq_tree.specs.declared.tree.Tree.{Tree}
 use Rattle.lq_session.specs.Variables.{FindsAssigned}
 use Rattle.lq_session.proofs.Outcomes.{refuses}

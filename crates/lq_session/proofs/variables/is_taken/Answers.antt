@@ -1,6 +1,6 @@
 -- A name is taken by a table, or else by a definition.
 use Rattle.std.proofs.Common.{◌∙◌}
-use Rattle.lq_model.specs.Definitions.{definition_of}
+use Rattle.lq_machine.specs.Definitions.{definition_of}
 use Rattle.lq_session.proofs.TableLemmas.{number_same}
 use Rattle.lq_session.proofs.VariableLemmas.{taken_by_definition, taken_by_table, there_too}
 use Rattle.lq_session.proofs.variables.is_taken.Goals as goal

@@ -1,8 +1,8 @@
 -- Each variable is of a scalar's type.
 use Rattle.std.proofs.Common.{◌∙◌, [], sym}
-use Rattle.lq_model.specs.Definitions.{definition_of}
-use Rattle.lq_model.specs.States.{schemas_of}
-use Rattle.lq_model.proofs.KeptDefinitions.{variable_scalar}
+use Rattle.lq_machine.specs.Definitions.{definition_of}
+use Rattle.lq_machine.specs.States.{schemas_of}
+use Rattle.lq_machine.proofs.KeptDefinitions.{variable_scalar}
 use Rattle.lq_session.proofs.variables.variable_type.Goals as goal
 
 pub returns-in-Variable-clause-scalar : goal.returns-in-Variable-clause-scalar

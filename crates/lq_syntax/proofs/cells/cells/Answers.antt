@@ -1,6 +1,6 @@
 use Rattle.std.proofs.Common.{rules, arith}
 use Rattle.std.proofs.lemmas.Grind.{common_steps}
-use Rattle.lq_model.specs.Parsing.{cells, more_cells, after}
+use Rattle.lq_grammar.specs.Parsing.{cells, more_cells, after}
 use Rattle.lq_syntax.proofs.Turns.{one_more, no_more}
 use Rattle.lq_syntax.proofs.cells.cells.Goals as goal
 

@@ -1,5 +1,5 @@
 use Rattle.std.proofs.Common.{◌≡◌, ◌-◌}
-use Rattle.lq_model.specs.Parsing.{cells, more_cells}
+use Rattle.lq_grammar.specs.Parsing.{cells, more_cells}
 use Rattle.lq_syntax.proofs.cells.cells.Given as goal
 
 abbrev pub invariant-loop-turn : goal.invariant-loop-turn

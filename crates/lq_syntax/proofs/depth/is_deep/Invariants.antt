@@ -1,5 +1,5 @@
 use Rattle.std.proofs.Common.{◌≡◌, drop}
-use Rattle.lq_model.specs.Depth.{deep_from, outermost}
+use Rattle.lq_grammar.specs.Depth.{deep_from, outermost}
 use Rattle.lq_syntax.specs.Levels.{IsWithin, levels_of}
 use Rattle.lq_syntax.proofs.depth.is_deep.Given as goal
 

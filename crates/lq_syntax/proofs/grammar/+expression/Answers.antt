@@ -1,5 +1,5 @@
 use Rattle.std.proofs.Common.{◌≡◌, ap, arith}
-use Rattle.lq_model.specs.Parsing.{expression}
+use Rattle.lq_grammar.specs.Parsing.{expression}
 use Rattle.lq_syntax.proofs.Turns.{deeper}
 use Rattle.lq_syntax.proofs.grammar.+expression.Goals as goal
 

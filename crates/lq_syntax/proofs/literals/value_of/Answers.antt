@@ -1,6 +1,6 @@
 use Rattle.std.proofs.Common.{◌≤◌, arith}
 use Rattle.std.proofs.lemmas.Bool.Decides.{nat_tests}
-use Rattle.lq_model.specs.Tokens.{decimal_value}
+use Rattle.lq_grammar.specs.Tokens.{decimal_value}
 use Rattle.lq_syntax.proofs.Values.{past_limit}
 use Rattle.lq_syntax.proofs.literals.value_of.Goals as goal
 

@@ -1,6 +1,6 @@
 -- What each function goes down by: the depth of what it copies, and at one depth the part of a tree that it copies.
 use Rattle.std.proofs.Common.{◌≡◌, ◌+◌, ◌*◌, map, max, take}
-use Rattle.lq_model.proofs.syntax.Expr.TheLaws.{the_size}
+use Rattle.lq_grammar.proofs.syntax.Expr.TheLaws.{the_size}
 use Rattle.lq_translate.specs.Maps.{map_argument, map_clause, map_field, map_key, map_next}
 use Rattle.lq_translate.specs.Translated.{translated}
 use Rattle.lq_translate.proofs.expressions.+translating.Given as goal

@@ -1,7 +1,7 @@
 use Rattle.std.proofs.Common.{◌≡◌, ◌+◌, ◌*◌, ◌++◌, drop, flat_map, max}
 use Rattle.lq_value.proofs.ty.Ty.TheLaws.{the_size}
-use Rattle.lq_model.specs.States.{schemas_of}
-use Rattle.lq_model.specs.Uses.{shown_columns}
+use Rattle.lq_machine.specs.States.{schemas_of}
+use Rattle.lq_language.specs.Uses.{shown_columns}
 use Rattle.lq_use.proofs.shown.+showing.Given as goal
 
 abbrev pub decreases-add_columns : goal.decreases-add_columns

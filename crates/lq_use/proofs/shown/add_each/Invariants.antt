@@ -1,5 +1,5 @@
 use Rattle.std.proofs.Common.{◌≡◌, ◌++◌, drop}
-use Rattle.lq_model.specs.Uses.{columns_from}
+use Rattle.lq_language.specs.Uses.{columns_from}
 use Rattle.lq_use.proofs.shown.add_each.Given as goal
 
 -- the columns so far, and those to come

@@ -1,6 +1,6 @@
 use Rattle.std.proofs.Common.{◌∙◌, ◌++◌, Option, ap, sym, slice_get, arith}
-use Rattle.lq_model.specs.States.{schemas_of}
-use Rattle.lq_model.specs.Uses.{all_columns}
+use Rattle.lq_machine.specs.States.{schemas_of}
+use Rattle.lq_language.specs.Uses.{all_columns}
 use Rattle.lq_use.proofs.UseLemmas.{append_none, columns_there, few_columns, no_schema, schema_there}
 use Rattle.lq_use.proofs.shown.add_table.Goals as goal
 

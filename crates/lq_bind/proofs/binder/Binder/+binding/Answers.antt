@@ -1,7 +1,7 @@
 use Rattle.std.proofs.Common.{◌≡◌, IfOk, List, Option, None, Some, ap, sym, subst, ◌∙◌, option_and_then}
-use Rattle.lq_model.specs.States.{schemas_of}
-use Rattle.lq_model.specs.declared.calls.Operator.{Operator}
-use Rattle.lq_model.specs.declared.calls.Term.{Term}
+use Rattle.lq_machine.specs.States.{schemas_of}
+use Rattle.lq_language.specs.declared.calls.Operator.{Operator}
+use Rattle.lq_language.specs.declared.calls.Term.{Term}
 use Rattle.lq_tree.specs.Binding.{body_tree, field_tree, joined_stage, key_tree, operator_stage, part_tree}
 use Rattle.lq_bind.specs.Bound.{places_at, trees_in}
 use Rattle.lq_bind.specs.Frames.{found_stage, stage_in}

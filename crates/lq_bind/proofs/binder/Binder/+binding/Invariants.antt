@@ -1,8 +1,8 @@
 -- What each function of the binding goes down by: the depth of what it binds, and at one depth how far the function stands from `term`; and
 -- what each loop keeps.
 use Rattle.std.proofs.Common.{◌+◌, ◌*◌, max}
-use Rattle.lq_model.proofs.calls.Term.TheLaws.{the_size}
-use Rattle.lq_model.specs.States.{schemas_of}
+use Rattle.lq_language.proofs.calls.Term.TheLaws.{the_size}
+use Rattle.lq_machine.specs.States.{schemas_of}
 use Rattle.lq_translate.specs.Translated.{translated}
 use Rattle.lq_tree.specs.Binding.{field_tree, gather_step, gathered, key_tree, operator_stage, part_tree, walked}
 use Rattle.lq_bind.specs.Bound.{places_at, trees_in}

@@ -3,7 +3,7 @@ use Rattle.std.proofs.Common.{◌≡◌, ◌++◌, ◌∷◌, ◌∙◌, [], Lis
 use Rattle.std.proofs.lemmas.Result.{IfOk-weaker}
 use Rattle.serde_json.specs.Data.{Data, object}
 use Rattle.lq_value.specs.declared.value.End.{End}
-use Rattle.lq_model.specs.Served.{line_of, stream_members}
+use Rattle.lq_machine.specs.Served.{line_of, stream_members}
 use Rattle.lq_json.specs.Items.{Holds, fault_front}
 use Rattle.lq_json.proofs.Tokens.{faulted_line}
 use Rattle.lq_json.proofs.items.ItemsLine.finish.Goals as goal

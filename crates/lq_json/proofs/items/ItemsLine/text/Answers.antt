@@ -3,7 +3,7 @@ use Rattle.std.proofs.Common.{◌++◌, ◌∷◌, ◌∙◌, [], ap}
 use Rattle.json.specs.Token.{end_array, end_object}
 use Rattle.serde_json.specs.Data.{object}
 use Rattle.lq_value.specs.declared.value.End.TheVariants as end
-use Rattle.lq_model.specs.Served.{stream_members}
+use Rattle.lq_machine.specs.Served.{stream_members}
 use Rattle.lq_json.proofs.Tokens.{text_of, whole}
 use Rattle.lq_json.proofs.items.ItemsLine.text.Goals as goal
 

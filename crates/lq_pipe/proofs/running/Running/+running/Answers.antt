@@ -1,6 +1,6 @@
 use Rattle.std.proofs.Common.{◌≡◌, ◌<◌, Err, arith, refl, rules, subst, sym, ◌∙◌}
 use Rattle.lq_operators.specs.Answers.{IsAnswer}
-use Rattle.lq_model.specs.OperandMeaning.{stream_of}
+use Rattle.lq_language.specs.OperandMeaning.{stream_of}
 use Rattle.lq_tree.specs.FormMeaning.{form_meaning}
 use Rattle.lq_operators.specs.Matching.{pairs_of}
 use Rattle.lq_pipe.specs.Arrangements.{column_of, columns_of, key_at}

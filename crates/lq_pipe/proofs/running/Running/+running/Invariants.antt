@@ -1,10 +1,10 @@
 -- What each function of the running goes down by: the size of the form, and at one size how far the function stands from `evaluate`; and
 -- what each loop keeps.
 use Rattle.std.proofs.Common.{◌≡◌, ◌+◌, ◌*◌, ◌++◌, Ok, length, map, max, drop}
-use Rattle.lq_model.specs.Arrangement.{all_of}
-use Rattle.lq_model.specs.Operations.{on_ok}
-use Rattle.lq_model.specs.Enumerable.{all, take_first}
-use Rattle.lq_model.specs.Stream.{each, one, select_by, then_ending}
+use Rattle.lq_language.specs.Arrangement.{all_of}
+use Rattle.lq_language.specs.Operations.{on_ok}
+use Rattle.lq_language.specs.Enumerable.{all, take_first}
+use Rattle.lq_language.specs.Stream.{each, one, select_by, then_ending}
 use Rattle.lq_value.specs.declared.value.End.TheVariants as end
 use Rattle.lq_tree.proofs.tree.Form.TheLaws.{the_size}
 use Rattle.lq_tree.specs.FormMeaning.{members_of}

@@ -1,9 +1,9 @@
 -- The policies are those that the parts have.
 use Rattle.std.proofs.Common.{◌≡◌, ◌∙◌, List, ℕ, IfOk, ap, filter, subst}
 use Rattle.lq_value.specs.declared.scalar.Scalar.{Scalar}
-use Rattle.lq_model.specs.Visible.{admit}
-use Rattle.lq_model.specs.declared.policy.Policy.{Policy}
-use Rattle.lq_model.specs.declared.policy.PolicyParts.{PolicyParts}
+use Rattle.lq_security.specs.Visible.{admit}
+use Rattle.lq_security.specs.declared.policy.Policy.{Policy}
+use Rattle.lq_security.specs.declared.policy.PolicyParts.{PolicyParts}
 use Rattle.lq_policy.specs.Asking.{bears_on}
 use Rattle.lq_policy.specs.Guards.{asked_at}
 use Rattle.lq_policy.specs.RowRules.{admits_by}

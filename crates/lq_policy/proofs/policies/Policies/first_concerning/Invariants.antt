@@ -1,5 +1,5 @@
 use Rattle.std.proofs.Common.{◌≡◌, drop}
-use Rattle.lq_model.specs.Rights.{first_concerning}
+use Rattle.lq_security.specs.Rights.{first_concerning}
 use Rattle.lq_policy.specs.Roles.{number_of}
 use Rattle.lq_policy.proofs.policies.Policies.first_concerning.Given as goal
 

@@ -1,5 +1,5 @@
 use Rattle.std.proofs.Common.{◌≡◌, drop, filter}
-use Rattle.lq_model.specs.Visible.{first_refusing}
+use Rattle.lq_security.specs.Visible.{first_refusing}
 use Rattle.lq_policy.specs.Asking.{asked_of, bears_on}
 use Rattle.lq_policy.proofs.policies.Policies.first_refusing.Given as goal
 

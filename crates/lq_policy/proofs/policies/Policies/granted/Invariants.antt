@@ -1,6 +1,6 @@
 use Rattle.std.proofs.Common.{◌≡◌, ◌||◌, drop}
 use Rattle.std.specs.List.{list_any}
-use Rattle.lq_model.specs.declared.rights.Use.{Use}
+use Rattle.lq_language.specs.declared.rights.Use.{Use}
 use Rattle.lq_policy.specs.RoleRights.{grants_by, is_among}
 use Rattle.lq_policy.specs.Roles.{number_of}
 use Rattle.lq_policy.proofs.policies.Policies.granted.Given as goal

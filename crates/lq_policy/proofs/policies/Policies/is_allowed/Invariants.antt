@@ -1,6 +1,6 @@
 use Rattle.std.proofs.Common.{◌≡◌, drop, filter}
 use Rattle.std.specs.List.{list_all}
-use Rattle.lq_model.specs.Visible.{allows}
+use Rattle.lq_security.specs.Visible.{allows}
 use Rattle.lq_policy.specs.Asking.{asked_of, bears_on}
 use Rattle.lq_policy.proofs.policies.Policies.is_allowed.Given as goal
 

@@ -1,5 +1,5 @@
 use Rattle.std.proofs.Common.{◌≡◌, length}
-use Rattle.lq_model.specs.Visible.{is_listed}
+use Rattle.lq_security.specs.Visible.{is_listed}
 use Rattle.lq_policy.specs.Roles.{number_of}
 use Rattle.lq_policy.proofs.policies.Policies.is_listed.Given as goal
 

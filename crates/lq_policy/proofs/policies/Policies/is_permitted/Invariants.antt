@@ -1,6 +1,6 @@
 use Rattle.std.proofs.Common.{◌≡◌, drop, filter}
 use Rattle.std.specs.List.{list_any}
-use Rattle.lq_model.specs.Visible.{permits}
+use Rattle.lq_security.specs.Visible.{permits}
 use Rattle.lq_policy.specs.Asking.{asked_of, bears_on}
 use Rattle.lq_policy.proofs.policies.Policies.is_permitted.Given as goal
 

@@ -1,9 +1,9 @@
 use Rattle.std.proofs.Common.{◌≡◌, Bool, List, ap, ◌∙◌}
 use Rattle.std.specs.List.{list_any}
-use Rattle.lq_model.specs.declared.policy.PolicyParts.{PolicyParts}
-use Rattle.lq_model.specs.declared.rights.RightRule.{RightRule}
-use Rattle.lq_model.specs.declared.rights.Use.{Use}
-use Rattle.lq_model.specs.Rights.{bears}
+use Rattle.lq_security.specs.declared.policy.PolicyParts.{PolicyParts}
+use Rattle.lq_language.specs.declared.rights.RightRule.{RightRule}
+use Rattle.lq_language.specs.declared.rights.Use.{Use}
+use Rattle.lq_security.specs.Rights.{bears}
 use Rattle.lq_policy.proofs.RightLemmas.{allowed_alike}
 use Rattle.lq_policy.specs.RoleRights.{grants_by, is_among}
 use Rattle.lq_policy.specs.Roles.{number_of}

@@ -1,7 +1,7 @@
 -- The rule of the policy with the number, as the invariant of policies keeps it.
 use Rattle.std.proofs.Common.{◌∙◌, List, Option, ap, slice_get, subst, sym}
 use Rattle.std.specs.Option.{option_copied}
-use Rattle.lq_model.specs.declared.policy.PolicyParts.{PolicyParts}
+use Rattle.lq_security.specs.declared.policy.PolicyParts.{PolicyParts}
 use Rattle.lq_rule.specs.declared.rule.PreparedRule.{PreparedRule}
 use Rattle.lq_policy.specs.Guards.{IsRuleOf, rule_in}
 use Rattle.lq_policy.specs.declared.guard.Guard.{Guard}

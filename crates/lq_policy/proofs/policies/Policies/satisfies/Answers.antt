@@ -1,8 +1,8 @@
 -- The policy is about the table at hand, and its prepared rule decides as its own.
 use Rattle.std.proofs.Common.{◌∙◌, List, ℕ, Option, ap, subst}
 use Rattle.std.specs.Option.{option_copied}
-use Rattle.lq_model.specs.Visible.{holds_on, rule_for}
-use Rattle.lq_model.specs.declared.policy.Policy.{Policy}
+use Rattle.lq_security.specs.Visible.{holds_on, rule_for}
+use Rattle.lq_security.specs.declared.policy.Policy.{Policy}
 use Rattle.lq_policy.specs.Guards.{IsRuleOf}
 use Rattle.lq_policy.proofs.GuardLemmas.{same_columns}
 use Rattle.lq_policy.proofs.policies.Policies.satisfies.Goals as goal

@@ -1,5 +1,5 @@
 use Rattle.std.proofs.Common.{◌≡◌, ◌&&◌, ◌<◌, ℕ, false, slice_get}
-use Rattle.lq_model.specs.Visible.{is_named}
+use Rattle.lq_security.specs.Visible.{is_named}
 use Rattle.lq_policy.specs.Memberships.{is_marked}
 use Rattle.lq_policy.proofs.role_set.RoleSet.has_named.Given as goal
 

@@ -1,5 +1,5 @@
 use Rattle.std.proofs.Common.{◌∙◌, ap, sym}
-use Rattle.lq_model.specs.States.{world_in}
+use Rattle.lq_machine.specs.States.{world_in}
 use Rattle.lq_run.proofs.RemovalLemmas.{last_chosen}
 use Rattle.lq_run.proofs.removals.Choice.choose_all.Goals as goal
 

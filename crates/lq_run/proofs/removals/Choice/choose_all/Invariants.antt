@@ -1,5 +1,5 @@
 use Rattle.std.proofs.Common.{◌≡◌, [], length}
-use Rattle.lq_model.specs.States.{world_in}
+use Rattle.lq_machine.specs.States.{world_in}
 use Rattle.lq_run.specs.Removals.{numbers_then, rows_chosen}
 use Rattle.lq_run.proofs.removals.Choice.choose_all.Given as goal
 

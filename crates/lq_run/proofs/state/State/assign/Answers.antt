@@ -1,7 +1,7 @@
 -- The variable is found by its name, and renewed in its place.
 use Rattle.std.proofs.Common.{◌∙◌, ◌<◌, ap, arith, length, set, subst, sym}
 use Rattle.lq_value.specs.Tables.{first_named}
-use Rattle.lq_model.specs.States.{State}
+use Rattle.lq_machine.specs.States.{State}
 use Rattle.lq_run.specs.States.{Assigns, IsValueFor}
 use Rattle.lq_run.proofs.DefinitionLemmas.{assigned_defined, assigns, nowhere, place_within}
 use Rattle.lq_run.proofs.state.State.assign.Goals as goal

@@ -1,7 +1,7 @@
 use Rattle.std.proofs.Common.{subst, sym}
-use Rattle.lq_model.specs.DefinitionLaws.{IsDefined, IsNew}
-use Rattle.lq_model.specs.Definitions.{known_names}
-use Rattle.lq_model.specs.States.{State, schemas_of}
+use Rattle.lq_machine.specs.DefinitionLaws.{IsDefined, IsNew}
+use Rattle.lq_machine.specs.Definitions.{known_names}
+use Rattle.lq_machine.specs.States.{State, schemas_of}
 use Rattle.lq_run.proofs.DefinitionLemmas.{also_defined}
 use Rattle.lq_run.proofs.state.State.define.Goals as goal
 

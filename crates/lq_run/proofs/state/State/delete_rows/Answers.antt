@@ -1,5 +1,5 @@
 use Rattle.std.proofs.Common.{◌<◌, length, subst, sym}
-use Rattle.lq_model.specs.States.{State}
+use Rattle.lq_machine.specs.States.{State}
 use Rattle.lq_run.proofs.DefinitionLemmas.{removed_defined}
 use Rattle.lq_run.proofs.state.State.delete_rows.Goals as goal
 

@@ -1,7 +1,7 @@
 -- What each function of the evaluation goes down by: the depth of what it evaluates, and at one depth the node, its form, the arguments of a
 -- method, an operand.
 use Rattle.std.proofs.Common.{◌+◌, ◌*◌, max}
-use Rattle.lq_model.proofs.syntax.Expr.TheLaws.{the_size}
+use Rattle.lq_grammar.proofs.syntax.Expr.TheLaws.{the_size}
 use Rattle.lq_scalar.proofs.evaluation.Evaluation.+operands.Given as goal
 
 abbrev pub decreases-operand : goal.decreases-operand

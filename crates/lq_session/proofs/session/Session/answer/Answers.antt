@@ -1,6 +1,6 @@
 -- The reply to what was read is the reply to the line.
 use Rattle.std.proofs.Common.{◌≡◌, rules}
-use Rattle.lq_model.specs.Reading.{IsNoSyntax, IsTooDeep, Nothing, Says, reading_of}
+use Rattle.lq_grammar.specs.Reading.{IsNoSyntax, IsTooDeep, Nothing, Says, reading_of}
 use Rattle.lq_session.specs.States.{state_of}
 use Rattle.lq_session.proofs.StepLemmas.{says_no_syntax, says_nothing, says_statement, says_too_deep}
 use Rattle.lq_session.proofs.session.Session.answer.Goals as goal

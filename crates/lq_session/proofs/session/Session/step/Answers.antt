@@ -1,7 +1,7 @@
 -- A step is answered by its reply; where memory was refused the session is as it was.
 use Rattle.std.proofs.Common.{◌≡◌, [], Some, ap, refl, rules}
-use Rattle.lq_model.specs.Output.{no_memory}
-use Rattle.lq_model.specs.Tokens.{tokens_of}
+use Rattle.lq_machine.specs.Output.{no_memory}
+use Rattle.lq_grammar.specs.Tokens.{tokens_of}
 use Rattle.lq_session.specs.States.{state_of}
 use Rattle.lq_session.proofs.StepLemmas.{answers_stepped, some_reply}
 use Rattle.lq_session.proofs.session.Session.step.Goals as goal

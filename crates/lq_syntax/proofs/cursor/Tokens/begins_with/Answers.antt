@@ -1,5 +1,5 @@
 use Rattle.std.proofs.Common.{sym, ◌∙◌}
-use Rattle.lq_model.specs.Parsing.{same_kind}
+use Rattle.lq_grammar.specs.Parsing.{same_kind}
 use Rattle.lq_syntax.proofs.Fronts.{begins_some}
 use Rattle.lq_syntax.proofs.cursor.Tokens.begins_with.Goals as goal
 

@@ -1,5 +1,5 @@
 use Rattle.std.proofs.Common.{refl, sym, ◌∙◌}
-use Rattle.lq_model.specs.Parsing.{same_kind}
+use Rattle.lq_grammar.specs.Parsing.{same_kind}
 use Rattle.lq_syntax.proofs.Fronts.{two_other, two_found}
 use Rattle.lq_syntax.proofs.cursor.Tokens.begins_with_two.Goals as goal
 

@@ -1,5 +1,5 @@
 use Rattle.std.proofs.Common.{sym, ◌∙◌}
-use Rattle.lq_model.specs.Parsing.{same_kind}
+use Rattle.lq_grammar.specs.Parsing.{same_kind}
 use Rattle.lq_syntax.proofs.Fronts.{expect_other, expect_found}
 use Rattle.lq_syntax.proofs.cursor.Tokens.expect.Goals as goal
 

@@ -1,8 +1,8 @@
 use Rattle.std.proofs.Common.{◌≡◌, ◌-◌, ◌+◌, ◌∙◌, suc, ap, length, rules, arith}
 use Rattle.std.specs.Prelude.{Some, None}
 use Rattle.std.proofs.lemmas.Grind.{common_steps}
-use Rattle.lq_model.specs.Grammar.{operation_of, operator}
-use Rattle.lq_model.specs.Parsing.{expression, chain, operations, peek, behind}
+use Rattle.lq_grammar.specs.Grammar.{operation_of, operator}
+use Rattle.lq_grammar.specs.Parsing.{expression, chain, operations, peek, behind}
 use Rattle.lq_syntax.proofs.Readers.{chain_reads, chain_refuses, no_operation, no_operand, an_operation}
 use Rattle.lq_syntax.proofs.Turns.{one_more, no_more, deeper}
 use Rattle.lq_syntax.proofs.grammar.Grammar.+chain.Goals as goal

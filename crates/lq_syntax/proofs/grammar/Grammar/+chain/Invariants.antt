@@ -1,5 +1,5 @@
 use Rattle.std.proofs.Common.{◌≡◌, ◌-◌}
-use Rattle.lq_model.specs.Parsing.{expression, chain, operations}
+use Rattle.lq_grammar.specs.Parsing.{expression, chain, operations}
 use Rattle.lq_syntax.proofs.grammar.Grammar.+chain.Given as goal
 
 abbrev pub invariant-loop-turn : goal.invariant-loop-turn

@@ -1,7 +1,7 @@
 use Rattle.std.proofs.Common.{◌≡◌, ◌-◌, ◌+◌, false, true, length, rules, arith}
 use Rattle.std.specs.Prelude.{is_some}
 use Rattle.std.proofs.lemmas.Grind.{common_steps}
-use Rattle.lq_model.specs.Parsing.{expression, clauses, clause_by, peek}
+use Rattle.lq_grammar.specs.Parsing.{expression, clauses, clause_by, peek}
 use Rattle.lq_syntax.proofs.Readers.{no_clause, a_clause}
 use Rattle.lq_syntax.proofs.Turns.{one_more, no_more}
 use Rattle.lq_syntax.proofs.grammar.Grammar.clauses.Goals as goal

@@ -1,5 +1,5 @@
 use Rattle.std.proofs.Common.{◌≡◌, length, [], ◌-◌}
-use Rattle.lq_model.specs.Parsing.{expression, clauses}
+use Rattle.lq_grammar.specs.Parsing.{expression, clauses}
 use Rattle.lq_syntax.proofs.grammar.Grammar.clauses.Given as goal
 
 abbrev pub invariant-loop-turn : goal.invariant-loop-turn

@@ -1,8 +1,8 @@
 use Rattle.std.proofs.Common.{◌≡◌, ◌-◌, ◌+◌, ◌++◌, ◌∷◌, ◌∙◌, [], true, rules, arith}
 use Rattle.std.proofs.lemmas.Grind.{common_steps}
 use Rattle.std.specs.Prelude.{Some}
-use Rattle.lq_model.specs.Parsing.{expression, continuations, after, begins_with, body, expect, name}
-use Rattle.lq_model.specs.declared.token.Kind.TheVariants as k
+use Rattle.lq_grammar.specs.Parsing.{expression, continuations, after, begins_with, body, expect, name}
+use Rattle.lq_grammar.specs.declared.token.Kind.TheVariants as k
 use Rattle.lq_syntax.specs.Outcome.{next_token}
 use Rattle.lq_syntax.proofs.Readers.{a_continuation, continuation_of}
 use Rattle.lq_syntax.proofs.Turns.{one_more, no_more}

@@ -1,8 +1,8 @@
 use Rattle.std.proofs.Common.{◌≡◌, ◌-◌, ◌+◌, ◌++◌, ◌∷◌, ◌∙◌, [], false, rules, arith}
 use Rattle.std.proofs.lemmas.Grind.{common_steps}
 use Rattle.std.specs.Prelude.{Some}
-use Rattle.lq_model.specs.Parsing.{expression, fields, more_fields, after, begins_with, expect, field}
-use Rattle.lq_model.specs.declared.token.Kind.TheVariants as k
+use Rattle.lq_grammar.specs.Parsing.{expression, fields, more_fields, after, begins_with, expect, field}
+use Rattle.lq_grammar.specs.declared.token.Kind.TheVariants as k
 use Rattle.lq_syntax.proofs.Readers.{a_field}
 use Rattle.lq_syntax.proofs.Turns.{one_more, no_more}
 use Rattle.lq_syntax.proofs.grammar.Grammar.fields.Goals as goal

@@ -1,5 +1,5 @@
 use Rattle.std.proofs.Common.{sym, ◌∙◌}
-use Rattle.lq_model.specs.Parsing.{expression, same_kind}
+use Rattle.lq_grammar.specs.Parsing.{expression, same_kind}
 use Rattle.lq_syntax.proofs.Readers.{least_some, least_other}
 use Rattle.lq_syntax.proofs.grammar.Grammar.is_least.Goals as goal
 

@@ -1,6 +1,6 @@
 use Rattle.std.proofs.Common.{rules, arith}
 use Rattle.std.proofs.lemmas.Grind.{common_steps}
-use Rattle.lq_model.specs.Parsing.{expression, keys, more_keys, after}
+use Rattle.lq_grammar.specs.Parsing.{expression, keys, more_keys, after}
 use Rattle.lq_syntax.proofs.Turns.{one_more, no_more}
 use Rattle.lq_syntax.proofs.grammar.Grammar.keys.Goals as goal
 

@@ -1,8 +1,8 @@
 use Rattle.std.proofs.Common.{◌≡◌, ◌-◌, length, rules, arith}
 use Rattle.std.specs.Prelude.{Some, slice_get}
 use Rattle.std.proofs.lemmas.Grind.{common_steps}
-use Rattle.lq_model.specs.Parsing.{expression}
-use Rattle.lq_model.specs.declared.syntax.Level.TheVariants as level
+use Rattle.lq_grammar.specs.Parsing.{expression}
+use Rattle.lq_grammar.specs.declared.syntax.Level.TheVariants as level
 use Rattle.lq_syntax.specs.Parts.{named_by}
 use Rattle.lq_syntax.proofs.Readers.{unnamed, named}
 use Rattle.lq_syntax.proofs.grammar.Grammar.named_last.Goals as goal

@@ -1,11 +1,11 @@
 use Rattle.std.proofs.Common.{◌≡◌, ◌-◌, ◌+◌, ◌∙◌, true, false, rules, arith}
 use Rattle.std.proofs.lemmas.Grind.{common_steps}
 use Rattle.std.specs.Prelude.{Some}
-use Rattle.lq_model.specs.Grammar.{member_of}
-use Rattle.lq_model.specs.Parsing.{expression, primary, selections, after, arguments, begins_with, expect, name}
-use Rattle.lq_model.specs.declared.syntax.Expr.TheVariants as expr
-use Rattle.lq_model.specs.declared.syntax.Node.TheVariants as node
-use Rattle.lq_model.specs.declared.token.Kind.TheVariants as k
+use Rattle.lq_grammar.specs.Grammar.{member_of}
+use Rattle.lq_grammar.specs.Parsing.{expression, primary, selections, after, arguments, begins_with, expect, name}
+use Rattle.lq_grammar.specs.declared.syntax.Expr.TheVariants as expr
+use Rattle.lq_grammar.specs.declared.syntax.Node.TheVariants as node
+use Rattle.lq_grammar.specs.declared.token.Kind.TheVariants as k
 use Rattle.lq_syntax.specs.Outcome.{next_token}
 use Rattle.lq_syntax.proofs.Readers.{a_member, a_method}
 use Rattle.lq_syntax.proofs.grammar.Grammar.primary.Goals.{then-eat+in_ok-arguments, else-eat}

@@ -1,0 +1,11 @@
+pub mod Depth
+pub mod Grammar
+pub mod GrammarLaws
+pub mod Lexemes
+pub mod LexingLaws
+pub mod Parsing
+pub mod Reading
+pub mod Script
+pub mod TextLiterals
+pub mod Tokens
+pub mod Words

@@ -1,0 +1,5 @@
+use Rattle.lq_language.proofs.SequenceLemmas.{never_faults}
+use Rattle.lq_language.proofs.meaning_laws.sequences_never_fault.Goals as goal
+
+pub returns : goal.returns
+returns c start = never_faults

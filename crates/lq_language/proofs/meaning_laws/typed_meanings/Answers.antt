@@ -1,0 +1,8 @@
+use Rattle.lq_language.proofs.TypedMeanings.{has_whole_meaning, has_whole_stream}
+use Rattle.lq_language.proofs.meaning_laws.typed_meanings.Goals as goal
+
+pub returns-clause-expression : goal.returns-clause-expression
+returns-clause-expression c start = has_whole_meaning
+
+pub returns-clause-query : goal.returns-clause-query
+returns-clause-query c start = has_whole_stream

@@ -1,0 +1,5 @@
+use Rattle.lq_language.proofs.OperationLemmas.{is_decided}
+use Rattle.lq_language.proofs.operation_laws.decided_operations.Goals as goal
+
+pub returns : goal.returns
+returns c = is_decided

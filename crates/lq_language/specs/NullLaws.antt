@@ -1,0 +1,45 @@
+-- Laws of null and of what `==` compares (ECMA-334, nullable value types and equality operators; .NET, Nullable<int> and String).
+use Rattle.std.specs.Prelude.{◌≡◌, ◌≢◌, ◌↔◌, ◌∷◌, [], ℤ, true, false, Ok, Err}
+use Rattle.lq_value.specs.declared.scalar.Scalar.{Scalar}
+use Rattle.lq_value.specs.declared.scalar.Scalar.TheVariants as scalar
+use Rattle.lq_value.specs.declared.value.Fault.{Fault}
+use Rattle.lq_value.specs.declared.value.Fault.TheVariants as fault
+use Rattle.lq_language.specs.OperationLaws.{AreOfOneKind, IsNumber, IsText}
+use Rattle.lq_language.specs.Operations.{applied, operation_of}
+use Rattle.lq_language.specs.OperandTypes.{is_ordering}
+use Rattle.lq_language.specs.declared.operation.Op.TheVariants as op
+use Rattle.lq_grammar.specs.declared.syntax.Binary.{Binary}
+
+-- an int? has a value exactly where it isn't null
+abbrev pub HasValueUnlessNull : Type 0
+HasValueUnlessNull =
+    (unknown : Fault) (s : Scalar) → IsNumber s
+    → ((applied unknown op.HasValue (s ∷ []) ≡ Ok (scalar.Bool true)) ↔ (s ≢ scalar.Null))
+    × ((applied unknown op.HasValue (s ∷ []) ≡ Ok (scalar.Bool false)) ↔ (s ≡ scalar.Null))
+
+-- this is its value; and null has none, and no length, and is searched for nothing
+abbrev pub NullHasNothing : Type 0
+NullHasNothing =
+    (unknown : Fault) (n : ℤ) (s : Scalar) → IsText s
+    → (applied unknown op.Value (scalar.Int n ∷ []) ≡ Ok (scalar.Int n))
+    × (applied unknown op.Value (scalar.Null ∷ []) ≡ Err fault.InvalidOperation)
+    × (applied unknown op.Length (scalar.Null ∷ []) ≡ Err fault.NullReference)
+    × (applied unknown op.StartsWith (scalar.Null ∷ s ∷ []) ≡ Err fault.NullReference)
+    × (applied unknown op.EndsWith (scalar.Null ∷ s ∷ []) ≡ Err fault.NullReference)
+    × (applied unknown op.Contains (scalar.Null ∷ s ∷ []) ≡ Err fault.NullReference)
+
+-- two scalars of one kind are the same exactly where both are null, or both hold one content
+abbrev pub SameByContent : Type 0
+SameByContent =
+    (unknown : Fault) (a b : Scalar) → AreOfOneKind a b
+    → ((applied unknown op.Equal (a ∷ b ∷ []) ≡ Ok (scalar.Bool true)) ↔ (a ≡ b))
+    × ((applied unknown op.Equal (a ∷ b ∷ []) ≡ Ok (scalar.Bool false)) ↔ (a ≢ b))
+    × ((applied unknown op.NotEqual (a ∷ b ∷ []) ≡ Ok (scalar.Bool true)) ↔ (a ≢ b))
+    × ((applied unknown op.NotEqual (a ∷ b ∷ []) ≡ Ok (scalar.Bool false)) ↔ (a ≡ b))
+
+-- no number stands before null or behind it, or is level with it by `<=` and `>=`; nor is null itself
+abbrev pub NullHasNoOrder : Type 0
+NullHasNoOrder =
+    (unknown : Fault) (sign : Binary) → is_ordering sign ≡ true → (s : Scalar) → IsNumber s
+    → (applied unknown (operation_of sign) (scalar.Null ∷ s ∷ []) ≡ Ok (scalar.Bool false))
+    × (applied unknown (operation_of sign) (s ∷ scalar.Null ∷ []) ≡ Ok (scalar.Bool false))

@@ -1,0 +1,117 @@
+-- What operands mean: scalars, rows and truth values, and the stream of what is enumerated (ECMA-334, expressions).
+use Rattle.std.specs.Prelude.{◌||◌, if◌then◌else◌, not, List, [], map, ℕ, Bool, true, false, Option, Some, None, Result, Ok, Err, slice_get, option_and_then, is_some}
+use Rattle.lq_value.specs.declared.scalar.Scalar.{Scalar}
+use Rattle.lq_value.specs.declared.scalar.Scalar.TheVariants as scalar
+use Rattle.lq_value.specs.declared.ty.Ty.{Ty, out-Ty}
+use Rattle.lq_value.specs.declared.value.End.TheVariants as end
+use Rattle.lq_value.specs.declared.value.Fault.{Fault}
+use Rattle.lq_value.specs.declared.value.Fault.TheVariants as fault
+use Rattle.lq_value.specs.declared.value.Value.{Value, out-Value}
+use Rattle.lq_value.specs.declared.value.Value.TheOpen.{Value-F}
+use Rattle.lq_value.specs.declared.value.Value.TheVariants as value
+use Rattle.lq_language.specs.Members.{member_named}
+use Rattle.lq_language.specs.Operations.{of_member, on_ok, operation_of, same_content, truth_of}
+use Rattle.lq_language.specs.Stream.{Stream}
+use Rattle.lq_language.specs.Names.{table_number}
+use Rattle.lq_language.specs.OperandTypes.{is_text_type, row_table}
+use Rattle.lq_language.specs.declared.operation.Op.{Op}
+use Rattle.lq_language.specs.declared.operation.Op.TheVariants as op
+use Rattle.lq_grammar.specs.declared.syntax.Binary.{Binary}
+use Rattle.lq_grammar.specs.declared.syntax.Binary.TheVariants as binary
+use Rattle.lq_language.specs.Worlds.{Binding, World}
+
+-- a scalar, or the fault in its place, as a value
+abbrev pub as_value : {R : Type 0} → Result Scalar Fault → Result (Value R) Fault
+as_value found = on_ok found (λ s. Ok (value.Scalar s))
+
+abbrev pub truth_value : {R : Type 0} → Bool → Value R
+truth_value b = value.Scalar (scalar.Bool b)
+
+-- whether the type is that of a row
+abbrev pub is_row_type : Option Ty → Bool
+is_row_type None = false
+is_row_type (Some t) = is_some (row_table (out-Ty t))
+
+-- What a sign does between two scalars. `+` joins texts: where an operand is one, and of two nulls where one has the type of texts.
+abbrev pub operation_on : Binary → Option Ty → Option Ty → Scalar → Scalar → Op
+operation_on binary.Add s t (scalar.Text x) b = op.Concat
+operation_on binary.Add s t a (scalar.Text y) = op.Concat
+operation_on binary.Add s t scalar.Null scalar.Null = if is_text_type s || is_text_type t then op.Concat else op.Add
+operation_on sign s t a b = operation_of sign
+
+-- what `==` or `!=` tells of operands that are the same, or aren't
+abbrev pub told : Binary → Bool → Bool
+told binary.NotEqual same = not same
+told sign same = same
+
+abbrev pub is_null : Scalar → Bool
+is_null scalar.Null = true
+is_null s = false
+
+module _ {R : Type 0} (world : World R) where
+  -- a table stands for the sequence of its rows
+  abbrev pub table_value : Option (List R) → Result (Value R) Fault
+  table_value (Some rows) = Ok (value.Seq (map value.Row rows) end.Done)
+  table_value None = Err world.unknown
+
+  -- a local name's value, else a table's rows
+  abbrev pub name_value : List ℕ → Option (Binding R) → Result (Value R) Fault
+  name_value name (Some b) = Ok b.value
+  name_value name None = table_value (option_and_then (λ number. slice_get world.rows number) (table_number name world.schemas))
+
+  abbrev pub cell_value : Option Scalar → Result (Value R) Fault
+  cell_value (Some s) = Ok (value.Scalar s)
+  cell_value None = Err world.unknown
+
+  -- a member of a null, by the type of what is null: a row has none
+  abbrev pub null_member : Option Ty → List ℕ → Result Scalar Fault
+  null_member t m = if is_row_type t then Err fault.NullReference else of_member world.unknown (member_named m) scalar.Null
+
+  -- a column of a row, or a member of a scalar, which stands where an expression of this type does
+  abbrev pub member_value : Option Ty → List ℕ → Value-F R (Value R) → Result (Value R) Fault
+  member_value t m (Value-F.Row r) = cell_value (world.cell r m)
+  member_value t m (Value-F.Scalar scalar.Null) = as_value (null_member t m)
+  member_value t m (Value-F.Scalar s) = as_value (of_member world.unknown (member_named m) s)
+  member_value t m layer = Err world.unknown
+
+  -- an operand that `==` compares: a scalar, or a row, which isn't null
+  abbrev pub comparand : Value-F R (Value R) → Result (Value-F R (Value R)) Fault
+  comparand (Value-F.Scalar s) = Ok (Value-F.Scalar s)
+  comparand (Value-F.Row r) = Ok (Value-F.Row r)
+  comparand layer = Err world.unknown
+
+  abbrev pub on_comparand : {B : Type 0} → Result (Value R) Fault → (Value-F R (Value R) → Result B Fault) → Result B Fault
+  on_comparand operand next = on_ok (on_ok operand (λ v. comparand (out-Value R v))) next
+
+  -- whether two operands are the same: scalars by their contents
+  abbrev pub same_values : Value-F R (Value R) → Value-F R (Value R) → Result Bool Fault
+  same_values (Value-F.Scalar s) (Value-F.Scalar t) = same_content world.unknown s t
+  same_values (Value-F.Scalar scalar.Null) (Value-F.Row r) = Ok false
+  same_values (Value-F.Row r) (Value-F.Scalar scalar.Null) = Ok false
+  same_values v w = Err world.unknown
+
+  -- an operand that is a scalar
+  abbrev pub scalar_of : Value-F R (Value R) → Result Scalar Fault
+  scalar_of (Value-F.Scalar s) = Ok s
+  scalar_of layer = Err world.unknown
+
+  abbrev pub on_scalar : {B : Type 0} → Result (Value R) Fault → (Scalar → Result B Fault) → Result B Fault
+  on_scalar operand next = on_ok (on_ok operand (λ v. scalar_of (out-Value R v))) next
+
+  -- an operand that is a truth value
+  abbrev pub on_truth : {B : Type 0} → Result (Value R) Fault → (Bool → Result B Fault) → Result B Fault
+  on_truth operand next = on_ok (on_scalar operand (truth_of world.unknown)) next
+
+  -- the stream that a value is enumerated as; a fault met in making it is its ending
+  abbrev pub items_of : Value-F R (Value R) → Stream (Value R)
+  items_of (Value-F.Seq xs e) = (xs, e)
+  items_of (Value-F.Group key xs) = (xs, end.Done)
+  items_of layer = ([], end.Fault world.unknown)
+
+  abbrev pub stream_of : Result (Value R) Fault → Stream (Value R)
+  stream_of (Ok v) = items_of (out-Value R v)
+  stream_of (Err f) = ([], end.Fault f)
+
+-- a query is the sequence of its stream
+abbrev pub sequence : {R : Type 0} → Stream (Value R) → Value R
+sequence items = value.Seq items.0 items.1

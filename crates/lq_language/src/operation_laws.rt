@@ -1,0 +1,37 @@
+//! Laws of operators and members. Each function's contract is the law that it is named for; the
+//! functions themselves do nothing.
+ghost use Rattle.lq_language.specs.NullLaws.{HasValueUnlessNull, NullHasNoOrder, NullHasNothing, SameByContent};
+ghost use Rattle.lq_language.specs.OperationLaws.{Divides, FindsParts, FindsPrefixes, FindsSuffixes, IsDecided};
+
+/// On operands of the number and the kinds that it takes, an operator or member has a meaning of
+/// its own, the same whatever stands where there is none.
+pub fn decided_operations()
+    ensures { IsDecided }
+{}
+
+/// A quotient times the divisor and the remainder make up the dividend; the remainder is nearer to
+/// 0 than the divisor, and has the dividend's sign or is 0.
+pub fn division_truncates()
+    ensures { Divides }
+{}
+
+/// A text begins with another, ends with it, or has it in itself, exactly where its bytes are the
+/// other's and more behind them, before them, or on both sides.
+pub fn texts_are_searched()
+    ensures prefixes { FindsPrefixes }
+    ensures suffixes { FindsSuffixes }
+    ensures parts { FindsParts }
+{}
+
+/// An `int?` has a value exactly where it isn't null. Null has no value and no length, and no text is
+/// looked for in it; and `<`, `>`, `<=` and `>=` are false of it.
+pub fn null_is_no_value()
+    ensures values { HasValueUnlessNull }
+    ensures members { NullHasNothing }
+    ensures order { NullHasNoOrder }
+{}
+
+/// Two scalars of one kind are the same exactly where both are null, or both hold one content.
+pub fn contents_are_compared()
+    ensures { SameByContent }
+{}

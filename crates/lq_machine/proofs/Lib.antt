@@ -1,0 +1,12 @@
+pub mod DefinitionLemmas
+pub mod KeptDefinitions
+pub mod MachineMeanings
+pub mod NestedFaultLemmas
+pub mod OpeningLemmas
+pub mod OutputLemmas
+pub mod SeenTables
+pub mod ServedLemmas
+pub mod SessionLemmas
+pub mod SessionTypes
+pub mod StatementLemmas
+pub mod StatementsAlike

@@ -1,0 +1,5 @@
+use Rattle.lq_machine.proofs.KeptDefinitions.{keeps_defined}
+use Rattle.lq_machine.proofs.session_laws.definitions_are_kept.Goals as goal
+
+pub returns : goal.returns
+returns c = keeps_defined

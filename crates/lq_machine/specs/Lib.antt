@@ -1,0 +1,14 @@
+pub mod DefinitionLaws
+pub mod Definitions
+pub mod HostCalls
+pub mod Machine
+pub mod NestedFaults
+pub mod Opening
+pub mod OpeningLaws
+pub mod Output
+pub mod Served
+pub mod Serving
+pub mod SessionLaws
+pub mod SessionTypes
+pub mod Statements
+pub mod States

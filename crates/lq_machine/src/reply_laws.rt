@@ -1,0 +1,12 @@
+//! Laws of replies. Each function's contract is the law that it is named for; the functions
+//! themselves do nothing.
+ghost use Rattle.lq_machine.specs.NestedFaults.{NamesFirstFault, ServesFaultless};
+
+/// The fault that a reply names in place of a value is the first one inside of it, depth first: a
+/// record's members as written, a group's key before its elements, and in a sequence its items before
+/// the fault that ends it. A value is served as it is exactly where no sequence in it ends with a
+/// fault.
+pub fn nested_faults<R>()
+    ensures named { NamesFirstFault R }
+    ensures served { ServesFaultless R }
+{}

@@ -1,0 +1,55 @@
+//! Laws of the session machine and of its output. Each function's contract is the law that it is
+//! named for; the functions themselves do nothing.
+ghost use Rattle.lq_machine.specs.DefinitionLaws.{KeepsDefined};
+ghost use Rattle.lq_machine.specs.OpeningLaws.{FindsRank, FindsSize, OpensNothing};
+ghost use Rattle.lq_machine.specs.SessionLaws.{AnswersAlike, AsksNoHost, LookAlikeBehind, NumberAlikeBehind, ScriptsAlike, IsOutput, LeavesTheRest, IsSilentAlike, MemoryLineIsServed};
+
+/// Hidden rows change no answer: two states whose role sees the same tables, under the same policies,
+/// schemas, variables and named queries, give every line the same reply, and a script under that role the
+/// same replies, the memory line aside. An `insert` alone may tell them apart, as full, where they number
+/// the rows to come otherwise. Behind a line that takes another role they may look otherwise to that one.
+pub fn hidden_rows()
+    ensures line { AnswersAlike }
+    ensures behind { LookAlikeBehind }
+    ensures numbers { NumberAlikeBehind }
+    ensures script { ScriptsAlike }
+{}
+
+/// Where no reply is the memory line, the replies to a script and the state behind it are those of
+/// the session machine.
+pub fn output_law()
+    ensures { IsOutput }
+{}
+
+/// The memory line changes nothing: the other replies, and the state behind the script, are those of
+/// the session machine over the other lines. It stands only where the machine has a reply.
+pub fn memory_law()
+    ensures others { LeavesTheRest }
+    ensures silent { IsSilentAlike }
+{}
+
+/// No run of a script adds a call to the log of host calls, as no statement asks a host yet.
+pub fn logged_calls()
+    ensures { AsksNoHost }
+{}
+
+/// The memory line is served as any other refusal is.
+pub fn memory_line_is_served()
+    ensures { MemoryLineIsServed }
+{}
+
+/// Over tables whose cells are of their columns' types, every line leaves the definitions as `var` makes
+/// them: a variable has a scalar's type and a value of it, a named query is of a sequence's type under
+/// the names before it, and each name is new to the tables and to the definitions before it.
+pub fn definitions_are_kept()
+    ensures { KeepsDefined }
+{}
+
+/// A token opens a named query where it is the query's name and doesn't stand directly behind a `.`. The
+/// size of a statement is the number of its tokens, and the size of what each token opens; its rank is 0
+/// where none opens anything, and else one more than the greatest rank among what is opened.
+pub fn opened_queries()
+    ensures size { FindsSize }
+    ensures rank { FindsRank }
+    ensures unread { OpensNothing }
+{}

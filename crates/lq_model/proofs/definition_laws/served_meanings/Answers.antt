@@ -1,5 +1,0 @@
-use Rattle.lq_model.proofs.MachineMeanings.{serves_meanings}
-use Rattle.lq_model.proofs.definition_laws.served_meanings.Goals as goal
-
-pub returns : goal.returns
-returns c = serves_meanings

@@ -1,8 +1,0 @@
-use Rattle.lq_model.proofs.Trees.{one_statement, one_condition}
-use Rattle.lq_model.proofs.grammar_laws.one_tree.Goals as goal
-
-pub returns-clause-statement : goal.returns-clause-statement
-returns-clause-statement c = one_statement
-
-pub returns-clause-condition : goal.returns-clause-condition
-returns-clause-condition c = one_condition

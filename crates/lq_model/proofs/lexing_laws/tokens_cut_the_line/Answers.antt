@@ -1,5 +1,0 @@
-use Rattle.lq_model.proofs.LexingLemmas.{cut_the_line}
-use Rattle.lq_model.proofs.lexing_laws.tokens_cut_the_line.Goals as goal
-
-pub returns : goal.returns
-returns c = cut_the_line

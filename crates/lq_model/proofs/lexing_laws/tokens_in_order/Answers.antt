@@ -1,5 +1,0 @@
-use Rattle.lq_model.proofs.LexingLemmas.{lie_in_order}
-use Rattle.lq_model.proofs.lexing_laws.tokens_in_order.Goals as goal
-
-pub returns : goal.returns
-returns c = lie_in_order

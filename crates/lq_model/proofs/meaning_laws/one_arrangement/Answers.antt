@@ -1,5 +1,0 @@
-use Rattle.lq_model.proofs.OneArrangement.{arranges_once}
-use Rattle.lq_model.proofs.meaning_laws.one_arrangement.Goals as goal
-
-pub returns : goal.returns
-returns c start = arranges_once

@@ -1,5 +1,0 @@
-use Rattle.lq_model.proofs.SequenceLemmas.{never_faults}
-use Rattle.lq_model.proofs.meaning_laws.sequences_never_fault.Goals as goal
-
-pub returns : goal.returns
-returns c start = never_faults

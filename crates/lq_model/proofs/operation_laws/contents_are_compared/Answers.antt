@@ -1,5 +1,0 @@
-use Rattle.lq_model.proofs.NullLemmas.{same_by_content}
-use Rattle.lq_model.proofs.operation_laws.contents_are_compared.Goals as goal
-
-pub returns : goal.returns
-returns c = same_by_content

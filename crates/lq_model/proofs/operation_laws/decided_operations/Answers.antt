@@ -1,5 +1,0 @@
-use Rattle.lq_model.proofs.OperationLemmas.{is_decided}
-use Rattle.lq_model.proofs.operation_laws.decided_operations.Goals as goal
-
-pub returns : goal.returns
-returns c = is_decided

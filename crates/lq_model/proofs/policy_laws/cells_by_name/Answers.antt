@@ -1,5 +1,0 @@
-use Rattle.lq_model.proofs.SeenRowLemmas.{finds_cells}
-use Rattle.lq_model.proofs.policy_laws.cells_by_name.Goals as goal
-
-pub returns : goal.returns
-returns c = finds_cells

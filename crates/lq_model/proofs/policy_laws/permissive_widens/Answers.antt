@@ -1,5 +1,0 @@
-use Rattle.lq_model.proofs.PolicyLemmas.{widens_by_permission}
-use Rattle.lq_model.proofs.policy_laws.permissive_widens.Goals as goal
-
-pub returns : goal.returns
-returns c = widens_by_permission

@@ -1,5 +1,0 @@
-use Rattle.lq_model.proofs.PolicyLemmas.{reads_what_it_removes}
-use Rattle.lq_model.proofs.policy_laws.removed_rows_are_seen.Goals as goal
-
-pub returns : goal.returns
-returns c = reads_what_it_removes

@@ -1,5 +1,0 @@
-use Rattle.lq_model.proofs.PolicyLemmas.{narrows_by_restriction}
-use Rattle.lq_model.proofs.policy_laws.restrictive_narrows.Goals as goal
-
-pub returns : goal.returns
-returns c = narrows_by_restriction

@@ -1,5 +1,0 @@
-use Rattle.lq_model.proofs.RuleLemmas.{holds_where_true}
-use Rattle.lq_model.proofs.policy_laws.rules_that_hold.Goals as goal
-
-pub returns : goal.returns
-returns c = holds_where_true

@@ -1,5 +1,0 @@
-use Rattle.lq_model.proofs.SessionLemmas.{is_output}
-use Rattle.lq_model.proofs.session_laws.output_law.Goals as goal
-
-pub returns : goal.returns
-returns c = is_output

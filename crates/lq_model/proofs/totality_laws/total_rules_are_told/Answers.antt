@@ -1,5 +1,0 @@
-use Rattle.lq_model.proofs.TotalityLemmas.{tells_total}
-use Rattle.lq_model.proofs.totality_laws.total_rules_are_told.Goals as goal
-
-pub returns : goal.returns
-returns c = tells_total

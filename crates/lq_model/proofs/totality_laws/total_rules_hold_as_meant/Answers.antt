@@ -1,5 +1,0 @@
-use Rattle.lq_model.proofs.RuleLemmas.{holds_as_meant}
-use Rattle.lq_model.proofs.totality_laws.total_rules_hold_as_meant.Goals as goal
-
-pub returns : goal.returns
-returns c = holds_as_meant

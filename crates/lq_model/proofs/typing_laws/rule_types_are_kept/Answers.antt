@@ -1,8 +1,0 @@
-use Rattle.lq_model.proofs.KeptTypes.{keeps_item_types, keeps_types}
-use Rattle.lq_model.proofs.typing_laws.rule_types_are_kept.Goals as goal
-
-pub returns-clause-expression : goal.returns-clause-expression
-returns-clause-expression c = keeps_types
-
-pub returns-clause-query : goal.returns-clause-query
-returns-clause-query c = keeps_item_types

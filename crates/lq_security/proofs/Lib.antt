@@ -1,0 +1,15 @@
+pub mod DecidedPolicies
+pub mod DenialLemmas
+pub mod LookAlike
+pub mod MembershipLemmas
+pub mod NewRowLemmas
+pub mod PolicyLemmas
+pub mod ReadPolicies
+pub mod RightLemmas
+pub mod RuleLemmas
+pub mod RuleMeanings
+pub mod RuleTypes
+pub mod RuleTyping
+pub mod SeenRowLemmas
+pub mod TotalRules
+pub mod TotalityLemmas

@@ -1,0 +1,5 @@
+use Rattle.lq_security.proofs.MembershipLemmas.{tells_memberships}
+use Rattle.lq_security.proofs.policy_laws.memberships.Goals as goal
+
+pub returns : goal.returns
+returns c = tells_memberships

@@ -1,0 +1,71 @@
+//! Roles and row policies as plain data (PostgreSQL, CREATE POLICY and role membership).
+use lq_language::RightRule;
+use lq_grammar::Expr;
+use lq_value::{List, Txt};
+
+/// A role that statements run under.
+#[derive(Drop)]
+pub struct Role {
+    /// Its name, unlike that of any other role; never `public`.
+    pub name: Txt,
+    /// The roles that it is a member of, by their numbers, each of which stands before it.
+    pub member_of: List<usize>,
+    /// Whether row policies don't bear on it. Members of the role don't have this from it.
+    pub bypass: bool,
+}
+
+/// What policies know of a table.
+#[derive(Drop)]
+pub struct TablePart {
+    /// The names of its columns, in the order of a row's cells.
+    pub columns: List<Txt>,
+    /// Whether its row security is on. Where it is off, every row is visible.
+    pub secured: bool,
+}
+
+/// What a role does with a row.
+#[derive(Clone, Copy, Debug, Drop, Eq, PartialEq)]
+pub enum Action {
+    /// It reads the row.
+    Select,
+    /// It puts the row into a table.
+    Insert,
+    /// It removes the row.
+    Delete,
+}
+
+/// A row policy.
+#[derive(Drop)]
+pub struct Policy {
+    /// Its name.
+    pub name: Txt,
+    /// The number of the table that it guards.
+    pub table: u16,
+    /// Whether it is restrictive; else it is permissive.
+    pub restrictive: bool,
+    /// Whether it is for every action.
+    pub for_all: bool,
+    /// The action that it is for, where it isn't for every one.
+    pub action: Action,
+    /// The names of the roles that it applies to, and to whose members; `public` stands for all.
+    pub to: List<Txt>,
+    /// Its rule for rows that are there, over `row`, and `user`, the role's name.
+    pub using: Option<Expr>,
+    /// Its rule for rows that are put in. Where it has none, `using` is.
+    pub check: Option<Expr>,
+}
+
+/// Roles, tables by their number in the store, and policies, grants and withholds, each in file order.
+#[derive(Drop)]
+pub struct PolicyParts {
+    /// The roles.
+    pub roles: List<Role>,
+    /// The tables.
+    pub tables: List<TablePart>,
+    /// The policies.
+    pub policies: List<Policy>,
+    /// The rules that grant rights.
+    pub grants: List<RightRule>,
+    /// The rules that withhold them.
+    pub withholds: List<RightRule>,
+}
