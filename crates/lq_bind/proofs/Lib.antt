@@ -2,6 +2,6 @@ pub mod FrameLemmas
 pub mod Layers
 pub mod MethodLemmas
 pub mod SessionLemmas
-pub mod TermLemmas
+pub mod TermLaws
 pub mod WalkLemmas
 pub mod Weights

@@ -9,7 +9,7 @@ use Rattle.lq_tree.specs.Binding.{tree_of}
 use Rattle.lq_tree.specs.Places.{SessionPlace}
 use Rattle.lq_tree.specs.SessionPlaces.{placed_as, session_places}
 use Rattle.lq_tree.specs.declared.tree.Tree.{Tree}
-use Rattle.lq_tree.proofs.SessionPlaceLemmas.{named_tree, place_named, placed_at}
+use Rattle.lq_tree.proofs.SessionPlaceLaws.{named_tree, place_named, placed_at}
 use Rattle.lq_bind.specs.Bound.{defined_before, defined_tree, session_tree}
 
 module _ (schemas : List Schema) where

@@ -3,7 +3,7 @@ use Rattle.std.proofs.Common.{◌≡◌, ◌∷◌, ◌++◌, ◌+◌, ◌<◌, 
 use Rattle.std.proofs.lemmas.List.{drop_all}
 use Rattle.std.specs.List.{fold}
 use Rattle.lq_tree.specs.Binding.{gather_step, walk_step}
-use Rattle.lq_tree.proofs.Walks.{walk_none}
+use Rattle.lq_tree.proofs.WalkLaws.{walk_none}
 
 -- what comes of the items that are left, behind what is in hand, is what comes of all of them
 module _ {A S : Type 0} (step : A → S → Option S) (xs : List A) (all : Option S) where

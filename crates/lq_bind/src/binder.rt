@@ -28,7 +28,7 @@ impl Binder<'_> {
 
     /// The tree of a term, where it has one.
     #[cycle(binding)]
-    #[tactic(auto, using(crate::proofs::TermLemmas::terms))]
+    #[tactic(auto, using(crate::proofs::TermLaws::terms))]
     pub(crate) fn term(&self, term: &Term, frame: &Frame<'_>) -> Result<Option<Tree>, AllocError>
         ensures { IfOk result (λ found. found ≡ trees_in self.now.store.now term.now (places_at self.now frame.now)) }
     {

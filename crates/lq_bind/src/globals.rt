@@ -54,7 +54,7 @@ impl Binder<'_> {
     /// What a name stands for: a local name, which hides all others of its spelling.
     #[cycle(binding)]
     #[inline(never)]
-    #[tactic(auto, using(crate::proofs::TermLemmas::named))]
+    #[tactic(auto, using(crate::proofs::TermLaws::named))]
     pub(crate) fn name(&self, name: &str, frame: &Frame<'_>) -> Result<Option<Tree>, AllocError>
         ensures { IfOk result (λ found. found ≡ name_tree (schemas_of self.now.store.now) (places_at self.now frame.now) name.now
             (place_of name.now (places_in frame.now).locals)) }
@@ -68,7 +68,7 @@ impl Binder<'_> {
     /// What a name stands for that is no local name: the rows of a table, and else what the session has
     /// under it.
     #[cycle(binding)]
-    #[tactic(auto, using(crate::proofs::TermLemmas::globals))]
+    #[tactic(auto, using(crate::proofs::TermLaws::globals))]
     fn global(&self, name: &str, frame: &Frame<'_>) -> Result<Option<Tree>, AllocError>
         ensures { IfOk result (λ found. found ≡ global_tree (schemas_of self.now.store.now) (places_at self.now frame.now) name.now
             (table_number name.now (schemas_of self.now.store.now))) }

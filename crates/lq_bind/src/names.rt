@@ -62,7 +62,7 @@ pub(crate) fn null(alloc: Global) -> Result<Option<Tree>, AllocError>
 }
 
 /// The rows of the table of this name.
-#[tactic(auto, using(crate::proofs::TermLemmas::tables))]
+#[tactic(auto, using(crate::proofs::TermLaws::tables))]
 pub(crate) fn rows(alloc: Global, store: &Store, name: &str) -> Result<Option<Tree>, AllocError>
     ensures { IfOk result (λ found. found ≡ option_map rows_tree (table_number name.now (schemas_of store.now))) }
 {

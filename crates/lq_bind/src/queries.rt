@@ -21,7 +21,7 @@ impl Binder<'_> {
     /// The calls of a query.
     #[cycle(binding)]
     #[inline(never)]
-    #[tactic(auto, using(crate::proofs::TermLemmas::calls))]
+    #[tactic(auto, using(crate::proofs::TermLaws::calls))]
     pub(crate) fn call(
         &self,
         call: &Call<Term>,
@@ -118,7 +118,7 @@ impl Binder<'_> {
 
     /// What stands behind a call.
     #[cycle(binding)]
-    #[tactic(auto, using(crate::proofs::TermLemmas::joins))]
+    #[tactic(auto, using(crate::proofs::TermLaws::joins))]
     fn operator(
         &self,
         operator: &Operator<Term>,

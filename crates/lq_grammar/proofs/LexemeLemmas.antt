@@ -19,7 +19,7 @@ use Rattle.lq_grammar.specs.Words.{continues_name, kind_among, kind_of_word, res
 use Rattle.lq_grammar.specs.declared.token.Kind.{Kind}
 use Rattle.lq_grammar.specs.declared.token.Kind.TheVariants as k
 use Rattle.lq_grammar.proofs.LiteralLemmas.{finds_literals}
-use Rattle.lq_grammar.proofs.Pieces.{both_left, both_right, by_cases, other_is_token, other_piece, piece_within}
+use Rattle.lq_grammar.proofs.PieceLaws.{both_left, both_right, by_cases, other_is_token, other_piece, piece_within}
 
 -- ---- characters
 

@@ -1,5 +1,5 @@
 pub mod Backwards
-pub mod Completeness
+pub mod CompletenessLaws
 pub mod ExpressionSoundness
 pub mod FirstTokens
 pub mod Following
@@ -7,7 +7,7 @@ pub mod Forwards
 pub mod LexemeLemmas
 pub mod LexingLemmas
 pub mod LiteralLemmas
-pub mod Pieces
+pub mod PieceLaws
 pub mod QuerySoundness
 pub mod ReadArguments
 pub mod ReadFields
@@ -17,6 +17,6 @@ pub mod ReadParts
 pub mod ReadPrimaries
 pub mod ReadQueries
 pub mod ReadStatements
-pub mod ScriptLemmas
-pub mod Soundness
+pub mod ScriptLaws
+pub mod SoundnessLaws
 pub mod Trees

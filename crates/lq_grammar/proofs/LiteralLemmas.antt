@@ -7,7 +7,7 @@ use Rattle.std.proofs.lemmas.Bool.Decides.{nat_tests}
 use Rattle.lq_grammar.specs.LexingLaws.{FindsLiterals, HasLiteral, IsLiteral, ValuesLiterals}
 use Rattle.lq_grammar.specs.LexingLaws as law
 use Rattle.lq_grammar.specs.TextLiterals.{Place, Step, backslash, closes, first, fourth, hexadecimal, length_from, plain, second, simple_escape, spelled_from, step, text_value, third, unit, whole}
-use Rattle.lq_grammar.proofs.Pieces.{by_cases}
+use Rattle.lq_grammar.proofs.PieceLaws.{by_cases}
 
 differs : (a b : ℕ) → a ≢ b → (a == b) ≡ false
 differs a b e = grind (arith, nat_tests)

@@ -1,7 +1,7 @@
 -- The laws of the grammar: reading and spelling agree, so that tokens spell one tree at most.
 use Rattle.lq_grammar.specs.GrammarLaws.{IsOneStatement, IsOneCondition, ReadsSpelledStatements, ReadsSpelledConditions}
-use Rattle.lq_grammar.proofs.Completeness.{statement_complete, rule_complete}
-use Rattle.lq_grammar.proofs.Soundness.{statement_sound, rule_sound}
+use Rattle.lq_grammar.proofs.CompletenessLaws.{statement_complete, rule_complete}
+use Rattle.lq_grammar.proofs.SoundnessLaws.{statement_sound, rule_sound}
 
 pub one_statement : IsOneStatement
 one_statement line tokens a b left right = cc (statement_complete line tokens a left, statement_complete line tokens b right)

@@ -15,7 +15,7 @@ use Rattle.lq_value.specs.declared.value.Value.{Value, out-Value}
 use Rattle.lq_value.specs.declared.value.Value.TheOpen.{Value-F}
 use Rattle.lq_machine.specs.Served.{columns_in, fault_name, group_data, item_data, layer_data, nested_fault, record_data, record_members, row_data, row_members, sequence_data, stream_data, unless_fault, value_data, value_members}
 use Rattle.lq_language.specs.Stream.{Stream, made}
-use Rattle.lq_machine.proofs.ServedLemmas.{item_out}
+use Rattle.lq_machine.proofs.ServedLaws.{item_out}
 use Rattle.lq_json.specs.Forms.{cell_data, cells_in, columns_from, data_by, fields_by, fields_from, fields_in, form_of, form_step, layer_by, member_data, place_in}
 use Rattle.lq_json.specs.Replies.{served_by, stream_reply}
 use Rattle.lq_json.specs.declared.form.Form.{Form, map-Form, out-Form}

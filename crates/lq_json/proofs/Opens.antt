@@ -13,7 +13,7 @@ use Rattle.lq_value.specs.declared.value.Value.TheVariants as value
 use Rattle.lq_value.specs.declared.value.Value.TheVariants.{outs-Rec}
 use Rattle.lq_machine.specs.Served.{fault_step, first_member, nested_fault}
 use Rattle.lq_value.specs.declared.value.Value as of_value
-use Rattle.lq_machine.proofs.ServedLemmas.{fault_out}
+use Rattle.lq_machine.proofs.ServedLaws.{fault_out}
 use Rattle.lq_json.specs.Forms.{by_step, data_by, fields_by, fields_from, fields_in, form_of, form_step, layer_by, member_data}
 use Rattle.lq_json.specs.declared.form.Form.{Form, fold_out-Form, map-Form, out-Form}
 use Rattle.lq_json.specs.declared.form.Form as of_form

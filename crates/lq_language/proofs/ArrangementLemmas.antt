@@ -6,7 +6,7 @@ use Rattle.std.specs.declared.cmp.Ordering.{Ordering}
 use Rattle.std.specs.declared.cmp.Ordering.TheVariants as ordering
 use Rattle.lq_value.specs.SameAndOrder.{order_of}
 use Rattle.lq_value.specs.declared.scalar.Scalar.{Scalar}
-use Rattle.lq_value.proofs.OrderLemmas.{orders_scalars, tells_scalars}
+use Rattle.lq_value.proofs.OrderLaws.{orders_scalars, tells_scalars}
 use Rattle.lq_language.specs.Arrangement.{Keyed, arranged, inserted, is_greater, order_of_keys, turned}
 use Rattle.lq_language.specs.ArrangementLaws.{ArrangesByKeys, IsSorted, KeepsTies, TellsOne}
 

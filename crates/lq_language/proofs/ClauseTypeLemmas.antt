@@ -26,7 +26,7 @@ use Rattle.lq_grammar.specs.declared.syntax.Expr.TheOpen.{Expr-F}
 use Rattle.lq_grammar.specs.declared.syntax.Expr.TheVariants as expr
 use Rattle.lq_grammar.specs.declared.syntax.Expr.TheVariants.{outs-Node}
 use Rattle.lq_grammar.specs.declared.syntax.Node.TheVariants as node
-use Rattle.lq_language.proofs.SameTypes.{same_itself, same_type}
+use Rattle.lq_language.proofs.SameTypeLaws.{same_itself, same_type}
 
 -- ---- the keys of a `join`
 

@@ -8,7 +8,7 @@ use Rattle.lq_language.specs.Enumerable.{all, contains, distinct, element_at, in
 use Rattle.lq_language.specs.EnumerableLaws.{AnswersNone, ComparesAll, KeepsFirstAppearances, MeetsTheEnding, ReadsNothing, StopsAtItems, SumsInTurn}
 use Rattle.lq_language.specs.ValuesOfTypes.{Every}
 use Rattle.lq_language.specs.Operations.{on_ok}
-use Rattle.lq_language.proofs.EveryItem.{every_more, every_none}
+use Rattle.lq_language.proofs.ItemLaws.{every_more, every_none}
 
 element_there : {A : Type 0} (x : A) (xs ys : List A) (e : End) → element_at (pos (length xs)) (xs ++ x ∷ ys) e ≡ Ok x
 element_there x [] ys e = refl

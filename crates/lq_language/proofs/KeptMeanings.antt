@@ -50,17 +50,17 @@ use Rattle.lq_grammar.specs.declared.syntax.Node.TheVariants as node
 use Rattle.lq_grammar.specs.declared.syntax.Query.{Query}
 use Rattle.lq_grammar.specs.declared.syntax.SortKey.{SortKey}
 use Rattle.lq_grammar.specs.declared.syntax.Unary.TheVariants as unary
-use Rattle.lq_language.proofs.AlikeStreams.{Agree, Alike, KeysAlike, Pair, agree_err, agree_ok, both_agree, every_element, expand_alike, group_alike, join_alike, on_ok_agree, order_alike, select_alike, where_alike}
-use Rattle.lq_language.proofs.EveryItem.{every_map, every_more, every_none, first_of, no_binding, others_of, table_there}
+use Rattle.lq_language.proofs.AlikeStreamLaws.{Agree, Alike, KeysAlike, Pair, agree_err, agree_ok, both_agree, every_element, expand_alike, group_alike, join_alike, on_ok_agree, order_alike, select_alike, where_alike}
+use Rattle.lq_language.proofs.ItemLaws.{every_map, every_more, every_none, first_of, no_binding, others_of, table_there}
 use Rattle.lq_language.proofs.Layers.{para_node, para_query}
-use Rattle.lq_language.proofs.MemberLemmas.{search_told}
-use Rattle.lq_language.proofs.MethodPulls.{call_maps}
+use Rattle.lq_language.proofs.MemberLaws.{search_told}
+use Rattle.lq_language.proofs.MethodPullLaws.{call_maps}
 use Rattle.lq_language.proofs.QueryPulls.{query_meant}
-use Rattle.lq_language.proofs.ScalarResults.{Gives as GivesScalar, arithmetic_of, coalesced_fits, given_of, has_value_given, joined_given, length_given, minus_given, ordering_given, search_given, signed, value_given}
-use Rattle.lq_language.proofs.TypedMethods.{column_agrees, given_agree, given_typed, key_agrees, left, member_agrees, right, scalar_after, scalar_member_agrees, settled_agree, simple_typed, stream_alike, through_typed, truth_after, truth_same}
-use Rattle.lq_language.proofs.TypedOperators.{Keeps, choice_keeps, coalesced_plain, decides, plain_keeps}
-use Rattle.lq_language.proofs.TypingLemmas.{computes_alone, is_truth, orders_alone}
-use Rattle.lq_language.proofs.ValuesOfTypes.{Is, gets_ok, is_plain, number_plain, scalar_is, sequence_is, truth_is}
+use Rattle.lq_language.proofs.ScalarResultLaws.{Gives as GivesScalar, arithmetic_of, coalesced_fits, given_of, has_value_given, joined_given, length_given, minus_given, ordering_given, search_given, signed, value_given}
+use Rattle.lq_language.proofs.TypedMethodLaws.{column_agrees, given_agree, given_typed, key_agrees, left, member_agrees, right, scalar_after, scalar_member_agrees, settled_agree, simple_typed, stream_alike, through_typed, truth_after, truth_same}
+use Rattle.lq_language.proofs.TypedOperatorLaws.{Keeps, choice_keeps, coalesced_plain, decides, plain_keeps}
+use Rattle.lq_language.proofs.TypingLaws.{computes_alone, is_truth, orders_alone}
+use Rattle.lq_language.proofs.ValueLaws.{Is, gets_ok, is_plain, number_plain, scalar_is, sequence_is, truth_is}
 use Rattle.lq_language.proofs.TypingCompleteness.{lambda_found, called_by, found, limited_found, no_text}
 
 -- ---- layers

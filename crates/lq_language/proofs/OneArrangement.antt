@@ -13,7 +13,7 @@ use Rattle.lq_value.specs.declared.scalar.Scalar.{Scalar}
 use Rattle.lq_value.specs.declared.scalar.Scalar.TheVariants as scalar
 use Rattle.lq_value.specs.declared.value.End.TheVariants as end
 use Rattle.lq_value.specs.declared.value.Fault.{Fault}
-use Rattle.lq_value.proofs.OrderLemmas.{orders_scalars, tells_scalars}
+use Rattle.lq_value.proofs.OrderLaws.{orders_scalars, tells_scalars}
 use Rattle.lq_language.specs.Arrangement.{Keyed, all_of, arranged, is_greater, keyed, order_of_keys, turned, with_key}
 use Rattle.lq_language.specs.ArrangementLaws.{IsSorted, TellsOne}
 use Rattle.lq_language.specs.ValuesOfTypes.{Every}
@@ -21,7 +21,7 @@ use Rattle.lq_language.specs.OneArrangement.{AreFound, ArrangesItems, ArrangesOn
 use Rattle.lq_language.specs.Operations.{on_ok}
 use Rattle.lq_language.specs.Stream.{on_value}
 use Rattle.lq_language.proofs.ArrangementLemmas.{arranges_by_keys, flips, keeps_ties, level}
-use Rattle.lq_language.proofs.EveryItem.{every_filter, every_more, every_none, first_of, others_of}
+use Rattle.lq_language.proofs.ItemLaws.{every_filter, every_more, every_none, first_of, others_of}
 
 -- ---- the order of keys is total
 

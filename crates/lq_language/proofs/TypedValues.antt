@@ -19,7 +19,7 @@ use Rattle.lq_language.specs.ValuesOfTypes.{Every, HasCells, IsOf, is_scalar as 
 use Rattle.lq_language.specs.Members.{member_named}
 use Rattle.lq_language.specs.Operations.{of_member}
 use Rattle.lq_language.specs.OperandTypes.{are_comparable, item_of, row_table}
-use Rattle.lq_language.proofs.ScalarResults.{Decides, HasScalars, Widens, bool_layer, comparable_same, no_items_before, no_items_behind, no_two_rows, null_before_row, null_behind_row, row_layer}
+use Rattle.lq_language.proofs.ScalarResultLaws.{Decides, HasScalars, Widens, bool_layer, comparable_same, no_items_before, no_items_behind, no_two_rows, null_before_row, null_behind_row, row_layer}
 
 module _ {R : Type 0} (world : World R) where
   -- a value of a type without rows and sequences is a scalar

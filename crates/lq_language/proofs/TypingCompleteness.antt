@@ -32,9 +32,9 @@ use Rattle.lq_grammar.specs.declared.syntax.Node.{Node}
 use Rattle.lq_grammar.specs.declared.syntax.Node.TheVariants as node
 use Rattle.lq_grammar.specs.declared.syntax.Query.{Query}
 use Rattle.lq_grammar.specs.declared.syntax.Unary.TheVariants as unary
-use Rattle.lq_language.proofs.MemberLemmas.{search_told}
-use Rattle.lq_language.proofs.MethodPulls.{call_maps}
-use Rattle.lq_language.proofs.TypingLemmas.{computes_alone, joined_found as texts_join, numbers_compute, orders_alone}
+use Rattle.lq_language.proofs.MemberLaws.{search_told}
+use Rattle.lq_language.proofs.MethodPullLaws.{call_maps}
+use Rattle.lq_language.proofs.TypingLaws.{computes_alone, joined_found as texts_join, numbers_compute, orders_alone}
 use Rattle.lq_language.proofs.TypingSoundness.{type_of_node, type_of_query}
 
 abbrev pub IsFound : TypeClaim → Type 0

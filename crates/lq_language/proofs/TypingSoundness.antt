@@ -35,11 +35,11 @@ use Rattle.lq_grammar.specs.declared.syntax.Node.TheVariants as node
 use Rattle.lq_grammar.specs.declared.syntax.Query.{Query}
 use Rattle.lq_grammar.specs.declared.syntax.SortKey.{SortKey}
 use Rattle.lq_grammar.specs.declared.syntax.Unary.TheVariants as unary
-use Rattle.lq_language.proofs.Findings.{fresh_none, if_by, map_by, operands_by, truth_by, when_by}
+use Rattle.lq_language.proofs.FindingLaws.{fresh_none, if_by, map_by, operands_by, truth_by, when_by}
 use Rattle.lq_language.proofs.Layers.{With as Beside, base, fold_node, fold_query, of_every}
-use Rattle.lq_language.proofs.MemberLemmas.{search_given}
+use Rattle.lq_language.proofs.MemberLaws.{search_given}
 use Rattle.lq_language.proofs.QueryPulls.{query_typed}
-use Rattle.lq_language.proofs.TypingLemmas.{compares_not, is_of_layer, is_text_of, is_truth, type_with}
+use Rattle.lq_language.proofs.TypingLaws.{compares_not, is_of_layer, is_text_of, is_truth, type_with}
 
 -- ---- layers
 

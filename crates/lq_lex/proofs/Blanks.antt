@@ -7,7 +7,7 @@ use Rattle.std.proofs.lemmas.List.{at_drop_more, at_drop_all}
 use Rattle.std.specs.Str.{chars}
 use Rattle.std.specs.Char.{len_utf8}
 use Rattle.std.proofs.lemmas.Bool.{eqb-true, le-ltb, lt-ltb}
-use Rattle.lq_grammar.proofs.Pieces.{IsTokenPiece, by_cases, other_is_token, other_piece, piece_is_other}
+use Rattle.lq_grammar.proofs.PieceLaws.{IsTokenPiece, by_cases, other_is_token, other_piece, piece_is_other}
 use Rattle.lq_grammar.specs.Script.{line_limit}
 use Rattle.lq_grammar.specs.Tokens.{Piece, piece, tokens_from, tokens_in, tokens_of, is_too_long, with_piece, is_blank}
 use Rattle.lq_grammar.specs.declared.token.Token.{Token}

@@ -6,7 +6,7 @@ use Rattle.std.specs.List.{prefix_len}
 use Rattle.std.proofs.lemmas.List.Sums.{sum_by-append, sum_by-le}
 use Rattle.std.proofs.lemmas.List.{take-append-drop}
 use Rattle.std.proofs.lemmas.Str.{len_utf8_bounds}
-use Rattle.lq_grammar.proofs.Pieces.{piece_within, turn}
+use Rattle.lq_grammar.proofs.PieceLaws.{piece_within, turn}
 use Rattle.lq_grammar.specs.Tokens.{piece, tokens_from, word, text}
 use Rattle.lq_grammar.specs.Words.{continues_name, kind_of_word}
 use Rattle.lq_grammar.specs.declared.token.Kind.{Kind}

@@ -8,7 +8,7 @@ use Rattle.std.proofs.lemmas.List.{at_drop_more, at_drop_all}
 use Rattle.std.proofs.lemmas.Slice.Eq.{bytes_eq-Decides}
 use Rattle.std.proofs.lemmas.Str.{encodes-chars, is_utf8-from_IsUtf8}
 use lib.Utf8.{encode}
-use Rattle.lq_grammar.proofs.Pieces.{both_left, both_right}
+use Rattle.lq_grammar.proofs.PieceLaws.{both_left, both_right}
 use Rattle.lq_grammar.specs.Tokens.{is_name, is_name_kind, spells_name}
 use Rattle.lq_grammar.specs.Words.{kind_among, kind_of_word, reserved_words, starts_name, continues_name}
 use Rattle.lq_grammar.specs.declared.token.Kind.{Kind}

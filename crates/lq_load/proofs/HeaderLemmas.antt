@@ -14,7 +14,7 @@ use Rattle.lq_value.specs.declared.table.Column.{Column}
 use Rattle.lq_value.specs.declared.table.Schema.{Schema}
 use Rattle.lq_value.specs.declared.table.ColumnType.TheVariants as ty
 use Rattle.lq_store.specs.Rules.{are_distinct, is_fair_range, keeps_rules}
-use Rattle.lq_store.proofs.Kept.{are_distinct-push}
+use Rattle.lq_store.proofs.KeptTableLaws.{are_distinct-push}
 use Rattle.lq_grammar.specs.Tokens.{is_name}
 use Rattle.lq_load.specs.Cells.{int_of}
 use Rattle.lq_load.specs.Headers.{Kind, after_column, column_at, column_named, column_of, columns_from, has_name, kind_of, range_at, range_behind, range_between, range_of}

@@ -15,7 +15,7 @@ use Rattle.lq_value.specs.declared.table.Column.{Column}
 use Rattle.lq_value.specs.declared.table.Row.{Row}
 use Rattle.lq_store.specs.Calls.{with_row}
 use Rattle.lq_language.specs.ValuesOfTypes.{Every}
-use Rattle.lq_language.proofs.EveryItem.{every_more, every_none, first_of, others_of}
+use Rattle.lq_language.proofs.ItemLaws.{every_more, every_none, first_of, others_of}
 use Rattle.lq_load.specs.Cells.{cell_of}
 use Rattle.lq_load.specs.Headers.{after_column, column_of, columns_from, has_name}
 use Rattle.lq_load.specs.TableFile.{after_cell, and_then, cells_from, column_limit, new_table, table_limit, table_of, table_of_records, with_record, with_records}

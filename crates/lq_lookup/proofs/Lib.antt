@@ -1,4 +1,4 @@
-pub mod ArrangementLemmas
+pub mod ArrangementLaws
 pub mod BlockLemmas
 pub mod ChainLemmas
 pub mod ColumnLemmas

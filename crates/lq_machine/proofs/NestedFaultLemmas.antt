@@ -12,8 +12,8 @@ use Rattle.lq_language.specs.ValuesOfTypes.{Every}
 use Rattle.lq_machine.specs.NestedFaults.{HasNoFault, IsFirstFault, NamesFirstFault, ServesFaultless}
 use Rattle.lq_machine.specs.NestedFaults as law
 use Rattle.lq_machine.specs.Served.{fault_at, fault_step, first_member, first_of, nested_fault, or_next}
-use Rattle.lq_language.proofs.EveryItem.{every_more, every_none, first_of as head_such, others_of}
-use Rattle.lq_machine.proofs.ServedLemmas.{fault_out}
+use Rattle.lq_language.proofs.ItemLaws.{every_more, every_none, first_of as head_such, others_of}
+use Rattle.lq_machine.proofs.ServedLaws.{fault_out}
 
 -- ---- the first of several faults
 

@@ -18,7 +18,7 @@ use Rattle.lq_machine.specs.declared.session.Opened.{Opened}
 use Rattle.lq_grammar.specs.declared.token.Kind.{Kind}
 use Rattle.lq_grammar.specs.declared.token.Kind.TheVariants as k
 use Rattle.lq_grammar.specs.declared.token.Token.{Token}
-use Rattle.lq_security.proofs.MembershipLemmas.{has_cases, has_first, has_later, none_in_nil}
+use Rattle.lq_security.proofs.MembershipLaws.{has_cases, has_first, has_later, none_in_nil}
 
 -- ---- the first definition of a name
 

@@ -17,7 +17,7 @@ use Rattle.lq_language.specs.TypingLaws.{AreWithin}
 use Rattle.lq_machine.specs.declared.session.Defined.{Defined}
 use Rattle.lq_machine.specs.declared.session.Defined.TheVariants as of
 use Rattle.lq_machine.specs.declared.session.Definition.{Definition}
-use Rattle.lq_language.proofs.WithinLimits.{is_one, limits_items, limits_types, within_one}
+use Rattle.lq_language.proofs.WithinLimitLaws.{is_one, limits_items, limits_types, within_one}
 
 scalar_one : (layer : Ty-F Ty) → is_scalar layer ≡ true → is_one layer ≡ true
 scalar_one (Ty-F.Rec ms) h = absurd (true≢false (sym h))

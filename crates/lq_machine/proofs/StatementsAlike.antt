@@ -42,7 +42,7 @@ use Rattle.lq_machine.specs.declared.session.Defined.TheVariants as of
 use Rattle.lq_machine.specs.declared.session.Definition.{Definition}
 use Rattle.lq_machine.specs.declared.session.Opened.{Opened}
 use Rattle.lq_grammar.specs.declared.syntax.Expr.{Expr}
-use Rattle.lq_security.proofs.LookAlike.{map_set, removable_seen, seen_append, seen_filter, seen_of, set_seen}
+use Rattle.lq_security.proofs.LookAlikeLaws.{map_set, removable_seen, seen_append, seen_filter, seen_of, set_seen}
 
 module _ (a b : State) (same : LooksSame a b) where
   -- the same reply, and states that look the same

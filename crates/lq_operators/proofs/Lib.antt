@@ -2,7 +2,7 @@ pub mod ArgumentLemmas
 pub mod FirstLemmas
 pub mod ItemLemmas
 pub mod MoveLemmas
-pub mod NumberLemmas
+pub mod NumberLaws
 pub mod Opens
 pub mod OrderLemmas
 pub mod PairLemmas

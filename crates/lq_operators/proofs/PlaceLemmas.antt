@@ -8,8 +8,8 @@ use Rattle.lq_value.specs.Lookups.{places, places_from}
 use Rattle.lq_value.specs.SameAndOrder.{same_values}
 use Rattle.lq_value.specs.declared.key.Key.{Key}
 use Rattle.lq_value.specs.declared.value.Value.{Value}
-use Rattle.lq_value.proofs.KeyLemmas.{tells_equal_keys}
-use Rattle.lq_value.proofs.SamenessLemmas.{tells_keys}
+use Rattle.lq_value.proofs.KeyLaws.{tells_equal_keys}
+use Rattle.lq_value.proofs.SamenessLaws.{tells_keys}
 use Rattle.lq_language.specs.Enumerable.{is_among}
 use Rattle.lq_operators.specs.Places.{passes, passes_at, passes_before}
 

@@ -73,7 +73,7 @@ fn best_more(extreme: Extreme, best: Option<i32>, number: Option<i32>) -> Option
 }
 
 // The sum of two numbers; past what an int holds it is an overflow.
-#[tactic(auto, using(crate::proofs::NumberLemmas::sums))]
+#[tactic(auto, using(crate::proofs::NumberLaws::sums))]
 fn sum_more(total: i32, number: i32) -> Result<i32, Fault>
     ensures { result ≡ sum_more total number }
 {
@@ -99,7 +99,7 @@ impl Tally {
 
     /// The tally with one item more. A count or a sum past what an int holds is an overflow, at
     /// that item.
-    #[tactic(auto, using(crate::proofs::NumberLemmas::steps))]
+    #[tactic(auto, using(crate::proofs::NumberLaws::steps))]
     pub fn with<R: RowRef>(self, item: &Value<R>) -> Result<Tally, Fault>
         ensures { (t : Ty) (s : Stream (Value R)) → tallied t self (in_front item.now s) ≡ goes_on t result s }
     {

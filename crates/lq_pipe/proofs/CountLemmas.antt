@@ -20,7 +20,7 @@ use Rattle.lq_language.specs.declared.methods.Simple.TheVariants as simple
 use Rattle.lq_operators.specs.Tallies.{begins, goes_on, tallied, told}
 use Rattle.lq_operators.specs.declared.numbers.Tally.{Tally}
 use Rattle.lq_operators.specs.declared.numbers.Tally.TheVariants as tally
-use Rattle.lq_operators.proofs.NumberLemmas.{begun}
+use Rattle.lq_operators.proofs.NumberLaws.{begun}
 use Rattle.lq_pipe.specs.Counts.{needed, needed_by, read, up_to}
 use Rattle.lq_pipe.proofs.PullLemmas.{left_opened}
 

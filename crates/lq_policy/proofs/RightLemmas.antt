@@ -2,7 +2,7 @@
 use Rattle.std.proofs.Common.{◌≡◌, ◌&&◌, ◌||◌, not, List, [], ◌∷◌, ℕ, Bool, true, false, Result, Ok, Err, IfOk, ap, ◌∙◌, sym, refl}
 use Rattle.std.specs.declared.alloc.AllocError.{AllocError}
 use Rattle.std.specs.List.{list_any}
-use Rattle.lq_security.proofs.RightLemmas.{same_use}
+use Rattle.lq_security.proofs.RightLaws.{same_use}
 use Rattle.lq_security.specs.Rights.{bears, covers, is_same_use, is_withheld, may_use}
 use Rattle.lq_security.specs.Visible.{is_listed}
 use Rattle.lq_security.specs.declared.policy.PolicyParts.{PolicyParts}

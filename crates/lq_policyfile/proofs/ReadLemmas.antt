@@ -24,10 +24,10 @@ use Rattle.lq_security.specs.declared.policy.Policy.{Policy}
 use Rattle.lq_security.specs.declared.policy.PolicyParts.{PolicyParts}
 use Rattle.lq_security.specs.declared.policy.TablePart.{TablePart}
 use Rattle.lq_grammar.specs.declared.syntax.Expr.{Expr}
-use Rattle.lq_security.proofs.MembershipLemmas.{has_cases, has_first, has_later, none_in_nil}
-use Rattle.lq_security.proofs.TotalityLemmas.{tells_total}
-use Rattle.lq_language.proofs.TypingLemmas.{is_truth}
-use Rattle.lq_language.proofs.KeptTypes.{keeps_types}
+use Rattle.lq_security.proofs.MembershipLaws.{has_cases, has_first, has_later, none_in_nil}
+use Rattle.lq_security.proofs.TotalityLaws.{tells_total}
+use Rattle.lq_language.proofs.TypingLaws.{is_truth}
+use Rattle.lq_language.proofs.KeptTypeLaws.{keeps_types}
 use Rattle.lq_policyfile.specs.Duplicates.{has_no_duplicates}
 use Rattle.lq_policyfile.specs.File.{document_of, most_bytes, of_document, of_entries, parts_of, policies_in, policy_part, refusal_of, table_part, unless_refused}
 use Rattle.lq_policyfile.specs.FileLaws.{AreHeld, ReadsForTables}

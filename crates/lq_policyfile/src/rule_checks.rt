@@ -78,7 +78,7 @@ impl Names for RuleNames<'_> {
 }
 
 /// Whether a rule is a truth value.
-#[tactic(auto, using(lq_scalar::proofs::TypeLemmas::layer_known))]
+#[tactic(auto, using(lq_scalar::proofs::TypeLaws::layer_known))]
 fn is_typed(columns: &[Column], rule: &Expr) -> bool
     ensures { result ≡ is_typed columns.now rule.now }
 {

@@ -10,7 +10,7 @@ use Rattle.lq_security.specs.Visible.{is_true, rule_scope, rule_world}
 use Rattle.lq_grammar.specs.declared.syntax.Expr.{Expr}
 use Rattle.lq_scalar.specs.Named.{Shape}
 use Rattle.lq_scalar.specs.Shapes.{faulting, scalar_shape, shape_of, truth_in, truth_of_expression}
-use Rattle.lq_scalar.proofs.ShapeLemmas.{truth_viewed}
+use Rattle.lq_scalar.proofs.ShapeLaws.{truth_viewed}
 use Rattle.lq_rule.specs.Deciding.{DecidesAs, decides}
 use Rattle.lq_rule.specs.Reading.{read}
 use Rattle.lq_rule.specs.Standing.{StandsFor}

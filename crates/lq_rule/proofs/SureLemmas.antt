@@ -11,7 +11,7 @@ use Rattle.lq_grammar.specs.declared.syntax.Expr.TheViews.{roll-out-Expr}
 use Rattle.lq_grammar.specs.declared.syntax.Node.{Node}
 use Rattle.lq_grammar.specs.declared.syntax.Node.TheVariants as node
 use Rattle.lq_grammar.specs.declared.syntax.Unary.TheVariants as unary
-use Rattle.lq_security.proofs.TotalityLemmas.{strength_and, strength_binary, strength_coalesce, strength_conditional, strength_host, strength_integer, strength_member, strength_method, strength_minus, strength_name, strength_new, strength_not, strength_null, strength_or, strength_query, strength_text, strength_truth}
+use Rattle.lq_security.proofs.TotalityLaws.{strength_and, strength_binary, strength_coalesce, strength_conditional, strength_host, strength_integer, strength_member, strength_method, strength_minus, strength_name, strength_new, strength_not, strength_null, strength_or, strength_query, strength_text, strength_truth}
 
 -- ---- what stands in a layer
 

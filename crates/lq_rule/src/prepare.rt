@@ -210,7 +210,7 @@ fn negative(operand: &Expr) -> Prepared
 }
 
 /// A number with the other sign.
-#[tactic(auto, using(lq_scalar::proofs::NumberLemmas::checked_is))]
+#[tactic(auto, using(lq_scalar::proofs::NumberLaws::checked_is))]
 fn negative_of(number: i32) -> Prepared
     ensures { result ≡ known (negated fault.NullReference (scalar.Int number)) }
 {

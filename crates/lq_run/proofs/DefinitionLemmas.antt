@@ -15,8 +15,8 @@ use Rattle.lq_machine.specs.Statements.{assigning, renewed}
 use Rattle.lq_language.specs.Names.{SessionName}
 use Rattle.lq_machine.specs.declared.session.Defined.TheVariants as of
 use Rattle.lq_machine.specs.declared.session.Definition.{Definition}
-use Rattle.lq_machine.proofs.KeptDefinitions.{defined_behind, known_name, known_now, others_stay, renewed_after}
-use Rattle.lq_tree.proofs.TypeLemmas.{later}
+use Rattle.lq_machine.proofs.KeptDefinitionLaws.{defined_behind, known_name, known_now, others_stay, renewed_after}
+use Rattle.lq_tree.proofs.TypeLaws.{later}
 use Rattle.lq_run.specs.States.{Assigns, IsValueFor, with_value}
 use Rattle.lq_run.proofs.TableLemmas.{within}
 

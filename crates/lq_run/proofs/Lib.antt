@@ -5,6 +5,6 @@ pub mod ReplyLemmas
 pub mod RowLemmas
 pub mod ScalarLemmas
 pub mod SeenLemmas
-pub mod StoredLemmas
+pub mod StoredLaws
 pub mod TableLemmas
 pub mod WorldLemmas

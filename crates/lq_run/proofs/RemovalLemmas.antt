@@ -29,16 +29,16 @@ use Rattle.lq_security.specs.Visible.{visible_to}
 use Rattle.lq_language.specs.Meaning.{expression_meaning}
 use Rattle.lq_security.specs.declared.policy.Action.TheVariants as action
 use Rattle.lq_grammar.specs.declared.syntax.Expr.{Expr}
-use Rattle.lq_language.proofs.EveryItem.{each_same, every_filter, every_map}
-use Rattle.lq_machine.proofs.SeenTables.{column_by}
+use Rattle.lq_language.proofs.ItemLaws.{each_same, every_filter, every_map}
+use Rattle.lq_machine.proofs.SeenTableLaws.{column_by}
 use Rattle.lq_tree.specs.FormMeaning.{form_meaning, is_true}
 use Rattle.lq_tree.specs.Rows.{stream_map}
 use Rattle.lq_tree.specs.declared.tree.Form.{Form}
 use Rattle.lq_tree.specs.declared.tree.Tree.{Tree}
-use Rattle.lq_tree.proofs.MappedStreams.{map_twice, where_natural}
-use Rattle.lq_tree.proofs.MappedValues.{mapped_Row}
-use Rattle.lq_tree.proofs.RowForms.{means_alike}
-use Rattle.lq_tree.proofs.RowMeanings.{condition_like}
+use Rattle.lq_tree.proofs.MappedStreamLaws.{map_twice, where_natural}
+use Rattle.lq_tree.proofs.MappedValueLaws.{mapped_Row}
+use Rattle.lq_tree.proofs.RowFormLaws.{means_alike}
+use Rattle.lq_tree.proofs.RowMeaningLaws.{condition_like}
 use Rattle.lq_pipe.specs.Conditions.{holds_on, rows_true}
 use Rattle.lq_pipe.specs.declared.tables.TableRows.{TableRows}
 use Rattle.lq_policy.specs.RowRules.{admits}
@@ -48,7 +48,7 @@ use Rattle.lq_run.specs.SeenRows.{AreSeen, admitted_rows, shown_row, visible_row
 use Rattle.lq_run.specs.Statements.{ChoosesRows, condition_in}
 use Rattle.lq_run.specs.declared.seen.SeenRow.{SeenRow}
 use Rattle.lq_run.proofs.SeenLemmas.{admitted_seen}
-use Rattle.lq_run.proofs.StoredLemmas.{typed_tables}
+use Rattle.lq_run.proofs.StoredLaws.{typed_tables}
 use Rattle.lq_run.proofs.WorldLemmas.{condition_means, is_world, over, read, same_cells, world}
 
 module _ (s : State) (tables : List (TableRows SeenRow)) (seen : AreSeen s tables) (n : ℕ) (tree : Tree) where

@@ -21,7 +21,7 @@ use Rattle.lq_grammar.specs.declared.syntax.Expr.{Expr}
 use Rattle.lq_tree.specs.FormMeaning.{form_meaning}
 use Rattle.lq_tree.specs.UsesOfForms.{form_uses}
 use Rattle.lq_tree.specs.declared.tree.Tree.{Tree}
-use Rattle.lq_tree.proofs.SessionPlaceLemmas.{types_of_statements, uses_of_statements}
+use Rattle.lq_tree.proofs.SessionPlaceLaws.{types_of_statements, uses_of_statements}
 use Rattle.lq_pipe.specs.declared.tables.TableRows.{TableRows}
 use Rattle.lq_run.specs.Replies.{AnswersTree, IsTreeOf, ServesTree, run_line}
 use Rattle.lq_run.specs.SeenRows.{AreSeen, cells_in, shown_row}

@@ -11,8 +11,8 @@ use Rattle.lq_tree.specs.FormMeaning.{form_meaning}
 use Rattle.lq_tree.specs.Rows.{OverRows}
 use Rattle.lq_tree.specs.declared.tree.Form.{Form}
 use Rattle.lq_tree.specs.declared.tree.Tree.{Tree}
-use Rattle.lq_tree.proofs.MappedReplies.{serves_alike}
-use Rattle.lq_tree.proofs.RowForms.{means_alike, streams_alike}
+use Rattle.lq_tree.proofs.MappedReplyLaws.{serves_alike}
+use Rattle.lq_tree.proofs.RowFormLaws.{means_alike, streams_alike}
 use Rattle.lq_run.specs.TreeReply.{data_by, tree_data}
 
 module _ {R S : Type 0} (f : R → S) (a : World R) (b : World S) (over : OverRows f a b) (cells_r : R → List Scalar) (cells_s : S → List Scalar) (same : (r : R) → cells_s (f r) ≡ cells_r r) (schemas : List Schema) where

@@ -19,15 +19,15 @@ use Rattle.lq_language.specs.TableRows.{TableRow}
 use Rattle.lq_language.specs.Meaning.{expression_meaning}
 use Rattle.lq_language.specs.declared.rights.Use.{Use}
 use Rattle.lq_grammar.specs.declared.syntax.Expr.{Expr}
-use Rattle.lq_language.proofs.ValuesOfTypes.{is_plain, plain_value}
+use Rattle.lq_language.proofs.ValueLaws.{is_plain, plain_value}
 use Rattle.lq_tree.specs.FormMeaning.{form_meaning}
 use Rattle.lq_tree.specs.Rows.{mapped, result_map}
 use Rattle.lq_tree.specs.UsesOfForms.{form_uses}
 use Rattle.lq_tree.specs.declared.tree.Tree.{Tree}
-use Rattle.lq_tree.proofs.MappedValues.{mapped_layer, mapped_out}
-use Rattle.lq_tree.proofs.RowForms.{means_alike}
-use Rattle.lq_tree.proofs.Scopes.{append_none}
-use Rattle.lq_tree.proofs.SessionPlaceLemmas.{uses_of_statements}
+use Rattle.lq_tree.proofs.MappedValueLaws.{mapped_layer, mapped_out}
+use Rattle.lq_tree.proofs.RowFormLaws.{means_alike}
+use Rattle.lq_tree.proofs.ScopeLaws.{append_none}
+use Rattle.lq_tree.proofs.SessionPlaceLaws.{uses_of_statements}
 use Rattle.lq_pipe.specs.declared.tables.TableRows.{TableRows}
 use Rattle.lq_run.specs.SeenRows.{AreSeen, shown_row}
 use Rattle.lq_run.specs.Statements.{EvaluatesTree, IsEvaluated, TellsDenial, Yields, YieldsTree, is_of_scalars, scalar_in, tree_in}

@@ -18,26 +18,26 @@ use Rattle.lq_language.specs.TableRows.{TableRow, cell_named}
 use Rattle.lq_language.specs.Meaning.{expression_meaning}
 use Rattle.lq_language.specs.MeaningLaws.{IsSessionOfValues, IsValueOf, by_row}
 use Rattle.lq_grammar.specs.declared.syntax.Expr.{Expr}
-use Rattle.lq_machine.proofs.DefinitionLemmas.{names_have_values}
-use Rattle.lq_language.proofs.EveryItem.{every_none}
-use Rattle.lq_machine.proofs.SeenTables.{holds_seen}
+use Rattle.lq_machine.proofs.DefinitionLaws.{names_have_values}
+use Rattle.lq_language.proofs.ItemLaws.{every_none}
+use Rattle.lq_machine.proofs.SeenTableLaws.{holds_seen}
 use Rattle.lq_translate.specs.Translated.{translated}
-use Rattle.lq_translate.proofs.Alike.{terms_mean}
+use Rattle.lq_translate.proofs.AlikeTermLaws.{terms_mean}
 use Rattle.lq_tree.specs.BindingLaws.{GivesAll}
 use Rattle.lq_tree.specs.FormMeaning.{form_meaning}
 use Rattle.lq_tree.specs.Places.{Places, with_name}
 use Rattle.lq_tree.specs.Rows.{OverRows}
 use Rattle.lq_tree.specs.SessionPlaces.{session_places, statement_places}
 use Rattle.lq_tree.specs.declared.tree.Tree.{Tree}
-use Rattle.lq_tree.proofs.Scopes.{Stands, item_stands}
-use Rattle.lq_tree.proofs.SessionValues.{defines_names_alone, means_without, meanings_of_statements, places_give}
-use Rattle.lq_tree.proofs.TermMeans.{meanings_same}
+use Rattle.lq_tree.proofs.ScopeLaws.{Stands, item_stands}
+use Rattle.lq_tree.proofs.SessionValueLaws.{defines_names_alone, means_without, meanings_of_statements, places_give}
+use Rattle.lq_tree.proofs.TermMeanLaws.{meanings_same}
 use Rattle.lq_pipe.specs.Worlds.{world_of as world_of_tables}
 use Rattle.lq_pipe.specs.declared.tables.TableRows.{TableRows}
 use Rattle.lq_run.specs.SeenRows.{AreSeen, cells_in, number_in, shown_row}
 use Rattle.lq_run.specs.Statements.{condition_in, tree_in}
 use Rattle.lq_run.specs.declared.seen.SeenRow.{SeenRow}
-use Rattle.lq_run.proofs.StoredLemmas.{typed_tables}
+use Rattle.lq_run.proofs.StoredLaws.{typed_tables}
 
 module _ (s : State) where
   -- the tables as the role sees them, without names of the session, and with them

@@ -1,7 +1,7 @@
-pub mod NumberLemmas
+pub mod NumberLaws
 pub mod RuleLemmas
-pub mod ShapeLemmas
+pub mod ShapeLaws
 pub mod SumLemmas
 pub mod TextLemmas
 pub mod TotalityLemmas
-pub mod TypeLemmas
+pub mod TypeLaws

@@ -8,12 +8,12 @@ use Rattle.lq_language.specs.RuleMeaning.{meaning, truth_at}
 use Rattle.lq_security.specs.Totality.{is_total}
 use Rattle.lq_security.specs.Visible.{is_true, rule_holds, rule_scope, rule_world}
 use Rattle.lq_grammar.specs.declared.syntax.Expr.{Expr}
-use Rattle.lq_security.proofs.TotalityLemmas.{tells_total}
+use Rattle.lq_security.proofs.TotalityLaws.{tells_total}
 use Rattle.lq_scalar.specs.Shapes.{IsSparing, IsTruth, faulting, shape_of, truth_of_expression}
 use Rattle.lq_scalar.specs.Sums.{sums_in}
 use Rattle.lq_scalar.specs.declared.error.ScalarError.{ScalarError}
 use Rattle.lq_scalar.specs.declared.error.ScalarError.TheVariants as error
-use Rattle.lq_scalar.proofs.ShapeLemmas.{truth_viewed}
+use Rattle.lq_scalar.proofs.ShapeLaws.{truth_viewed}
 use Rattle.lq_scalar.proofs.SumLemmas.{total_has_no_sum}
 
 pub ruleset values = (outs-Row, outs-Scalar)

@@ -8,7 +8,7 @@ use Rattle.std.specs.Bool.{MatchBool, one_answer}
 use Rattle.std.specs.Str.Pattern.{FindsText, HasMatch}
 use Rattle.std.proofs.lemmas.Str.Pattern.{contains_text, ends_text, starts_text}
 use Rattle.lq_language.specs.Operations.{has_in, utf16_units}
-use Rattle.lq_language.proofs.OperationLemmas.{finds_parts}
+use Rattle.lq_language.proofs.OperationLaws.{finds_parts}
 use Rattle.lq_scalar.specs.Operands.{units_within}
 
 pub contains_is : (r : Bool) (needle text : List ℕ) → MatchBool r (HasMatch (FindsText needle) text) (FindsText needle text None) → r ≡ has_in text needle

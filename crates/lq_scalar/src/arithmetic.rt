@@ -24,7 +24,7 @@ pub(crate) fn arithmetic(
 }
 
 /// The number with the other sign; of null, null.
-#[tactic(auto, using(crate::proofs::NumberLemmas::checked_is))]
+#[tactic(auto, using(crate::proofs::NumberLaws::checked_is))]
 pub(crate) fn negated(operand: ScalarRef<'_>) -> Result<Option<i32>, Fault>
     ensures { numbers_in result ≡ negated fault.NullReference (shown_scalar operand.entry) }
 {
@@ -46,7 +46,7 @@ pub(crate) fn int_or_overflow(number: Option<i32>) -> Result<i32, Fault>
 }
 
 /// What an operator of arithmetic gives to two ints.
-#[tactic(auto, using(crate::proofs::NumberLemmas::checked_is))]
+#[tactic(auto, using(crate::proofs::NumberLaws::checked_is))]
 fn computed(op: Op, left: i32, right: i32) -> Result<i32, Fault>
     ensures { ints_in result ≡ computed fault.NullReference op left right }
 {
@@ -61,7 +61,7 @@ fn computed(op: Op, left: i32, right: i32) -> Result<i32, Fault>
 }
 
 /// The quotient, truncated towards zero.
-#[tactic(auto, using(crate::proofs::NumberLemmas::quotient_is))]
+#[tactic(auto, using(crate::proofs::NumberLaws::quotient_is))]
 fn divided(left: i32, right: i32) -> Result<i32, Fault>
     ensures { ints_in result ≡ divided left right }
 {
@@ -73,7 +73,7 @@ fn divided(left: i32, right: i32) -> Result<i32, Fault>
 
 /// What the quotient leaves of the dividend. The least int has no quotient by -1, and so no
 /// remainder.
-#[tactic(auto, using(crate::proofs::NumberLemmas::remainder_is))]
+#[tactic(auto, using(crate::proofs::NumberLaws::remainder_is))]
 fn left_over(left: i32, right: i32) -> Result<i32, Fault>
     ensures { ints_in result ≡ left_over left right }
 {

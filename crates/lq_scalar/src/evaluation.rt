@@ -212,7 +212,7 @@ impl<'a, N: Names, T: Joins> Evaluation<'a, N, T> {
 
     /// What the expression is, or its first fault.
     #[cycle(operands)]
-    #[tactic(auto, using(crate::proofs::ShapeLemmas::shapes, crate::proofs::SumLemmas::sums))]
+    #[tactic(auto, using(crate::proofs::ShapeLaws::shapes, crate::proofs::SumLemmas::sums))]
     pub(crate) fn operand(&self, expression: &'a Expr) -> Result<Operand<'a>, ScalarError>
         ensures { IsEvaluated (N.world self.now.names.now) (N.scope self.now.names.now) expression.now result }
     {
@@ -225,7 +225,7 @@ impl<'a, N: Names, T: Joins> Evaluation<'a, N, T> {
     /// What the expression of this node is, or its first fault. Each form that evaluates operands has a
     /// function of its own, so that deep expressions take little of the stack.
     #[cycle(operands)]
-    #[tactic(auto, using(crate::proofs::ShapeLemmas::shapes, crate::proofs::SumLemmas::sums))]
+    #[tactic(auto, using(crate::proofs::ShapeLaws::shapes, crate::proofs::SumLemmas::sums))]
     fn node(&self, node: &'a Node<Expr>) -> Result<Operand<'a>, ScalarError>
         ensures { IsEvaluated (N.world self.now.names.now) (N.scope self.now.names.now) (expr.Node node.now) result }
     {
@@ -255,7 +255,7 @@ impl<'a, N: Names, T: Joins> Evaluation<'a, N, T> {
     /// A member of an operand.
     #[cycle(operands)]
     #[inline(never)]
-    #[tactic(auto, using(crate::proofs::ShapeLemmas::operands, crate::proofs::ShapeLemmas::shape_member, crate::proofs::SumLemmas::sums_member))]
+    #[tactic(auto, using(crate::proofs::ShapeLaws::operands, crate::proofs::ShapeLaws::shape_member, crate::proofs::SumLemmas::sums_member))]
     fn member(&self, operand: &'a Expr, member: &str) -> Result<Operand<'a>, ScalarError>
         ensures { IsEvaluated (N.world self.now.names.now) (N.scope self.now.names.now) (expr.Node (node.Member operand.now member.now)) result }
     {
@@ -266,7 +266,7 @@ impl<'a, N: Names, T: Joins> Evaluation<'a, N, T> {
     /// What a method finds in a text.
     #[cycle(operands)]
     #[inline(never)]
-    #[tactic(auto, using(crate::proofs::ShapeLemmas::operands, crate::proofs::ShapeLemmas::shape_method, crate::proofs::SumLemmas::sums_method))]
+    #[tactic(auto, using(crate::proofs::ShapeLaws::operands, crate::proofs::ShapeLaws::shape_method, crate::proofs::SumLemmas::sums_method))]
     fn method(
         &self,
         arguments: &'a List<Argument<Expr>>,
@@ -284,7 +284,7 @@ impl<'a, N: Names, T: Joins> Evaluation<'a, N, T> {
     /// The number with the other sign.
     #[cycle(operands)]
     #[inline(never)]
-    #[tactic(auto, using(crate::proofs::ShapeLemmas::operands, crate::proofs::ShapeLemmas::shape_minus, crate::proofs::SumLemmas::sums_unary))]
+    #[tactic(auto, using(crate::proofs::ShapeLaws::operands, crate::proofs::ShapeLaws::shape_minus, crate::proofs::SumLemmas::sums_unary))]
     fn minus(&self, operand: &'a Expr) -> Result<Operand<'a>, ScalarError>
         ensures { IsEvaluated (N.world self.now.names.now) (N.scope self.now.names.now) (expr.Node (node.Unary unary.Minus operand.now)) result }
     {
@@ -294,7 +294,7 @@ impl<'a, N: Names, T: Joins> Evaluation<'a, N, T> {
     /// The other truth value.
     #[cycle(operands)]
     #[inline(never)]
-    #[tactic(auto, using(crate::proofs::ShapeLemmas::operands, crate::proofs::ShapeLemmas::shape_not, crate::proofs::SumLemmas::sums_unary))]
+    #[tactic(auto, using(crate::proofs::ShapeLaws::operands, crate::proofs::ShapeLaws::shape_not, crate::proofs::SumLemmas::sums_unary))]
     fn not(&self, operand: &'a Expr) -> Result<Operand<'a>, ScalarError>
         ensures { IsEvaluated (N.world self.now.names.now) (N.scope self.now.names.now) (expr.Node (node.Unary unary.Not operand.now)) result }
     {
@@ -305,7 +305,7 @@ impl<'a, N: Names, T: Joins> Evaluation<'a, N, T> {
     /// What a sign between two operands gives.
     #[cycle(operands)]
     #[inline(never)]
-    #[tactic(auto, using(crate::proofs::ShapeLemmas::operands, crate::proofs::ShapeLemmas::shape_binary, crate::proofs::SumLemmas::sums_binary))]
+    #[tactic(auto, using(crate::proofs::ShapeLaws::operands, crate::proofs::ShapeLaws::shape_binary, crate::proofs::SumLemmas::sums_binary))]
     fn binary(
         &self,
         sign: Binary,
@@ -327,7 +327,7 @@ impl<'a, N: Names, T: Joins> Evaluation<'a, N, T> {
     /// Whether both are true; the second is evaluated only where the first is.
     #[cycle(operands)]
     #[inline(never)]
-    #[tactic(auto, using(crate::proofs::ShapeLemmas::operands, crate::proofs::ShapeLemmas::shape_both, crate::proofs::SumLemmas::sums_both))]
+    #[tactic(auto, using(crate::proofs::ShapeLaws::operands, crate::proofs::ShapeLaws::shape_both, crate::proofs::SumLemmas::sums_both))]
     fn both(&self, left: &'a Expr, right: &'a Expr) -> Result<Operand<'a>, ScalarError>
         ensures { IsEvaluated (N.world self.now.names.now) (N.scope self.now.names.now) (expr.Node (node.And left.now right.now)) result }
     {
@@ -340,7 +340,7 @@ impl<'a, N: Names, T: Joins> Evaluation<'a, N, T> {
     /// Whether one is true; the second is evaluated only where the first isn't.
     #[cycle(operands)]
     #[inline(never)]
-    #[tactic(auto, using(crate::proofs::ShapeLemmas::operands, crate::proofs::ShapeLemmas::shape_either, crate::proofs::SumLemmas::sums_either))]
+    #[tactic(auto, using(crate::proofs::ShapeLaws::operands, crate::proofs::ShapeLaws::shape_either, crate::proofs::SumLemmas::sums_either))]
     fn either(&self, left: &'a Expr, right: &'a Expr) -> Result<Operand<'a>, ScalarError>
         ensures { IsEvaluated (N.world self.now.names.now) (N.scope self.now.names.now) (expr.Node (node.Or left.now right.now)) result }
     {
@@ -353,7 +353,7 @@ impl<'a, N: Names, T: Joins> Evaluation<'a, N, T> {
     /// The first, or the second in place of null.
     #[cycle(operands)]
     #[inline(never)]
-    #[tactic(auto, using(crate::proofs::ShapeLemmas::operands, crate::proofs::ShapeLemmas::shape_coalesce, crate::proofs::SumLemmas::sums_coalesce))]
+    #[tactic(auto, using(crate::proofs::ShapeLaws::operands, crate::proofs::ShapeLaws::shape_coalesce, crate::proofs::SumLemmas::sums_coalesce))]
     fn coalesced(&self, left: &'a Expr, right: &'a Expr) -> Result<Operand<'a>, ScalarError>
         ensures { IsEvaluated (N.world self.now.names.now) (N.scope self.now.names.now) (expr.Node (node.Coalesce left.now right.now)) result }
     {
@@ -367,7 +367,7 @@ impl<'a, N: Names, T: Joins> Evaluation<'a, N, T> {
     /// The one that the condition chooses; the other is not evaluated.
     #[cycle(operands)]
     #[inline(never)]
-    #[tactic(auto, using(crate::proofs::ShapeLemmas::operands, crate::proofs::ShapeLemmas::shape_choice, crate::proofs::SumLemmas::sums_choice))]
+    #[tactic(auto, using(crate::proofs::ShapeLaws::operands, crate::proofs::ShapeLaws::shape_choice, crate::proofs::SumLemmas::sums_choice))]
     fn chosen(
         &self,
         condition: &'a Expr,
@@ -385,7 +385,7 @@ impl<'a, N: Names, T: Joins> Evaluation<'a, N, T> {
     /// What the one argument of a method is. No typed expression has another number of them, or a
     /// lambda.
     #[cycle(operands)]
-    #[tactic(auto, using(crate::proofs::ShapeLemmas::operands))]
+    #[tactic(auto, using(crate::proofs::ShapeLaws::operands))]
     fn argument(&self, arguments: &'a List<Argument<Expr>>) -> Result<Operand<'a>, ScalarError>
         ensures { IsOperand (N.scope self.now.names.now) (sums_of_argument (sole_argument arguments.now))
             (shape_of_argument (N.world self.now.names.now) (N.scope self.now.names.now) (sole_argument arguments.now)) result }
@@ -397,7 +397,7 @@ impl<'a, N: Names, T: Joins> Evaluation<'a, N, T> {
     }
 
     /// The truth value that a condition is, or its first fault.
-    #[tactic(auto, using(crate::proofs::ShapeLemmas::operands))]
+    #[tactic(auto, using(crate::proofs::ShapeLaws::operands))]
     pub(crate) fn truth(&self, condition: &'a Expr) -> Result<bool, ScalarError>
         ensures meant { IsTruth (truth_of_expression (N.world self.now.names.now) (N.scope self.now.names.now) condition.now) result }
         ensures sparing { IsSparing (sums_in condition.now) result }

@@ -20,7 +20,7 @@ fn is_number(known: ExprType) -> bool
 }
 
 /// Whether there is a type, and it is `bool`.
-#[tactic(auto, using(crate::proofs::TypeLemmas::layer_known))]
+#[tactic(auto, using(crate::proofs::TypeLaws::layer_known))]
 fn is_bool(found: Option<ExprType>) -> bool
     ensures { result ≡ is_bool_type (option_map shown_type found) }
 {
@@ -28,7 +28,7 @@ fn is_bool(found: Option<ExprType>) -> bool
 }
 
 /// Whether there is a type, and it is `string`.
-#[tactic(auto, using(crate::proofs::TypeLemmas::layer_known))]
+#[tactic(auto, using(crate::proofs::TypeLaws::layer_known))]
 pub(crate) fn is_text(found: Option<ExprType>) -> bool
     ensures { result ≡ is_text_type (option_map shown_type found) }
 {
@@ -36,7 +36,7 @@ pub(crate) fn is_text(found: Option<ExprType>) -> bool
 }
 
 /// Whether there is a type, and it is that of a row.
-#[tactic(auto, using(crate::proofs::TypeLemmas::layer_known))]
+#[tactic(auto, using(crate::proofs::TypeLaws::layer_known))]
 pub(crate) fn is_row(found: Option<ExprType>) -> bool
     ensures { result ≡ is_row_type (option_map shown_type found) }
 {
@@ -58,7 +58,7 @@ fn search_type(text: Option<ExprType>, part: Option<ExprType>) -> Option<ExprTyp
 }
 
 /// The type of a number's negative.
-#[tactic(auto, using(crate::proofs::TypeLemmas::layer_known))]
+#[tactic(auto, using(crate::proofs::TypeLaws::layer_known))]
 fn negated(found: Option<ExprType>) -> Option<ExprType>
     ensures { option_map shown_type result ≡ if_number (option_map shown_type found) }
 {
@@ -188,7 +188,7 @@ fn member_type<N: Names>(names: &N, member: &str, operand: ExprType) -> Option<E
 
 /// The type of an expression where these names stand; None where it has none.
 #[cycle(types)]
-#[tactic(auto, using(crate::proofs::TypeLemmas::types))]
+#[tactic(auto, using(crate::proofs::TypeLaws::types))]
 pub fn type_of<N: Names>(names: &N, expression: &Expr) -> Option<ExprType>
     ensures { option_map shown_type result ≡ type_of expression.now (names_at (N.world names.now) (N.scope names.now)) }
 {
@@ -200,7 +200,7 @@ pub fn type_of<N: Names>(names: &N, expression: &Expr) -> Option<ExprType>
 
 /// The type of the expression of a node.
 #[cycle(types)]
-#[tactic(auto, using(crate::proofs::TypeLemmas::types))]
+#[tactic(auto, using(crate::proofs::TypeLaws::types))]
 fn type_of_node<N: Names>(names: &N, node: &Node<Expr>) -> Option<ExprType>
     ensures { option_map shown_type result ≡ type_of (expr.Node node.now) (names_at (N.world names.now) (N.scope names.now)) }
 {

@@ -4,9 +4,9 @@ use Rattle.std.specs.List.{Contains, list_any}
 use Rattle.std.proofs.lemmas.Bool.{and_from, and_parts}
 use Rattle.std.proofs.lemmas.Bool.Decides.{Decides-eqb}
 use Rattle.std.proofs.lemmas.Option.{none-some, same_Some}
-use Rattle.lq_security.proofs.MembershipLemmas.{has_cases, has_first, has_later, none_in_nil}
+use Rattle.lq_security.proofs.MembershipLaws.{has_cases, has_first, has_later, none_in_nil}
 use Rattle.lq_security.proofs.PolicyLemmas.{found_at, found_where_listed, listed_where_found, not_true}
-use Rattle.lq_security.proofs.RightLemmas.{bearing_given, bearing_told, is_column, passing, use_given, use_told}
+use Rattle.lq_security.proofs.RightLaws.{bearing_given, bearing_told, is_column, passing, use_given, use_told}
 use Rattle.lq_security.specs.DenialLaws.{Concerns, of_column, of_insertion, of_removal, of_table, IsDeniedUnder, ungranted, withheld, IsFirstDenied, DeniesFirst, NamesDenier}
 use Rattle.lq_security.specs.Rights.{Denied, MayUse, concerns, denial, denied_or, denier_of, first_concerning, is_column_of, may_use}
 use Rattle.lq_security.specs.Visible.{is_listed}

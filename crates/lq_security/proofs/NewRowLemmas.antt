@@ -3,7 +3,7 @@ use Rattle.std.proofs.Common.{◌≡◌, ◌↔◌, ◌&&◌, ◌||◌, if◌the
 use Rattle.std.specs.List.{Contains, list_any, list_all}
 use Rattle.std.proofs.lemmas.Option.{none-some, same_Some}
 use Rattle.lq_value.specs.declared.scalar.Scalar.{Scalar}
-use Rattle.lq_security.proofs.MembershipLemmas.{has_cases, has_first, has_later, none_in_nil}
+use Rattle.lq_security.proofs.MembershipLaws.{has_cases, has_first, has_later, none_in_nil}
 use Rattle.lq_security.proofs.PolicyLemmas.{allows_by_parts, allows_parts, applies_where_found, asked_by, found_where_it_applies, not_true, permitting_one, some_permit, told_where_visible, visible_where_told}
 use Rattle.lq_security.proofs.DecidedPolicies.{IsFirstRefusing, IsRefusedBy, IsVisible, default, restriction}
 use Rattle.lq_security.specs.Visible.{Asked, admit, allows, applies, applying, first_refusing, is_admitted, permits, admitted_to, refuser_among, refuser_for, refuser_in, refuser_of, visible_to}

@@ -9,7 +9,7 @@ use Rattle.std.proofs.lemmas.List.Sums.{AllPass-from_list_all, list_all-from_All
 use Rattle.std.proofs.lemmas.Option.{same_Some}
 use Rattle.std.proofs.lemmas.Slice.Eq.{bytes_eq-Decides}
 use Rattle.lq_value.specs.declared.scalar.Scalar.{Scalar}
-use Rattle.lq_security.proofs.MembershipLemmas.{has_cases, has_later, has_where_kept, kept_where_it_passes, tells_memberships}
+use Rattle.lq_security.proofs.MembershipLaws.{has_cases, has_later, has_where_kept, kept_where_it_passes, tells_memberships}
 use Rattle.lq_security.specs.PolicyLaws.{HasOneMore, IsDeniedByDefault, IsDeniedToStrangers, IsOpenToBypass, IsOpenWithoutSecurity, LacksPermission, NarrowsByRestriction, ReadsWhatItRemoves, WidensByPermission}
 use Rattle.lq_security.proofs.DecidedPolicies.{Admits, read, put_in, removed, IsAdmitted, IsSatisfied, IsVisible, unsecured, bypassing, admitted}
 use Rattle.lq_security.specs.Visible.{Applies, Asked, GoesBy, HasRule, using, check, using_for_check, IsFor, every, this, IsListed, all, named, admitted_by, admitted_for, admitted_to, allows, applies, applying, check_or_using, goes_by, holds_on, is_admitted, is_listed, is_named, is_same_action, permits, rule_for, visible_to}

@@ -24,7 +24,7 @@ use Rattle.lq_security.specs.declared.policy.PolicyParts.{PolicyParts}
 use Rattle.lq_security.specs.declared.policy.TablePart.{TablePart}
 use Rattle.lq_grammar.specs.declared.syntax.Expr.{Expr}
 use Rattle.lq_security.proofs.DecidedPolicies as decided
-use Rattle.lq_security.proofs.MembershipLemmas.{has_first}
+use Rattle.lq_security.proofs.MembershipLaws.{has_first}
 use Rattle.lq_security.proofs.NewRowLemmas.{accepts_decided, tells_decided}
 use Rattle.lq_security.proofs.PolicyLemmas.{asked_by, told_where_visible, visible_where_told}
 use Rattle.lq_security.proofs.RuleLemmas.{meant, truth_of_value}

@@ -30,13 +30,13 @@ use Rattle.lq_security.specs.Visible.{is_true, rule_holds, rule_scope, rule_worl
 use Rattle.lq_language.specs.Meaning.{expression_meaning}
 use Rattle.lq_language.specs.MeaningLaws.{IsScopeOfValues, IsValueOf, by_row, by_scalar}
 use Rattle.lq_grammar.specs.declared.syntax.Expr.{Expr}
-use Rattle.lq_language.proofs.EveryItem.{every_more, every_none}
-use Rattle.lq_language.proofs.MeaningLemmas.{cell_there}
+use Rattle.lq_language.proofs.ItemLaws.{every_more, every_none}
+use Rattle.lq_language.proofs.MeaningLaws.{cell_there}
 use Rattle.lq_security.proofs.RuleTyping.{total_alike}
-use Rattle.lq_language.proofs.ServedMeanings.{keeps_meanings}
+use Rattle.lq_language.proofs.ServedMeaningLaws.{keeps_meanings}
 use Rattle.lq_security.proofs.TotalRules.{decides_rules}
-use Rattle.lq_language.proofs.TypingLemmas.{type_sound}
-use Rattle.lq_language.proofs.TypedMeanings.{has_whole_meaning}
+use Rattle.lq_language.proofs.TypingLaws.{type_sound}
+use Rattle.lq_language.proofs.TypedMeaningLaws.{has_whole_meaning}
 use Rattle.lq_security.proofs.RuleMeanings.{total_same}
 
 -- what is true of what an expression means

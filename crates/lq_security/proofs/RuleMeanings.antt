@@ -26,8 +26,8 @@ use Rattle.lq_grammar.specs.declared.syntax.Binary.TheVariants as binary
 use Rattle.lq_grammar.specs.declared.syntax.Expr.{Expr}
 use Rattle.lq_grammar.specs.declared.syntax.Expr.TheVariants as expr
 use Rattle.lq_grammar.specs.declared.syntax.Node.TheVariants as node
-use Rattle.lq_language.proofs.Opens.{meaning_binary, meaning_both, meaning_choice, meaning_coalesce, meaning_either, meaning_integer, meaning_member, meaning_method, meaning_minus, meaning_name, meaning_not, meaning_null, meaning_text, meaning_truth}
-use Rattle.lq_security.proofs.RuleTypes.{total_no_row}
+use Rattle.lq_language.proofs.FormLaws.{meaning_binary, meaning_both, meaning_choice, meaning_coalesce, meaning_either, meaning_integer, meaning_member, meaning_method, meaning_minus, meaning_name, meaning_not, meaning_null, meaning_text, meaning_truth}
+use Rattle.lq_security.proofs.RuleTypeLaws.{total_no_row}
 
 -- ---- what follows an operand
 

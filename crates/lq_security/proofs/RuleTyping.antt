@@ -25,11 +25,11 @@ use Rattle.lq_grammar.specs.declared.syntax.Expr.TheVariants as expr
 use Rattle.lq_grammar.specs.declared.syntax.Node.{Node}
 use Rattle.lq_grammar.specs.declared.syntax.Node.TheVariants as node
 use Rattle.lq_grammar.specs.declared.syntax.Unary.TheVariants as unary
-use Rattle.lq_language.proofs.MemberLemmas.{search_told}
-use Rattle.lq_language.proofs.Opens.{type_binary, type_both, type_choice, type_coalesce, type_either, type_integer, type_member, type_method, type_minus, type_name, type_not, type_null, type_text, type_truth}
-use Rattle.lq_security.proofs.RuleTypes.{rule_locals}
-use Rattle.lq_language.proofs.ValuesOfTypes.{is_plain}
-use Rattle.lq_language.proofs.KeptTypes.{whole_is, whole_layer}
+use Rattle.lq_language.proofs.MemberLaws.{search_told}
+use Rattle.lq_language.proofs.FormLaws.{type_binary, type_both, type_choice, type_coalesce, type_either, type_integer, type_member, type_method, type_minus, type_name, type_not, type_null, type_text, type_truth}
+use Rattle.lq_security.proofs.RuleTypeLaws.{rule_locals}
+use Rattle.lq_language.proofs.ValueLaws.{is_plain}
+use Rattle.lq_language.proofs.KeptTypeLaws.{whole_is, whole_layer}
 
 -- ---- types of scalars and of null
 

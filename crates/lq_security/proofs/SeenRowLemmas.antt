@@ -7,7 +7,7 @@ use Rattle.lq_value.specs.Tables.{Table}
 use Rattle.lq_value.specs.declared.scalar.Scalar.{Scalar}
 use Rattle.lq_value.specs.declared.table.Row.{Row}
 use Rattle.lq_value.specs.declared.table.Schema.{Schema}
-use Rattle.lq_language.proofs.EveryItem.{first_of, others_of}
+use Rattle.lq_language.proofs.ItemLaws.{first_of, others_of}
 use Rattle.lq_security.proofs.ReadPolicies.{tells_visible}
 use Rattle.lq_language.specs.ValuesOfTypes.{Every}
 use Rattle.lq_security.specs.RuleLaws.{IsRowOver}

@@ -45,11 +45,11 @@ use Rattle.lq_grammar.specs.declared.syntax.Expr.TheVariants.{outs-Node}
 use Rattle.lq_grammar.specs.declared.syntax.Node.{Node}
 use Rattle.lq_grammar.specs.declared.syntax.Node.TheVariants as node
 use Rattle.lq_grammar.specs.declared.syntax.Unary.TheVariants as unary
-use Rattle.lq_language.proofs.Opens.{meaning_binary, meaning_both, meaning_choice, meaning_coalesce, meaning_either, meaning_integer, meaning_member, meaning_method, meaning_minus, meaning_name, meaning_not, meaning_null, meaning_text, meaning_truth, type_binary, type_both, type_choice, type_coalesce, type_either, type_integer, type_member, type_method, type_minus, type_name, type_not, type_null, type_text, type_truth}
-use Rattle.lq_language.proofs.MeaningLemmas.{cell_there}
-use Rattle.lq_security.proofs.RuleTypes.{total_no_row}
-use Rattle.lq_language.proofs.ScalarResults.{Coalesces, bool_layer, chosen_widens, coalesced_fits, comparable_same, number_layer, number_there, numbers_ordered}
-use Rattle.lq_language.proofs.TypingLemmas.{is_text_of, is_truth, type_complete}
+use Rattle.lq_language.proofs.FormLaws.{meaning_binary, meaning_both, meaning_choice, meaning_coalesce, meaning_either, meaning_integer, meaning_member, meaning_method, meaning_minus, meaning_name, meaning_not, meaning_null, meaning_text, meaning_truth, type_binary, type_both, type_choice, type_coalesce, type_either, type_integer, type_member, type_method, type_minus, type_name, type_not, type_null, type_text, type_truth}
+use Rattle.lq_language.proofs.MeaningLaws.{cell_there}
+use Rattle.lq_security.proofs.RuleTypeLaws.{total_no_row}
+use Rattle.lq_language.proofs.ScalarResultLaws.{Coalesces, bool_layer, chosen_widens, coalesced_fits, comparable_same, number_layer, number_there, numbers_ordered}
+use Rattle.lq_language.proofs.TypingLaws.{is_text_of, is_truth, type_complete}
 
 -- ---- ints
 

@@ -4,7 +4,7 @@ use Rattle.std.specs.Io.KnownBytes.{Appends, Keeps}
 use Rattle.std.proofs.KnownBytes.{Appends-nil, Appends-trans, Appends-kept}
 use Rattle.lq_machine.specs.States.{State}
 use Rattle.lq_machine.specs.Output.{joined}
-use Rattle.lq_machine.proofs.OutputLemmas.{Runs-more, joined-more, count_of_replies-more, IsCutOff-more, IsCutOff-whole}
+use Rattle.lq_machine.proofs.OutputLaws.{Runs-more, joined-more, count_of_replies-more, IsCutOff-more, IsCutOff-whole}
 use Rattle.lq_serve.specs.ScriptRun.{Served, Stopped, Told, ToldInPart}
 use Rattle.lq_serve.specs.declared.script_run.Summary.{Summary}
 

@@ -13,16 +13,16 @@ use Rattle.lq_language.specs.declared.rights.Use.{Use}
 use Rattle.lq_language.specs.declared.rights.Use.TheVariants as used
 use Rattle.lq_grammar.specs.declared.syntax.Expr.{Expr}
 use Rattle.lq_translate.specs.Translated.{translated}
-use Rattle.lq_translate.proofs.Alike.{terms_typed}
+use Rattle.lq_translate.proofs.AlikeTermLaws.{terms_typed}
 use Rattle.lq_tree.specs.Places.{Places, names_of_places, with_name}
 use Rattle.lq_tree.specs.SessionPlaces.{statement_places}
 use Rattle.lq_tree.specs.UsesOfForms.{form_uses}
 use Rattle.lq_tree.specs.declared.tree.Tree.{Tree}
-use Rattle.lq_tree.proofs.NodeUses.{item_unused}
-use Rattle.lq_tree.proofs.Scopes.{append_none}
-use Rattle.lq_tree.proofs.SessionPlaceLemmas.{places_use, statement_names}
-use Rattle.lq_tree.proofs.TermTypes.{types_same}
-use Rattle.lq_tree.proofs.TermUses.{expression_uses_same}
+use Rattle.lq_tree.proofs.NodeUseLaws.{item_unused}
+use Rattle.lq_tree.proofs.ScopeLaws.{append_none}
+use Rattle.lq_tree.proofs.SessionPlaceLaws.{places_use, statement_names}
+use Rattle.lq_tree.proofs.TermTypeLaws.{types_same}
+use Rattle.lq_tree.proofs.TermUseLaws.{expression_uses_same}
 use Rattle.lq_run.specs.Statements.{TellsDenial, condition_in}
 
 module _ (s : State) (x : List ℕ) (n : ℕ) (e : Expr) where

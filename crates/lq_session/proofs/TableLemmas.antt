@@ -4,7 +4,7 @@ use Rattle.lq_value.specs.Tables.{Table, first_named}
 use Rattle.lq_store.specs.Rules.{name_of}
 use Rattle.lq_machine.specs.States.{State, schemas_of}
 use Rattle.lq_language.specs.Names.{table_number}
-use Rattle.lq_bind.proofs.TermLemmas.{table_found}
+use Rattle.lq_bind.proofs.TermLaws.{table_found}
 
 there : (tables : List Table) (n : ℕ) → n < length tables → (table : Table) × (slice_get tables n ≡ Some table)
 there [] n within = absurd (omega (arith, within))

@@ -20,11 +20,11 @@ use Rattle.lq_machine.specs.declared.session.Defined.TheVariants as of
 use Rattle.lq_machine.specs.declared.session.Definition.{Definition}
 use Rattle.lq_machine.specs.declared.session.Opened.{Opened}
 use Rattle.lq_grammar.specs.declared.syntax.Expr.{Expr}
-use Rattle.lq_machine.proofs.KeptDefinitions.{converted, unknown_name}
-use Rattle.lq_machine.proofs.StatementLemmas.{assigned_other, assigned_query, assigned_unknown, assigned_untyped, assigns}
-use Rattle.lq_language.proofs.ValuesOfTypes.{is_plain}
+use Rattle.lq_machine.proofs.KeptDefinitionLaws.{converted, unknown_name}
+use Rattle.lq_machine.proofs.StatementLaws.{assigned_other, assigned_query, assigned_unknown, assigned_untyped, assigns}
+use Rattle.lq_language.proofs.ValueLaws.{is_plain}
 use Rattle.lq_tree.specs.declared.tree.Tree.{Tree}
-use Rattle.lq_tree.proofs.SessionPlaceLemmas.{types_of_statements}
+use Rattle.lq_tree.proofs.SessionPlaceLaws.{types_of_statements}
 use Rattle.lq_run.specs.States.{IsValueFor}
 use Rattle.lq_run.specs.Statements.{IsEvaluated, is_of_scalars, tree_in}
 use Rattle.lq_run.specs.declared.scalars.Evaluated.TheVariants as answer

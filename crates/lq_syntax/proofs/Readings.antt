@@ -9,8 +9,8 @@ use Rattle.lq_grammar.specs.Tokens.{tokens_of}
 use Rattle.lq_grammar.specs.declared.syntax.Expr.{Expr}
 use Rattle.lq_grammar.specs.declared.syntax.Statement.{Statement}
 use Rattle.lq_grammar.specs.declared.token.Token.{Token}
-use Rattle.lq_grammar.proofs.Completeness.{rule_complete, statement_complete}
-use Rattle.lq_grammar.proofs.Soundness.{rule_sound, statement_sound}
+use Rattle.lq_grammar.proofs.CompletenessLaws.{rule_complete, statement_complete}
+use Rattle.lq_grammar.proofs.SoundnessLaws.{rule_sound, statement_sound}
 use Rattle.lq_syntax.specs.Texts.{ReadsLine, ReadsRule, said}
 use Rattle.lq_syntax.specs.declared.error.SyntaxError.{SyntaxError}
 use Rattle.lq_syntax.specs.declared.error.SyntaxError.TheVariants as syntax

@@ -40,7 +40,7 @@ pub fn translate(alloc: Global, query: &Query<Expr>) -> Result<Call<Term>, Alloc
 ///
 /// Refused where there is no memory for it, and only there.
 #[cycle(translating)]
-#[tactic(auto, using(crate::proofs::Alike::translated_node))]
+#[tactic(auto, using(crate::proofs::AlikeTermLaws::translated_node))]
 pub fn translate_expression(alloc: Global, expression: &Expr) -> Result<Term, AllocError>
     ensures { IfOk result (λ made. made ≡ translated expression.now) }
 {
@@ -53,7 +53,7 @@ pub fn translate_expression(alloc: Global, expression: &Expr) -> Result<Term, Al
 /// The calls of a query, as an expression.
 #[cycle(translating)]
 #[inline(never)]
-#[tactic(auto, using(crate::proofs::Alike::translated_to_call))]
+#[tactic(auto, using(crate::proofs::AlikeTermLaws::translated_to_call))]
 fn call_of(alloc: Global, query: &Query<Expr>) -> Result<Term, AllocError>
     ensures { IfOk result (λ made. made ≡ translated (expr.Query query.now)) }
 {

@@ -39,12 +39,12 @@ use Rattle.lq_language.specs.declared.calls.Part.{Part}
 use Rattle.lq_language.specs.declared.methods.Through.TheVariants as through
 use Rattle.lq_grammar.specs.declared.syntax.Join.{Join}
 use Rattle.lq_grammar.specs.declared.syntax.SortKey.{SortKey}
-use Rattle.lq_language.proofs.AlikeStreams.{Agree, Alike, KeysAlike, Pair, agree_ok, both_agree, every_element, expand_alike, group_alike, join_alike, on_ok_agree, order_alike, select_alike, where_alike}
-use Rattle.lq_language.proofs.EveryItem.{every_more, every_none, first_of, others_of}
-use Rattle.lq_language.proofs.Findings.{map_by, when_by}
-use Rattle.lq_language.proofs.TypedMethods.{scalar_after, stream_alike, truth_same}
-use Rattle.lq_language.proofs.TypingLemmas.{is_truth}
-use Rattle.lq_language.proofs.ValuesOfTypes.{gets_ok, is_plain, sequence_is}
+use Rattle.lq_language.proofs.AlikeStreamLaws.{Agree, Alike, KeysAlike, Pair, agree_ok, both_agree, every_element, expand_alike, group_alike, join_alike, on_ok_agree, order_alike, select_alike, where_alike}
+use Rattle.lq_language.proofs.ItemLaws.{every_more, every_none, first_of, others_of}
+use Rattle.lq_language.proofs.FindingLaws.{map_by, when_by}
+use Rattle.lq_language.proofs.TypedMethodLaws.{scalar_after, stream_alike, truth_same}
+use Rattle.lq_language.proofs.TypingLaws.{is_truth}
+use Rattle.lq_language.proofs.ValueLaws.{gets_ok, is_plain, sequence_is}
 use Rattle.lq_tree.specs.Binding.{Binds, Stage, body_tree, call_items_tree, call_tree, condition_tree, element_tree, expanded_stage, gathered, grouped_stage, group_stage, if_fresh, inner_stage, items_of_stage, items_of_tree, join_keys, join_stage, joined_form, joined_stage, key_tree, keyed_tree, keys_of, let_stage, matched_stage, matched_type, operator_stage, order_stage, paired_stage, part_tree, placed_tree, query_tree, select_many_stage, select_stage, sequence_tree, sortable_tree, source_tree, stage_of, tree_of, walk_step, walked, where_stage}
 use Rattle.lq_tree.specs.FormMeaning.{Means, Slots, form_meaning, is_true, matched, sort_key}
 use Rattle.lq_tree.specs.Places.{Places, names_of_places, with_item, with_name}
@@ -55,9 +55,9 @@ use Rattle.lq_tree.proofs.CallTypes.{at_item, body_found, operator_found, patter
 use Rattle.lq_tree.proofs.FormSteps.{of_group, of_join, of_order, of_pair, of_select_many, of_sequence, of_through}
 use Rattle.lq_tree.proofs.MeansMembers.{at_slots, same_agree}
 use Rattle.lq_tree.proofs.Patterns.{behind_after}
-use Rattle.lq_tree.proofs.Scopes.{IsItem, Stands, append_behind, item_stands, item_value, slot_means, slot_reached, types_at}
-use Rattle.lq_tree.proofs.TypeLemmas.{type_found}
-use Rattle.lq_tree.proofs.Walks.{gathered_all, traversed, walk_none}
+use Rattle.lq_tree.proofs.ScopeLaws.{IsItem, Stands, append_behind, item_stands, item_value, slot_means, slot_reached, types_at}
+use Rattle.lq_tree.proofs.TypeLaws.{type_found}
+use Rattle.lq_tree.proofs.WalkLaws.{gathered_all, traversed, walk_none}
 
 placed_same : (o : Option Tree) (r : Tree) → option_and_then placed_tree o ≡ Some r → o ≡ Some r
 placed_same o r h = option_and_then_some placed_tree o r h (λ x there found. when_by _ (Some x) r found (λ placed is. there ∙ is))

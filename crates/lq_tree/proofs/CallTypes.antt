@@ -22,8 +22,8 @@ use Rattle.lq_tree.specs.Places.{Place, Places, names_of_places, places_of, with
 use Rattle.lq_tree.specs.declared.tree.Form.{Form}
 use Rattle.lq_tree.specs.declared.tree.Form.TheVariants as form
 use Rattle.lq_tree.specs.declared.tree.Tree.{Tree}
-use Rattle.lq_tree.proofs.TypeLemmas.{map_then, map_two, map_when, placed_found, type_found}
-use Rattle.lq_tree.proofs.Walks.{gathered_all, traversed, walk_none}
+use Rattle.lq_tree.proofs.TypeLaws.{map_then, map_two, map_when, placed_found, type_found}
+use Rattle.lq_tree.proofs.WalkLaws.{gathered_all, traversed, walk_none}
 
 -- ---- names
 

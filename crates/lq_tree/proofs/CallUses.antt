@@ -22,7 +22,7 @@ use Rattle.lq_language.specs.declared.rights.Use.{Use}
 use Rattle.lq_grammar.specs.declared.syntax.Join.{Join}
 use Rattle.lq_grammar.specs.declared.syntax.SortKey.{SortKey}
 use Rattle.lq_language.specs.Maps.{map_key}
-use Rattle.lq_language.proofs.Findings.{map_by, when_by}
+use Rattle.lq_language.proofs.FindingLaws.{map_by, when_by}
 use Rattle.lq_tree.specs.Binding.{Binds, Stage, body_tree, call_items_tree, call_tree, element_tree, expanded_stage, grouped_stage, if_fresh, inner_stage, items_of_stage, items_of_tree, joined_stage, key_tree, keyed_tree, keys_of, join_keys, matched_stage, matched_type, operator_stage, paired_stage, part_tree, placed_tree, query_tree, sequence_tree, sortable_tree, source_tree, stage_of, walk_step, walked, gathered}
 use Rattle.lq_tree.specs.Places.{Places, names_of_places, with_item, with_name}
 use Rattle.lq_tree.specs.UsesOfForms.{UseWhatIsKnown, form_uses}
@@ -30,11 +30,11 @@ use Rattle.lq_tree.specs.declared.tree.Form.{Form}
 use Rattle.lq_tree.specs.declared.tree.Form.TheVariants as form
 use Rattle.lq_tree.specs.declared.tree.Tree.{Tree}
 use Rattle.lq_tree.proofs.CallTypes.{body_found, fresh_found, matched_found, names_alike, operator_found, pattern_found, source_at_item, source_found}
-use Rattle.lq_tree.proofs.FormUses.{of_group, of_join, of_order, of_pair, of_select_many, of_sequence, of_slot, of_through}
-use Rattle.lq_tree.proofs.NodeUses.{item_unused}
-use Rattle.lq_tree.proofs.Scopes.{append_behind, append_none}
-use Rattle.lq_tree.proofs.TypeLemmas.{type_found}
-use Rattle.lq_tree.proofs.Walks.{gathered_all, traversed, walk_none}
+use Rattle.lq_tree.proofs.FormUseLaws.{of_group, of_join, of_order, of_pair, of_select_many, of_sequence, of_slot, of_through}
+use Rattle.lq_tree.proofs.NodeUseLaws.{item_unused}
+use Rattle.lq_tree.proofs.ScopeLaws.{append_behind, append_none}
+use Rattle.lq_tree.proofs.TypeLaws.{type_found}
+use Rattle.lq_tree.proofs.WalkLaws.{gathered_all, traversed, walk_none}
 
 -- what passes a test is what was there
 kept_by : (test : Tree → Bool) (o : Option Tree) (found : Tree) → option_and_then (λ x. when (test x) (Some x)) o ≡ Some found → o ≡ Some found

@@ -30,7 +30,7 @@ use Rattle.lq_language.specs.declared.methods.Through.TheVariants as through
 use Rattle.lq_language.specs.declared.operation.Op.{Op}
 use Rattle.lq_language.specs.declared.operation.Op.TheVariants as op
 use Rattle.lq_grammar.specs.declared.syntax.SortKey.{SortKey}
-use Rattle.lq_language.proofs.EveryItem.{each_same}
+use Rattle.lq_language.proofs.ItemLaws.{each_same}
 use Rattle.lq_tree.specs.FormMeaning.{Means, Slots, cell_in, form_meaning, if_there, is_null_value, is_true, joined_stream, key_in, matched, member_at, members_of, name_of_column, sort_key}
 use Rattle.lq_tree.specs.OperandKinds.{Among, Finds, HasCell, HasMember, IsEnumerable, IsGroup, IsScalar, IsScalarThat, MeetsKinds, Run, Runs, RunsFields, RunsKeys, TakesArgument, TakesMade, is_count, is_number, is_text, is_truth, items_in, takes_one, takes_two}
 use Rattle.lq_tree.specs.OperandKinds as kind

@@ -18,8 +18,8 @@ use Rattle.lq_language.specs.declared.methods.Simple.{Simple}
 use Rattle.lq_language.specs.declared.methods.Simple.TheVariants as simple
 use Rattle.lq_tree.specs.Rows.{mapped, result_map, stream_map}
 use Rattle.lq_tree.proofs.MappedMethods.{any_natural, count_natural, default_natural, distinct_natural, filter_map_natural, first_natural, last_natural, reversed_natural, single_natural}
-use Rattle.lq_tree.proofs.MappedStreams.{elements_natural, pair_map}
-use Rattle.lq_tree.proofs.MappedValues.{mapped_Group, mapped_Rec, mapped_Scalar, mapped_Seq, mapped_layer, mapped_out, same_kept}
+use Rattle.lq_tree.proofs.MappedStreamLaws.{elements_natural, pair_map}
+use Rattle.lq_tree.proofs.MappedValueLaws.{mapped_Group, mapped_Rec, mapped_Scalar, mapped_Seq, mapped_layer, mapped_out, same_kept}
 
 module _ {R S : Type 0} (f : R → S) where
   -- a value with its rows replaced

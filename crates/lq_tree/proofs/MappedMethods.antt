@@ -9,7 +9,7 @@ use Rattle.lq_language.specs.Enumerable.{all, any, at_end, concat, contains, cou
 use Rattle.lq_language.specs.Operations.{on_ok}
 use Rattle.lq_language.specs.Stream.{Stream, first_keys}
 use Rattle.lq_tree.specs.Rows.{result_map, stream_map}
-use Rattle.lq_tree.proofs.MappedStreams.{filter_natural, first_keys_natural, map_twice, then_natural, whole_natural}
+use Rattle.lq_tree.proofs.MappedStreamLaws.{filter_natural, first_keys_natural, map_twice, then_natural, whole_natural}
 
 module _ {A B : Type 0} (g : A → B) where
   -- ---- sequences

@@ -30,19 +30,19 @@ use Rattle.lq_language.specs.MeaningLaws.{AreMembers, Fits, IsValueOf, no_member
 use Rattle.lq_language.specs.Typing.{member_of}
 use Rattle.lq_language.specs.declared.operation.Op.{Op}
 use Rattle.lq_language.specs.declared.operation.Op.TheVariants as op
-use Rattle.lq_language.proofs.AlikeStreams.{Agree, on_ok_agree}
-use Rattle.lq_language.proofs.Findings.{map_by, when_by}
-use Rattle.lq_language.proofs.ScalarResults.{Gives, given_of, has_value_given, length_given, value_given}
-use Rattle.lq_language.proofs.TypedMethods.{column_agrees, key_agrees, member_agrees, scalar_member_agrees, settled_agree}
-use Rattle.lq_language.proofs.TypingLemmas.{is_of_layer, type_with}
-use Rattle.lq_language.proofs.ValuesOfTypes.{RecordOrNull, RowOrNull, a_record, a_row, group_value, is_plain, no_record, no_row, plain_value, record_value, row_value}
+use Rattle.lq_language.proofs.AlikeStreamLaws.{Agree, on_ok_agree}
+use Rattle.lq_language.proofs.FindingLaws.{map_by, when_by}
+use Rattle.lq_language.proofs.ScalarResultLaws.{Gives, given_of, has_value_given, length_given, value_given}
+use Rattle.lq_language.proofs.TypedMethodLaws.{column_agrees, key_agrees, member_agrees, scalar_member_agrees, settled_agree}
+use Rattle.lq_language.proofs.TypingLaws.{is_of_layer, type_with}
+use Rattle.lq_language.proofs.ValueLaws.{RecordOrNull, RowOrNull, a_record, a_row, group_value, is_plain, no_record, no_row, plain_value, record_value, row_value}
 use Rattle.lq_tree.specs.Binding.{group_key_tree, member_layer, member_tree, settled_form, settled_tree, nullable_tree, record_member_tree, text_tree, tree_of}
 use Rattle.lq_tree.specs.FormMeaning.{Slots, cell_in, column_name, form_meaning, if_there, key_in, member_at, name_of_column}
 use Rattle.lq_tree.specs.declared.tree.Form.{Form}
 use Rattle.lq_tree.specs.declared.tree.Form.TheVariants as form
 use Rattle.lq_tree.specs.declared.tree.Tree.{Tree}
 use Rattle.lq_tree.proofs.FormSteps.{of_column, of_key, of_member as means_member, of_sequence, of_unary}
-use Rattle.lq_tree.proofs.TypeLemmas.{column_first, first_position, first_with, get_at, map_if, member_first}
+use Rattle.lq_tree.proofs.TypeLaws.{column_first, first_position, first_with, get_at, map_if, member_first}
 
 -- ---- positions
 

@@ -27,13 +27,13 @@ use Rattle.lq_language.specs.declared.operation.Op.TheVariants as op
 use Rattle.lq_grammar.specs.declared.syntax.Binary.{Binary}
 use Rattle.lq_grammar.specs.declared.syntax.Binary.TheVariants as binary
 use Rattle.lq_grammar.specs.declared.syntax.Unary.TheVariants as unary
-use Rattle.lq_language.proofs.AlikeStreams.{Agree, agree_err, agree_ok, on_ok_agree}
-use Rattle.lq_language.proofs.Findings.{if_by, map_by, when_by}
-use Rattle.lq_language.proofs.ScalarResults.{Gives, arithmetic_of, coalesced_fits, given_of, joined_given, minus_given, ordering_given, signed}
-use Rattle.lq_language.proofs.TypedMethods.{given_agree, scalar_after, truth_after}
-use Rattle.lq_language.proofs.TypedOperators.{Keeps, choice_keeps, coalesced_plain, decides, plain_keeps}
-use Rattle.lq_language.proofs.TypingLemmas.{compares_not, is_truth}
-use Rattle.lq_language.proofs.ValuesOfTypes.{RecordOrNull, RowOrNull, a_record, a_row, group_value, is_plain, no_record, no_row, number_plain, plain_value, record_value, row_value, truth_is}
+use Rattle.lq_language.proofs.AlikeStreamLaws.{Agree, agree_err, agree_ok, on_ok_agree}
+use Rattle.lq_language.proofs.FindingLaws.{if_by, map_by, when_by}
+use Rattle.lq_language.proofs.ScalarResultLaws.{Gives, arithmetic_of, coalesced_fits, given_of, joined_given, minus_given, ordering_given, signed}
+use Rattle.lq_language.proofs.TypedMethodLaws.{given_agree, scalar_after, truth_after}
+use Rattle.lq_language.proofs.TypedOperatorLaws.{Keeps, choice_keeps, coalesced_plain, decides, plain_keeps}
+use Rattle.lq_language.proofs.TypingLaws.{compares_not, is_truth}
+use Rattle.lq_language.proofs.ValueLaws.{RecordOrNull, RowOrNull, a_record, a_row, group_value, is_plain, no_record, no_row, number_plain, plain_value, record_value, row_value, truth_is}
 use Rattle.lq_tree.specs.Binding.{and_tree, binary_form, binary_tree, coalesce_tree, conditional_tree, equality_form, is_literal, is_object, operation_at, or_tree, tested_first, tested_second, tree_of, unary_tree}
 use Rattle.lq_tree.specs.FormMeaning.{Slots, form_meaning, is_null_value}
 use Rattle.lq_tree.specs.declared.tree.Form.{Form, out-Form}
@@ -42,7 +42,7 @@ use Rattle.lq_tree.specs.declared.tree.Form.TheVariants as form
 use Rattle.lq_tree.specs.declared.tree.Tree.{Tree}
 use Rattle.lq_tree.proofs.FormSteps.{by_layer, of_and, of_binary, of_coalesce, of_conditional, of_first, of_is_null, of_or, of_pair, of_second, of_unary}
 use Rattle.lq_tree.proofs.MeansMembers.{at_slots, on_ok_twice, same_agree}
-use Rattle.lq_tree.proofs.Scopes.{first_of_pair, second_of_pair}
+use Rattle.lq_tree.proofs.ScopeLaws.{first_of_pair, second_of_pair}
 
 -- ---- which operator a sign is
 

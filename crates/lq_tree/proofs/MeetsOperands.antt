@@ -12,9 +12,9 @@ use Rattle.lq_language.specs.OperandTypes.{is_number, is_text}
 use Rattle.lq_language.specs.MeaningLaws.{IsValueOf}
 use Rattle.lq_language.specs.declared.methods.Through.TheVariants as through
 use Rattle.lq_language.specs.declared.operation.Op.TheVariants as op
-use Rattle.lq_language.proofs.AlikeStreams.{Pair, agree_ok, both_agree, select_alike}
-use Rattle.lq_language.proofs.TypedOperators.{coalesced_plain}
-use Rattle.lq_language.proofs.ValuesOfTypes.{RecordOrNull, RowOrNull, a_record, a_row, group_value, is_plain, no_record, no_row, plain_value, record_value, row_value}
+use Rattle.lq_language.proofs.AlikeStreamLaws.{Pair, agree_ok, both_agree, select_alike}
+use Rattle.lq_language.proofs.TypedOperatorLaws.{coalesced_plain}
+use Rattle.lq_language.proofs.ValueLaws.{RecordOrNull, RowOrNull, a_record, a_row, group_value, is_plain, no_record, no_row, plain_value, record_value, row_value}
 use Rattle.lq_tree.specs.FormMeaning.{Means, Slots, form_meaning, name_of_column}
 use Rattle.lq_tree.specs.OperandKinds.{Finds, HasCell, HasMember, IsEnumerable, IsGroup, IsPair, IsScalar, IsScalarThat, MeetsKinds, Runs, RunsFields, RunsKeys, SortAlike, takes_one, takes_two}
 use Rattle.lq_tree.specs.OperandKinds as kind

@@ -34,15 +34,15 @@ use Rattle.lq_grammar.specs.declared.syntax.Field.{Field}
 use Rattle.lq_grammar.specs.declared.syntax.Node.{Node}
 use Rattle.lq_grammar.specs.declared.syntax.Node.TheVariants as node
 use Rattle.lq_grammar.specs.declared.syntax.Unary.TheVariants as unary
-use Rattle.lq_language.proofs.AlikeStreams.{Agree, agree_err, agree_ok, on_ok_agree}
-use Rattle.lq_language.proofs.EveryItem.{every_map, table_there, first_of, others_of}
-use Rattle.lq_language.proofs.Findings.{map_by, when_by}
-use Rattle.lq_language.proofs.MemberLemmas.{search_given as search_known}
-use Rattle.lq_language.proofs.MethodPulls.{call_maps}
-use Rattle.lq_language.proofs.ScalarResults.{given_of, search_given}
-use Rattle.lq_language.proofs.TypedMethods.{given_agree, given_typed, scalar_after, simple_typed, stream_alike, through_typed, truth_same}
-use Rattle.lq_language.proofs.TypingLemmas.{is_text_of, is_truth}
-use Rattle.lq_language.proofs.ValuesOfTypes.{is_plain, scalar_is, sequence_is}
+use Rattle.lq_language.proofs.AlikeStreamLaws.{Agree, agree_err, agree_ok, on_ok_agree}
+use Rattle.lq_language.proofs.ItemLaws.{every_map, table_there, first_of, others_of}
+use Rattle.lq_language.proofs.FindingLaws.{map_by, when_by}
+use Rattle.lq_language.proofs.MemberLaws.{search_given as search_known}
+use Rattle.lq_language.proofs.MethodPullLaws.{call_maps}
+use Rattle.lq_language.proofs.ScalarResultLaws.{given_of, search_given}
+use Rattle.lq_language.proofs.TypedMethodLaws.{given_agree, given_typed, scalar_after, simple_typed, stream_alike, through_typed, truth_same}
+use Rattle.lq_language.proofs.TypingLaws.{is_text_of, is_truth}
+use Rattle.lq_language.proofs.ValueLaws.{is_plain, scalar_is, sequence_is}
 use Rattle.lq_tree.specs.Binding.{Binds, and_tree, binary_tree, coalesce_tree, conditional_tree, member_tree, of_two_trees, or_tree, called_tree, enumerable_tree, field_tree, fields_tree, form_of_field, gathered, lambda_tree, name_tree, node_tree, placed_tree, record_tree, search_form, search_tree, settled_tree, tree_of, type_of_field, within_tree, global_tree}
 use Rattle.lq_tree.specs.FormMeaning.{Slots, form_meaning, is_true, members_of}
 use Rattle.lq_tree.specs.Places.{Place, Places, names_of_places, place_of, with_name, SessionPlace, session_place}
@@ -53,9 +53,9 @@ use Rattle.lq_tree.proofs.FormSteps.{of_binary, of_given, of_literal, of_record,
 use Rattle.lq_tree.proofs.MeansMembers.{at_slots, member_means, same_agree, settled_goal}
 use Rattle.lq_tree.proofs.MeansOperators.{and_means, binary_means, coalesce_means, conditional_means, minus_means, not_means, or_means}
 use Rattle.lq_tree.proofs.NodeTypes.{method_by, node_found, sole_by}
-use Rattle.lq_tree.proofs.Scopes.{Found, Stands, append_none, item_stands, name_there, types_at}
-use Rattle.lq_tree.proofs.TypeLemmas.{search_by, type_found}
-use Rattle.lq_tree.proofs.Walks.{gathered_all, traversed}
+use Rattle.lq_tree.proofs.ScopeLaws.{Found, Stands, append_none, item_stands, name_there, types_at}
+use Rattle.lq_tree.proofs.TypeLaws.{search_by, type_found}
+use Rattle.lq_tree.proofs.WalkLaws.{gathered_all, traversed}
 use Rattle.lq_tree.specs.BindingLaws.{Gives, GivesAll}
 
 module _ {R : Type 0} (world : World R) (holds : HoldsRows world) (fits : IsSessionOfValues world) {X : Type 0} (tree : X → Binds) (typed : X → Names → Option Ty) (meant : X → Meaning R)

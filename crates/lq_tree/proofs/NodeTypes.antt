@@ -16,12 +16,12 @@ use Rattle.lq_grammar.specs.declared.syntax.Field.{Field}
 use Rattle.lq_grammar.specs.declared.syntax.Node.{Node}
 use Rattle.lq_grammar.specs.declared.syntax.Node.TheVariants as node
 use Rattle.lq_grammar.specs.declared.syntax.Unary.TheVariants as unary
-use Rattle.lq_language.proofs.MethodPulls.{call_maps}
+use Rattle.lq_language.proofs.MethodPullLaws.{call_maps}
 use Rattle.lq_tree.specs.Binding.{Binds, and_tree, binary_form, binary_tree, coalesce_tree, member_tree, node_tree, or_tree, unary_tree}
 use Rattle.lq_tree.specs.Places.{Places, names_of_places, place_of}
 use Rattle.lq_tree.specs.declared.tree.Form.TheVariants as form
 use Rattle.lq_tree.specs.declared.tree.Tree.{Tree}
-use Rattle.lq_tree.proofs.TypeLemmas.{choice_found, local_place, map_then, member_found, method_found, name_found, number_found, record_found_at, truth_found, truths_found, two_found, type_found, typed_found}
+use Rattle.lq_tree.proofs.TypeLaws.{choice_found, local_place, map_then, member_found, method_found, name_found, number_found, record_found_at, truth_found, truths_found, two_found, type_found, typed_found}
 
 -- where expressions are replaced, and what replaces them has their types
 module _ {X Y : Type 0} (f : X → Y) (typed : Y → Names → Option Ty) where

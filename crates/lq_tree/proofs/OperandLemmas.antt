@@ -30,12 +30,12 @@ use Rattle.lq_language.specs.declared.operation.Op.{Op}
 use Rattle.lq_language.specs.declared.operation.Op.TheVariants as op
 use Rattle.lq_grammar.specs.declared.syntax.Binary.{Binary}
 use Rattle.lq_grammar.specs.declared.syntax.Binary.TheVariants as binary
-use Rattle.lq_language.proofs.AlikeStreams.{every_append}
-use Rattle.lq_language.proofs.EveryItem.{every_none}
-use Rattle.lq_language.proofs.Findings.{if_by, when_by}
-use Rattle.lq_language.proofs.SameTypes.{same_type}
-use Rattle.lq_language.proofs.TypedMethods.{stream_alike}
-use Rattle.lq_language.proofs.ValuesOfTypes.{Gets, RecordOrNull, RowOrNull, a_record, a_row, group_value, is_plain, no_record, no_row, plain_value, record_value, row_value, scalar_is, sequence_value}
+use Rattle.lq_language.proofs.AlikeStreamLaws.{every_append}
+use Rattle.lq_language.proofs.ItemLaws.{every_none}
+use Rattle.lq_language.proofs.FindingLaws.{if_by, when_by}
+use Rattle.lq_language.proofs.SameTypeLaws.{same_type}
+use Rattle.lq_language.proofs.TypedMethodLaws.{stream_alike}
+use Rattle.lq_language.proofs.ValueLaws.{Gets, RecordOrNull, RowOrNull, a_record, a_row, group_value, is_plain, no_record, no_row, plain_value, record_value, row_value, scalar_is, sequence_value}
 use Rattle.lq_tree.specs.Binding.{is_object, operation_at}
 use Rattle.lq_tree.specs.OperandKinds.{IsEnumerable, IsScalar, IsScalarThat, Takes, TakesArgument, TakesItem, TakesMade, TakesSource, a_group, a_sequence, is_count, is_truth, suits, suits_through, takes_two}
 use Rattle.lq_tree.specs.OperandKinds as kind

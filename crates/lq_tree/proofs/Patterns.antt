@@ -11,7 +11,7 @@ use Rattle.lq_language.specs.declared.calls.Operator.{Operator}
 use Rattle.lq_language.specs.declared.calls.Operator.TheVariants as operator
 use Rattle.lq_language.specs.declared.calls.Paired.{Paired}
 use Rattle.lq_language.specs.declared.calls.Paired.TheVariants as paired
-use Rattle.lq_language.proofs.Findings.{map_by, when_by}
+use Rattle.lq_language.proofs.FindingLaws.{map_by, when_by}
 
 or_null_is : (o : Option Ty) (t : Ty) → o ≡ Some t → or_null o ≡ t
 or_null_is o t h = ap or_null h

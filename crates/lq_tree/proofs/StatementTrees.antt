@@ -18,21 +18,21 @@ use Rattle.lq_language.specs.UsesOfCalls.{call_uses, term_uses}
 use Rattle.lq_language.specs.Meaning.{expression_meaning}
 use Rattle.lq_language.specs.MeaningLaws.{IsSessionOfValues, IsValueOf, by_row}
 use Rattle.lq_machine.specs.declared.session.Definition.{Definition}
-use Rattle.lq_machine.proofs.DefinitionLemmas.{names_have_values}
-use Rattle.lq_language.proofs.EveryItem.{every_none}
+use Rattle.lq_machine.proofs.DefinitionLaws.{names_have_values}
+use Rattle.lq_language.proofs.ItemLaws.{every_none}
 use Rattle.lq_translate.specs.Translated.{translated}
-use Rattle.lq_translate.proofs.Alike.{terms_mean, terms_typed}
+use Rattle.lq_translate.proofs.AlikeTermLaws.{terms_mean, terms_typed}
 use Rattle.lq_tree.specs.BindingLaws.{GivesAll}
 use Rattle.lq_tree.specs.Places.{names_of_places}
 use Rattle.lq_tree.specs.SessionLaws.{MeaningsOfConditions, MeaningsOfStatementCalls, TypesOfConditions, TypesOfStatementCalls, UsesOfConditions, UsesOfStatementCalls, condition_places}
 use Rattle.lq_tree.specs.SessionPlaces.{statement_places}
-use Rattle.lq_tree.proofs.NodeUses.{item_unused}
-use Rattle.lq_tree.proofs.Scopes.{Stands, item_stands}
-use Rattle.lq_tree.proofs.SessionPlaceLemmas.{places_use, statement_names}
-use Rattle.lq_tree.proofs.SessionValues.{defines_names_alone, means_without, places_give}
-use Rattle.lq_tree.proofs.TermMeans.{call_meanings_same, meanings_same}
-use Rattle.lq_tree.proofs.TermTypes.{call_types_same, types_same}
-use Rattle.lq_tree.proofs.TermUses.{call_uses_same, expression_uses_same}
+use Rattle.lq_tree.proofs.NodeUseLaws.{item_unused}
+use Rattle.lq_tree.proofs.ScopeLaws.{Stands, item_stands}
+use Rattle.lq_tree.proofs.SessionPlaceLaws.{places_use, statement_names}
+use Rattle.lq_tree.proofs.SessionValueLaws.{defines_names_alone, means_without, places_give}
+use Rattle.lq_tree.proofs.TermMeanLaws.{call_meanings_same, meanings_same}
+use Rattle.lq_tree.proofs.TermTypeLaws.{call_types_same, types_same}
+use Rattle.lq_tree.proofs.TermUseLaws.{call_uses_same, expression_uses_same}
 
 -- where a statement stands, behind its definitions
 module _ {R : Type 0} (world : World R) (ds : List Definition) (holds : HoldsRows world) (none : world.session ≡ []) (all : AreDefined world.schemas ds) where

@@ -19,7 +19,7 @@ use Rattle.lq_language.specs.declared.calls.Paired.TheVariants as paired
 use Rattle.lq_language.specs.declared.calls.Part.{Part}
 use Rattle.lq_grammar.specs.declared.syntax.Join.{Join}
 use Rattle.lq_grammar.specs.declared.syntax.SortKey.{SortKey}
-use Rattle.lq_language.proofs.Findings.{map_by, when_by}
+use Rattle.lq_language.proofs.FindingLaws.{map_by, when_by}
 use Rattle.lq_tree.specs.Binding.{Binds, Stage, body_tree, call_items_tree, call_tree, element_tree, expanded_stage, gathered, grouped_stage, if_fresh, inner_stage, items_of_stage, items_of_tree, joined_stage, key_tree, keyed_tree, keys_of, join_keys, matched_stage, matched_type, operator_stage, paired_stage, part_tree, placed_tree, query_tree, sequence_tree, sortable_tree, source_tree, stage_of, walk_step, walked}
 use Rattle.lq_tree.specs.Places.{Places, names_of_places, with_item, with_name}
 use Rattle.lq_tree.specs.TypedForms.{Both, Gives, IsTyped, Many, Of, Shape, Sorts, matched_items, shape_of, type_of_shape, with_slot, with_slots}
@@ -28,9 +28,9 @@ use Rattle.lq_tree.specs.TypedFormLaws.{AreTyped}
 use Rattle.lq_tree.specs.declared.tree.Form.{Form}
 use Rattle.lq_tree.specs.declared.tree.Form.TheVariants as form
 use Rattle.lq_tree.specs.declared.tree.Tree.{Tree}
-use Rattle.lq_tree.proofs.Scopes.{append_behind, append_none, length_one_more}
+use Rattle.lq_tree.proofs.ScopeLaws.{append_behind, append_none, length_one_more}
 use Rattle.lq_tree.proofs.TypedNodes.{IsTypedTree, Typed, item_typed, slot_typed}
-use Rattle.lq_tree.proofs.Walks.{gathered_all, traversed, walk_none}
+use Rattle.lq_tree.proofs.WalkLaws.{gathered_all, traversed, walk_none}
 
 -- what passes a test, and what was there
 passed_by : {P : Type 0} (test : Tree → Bool) (o : Option Tree) (found : Tree) → option_and_then (λ x. when (test x) (Some x)) o ≡ Some found

@@ -31,12 +31,12 @@ use Rattle.lq_language.specs.declared.operation.Op.TheVariants as op
 use Rattle.lq_grammar.specs.declared.syntax.Binary.{Binary}
 use Rattle.lq_grammar.specs.declared.syntax.Binary.TheVariants as binary
 use Rattle.lq_grammar.specs.declared.syntax.SortKey.{SortKey}
-use Rattle.lq_language.proofs.AlikeStreams.{Agree, KeysAlike, Pair, agree_err, both_agree, agree_ok, every_element, expand_alike, group_alike, join_alike, order_alike, select_alike, where_alike}
-use Rattle.lq_language.proofs.EveryItem.{every_map, every_more, every_none}
-use Rattle.lq_language.proofs.ScalarResults.{Gives as Given_as, given_of, has_value_given, length_given, value_given}
-use Rattle.lq_language.proofs.TypedMethods.{given_agree, given_typed, scalar_after, simple_typed, stream_alike, through_typed}
-use Rattle.lq_language.proofs.TypingLemmas.{is_of_layer, type_with}
-use Rattle.lq_language.proofs.ValuesOfTypes.{RecordOrNull, a_record, is_plain, no_record, record_value, truth_is}
+use Rattle.lq_language.proofs.AlikeStreamLaws.{Agree, KeysAlike, Pair, agree_err, both_agree, agree_ok, every_element, expand_alike, group_alike, join_alike, order_alike, select_alike, where_alike}
+use Rattle.lq_language.proofs.ItemLaws.{every_map, every_more, every_none}
+use Rattle.lq_language.proofs.ScalarResultLaws.{Gives as Given_as, given_of, has_value_given, length_given, value_given}
+use Rattle.lq_language.proofs.TypedMethodLaws.{given_agree, given_typed, scalar_after, simple_typed, stream_alike, through_typed}
+use Rattle.lq_language.proofs.TypingLaws.{is_of_layer, type_with}
+use Rattle.lq_language.proofs.ValueLaws.{RecordOrNull, a_record, is_plain, no_record, record_value, truth_is}
 use Rattle.lq_tree.specs.Binding.{binary_form, is_object, operation_at, tested_first, tested_second, tree_of}
 use Rattle.lq_tree.specs.FormMeaning.{Means, Slots, cell_in, form_meaning, if_there, is_true, key_in, matched, member_at, members_of, sort_key}
 use Rattle.lq_tree.specs.TypedForms.{Both, FormClaim, Gives, Has, IsTyped, IsTypedForm, Many, Members, Of, Shape, Sorts, matched_items, type_of_shape, with_slot, with_slots}
@@ -47,7 +47,7 @@ use Rattle.lq_tree.specs.declared.tree.Form.TheVariants as form
 use Rattle.lq_tree.proofs.FormSteps.{of_binary, of_column, of_first, of_given, of_group, of_is_null, of_join, of_key, of_literal, of_member, of_order, of_pair, of_record, of_second, of_select_many, of_sequence, of_simple, of_slot, of_table, of_through, of_unary}
 use Rattle.lq_tree.proofs.MeansMembers.{at_slots, column_step, key_step}
 use Rattle.lq_tree.proofs.MeansOperators.{and_means, binary_means, coalesce_means, conditional_means, minus_means, not_means, or_means}
-use Rattle.lq_tree.proofs.Scopes.{first_of_pair, second_of_pair}
+use Rattle.lq_tree.proofs.ScopeLaws.{first_of_pair, second_of_pair}
 
 -- a sign between scalars is the operator that its types choose
 sign_form : (sign : Binary) (s t : Ty) (a b : Form) → is_object (out-Ty s) ≡ false → is_object (out-Ty t) ≡ false

@@ -31,9 +31,9 @@ use Rattle.lq_grammar.specs.declared.syntax.Node.{Node}
 use Rattle.lq_grammar.specs.declared.syntax.Node.TheVariants as node
 use Rattle.lq_grammar.specs.declared.syntax.Unary.{Unary}
 use Rattle.lq_grammar.specs.declared.syntax.Unary.TheVariants as unary
-use Rattle.lq_language.proofs.EveryItem.{every_more, first_of, others_of, table_there}
-use Rattle.lq_language.proofs.Findings.{if_by, map_by, when_by}
-use Rattle.lq_language.proofs.TypingLemmas.{is_of_layer, type_with}
+use Rattle.lq_language.proofs.ItemLaws.{every_more, first_of, others_of, table_there}
+use Rattle.lq_language.proofs.FindingLaws.{if_by, map_by, when_by}
+use Rattle.lq_language.proofs.TypingLaws.{is_of_layer, type_with}
 use Rattle.lq_tree.specs.Binding.{Binds, and_tree, binary_form, binary_tree, called_tree, coalesce_tree, column_tree, conditional_tree, enumerable_tree, field_tree, fields_tree, form_of_field, gathered, global_tree, is_literal, is_object, lambda_tree, member_layer, member_tree, name_tree, node_tree, of_two_trees, operation_at, or_tree, placed_tree, record_tree, search_form, search_tree, settled_tree, tested_first, tested_second, tree_of, type_of_field, unary_tree, within_tree}
 use Rattle.lq_tree.specs.FormMeaning.{column_name}
 use Rattle.lq_tree.specs.Places.{Place, Places, SessionPlace, names_of_places, place_of, places_of, session_place, with_item, with_name}
@@ -44,9 +44,9 @@ use Rattle.lq_tree.specs.declared.tree.Form.{Form, out-Form}
 use Rattle.lq_tree.specs.declared.tree.Form.TheVariants as form
 use Rattle.lq_tree.specs.declared.tree.Tree.{Tree}
 use Rattle.lq_tree.proofs.MeansMembers.{first_passes}
-use Rattle.lq_tree.proofs.Scopes.{append_behind, append_none, at_end, length_one_more}
-use Rattle.lq_tree.proofs.TypeLemmas.{column_first, first_position, first_with, get_at}
-use Rattle.lq_tree.proofs.Walks.{gathered_all, traversed}
+use Rattle.lq_tree.proofs.ScopeLaws.{append_behind, append_none, at_end, length_one_more}
+use Rattle.lq_tree.proofs.TypeLaws.{column_first, first_position, first_with, get_at}
+use Rattle.lq_tree.proofs.WalkLaws.{gathered_all, traversed}
 
 -- ---- which operator a sign is
 

@@ -11,8 +11,8 @@ use Rattle.lq_language.specs.Names.{SessionName}
 use Rattle.lq_machine.specs.declared.session.Defined.{Defined}
 use Rattle.lq_machine.specs.declared.session.Defined.TheVariants as of
 use Rattle.lq_machine.specs.declared.session.Definition.{Definition}
-use Rattle.lq_language.proofs.AlikeStreams.{every_append}
-use Rattle.lq_language.proofs.EveryItem.{every_more, every_none}
+use Rattle.lq_language.proofs.AlikeStreamLaws.{every_append}
+use Rattle.lq_language.proofs.ItemLaws.{every_more, every_none}
 use Rattle.lq_tree.specs.Binding.{tree_of}
 use Rattle.lq_tree.specs.Places.{Place, SessionPlace}
 use Rattle.lq_tree.specs.SessionPlaces.{defined_form, form_or_null, known_of, placed_after, placed_as, places_outside, session_places, statement_places}
@@ -20,7 +20,7 @@ use Rattle.lq_tree.specs.TypedForms.{IsTypedForm, Of, Shape}
 use Rattle.lq_tree.specs.TypedForms as rule
 use Rattle.lq_tree.specs.TypedFormLaws.{PlacesAreTyped, TypedStatements}
 use Rattle.lq_tree.specs.declared.tree.Tree.{Tree}
-use Rattle.lq_tree.proofs.SessionPlaceLemmas.{known_so_far, query_tree}
+use Rattle.lq_tree.proofs.SessionPlaceLaws.{known_so_far, query_tree}
 use Rattle.lq_tree.proofs.TypedTerms.{typed_expressions}
 
 module _ (schemas : List Schema) where

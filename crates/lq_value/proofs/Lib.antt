@@ -1,3 +1,3 @@
-pub mod KeyLemmas
-pub mod OrderLemmas
-pub mod SamenessLemmas
+pub mod KeyLaws
+pub mod OrderLaws
+pub mod SamenessLaws

@@ -120,7 +120,7 @@ impl Hash for Key {
 }
 
 /// The key of `value`. What is no key (a row, a group or a sequence) has the key of null.
-#[tactic(auto, using(crate::proofs::KeyLemmas::keying))]
+#[tactic(auto, using(crate::proofs::KeyLaws::keying))]
 pub fn key_of<R: RowRef>(alloc: Global, value: &Value<R>) -> Result<Key, AllocError>
     ensures { IfOk result (λ key. key ≡ key_value value.now) }
 {
@@ -150,7 +150,7 @@ fn scalar_key(alloc: Global, scalar: &Scalar) -> Result<Key, AllocError>
 
 // Puts the atoms of a value behind those that are there.
 #[cycle(atoms)]
-#[tactic(auto, using(crate::proofs::KeyLemmas::keying))]
+#[tactic(auto, using(crate::proofs::KeyLaws::keying))]
 fn push_value<R: RowRef>(
     alloc: Global,
     atoms: &mut List<Atom>,
@@ -175,7 +175,7 @@ fn push_scalar(alloc: Global, atoms: &mut List<Atom>, scalar: &Scalar) -> Result
 }
 
 #[cycle(atoms)]
-#[tactic(auto, using(crate::proofs::KeyLemmas::keying))]
+#[tactic(auto, using(crate::proofs::KeyLaws::keying))]
 fn push_record<R: RowRef>(
     alloc: Global,
     atoms: &mut List<Atom>,
@@ -190,7 +190,7 @@ fn push_record<R: RowRef>(
 }
 
 #[cycle(atoms)]
-#[tactic(auto, using(crate::proofs::KeyLemmas::keying))]
+#[tactic(auto, using(crate::proofs::KeyLaws::keying))]
 fn push_members<R: RowRef>(
     alloc: Global,
     atoms: &mut List<Atom>,

@@ -12,7 +12,7 @@ use crate::value::{RowRef, Value};
 /// where all members are, names and values, in their order. A row, a group and a sequence are no
 /// keys: such a value is the same as none, not even as itself. Takes no memory.
 #[cycle(sameness)]
-#[tactic(auto, using(crate::proofs::SamenessLemmas::sameness))]
+#[tactic(auto, using(crate::proofs::SamenessLaws::sameness))]
 pub fn same<R: RowRef>(left: &Value<R>, right: &Value<R>) -> bool
     ensures { result ≡ same_values left.now right.now }
 {
@@ -36,7 +36,7 @@ pub(crate) fn same_contents(left: &Scalar, right: &Scalar) -> bool
 }
 
 #[cycle(sameness)]
-#[tactic(auto, using(crate::proofs::SamenessLemmas::sameness))]
+#[tactic(auto, using(crate::proofs::SamenessLaws::sameness))]
 fn same_members<R: RowRef>(left: &[(Txt, Value<R>)], right: &[(Txt, Value<R>)]) -> bool
     ensures { result ≡ pointwise same_member left.now right.now }
 {

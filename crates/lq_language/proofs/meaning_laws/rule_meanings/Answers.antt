@@ -1,4 +1,4 @@
-use Rattle.lq_language.proofs.MeaningLemmas.{has_meaning, has_stream, selects_scalars}
+use Rattle.lq_language.proofs.MeaningLaws.{has_meaning, has_stream, selects_scalars}
 use Rattle.lq_language.proofs.meaning_laws.rule_meanings.Goals as goal
 
 pub returns-clause-expression : goal.returns-clause-expression

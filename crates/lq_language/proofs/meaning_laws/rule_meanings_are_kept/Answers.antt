@@ -1,4 +1,4 @@
-use Rattle.lq_language.proofs.ServedMeanings.{keeps_meanings, keeps_streams}
+use Rattle.lq_language.proofs.ServedMeaningLaws.{keeps_meanings, keeps_streams}
 use Rattle.lq_language.proofs.meaning_laws.rule_meanings_are_kept.Goals as goal
 
 pub returns-clause-expression : goal.returns-clause-expression

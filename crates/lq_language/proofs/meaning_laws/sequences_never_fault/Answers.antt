@@ -1,4 +1,4 @@
-use Rattle.lq_language.proofs.SequenceLemmas.{never_faults}
+use Rattle.lq_language.proofs.SequenceLaws.{never_faults}
 use Rattle.lq_language.proofs.meaning_laws.sequences_never_fault.Goals as goal
 
 pub returns : goal.returns

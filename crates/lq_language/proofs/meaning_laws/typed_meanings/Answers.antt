@@ -1,4 +1,4 @@
-use Rattle.lq_language.proofs.TypedMeanings.{has_whole_meaning, has_whole_stream}
+use Rattle.lq_language.proofs.TypedMeaningLaws.{has_whole_meaning, has_whole_stream}
 use Rattle.lq_language.proofs.meaning_laws.typed_meanings.Goals as goal
 
 pub returns-clause-expression : goal.returns-clause-expression

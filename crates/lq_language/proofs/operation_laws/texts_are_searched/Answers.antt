@@ -1,4 +1,4 @@
-use Rattle.lq_language.proofs.OperationLemmas.{finds_prefixes, finds_suffixes, finds_parts}
+use Rattle.lq_language.proofs.OperationLaws.{finds_prefixes, finds_suffixes, finds_parts}
 use Rattle.lq_language.proofs.operation_laws.texts_are_searched.Goals as goal
 
 pub returns-clause-prefixes : goal.returns-clause-prefixes

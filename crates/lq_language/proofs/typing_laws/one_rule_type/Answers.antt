@@ -1,4 +1,4 @@
-use Rattle.lq_language.proofs.TypingLemmas.{one_expression_type, one_item_type}
+use Rattle.lq_language.proofs.TypingLaws.{one_expression_type, one_item_type}
 use Rattle.lq_language.proofs.typing_laws.one_rule_type.Goals as goal
 
 pub returns-clause-expression : goal.returns-clause-expression

@@ -1,4 +1,4 @@
-use Rattle.lq_language.proofs.TypedMeanings.{gives_one_type, one_type}
+use Rattle.lq_language.proofs.TypedMeaningLaws.{gives_one_type, one_type}
 use Rattle.lq_language.proofs.typing_laws.one_type.Goals as goal
 
 pub returns-clause-expression : goal.returns-clause-expression

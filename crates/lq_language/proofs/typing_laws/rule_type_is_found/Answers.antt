@@ -1,4 +1,4 @@
-use Rattle.lq_language.proofs.TypingLemmas.{type_found, item_type_found}
+use Rattle.lq_language.proofs.TypingLaws.{type_found, item_type_found}
 use Rattle.lq_language.proofs.typing_laws.rule_type_is_found.Goals as goal
 
 pub returns-clause-expression : goal.returns-clause-expression

@@ -1,4 +1,4 @@
-use Rattle.lq_language.proofs.KeptTypes.{keeps_item_types, keeps_types}
+use Rattle.lq_language.proofs.KeptTypeLaws.{keeps_item_types, keeps_types}
 use Rattle.lq_language.proofs.typing_laws.rule_types_are_kept.Goals as goal
 
 pub returns-clause-expression : goal.returns-clause-expression

@@ -1,4 +1,4 @@
-use Rattle.lq_language.proofs.TypedMeanings.{finds_query_items, finds_whole_types}
+use Rattle.lq_language.proofs.TypedMeaningLaws.{finds_query_items, finds_whole_types}
 use Rattle.lq_language.proofs.typing_laws.types_are_found.Goals as goal
 
 pub returns-clause-expression : goal.returns-clause-expression

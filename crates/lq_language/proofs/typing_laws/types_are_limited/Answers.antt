@@ -1,4 +1,4 @@
-use Rattle.lq_language.proofs.WithinLimits.{limits_items, limits_types}
+use Rattle.lq_language.proofs.WithinLimitLaws.{limits_items, limits_types}
 use Rattle.lq_language.proofs.typing_laws.types_are_limited.Goals as goal
 
 pub returns-clause-expression : goal.returns-clause-expression

@@ -1,4 +1,4 @@
-use Rattle.lq_machine.proofs.DefinitionLemmas.{names_are_known, names_have_meanings, names_have_values}
+use Rattle.lq_machine.proofs.DefinitionLaws.{names_are_known, names_have_meanings, names_have_values}
 use Rattle.lq_machine.proofs.definition_laws.session_values.Goals as goal
 
 pub returns-clause-names : goal.returns-clause-names

@@ -1,4 +1,4 @@
-use Rattle.lq_machine.proofs.KeptDefinitions.{keeps_defined}
+use Rattle.lq_machine.proofs.KeptDefinitionLaws.{keeps_defined}
 use Rattle.lq_machine.proofs.session_laws.definitions_are_kept.Goals as goal
 
 pub returns : goal.returns

@@ -1,5 +1,5 @@
 use Rattle.std.proofs.Common.{◌≡◌, Ok, Err, rules, ◌∙◌}
-use Rattle.lq_operators.proofs.NumberLemmas.{tallied_next, tallied_whole}
+use Rattle.lq_operators.proofs.NumberLaws.{tallied_next, tallied_whole}
 use Rattle.lq_operators.proofs.numbers.tallied.Goals as goal
 
 pub returns-in_err-tally : goal.returns-in_err-tally

@@ -1,4 +1,4 @@
-use Rattle.lq_security.proofs.MembershipLemmas.{tells_memberships}
+use Rattle.lq_security.proofs.MembershipLaws.{tells_memberships}
 use Rattle.lq_security.proofs.policy_laws.memberships.Goals as goal
 
 pub returns : goal.returns

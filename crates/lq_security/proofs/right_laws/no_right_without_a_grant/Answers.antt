@@ -1,4 +1,4 @@
-use Rattle.lq_security.proofs.RightLemmas.{denies_without_grants}
+use Rattle.lq_security.proofs.RightLaws.{denies_without_grants}
 use Rattle.lq_security.proofs.right_laws.no_right_without_a_grant.Goals as goal
 
 pub returns : goal.returns

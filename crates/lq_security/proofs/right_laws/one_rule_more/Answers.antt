@@ -1,4 +1,4 @@
-use Rattle.lq_security.proofs.RightLemmas.{grants_more, withholds_more}
+use Rattle.lq_security.proofs.RightLaws.{grants_more, withholds_more}
 use Rattle.lq_security.proofs.right_laws.one_rule_more.Goals as goal
 
 pub returns-clause-withhold : goal.returns-clause-withhold

@@ -1,4 +1,4 @@
-use Rattle.lq_security.proofs.RightLemmas.{denies_the_rest, tells_uses}
+use Rattle.lq_security.proofs.RightLaws.{denies_the_rest, tells_uses}
 use Rattle.lq_security.proofs.right_laws.rights_of_roles.Goals as goal
 
 pub returns-clause-uses : goal.returns-clause-uses

@@ -1,6 +1,6 @@
 use Rattle.std.proofs.Common.{◌≡◌, drop}
 use Rattle.lq_grammar.specs.Script.{fits}
-use Rattle.lq_grammar.proofs.ScriptLemmas.{fits_from}
+use Rattle.lq_grammar.proofs.ScriptLaws.{fits_from}
 use Rattle.lq_serve.proofs.script_bytes.fits.Given as goal
 
 abbrev pub invariant-loop-byte : goal.invariant-loop-byte

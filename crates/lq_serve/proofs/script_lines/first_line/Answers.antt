@@ -1,7 +1,7 @@
 use Rattle.std.proofs.Common.{Some, ap, ◌∙◌, arith}
 use Rattle.std.proofs.lemmas.Str.Pattern.{split_parts, NoCharPasses-char}
 use Rattle.lq_grammar.specs.Script.{lines_of}
-use Rattle.lq_grammar.proofs.ScriptLemmas.{lines_of-split, lines_of-last}
+use Rattle.lq_grammar.proofs.ScriptLaws.{lines_of-split, lines_of-last}
 use Rattle.lq_serve.proofs.script_lines.first_line.Goals as goal
 
 pub returns-in-Some-clause-lines : goal.returns-in-Some-clause-lines

@@ -1,5 +1,5 @@
 use Rattle.std.proofs.Common.{rules, ◌≡◌, length, arith}
-use Rattle.lq_grammar.proofs.ScriptLemmas.{lines_of-none}
+use Rattle.lq_grammar.proofs.ScriptLaws.{lines_of-none}
 use Rattle.lq_serve.proofs.DeviceLemmas.{on_err}
 use Rattle.lq_serve.proofs.ScriptRunLemmas.{UnderWay-more, UnderWay-stopped, UnderWay-unflushed}
 use Rattle.lq_serve.proofs.script_run.serve_text.Goals as goal

@@ -1,7 +1,7 @@
 -- The table is found by its name.
 use Rattle.std.proofs.Common.{◌∙◌, codes, sym}
 use Rattle.lq_machine.specs.Statements.{deleted}
-use Rattle.lq_machine.proofs.StatementLemmas.{deleted_nowhere}
+use Rattle.lq_machine.proofs.StatementLaws.{deleted_nowhere}
 use Rattle.lq_session.proofs.DeletionLemmas.{deleted_at}
 use Rattle.lq_session.proofs.Outcomes.{performs_same, refuses}
 use Rattle.lq_session.proofs.TableLemmas.{number_same, table_there}

@@ -1,7 +1,7 @@
 -- The table is found by its name.
 use Rattle.std.proofs.Common.{◌∙◌, codes, sym}
 use Rattle.lq_machine.specs.Statements.{inserted}
-use Rattle.lq_machine.proofs.StatementLemmas.{inserted_nowhere}
+use Rattle.lq_machine.proofs.StatementLaws.{inserted_nowhere}
 use Rattle.lq_session.proofs.InsertLemmas.{inserted_at}
 use Rattle.lq_session.proofs.Outcomes.{performs_same, refuses}
 use Rattle.lq_session.proofs.TableLemmas.{number_same, table_there}

@@ -1,7 +1,7 @@
 -- A name that is taken is refused, and so is an expression without a type.
 use Rattle.std.proofs.Common.{◌∙◌, ap, codes, sym}
 use Rattle.lq_machine.specs.Statements.{defined, is_taken}
-use Rattle.lq_machine.proofs.StatementLemmas.{defined_taken, defined_untyped}
+use Rattle.lq_machine.proofs.StatementLaws.{defined_taken, defined_untyped}
 use Rattle.lq_session.proofs.Outcomes.{performs_same, refuses}
 use Rattle.lq_session.proofs.VariableLemmas.{defined_of, no_type}
 use Rattle.lq_session.proofs.variables.define.Goals as goal

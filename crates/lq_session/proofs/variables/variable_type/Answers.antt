@@ -2,7 +2,7 @@
 use Rattle.std.proofs.Common.{◌∙◌, [], sym}
 use Rattle.lq_machine.specs.Definitions.{definition_of}
 use Rattle.lq_machine.specs.States.{schemas_of}
-use Rattle.lq_machine.proofs.KeptDefinitions.{variable_scalar}
+use Rattle.lq_machine.proofs.KeptDefinitionLaws.{variable_scalar}
 use Rattle.lq_session.proofs.variables.variable_type.Goals as goal
 
 pub returns-in-Variable-clause-scalar : goal.returns-in-Variable-clause-scalar

@@ -1,4 +1,4 @@
-use Rattle.lq_translate.proofs.Alike.{items_typed, streams_mean, terms_mean, terms_typed}
+use Rattle.lq_translate.proofs.AlikeTermLaws.{items_typed, streams_mean, terms_mean, terms_typed}
 use Rattle.lq_translate.proofs.translation_laws.terms_and_expressions.Goals as goal
 
 pub returns-clause-types : goal.returns-clause-types

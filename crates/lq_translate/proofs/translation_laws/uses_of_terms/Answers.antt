@@ -1,4 +1,4 @@
-use Rattle.lq_translate.proofs.UsesAlike.{queries_used, terms_used}
+use Rattle.lq_translate.proofs.AlikeUseLaws.{queries_used, terms_used}
 use Rattle.lq_translate.proofs.translation_laws.uses_of_terms.Goals as goal
 
 pub returns-clause-terms : goal.returns-clause-terms

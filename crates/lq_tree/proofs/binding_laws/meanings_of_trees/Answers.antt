@@ -1,4 +1,4 @@
-use Rattle.lq_tree.proofs.TermMeans.{call_meanings_same, meanings_same}
+use Rattle.lq_tree.proofs.TermMeanLaws.{call_meanings_same, meanings_same}
 use Rattle.lq_tree.proofs.binding_laws.meanings_of_trees.Goals as goal
 
 pub returns-clause-terms : goal.returns-clause-terms

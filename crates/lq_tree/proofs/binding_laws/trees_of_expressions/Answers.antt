@@ -1,4 +1,4 @@
-use Rattle.lq_tree.proofs.TermMeans.{expressions_bound, queries_bound}
+use Rattle.lq_tree.proofs.TermMeanLaws.{expressions_bound, queries_bound}
 use Rattle.lq_tree.proofs.binding_laws.trees_of_expressions.Goals as goal
 
 pub returns-clause-expressions : goal.returns-clause-expressions

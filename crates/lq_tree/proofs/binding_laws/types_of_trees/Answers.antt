@@ -1,4 +1,4 @@
-use Rattle.lq_tree.proofs.TermTypes.{call_types_same, types_same}
+use Rattle.lq_tree.proofs.TermTypeLaws.{call_types_same, types_same}
 use Rattle.lq_tree.proofs.binding_laws.types_of_trees.Goals as goal
 
 pub returns-clause-terms : goal.returns-clause-terms

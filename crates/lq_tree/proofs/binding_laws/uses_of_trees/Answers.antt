@@ -1,4 +1,4 @@
-use Rattle.lq_tree.proofs.TermUses.{call_uses_same, expression_uses_same, uses_same}
+use Rattle.lq_tree.proofs.TermUseLaws.{call_uses_same, expression_uses_same, uses_same}
 use Rattle.lq_tree.proofs.binding_laws.uses_of_trees.Goals as goal
 
 pub returns-clause-terms : goal.returns-clause-terms

@@ -1,4 +1,4 @@
-use Rattle.lq_tree.proofs.RowForms.{means_alike, streams_alike}
+use Rattle.lq_tree.proofs.RowFormLaws.{means_alike, streams_alike}
 use Rattle.lq_tree.proofs.row_laws.means_alike_over_rows.Goals as goal
 
 pub returns-clause-meaning : goal.returns-clause-meaning

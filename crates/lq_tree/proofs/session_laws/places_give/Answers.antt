@@ -1,4 +1,4 @@
-use Rattle.lq_tree.proofs.SessionValues as lemma
+use Rattle.lq_tree.proofs.SessionValueLaws as lemma
 use Rattle.lq_tree.proofs.session_laws.places_give.Goals as goal
 
 pub returns : goal.returns

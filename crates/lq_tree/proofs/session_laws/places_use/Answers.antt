@@ -1,4 +1,4 @@
-use Rattle.lq_tree.proofs.SessionPlaceLemmas as lemma
+use Rattle.lq_tree.proofs.SessionPlaceLaws as lemma
 use Rattle.lq_tree.proofs.session_laws.places_use.Goals as goal
 
 pub returns : goal.returns

@@ -1,5 +1,5 @@
-use Rattle.lq_tree.proofs.SessionPlaceLemmas.{types_of_statements, uses_of_statements}
-use Rattle.lq_tree.proofs.SessionValues.{meanings_of_statements}
+use Rattle.lq_tree.proofs.SessionPlaceLaws.{types_of_statements, uses_of_statements}
+use Rattle.lq_tree.proofs.SessionValueLaws.{meanings_of_statements}
 use Rattle.lq_tree.proofs.session_laws.trees_of_statements.Goals as goal
 
 pub returns-clause-types : goal.returns-clause-types

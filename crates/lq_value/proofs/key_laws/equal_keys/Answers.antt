@@ -1,4 +1,4 @@
-use Rattle.lq_value.proofs.KeyLemmas.{tells_equal_keys}
+use Rattle.lq_value.proofs.KeyLaws.{tells_equal_keys}
 use Rattle.lq_value.proofs.key_laws.equal_keys.Goals as goal
 
 pub returns : goal.returns

@@ -1,4 +1,4 @@
-use Rattle.lq_value.proofs.KeyLemmas.{keys_tell}
+use Rattle.lq_value.proofs.KeyLaws.{keys_tell}
 use Rattle.lq_value.proofs.key_laws.keys_tell.Goals as goal
 
 pub returns : goal.returns

@@ -1,4 +1,4 @@
-use Rattle.lq_value.proofs.SamenessLemmas.{tells_keys}
+use Rattle.lq_value.proofs.SamenessLaws.{tells_keys}
 use Rattle.lq_value.proofs.key_laws.same_keys.Goals as goal
 
 pub returns : goal.returns

@@ -1,4 +1,4 @@
-use Rattle.lq_value.proofs.OrderLemmas.{orders_scalars, tells_scalars}
+use Rattle.lq_value.proofs.OrderLaws.{orders_scalars, tells_scalars}
 use Rattle.lq_value.proofs.key_laws.total_order.Goals as goal
 
 pub returns-clause-total : goal.returns-clause-total

@@ -6,7 +6,7 @@ use Rattle.lq_tree.specs.Binding.{body_tree, field_tree, joined_stage, key_tree,
 use Rattle.lq_bind.specs.Bound.{places_at, trees_in}
 use Rattle.lq_bind.specs.Frames.{found_stage, stage_in}
 use Rattle.lq_bind.specs.declared.pairs.Matched.{Matched}
-use Rattle.lq_bind.proofs.TermLemmas.{join_matched}
+use Rattle.lq_bind.proofs.TermLaws.{join_matched}
 use Rattle.lq_bind.proofs.WalkLemmas.{gather_stops, walk_stops}
 use Rattle.lq_bind.proofs.binder.Binder.+binding.Goals as goal
 

@@ -3,7 +3,7 @@ use Rattle.std.specs.Prelude.{is_some}
 use Rattle.std.specs.Result.{is_ok}
 use Rattle.lq_value.specs.Tables.{first_named}
 use Rattle.lq_store.specs.Rules.{name_of}
-use Rattle.lq_store.proofs.Kept.{store-push}
+use Rattle.lq_store.proofs.KeptTableLaws.{store-push}
 use Rattle.lq_store.proofs.store.Store.add.Goals as goal
 
 pub invariant_of-self : goal.invariant_of-self

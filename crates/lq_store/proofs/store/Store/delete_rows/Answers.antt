@@ -2,7 +2,7 @@ use Rattle.std.proofs.Common.{◌≡◌, ◌<◌, rules, length, refl, ap, Some}
 use Rattle.std.specs.Prelude.{slice_get}
 use Rattle.std.proofs.lemmas.Option.{slice_get_read}
 use Rattle.lq_value.specs.Tables.{Table}
-use Rattle.lq_store.proofs.Kept.{store-set}
+use Rattle.lq_store.proofs.KeptTableLaws.{store-set}
 use Rattle.lq_store.proofs.store.Store.delete_rows.Goals as goal
 
 pub invariant_of-self : goal.invariant_of-self

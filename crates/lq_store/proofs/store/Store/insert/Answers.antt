@@ -2,7 +2,7 @@ use Rattle.std.proofs.Common.{◌≡◌, ◌<◌, rules, length, refl, Some}
 use Rattle.std.specs.Prelude.{slice_get}
 use Rattle.std.proofs.lemmas.Option.{slice_get_read}
 use Rattle.lq_store.specs.Calls.{shown_pushed}
-use Rattle.lq_store.proofs.Kept.{inserts, schema-push, store-set}
+use Rattle.lq_store.proofs.KeptTableLaws.{inserts, schema-push, store-set}
 use Rattle.lq_store.proofs.store.Store.insert.Goals as goal
 
 pub invariant_of-self : goal.invariant_of-self

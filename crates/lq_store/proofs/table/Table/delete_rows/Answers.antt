@@ -2,7 +2,7 @@ use Rattle.std.proofs.Common.{◌+◌, arith}
 use Rattle.std.specs.Prelude.{not}
 use Rattle.lq_value.specs.Tables.{Table}
 use Rattle.lq_store.specs.Calls.{is_listed}
-use Rattle.lq_store.proofs.Kept.{counted, table-filter}
+use Rattle.lq_store.proofs.KeptTableLaws.{counted, table-filter}
 use Rattle.lq_store.proofs.table.Table.delete_rows.Goals as goal
 
 pub overflow_sub-result : goal.overflow_sub-result

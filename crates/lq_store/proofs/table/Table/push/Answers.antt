@@ -1,7 +1,7 @@
 use Rattle.std.proofs.Common.{◌≡◌, ◌+◌, rules, None}
 use Rattle.lq_value.specs.Tables.{Table}
 use Rattle.lq_store.specs.Calls.{refusal_of}
-use Rattle.lq_store.proofs.Kept.{table-push}
+use Rattle.lq_store.proofs.KeptTableLaws.{table-push}
 use Rattle.lq_store.proofs.table.Table.push.Goals as goal
 
 pub invariant_of-self : goal.invariant_of-self
