@@ -1,8 +1,8 @@
 //! Sessions over tables that are written out here.
-use lq_load::table_from_csv;
 use lq_language::{RightRule, Use};
-use lq_security::{Policy, PolicyParts, Role, TablePart};
+use lq_load::table_from_csv;
 use lq_policy::{Action, Policies, rules_are_total};
+use lq_security::{Policy, PolicyParts, Role, TablePart};
 use lq_serve::{Device, serve};
 use lq_session::Session;
 use lq_store::Store;

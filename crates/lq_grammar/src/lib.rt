@@ -10,5 +10,8 @@ pub mod lexing_laws;
 mod syntax;
 mod token;
 
-pub use syntax::{Argument, Binary, Body, Clause, Continuation, Expr, Field, Infix, Join, Last, Level, Node, Query, SortKey, Statement, Unary};
+pub use syntax::{
+    Argument, Binary, Body, Clause, Continuation, Expr, Field, Infix, Join, Last, Level, Node,
+    Query, SortKey, Statement, Unary,
+};
 pub use token::{Kind, Token};

@@ -1,4 +1,7 @@
 //! Reply lines: replies in JSON, with values of every type, as `serde_json` writes them.
+//!
+//! `reply_line` gives exactly the compact text of the reply's data and a line feed: items up to the
+//! first one with a fault inside, a value, a fault, the word of a refusal, or a denial with its rule.
 #![tactic(auto)]
 
 mod denial;

@@ -194,7 +194,7 @@ type_choice c a b names = type_out (expr.Node (node.Conditional c a b)) names �
 pub rolled_type : (layer : Expr-F Expr) (names : Names) → type_of (roll-Expr layer) names ≡ layer_type layer names
 rolled_type layer names = type_out (roll-Expr layer) names ∙ ap (λ (x : Expr-F Expr). layer_type x names) (out-roll-Expr layer)
 
--- forms that have no type yet
+-- forms that have no type
 
 pub type_host : (p : List ℕ) (xs : List Expr) (names : Names) → type_of (expr.Node (node.Host p xs)) names ≡ None
 type_host p xs names = type_out (expr.Node (node.Host p xs)) names ∙ ap (λ (e : Expr-F Expr). layer_type e names) (outs-Node (node.Host p xs))

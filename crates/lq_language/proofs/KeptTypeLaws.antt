@@ -1,4 +1,4 @@
--- What typing serves is a part of the types of whole expressions and queries.
+-- What has a type in the part that rules of policies are of has it in the language: expressions and queries.
 use Rattle.std.proofs.Common.{◌≡◌, ◌∷◌, ◌+◌, ◌&&◌, if◌then◌else◌, List, [], ℕ, Bool, true, false, not, Option, Some, None, codes, ap, ap₂, ◌∙◌, sym, refl, option_and_then, true≢false}
 use Rattle.std.specs.Prelude.{is_some, nat_le}
 use Rattle.std.proofs.lemmas.Bool.{and_from}

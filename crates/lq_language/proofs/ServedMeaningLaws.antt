@@ -1,4 +1,4 @@
--- What is served means in the whole language what it means as it is served.
+-- What has a type in the part that rules of policies are of means in the language what it means there.
 use Rattle.std.proofs.Common.{◌≡◌, ◌∷◌, if◌then◌else◌, List, [], ℕ, Bool, true, false, not, Option, Some, None, Result, Ok, Err, ap, ap₂, ◌∙◌, sym, refl, subst, codes, true≢false, option_and_then, slice_get}
 use Rattle.std.proofs.lemmas.Bool.{and_from}
 use Rattle.std.proofs.lemmas.Option.{none-some}

@@ -1,4 +1,4 @@
--- The laws of the typing and meaning of the whole language.
+-- The laws of typing and meaning.
 use Rattle.std.proofs.Common.{◌∙◌, sym}
 use Rattle.std.proofs.lemmas.Option.{same_Some}
 use Rattle.lq_language.specs.MeaningLaws.{HasMeaning, HasStream}

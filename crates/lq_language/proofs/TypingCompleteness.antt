@@ -1,4 +1,4 @@
--- What the rules of the whole typing give is what it finds, so that there is one type at most.
+-- What the rules of typing give is what the function finds, so that there is one type at most.
 use Rattle.std.proofs.Common.{◌≡◌, ◌∷◌, ◌&&◌, ◌||◌, if◌then◌else◌, List, [], map, ℕ, Bool, true, false, not, Option, Some, None, codes, ap, ap₂, ◌∙◌, sym, refl, option_and_then, option_map, true≢false}
 use Rattle.std.proofs.lemmas.Bool.{and_from}
 use Rattle.std.proofs.lemmas.Option.{none-some}

@@ -1,4 +1,4 @@
--- What the whole typing finds is what its rules give.
+-- What the function of typing finds is what its rules give.
 use Rattle.std.proofs.Common.{◌≡◌, ◌∷◌, ◌&&◌, ◌||◌, if◌then◌else◌, List, [], map, ℕ, Bool, true, false, Option, Some, None, codes, bytes_eq, ap, ap₂, ◌∙◌, sym, refl, subst, option_and_then, option_map, true≢false}
 use Rattle.std.proofs.lemmas.Bool.{and_parts}
 use Rattle.std.proofs.lemmas.Option.{none-some, option_and_then_some, same_Some}

@@ -1,4 +1,4 @@
--- Values of a type, as the operators, members and methods of the whole language take them.
+-- Values of a type, as the operators, members and methods take them.
 use Rattle.std.proofs.Common.{◌≡◌, ◌∷◌, if◌then◌else◌, List, [], drop, reverse, ℕ, zero, suc, ℤ, pos, negsuc, ◌+ℤ◌, Bool, true, false, Some, Result, Ok, Err, ap, ◌∙◌, sym, refl, subst, bytes_eq, true≢false}
 use Rattle.std.proofs.lemmas.List.{reverse-append}
 use Rattle.std.proofs.lemmas.Option.{none-some, same_Some}

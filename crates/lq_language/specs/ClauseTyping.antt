@@ -1,5 +1,5 @@
 -- «Typing» of clauses: which types the parts of a query have, whatever their expressions are (ECMA-334, query expressions and scopes).
--- `typed` tells the type that an expression has under names. Typing serves a part of this so far: its queries have these types.
+-- `typed` tells the type that an expression has under names. The queries that `RuleTyping` types have these types.
 use Rattle.std.specs.Prelude.{◌∷◌, ◌&&◌, List, [], ℕ, Bool, true, Option, Some, None, option_and_then, option_map}
 use Rattle.lq_value.specs.declared.ty.Ty.{Ty, out-Ty}
 use Rattle.lq_value.specs.declared.ty.Ty.TheVariants as ty
@@ -107,6 +107,6 @@ abbrev pub expression_step : Expr-F (Names → Option Ty) → Names → Option T
 expression_step (Expr-F.Node n) names = whole_type n names
 expression_step (Expr-F.Query q) names = option_map ty.Seq (query_items (λ x. x) q names)
 
--- the type of an expression of the whole language
+-- the type of an expression
 unfoldable pub expression_type : Expr → Names → Option Ty
 expression_type = fold-Expr (Names → Option Ty) expression_step

@@ -1,5 +1,6 @@
--- «Scalar meaning» and «Operator meaning» of the whole language: records, groups, and methods of sequences, whose lambdas are functions
--- of the scope (ECMA-334, expressions; .NET, Enumerable). What `Meaning` gives to what is served has the same meaning here.
+-- «Scalar meaning» and «Operator meaning»: records, groups, and methods of sequences, whose lambdas are functions
+-- of the scope (ECMA-334, expressions; .NET, Enumerable). What has a type by `RuleTyping` means here what
+-- `RuleMeaning` says (MeaningLaws).
 use Rattle.std.specs.Prelude.{◌∷◌, if◌then◌else◌, List, [], filter_map, ℕ, ℤ, Bool, true, false, Option, Some, None, Result, Ok, Err, pos, option_and_then, slice_get}
 use Rattle.std.specs.Str.{bytes_eq}
 use Rattle.lq_value.specs.SameAndOrder.{same_values as same_keys}
@@ -230,7 +231,7 @@ module _ {R E : Type 0} (world : World R) (type_of : E → Names → Option Ty) 
   abbrev pub method_type_at : E × Meaning R → List ℕ → List (Argument (E × Meaning R)) → Scope R → Option Ty
   method_type_at a m arguments scope = method_type typed a m arguments (names_at world scope)
 
-  -- the meaning of a form, over the meanings of what it holds; a form without a clause of its own here means what `Meaning` says
+  -- the meaning of a form, over the meanings of what it holds; a form without a clause of its own here means what `RuleMeaning` says
   abbrev pub whole_meaning : Node (E × Meaning R) → Meaning R
   whole_meaning (node.Name x) scope = whole_name_value world x (binding_of x scope)
   whole_meaning (node.Member a m) scope =
@@ -246,10 +247,10 @@ module _ {R : Type 0} (world : World R) where
   expression_meaning_step (Expr-F.Node n) scope = whole_meaning world expression_type n scope
   expression_meaning_step (Expr-F.Query q) scope = Ok (sequence (query_meaning world (λ x. expression_type x.0) (λ x. x.1) q scope))
 
-  -- the value of an expression of the whole language, or its first fault
+  -- the value of an expression, or its first fault
   unfoldable pub expression_meaning : Expr → Meaning R
   expression_meaning = para-Expr (Meaning R) expression_meaning_step
 
-  -- the stream of a query of the whole language
+  -- the stream of a query
   abbrev pub items_meaning : Query Expr → Scope R → Stream (Value R)
   items_meaning q scope = query_meaning world expression_type expression_meaning q scope

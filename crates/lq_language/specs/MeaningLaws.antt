@@ -1,5 +1,5 @@
--- Laws of the meaning of the whole language: what is typed has a meaning of its own, which is a value of its type or a fault; and what
--- is served has the meaning that `Meaning` gives it.
+-- Laws of meaning: what is typed has a meaning of its own, which is a value of its type or a fault; and
+-- what the rules of policies are of means here what `RuleMeaning` says.
 use Rattle.std.specs.Prelude.{◌≡◌, ◌∷◌, List, [], ℕ, Some, Ok, slice_get}
 use Rattle.lq_value.specs.declared.scalar.Scalar.{Scalar}
 use Rattle.lq_value.specs.declared.scalar.Scalar.TheVariants as scalar
@@ -78,15 +78,15 @@ NeverFaults R =
     → expression_type e (names_at world scope) ≡ Some (ty.Seq t)
     → (unknown : Fault) → (s : Stream (Value R)) × (expression_meaning (assuming unknown world) e scope ≡ Ok (sequence s))
 
--- ---- what is served
+-- ---- the part that rules of policies are of
 
--- what is served means in the whole language what it means as it is served
+-- what has a type in that part means in the language what it means there
 abbrev pub KeepsRuleMeanings : Type 0 → Type 0
 KeepsRuleMeanings R =
     (world : World R) → HoldsRows world → (scope : Scope R) → IsOfScope world scope → (e : Expr) (t : Ty) → HasRuleType (names_at world scope) e t → (unknown : Fault)
     → expression_meaning (assuming unknown world) e scope ≡ meaning (assuming unknown world) e scope
 
--- and so does a query that is served
+-- and so does a query
 abbrev pub KeepsRuleStreams : Type 0 → Type 0
 KeepsRuleStreams R =
     (world : World R) → HoldsRows world → (scope : Scope R) → IsOfScope world scope → (q : Query Expr) (t : Ty) → HasRuleItemType (names_at world scope) q t → (unknown : Fault)

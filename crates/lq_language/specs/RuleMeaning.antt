@@ -1,5 +1,5 @@
 -- «Scalar meaning» of the part of the language that rules of row policies are of: what each form means over what it holds.
--- It is the meaning of the whole language (RuleMeaningLaws).
+-- It is the meaning in the language (MeaningLaws).
 use Rattle.std.specs.Prelude.{if◌then◌else◌, not, [], Bool, true, false, Option, Some, None, Result, Ok, Err}
 use Rattle.lq_value.specs.declared.scalar.Scalar.{Scalar}
 use Rattle.lq_value.specs.declared.scalar.Scalar.TheVariants as scalar

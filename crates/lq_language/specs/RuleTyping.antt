@@ -1,5 +1,5 @@
 -- The part of «Typing» that rules of row policies are of: scalar expressions over a row, and queries with `where` and `select`.
--- Which type an expression has, rule by rule, and the same as a function; it is the type of the whole language (RuleTypingLaws).
+-- Which type an expression has, rule by rule, and the same as a function; it is the type in the language (RuleTypingLaws).
 use Rattle.std.specs.Prelude.{◌≡◌, ◌∷◌, ◌==◌, ◌&&◌, if◌then◌else◌, List, [], ℕ, ℤ, Bool, true, false, Option, Some, None, length, option_and_then, option_map, codes}
 use Rattle.lq_value.specs.declared.ty.Ty.{Ty, out-Ty}
 use Rattle.lq_value.specs.declared.ty.Ty.TheVariants as ty
@@ -77,7 +77,7 @@ pub data IsTyped : Claim → Type 0 where
   by_none : (outer names : Names) → IsTyped (LeadAll outer [] names names)
   by_first : (outer before between behind : Names) (c : Clause Expr) (cs : List (Clause Expr)) → IsTyped (Leads outer c before between)
       → IsTyped (LeadAll outer cs between behind) → IsTyped (LeadAll outer (c ∷ cs) before behind)
-  -- rows, sequences and the like are served by a later version, and are not selected here
+  -- in this part a query selects scalars alone
   by_select : (names : Names) (l : Last Expr) (v : Expr) (t : Ty) → l ≡ last.Select v → IsTyped (TypeOf names v t) → is_scalar (out-Ty t) ≡ true → IsTyped (Selects names l t)
   -- the source is a sequence; the range variable stands for an item of it, and repeats no local name
   by_query : (names behind : Names) (q : Query Expr) (item t : Ty) → IsTyped (TypeOf names q.source (ty.Seq item)) → local_type q.name names.locals ≡ None
@@ -150,7 +150,7 @@ module _ {X : Type 0} (typed : X → Names → Option Ty) where
   abbrev pub body_type : Names → Body X → Names → Option Ty
   body_type outer body names = option_and_then (selected_type body.last) (names_behind_all outer body.clauses names)
 
-  -- the type of a query's items, where its source gives items of this type; no continuation is typed yet
+  -- the type of a query's items, where its source gives items of this type; a query with a continuation is no part of it
   abbrev pub items_over : Names → Query X → Option Ty → Option Ty
   items_over names q None = None
   items_over names q (Some item) = if length q.rest == 0 then body_type names q.body (with_local names q.name item) else None

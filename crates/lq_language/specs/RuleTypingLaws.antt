@@ -1,4 +1,5 @@
--- Laws of typing: there is one type at most, and the functions find the type that the rules give.
+-- Laws of the types of rules of policies: there is one type at most, the functions find the type that the rules of typing give, and it
+-- is the type in the language.
 use Rattle.std.specs.Prelude.{◌≡◌, ◌↔◌, Some}
 use Rattle.lq_value.specs.declared.ty.Ty.{Ty}
 use Rattle.lq_language.specs.ClauseTyping.{expression_type, query_items}
@@ -23,10 +24,10 @@ FindsRuleTypes = (names : Names) (e : Expr) (t : Ty) → (type_of e names ≡ So
 abbrev pub FindsRuleItemTypes : Type 0
 FindsRuleItemTypes = (names : Names) (q : Query Expr) (t : Ty) → (item_type type_of q names ≡ Some t) ↔ HasRuleItemType names q t
 
--- what typing serves is a part of the types of whole expressions
+-- what has a type in the part that rules are of has it in the language
 abbrev pub KeepsRuleTypes : Type 0
 KeepsRuleTypes = (names : Names) (e : Expr) (t : Ty) → type_of e names ≡ Some t → expression_type e names ≡ Some t
 
--- and so is what it serves of queries
+-- and so have a query's items
 abbrev pub KeepsRuleItemTypes : Type 0
 KeepsRuleItemTypes = (names : Names) (q : Query Expr) (t : Ty) → item_type type_of q names ≡ Some t → query_items expression_type q names ≡ Some t

@@ -1,5 +1,5 @@
 -- «Typing» of every form of the language over the types of its parts: records, groups, and the methods of sequences (ECMA-334,
--- expressions; .NET, Enumerable). What `Typing` serves of it has the same types here.
+-- expressions; .NET, Enumerable). What has a type by `RuleTyping` has the same type here (RuleTypingLaws).
 use Rattle.std.specs.Prelude.{◌∷◌, ◌&&◌, ◌||◌, if◌then◌else◌, not, List, [], ℕ, Bool, true, false, Option, Some, None, codes, map, option_and_then, option_map}
 use Rattle.std.specs.Str.{bytes_eq}
 use Rattle.lq_value.specs.declared.ty.Ty.{Ty, out-Ty}
@@ -192,7 +192,7 @@ abbrev pub whole_name_type : Names → List ℕ → Option Ty → Option Ty
 whole_name_type names x (Some t) = Some t
 whole_name_type names x None = global_type names x (table_number x names.tables)
 
--- the type of a form; a form without a clause of its own here has the type that `Typing` serves
+-- the type of a form; a form without a clause of its own here has the type that `RuleTyping` gives it
 abbrev pub whole_type : Node (Names → Option Ty) → Names → Option Ty
 whole_type (node.Name x) names = whole_name_type names x (local_type x names.locals)
 whole_type (node.Member a m) names = option_and_then (λ t. whole_member_type names m (out-Ty t)) (a names)

@@ -1,4 +1,4 @@
--- Laws of the typing of the whole language: there is one type at most, the functions find the type that the rules give,
+-- Laws of typing: there is one type at most, the functions find the type that the rules give,
 -- and no type is of more than 4,096 parts.
 use Rattle.std.specs.Prelude.{◌≡◌, ◌↔◌, List, ℕ, true, Some}
 use Rattle.lq_value.specs.declared.ty.Ty.{Ty}

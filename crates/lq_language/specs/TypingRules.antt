@@ -1,4 +1,4 @@
--- «Typing» of the whole language, rule by rule: one rule for each form, clause and kind of method (ECMA-334, expressions and query
+-- «Typing», rule by rule: one rule for each form, clause and kind of method (ECMA-334, expressions and query
 -- expressions; .NET, Enumerable). `expression_type` finds exactly the types that these rules give.
 use Rattle.std.specs.Prelude.{◌≡◌, ◌∷◌, ◌||◌, List, [], map, ℕ, ℤ, Bool, true, false, Some, None, codes}
 use Rattle.lq_value.specs.declared.ty.Ty.{Ty, out-Ty}

@@ -1,4 +1,5 @@
--- Laws of meaning: what is typed has a meaning of its own, which is a value of its type or a fault.
+-- Which values are of a type, and the law of the part that rules of policies are of: what is typed there has a meaning of its own, a
+-- value of its type or a fault.
 use Rattle.std.specs.Prelude.{◌≡◌, ◌∷◌, List, [], ℕ, Some, Ok, slice_get}
 use Rattle.lq_value.specs.Tables.{Table}
 use Rattle.lq_value.specs.declared.scalar.Scalar.{Scalar}
@@ -78,7 +79,7 @@ HasRuleStream =
     → (f g : Fault)
     → (stream_meaning (assuming f world) q scope ≡ stream_meaning (assuming g world) q scope) × Every (IsOf world t) (stream_meaning (assuming f world) q scope).0
 
--- the items of a typed query are scalars: what is served has a value for JSON
+-- the items of a query that is typed there are scalars
 abbrev pub SelectsScalars : Type 0
 SelectsScalars =
     (world : World TableRow) → HoldsRows world → (scope : Scope TableRow) → IsOfScope world scope → (q : Query Expr) (t : Ty) → HasRuleItemType (names_at world scope) q t

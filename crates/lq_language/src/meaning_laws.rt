@@ -6,7 +6,8 @@ ghost use Rattle.lq_language.specs.ValuesOfTypes.{HasRuleMeaning, HasRuleStream,
 ghost use Rattle.lq_language.specs.OneArrangement.{ArrangesItems, ArrangesOnce};
 ghost use Rattle.lq_language.specs.MeaningLaws.{HasMeaning, HasStream, KeepsRuleMeanings, KeepsRuleStreams, NeverFaults};
 
-/// Where local names have values of their types and tables have their rows, a typed expression has
+/// In the part of the language that rules of policies are of, where local names have values of their
+/// types and tables have their rows, a typed expression has
 /// a meaning of its own, the same whatever stands where there is none: a value of its type, or a
 /// fault. So has a typed query: its stream, of items of their type, which are scalars.
 pub fn rule_meanings()
@@ -48,7 +49,7 @@ pub fn typed_meanings<R>()
     ensures query { HasStream R }
 {}
 
-/// What is served means in the whole language what it means as it is served, where local names have
+/// What has a type in that part means in the language what it means there, where local names have
 /// values of their types and tables have their rows: expressions, and the streams of queries.
 pub fn rule_meanings_are_kept<R>()
     ensures expression { KeepsRuleMeanings R }

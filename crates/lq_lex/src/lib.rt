@@ -1,5 +1,8 @@
 //! Cuts the lines of a script and the rules of policies into tokens, and reads the values of their
 //! literals. What a line's tokens are and what they stand for is defined by `lq_model`.
+//!
+//! `tokens` gives exactly the line's tokens, or refuses it, as too long or for a lexical fault,
+//! exactly where it is so; literals have exactly their values (`int_value`, `text_value`).
 #![tactic(auto)]
 
 mod blank;

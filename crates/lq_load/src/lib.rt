@@ -1,5 +1,7 @@
 //! Tables from files of comma-separated values: what a file's header, records and cells mean, or the first fault among
 //! them. The records are those of the crate `csv`.
+//!
+//! `table_from_csv` gives exactly the table that the bytes mean, or the first fault of the file.
 #![tactic(auto)]
 
 mod cell;

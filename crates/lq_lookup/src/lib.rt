@@ -1,4 +1,8 @@
 //! Lists of keys: lookups, groups, distinct keys, and the arrangement by keys.
+//!
+//! `Lookup::find` gives exactly the places of the equal keys, in order; `Groups` the keys by their
+//! first appearance with their places; `distinct` the first place of each key; and `stable_order` the
+//! one arrangement that is sorted and keeps the order of level keys.
 #![tactic(auto)]
 
 mod blocks;

@@ -12,6 +12,6 @@ pub record HostCall : Type 0 where
   pub argument : ℤ
   pub answer : Bool
 
--- The step of a line may add these calls to the log: none, as no statement asks a host yet.
+-- The step of a line may add these calls to the log: none, as no statement asks a host.
 abbrev pub MayCall : State → List ℕ → List HostCall → Type 0
 MayCall old line calls = calls ≡ []

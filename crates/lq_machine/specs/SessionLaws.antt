@@ -88,7 +88,7 @@ LeavesTheRest =
 abbrev pub IsSilentAlike : Type 0
 IsSilentAlike = (old new : State) (line : List ℕ) (reply : Reply) (calls : List HostCall) → Answers old line reply calls new → (reply ≡ None) ↔ ((step old line).0 ≡ None)
 
--- no run asks a host, as no statement does yet
+-- no run asks a host, as no statement does
 abbrev pub AsksNoHost : Type 0
 AsksNoHost = (old new : State) (lines : List (List ℕ)) (replies : List Reply) (calls : List HostCall) → Runs old lines replies calls new → calls ≡ []
 

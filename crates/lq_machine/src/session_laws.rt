@@ -28,7 +28,7 @@ pub fn memory_law()
     ensures silent { IsSilentAlike }
 {}
 
-/// No run of a script adds a call to the log of host calls, as no statement asks a host yet.
+/// No run of a script adds a call to the log of host calls, as no statement asks a host.
 pub fn logged_calls()
     ensures { AsksNoHost }
 {}

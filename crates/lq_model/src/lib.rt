@@ -6,7 +6,12 @@
 //! the contracts of the functions in the chapters' modules `.._laws`.
 #![tactic(auto)]
 
-pub use lq_grammar::{Argument, Binary, Body, Clause, Continuation, Expr, Field, Infix, Join, Kind, Last, Level, Node, Query, SortKey, Statement, Token, Unary};
-pub use lq_language::{Call, Given, Op, Operator, Paired, Part, RightRule, Simple, Term, Through, Use};
-pub use lq_security::{Action, Policy, PolicyParts, Role, TablePart};
+pub use lq_grammar::{
+    Argument, Binary, Body, Clause, Continuation, Expr, Field, Infix, Join, Kind, Last, Level,
+    Node, Query, SortKey, Statement, Token, Unary,
+};
+pub use lq_language::{
+    Call, Given, Op, Operator, Paired, Part, RightRule, Simple, Term, Through, Use,
+};
 pub use lq_machine::{Defined, Definition, Opened};
+pub use lq_security::{Action, Policy, PolicyParts, Role, TablePart};

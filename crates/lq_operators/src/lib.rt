@@ -1,4 +1,8 @@
 //! Operators of sequences over items that are there: what each makes of them.
+//!
+//! `simple`, `given`, `Matches`, `grouped` and `sorted` give what a method, a join, a group or an
+//! arrangement means on the items and their ending, or its fault; `Tally` counts, sums and compares
+//! item by item.
 #![tactic(auto)]
 
 mod arguments;

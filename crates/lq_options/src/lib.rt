@@ -1,4 +1,7 @@
 //! The command line of the program `lq`, read by `clap`: its words are taken apart into the options that they name.
+//!
+//! `options` gives exactly the values that `clap` defines for the words, or refuses them with `clap`'s
+//! kind of fault.
 #![tactic(auto)]
 
 ghost use Rattle.std.specs.Prelude.{◌≡◌, ◌≢◌, [], Some, IfOk, codes, map, option_map};

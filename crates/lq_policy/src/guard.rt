@@ -6,8 +6,8 @@ ghost use Rattle.lq_policy.specs.Guards.{IsGuarded, IsPrepared, columns_at, rule
 ghost use Rattle.lq_policy.specs.Rules.{rule_is_total, rules_are_total};
 
 use lq_grammar::Expr;
-use lq_security::{Action, Policy, TablePart};
 use lq_rule::PreparedRule;
+use lq_security::{Action, Policy, TablePart};
 use lq_value::Txt;
 use std::alloc::{AllocError, Global};
 

@@ -1,5 +1,8 @@
 //! Policies: which roles there are, what each may do with the rows of each table (PostgreSQL, CREATE
 //! POLICY), and what it has a right to use.
+//!
+//! `visible`, `check` and `right` decide exactly as the definitions do, without taking memory, and
+//! `check` and `right` name the rule that refuses.
 #![tactic(auto)]
 
 mod access;

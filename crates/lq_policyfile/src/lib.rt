@@ -1,6 +1,8 @@
 //! Policy files in TOML: roles, tables with row security, row policies (PostgreSQL, CREATE POLICY),
-//! and rules that grant and withhold rights. What a file says, and the least refusal that applies to
-//! it, is defined in `specs/`.
+//! and rules that grant and withhold rights.
+//!
+//! `policies_from_toml` gives exactly the policies that a file means for the tables of a store, over the
+//! tree that `toml` defines, or the least refusal that applies anywhere in the file (`specs/`).
 #![tactic(auto)]
 
 mod duplicates;

@@ -6,7 +6,9 @@ ghost use Rattle.lq_grammar.specs.declared.syntax.Expr.{out-Expr};
 ghost use Rattle.lq_grammar.specs.declared.syntax.Expr.TheVariants as expr;
 ghost use Rattle.lq_policyfile.specs.RuleNames.{argument_knows, body_knows, clause_knows, continuation_knows, has_column, hidden_behind, hidden_by, join_knows, knows, last_knows, query_knows};
 
-use lq_grammar::{Argument, Body, Clause, Continuation, Expr, Field, Join, Last, Node, Query, SortKey};
+use lq_grammar::{
+    Argument, Body, Clause, Continuation, Expr, Field, Join, Last, Node, Query, SortKey,
+};
 use lq_store::Column;
 
 /// Whether there is a column of this name.

@@ -1,5 +1,9 @@
 //! What statements read of a session: its state, the trees of their expressions, denials, what is served of a tree, scalars, and the rows that
 //! a `delete` removes.
+//!
+//! `State::run_line` gives exactly the session machine's reply to a `run`: the refusal, the denial, or what
+//! the expression means over the tables as the role sees them. The other calls give what `var`, an
+//! assignment, `insert` and `delete` need of it, as exactly.
 #![tactic(auto)]
 
 mod definitions;

@@ -1,5 +1,8 @@
 //! Scalars: what operators and members give to the values of their operands, the types of
 //! expressions and their evaluation, and rules read on a row.
+//!
+//! `apply` and `operate` give what an operator means, or its fault. `is_total` says exactly which rules
+//! cannot fault, and `holds` whether such a rule is true on a row, without taking memory.
 #![tactic(auto)]
 
 mod arithmetic;

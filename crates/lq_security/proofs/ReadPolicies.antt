@@ -1,4 +1,4 @@
--- Policies that were read for the tables: what rows are decided by is what the whole language says of their rules.
+-- Policies that were read for the tables: what rows are decided by is what the language says of their rules.
 use Rattle.std.proofs.Common.{◌≡◌, ◌↔◌, ◌∷◌, List, [], map, ℕ, Bool, true, Some, Result, Ok, slice_get, ap, ◌∙◌, sym, subst}
 use Rattle.std.specs.List.{Contains}
 use Rattle.std.proofs.lemmas.List.Elements.{Contains-append_left, Contains-append_right}
@@ -31,7 +31,7 @@ use Rattle.lq_security.proofs.RuleLemmas.{meant, truth_of_value}
 
 -- ---- rules
 
--- what the whole language says of a rule on a row whose columns have these names
+-- what the language says of a rule on a row whose columns have these names
 abbrev said : List Column → List (List ℕ) → List Scalar → List ℕ → Expr → Result (Value (List Scalar)) Fault
 said columns names cells user rule =
     let world : World (List Scalar) = record { schemas = record { name = []; columns = columns } ∷ []; rows = [] ∷ []; session = []; cell = cell_named names; unknown = fault.NullReference } in

@@ -1,4 +1,4 @@
--- The truth value that policies are decided by is what the whole language says of a rule on a row with its columns' types.
+-- The truth value that policies are decided by is what the language says of a rule on a row with its columns' types.
 use Rattle.std.proofs.Common.{◌≡◌, ◌∷◌, List, [], map, ℕ, zero, suc, Bool, true, false, Option, Some, None, Result, Ok, Err, codes, ap, ◌∙◌, sym, refl, subst, option_map}
 use Rattle.std.proofs.lemmas.Option.{none-some, same_Some}
 use Rattle.lq_value.specs.declared.scalar.Scalar.{Scalar}
@@ -89,7 +89,7 @@ module _ (columns : List Column) (cells : List Scalar) (row : IsRowOver columns 
   scope_of_values = every_name (λ b. IsValueOf world b.ty b.value) (by_row (ty.Row 0) 0 cells (outs-Row 0) has_cells) (by_scalar ty.Str (scalar.Text user) user_fits)
 
   module _ (rule : Expr) (is : IsRuleOver columns rule) where
-    -- the rule is typed as it is served
+    -- the rule has the same type among rules
     served : HasRuleType (rule_names [] columns) rule ty.Bool
     served = type_sound rule (rule_names [] columns) ty.Bool (sym (total_alike (record { name = []; columns = columns } ∷ []) is.total) ∙ is.truth)
 

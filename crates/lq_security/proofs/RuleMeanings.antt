@@ -1,4 +1,4 @@
--- What a total rule means in the whole language, over the row with its columns' types, is what it means in a world without schemas.
+-- What a total rule means in the language, over the row with its columns' types, is what it means in a world without schemas.
 use Rattle.std.proofs.Common.{◌≡◌, ◌∷◌, if◌then◌else◌, List, [], ℕ, Bool, true, false, not, true≢false, Option, Some, None, Result, Ok, Err, codes, ap, ap₂, ◌∙◌, sym, refl, subst}
 use Rattle.lq_value.specs.declared.scalar.Scalar.{Scalar}
 use Rattle.lq_value.specs.declared.scalar.Scalar.TheVariants as scalar

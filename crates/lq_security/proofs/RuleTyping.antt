@@ -1,4 +1,4 @@
--- A total rule that is typed in the whole language is typed as it is served.
+-- A total rule that is typed in the language has the same type among rules.
 use Rattle.std.proofs.Common.{◌≡◌, ◌∷◌, ◌&&◌, if◌then◌else◌, List, [], ℕ, Bool, true, false, true≢false, Option, Some, None, codes, ap, ap₂, ◌∙◌, sym, refl, option_and_then, option_map, slice_get, bytes_eq}
 use Rattle.lq_value.specs.declared.table.Column.{Column}
 use Rattle.lq_value.specs.declared.table.ColumnType.{ColumnType}
@@ -187,7 +187,7 @@ texts_choice true None p a b = refl
 texts_choice true (Some s) None a b = refl
 texts_choice true (Some s) (Some t) a b = texts_chosen (out-Ty s) (out-Ty t) a b
 
--- ---- what the whole language adds is of other types
+-- ---- what the language adds is of other types
 
 member_alike : (names : Names) (m : List ℕ) (layer : Ty-F Ty) → is_plain layer ≡ true → whole_member_type names m layer ≡ member_type names m layer
 member_alike names m (Ty-F.Rec ms) h = absurd (true≢false (sym h))

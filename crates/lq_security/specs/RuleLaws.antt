@@ -1,4 +1,4 @@
--- The law of what a rule of a row policy means: the whole language's meaning, over the row with its columns' types.
+-- The law of what a rule of a row policy means: the language's meaning, over the row with its columns' types.
 use Rattle.std.specs.Prelude.{◌≡◌, ◌↔◌, ◌∷◌, List, [], map, ℕ, true, Some, Ok, slice_get}
 use Rattle.std.specs.List.{Contains, list_all}
 use Rattle.lq_value.specs.declared.scalar.Scalar.{Scalar}
@@ -23,7 +23,7 @@ use Rattle.lq_security.specs.declared.policy.PolicyParts.{PolicyParts}
 use Rattle.lq_security.specs.declared.policy.TablePart.{TablePart}
 use Rattle.lq_grammar.specs.declared.syntax.Expr.{Expr}
 
--- A rule is one for rows of these columns: it is typed as a truth value in the whole language, it can't fault, and its literals are
+-- A rule is one for rows of these columns: it is typed as a truth value in the language, it can't fault, and its literals are
 -- ints of 32 bits.
 pub record IsRuleOver (columns : List Column) (rule : Expr) : Type 0 where
   pub truth : expression_type rule (rule_names [] columns) ≡ Some ty.Bool
@@ -47,7 +47,7 @@ pub record AreReadFor (schemas : List Schema) (parts : PolicyParts) : Type 0 whe
 abbrev pub AreCellsOf : List Schema → ℕ → List Scalar → Type 0
 AreCellsOf schemas table cells = (schema : Schema) → slice_get schemas table ≡ Some schema → IsRowOver schema.columns cells
 
--- The world of a rule in the whole language: a table with these columns. Its rows are in no rule's reach.
+-- The world of a rule in the language: a table with these columns. Its rows are in no rule's reach.
 abbrev pub language_world : List Column → Fault → World (List Scalar)
 language_world columns unknown = record {
   schemas = record { name = []; columns = columns } ∷ [];
@@ -57,7 +57,7 @@ language_world columns unknown = record {
   unknown = unknown;
 }
 
--- what the whole language says of a rule on a row, `row` and `user` standing for the row and for the name of the role, is the truth value
+-- what the language says of a rule on a row, `row` and `user` standing for the row and for the name of the role, is the truth value
 -- that policies are decided by
 abbrev pub HoldsAsMeant : Type 0
 HoldsAsMeant =

@@ -170,7 +170,7 @@ pub record HasCell (columns : List (List ℕ)) (cells : List Scalar) (name : Lis
   pub under : slice_get cells place ≡ Some cell
   pub first : (earlier : ℕ) → slice_get columns earlier ≡ Some name → place ≤ earlier
 
--- A rule is true on a row of a table with these columns, by the meaning of the whole language: `row` stands for the row, and `user` for
+-- A rule is true on a row of a table with these columns, by the meaning of the language: `row` stands for the row, and `user` for
 -- the name of the role. A rule reads no other row.
 abbrev pub IsTrueOn : List Column → Asked → Expr → Type 0
 IsTrueOn columns asked rule =

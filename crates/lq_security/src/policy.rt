@@ -1,6 +1,6 @@
 //! Roles and row policies as plain data (PostgreSQL, CREATE POLICY and role membership).
-use lq_language::RightRule;
 use lq_grammar::Expr;
+use lq_language::RightRule;
 use lq_value::{List, Txt};
 
 /// A role that statements run under.

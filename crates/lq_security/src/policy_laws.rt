@@ -14,7 +14,7 @@ pub fn memberships()
 /// Under policies that were read for the tables, the function that decides on a row tells exactly the
 /// visible rows: those of a table without row security, those that a role sees that bypasses it, and
 /// those on which some permissive policy that applies is true and every restrictive one that applies
-/// is, by what the whole language says of their rules.
+/// is, by what the language says of their rules.
 pub fn visible_rows()
     ensures { TellsVisible }
 {}

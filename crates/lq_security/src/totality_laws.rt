@@ -15,7 +15,7 @@ pub fn total_rules_decide()
     ensures { DecidesRules }
 {}
 
-/// Policies are decided by what the whole language says: on every row whose cells are of the columns'
+/// Policies are decided by what the language says: on every row whose cells are of the columns'
 /// types, and for every user, a total rule that is typed as a truth value has the value that
 /// `rule_holds` tells.
 pub fn total_rules_hold_as_meant()

@@ -1,5 +1,9 @@
 //! The server over its files and devices: tables and policies are loaded, a script is read whole, its lines are stepped
 //! in order, and the replies are written.
+//!
+//! `serve` writes exactly the session machine's replies to the script's lines; `load` starts the session
+//! that the files mean, or names the first fault; `finish` and `refuse` end with the status and the line
+//! of what happened.
 #![tactic(auto)]
 
 mod device;

@@ -6,8 +6,8 @@ ghost use Rattle.lq_machine.specs.Opening.{is_past_opening, opened_as, opened_be
 ghost use Rattle.lq_grammar.specs.Tokens.{text_of};
 ghost use Rattle.lq_session.specs.Openings.{OpensFor, keeps_opened, opened_with, within_limits};
 
-use lq_lex::{LexError, tokens};
 use lq_grammar::{Kind, Statement, Token};
+use lq_lex::{LexError, tokens};
 use lq_machine::{Defined, Definition, Opened};
 use lq_syntax::bytes_of;
 use std::alloc::{AllocError, Global};

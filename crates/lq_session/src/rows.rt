@@ -13,8 +13,8 @@ ghost use Rattle.lq_session.specs.Performed.{Performs, PerformsAt};
 ghost use Rattle.lq_session.specs.Rows.{DeletesWhere, PutsRow, RemovesRows, TellsRefuser, tells_full, tells_typed, tells_within};
 
 use crate::replies::reply;
-use lq_json::{Line, Reply};
 use lq_grammar::Expr;
+use lq_json::{Line, Reply};
 use lq_machine::Opened;
 use lq_policy::Use;
 use lq_run::{State, chosen_rows, condition_of, denied, refusal};

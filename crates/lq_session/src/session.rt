@@ -3,9 +3,9 @@ ghost use Rattle.lq_policy.specs.Roles.{number_of};
 
 use crate::opening::opening_for;
 use crate::statements::perform;
+use lq_grammar::Statement;
 use lq_json::Line;
 use lq_lex::is_blank;
-use lq_grammar::Statement;
 use lq_policy::{Policies, RoleId};
 use lq_run::{State, refusal};
 use lq_store::Store;
@@ -48,7 +48,7 @@ impl Session {
     }
 
     /// Answers one line of a script: a step of the session machine, or the memory line in place
-    /// of its reply, which leaves the session as it was. No line asks a host yet. A line without a token has no reply, and
+    /// of its reply, which leaves the session as it was. No line asks a host. A line without a token has no reply, and
     /// one of more than 65,536 bytes is refused as `syntax`.
     #[tactic(auto, using(crate::proofs::StepLemmas::answers_blank))]
     pub fn step(&mut self, line: &str) -> Option<Line>

@@ -16,8 +16,8 @@ ghost use Rattle.lq_session.specs.Variables.{AssignsTree, AssignsValue, DefinesV
 
 use crate::opening::definition_of;
 use crate::replies::reply;
-use lq_json::{Line, Reply};
 use lq_grammar::Expr;
+use lq_json::{Line, Reply};
 use lq_machine::{Defined, Opened};
 use lq_run::{Evaluated, State, evaluate, refusal, tree_of};
 use lq_tree::{Tree, ty};

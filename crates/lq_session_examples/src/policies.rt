@@ -1,6 +1,6 @@
 //! What policies decide, of roles that are members of others, for each action.
-use lq_security::{Policy, PolicyParts, Role, TablePart};
 use lq_policy::{Action, Policies, RoleId, rules_are_total};
+use lq_security::{Policy, PolicyParts, Role, TablePart};
 use lq_syntax::parse_rule;
 use lq_value::{List, Scalar, Txt};
 use std::alloc::{AllocError, Global};

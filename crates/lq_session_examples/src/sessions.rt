@@ -4,8 +4,8 @@ ghost use Rattle.std.specs.Prelude.{◌≡◌, true, IfOk};
 ghost use Rattle.lq_store.specs.Rules.{keeps_rules};
 
 use lq_language::{RightRule, Use};
-use lq_security::{Policy, PolicyParts, Role, TablePart};
 use lq_policy::{Action, Policies, rules_are_total};
+use lq_security::{Policy, PolicyParts, Role, TablePart};
 use lq_session::{Line, Session};
 use lq_store::{Column, ColumnType, Row, Schema, Store, Table};
 use lq_syntax::parse_rule;

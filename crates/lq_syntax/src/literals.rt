@@ -9,8 +9,8 @@ ghost use Rattle.std.specs.Prelude.{IfErr};
 
 use crate::cursor::Tokens;
 use crate::error::ParseError;
-use lq_lex::{int_value, text_value};
 use lq_grammar::{Kind, Token};
+use lq_lex::{int_value, text_value};
 use lq_value::Txt;
 use std::alloc::Global;
 

@@ -8,8 +8,8 @@ ghost use Rattle.lq_syntax.specs.Texts.{ReadsLine, ReadsRule};
 use crate::depth::is_deep;
 use crate::error::SyntaxError;
 use crate::parse::{rule, statement};
-use lq_lex::{LexError, tokens};
 use lq_grammar::{Expr, Statement, Token};
+use lq_lex::{LexError, tokens};
 use std::alloc::Global;
 
 /// What the tokens of a line say.

@@ -1,6 +1,6 @@
 //! Tokens of lines: their kinds, their places in bytes, and the values of literals.
-use lq_lex::{LINE_LIMIT, LexError, int_value, is_blank, is_name, text_value, tokens};
 use lq_grammar::Kind;
+use lq_lex::{LINE_LIMIT, LexError, int_value, is_blank, is_name, text_value, tokens};
 use std::alloc::Global;
 use std::test::Fail;
 

@@ -7,7 +7,10 @@ ghost use Rattle.lq_translate.specs.Maps.{map_argument, map_body, map_clause, ma
 ghost use Rattle.lq_translate.specs.Translated.{translated, translated_query};
 
 use crate::calls::{Named, call_of_query};
-use lq_grammar::{Argument, Binary, Body, Clause, Continuation, Expr, Field, Join, Last, Node, Query, SortKey, Unary};
+use lq_grammar::{
+    Argument, Binary, Body, Clause, Continuation, Expr, Field, Join, Last, Node, Query, SortKey,
+    Unary,
+};
 use lq_language::{Call, Term};
 use lq_value::{Held, List, Txt};
 use std::alloc::{AllocError, Global};

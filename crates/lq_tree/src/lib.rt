@@ -1,5 +1,8 @@
 //! Typed trees: expressions in which every name is resolved, every operator knows the types that it
 //! needs, and nothing is left to look up by a text when the tree is run.
+//!
+//! By its laws a term is bound to a tree exactly where it has a type, and the tree has that type, means
+//! what the term means, and uses what it uses (`types_of_trees`, `meanings_of_trees`, `uses_of_trees`).
 #![tactic(auto)]
 
 mod binding_laws;

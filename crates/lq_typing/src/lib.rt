@@ -1,5 +1,7 @@
 //! Types: copies of them, what may be done with values of a type, and which types operators and methods
 //! give (ECMA-334, expressions; .NET, Enumerable).
+//!
+//! Each call answers exactly what the definitions of the language's types say, or that memory was refused.
 #![tactic(auto)]
 
 mod types;

@@ -1,4 +1,8 @@
 //! Scalars, types and values, and the plain data that schemas and rows are made of.
+//!
+//! It promises that a copy equals its source (`copy`), that `same` and `order` are the definitions of
+//! sameness and order, and that two values of one key type have equal keys (`key_of`) exactly where
+//! they are the same. Lists, boxes and texts are plain data in contracts (`List`, `Held`, `Txt`).
 #![tactic(auto)]
 
 mod copies;
