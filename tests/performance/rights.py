@@ -82,6 +82,11 @@ def least_time(program, name):
     return min(measuring.run(program, *files(name), "rules.toml")[0] for _ in range(RUNS))
 
 
+def told_time(seconds):
+    """What a line took over a run without one; two runs may differ by more than that, which then is no figure."""
+    return f"{seconds * 1000:.0f} ms" if seconds >= 0.001 else "less than two runs differ by"
+
+
 def measure_kind(program, kind, line, reply, nothing):
     """Prints what a kind of lines takes over a run without a line, and tells whether the bound is met."""
     if not LINE * 15 // 16 < len(line) < LINE:
@@ -94,7 +99,7 @@ def measure_kind(program, kind, line, reply, nothing):
     except Failure as failure:
         raise Failure(f"{kind}: {failure}") from failure
     print(f"rights: {kind}: {count / 1e6:.1f} million instructions for a line under {2 * RULES:,} rules of {RIGHTS} rights;"
-          f" {time * 1000:.0f} ms, {WANTED} wanted", flush=True)
+          f" {told_time(time)}, {WANTED} wanted", flush=True)
     return count <= MOST_INSTRUCTIONS_TO_DECIDE
 
 
