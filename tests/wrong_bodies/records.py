@@ -11,8 +11,10 @@ import subprocess
 
 from named import Named, uncommented
 
-PARTS = ("src", "specs", "proofs")
+PARTS = ("src", "specs")
 HERE = os.path.dirname(os.path.realpath(__file__))
+# How a proof is sought, which is no part of what is said.
+SOUGHT = re.compile(r"#!?\[tactic\((?:[^()]|\([^()]*\))*\)\]")
 # What of this tool an answer depends on.
 JUDGES = ("answers.py", "edits.py", "functions.py", "rounds.py")
 
@@ -35,8 +37,9 @@ def logic_of_rt():
 class Record:
     """What is on record of a crate, over the crates `below` it.
 
-    An answer depends on the crate as it is, and of the crates below it on what it names of them (`named`). It doesn't depend on
-    comments, nor on the crate and file in which something named stands, so that definitions may move.
+    An answer depends on what the crate says, its code, contracts and definitions, and of the crates below it on what it names of
+    them (`named`). It doesn't depend on proofs, since no lemma makes true of a wrong body what is false of it; nor on comments, nor on
+    the crate and file in which something named stands, so that definitions may move.
     """
 
     def __init__(self, root, name, below):
@@ -55,7 +58,7 @@ class Record:
         for name in JUDGES:
             with open(f"{HERE}/{name}", "rb") as file:
                 self.add(found, name, file.read())
-        own = {path: text.decode(errors="replace") for path, text in self.own_files(*PARTS).items()}
+        own = {path: SOUGHT.sub("", text.decode(errors="replace")) for path, text in self.own_files(*PARTS).items()}
         named = Named(self.root, self.name, {f"crates/{self.name}/{path}": text for path, text in own.items()}, self.below)
         for text in named.texts():
             self.add(found, "named", text.encode())
@@ -66,12 +69,11 @@ class Record:
         return found.hexdigest()
 
     def known_of(self, named, path, text):
-        """What counts of an own file. Where a file of lemmas stands counts for nothing, as what names them says by what it means."""
+        """What counts of an own file."""
         whole = f"crates/{self.name}/{path}"
-        place = "" if re.fullmatch(r"proofs/[\w/]*\b(?!Answers|Invariants|Proof|Lib)\w+\.antt", path) else path
-        if re.fullmatch(r"(?:proofs|specs)/Lib\.antt", path):
+        if path == "specs/Lib.antt":
             return ""
-        return "\0".join([place, uncommented(path, named.without_imports(whole, text)), repr(named.imports(whole))])
+        return "\0".join([path, uncommented(path, named.without_imports(whole, text)), repr(named.imports(whole))])
 
     @staticmethod
     def add(found, name, text):

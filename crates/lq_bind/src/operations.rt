@@ -6,7 +6,7 @@ ghost use Rattle.lq_language.specs.Operations.{operation_of};
 ghost use Rattle.lq_grammar.specs.declared.syntax.Unary.TheVariants as unary;
 ghost use Rattle.lq_tree.specs.Binding.{and_tree, binary_form, binary_tree, coalesce_tree, conditional_tree, equality_form, is_literal, is_object};
 ghost use Rattle.lq_tree.specs.Binding.{operation_at, or_tree, search_form, tested_first, tested_second, typed_tree, unary_tree};
-ghost use Rattle.lq_language.specs.Typing.{whole_chosen};
+ghost use Rattle.lq_language.specs.Typing.{type_of_choice};
 ghost use Rattle.lq_tree.specs.declared.tree.Form.{out-Form};
 ghost use Rattle.lq_tree.specs.declared.tree.Form.TheVariants as form;
 
@@ -296,7 +296,7 @@ fn choice(
     left: Tree,
     right: Tree,
 ) -> Result<Option<Tree>, AllocError>
-    ensures { IfOk result (λ found. found ≡ typed_tree (whole_chosen (out-Ty left.ty) (out-Ty right.ty)) (form.Conditional condition left.form right.form)) }
+    ensures { IfOk result (λ found. found ≡ typed_tree (type_of_choice (out-Ty left.ty) (out-Ty right.ty)) (form.Conditional condition left.form right.form)) }
 {
     let Tree {
         ty: left_type,

@@ -7,7 +7,7 @@ use Rattle.std.proofs.lemmas.List.Sums.{AllPass-from_list_all}
 use Rattle.std.proofs.lemmas.Slice.Eq.{bytes_eq-Decides}
 use Rattle.std.proofs.lemmas.Bool.{and_parts, eqb-true}
 use Rattle.std.proofs.lemmas.Bool.Decides.{nat_tests}
-use Rattle.std.proofs.lemmas.List.{append_assoc, take-append-drop}
+use Rattle.std.proofs.lemmas.List.{append_assoc, length-take-le, take-append-drop}
 use Rattle.unicode_ident.proofs.Computing.{unicode_ident}
 use Rattle.std.proofs.lemmas.Option.{none-some, same_Some, some_pair_parts}
 use Rattle.lq_grammar.specs.Lexemes.{EndsInteger, FaultsWithoutLexeme, IsLexeme, IsSign, IsToken, OpensComment, TakesLongest}
@@ -668,17 +668,12 @@ one_token kind other lexeme behind front rest e t u =
     let same = same_front lexeme behind front rest e (omega (arith, less, more)) in
     (same_Some kind other (sym (lexeme_at t.spelled) ∙ ap kind_at same ∙ lexeme_at u.spelled), same)
 
-take_length : (n : ℕ) (cs : List ℕ) → n ≤ length cs → length (take n cs) ≡ n
-take_length zero cs within = refl
-take_length (suc n) [] within = absurd (omega arith)
-take_length (suc n) (c ∷ cs) within = ap suc (take_length n cs (omega arith))
-
 pub is_taken : (kind : Kind) (c : ℕ) (more rest : List ℕ) → IsToken kind (c ∷ more) rest → piece c (more ++ rest) ≡ Some (Some kind, length more)
 is_taken kind c more rest t =
     let cs : List ℕ = more ++ rest in
     let there = reached_at c cs kind (c ∷ more) rest t.no_comment refl t.spelled in
     let within : there.more ≤ length cs = piece_within c cs (Some there.kind, there.more) there.is in
-    let size = take_length there.more cs within in
+    let size = length-take-le there.more cs within in
     let taken : IsToken there.kind (c ∷ take there.more cs) (drop there.more cs)
     = is_longest there.kind c (take there.more cs) (drop there.more cs)
     (ap (piece c) (take-append-drop there.more cs) ∙ there.is ∙ ap (λ n. Some (Some there.kind, n)) (sym size)) in

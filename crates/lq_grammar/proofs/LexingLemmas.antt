@@ -4,7 +4,7 @@ use Rattle.std.specs.Prelude.{Option, Some, None, sum_by, ◌==◌, chars}
 use Rattle.std.specs.Char.{len_utf8}
 use Rattle.std.specs.List.{prefix_len}
 use Rattle.std.proofs.lemmas.Bool.{eqb-true}
-use Rattle.std.proofs.lemmas.List.{take-append-drop}
+use Rattle.std.proofs.lemmas.List.{length-take-le, take-append-drop}
 use Rattle.std.proofs.lemmas.List.Sums.{sum_by-cons, sum_by-append}
 use Rattle.std.proofs.lemmas.Str.{len_utf8_bounds, length-encode, encodes-chars}
 use lib.Utf8.{encodes, encode}
@@ -59,11 +59,6 @@ Follow n = (place : ℕ) (cs : List ℕ) (tokens : List Token) → length cs ≤
 moved : (place : ℕ) (a b : List ℕ) (tokens : List Token) → a ≡ b → IsCut place a tokens → IsCut place b tokens
 moved place a b tokens e h = rw (← e) h
 
-take_length : (n : ℕ) (cs : List ℕ) → n ≤ length cs → length (take n cs) ≡ n
-take_length zero cs within = refl
-take_length (suc n) [] within = absurd (omega arith)
-take_length (suc n) (c ∷ cs) within = ap suc (take_length n cs (omega arith))
-
 shorter : (m n : ℕ) (cs : List ℕ) → length cs ≤ n → length (drop m cs) ≤ n
 shorter m n cs within = omega (arith, length-drop m cs)
 
@@ -88,7 +83,7 @@ after_token n place c more kind cs tokens follow within found is =
     end = place + sum_by len_utf8 (c ∷ take more cs)
 
     longest : piece c (take more cs ++ drop more cs) ≡ Some (Some kind, length (take more cs))
-    longest = rw (take-append-drop more cs, take_length more cs (piece_within c cs (Some kind, more) is)) is
+    longest = rw (take-append-drop more cs, length-take-le more cs (piece_within c cs (Some kind, more) is)) is
 
     by : (behind : Option (List Token)) → tokens_from 0 end (drop more cs) ≡ behind → with_piece (Some kind) place end behind ≡ Some tokens → IsCut place (c ∷ cs) tokens
     by None e f = absurd (cc)

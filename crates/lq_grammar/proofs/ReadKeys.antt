@@ -2,7 +2,7 @@
 use Rattle.std.proofs.Common.{arith, ◌≡◌, ◌≤◌, ℕ, suc, zero, true, false, List, [], ◌∷◌, ◌++◌, refl, ap, ◌∙◌, length}
 use Rattle.std.specs.Prelude.{Some}
 use Rattle.lq_grammar.specs.Parsing as p
-use Rattle.lq_grammar.specs.Parsing.{Parser, ◌>>=◌, begins_with, peek, pure}
+use Rattle.lq_grammar.specs.Parsing.{Parser, peek}
 use Rattle.lq_grammar.specs.declared.syntax.Expr.{Expr}
 use Rattle.lq_grammar.specs.declared.syntax.Level.{Level}
 use Rattle.lq_grammar.specs.declared.syntax.Level.TheVariants as level
@@ -14,7 +14,7 @@ use Rattle.lq_grammar.proofs.Forwards.{after_sees, after_skips, begins_false, bi
 use Rattle.lq_grammar.proofs.ReadParts.{Reads, ReadsOn}
 
 module _ (line : List ℕ) (inner : Level → Parser Expr) where
-  abbrev ConditionalRead : Expr → List Token → Type 0
+  abbrev pub ConditionalRead : Expr → List Token → Type 0
   ConditionalRead x ts = Reads 10 (inner level.Conditional) x ts
 
   -- ---- keys of `orderby`
@@ -22,7 +22,7 @@ module _ (line : List ℕ) (inner : Level → Parser Expr) where
   abbrev KeyRead : SortKey Expr → List Token → Type 0
   KeyRead x ts = Reads 11 (p.key line inner) x ts
 
-  abbrev KeysRead : List (SortKey Expr) → List Token → Type 0
+  abbrev pub KeysRead : List (SortKey Expr) → List Token → Type 0
   KeysRead ks ts = ReadsOn 11 (p.keys line inner) (λ turns. p.more_keys line inner turns ks) ts
 
   pub read_key_alone : (x : Expr) (ts : List Token) → ConditionalRead x ts → KeyRead (record { value = x; descending = false }) ts

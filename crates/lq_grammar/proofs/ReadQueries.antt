@@ -4,7 +4,7 @@ use Rattle.std.specs.Prelude.{None, Some, Option}
 use Rattle.std.proofs.lemmas.List.{append_assoc}
 use Rattle.lq_grammar.specs.Grammar as s
 use Rattle.lq_grammar.specs.Parsing as p
-use Rattle.lq_grammar.specs.Parsing.{Parser, ◌>>=◌, begins_with, peek, pure}
+use Rattle.lq_grammar.specs.Parsing.{Parser, ◌>>=◌, peek}
 use Rattle.lq_grammar.specs.Tokens.{text_of}
 use Rattle.lq_grammar.specs.declared.syntax.Body.{Body}
 use Rattle.lq_grammar.specs.declared.syntax.Clause.{Clause}
@@ -21,16 +21,10 @@ use Rattle.lq_grammar.specs.declared.token.Kind.TheVariants as k
 use Rattle.lq_grammar.specs.declared.token.Token.{Token}
 use Rattle.lq_grammar.proofs.Following.{not_next, tight}
 use Rattle.lq_grammar.proofs.Forwards.{after_sees, after_skips, begins_false, begins_true, bind_step, expect_step, name_step, split_middle, turn, turn_row}
-use Rattle.lq_grammar.proofs.ReadKeys.{more_keys_end}
-use Rattle.lq_grammar.proofs.ReadParts.{ClauseReads, Reads, ReadsOn, PartReadsOver}
+use Rattle.lq_grammar.proofs.ReadKeys.{ConditionalRead, KeysRead, more_keys_end}
+use Rattle.lq_grammar.proofs.ReadParts.{ClauseReads, Reads, PartReadsOver}
 
 module _ (line : List ℕ) (inner : Level → Parser Expr) where
-  abbrev ConditionalRead : Expr → List Token → Type 0
-  ConditionalRead x ts = Reads 10 (inner level.Conditional) x ts
-
-  abbrev KeysRead : List (SortKey Expr) → List Token → Type 0
-  KeysRead ks ts = ReadsOn 11 (p.keys line inner) (λ turns. p.more_keys line inner turns ks) ts
-
   -- ---- clauses
 
   clauses_step : (turns : ℕ) (cs : List (Clause Expr)) (c : Clause Expr) (found : Parser (Clause Expr)) (word : Token) (ts rest : List Token)
@@ -49,30 +43,30 @@ module _ (line : List ℕ) (inner : Level → Parser Expr) where
       let above : tight word.kind ≡ 13 = ap tight is ∙ last_of_all in
       (omega arith, λ rest stops. (omega arith, λ turns cs. clauses_step turns cs c found word (ts ++ rest) rest (ap (p.clause_by line inner) is ∙ by) (reads rest stops)))
 
-  source_step : {B : Type 0} (f : Expr → Parser B) (x : Expr) (ts : List Token) (within : Token) (rest : List Token) → within.kind ≡ k.In → ConditionalRead x ts → 10 ≤ tight (peek rest)
+  source_step : {B : Type 0} (f : Expr → Parser B) (x : Expr) (ts : List Token) (within : Token) (rest : List Token) → within.kind ≡ k.In → ConditionalRead line inner x ts → 10 ≤ tight (peek rest)
       → (p.source line inner >>= f) (within ∷ (ts ++ rest)) ≡ f x rest
   unfolding p.source
   source_step f x ts within rest is reads stops =
       bind_step (p.source line inner) f (within ∷ (ts ++ rest)) rest x (expect_step k.In _ within (ts ++ rest) is ∙ reads rest stops)
 
-  pub read_from_clause : (x : Expr) (ts : List Token) (word variable within : Token) → word.kind ≡ k.From → variable.kind ≡ k.Name → within.kind ≡ k.In → ConditionalRead x ts
+  pub read_from_clause : (x : Expr) (ts : List Token) (word variable within : Token) → word.kind ≡ k.From → variable.kind ≡ k.Name → within.kind ≡ k.In → ConditionalRead line inner x ts
       → ClauseReads line inner (clause.From (text_of line variable) x) (word ∷ variable ∷ within ∷ ts)
   read_from_clause x ts word variable within is variable_is within_is reads =
       read_clause _ k.From _ word (variable ∷ within ∷ ts) is refl refl
       (λ rest stops. name_step line _ variable _ variable_is ∙ source_step _ x ts within rest within_is reads (omega arith))
 
-  pub read_let_clause : (x : Expr) (ts : List Token) (word variable assign : Token) → word.kind ≡ k.Let → variable.kind ≡ k.Name → assign.kind ≡ k.Assign → ConditionalRead x ts
+  pub read_let_clause : (x : Expr) (ts : List Token) (word variable assign : Token) → word.kind ≡ k.Let → variable.kind ≡ k.Name → assign.kind ≡ k.Assign → ConditionalRead line inner x ts
       → ClauseReads line inner (clause.Let (text_of line variable) x) (word ∷ variable ∷ assign ∷ ts)
   read_let_clause x ts word variable assign is variable_is assign_is reads =
       read_clause _ k.Let _ word (variable ∷ assign ∷ ts) is refl refl
       (λ rest stops. name_step line _ variable _ variable_is ∙ expect_step k.Assign _ assign (ts ++ rest) assign_is
       ∙ bind_step (inner level.Conditional) _ (ts ++ rest) rest x (reads rest (omega arith)))
 
-  pub read_where_clause : (x : Expr) (ts : List Token) (word : Token) → word.kind ≡ k.Where → ConditionalRead x ts → ClauseReads line inner (clause.Where x) (word ∷ ts)
+  pub read_where_clause : (x : Expr) (ts : List Token) (word : Token) → word.kind ≡ k.Where → ConditionalRead line inner x ts → ClauseReads line inner (clause.Where x) (word ∷ ts)
   read_where_clause x ts word is reads =
       read_clause _ k.Where _ word ts is refl refl (λ rest stops. bind_step (inner level.Conditional) _ (ts ++ rest) rest x (reads rest (omega arith)))
 
-  pub read_orderby_clause : (ks : List (SortKey Expr)) (ts : List Token) (word : Token) → word.kind ≡ k.OrderBy → KeysRead ks ts → ClauseReads line inner (clause.OrderBy ks) (word ∷ ts)
+  pub read_orderby_clause : (ks : List (SortKey Expr)) (ts : List Token) (word : Token) → word.kind ≡ k.OrderBy → KeysRead line inner ks ts → ClauseReads line inner (clause.OrderBy ks) (word ∷ ts)
   read_orderby_clause ks ts word is reads =
       read_clause _ k.OrderBy _ word ts is refl refl
       (λ rest stops. let (turns, enough, front) = reads rest (omega arith) in
@@ -89,8 +83,8 @@ module _ (line : List ℕ) (inner : Level → Parser Expr) where
   group_name_some into group rest into_is group_is = after_sees k.Into _ _ into (group ∷ rest) into_is ∙ name_step line _ group rest group_is
 
   -- a join, by what stands behind its last key
-  join_reads : (s x y : Expr) (g : Option (List ℕ)) (ss xs ys left rest : List Token) (variable within on equals : Token) → variable.kind ≡ k.Name → within.kind ≡ k.In → ConditionalRead s ss
-      → on.kind ≡ k.On → ConditionalRead x xs → equals.kind ≡ k.Equals → ConditionalRead y ys → 10 ≤ tight (peek left) → p.group_name line inner left ≡ Some (g, rest)
+  join_reads : (s x y : Expr) (g : Option (List ℕ)) (ss xs ys left rest : List Token) (variable within on equals : Token) → variable.kind ≡ k.Name → within.kind ≡ k.In → ConditionalRead line inner s ss
+      → on.kind ≡ k.On → ConditionalRead line inner x xs → equals.kind ≡ k.Equals → ConditionalRead line inner y ys → 10 ≤ tight (peek left) → p.group_name line inner left ≡ Some (g, rest)
       → p.join line inner (variable ∷ within ∷ (ss ++ on ∷ (xs ++ equals ∷ (ys ++ left))))
       ≡ Some (clause.Join (record { name = text_of line variable; source = s; outer_key = x; inner_key = y; into = g }), rest)
   unfolding p.join peek
@@ -108,8 +102,8 @@ module _ (line : List ℕ) (inner : Level → Parser Expr) where
   split_join : (ss xs ys rest : List Token) (on equals : Token) → (ss ++ on ∷ (xs ++ equals ∷ ys)) ++ rest ≡ ss ++ on ∷ (xs ++ equals ∷ (ys ++ rest))
   split_join ss xs ys rest on equals = split_middle ss on (xs ++ equals ∷ ys) rest ∙ ap (λ more. ss ++ on ∷ more) (split_middle xs equals ys rest)
 
-  pub read_join_clause : (s x y : Expr) (ss xs ys : List Token) (word variable within on equals : Token) → word.kind ≡ k.Join → variable.kind ≡ k.Name → within.kind ≡ k.In → ConditionalRead s ss
-      → on.kind ≡ k.On → ConditionalRead x xs → equals.kind ≡ k.Equals → ConditionalRead y ys
+  pub read_join_clause : (s x y : Expr) (ss xs ys : List Token) (word variable within on equals : Token) → word.kind ≡ k.Join → variable.kind ≡ k.Name → within.kind ≡ k.In → ConditionalRead line inner s ss
+      → on.kind ≡ k.On → ConditionalRead line inner x xs → equals.kind ≡ k.Equals → ConditionalRead line inner y ys
       → ClauseReads line inner (clause.Join (record { name = text_of line variable; source = s; outer_key = x; inner_key = y; into = None }))
       (word ∷ variable ∷ within ∷ (ss ++ on ∷ (xs ++ equals ∷ ys)))
   read_join_clause s x y ss xs ys word variable within on equals is variable_is within_is source_is on_is outer equals_is own =
@@ -118,7 +112,7 @@ module _ (line : List ℕ) (inner : Level → Parser Expr) where
       ∙ join_reads s x y None ss xs ys rest rest variable within on equals variable_is within_is source_is on_is outer equals_is own (omega arith) (group_name_none rest stops))
 
   pub read_group_join_clause : (s x y : Expr) (ss xs ys : List Token) (word variable within on equals into group : Token) → word.kind ≡ k.Join → variable.kind ≡ k.Name → within.kind ≡ k.In
-      → ConditionalRead s ss → on.kind ≡ k.On → ConditionalRead x xs → equals.kind ≡ k.Equals → ConditionalRead y ys → into.kind ≡ k.Into → group.kind ≡ k.Name
+      → ConditionalRead line inner s ss → on.kind ≡ k.On → ConditionalRead line inner x xs → equals.kind ≡ k.Equals → ConditionalRead line inner y ys → into.kind ≡ k.Into → group.kind ≡ k.Name
       → ClauseReads line inner (clause.Join (record { name = text_of line variable; source = s; outer_key = x; inner_key = y; into = Some (text_of line group) }))
       (word ∷ variable ∷ within ∷ (ss ++ on ∷ (xs ++ equals ∷ (ys ++ into ∷ group ∷ []))))
   unfolding peek
@@ -157,13 +151,13 @@ module _ (line : List ℕ) (inner : Level → Parser Expr) where
   clauses_end zero cs rest none = refl
   clauses_end (suc turns) cs rest none = ap (λ o. p.clauses_by line inner (p.clauses line inner turns) cs o rest) none
 
-  pub read_select : (x : Expr) (ts : List Token) (word : Token) → word.kind ≡ k.Select → ConditionalRead x ts → EndingRead (last.Select x) (word ∷ ts)
+  pub read_select : (x : Expr) (ts : List Token) (word : Token) → word.kind ≡ k.Select → ConditionalRead line inner x ts → EndingRead (last.Select x) (word ∷ ts)
   unfolding p.ending peek
   read_select x ts word is reads rest stops =
       let above : tight word.kind ≡ 13 = ap tight is in
       (omega arith, ap (p.clause_by line inner) is, after_sees k.Select _ _ word (ts ++ rest) is ∙ bind_step (inner level.Conditional) _ (ts ++ rest) rest x (reads rest stops))
 
-  pub read_group : (x y : Expr) (xs ys : List Token) (word by : Token) → word.kind ≡ k.Group → ConditionalRead x xs → by.kind ≡ k.By → ConditionalRead y ys
+  pub read_group : (x y : Expr) (xs ys : List Token) (word by : Token) → word.kind ≡ k.Group → ConditionalRead line inner x xs → by.kind ≡ k.By → ConditionalRead line inner y ys
       → EndingRead (last.Group x y) (word ∷ (xs ++ by ∷ ys))
   unfolding p.ending peek
   read_group x y xs ys word by is element by_is key rest stops =
@@ -231,7 +225,7 @@ module _ (line : List ℕ) (inner : Level → Parser Expr) where
   continuations_end (suc turns) cs rest stops = after_skips k.Into _ _ rest (not_next k.Into rest (omega arith))
 
   pub read_query : (x : Expr) (b : Body Expr) (cs : List (Continuation Expr)) (xs ys zs : List Token) (from word within : Token) → from.kind ≡ k.From → word.kind ≡ k.Name
-      → within.kind ≡ k.In → ConditionalRead x xs → BodyRead b ys → ContinuationsRead cs zs
+      → within.kind ≡ k.In → ConditionalRead line inner x xs → BodyRead b ys → ContinuationsRead cs zs
       → PartReadsOver line inner (s.Whole (record { name = text_of line word; source = x; body = b; rest = cs })) (from ∷ word ∷ within ∷ (xs ++ (ys ++ zs)))
   unfolding p.query
   read_query x b cs xs ys zs from word within from_is word_is within_is source_is body_is continues rest stops =

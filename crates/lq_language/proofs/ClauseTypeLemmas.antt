@@ -5,7 +5,7 @@ use Rattle.std.specs.List.{sum_by}
 use Rattle.std.proofs.lemmas.List.Sums.{sum_by-cons}
 use Rattle.std.proofs.lemmas.Bool.{le-leb, leb-true}
 use Rattle.std.specs.Cmp.{first_so, second_so}
-use Rattle.lq_value.specs.declared.ty.Ty.{Ty, fold_out-Ty, map-Ty, out-Ty, roll-Ty}
+use Rattle.lq_value.specs.declared.ty.Ty.{Ty, map-Ty, out-Ty, roll-Ty}
 use Rattle.lq_value.specs.declared.ty.Ty.TheOpen.{Ty-F}
 use Rattle.lq_value.specs.declared.ty.Ty.TheVariants as ty
 use Rattle.lq_value.specs.declared.ty.Ty.TheVariants.{outs-Group, outs-Int, outs-IntN, outs-Rec, outs-Row, outs-Seq, rolls-Int, rolls-IntN}
@@ -15,18 +15,16 @@ use Rattle.lq_value.specs.declared.value.Value.{Value}
 use Rattle.lq_value.specs.declared.value.Value.TheOpen.{Value-F}
 use Rattle.lq_value.specs.declared.value.Value.TheVariants as value
 use Rattle.lq_language.specs.ClauseLaws.{RecordsMatch, TakesAllElse, AreIntAndNullable, BoundsParts, ComparesOneType, CountsParts, HidesTables, ReturnsItsName}
-use Rattle.lq_language.specs.ClauseTyping.{expression_step, expression_type, matched_type, source_type}
-use Rattle.lq_language.specs.Typing.{whole_name_type}
+use Rattle.lq_language.specs.ClauseTyping.{matched_type, source_type}
+use Rattle.lq_language.specs.Typing.{type_of_name}
 use Rattle.lq_language.specs.ClauseMeaning.{is_null_layer}
 use Rattle.lq_language.specs.Stream.{elements_of}
 use Rattle.lq_language.specs.Types.{are_join_keys, are_widened, element_type, fresh_type, has_place, if_key, if_placed, is_fresh, is_key, parts_of, parts_step, same_types, sum_of_members, when}
 use Rattle.lq_language.specs.Names.{Names, local_type, with_local}
-use Rattle.lq_grammar.specs.declared.syntax.Expr.{Expr, fold_out-Expr, map-Expr}
-use Rattle.lq_grammar.specs.declared.syntax.Expr.TheOpen.{Expr-F}
-use Rattle.lq_grammar.specs.declared.syntax.Expr.TheVariants as expr
-use Rattle.lq_grammar.specs.declared.syntax.Expr.TheVariants.{outs-Node}
 use Rattle.lq_grammar.specs.declared.syntax.Node.TheVariants as node
+use Rattle.lq_language.proofs.ExpressionTypeLaws.{type_of_node}
 use Rattle.lq_language.proofs.SameTypeLaws.{same_itself, same_type}
+use Rattle.lq_language.proofs.TypePartLaws.{parts_at}
 
 -- ---- the keys of a `join`
 
@@ -102,13 +100,6 @@ bounds_parts typed t = (
   (λ h. within_by t (nat_le (parts_of (ty.Seq t)) 4096) false (too_great (parts_of (ty.Seq t)) (nat_le (parts_of (ty.Seq t)) 4096) refl h)),
 )
 
-parts_out : (t : Ty) → parts_of t ≡ parts_step (map-Ty Ty ℕ parts_of (out-Ty t))
-unfolding parts_of
-parts_out t = fold_out-Ty ℕ parts_step t
-
-parts_at : (t : Ty) (layer : Ty-F Ty) → out-Ty t ≡ layer → parts_of t ≡ parts_step (map-Ty Ty ℕ parts_of layer)
-parts_at t layer h = parts_out t ∙ ap (λ (x : Ty-F Ty). parts_step (map-Ty Ty ℕ parts_of x)) h
-
 summed : (ms : List (List ℕ × Ty)) → sum_of_members (map (λ (m : List ℕ × Ty). (m.0, parts_of m.1)) ms) ≡ sum_by (λ m. parts_of m.1) ms
 summed [] = refl
 summed (m ∷ ms) = ap (λ (n : ℕ). parts_of m.1 + n) (summed ms) ∙ sym (sum_by-cons (λ (x : List ℕ × Ty). parts_of x.1) m ms)
@@ -142,12 +133,6 @@ returns_its_name typed outer names n f k l t u free source outer_key inner_key k
     ap (λ (found : Option Ty). option_map (with_local names n) (compared typed outer names n k l found)) (fresh_by names n (source_type typed f outer) free ∙ source)
     ∙ ap (option_map (with_local names n)) (matched typed outer names n k l t u free outer_key inner_key key)
 
-name_out : (n : List ℕ) (names : Names) → expression_type (expr.Node (node.Name n)) names ≡ whole_name_type names n (local_type n names.locals)
-unfolding expression_type
-name_out n names =
-    ap (λ (t : Names → Option Ty). t names) (fold_out-Expr (Names → Option Ty) expression_step (expr.Node (node.Name n)))
-    ∙ ap (λ (layer : Expr-F Expr). expression_step (map-Expr Expr (Names → Option Ty) expression_type layer) names) (outs-Node (node.Name n))
-
 abbrev none_there : Option Ty
 none_there = None
 
@@ -158,6 +143,6 @@ no_name false = refl
 pub hides_tables : HidesTables
 hides_tables outer names n m table there =
     ap (λ (found : Option Ty). option_map (with_local names m) (fresh_type names m (option_and_then (λ t. element_type (out-Ty t)) found)))
-    (name_out n names ∙ ap (whole_name_type names n) there)
+    (type_of_node (node.Name n) names ∙ ap (type_of_name names n) there)
     ∙ ap (λ (layer : Ty-F Ty). option_map (with_local names m) (fresh_type names m (element_type layer))) (outs-Row table)
     ∙ ap (option_map (with_local names m)) (no_name (is_fresh names m))

@@ -1,6 +1,6 @@
 -- What is typed means the same in two worlds that differ only in the fault that stands where there is
 -- no meaning, and gives values of its type.
-use Rattle.std.proofs.Common.{◌≡◌, ◌∷◌, if◌then◌else◌, List, [], map, ℕ, Bool, true, false, not, Option, Some, None, Result, Ok, ap, ap₂, ◌∙◌, sym, refl, subst, bytes_eq, codes, true≢false, option_and_then, option_map}
+use Rattle.std.proofs.Common.{◌≡◌, ◌∷◌, if◌then◌else◌, List, [], map, ℕ, Bool, true, false, not, Option, Some, None, Result, Ok, ap, ap₂, ◌∙◌, sym, refl, subst, bytes_eq, codes, option_and_then, option_map}
 use Rattle.std.proofs.lemmas.Bool.{and_from}
 use Rattle.std.proofs.lemmas.Option.{none-some, same_Some}
 use Rattle.lq_value.specs.SameAndOrder.{same_values as same_keys}
@@ -27,12 +27,12 @@ use Rattle.lq_language.specs.Operations.{negated, of_member, of_search, on_ok}
 use Rattle.lq_language.specs.Stream.{Stream, elements_of}
 use Rattle.lq_language.specs.Types.{is_within}
 use Rattle.lq_language.specs.Names.{Names, SessionName, column_type, local_type, session_name, table_number, with_local}
-use Rattle.lq_language.specs.OperandTypes.{are_joined, coalesced, is_equality, is_scalar, is_text, is_text_type, number_type, truth_type}
+use Rattle.lq_language.specs.OperandTypes.{is_equality, is_text, is_text_type, number_type, truth_type}
 use Rattle.lq_language.specs.TypingRules.{TypeClaim, Has, Gives, Members, Sorts, Leads, LeadAll, Ends, BodyGives, Continues, QueryGives, IsRight}
 use Rattle.lq_language.specs.TypingRules as rule
-use Rattle.lq_language.specs.Meaning.{argument_meaning, as_sequence, given_meaning, global_value, is_sequence_layer, simple_meaning, through_meaning, called_meaning, enumerable_meaning, expression_meaning, expression_meaning_step, members_meaning, method_meaning, search_meaning, session_value, settled, whole_compared, whole_meaning, whole_member_value, whole_name_value, whole_same}
-use Rattle.lq_language.specs.MeaningLaws.{AreMembers, Fits, IsScopeOfValues, IsSessionOfValues, by_group, by_record, by_row, by_scalar, no_member, one_member}
-use Rattle.lq_language.specs.Typing.{given_type, through_type, called_type, enumerable_type, method_type, search_type, whole_member_type}
+use Rattle.lq_language.specs.Meaning.{argument_meaning, as_sequence, given_meaning, global_value, is_sequence_layer, simple_meaning, through_meaning, called_meaning, enumerable_meaning, expression_meaning, expression_meaning_step, members_meaning, method_meaning, search_meaning, session_value, settled, equality_meaning, node_meaning, value_of_member, value_of_name, same_operands}
+use Rattle.lq_language.specs.MeaningLaws.{AreMembers, Fits, IsScopeOfValues, IsSessionOfValues, by_group, by_record, by_row, no_member, one_member}
+use Rattle.lq_language.specs.Typing.{given_type, through_type, called_type, enumerable_type, method_type, search_type, type_of_member}
 use Rattle.lq_grammar.specs.declared.syntax.Argument.{Argument}
 use Rattle.lq_grammar.specs.declared.syntax.Argument.TheVariants as argument
 use Rattle.lq_grammar.specs.declared.syntax.Binary.{Binary}
@@ -52,15 +52,15 @@ use Rattle.lq_grammar.specs.declared.syntax.SortKey.{SortKey}
 use Rattle.lq_grammar.specs.declared.syntax.Unary.TheVariants as unary
 use Rattle.lq_language.proofs.AlikeStreamLaws.{Agree, Alike, KeysAlike, Pair, agree_err, agree_ok, both_agree, every_element, expand_alike, group_alike, join_alike, on_ok_agree, order_alike, select_alike, where_alike}
 use Rattle.lq_language.proofs.ItemLaws.{every_map, every_more, every_none, first_of, no_binding, others_of, table_there}
-use Rattle.lq_language.proofs.Layers.{para_node, para_query}
+use Rattle.lq_language.proofs.LayerLaws.{para_node, para_query}
 use Rattle.lq_language.proofs.MemberLaws.{search_told}
 use Rattle.lq_language.proofs.MethodPullLaws.{call_maps}
-use Rattle.lq_language.proofs.QueryPulls.{query_meant}
-use Rattle.lq_language.proofs.ScalarResultLaws.{Gives as GivesScalar, arithmetic_of, coalesced_fits, given_of, has_value_given, joined_given, length_given, minus_given, ordering_given, search_given, signed, value_given}
+use Rattle.lq_language.proofs.QueryPullLaws.{query_meant}
+use Rattle.lq_language.proofs.ScalarResultLaws.{Gives as GivesScalar, arithmetic_of, given_of, has_value_given, joined_given, length_given, minus_given, ordering_given, search_given, signed, value_given}
 use Rattle.lq_language.proofs.TypedMethodLaws.{column_agrees, given_agree, given_typed, key_agrees, left, member_agrees, right, scalar_after, scalar_member_agrees, settled_agree, simple_typed, stream_alike, through_typed, truth_after, truth_same}
-use Rattle.lq_language.proofs.TypedOperatorLaws.{Keeps, choice_keeps, coalesced_plain, decides, plain_keeps}
+use Rattle.lq_language.proofs.TypedOperatorLaws.{and_agrees, choice_agrees, choice_keeps, coalesced_agrees, coalesced_plain, decides, or_agrees}
 use Rattle.lq_language.proofs.TypingLaws.{computes_alone, is_truth, orders_alone}
-use Rattle.lq_language.proofs.ValueLaws.{Is, gets_ok, is_plain, number_plain, scalar_is, sequence_is, truth_is}
+use Rattle.lq_language.proofs.ValueLaws.{Is, gets_ok, is_plain, joined_plain, number_plain, scalar_is, scalar_plain, sequence_is, truth_is}
 use Rattle.lq_language.proofs.TypingCompleteness.{lambda_found, called_by, found, limited_found, no_text}
 
 -- ---- layers
@@ -70,7 +70,7 @@ module _ {R : Type 0} (w : World R) where
   abbrev pub beside : Expr → Meant R
   beside e = (e, expression_meaning w e)
 
-  pub meaning_of_node : (n : Node Expr) (scope : Scope R) → expression_meaning w (expr.Node n) scope ≡ whole_meaning w expression_type (map_node beside n) scope
+  pub meaning_of_node : (n : Node Expr) (scope : Scope R) → expression_meaning w (expr.Node n) scope ≡ node_meaning w expression_type (map_node beside n) scope
   unfolding expression_meaning
   meaning_of_node n scope = ap (λ (m : Meaning R). m scope) (para_node (Meaning R) (expression_meaning_step w) n)
 
@@ -83,19 +83,6 @@ module _ {R : Type 0} (w : World R) where
 
   abbrev pub type_beside : Meant R → Names → Option Ty
   type_beside x = expression_type x.0
-
-scalar_plain : (layer : Ty-F Ty) → is_scalar layer ≡ true → is_plain layer ≡ true
-scalar_plain Ty-F.Int h = refl
-scalar_plain Ty-F.IntN h = refl
-scalar_plain Ty-F.Bool h = refl
-scalar_plain Ty-F.Str h = refl
-scalar_plain layer h = absurd (true≢false (sym h))
-
-joined_plain : (k l : Ty-F Ty) → are_joined k l ≡ true → (is_plain k ≡ true) × (is_plain l ≡ true)
-joined_plain Ty-F.Str Ty-F.Str h = (refl, refl)
-joined_plain Ty-F.Str Ty-F.Null h = (refl, refl)
-joined_plain Ty-F.Null Ty-F.Str h = (refl, refl)
-joined_plain k l h = absurd (true≢false (sym h))
 
 -- the type of a call on what is enumerated
 called_found : {X : Type 0} (typed : X → Names → Option Ty) (names : Names) (source : Option Ty) (t r : Ty) (call : EnumerableCall X)
@@ -174,12 +161,12 @@ module _ {R : Type 0} (world : World R) (holds : HoldsRows world) (kept : IsSess
   -- ---- nodes
 
   of_node : (t : Ty) (e : Expr) (n : Node Expr) (scope : Scope R) → e ≡ expr.Node n
-      → Agree (Val t) (whole_meaning L expression_type (map_node (beside L) n) scope) (whole_meaning M expression_type (map_node (beside M) n) scope)
+      → Agree (Val t) (node_meaning L expression_type (map_node (beside L) n) scope) (node_meaning M expression_type (map_node (beside M) n) scope)
       → Agree (Val t) (in_left e scope) (in_right e scope)
   of_node t e n scope is h =
       subst (λ (x : Expr). Agree (Val t) (in_left x scope) (in_right x scope)) (sym is)
       (subst (λ (m : Result (Value R) Fault). Agree (Val t) m (in_right (expr.Node n) scope)) (sym (meaning_of_node L n scope))
-      (subst (λ (m : Result (Value R) Fault). Agree (Val t) (whole_meaning L expression_type (map_node (beside L) n) scope) m) (sym (meaning_of_node M n scope)) h))
+      (subst (λ (m : Result (Value R) Fault). Agree (Val t) (node_meaning L expression_type (map_node (beside L) n) scope) m) (sym (meaning_of_node M n scope)) h))
 
   scalar_agrees : (t : Ty) (layer : Ty-F Ty) (s : Scalar) → out-Ty t ≡ layer → IsScalarOf layer s → Agree (Val t) (Ok (value.Scalar s)) (Ok (value.Scalar s))
   scalar_agrees t layer s is fits = agree_ok (Val t) (value.Scalar s) (scalar_is world t layer s is fits)
@@ -199,17 +186,17 @@ module _ {R : Type 0} (world : World R) (holds : HoldsRows world) (kept : IsSess
       (has_value x bs t (others_of (λ d. Val d.ty d.value) b bs fits)) (bytes_eq b.name x) h
 
   local_means : (x : List ℕ) (scope : Scope R) (t : Ty) → IsScopeOfValues world scope → local_type x (typed_locals scope) ≡ Some t
-      → Agree (Val t) (whole_name_value L x (binding_of x scope)) (whole_name_value M x (binding_of x scope))
+      → Agree (Val t) (value_of_name L x (binding_of x scope)) (value_of_name M x (binding_of x scope))
   local_means x scope t fits h =
       let there = has_value x scope t fits h in
-      subst (λ (o : Option (Binding R)). Agree (Val t) (whole_name_value L x o) (whole_name_value M x o)) (sym there.1) (agree_ok (Val t) there.0.value there.2)
+      subst (λ (o : Option (Binding R)). Agree (Val t) (value_of_name L x o) (value_of_name M x o)) (sym there.1) (agree_ok (Val t) there.0.value there.2)
 
   table_means : (x : List ℕ) (scope : Scope R) (n : ℕ) → local_type x (typed_locals scope) ≡ None → table_number x world.schemas ≡ Some n
-      → Agree (Val (ty.Seq (ty.Row n))) (whole_name_value L x (binding_of x scope)) (whole_name_value M x (binding_of x scope))
+      → Agree (Val (ty.Seq (ty.Row n))) (value_of_name L x (binding_of x scope)) (value_of_name M x (binding_of x scope))
   table_means x scope n hidden table =
       let there = table_there x world.schemas n table in
       let rows = holds n there.0 there.1 in
-      subst (λ (o : Option (Binding R)). Agree (Val (ty.Seq (ty.Row n))) (whole_name_value L x o) (whole_name_value M x o)) (sym (no_binding x scope hidden))
+      subst (λ (o : Option (Binding R)). Agree (Val (ty.Seq (ty.Row n))) (value_of_name L x o) (value_of_name M x o)) (sym (no_binding x scope hidden))
       (subst (λ (o : Option ℕ). Agree (Val (ty.Seq (ty.Row n))) (global_value L x o) (global_value M x o))
       (sym table)
       (subst (λ (o : Option (List R)). Agree (Val (ty.Seq (ty.Row n))) (table_value L o) (table_value M o)) (sym rows.1)
@@ -239,26 +226,26 @@ module _ {R : Type 0} (world : World R) (holds : HoldsRows world) (kept : IsSess
       (there.0, (λ w same. ap (session_value w x) same ∙ there.1 w), there.2)
 
   -- members
-  member_means : (names : Names) (a : Expr) (m : List ℕ) (s t : Ty) → expression_type a names ≡ Some s → whole_member_type names m (out-Ty s) ≡ Some t
-      → ((v : Value R) → Val s v → Agree (Val t) (whole_member_value L (Some s) m (out-Value R v)) (whole_member_value M (Some s) m (out-Value R v)))
+  member_means : (names : Names) (a : Expr) (m : List ℕ) (s t : Ty) → expression_type a names ≡ Some s → type_of_member names m (out-Ty s) ≡ Some t
+      → ((v : Value R) → Val s v → Agree (Val t) (value_of_member L (Some s) m (out-Value R v)) (value_of_member M (Some s) m (out-Value R v)))
       → Means (Has names a s) → (scope : Scope R) → At names scope
-      → Agree (Val t) (whole_meaning L expression_type (map_node (beside L) (node.Member a m)) scope) (whole_meaning M expression_type (map_node (beside M) (node.Member a m)) scope)
+      → Agree (Val t) (node_meaning L expression_type (map_node (beside L) (node.Member a m)) scope) (node_meaning M expression_type (map_node (beside M) (node.Member a m)) scope)
   member_means names a m s t typed member agrees means scope at =
-      settled_agree world f g t (option_and_then (λ u. whole_member_type (names_at world scope) m (out-Ty u)) (expression_type a (names_at world scope)))
-      (ap (λ (ns : Names). option_and_then (λ u. whole_member_type ns m (out-Ty u)) (expression_type a ns)) at.1
-      ∙ ap (λ (o : Option Ty). option_and_then (λ u. whole_member_type names m (out-Ty u)) o) typed ∙ member)
+      settled_agree world f g t (option_and_then (λ u. type_of_member (names_at world scope) m (out-Ty u)) (expression_type a (names_at world scope)))
+      (ap (λ (ns : Names). option_and_then (λ u. type_of_member ns m (out-Ty u)) (expression_type a ns)) at.1
+      ∙ ap (λ (o : Option Ty). option_and_then (λ u. type_of_member names m (out-Ty u)) o) typed ∙ member)
       _ _
-      (on_ok_agree (Val s) (Val t) (λ v. whole_member_value L (expression_type a (names_at world scope)) m (out-Value R v))
-      (λ v. whole_member_value M (expression_type a (names_at world scope)) m (out-Value R v))
-      (λ v fits. subst (λ (o : Option Ty). Agree (Val t) (whole_member_value L o m (out-Value R v)) (whole_member_value M o m (out-Value R v)))
+      (on_ok_agree (Val s) (Val t) (λ v. value_of_member L (expression_type a (names_at world scope)) m (out-Value R v))
+      (λ v. value_of_member M (expression_type a (names_at world scope)) m (out-Value R v))
+      (λ v fits. subst (λ (o : Option Ty). Agree (Val t) (value_of_member L o m (out-Value R v)) (value_of_member M o m (out-Value R v)))
       (sym (typed_at names a s scope at typed)) (agrees v fits))
       (in_left a scope) (in_right a scope) (means scope at))
 
   scalar_member : (names : Names) (a : Expr) (m : List ℕ) (s t : Ty) (k l : Ty-F Ty) → out-Ty s ≡ k → out-Ty t ≡ l → is_plain k ≡ true → expression_type a names ≡ Some s
-      → whole_member_type names m k ≡ Some t → ((x : Scalar) → IsScalarOf k x → GivesScalar l (λ unknown. of_member unknown (member_named m) x)) → Means (Has names a s) → (scope : Scope R) → At names scope
-      → Agree (Val t) (whole_meaning L expression_type (map_node (beside L) (node.Member a m)) scope) (whole_meaning M expression_type (map_node (beside M) (node.Member a m)) scope)
+      → type_of_member names m k ≡ Some t → ((x : Scalar) → IsScalarOf k x → GivesScalar l (λ unknown. of_member unknown (member_named m) x)) → Means (Has names a s) → (scope : Scope R) → At names scope
+      → Agree (Val t) (node_meaning L expression_type (map_node (beside L) (node.Member a m)) scope) (node_meaning M expression_type (map_node (beside M) (node.Member a m)) scope)
   scalar_member names a m s t k l s_is t_is plain typed member given means =
-      member_means names a m s t typed (ap (whole_member_type names m) s_is ∙ member)
+      member_means names a m s t typed (ap (type_of_member names m) s_is ∙ member)
       (scalar_member_agrees world f g s t m (ap is_plain s_is ∙ plain)
       (λ x fits. given_of t l (λ unknown. of_member unknown (member_named m) x) t_is (given x (subst (λ (u : Ty-F Ty). IsScalarOf u x) s_is fits)))) means
 
@@ -268,17 +255,17 @@ module _ {R : Type 0} (world : World R) (holds : HoldsRows world) (kept : IsSess
   computed_of w op a b scope s t = operated_meaning w op s t (expression_meaning w a scope) (expression_meaning w b scope)
 
   not_compared : (w : World R) (op : Binary) (a b : Expr) (scope : Scope R) → is_equality op ≡ false
-      → whole_meaning w expression_type (map_node (beside w) (node.Binary op a b)) scope
+      → node_meaning w expression_type (map_node (beside w) (node.Binary op a b)) scope
       ≡ computed_of w op a b scope (expression_type a (names_at w scope)) (expression_type b (names_at w scope))
   not_compared w op a b scope other =
-      ap (λ (c : Bool). if c then whole_compared w op (expression_meaning w a scope) (expression_meaning w b scope)
+      ap (λ (c : Bool). if c then equality_meaning w op (expression_meaning w a scope) (expression_meaning w b scope)
       else (if c then compared_meaning w op (expression_meaning w a scope) (expression_meaning w b scope)
       else computed_of w op a b scope (expression_type a (names_at w scope)) (expression_type b (names_at w scope)))) other
 
   is_compared : (w : World R) (op : Binary) (a b : Expr) (scope : Scope R) → is_equality op ≡ true
-      → whole_meaning w expression_type (map_node (beside w) (node.Binary op a b)) scope ≡ whole_compared w op (expression_meaning w a scope) (expression_meaning w b scope)
+      → node_meaning w expression_type (map_node (beside w) (node.Binary op a b)) scope ≡ equality_meaning w op (expression_meaning w a scope) (expression_meaning w b scope)
   is_compared w op a b scope same =
-      ap (λ (c : Bool). if c then whole_compared w op (expression_meaning w a scope) (expression_meaning w b scope)
+      ap (λ (c : Bool). if c then equality_meaning w op (expression_meaning w a scope) (expression_meaning w b scope)
       else (if c then compared_meaning w op (expression_meaning w a scope) (expression_meaning w b scope)
       else computed_of w op a b scope (expression_type a (names_at w scope)) (expression_type b (names_at w scope)))) same
 
@@ -287,17 +274,17 @@ module _ {R : Type 0} (world : World R) (holds : HoldsRows world) (kept : IsSess
 
   session_means : (x : List ℕ) (scope : Scope R) (known : SessionName) → local_type x (typed_locals scope) ≡ None → table_number x world.schemas ≡ None
       → session_name x (session_names world.session) ≡ Some known
-      → Agree (Val known.ty) (whole_name_value L x (binding_of x scope)) (whole_name_value M x (binding_of x scope))
+      → Agree (Val known.ty) (value_of_name L x (binding_of x scope)) (value_of_name M x (binding_of x scope))
   session_means x scope known hidden no_table h =
       let there = has_session_value x known h in
-      subst (λ (o : Option (Binding R)). Agree (Val known.ty) (whole_name_value L x o) (whole_name_value M x o)) (sym (no_binding x scope hidden))
+      subst (λ (o : Option (Binding R)). Agree (Val known.ty) (value_of_name L x o) (value_of_name M x o)) (sym (no_binding x scope hidden))
       (subst (λ (o : Option ℕ). Agree (Val known.ty) (global_value L x o) (global_value M x o)) (sym no_table)
       (by_equals known.ty _ _ _ _ (there.1 L refl) (there.1 M refl) (agree_ok (Val known.ty) there.0 there.2)))
 
   signed_means : (names : Names) (a b : Expr) (op : Binary) (r s t : Ty) → is_equality op ≡ false → is_plain (out-Ty s) ≡ true → is_plain (out-Ty t) ≡ true
       → ((x y : Scalar) → IsScalarOf (out-Ty s) x → IsScalarOf (out-Ty t) y → GivesScalar (out-Ty r) (signed op s t x y))
       → expression_type a names ≡ Some s → expression_type b names ≡ Some t → Means (Has names a s) → Means (Has names b t) → (scope : Scope R) → At names scope
-      → Agree (Val r) (whole_meaning L expression_type (map_node (beside L) (node.Binary op a b)) scope) (whole_meaning M expression_type (map_node (beside M) (node.Binary op a b)) scope)
+      → Agree (Val r) (node_meaning L expression_type (map_node (beside L) (node.Binary op a b)) scope) (node_meaning M expression_type (map_node (beside M) (node.Binary op a b)) scope)
   signed_means names a b op r s t other s_plain t_plain given a_typed b_typed a_means b_means scope at =
       by_equals r _ _ _ _ (not_compared L op a b scope other ∙ at_types L) (not_compared M op a b scope other ∙ at_types M)
       (scalar_after world f g (Agree (Val r)) (agree_err (Val r)) s s_plain _ _
@@ -313,25 +300,6 @@ module _ {R : Type 0} (world : World R) (holds : HoldsRows world) (kept : IsSess
   told_of op o p h =
       by_equals ty.Bool _ _ _ _ (ap (λ (x : Result Bool Fault). on_ok x (λ same. Ok (truth_value (told op same)))) h.1) (ap (λ (x : Result Bool Fault). on_ok x (λ same. Ok (truth_value (told op same)))) h.2)
       (agree_ok (Val ty.Bool) (truth_value (told op h.0)) (truth_is world (told op h.0)))
-
-  coalesced_means : (s t r : Ty) → coalesced (out-Ty s) (out-Ty t) ≡ Some r → (x : Scalar) → IsScalarOf (out-Ty s) x → (m n : Result (Value R) Fault) → Agree (Val t) m n
-      → (c : Bool) → is_null x ≡ c → Agree (Val r) (if c then m else Ok (value.Scalar x)) (if c then n else Ok (value.Scalar x))
-  coalesced_means s t r h x fits m n agree true is =
-      (agree.0, λ v got. plain_keeps world t r (coalesced_plain (out-Ty s) (out-Ty t) r h).1 (coalesced_fits (out-Ty s) (out-Ty t) r h).1.1 v (agree.1 v got))
-  coalesced_means s t r h x fits m n agree false is = agree_ok (Val r) (value.Scalar x) (by_scalar r x ((coalesced_fits (out-Ty s) (out-Ty t) r h).1.0 x fits is))
-
-  both_by : (m n : Result (Value R) Fault) → Agree (Val ty.Bool) m n → (c d : Bool) → Agree (Val ty.Bool) (if c then m else Ok (truth_value d)) (if c then n else Ok (truth_value d))
-  both_by m n agree true d = agree
-  both_by m n agree false d = agree_ok (Val ty.Bool) (truth_value d) (truth_is world d)
-
-  either_by : (m n : Result (Value R) Fault) → Agree (Val ty.Bool) m n → (c d : Bool) → Agree (Val ty.Bool) (if c then Ok (truth_value d) else m) (if c then Ok (truth_value d) else n)
-  either_by m n agree true d = agree_ok (Val ty.Bool) (truth_value d) (truth_is world d)
-  either_by m n agree false d = agree
-
-  choice_by : (r s t : Ty) → Keeps world s r → Keeps world t r → (m n k l : Result (Value R) Fault) → Agree (Val s) m n → Agree (Val t) k l → (c : Bool)
-      → Agree (Val r) (if c then m else k) (if c then n else l)
-  choice_by r s t s_keeps t_keeps m n k l first second true = (first.0, λ v is. s_keeps v (first.1 v is))
-  choice_by r s t s_keeps t_keeps m n k l first second false = (second.0, λ v is. t_keeps v (second.1 v is))
 
   -- ---- methods
 
@@ -466,14 +434,14 @@ module _ {R : Type 0} (world : World R) (holds : HoldsRows world) (kept : IsSess
       (ap (λ (ns : Names). session_name x ns.session) at.1 ∙ there))
   means (rule.of_column names e row c n t is typed column) = λ scope at.
       of_node t e (node.Member row c) scope is
-      (member_means names row c (ty.Row n) t (found typed) (ap (whole_member_type names c) (outs-Row n) ∙ column)
+      (member_means names row c (ty.Row n) t (found typed) (ap (type_of_member names c) (outs-Row n) ∙ column)
       (column_agrees world f g n c t (ap (λ (ns : Names). column_type ns.tables n c) at.1 ∙ column)) (means typed) scope at)
   means (rule.of_member names e a m members t is typed member) = λ scope at.
       of_node t e (node.Member a m) scope is
-      (member_means names a m (ty.Rec members) t (found typed) (ap (whole_member_type names m) (outs-Rec members) ∙ member) (member_agrees world f g members m t member) (means typed) scope at)
+      (member_means names a m (ty.Rec members) t (found typed) (ap (type_of_member names m) (outs-Rec members) ∙ member) (member_agrees world f g members m t member) (means typed) scope at)
   means (rule.of_key names e a k t is typed) = λ scope at.
       of_node k e (node.Member a (codes "Key")) scope is
-      (member_means names a (codes "Key") (ty.Group k t) k (found typed) (ap (whole_member_type names (codes "Key")) (outs-Group k t)) (key_agrees world f g k t (codes "Key")) (means typed) scope at)
+      (member_means names a (codes "Key") (ty.Group k t) k (found typed) (ap (type_of_member names (codes "Key")) (outs-Group k t)) (key_agrees world f g k t (codes "Key")) (means typed) scope at)
   means (rule.of_has_value names e a is typed) = λ scope at.
       of_node ty.Bool e (node.Member a (codes "HasValue")) scope is
       (scalar_member names a (codes "HasValue") ty.IntN ty.Bool Ty-F.IntN Ty-F.Bool outs-IntN outs-Bool refl (found typed) refl has_value_given (means typed) scope at)
@@ -493,7 +461,7 @@ module _ {R : Type 0} (world : World R) (holds : HoldsRows world) (kept : IsSess
       (by_equals ty.Bool _ _ _ _ (is_compared L op a b scope same) (is_compared M op a b scope same)
       (on_ok_agree (Val s) (Val ty.Bool) _ _ (λ v v_fits. on_ok_agree (Val t) (Val ty.Bool) _ _
       (λ w w_fits. let decided = decides world s t compares v w v_fits w_fits in
-      told_of op (whole_same L (out-Value R v) (out-Value R w)) (whole_same M (out-Value R v) (out-Value R w)) (decided.0, decided.1 f, decided.1 g))
+      told_of op (same_operands L (out-Value R v) (out-Value R w)) (same_operands M (out-Value R v) (out-Value R w)) (decided.0, decided.1 f, decided.1 g))
       (in_left b scope) (in_right b scope) (means b_typed scope at)) (in_left a scope) (in_right a scope) (means a_typed scope at)))
   means (rule.of_arithmetic names e a b op s t is computes a_typed s_number b_typed t_number) = λ scope at.
       of_node (number_type (out-Ty s) (out-Ty t)) e (node.Binary op a b) scope is
@@ -514,18 +482,18 @@ module _ {R : Type 0} (world : World R) (holds : HoldsRows world) (kept : IsSess
       (λ b. agree_ok (Val ty.Bool) (truth_value (not b)) (truth_is world (not b))) (in_left a scope) (in_right a scope) (means typed scope at))
   means (rule.of_both names e a b is a_typed b_typed) = λ scope at.
       of_node ty.Bool e (node.And a b) scope is
-      (truth_after world f g ty.Bool _ _ (λ c. both_by (in_left b scope) (in_right b scope) (means b_typed scope at) c false) (in_left a scope) (in_right a scope) (means a_typed scope at))
+      (truth_after world f g ty.Bool _ _ (λ c. and_agrees world (in_left b scope) (in_right b scope) (means b_typed scope at) c false) (in_left a scope) (in_right a scope) (means a_typed scope at))
   means (rule.of_either names e a b is a_typed b_typed) = λ scope at.
       of_node ty.Bool e (node.Or a b) scope is
-      (truth_after world f g ty.Bool _ _ (λ c. either_by (in_left b scope) (in_right b scope) (means b_typed scope at) c true) (in_left a scope) (in_right a scope) (means a_typed scope at))
+      (truth_after world f g ty.Bool _ _ (λ c. or_agrees world (in_left b scope) (in_right b scope) (means b_typed scope at) c true) (in_left a scope) (in_right a scope) (means a_typed scope at))
   means (rule.of_coalesced names e a b s t r is a_typed b_typed gives) = λ scope at.
       of_node r e (node.Coalesce a b) scope is
       (scalar_after world f g (Agree (Val r)) (agree_err (Val r)) s (coalesced_plain (out-Ty s) (out-Ty t) r gives).0 _ _
-      (λ x fits. coalesced_means s t r gives x fits (in_left b scope) (in_right b scope) (means b_typed scope at) (is_null x) refl) (in_left a scope) (in_right a scope) (means a_typed scope at))
+      (λ x fits. coalesced_agrees world s t r gives x fits (in_left b scope) (in_right b scope) (means b_typed scope at) (is_null x) refl) (in_left a scope) (in_right a scope) (means a_typed scope at))
   means (rule.of_choice names e c a b s t r is c_typed a_typed b_typed chooses) = λ scope at.
       let keeps = choice_keeps world s t r chooses in
       of_node r e (node.Conditional c a b) scope is
-      (truth_after world f g r _ _ (choice_by r s t keeps.0 keeps.1 (in_left a scope) (in_right a scope) (in_left b scope) (in_right b scope) (means a_typed scope at) (means b_typed scope at))
+      (truth_after world f g r _ _ (choice_agrees world r s t keeps.0 keeps.1 (in_left a scope) (in_right a scope) (in_left b scope) (in_right b scope) (means a_typed scope at) (means b_typed scope at))
       (in_left c scope) (in_right c scope) (means c_typed scope at))
   means (rule.of_record names e fields members is distinct typed within) = λ scope at.
       of_node (ty.Rec members) e (node.New fields) scope is
@@ -550,7 +518,7 @@ module _ {R : Type 0} (world : World R) (holds : HoldsRows world) (kept : IsSess
       text_there x typed = ap is_text_type typed ∙ ap is_text outs-Str
 
       search_at : (w : World R) (place : Scope R) → names_at w place ≡ names
-          → whole_meaning w expression_type (map_node (beside w) (node.Method a m (argument.Value b ∷ []))) place
+          → node_meaning w expression_type (map_node (beside w) (node.Method a m (argument.Value b ∷ []))) place
           ≡ search_meaning w expression_type (expression_meaning w a place) m (expression_meaning w b place)
       search_at w place here =
           ap (λ (o : Option Ty). settled w o (method_meaning w expression_type (beside w a) m (argument.Value (beside w b) ∷ []) place))

@@ -1,12 +1,11 @@
 -- What is typed means the same in two worlds that differ only in the fault that stands where there is no meaning.
-use Rattle.std.proofs.Common.{◌≡◌, ◌∷◌, if◌then◌else◌, List, [], map, ℕ, zero, suc, ℤ, Bool, true, false, not, Option, Some, None, Result, Ok, Err, ap, ap₂, ◌∙◌, sym, refl, subst, slice_get, codes, option_and_then, bytes_eq}
+use Rattle.std.proofs.Common.{◌≡◌, ◌∷◌, if◌then◌else◌, List, [], map, ℕ, ℤ, Bool, true, false, not, Option, Some, None, Result, Ok, Err, ap, ap₂, ◌∙◌, sym, refl, subst, slice_get, codes, option_and_then, bytes_eq}
 use Rattle.std.proofs.lemmas.Option.{none-some, same_Some}
 use Rattle.std.specs.Prelude.{is_some}
 use Rattle.lq_value.specs.declared.scalar.Scalar.{Scalar}
 use Rattle.lq_value.specs.declared.scalar.Scalar.TheVariants as scalar
 use Rattle.lq_value.specs.declared.table.Column.{Column}
 use Rattle.lq_value.specs.declared.table.ColumnType.{ColumnType}
-use Rattle.lq_value.specs.declared.table.Row.{Row}
 use Rattle.lq_value.specs.declared.table.Schema.{Schema}
 use Rattle.lq_value.specs.declared.ty.Ty.{Ty, out-Ty}
 use Rattle.lq_value.specs.declared.ty.Ty.TheOpen.{Ty-F}
@@ -19,39 +18,31 @@ use Rattle.lq_value.specs.declared.value.Value.{Value, out-Value}
 use Rattle.lq_value.specs.declared.value.Value.TheOpen.{Value-F}
 use Rattle.lq_value.specs.declared.value.Value.TheVariants as value
 use Rattle.lq_value.specs.declared.value.Value.TheVariants.{outs-Row as outs-value-Row, outs-Scalar, outs-Seq as outs-value-Seq}
-use Rattle.lq_language.specs.ClauseTyping.{element_type, expression_type, source_type}
-use Rattle.lq_language.specs.Worlds.{Scope, World, binding_of, bound, bound_stream, names_at, or_null}
+use Rattle.lq_language.specs.Worlds.{Scope, World, binding_of, names_at}
 use Rattle.lq_language.specs.OperandMeaning.{cell_value, comparand, is_null, items_of, member_value, name_value, null_member, same_values, told, as_value, on_scalar, scalar_of, stream_of, table_value, truth_value}
-use Rattle.lq_language.specs.ClauseMeaning.{body_type_at, clause_meaning, clauses_meaning, condition_at, continued, item_type_at, last_meaning, query_meaning, source_scopes}
-use Rattle.lq_language.specs.RuleMeaning.{compared_meaning, meaning, operated_meaning, stream_meaning}
+use Rattle.lq_language.specs.RuleMeaning.{compared_meaning, meaning, operated_meaning}
 use Rattle.lq_language.specs.Operations.{negated, of_member, of_one, on_ok, truth_of}
 use Rattle.lq_language.specs.Members.{IsSearch, member_named}
-use Rattle.lq_language.specs.ValuesOfTypes.{Every, HasCells, HasRuleMeaning, HasRuleStream, HaveTypes, HoldsRows, SelectsScalars, IsOf, is_scalar as is_scalar_value, is_row, is_sequence, IsOfScope, IsScalarOf, assuming}
-use Rattle.lq_language.specs.Stream.{Stream, kept, one}
-use Rattle.lq_language.specs.Names.{Names, column_named, column_type, local_type, table_number, type_of_column, with_local}
-use Rattle.lq_language.specs.OperandTypes.{are_comparable, are_joined, chosen, coalesced, is_comparison, is_equality, is_ordering, number_type, is_number, is_scalar, item_of, row_table}
-use Rattle.lq_language.specs.RuleTyping.{Claim, TypeOf, Leads, LeadAll, Selects, GivesItems, IsTyped, of_integer, of_local, of_table, of_column, of_text, of_null, of_has_value, of_value, of_length, of_search, of_ordering, of_equality, of_arithmetic, of_joined, of_coalesced, of_minus, of_choice, of_truth, of_not, of_both, of_either, by_where, by_none, by_first, by_select, by_query, HasRuleType, type_of}
+use Rattle.lq_language.specs.RuleMeaningLaws.{HasRuleMeaning}
+use Rattle.lq_language.specs.ValuesOfTypes.{Every, HasCells, HaveTypes, HoldsRows, IsOf, is_scalar as is_scalar_value, is_row, is_sequence, IsOfScope, IsScalarOf, assuming}
+use Rattle.lq_language.specs.Stream.{Stream}
+use Rattle.lq_language.specs.Names.{Names, column_named, column_type, local_type, table_number, type_of_column}
+use Rattle.lq_language.specs.OperandTypes.{are_comparable, are_joined, chosen, coalesced, is_comparison, is_equality, is_ordering, number_type, is_number, item_of, row_table}
+use Rattle.lq_language.specs.RuleTyping.{of_integer, of_local, of_table, of_column, of_text, of_null, of_has_value, of_value, of_length, of_search, of_ordering, of_equality, of_arithmetic, of_joined, of_coalesced, of_minus, of_choice, of_truth, of_not, of_both, of_either, HasRuleType, type_of}
 use Rattle.lq_language.specs.TableRows.{cell_named}
 use Rattle.lq_language.specs.declared.operation.Op.{Op}
 use Rattle.lq_language.specs.declared.operation.Op.TheVariants as operation
 use Rattle.lq_grammar.specs.declared.syntax.Argument.TheVariants as argument
 use Rattle.lq_grammar.specs.declared.syntax.Binary.{Binary}
 use Rattle.lq_grammar.specs.declared.syntax.Binary.TheVariants as binary
-use Rattle.lq_grammar.specs.declared.syntax.Clause.{Clause}
-use Rattle.lq_grammar.specs.declared.syntax.Clause.TheVariants as clause
-use Rattle.lq_grammar.specs.declared.syntax.Continuation.{Continuation}
 use Rattle.lq_grammar.specs.declared.syntax.Expr.{Expr}
 use Rattle.lq_grammar.specs.declared.syntax.Expr.TheVariants as expr
-use Rattle.lq_grammar.specs.declared.syntax.Last.{Last}
-use Rattle.lq_grammar.specs.declared.syntax.Last.TheVariants as last
 use Rattle.lq_grammar.specs.declared.syntax.Node.TheVariants as node
-use Rattle.lq_grammar.specs.declared.syntax.Query.{Query}
 use Rattle.lq_grammar.specs.declared.syntax.Unary.TheVariants as unary
-use Rattle.lq_language.proofs.ItemLaws.{each_same, every_kept, every_map, every_more, every_none, every_selected, has_binding, no_binding, table_there}
+use Rattle.lq_language.proofs.ItemLaws.{every_map, every_none, has_binding, no_binding, table_there}
 use Rattle.lq_language.proofs.FormLaws.{meaning_binary, meaning_both, meaning_coalesce, meaning_method, meaning_null, meaning_text, meaning_choice, meaning_either, meaning_integer, meaning_member, meaning_minus, meaning_name, meaning_not, meaning_truth}
-use Rattle.lq_language.proofs.ScalarResultLaws.{arithmetic_of, Coalesces, Gives, HasScalars, Widens, chosen_widens, coalesced_fits, faults, given_of, gives, has_value_given, joined_given, joined_scalars, length_given, looked_for, minus_given, no_items_before, no_items_behind, number_scalars, ordering_given, row_is_no_scalar, search_given, sequence_is_no_scalar, signed, value_given}
+use Rattle.lq_language.proofs.ScalarResultLaws.{arithmetic_of, Coalesces, Gives, HasScalars, Widens, chosen_widens, coalesced_fits, faults, given_of, gives, has_value_given, joined_given, joined_scalars, length_given, looked_for, minus_given, no_items_before, no_items_behind, number_scalars, ordering_given, search_given, signed, value_given}
 use Rattle.lq_language.proofs.TypedValues.{IsRowOrNull, IsSequence, a_row, a_sequence, bool_value, comparand_there, decides_same, member_of_scalar, no_row, row_value, scalar_there, sequence_value, widened_value}
-use Rattle.lq_language.proofs.KeptTypeLaws.{whole_type}
 use Rattle.lq_language.proofs.TypingLaws.{type_complete}
 
 -- ---- outcomes that are the same in both worlds
@@ -264,48 +255,26 @@ module _ {R : Type 0} (world : World R) (holds : HoldsRows world) (f g : Fault) 
   abbrev At : Names → Scope R → Type 0
   At names scope = (names ≡ names_at world scope) × IsOfScope world scope
 
-  pub record AreSameScopes (names : Names) (xs ys : Stream (Scope R)) : Type 0 where
-    pub alike : xs ≡ ys
-    pub named : Every (At names) xs.0
-
-  abbrev clause_in : World R → Scope R → Clause Expr → Stream (Scope R) → Stream (Scope R)
-  clause_in w place c scopes = clause_meaning w expression_type (meaning w) place c scopes
-
-  abbrev clauses_in : World R → Scope R → List (Clause Expr) → Stream (Scope R) → Stream (Scope R)
-  clauses_in w place cs scopes = clauses_meaning w expression_type (meaning w) place cs scopes
-
-  abbrev last_in : World R → Last Expr → Stream (Scope R) → Stream (Value R)
-  last_in w l scopes = last_meaning w expression_type (meaning w) l scopes
-
-  abbrev sources_in : World R → Query Expr → Scope R → Stream (Scope R)
-  sources_in w q place = source_scopes w expression_type (meaning w) q place
-
-  -- what a claim says of meanings in both worlds
-  abbrev Means : Claim → Type 0
-  Means (TypeOf names e t) = (scope : Scope R) → At names scope → IsSame world t (meaning left e scope) (meaning right e scope)
-  Means (Leads outer c before behind) =
-      (place : Scope R) (scopes : Stream (Scope R)) → Every (At before) scopes.0 → AreSameScopes behind (clause_in left place c scopes) (clause_in right place c scopes)
-  Means (LeadAll outer cs before behind) =
-      (place : Scope R) (scopes : Stream (Scope R)) → Every (At before) scopes.0 → AreSameScopes behind (clauses_in left place cs scopes) (clauses_in right place cs scopes)
-  Means (Selects names l t) = (scopes : Stream (Scope R)) → Every (At names) scopes.0 → AreSameItems t (last_in left l scopes) (last_in right l scopes)
-  Means (GivesItems names q t) = (scope : Scope R) → At names scope → AreSameItems t (stream_meaning left q scope) (stream_meaning right q scope)
+  -- an expression of this type means the same in both worlds
+  abbrev Means : Names → Expr → Ty → Type 0
+  Means names e t = (scope : Scope R) → At names scope → IsSame world t (meaning left e scope) (meaning right e scope)
 
   -- an expression that is this one
-  same_as : (names : Names) (e d : Expr) (t : Ty) → e ≡ d → Means (TypeOf names d t) → Means (TypeOf names e t)
-  same_as names e d t is means = subst (λ (x : Expr). Means (TypeOf names x t)) (sym is) means
+  same_as : (names : Names) (e d : Expr) (t : Ty) → e ≡ d → Means names d t → Means names e t
+  same_as names e d t is means = subst (λ (x : Expr). Means names x t) (sym is) means
 
-  means_integer : (names : Names) (n : ℤ) → Means (TypeOf names (expr.Node (node.Integer n)) ty.Int)
+  means_integer : (names : Names) (n : ℤ) → Means names (expr.Node (node.Integer n)) ty.Int
   means_integer names n scope at =
       same_value (value.Scalar (scalar.Int n)) (is_scalar_value ty.Int (scalar.Int n) (subst (λ (u : Ty-F Ty). IsScalarOf u (scalar.Int n)) (sym outs-Int) tt))
       (meaning_integer left n scope) (meaning_integer right n scope)
 
-  means_local : (names : Names) (x : List ℕ) (t : Ty) → local_type x names.locals ≡ Some t → Means (TypeOf names (expr.Node (node.Name x)) t)
+  means_local : (names : Names) (x : List ℕ) (t : Ty) → local_type x names.locals ≡ Some t → Means names (expr.Node (node.Name x)) t
   means_local names x t found scope at =
       let b = has_binding world x scope t at.1 (ap (λ (m : Names). local_type x m.locals) (sym at.0) ∙ found) in
       same_value b.0.value b.2 (meaning_name left x scope ∙ ap (name_value left x) b.1) (meaning_name right x scope ∙ ap (name_value right x) b.1)
 
   means_table : (names : Names) (x : List ℕ) (n : ℕ) → local_type x names.locals ≡ None → table_number x names.tables ≡ Some n
-      → Means (TypeOf names (expr.Node (node.Name x)) (ty.Seq (ty.Row n)))
+      → Means names (expr.Node (node.Name x)) (ty.Seq (ty.Row n))
   means_table names x n hidden found scope at =
       let number : table_number x world.schemas ≡ Some n = ap (λ (m : Names). table_number x m.tables) (sym at.0) ∙ found in
       let none : binding_of x scope ≡ None = no_binding x scope (ap (λ (m : Names). local_type x m.locals) (sym at.0) ∙ hidden) in
@@ -316,12 +285,12 @@ module _ {R : Type 0} (world : World R) (holds : HoldsRows world) (f g : Fault) 
       named w none number =
           meaning_name w x scope ∙ ap (name_value w x) none ∙ ap (λ (o : Option ℕ). table_value w (option_and_then (λ m. slice_get w.rows m) o)) number
 
-  means_text : (names : Names) (x : List ℕ) → Means (TypeOf names (expr.Node (node.Text x)) ty.Str)
+  means_text : (names : Names) (x : List ℕ) → Means names (expr.Node (node.Text x)) ty.Str
   means_text names x scope at =
       same_value (value.Scalar (scalar.Text x)) (is_scalar_value ty.Str (scalar.Text x) (subst (λ (u : Ty-F Ty). IsScalarOf u (scalar.Text x)) (sym outs-Str) tt))
       (meaning_text left x scope) (meaning_text right x scope)
 
-  means_null : (names : Names) → Means (TypeOf names (expr.Node node.Null) ty.Null)
+  means_null : (names : Names) → Means names (expr.Node node.Null) ty.Null
   means_null names scope at =
       same_value (value.Scalar scalar.Null) (is_scalar_value ty.Null scalar.Null (subst (λ (u : Ty-F Ty). IsScalarOf u scalar.Null) (sym outs-Null) tt))
       (meaning_null left scope) (meaning_null right scope)
@@ -337,29 +306,29 @@ module _ {R : Type 0} (world : World R) (holds : HoldsRows world) (f g : Fault) 
       meaning_member w a m scope ∙ ap (λ (o : Option Ty). on_ok (meaning w a scope) (λ v. member_value w o m (out-Value R v))) typed
 
   means_column : (names : Names) (row : Expr) (c : List ℕ) (n : ℕ) (t : Ty) → column_type names.tables n c ≡ Some t → type_of row names ≡ Some (ty.Row n)
-      → Means (TypeOf names row (ty.Row n)) → Means (TypeOf names (expr.Node (node.Member row c)) t)
+      → Means names row (ty.Row n) → Means names (expr.Node (node.Member row c)) t
   means_column names row c n t found typed means scope at =
       let is = type_there names row (ty.Row n) scope at typed in
       same_outcomes t _ _ _ _ (member_there left names row c (ty.Row n) scope is) (member_there right names row c (ty.Row n) scope is)
       (column_outcome n c t (ap (λ (m : Names). column_type m.tables n c) (sym at.0) ∙ found) _ _ (means scope at))
 
   means_member : (names : Names) (a : Expr) (m : List ℕ) (o : Op) (t r : Ty) → HasScalars (out-Ty t) → member_named m ≡ Some o
-      → ((s : Scalar) → IsScalarOf (out-Ty t) s → Gives (out-Ty r) (λ unknown. of_one unknown o s)) → type_of a names ≡ Some t → Means (TypeOf names a t)
-      → Means (TypeOf names (expr.Node (node.Member a m)) r)
+      → ((s : Scalar) → IsScalarOf (out-Ty t) s → Gives (out-Ty r) (λ unknown. of_one unknown o s)) → type_of a names ≡ Some t → Means names a t
+      → Means names (expr.Node (node.Member a m)) r
   means_member names a m o t r none named given typed means scope at =
       let is = type_there names a t scope at typed in
       same_outcomes r _ _ _ _ (member_there left names a m t scope is) (member_there right names a m t scope is) (member_outcome t r m o none named given _ _ (means scope at))
 
   -- a member of an operand whose type has this layer, and which gives values of that layer
   means_named : (names : Names) (a : Expr) (m : List ℕ) (o : Op) (t r : Ty) (k l : Ty-F Ty) → out-Ty t ≡ k → out-Ty r ≡ l → HasScalars k → member_named m ≡ Some o
-      → ((s : Scalar) → IsScalarOf k s → Gives l (λ unknown. of_one unknown o s)) → type_of a names ≡ Some t → Means (TypeOf names a t)
-      → Means (TypeOf names (expr.Node (node.Member a m)) r)
+      → ((s : Scalar) → IsScalarOf k s → Gives l (λ unknown. of_one unknown o s)) → type_of a names ≡ Some t → Means names a t
+      → Means names (expr.Node (node.Member a m)) r
   means_named names a m o t r k l is result none named given =
       means_member names a m o t r (subst (λ (layer : Ty-F Ty). HasScalars layer) (sym is) none) named
       (λ s fits. given_of r l (λ unknown. of_one unknown o s) result (given s (subst (λ (layer : Ty-F Ty). IsScalarOf layer s) is fits)))
 
-  means_search : (names : Names) (a b : Expr) (m : List ℕ) → IsSearch m → Means (TypeOf names a ty.Str) → Means (TypeOf names b ty.Str)
-      → Means (TypeOf names (expr.Node (node.Method a m (argument.Value b ∷ []))) ty.Bool)
+  means_search : (names : Names) (a b : Expr) (m : List ℕ) → IsSearch m → Means names a ty.Str → Means names b ty.Str
+      → Means names (expr.Node (node.Method a m (argument.Value b ∷ []))) ty.Bool
   means_search names a b m searches a_means b_means scope at =
       same_outcomes ty.Bool _ _ _ _ (meaning_method left a m (argument.Value b ∷ []) scope) (meaning_method right a m (argument.Value b ∷ []) scope)
       (operands_outcome (looked_for m) ty.Bool ty.Str ty.Str given _ _ _ _ (scalar_outcome ty.Str _ _ (a_means scope at) texts) (scalar_outcome ty.Str _ _ (b_means scope at) texts))
@@ -385,7 +354,7 @@ module _ {R : Type 0} (world : World R) (holds : HoldsRows world) (f g : Fault) 
   -- one that evaluates two scalars, by their types
   means_signed : (names : Names) (a b : Expr) (op : Binary) (r s t : Ty) → is_equality op ≡ false → HasScalars (out-Ty s) → HasScalars (out-Ty t)
       → ((x y : Scalar) → IsScalarOf (out-Ty s) x → IsScalarOf (out-Ty t) y → Gives (out-Ty r) (signed op s t x y))
-      → type_of a names ≡ Some s → type_of b names ≡ Some t → Means (TypeOf names a s) → Means (TypeOf names b t) → Means (TypeOf names (expr.Node (node.Binary op a b)) r)
+      → type_of a names ≡ Some s → type_of b names ≡ Some t → Means names a s → Means names b t → Means names (expr.Node (node.Binary op a b)) r
   means_signed names a b op r s t no_equality s_none t_none given a_typed b_typed a_means b_means scope at =
       same_outcomes r _ _ _ _ (sign_there left op a b scope false no_equality ∙ typed left) (sign_there right op a b scope false no_equality ∙ typed right)
       (operands_outcome (signed op s t) r s t given _ _ _ _ (scalar_outcome s _ _ (a_means scope at) s_none) (scalar_outcome t _ _ (b_means scope at) t_none))
@@ -397,7 +366,7 @@ module _ {R : Type 0} (world : World R) (holds : HoldsRows world) (f g : Fault) 
           ap₂ (λ (o p : Option Ty). operated_meaning w op o p (meaning w a scope) (meaning w b scope)) (type_there names a s scope at a_typed) (type_there names b t scope at b_typed)
 
   means_ordering : (names : Names) (a b : Expr) (op : Binary) (s t : Ty) → is_ordering op ≡ true → is_number (out-Ty s) ≡ true → is_number (out-Ty t) ≡ true
-      → type_of a names ≡ Some s → type_of b names ≡ Some t → Means (TypeOf names a s) → Means (TypeOf names b t) → Means (TypeOf names (expr.Node (node.Binary op a b)) ty.Bool)
+      → type_of a names ≡ Some s → type_of b names ≡ Some t → Means names a s → Means names b t → Means names (expr.Node (node.Binary op a b)) ty.Bool
   means_ordering names a b op s t orders s_number t_number =
       means_signed names a b op ty.Bool s t (no_equality op orders) (number_scalars (out-Ty s) s_number) (number_scalars (out-Ty t) t_number)
       (λ x y x_fits y_fits. given_of ty.Bool Ty-F.Bool (signed op s t x y) outs-Bool (ordering_given op s t orders s_number t_number x y x_fits y_fits))
@@ -408,8 +377,8 @@ module _ {R : Type 0} (world : World R) (holds : HoldsRows world) (f g : Fault) 
       no_equality op orders = refl
 
   means_arithmetic : (names : Names) (a b : Expr) (op : Binary) (s t : Ty) → is_comparison op ≡ false → is_number (out-Ty s) ≡ true → is_number (out-Ty t) ≡ true
-      → type_of a names ≡ Some s → type_of b names ≡ Some t → Means (TypeOf names a s) → Means (TypeOf names b t)
-      → Means (TypeOf names (expr.Node (node.Binary op a b)) (number_type (out-Ty s) (out-Ty t)))
+      → type_of a names ≡ Some s → type_of b names ≡ Some t → Means names a s → Means names b t
+      → Means names (expr.Node (node.Binary op a b)) (number_type (out-Ty s) (out-Ty t))
   means_arithmetic names a b op s t computes s_number t_number =
       means_signed names a b op (number_type (out-Ty s) (out-Ty t)) s t (no_equality op computes) (number_scalars (out-Ty s) s_number) (number_scalars (out-Ty t) t_number)
       (λ x y x_fits y_fits. arithmetic_of op s t computes s_number t_number x y x_fits y_fits)
@@ -420,32 +389,32 @@ module _ {R : Type 0} (world : World R) (holds : HoldsRows world) (f g : Fault) 
       no_equality op computes = refl
 
   means_joined : (names : Names) (a b : Expr) (s t : Ty) → are_joined (out-Ty s) (out-Ty t) ≡ true → type_of a names ≡ Some s → type_of b names ≡ Some t
-      → Means (TypeOf names a s) → Means (TypeOf names b t) → Means (TypeOf names (expr.Node (node.Binary binary.Add a b)) ty.Str)
+      → Means names a s → Means names b t → Means names (expr.Node (node.Binary binary.Add a b)) ty.Str
   means_joined names a b s t joins =
       let scalars = joined_scalars (out-Ty s) (out-Ty t) joins in
       means_signed names a b binary.Add ty.Str s t refl scalars.0 scalars.1
       (λ x y x_fits y_fits. given_of ty.Str Ty-F.Str (signed binary.Add s t x y) outs-Str (joined_given s t joins x y x_fits y_fits))
 
   means_equality : (names : Names) (a b : Expr) (op : Binary) (s t : Ty) → is_equality op ≡ true → are_comparable (out-Ty s) (out-Ty t) ≡ true
-      → Means (TypeOf names a s) → Means (TypeOf names b t) → Means (TypeOf names (expr.Node (node.Binary op a b)) ty.Bool)
+      → Means names a s → Means names b t → Means names (expr.Node (node.Binary op a b)) ty.Bool
   means_equality names a b op s t equality compares a_means b_means scope at =
       same_outcomes ty.Bool _ _ _ _ (sign_there left op a b scope true equality) (sign_there right op a b scope true equality)
       (equality_outcome op s t compares _ _ _ _ (comparand_outcome s _ _ (λ item. no_items_before (out-Ty s) (out-Ty t) item compares) (a_means scope at))
       (comparand_outcome t _ _ (λ item. no_items_behind (out-Ty s) (out-Ty t) item compares) (b_means scope at)))
 
-  means_minus : (names : Names) (a : Expr) (t : Ty) → is_number (out-Ty t) ≡ true → Means (TypeOf names a t) → Means (TypeOf names (expr.Node (node.Unary unary.Minus a)) t)
+  means_minus : (names : Names) (a : Expr) (t : Ty) → is_number (out-Ty t) ≡ true → Means names a t → Means names (expr.Node (node.Unary unary.Minus a)) t
   means_minus names a t number means scope at =
       same_outcomes t _ _ _ _ (meaning_minus left a scope) (meaning_minus right a scope) (negative_outcome t number _ _ (scalar_outcome t _ _ (means scope at) (number_scalars (out-Ty t) number)))
 
-  means_truth : (names : Names) (b : Bool) → Means (TypeOf names (expr.Node (node.Bool b)) ty.Bool)
+  means_truth : (names : Names) (b : Bool) → Means names (expr.Node (node.Bool b)) ty.Bool
   means_truth names b scope at = same_value (truth_value b) (truth_is_of b) (meaning_truth left b scope) (meaning_truth right b scope)
 
-  means_not : (names : Names) (a : Expr) → Means (TypeOf names a ty.Bool) → Means (TypeOf names (expr.Node (node.Unary unary.Not a)) ty.Bool)
+  means_not : (names : Names) (a : Expr) → Means names a ty.Bool → Means names (expr.Node (node.Unary unary.Not a)) ty.Bool
   means_not names a means scope at =
       same_outcomes ty.Bool _ _ _ _ (meaning_not left a scope) (meaning_not right a scope)
       (after_truth ty.Bool _ _ (truth_outcome _ _ (means scope at)) (λ t. Ok (truth_value (not t))) (λ t. Ok (truth_value (not t))) (λ t. truth_is_same (not t)))
 
-  means_both : (names : Names) (a b : Expr) → Means (TypeOf names a ty.Bool) → Means (TypeOf names b ty.Bool) → Means (TypeOf names (expr.Node (node.And a b)) ty.Bool)
+  means_both : (names : Names) (a b : Expr) → Means names a ty.Bool → Means names b ty.Bool → Means names (expr.Node (node.And a b)) ty.Bool
   means_both names a b a_means b_means scope at =
       same_outcomes ty.Bool _ _ _ _ (meaning_both left a b scope) (meaning_both right a b scope)
       (after_truth ty.Bool _ _ (truth_outcome _ _ (a_means scope at)) _ _ second)
@@ -454,7 +423,7 @@ module _ {R : Type 0} (world : World R) (holds : HoldsRows world) (f g : Fault) 
       second true = b_means scope at
       second false = truth_is_same false
 
-  means_either : (names : Names) (a b : Expr) → Means (TypeOf names a ty.Bool) → Means (TypeOf names b ty.Bool) → Means (TypeOf names (expr.Node (node.Or a b)) ty.Bool)
+  means_either : (names : Names) (a b : Expr) → Means names a ty.Bool → Means names b ty.Bool → Means names (expr.Node (node.Or a b)) ty.Bool
   means_either names a b a_means b_means scope at =
       same_outcomes ty.Bool _ _ _ _ (meaning_either left a b scope) (meaning_either right a b scope)
       (after_truth ty.Bool _ _ (truth_outcome _ _ (a_means scope at)) _ _ second)
@@ -463,8 +432,8 @@ module _ {R : Type 0} (world : World R) (holds : HoldsRows world) (f g : Fault) 
       second true = truth_is_same true
       second false = b_means scope at
 
-  means_choice : (names : Names) (c a b : Expr) (s t r : Ty) → chosen (out-Ty s) (out-Ty t) ≡ Some r → Means (TypeOf names c ty.Bool) → Means (TypeOf names a s) → Means (TypeOf names b t)
-      → Means (TypeOf names (expr.Node (node.Conditional c a b)) r)
+  means_choice : (names : Names) (c a b : Expr) (s t r : Ty) → chosen (out-Ty s) (out-Ty t) ≡ Some r → Means names c ty.Bool → Means names a s → Means names b t
+      → Means names (expr.Node (node.Conditional c a b)) r
   means_choice names c a b s t r chooses c_means a_means b_means scope at =
       same_outcomes r _ _ _ _ (meaning_choice left c a b scope) (meaning_choice right c a b scope)
       (after_truth r _ _ (truth_outcome _ _ (c_means scope at)) _ _ one_of)
@@ -473,8 +442,8 @@ module _ {R : Type 0} (world : World R) (holds : HoldsRows world) (f g : Fault) 
       one_of true = widened_outcome s r _ _ (a_means scope at) (chosen_widens (out-Ty s) (out-Ty t) r chooses).0
       one_of false = widened_outcome t r _ _ (b_means scope at) (chosen_widens (out-Ty s) (out-Ty t) r chooses).1
 
-  means_coalesced : (names : Names) (a b : Expr) (s t r : Ty) → coalesced (out-Ty s) (out-Ty t) ≡ Some r → Means (TypeOf names a s) → Means (TypeOf names b t)
-      → Means (TypeOf names (expr.Node (node.Coalesce a b)) r)
+  means_coalesced : (names : Names) (a b : Expr) (s t r : Ty) → coalesced (out-Ty s) (out-Ty t) ≡ Some r → Means names a s → Means names b t
+      → Means names (expr.Node (node.Coalesce a b)) r
   means_coalesced names a b s t r coalesces a_means b_means scope at =
       same_outcomes r _ _ _ _ (meaning_coalesce left a b scope) (meaning_coalesce right a b scope)
       (after_scalar r s _ _ (scalar_outcome s _ _ (a_means scope at) fitting.0) _ _ (λ x fits. one_of x fits (is_null x) refl))
@@ -487,71 +456,7 @@ module _ {R : Type 0} (world : World R) (holds : HoldsRows world) (f g : Fault) 
       one_of x fits true is = widened_outcome t r _ _ (b_means scope at) fitting.1.1
       one_of x fits false is = same_value (value.Scalar x) (is_scalar_value r x (fitting.1.0 x fits is)) refl refl
 
-  means_where : (outer names : Names) (x : Expr) → Means (TypeOf names x ty.Bool) → Means (Leads outer (clause.Where x) names names)
-  means_where outer names x means place scopes all = record {
-    alike = each_same (At names) (λ s. kept (condition_at left expression_type (meaning left) x s) s) (λ s. kept (condition_at right expression_type (meaning right) x s) s)
-        (λ s at. ap (λ (o : Result Bool Fault). kept o s) (condition_outcome _ _ (means s at))) scopes.0 scopes.1 all;
-    named = every_kept (At names) (condition_at left expression_type (meaning left) x) scopes.0 scopes.1 all;
-  }
-
-  means_all : (outer before between behind : Names) (c : Clause Expr) (cs : List (Clause Expr)) → Means (Leads outer c before between) → Means (LeadAll outer cs between behind)
-      → Means (LeadAll outer (c ∷ cs) before behind)
-  means_all outer before between behind c cs first others place scopes all =
-      let one = first place scopes all in
-      let rest = others place (clause_in left place c scopes) one.named in
-      record { alike = rest.alike ∙ ap (clauses_in right place cs) one.alike; named = rest.named }
-
-  means_select : (names : Names) (v : Expr) (t : Ty) → Means (TypeOf names v t) → Means (Selects names (last.Select v) t)
-  means_select names v t means scopes all = record {
-    same = each_same (At names) (λ s. one (meaning left v s)) (λ s. one (meaning right v s)) (λ s at. ap one (same_outcome t _ _ (means s at))) scopes.0 scopes.1 all;
-    typed = every_selected (At names) (IsOf world t) (meaning left v) (λ s at w is. of_its_type t _ _ (means s at) w is) scopes.0 scopes.1 all;
-  }
-
-  -- the scopes of a query's first clause
-  means_source : (names : Names) (q : Query Expr) (item : Ty) → HasRuleType names q.source (ty.Seq item) → Means (TypeOf names q.source (ty.Seq item))
-      → (scope : Scope R) → At names scope → AreSameScopes (with_local names q.name item) (sources_in left q scope) (sources_in right q scope)
-  means_source names q item typed means scope at =
-      let items = source_outcome item _ _ (means scope at) in
-      record {
-        alike = ap (bound_stream q.name found scope) items.same;
-        named = every_map (IsOf world item) (At (with_local names q.name item)) (bound q.name found scope) binds (stream_of left (meaning left q.source scope)).0 items.typed;
-      }
-    where
-      found : Ty
-      found = item_type_at left expression_type (meaning left) q.source scope
-
-      is_item : found ≡ item
-      is_item =
-          ap (λ (m : Names). or_null (source_type expression_type q.source m)) (sym at.0)
-          ∙ ap (λ (o : Option Ty). or_null (option_and_then (λ t. element_type (out-Ty t)) o)) (whole_type names q.source (ty.Seq item) typed)
-          ∙ ap (λ layer. or_null (element_type layer)) (outs-Seq item)
-
-      binds : (v : Value R) → IsOf world item v → At (with_local names q.name item) (bound q.name found scope v)
-      binds v fits = (
-        ap (λ (m : Names). with_local m q.name item) at.0 ∙ ap (λ (t : Ty). with_local (names_at world scope) q.name t) (sym is_item),
-        every_more (λ b. IsOf world b.ty b.value) (record { name = q.name; ty = found; value = v }) scope (subst (λ (t : Ty). IsOf world t v) (sym is_item) fits) at.1,
-      )
-
-  means_query : (names behind : Names) (q : Query Expr) (item t : Ty) → HasRuleType names q.source (ty.Seq item) → Means (TypeOf names q.source (ty.Seq item))
-      → Means (LeadAll names q.body.clauses (with_local names q.name item) behind) → Means (Selects behind q.body.last t) → q.rest ≡ [] → Means (GivesItems names q t)
-  unfolding query_meaning
-  means_query names behind q item t typed source clauses selected ended scope at =
-      let sources = means_source names q item typed source scope at in
-      let led = clauses scope (sources_in left q scope) sources.named in
-      let items = selected (clauses_in left scope q.body.clauses (sources_in left q scope)) led.named in
-      let alike = items.same ∙ ap (last_in right q.body.last) (led.alike ∙ ap (clauses_in right scope q.body.clauses) sources.alike) in
-      record {
-        same = without_rest left ended ∙ alike ∙ sym (without_rest right ended);
-        typed = subst (λ (s : Stream (Value R)). Every (IsOf world t) s.0) (sym (without_rest left ended)) items.typed;
-      }
-    where
-      without_rest : (w : World R) → q.rest ≡ [] → stream_meaning w q scope ≡ last_in w q.body.last (clauses_in w scope q.body.clauses (sources_in w q scope))
-      without_rest w ended =
-          ap (λ (rest : List (Continuation Expr)). continued w expression_type (meaning w) scope rest
-          (body_type_at w expression_type (meaning w) scope q.body q.name (item_type_at w expression_type (meaning w) q.source scope))
-          (last_in w q.body.last (clauses_in w scope q.body.clauses (sources_in w q scope)))) ended
-
-  means : {claim : Claim} → IsTyped claim → Means claim
+  means : {names : Names} {e : Expr} {t : Ty} → HasRuleType names e t → Means names e t
   means (of_integer names e n is) = same_as names e (expr.Node (node.Integer n)) ty.Int is (means_integer names n)
   means (of_local names e x t is found) = same_as names e (expr.Node (node.Name x)) t is (means_local names x t found)
   means (of_table names e x n is hidden found) = same_as names e (expr.Node (node.Name x)) (ty.Seq (ty.Row n)) is (means_table names x n hidden found)
@@ -589,11 +494,6 @@ module _ {R : Type 0} (world : World R) (holds : HoldsRows world) (f g : Fault) 
   means (of_not names e a is typed) = same_as names e (expr.Node (node.Unary unary.Not a)) ty.Bool is (means_not names a (means typed))
   means (of_both names e a b is a_typed b_typed) = same_as names e (expr.Node (node.And a b)) ty.Bool is (means_both names a b (means a_typed) (means b_typed))
   means (of_either names e a b is a_typed b_typed) = same_as names e (expr.Node (node.Or a b)) ty.Bool is (means_either names a b (means a_typed) (means b_typed))
-  means (by_where outer names c x is typed) = subst (λ (d : Clause Expr). Means (Leads outer d names names)) (sym is) (means_where outer names x (means typed))
-  means (by_none outer names) = λ place scopes all. record { alike = refl; named = all }
-  means (by_first outer before between behind c cs first others) = means_all outer before between behind c cs (means first) (means others)
-  means (by_select names l v t is typed scalar) = subst (λ (k : Last Expr). Means (Selects names k t)) (sym is) (means_select names v t (means typed))
-  means (by_query names behind q item t source fresh clauses selected ended) = means_query names behind q item t source (means source) (means clauses) (means selected) ended
 
 -- what a typed expression means, if it is a value, is one of its type
 pub value_of_type : {R : Type 0} (world : World R) → HoldsRows world → (f : Fault) (names : Names) (e : Expr) (t : Ty) → HasRuleType names e t → (scope : Scope R) → names ≡ names_at world scope
@@ -605,53 +505,6 @@ value_of_type world holds f names e t typed scope at fits = of_its_type world ho
 pub has_meaning : HasRuleMeaning
 has_meaning world holds scope fits e t typed f g =
     let same = means world holds f g typed scope (refl, fits) in (same_outcome world holds f g t _ _ same, of_its_type world holds f g t _ _ same)
-
-pub has_stream : HasRuleStream
-has_stream world holds scope fits q t typed f g =
-    let items = means world holds f g typed scope (refl, fits) in (items.same, items.typed)
-
-scalar_value : {R : Type 0} (world : World R) (t : Ty) (v : Value R) → IsOf world t v → is_scalar (out-Ty t) ≡ true → (s : Scalar) × (v ≡ value.Scalar s)
-scalar_value world t _ (is_scalar_value _ s fits) scalar = (s, refl)
-scalar_value world t _ (is_row _ n r is cells) scalar = absurd (row_is_no_scalar (out-Ty t) n is scalar)
-scalar_value world t _ (is_sequence _ item xs e is items) scalar = absurd (sequence_is_no_scalar (out-Ty t) item is scalar)
-
--- what a claim says of what is selected
-abbrev IsScalarClaim : Claim → Type 0
-IsScalarClaim (Selects names l t) = is_scalar (out-Ty t) ≡ true
-IsScalarClaim (GivesItems names q t) = is_scalar (out-Ty t) ≡ true
-IsScalarClaim claim = Unit {0}
-
-scalar_claim : {claim : Claim} → IsTyped claim → IsScalarClaim claim
-scalar_claim (by_select names l v t is typed scalar) = scalar
-scalar_claim (by_query names behind q item t source fresh clauses selected ended) = scalar_claim selected
-scalar_claim (of_integer names e n is) = tt
-scalar_claim (of_local names e x t is found) = tt
-scalar_claim (of_table names e x n is hidden found) = tt
-scalar_claim (of_column names e row c n t is typed found) = tt
-scalar_claim (of_text names e x is) = tt
-scalar_claim (of_null names e is) = tt
-scalar_claim (of_has_value names e a is typed) = tt
-scalar_claim (of_value names e a is typed) = tt
-scalar_claim (of_length names e a is typed) = tt
-scalar_claim (of_search names e a b m is searches a_typed b_typed) = tt
-scalar_claim (of_ordering names e a b op s t is orders a_typed s_number b_typed t_number) = tt
-scalar_claim (of_equality names e a b op s t is equality a_typed b_typed compares) = tt
-scalar_claim (of_arithmetic names e a b op s t is computes a_typed s_number b_typed t_number) = tt
-scalar_claim (of_joined names e a b s t is a_typed b_typed joins) = tt
-scalar_claim (of_coalesced names e a b s t r is a_typed b_typed coalesces) = tt
-scalar_claim (of_minus names e a t is typed number) = tt
-scalar_claim (of_choice names e c a b s t r is c_typed a_typed b_typed chooses) = tt
-scalar_claim (of_truth names e b is) = tt
-scalar_claim (of_not names e a is typed) = tt
-scalar_claim (of_both names e a b is a_typed b_typed) = tt
-scalar_claim (of_either names e a b is a_typed b_typed) = tt
-scalar_claim (by_where outer names c x is typed) = tt
-scalar_claim (by_none outer names) = tt
-scalar_claim (by_first outer before between behind c cs first others) = tt
-
-pub selects_scalars : SelectsScalars
-selects_scalars world holds scope fits q t typed f k v is =
-    scalar_value world t v ((has_stream world holds scope fits q t typed f f).1 k v is) (scalar_claim typed)
 
 -- ---- the cell under a column
 

@@ -20,25 +20,26 @@ use Rattle.lq_language.specs.Names.{Names, SessionName, local_type, session_name
 use Rattle.lq_language.specs.OperandTypes.{item_of}
 use Rattle.lq_language.specs.TypingRules.{TypeClaim, Has, IsRight}
 use Rattle.lq_language.specs.TypingRules as rule
-use Rattle.lq_language.specs.Meaning.{as_sequence, expression_meaning, global_value, is_sequence_layer, settled, whole_meaning, whole_name_value}
+use Rattle.lq_language.specs.Meaning.{as_sequence, expression_meaning, global_value, is_sequence_layer, settled, node_meaning, value_of_name}
 use Rattle.lq_language.specs.MeaningLaws.{IsScopeOfValues, IsSessionOfValues, NeverFaults}
-use Rattle.lq_language.specs.Typing.{given_type, through_type, whole_chosen, whole_member_type}
+use Rattle.lq_language.specs.Typing.{given_type, through_type, type_of_choice, type_of_member}
 use Rattle.lq_grammar.specs.declared.syntax.Expr.{Expr}
 use Rattle.lq_grammar.specs.declared.syntax.Expr.TheVariants as expr
 use Rattle.lq_grammar.specs.declared.syntax.Node.{Node}
 use Rattle.lq_grammar.specs.declared.syntax.Node.TheVariants as node
 use Rattle.lq_language.proofs.ItemLaws.{no_binding, table_there}
 use Rattle.lq_language.proofs.FindingLaws.{when_by}
-use Rattle.lq_language.proofs.SourceTypes.{HasNoItems, chosen_has_none, coalesced_has_none, columns_are_scalars, has_none, no_items_Bool, no_items_Int, no_items_Null, no_items_Str, number_has_none, numbers_have_none}
+use Rattle.lq_language.proofs.ItemlessTypes.{HasNoItems, chosen_has_none, coalesced_has_none, columns_are_scalars, has_none, no_items_Bool, no_items_Int, no_items_Null, no_items_Str, number_has_none, numbers_have_none}
 use Rattle.lq_language.proofs.ValueLaws.{sequence_value}
 use Rattle.lq_language.proofs.TypingCompleteness.{found, lambda_found}
 use Rattle.lq_language.proofs.KeptMeanings.{beside, has_session_value, has_value, meaning_of_node, meaning_of_query, method_typed}
-use Rattle.lq_language.proofs.TypingSoundness.{type_of_node, whole_sound}
+use Rattle.lq_language.proofs.ExpressionTypeLaws.{type_of_node}
+use Rattle.lq_language.proofs.TypingSoundness.{expression_sound}
 
 no_items_Rec : (ms : List (List ℕ × Ty)) → HasNoItems (ty.Rec ms)
 no_items_Rec ms = ap item_of (outs-Rec ms)
 
-choice_has_none : (k l : Ty-F Ty) (r : Ty) → whole_chosen k l ≡ Some r → HasNoItems r
+choice_has_none : (k l : Ty-F Ty) (r : Ty) → type_of_choice k l ≡ Some r → HasNoItems r
 choice_has_none (Ty-F.Rec ms) (Ty-F.Rec ns) r h = when_by _ (Some (ty.Rec ms)) r h (λ same is. has_none (ty.Rec ms) r (no_items_Rec ms) is)
 choice_has_none (Ty-F.Rec ms) Ty-F.Null r h = has_none (ty.Rec ms) r (no_items_Rec ms) h
 choice_has_none Ty-F.Null (Ty-F.Rec ms) r h = has_none (ty.Rec ms) r (no_items_Rec ms) h
@@ -65,20 +66,20 @@ module _ {R : Type 0} (world : World R) (holds : HoldsRows world) (kept : IsSess
   settles : (t u : Ty) (o : Option Ty) (m : Result (Value R) Fault) → o ≡ Some t → out-Ty t ≡ Ty-F.Seq u → settled W o m ≡ Ok (sequence (stream_of W m))
   settles t u o m o_is is = ap (λ (p : Option Ty). settled W p m) o_is ∙ ap (λ (layer : Ty-F Ty). if is_sequence_layer layer then as_sequence (stream_of W m) else m) is
 
-  at_node : (e : Expr) (n : Node Expr) (scope : Scope R) (s : Stream (Value R)) → e ≡ expr.Node n → whole_meaning W expression_type (map_node (beside W) n) scope ≡ Ok (sequence s) → IsStream e scope
+  at_node : (e : Expr) (n : Node Expr) (scope : Scope R) (s : Stream (Value R)) → e ≡ expr.Node n → node_meaning W expression_type (map_node (beside W) n) scope ≡ Ok (sequence s) → IsStream e scope
   at_node e n scope s is h = (s, ap (λ (x : Expr). expression_meaning W x scope) is ∙ meaning_of_node W n scope ∙ h)
 
   member_streams : (names : Names) (e a : Expr) (m : List ℕ) (t : Ty) → e ≡ expr.Node (node.Member a m) → expression_type e names ≡ Some t → Streams (Has names e t)
   member_streams names e a m t is typed u t_is scope at =
       at_node e (node.Member a m) scope _ is
-      (settles t u (option_and_then (λ s. whole_member_type (names_at world scope) m (out-Ty s)) (expression_type a (names_at world scope))) _
+      (settles t u (option_and_then (λ s. type_of_member (names_at world scope) m (out-Ty s)) (expression_type a (names_at world scope))) _
       (sym (type_of_node (node.Member a m) (names_at world scope)) ∙ ap (λ (x : Expr). expression_type x (names_at world scope)) (sym is) ∙ ap (expression_type e) at.1 ∙ typed) t_is)
 
   local_streams : (names : Names) (e : Expr) (x : List ℕ) (t : Ty) → e ≡ expr.Node (node.Name x) → local_type x names.locals ≡ Some t → Streams (Has names e t)
   local_streams names e x t is local u t_is scope at =
       let there = has_value world holds kept unknown unknown x scope t at.0 (ap (λ (ns : Names). local_type x ns.locals) at.1 ∙ local) in
       let items = sequence_value world t u there.0.value t_is there.2 in
-      at_node e (node.Name x) scope (items.0, items.1) is (ap (whole_name_value W x) there.1 ∙ ap Ok items.2)
+      at_node e (node.Name x) scope (items.0, items.1) is (ap (value_of_name W x) there.1 ∙ ap Ok items.2)
 
   table_streams : (names : Names) (e : Expr) (x : List ℕ) (n : ℕ) → e ≡ expr.Node (node.Name x) → local_type x names.locals ≡ None → table_number x names.tables ≡ Some n
       → Streams (Has names e (ty.Seq (ty.Row n)))
@@ -87,7 +88,7 @@ module _ {R : Type 0} (world : World R) (holds : HoldsRows world) (kept : IsSess
       let there = table_there x world.schemas n number in
       let rows = holds n there.0 there.1 in
       at_node e (node.Name x) scope (map value.Row rows.0, end.Done) is
-      (ap (whole_name_value W x) (no_binding x scope (ap (λ (ns : Names). local_type x ns.locals) at.1 ∙ hidden))
+      (ap (value_of_name W x) (no_binding x scope (ap (λ (ns : Names). local_type x ns.locals) at.1 ∙ hidden))
       ∙ ap (global_value W x) number
       ∙ ap (table_value W) rows.1)
 
@@ -97,7 +98,7 @@ module _ {R : Type 0} (world : World R) (holds : HoldsRows world) (kept : IsSess
       let found = has_session_value world holds kept unknown unknown x known (ap (λ (ns : Names). session_name x ns.session) at.1 ∙ there) in
       let items = sequence_value world known.ty u found.0 t_is found.2 in
       at_node e (node.Name x) scope (items.0, items.1) is
-      (ap (whole_name_value W x) (no_binding x scope (ap (λ (ns : Names). local_type x ns.locals) at.1 ∙ hidden))
+      (ap (value_of_name W x) (no_binding x scope (ap (λ (ns : Names). local_type x ns.locals) at.1 ∙ hidden))
       ∙ ap (global_value W x) (ap (λ (ns : Names). table_number x ns.tables) at.1 ∙ no_table)
       ∙ found.1 W refl ∙ ap Ok items.2)
 
@@ -159,4 +160,4 @@ module _ {R : Type 0} (world : World R) (holds : HoldsRows world) (kept : IsSess
   streams (rule.by_query outer q t u r source fresh body rest) = tt
 
 pub never_faults : {R : Type 0} → NeverFaults R
-never_faults world holds kept scope fits e t typed unknown = streams world holds kept unknown (whole_sound e (names_at world scope) (ty.Seq t) typed) t (outs-Seq t) scope (fits, refl)
+never_faults world holds kept scope fits e t typed unknown = streams world holds kept unknown (expression_sound e (names_at world scope) (ty.Seq t) typed) t (outs-Seq t) scope (fits, refl)

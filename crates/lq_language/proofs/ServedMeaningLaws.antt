@@ -15,46 +15,41 @@ use Rattle.lq_value.specs.declared.value.Value.{Value, out-Value}
 use Rattle.lq_value.specs.declared.value.Value.TheOpen.{Value-F}
 use Rattle.lq_value.specs.declared.value.Value.TheVariants as value
 use Rattle.lq_value.specs.declared.value.Value.TheVariants.{outs-Row as outs-value-Row, outs-Scalar, outs-Seq as outs-value-Seq}
-use Rattle.lq_language.specs.ClauseTyping.{element_type, expression_type, source_type}
+use Rattle.lq_language.specs.ClauseTyping.{expression_type, source_type}
 use Rattle.lq_language.specs.EnumerableCalls.{enumerable_call}
 use Rattle.lq_language.specs.Maps.{map_node}
-use Rattle.lq_language.specs.Worlds.{Binding, Meaning, Scope, World, bound, bound_stream, names_at, or_null}
-use Rattle.lq_language.specs.OperandMeaning.{as_value, is_null, items_of, member_value, name_value, on_comparand, on_scalar, on_truth, same_values, stream_of, table_value, told, truth_value}
-use Rattle.lq_language.specs.ClauseMeaning.{body_type_at, clause_meaning, clauses_meaning, condition_at, continued, item_type_at, last_meaning, query_meaning, source_scopes}
-use Rattle.lq_language.specs.RuleMeaning.{Meant, compared_meaning, meaning, meaning_step, node_meaning, operated_meaning}
-use Rattle.lq_language.specs.ValuesOfTypes.{Every, HoldsRows, IsOf, is_scalar as is_scalar_value, is_row, is_sequence, IsOfScope, assuming}
+use Rattle.lq_language.specs.Worlds.{Meaning, Scope, World, names_at, or_null}
+use Rattle.lq_language.specs.OperandMeaning.{as_value, is_null, member_value, name_value, on_comparand, on_scalar, on_truth, same_values, stream_of, table_value, told, truth_value}
+use Rattle.lq_language.specs.RuleMeaning.{Meant, compared_meaning, meaning, meaning_step, rule_node_meaning, operated_meaning}
+use Rattle.lq_language.specs.ValuesOfTypes.{HoldsRows, IsOf, is_scalar as is_scalar_value, is_row, is_sequence, IsOfScope, assuming}
 use Rattle.lq_language.specs.Members.{is_search, member_named}
-use Rattle.lq_language.specs.Operations.{negated, of_member, on_ok, truth_of}
-use Rattle.lq_language.specs.Stream.{Stream, kept, one}
-use Rattle.lq_language.specs.Names.{Names, local_type, table_number, with_local}
+use Rattle.lq_language.specs.Operations.{negated, of_member, on_ok}
+use Rattle.lq_language.specs.Stream.{kept}
+use Rattle.lq_language.specs.Names.{Names, local_type, table_number}
 use Rattle.lq_language.specs.OperandTypes.{is_equality, is_text, is_text_type, item_of, number_type, row_table, truth_type}
-use Rattle.lq_language.specs.RuleTyping.{Claim, TypeOf, Leads, LeadAll, Selects, GivesItems, IsTyped, of_integer, of_local, of_table, of_column, of_text, of_null, of_has_value, of_value, of_length, of_search, of_ordering, of_equality, of_arithmetic, of_joined, of_coalesced, of_minus, of_choice, of_truth, of_not, of_both, of_either, by_where, by_none, by_first, by_select, by_query, HasRuleType, type_of}
-use Rattle.lq_language.specs.Meaning.{as_sequence, called_meaning, expression_meaning, global_value, has_members, is_sequence_layer, search_meaning, settled, whole_compared, whole_meaning, whole_member_value, whole_name_value, whole_same}
-use Rattle.lq_language.specs.MeaningLaws.{KeepsRuleMeanings, KeepsRuleStreams}
-use Rattle.lq_language.specs.Typing.{called_type, method_type, search_type, whole_member_type}
+use Rattle.lq_language.specs.RuleTyping.{of_integer, of_local, of_table, of_column, of_text, of_null, of_has_value, of_value, of_length, of_search, of_ordering, of_equality, of_arithmetic, of_joined, of_coalesced, of_minus, of_choice, of_truth, of_not, of_both, of_either, HasRuleType, type_of}
+use Rattle.lq_language.specs.Meaning.{as_sequence, called_meaning, expression_meaning, global_value, has_members, is_sequence_layer, search_meaning, settled, equality_meaning, node_meaning, value_of_member, value_of_name, same_operands}
+use Rattle.lq_language.specs.MeaningLaws.{KeepsRuleMeanings}
+use Rattle.lq_language.specs.Typing.{called_type, method_type, search_type, type_of_member}
 use Rattle.lq_grammar.specs.declared.syntax.Argument.TheVariants as argument
 use Rattle.lq_grammar.specs.declared.syntax.Binary.{Binary}
 use Rattle.lq_grammar.specs.declared.syntax.Binary.TheVariants as binary
-use Rattle.lq_grammar.specs.declared.syntax.Clause.{Clause}
-use Rattle.lq_grammar.specs.declared.syntax.Continuation.{Continuation}
 use Rattle.lq_grammar.specs.declared.syntax.Expr.{Expr}
 use Rattle.lq_grammar.specs.declared.syntax.Expr.TheVariants as expr
-use Rattle.lq_grammar.specs.declared.syntax.Last.{Last}
 use Rattle.lq_grammar.specs.declared.syntax.Node.{Node}
 use Rattle.lq_grammar.specs.declared.syntax.Node.TheVariants as node
-use Rattle.lq_grammar.specs.declared.syntax.Query.{Query}
 use Rattle.lq_grammar.specs.declared.syntax.Unary.TheVariants as unary
-use Rattle.lq_language.proofs.ItemLaws.{each_same, every_kept, every_map, every_more, every_none, has_binding, no_binding}
-use Rattle.lq_language.proofs.Layers.{para_node}
+use Rattle.lq_language.proofs.ItemLaws.{has_binding, no_binding}
+use Rattle.lq_language.proofs.LayerLaws.{para_node}
 use Rattle.lq_language.proofs.MeaningLaws.{value_of_type}
 use Rattle.lq_language.proofs.MemberLaws.{search_told}
 use Rattle.lq_language.proofs.ScalarResultLaws.{no_items_before, no_items_behind}
-use Rattle.lq_language.proofs.SourceTypes.{columns_are_scalars}
-use Rattle.lq_language.proofs.TypedValues.{IsSequence, a_sequence, comparand_there, sequence_value}
+use Rattle.lq_language.proofs.ItemlessTypes.{columns_are_scalars}
+use Rattle.lq_language.proofs.TypedValues.{comparand_there}
 use Rattle.lq_language.proofs.TypingLaws.{computes_alone, orders_alone, type_complete}
 use Rattle.lq_language.proofs.KeptMeanings.{beside, meaning_of_node}
-use Rattle.lq_language.proofs.TypingSoundness.{type_of_node}
-use Rattle.lq_language.proofs.KeptTypeLaws.{whole_type}
+use Rattle.lq_language.proofs.ExpressionTypeLaws.{type_of_node}
+use Rattle.lq_language.proofs.KeptTypeLaws.{rule_type_is_kept}
 
 -- ---- layers
 
@@ -82,8 +77,8 @@ module _ {R : Type 0} (world : World R) (holds : HoldsRows world) (unknown : Fau
   abbrev W : World R
   W = assuming unknown world
 
-  abbrev whole : Expr → Meaning R
-  whole = expression_meaning W
+  abbrev in_language : Expr → Meaning R
+  in_language = expression_meaning W
 
   abbrev served : Expr → Meaning R
   served = meaning W
@@ -91,31 +86,23 @@ module _ {R : Type 0} (world : World R) (holds : HoldsRows world) (unknown : Fau
   abbrev served_beside : Expr → Meant R
   served_beside e = (e, served e)
 
-  served_node : (n : Node Expr) (scope : Scope R) → served (expr.Node n) scope ≡ node_meaning W type_of (map_node served_beside n) scope
+  served_node : (n : Node Expr) (scope : Scope R) → served (expr.Node n) scope ≡ rule_node_meaning W type_of (map_node served_beside n) scope
   unfolding meaning
   served_node n scope = ap (λ (m : Meaning R). m scope) (para_node (Meaning R) (meaning_step W) n)
 
   abbrev At : Names → Scope R → Type 0
   At names scope = (names ≡ names_at world scope) × IsOfScope world scope
 
-  abbrev IsKept : Claim → Type 0
-  IsKept (TypeOf names e t) = (scope : Scope R) → At names scope → whole e scope ≡ served e scope
-  IsKept (Leads outer c before behind) =
-      (place : Scope R) (scopes : Stream (Scope R)) → Every (At before) scopes.0
-      → (clause_meaning W expression_type whole place c scopes ≡ clause_meaning W expression_type served place c scopes) × Every (At behind) (clause_meaning W expression_type served place c scopes).0
-  IsKept (LeadAll outer cs before behind) =
-      (place : Scope R) (scopes : Stream (Scope R)) → Every (At before) scopes.0
-      → (clauses_meaning W expression_type whole place cs scopes ≡ clauses_meaning W expression_type served place cs scopes) × Every (At behind) (clauses_meaning W expression_type served place cs scopes).0
-  IsKept (Selects names l t) = (scopes : Stream (Scope R)) → Every (At names) scopes.0 → last_meaning W expression_type whole l scopes ≡ last_meaning W expression_type served l scopes
-  IsKept (GivesItems names q t) = (scope : Scope R) → At names scope → query_meaning W expression_type whole q scope ≡ query_meaning W expression_type served q scope
+  abbrev IsKept : Names → Expr → Ty → Type 0
+  IsKept names e t = (scope : Scope R) → At names scope → in_language e scope ≡ served e scope
 
   node_kept : (e : Expr) (n : Node Expr) (scope : Scope R) → e ≡ expr.Node n
-      → whole_meaning W expression_type (map_node (beside W) n) scope ≡ node_meaning W type_of (map_node served_beside n) scope → whole e scope ≡ served e scope
+      → node_meaning W expression_type (map_node (beside W) n) scope ≡ rule_node_meaning W type_of (map_node served_beside n) scope → in_language e scope ≡ served e scope
   node_kept e n scope is h =
-      ap (λ (x : Expr). whole x scope) is ∙ meaning_of_node W n scope ∙ h ∙ sym (served_node n scope) ∙ ap (λ (x : Expr). served x scope) (sym is)
+      ap (λ (x : Expr). in_language x scope) is ∙ meaning_of_node W n scope ∙ h ∙ sym (served_node n scope) ∙ ap (λ (x : Expr). served x scope) (sym is)
 
-  whole_at : (names : Names) (e : Expr) (t : Ty) (scope : Scope R) → At names scope → HasRuleType names e t → expression_type e (names_at world scope) ≡ Some t
-  whole_at names e t scope at typed = ap (expression_type e) (sym at.0) ∙ whole_type names e t typed
+  typed_at : (names : Names) (e : Expr) (t : Ty) (scope : Scope R) → At names scope → HasRuleType names e t → expression_type e (names_at world scope) ≡ Some t
+  typed_at names e t scope at typed = ap (expression_type e) (sym at.0) ∙ rule_type_is_kept names e t typed
 
   served_at : (names : Names) (e : Expr) (t : Ty) (scope : Scope R) → At names scope → HasRuleType names e t → type_of e (names_at world scope) ≡ Some t
   served_at names e t scope at typed = ap (type_of e) (sym at.0) ∙ type_complete names typed
@@ -130,14 +117,14 @@ module _ {R : Type 0} (world : World R) (holds : HoldsRows world) (unknown : Fau
 
   -- ---- members
 
-  scalar_member_same : (s : Ty) (m : List ℕ) (x : Scalar) → is_known (out-Ty s) ≡ true → whole_member_value W (Some s) m (Value-F.Scalar x) ≡ member_value W (Some s) m (Value-F.Scalar x)
+  scalar_member_same : (s : Ty) (m : List ℕ) (x : Scalar) → is_known (out-Ty s) ≡ true → value_of_member W (Some s) m (Value-F.Scalar x) ≡ member_value W (Some s) m (Value-F.Scalar x)
   scalar_member_same s m scalar.Null known = null_same (out-Ty s) known (of_member W.unknown (member_named m) scalar.Null)
   scalar_member_same s m (scalar.Int n) known = refl
   scalar_member_same s m (scalar.Bool b) known = refl
   scalar_member_same s m (scalar.Text x) known = refl
 
   abbrev SameMember : Ty → List ℕ → Value-F R (Value R) → Type 0
-  SameMember s m layer = whole_member_value W (Some s) m layer ≡ member_value W (Some s) m layer
+  SameMember s m layer = value_of_member W (Some s) m layer ≡ member_value W (Some s) m layer
 
   member_same : (s : Ty) (m : List ℕ) (v : Value R) → is_known (out-Ty s) ≡ true → IsOf world s v → SameMember s m (out-Value R v)
   member_same s m _ known (is_scalar_value _ x fits) = subst (SameMember s m) (sym (outs-Scalar x)) (scalar_member_same s m x known)
@@ -145,28 +132,28 @@ module _ {R : Type 0} (world : World R) (holds : HoldsRows world) (unknown : Fau
   member_same s m _ known (is_sequence _ item xs e is items) = subst (SameMember s m) (sym (outs-value-Seq xs e)) refl
 
   member_kept : (names : Names) (e a : Expr) (m : List ℕ) (s t : Ty) → e ≡ expr.Node (node.Member a m) → HasRuleType names e t → HasRuleType names a s → item_of (out-Ty t) ≡ None
-      → is_known (out-Ty s) ≡ true → IsKept (TypeOf names a s) → IsKept (TypeOf names e t)
+      → is_known (out-Ty s) ≡ true → IsKept names a s → IsKept names e t
   member_kept names e a m s t is typed a_typed none known kept scope at =
       node_kept e (node.Member a m) scope is
-      (unsettled t (option_and_then (λ u. whole_member_type (names_at world scope) m (out-Ty u)) (expression_type a (names_at world scope))) _
-      (sym (type_of_node (node.Member a m) (names_at world scope)) ∙ ap (λ (x : Expr). expression_type x (names_at world scope)) (sym is) ∙ whole_at names e t scope at typed) none
-      ∙ ap (λ (o : Result (Value R) Fault). on_ok o (λ v. whole_member_value W (expression_type a (names_at world scope)) m (out-Value R v))) (kept scope at)
+      (unsettled t (option_and_then (λ u. type_of_member (names_at world scope) m (out-Ty u)) (expression_type a (names_at world scope))) _
+      (sym (type_of_node (node.Member a m) (names_at world scope)) ∙ ap (λ (x : Expr). expression_type x (names_at world scope)) (sym is) ∙ typed_at names e t scope at typed) none
+      ∙ ap (λ (o : Result (Value R) Fault). on_ok o (λ v. value_of_member W (expression_type a (names_at world scope)) m (out-Value R v))) (kept scope at)
       ∙ on_ok_same _ _ (served a scope)
-      (λ v found. ap (λ (o : Option Ty). whole_member_value W o m (out-Value R v)) (whole_at names a s scope at a_typed)
+      (λ v found. ap (λ (o : Option Ty). value_of_member W o m (out-Value R v)) (typed_at names a s scope at a_typed)
       ∙ member_same s m v known (value_at names a s scope at a_typed v found)
       ∙ ap (λ (o : Option Ty). member_value W o m (out-Value R v)) (sym (served_at names a s scope at a_typed))))
 
   -- ---- operators
 
   operated_kept : (names : Names) (e a b : Expr) (op : Binary) (s t r : Ty) → e ≡ expr.Node (node.Binary op a b) → is_equality op ≡ false → HasRuleType names a s → HasRuleType names b t
-      → IsKept (TypeOf names a s) → IsKept (TypeOf names b t) → IsKept (TypeOf names e r)
+      → IsKept names a s → IsKept names b t → IsKept names e r
   operated_kept names e a b op s t r is other a_typed b_typed a_kept b_kept scope at =
       node_kept e (node.Binary op a b) scope is
-      (ap (λ (c : Bool). if c then whole_compared W op (whole a scope) (whole b scope)
-      else (if c then compared_meaning W op (whole a scope) (whole b scope)
-      else operated_meaning W op (expression_type a (names_at world scope)) (expression_type b (names_at world scope)) (whole a scope) (whole b scope))) other
-      ∙ ap₂ (λ (o p : Option Ty). operated_meaning W op o p (whole a scope) (whole b scope)) (whole_at names a s scope at a_typed ∙ sym (served_at names a s scope at a_typed))
-      (whole_at names b t scope at b_typed ∙ sym (served_at names b t scope at b_typed))
+      (ap (λ (c : Bool). if c then equality_meaning W op (in_language a scope) (in_language b scope)
+      else (if c then compared_meaning W op (in_language a scope) (in_language b scope)
+      else operated_meaning W op (expression_type a (names_at world scope)) (expression_type b (names_at world scope)) (in_language a scope) (in_language b scope))) other
+      ∙ ap₂ (λ (o p : Option Ty). operated_meaning W op o p (in_language a scope) (in_language b scope)) (typed_at names a s scope at a_typed ∙ sym (served_at names a s scope at a_typed))
+      (typed_at names b t scope at b_typed ∙ sym (served_at names b t scope at b_typed))
       ∙ ap₂ (λ (m n : Result (Value R) Fault). operated_meaning W op (type_of a (names_at world scope)) (type_of b (names_at world scope)) m n) (a_kept scope at) (b_kept scope at)
       ∙ ap (λ (c : Bool). if c then compared_meaning W op (served a scope) (served b scope)
       else operated_meaning W op (type_of a (names_at world scope)) (type_of b (names_at world scope)) (served a scope) (served b scope)) (sym other))
@@ -177,7 +164,7 @@ module _ {R : Type 0} (world : World R) (holds : HoldsRows world) (unknown : Fau
   is_compared (Value-F.Group key xs) = false
   is_compared layer = true
 
-  layers_same : (x y : Value-F R (Value R)) → is_compared x ≡ true → is_compared y ≡ true → whole_same W x y ≡ same_values W x y
+  layers_same : (x y : Value-F R (Value R)) → is_compared x ≡ true → is_compared y ≡ true → same_operands W x y ≡ same_values W x y
   layers_same (Value-F.Rec ms) y h i = absurd (true≢false (sym h))
   layers_same (Value-F.Group key xs) y h i = absurd (true≢false (sym h))
   layers_same (Value-F.Scalar scalar.Null) (Value-F.Rec ms) h i = absurd (true≢false (sym i))
@@ -204,13 +191,13 @@ module _ {R : Type 0} (world : World R) (holds : HoldsRows world) (unknown : Fau
 
   equality_kept : (names : Names) (e a b : Expr) (op : Binary) (s t : Ty) → e ≡ expr.Node (node.Binary op a b) → is_equality op ≡ true
       → ((item : Ty) → item_of (out-Ty s) ≡ Some item → ⊥) → ((item : Ty) → item_of (out-Ty t) ≡ Some item → ⊥) → HasRuleType names a s → HasRuleType names b t
-      → IsKept (TypeOf names a s) → IsKept (TypeOf names b t) → IsKept (TypeOf names e ty.Bool)
+      → IsKept names a s → IsKept names b t → IsKept names e ty.Bool
   equality_kept names e a b op s t is same s_none t_none a_typed b_typed a_kept b_kept scope at =
       node_kept e (node.Binary op a b) scope is
-      (ap (λ (c : Bool). if c then whole_compared W op (whole a scope) (whole b scope)
-      else (if c then compared_meaning W op (whole a scope) (whole b scope)
-      else operated_meaning W op (expression_type a (names_at world scope)) (expression_type b (names_at world scope)) (whole a scope) (whole b scope))) same
-      ∙ ap₂ (whole_compared W op) (a_kept scope at) (b_kept scope at)
+      (ap (λ (c : Bool). if c then equality_meaning W op (in_language a scope) (in_language b scope)
+      else (if c then compared_meaning W op (in_language a scope) (in_language b scope)
+      else operated_meaning W op (expression_type a (names_at world scope)) (expression_type b (names_at world scope)) (in_language a scope) (in_language b scope))) same
+      ∙ ap₂ (equality_meaning W op) (a_kept scope at) (b_kept scope at)
       ∙ comparand_step s (served a scope) s_none (value_at names a s scope at a_typed) _ _
       (λ v v_fits. comparand_step t (served b scope) t_none (value_at names b t scope at b_typed) _ _
       (λ w w_fits. ap (λ (o : Result Bool Fault). on_ok o (λ equal. Ok (truth_value (told op equal))))
@@ -221,19 +208,19 @@ module _ {R : Type 0} (world : World R) (holds : HoldsRows world) (unknown : Fau
   -- ---- searches
 
   search_kept : (names : Names) (e a b : Expr) (m : List ℕ) → e ≡ expr.Node (node.Method a m (argument.Value b ∷ [])) → HasRuleType names e ty.Bool → HasRuleType names a ty.Str
-      → IsKept (TypeOf names a ty.Str) → IsKept (TypeOf names b ty.Str) → is_search m ≡ true → HasRuleType names b ty.Str → IsKept (TypeOf names e ty.Bool)
+      → IsKept names a ty.Str → IsKept names b ty.Str → is_search m ≡ true → HasRuleType names b ty.Str → IsKept names e ty.Bool
   search_kept names e a b m is typed a_typed a_kept b_kept looks b_typed scope at =
       node_kept e (node.Method a m (argument.Value b ∷ [])) scope is
       (unsettled ty.Bool _ _ here_typed (ap item_of outs-Bool)
-      ∙ ap (λ (c : Bool). if c then search_meaning W expression_type (whole a scope) m (whole b scope)
-      else called_meaning W expression_type (enumerable_call m (argument.Value (beside W b) ∷ [])) (or_null (source_type expression_type a (names_at world scope))) (whole a scope) scope) text
+      ∙ ap (λ (c : Bool). if c then search_meaning W expression_type (in_language a scope) m (in_language b scope)
+      else called_meaning W expression_type (enumerable_call m (argument.Value (beside W b) ∷ [])) (or_null (source_type expression_type a (names_at world scope))) (in_language a scope) scope) text
       ∙ ap₂ (λ (x y : Result (Value R) Fault). search_meaning W expression_type x m y) (a_kept scope at) (b_kept scope at))
     where
       text : is_text_type (expression_type a (names_at world scope)) ≡ true
-      text = ap is_text_type (whole_at names a ty.Str scope at a_typed) ∙ ap is_text outs-Str
+      text = ap is_text_type (typed_at names a ty.Str scope at a_typed) ∙ ap is_text outs-Str
 
       looked : is_text_type (expression_type b (names_at world scope)) ≡ true
-      looked = ap is_text_type (whole_at names b ty.Str scope at b_typed) ∙ ap is_text outs-Str
+      looked = ap is_text_type (typed_at names b ty.Str scope at b_typed) ∙ ap is_text outs-Str
 
       here_typed : method_type (λ (x : Meant R). expression_type x.0) (beside W a) m (argument.Value (beside W b) ∷ []) (names_at world scope) ≡ Some ty.Bool
       here_typed =
@@ -241,62 +228,18 @@ module _ {R : Type 0} (world : World R) (holds : HoldsRows world) (unknown : Fau
           else called_type (λ (x : Meant R). expression_type x.0) (expression_type a (names_at world scope)) (enumerable_call m (argument.Value (beside W b) ∷ [])) (names_at world scope)) text
           ∙ ap truth_type (and_from (is_search m) _ looks looked)
 
-  -- ---- queries
-
-  items_at : (names : Names) (e : Expr) (item : Ty) (scope : Scope R) → At names scope → HasRuleType names e (ty.Seq item) → (m : Result (Value R) Fault) → ((v : Value R) → m ≡ Ok v → IsOf world (ty.Seq item) v)
-      → Every (IsOf world item) (stream_of W m).0
-  items_at names e item scope at typed (Err x) fits = every_none (IsOf world item)
-  items_at names e item scope at typed (Ok v) fits = by (sequence_value world (ty.Seq item) item v (outs-Seq item) (fits v refl)) where
-    by : IsSequence world item v → Every (IsOf world item) (items_of W (out-Value R v)).0
-    by (a_sequence xs end items is) =
-        subst (λ (s : Stream (Value R)). Every (IsOf world item) s.0) (sym (ap (λ (u : Value R). items_of W (out-Value R u)) is ∙ ap (items_of W) (outs-value-Seq xs end))) items
-
-  query_kept_by : (names behind : Names) (q : Query Expr) (item t : Ty) → HasRuleType names q.source (ty.Seq item) → IsKept (TypeOf names q.source (ty.Seq item))
-      → IsKept (LeadAll names q.body.clauses (with_local names q.name item) behind) → IsKept (Selects behind q.body.last t) → q.rest ≡ [] → IsKept (GivesItems names q t)
-  unfolding query_meaning
-  query_kept_by names behind q item t typed source clauses selected ended scope at =
-      ap (λ (rest : List (Continuation Expr)). continued W expression_type whole scope rest (body_type_at W expression_type served scope q.body q.name (item_type_at W expression_type served q.source scope))
-      (last_meaning W expression_type whole q.body.last (clauses_meaning W expression_type whole scope q.body.clauses (source_scopes W expression_type whole q scope)))) ended
-      ∙ (ap (λ (m : Result (Value R) Fault). last_meaning W expression_type whole q.body.last (clauses_meaning W expression_type whole scope q.body.clauses
-      (bound_stream q.name (item_type_at W expression_type served q.source scope) scope (stream_of W m)))) (source scope at)
-      ∙ ap (last_meaning W expression_type whole q.body.last) led.0
-      ∙ selected _ led.1)
-      ∙ ap (λ (rest : List (Continuation Expr)). continued W expression_type served scope rest (body_type_at W expression_type served scope q.body q.name (item_type_at W expression_type served q.source scope))
-      (last_meaning W expression_type served q.body.last (clauses_meaning W expression_type served scope q.body.clauses (source_scopes W expression_type served q scope)))) (sym ended)
-    where
-      is_item : item_type_at W expression_type served q.source scope ≡ item
-      is_item =
-          ap (λ (m : Names). or_null (source_type expression_type q.source m)) (sym at.0)
-          ∙ ap (λ (o : Option Ty). or_null (option_and_then (λ u. element_type (out-Ty u)) o)) (whole_type names q.source (ty.Seq item) typed)
-          ∙ ap (λ layer. or_null (element_type layer)) (outs-Seq item)
-
-      binds : (v : Value R) → IsOf world item v → At (with_local names q.name item) (bound q.name (item_type_at W expression_type served q.source scope) scope v)
-      binds v fits = (
-        ap (λ (m : Names). with_local m q.name item) at.0 ∙ ap (λ (u : Ty). with_local (names_at world scope) q.name u) (sym is_item),
-        every_more (λ (b : Binding R). IsOf world b.ty b.value) (record { name = q.name; ty = item_type_at W expression_type served q.source scope; value = v }) scope
-            (subst (λ (u : Ty). IsOf world u v) (sym is_item) fits) at.1,
-      )
-
-      led : (clauses_meaning W expression_type whole scope q.body.clauses (source_scopes W expression_type served q scope)
-          ≡ clauses_meaning W expression_type served scope q.body.clauses (source_scopes W expression_type served q scope))
-          × Every (At behind) (clauses_meaning W expression_type served scope q.body.clauses (source_scopes W expression_type served q scope)).0
-      led =
-          clauses scope (source_scopes W expression_type served q scope)
-          (every_map (IsOf world item) (At (with_local names q.name item)) (bound q.name (item_type_at W expression_type served q.source scope) scope) binds (stream_of W (served q.source scope)).0
-          (items_at names q.source item scope at typed (served q.source scope) (value_at names q.source (ty.Seq item) scope at typed)))
-
   -- ---- by the rules
 
-  kept_meaning : {claim : Claim} → IsTyped claim → IsKept claim
+  kept_meaning : {names : Names} {e : Expr} {t : Ty} → HasRuleType names e t → IsKept names e t
   kept_meaning (of_integer names e n is) = λ scope at. node_kept e (node.Integer n) scope is refl
   kept_meaning (of_local names e x t is local) = λ scope at.
       let there = has_binding world x scope t at.1 (ap (λ (ns : Names). local_type x ns.locals) (sym at.0) ∙ local) in
-      node_kept e (node.Name x) scope is (ap (whole_name_value W x) there.1 ∙ sym (ap (name_value W x) there.1))
+      node_kept e (node.Name x) scope is (ap (value_of_name W x) there.1 ∙ sym (ap (name_value W x) there.1))
   kept_meaning (of_table names e x n is hidden table) = λ scope at.
       let none = no_binding x scope (ap (λ (ns : Names). local_type x ns.locals) (sym at.0) ∙ hidden) in
       let number = ap (λ (ns : Names). table_number x ns.tables) (sym at.0) ∙ table in
       node_kept e (node.Name x) scope is
-      (ap (whole_name_value W x) none ∙ ap (global_value W x) number
+      (ap (value_of_name W x) none ∙ ap (global_value W x) number
       ∙ sym (ap (name_value W x) none ∙ ap (λ (o : Option ℕ). table_value W (option_and_then (λ k. slice_get world.rows k) o)) number))
   kept_meaning (of_column names e row c n t is typed column) =
       member_kept names e row c (ty.Row n) t is (of_column names e row c n t is typed column) typed (columns_are_scalars names.tables n c t column) (ap is_known (outs-Row n)) (kept_meaning typed)
@@ -335,26 +278,6 @@ module _ {R : Type 0} (world : World R) (holds : HoldsRows world) (unknown : Fau
   kept_meaning (of_choice names e c a b s t r is c_typed a_typed b_typed chooses) = λ scope at.
       node_kept e (node.Conditional c a b) scope is
       (λ i. on_truth W (kept_meaning c_typed scope at i) (λ t. if t then kept_meaning a_typed scope at i else kept_meaning b_typed scope at i))
-  kept_meaning (by_where outer names c x is typed) = λ place scopes all.
-      subst (λ (d : Clause Expr). (clause_meaning W expression_type whole place d scopes ≡ clause_meaning W expression_type served place d scopes) × Every (At names) (clause_meaning W expression_type served place d scopes).0)
-      (sym is) (
-        each_same (At names) (λ s. kept (condition_at W expression_type whole x s) s) (λ s. kept (condition_at W expression_type served x s) s)
-            (λ s at. ap (λ (m : Result (Value R) Fault). kept (on_scalar W m (truth_of W.unknown)) s) (kept_meaning typed s at)) scopes.0 scopes.1 all,
-        every_kept (At names) (condition_at W expression_type served x) scopes.0 scopes.1 all,
-      )
-  kept_meaning (by_none outer names) = λ place scopes all. (refl, all)
-  kept_meaning (by_first outer before between behind c cs first others) = λ place scopes all.
-      let here = kept_meaning first place scopes all in
-      let rest = kept_meaning others place _ here.1 in
-      (ap (clauses_meaning W expression_type whole place cs) here.0 ∙ rest.0, rest.1)
-  kept_meaning (by_select names l v t is typed scalar) = λ scopes all.
-      subst (λ (k : Last Expr). last_meaning W expression_type whole k scopes ≡ last_meaning W expression_type served k scopes) (sym is)
-      (each_same (At names) (λ s. one (whole v s)) (λ s. one (served v s)) (λ s at. ap one (kept_meaning typed s at)) scopes.0 scopes.1 all)
-  kept_meaning (by_query names behind q item t source fresh clauses selected ended) =
-      query_kept_by names behind q item t source (kept_meaning source) (kept_meaning clauses) (kept_meaning selected) ended
 
 pub keeps_meanings : {R : Type 0} → KeepsRuleMeanings R
 keeps_meanings world holds scope fits e t typed unknown = kept_meaning world holds unknown typed scope (refl, fits)
-
-pub keeps_streams : {R : Type 0} → KeepsRuleStreams R
-keeps_streams world holds scope fits q t typed unknown = kept_meaning world holds unknown typed scope (refl, fits)

@@ -30,7 +30,7 @@ use Rattle.lq_language.specs.Stream.{Stream, first_keys, select_by, where_by}
 use Rattle.lq_language.specs.Types.{element_type, if_placed, is_key, same_types, when}
 use Rattle.lq_language.specs.Names.{column_type}
 use Rattle.lq_language.specs.OperandTypes.{is_bool, is_number, row_table}
-use Rattle.lq_language.specs.Meaning.{as_sequence, as_truth, default_of, given_meaning, has_members, is_sequence_layer, member_found, none_there, number_of, numbers, on_number, settled, simple_meaning, through_meaning, whole_member_value}
+use Rattle.lq_language.specs.Meaning.{as_sequence, as_truth, default_of, given_meaning, has_members, is_sequence_layer, member_found, none_there, number_of, numbers, on_number, settled, simple_meaning, through_meaning, value_of_member}
 use Rattle.lq_language.specs.MeaningLaws.{by_sequence, by_scalar}
 use Rattle.lq_language.specs.Typing.{converts, given_type, has_default, if_same, is_int, member_of, simple_type, through_type}
 use Rattle.lq_language.proofs.AlikeStreamLaws.{Agree, Alike, agree_err, agree_ok, every_concat, every_first_key, on_ok_agree, select_alike, where_alike}
@@ -248,12 +248,12 @@ module _ {R : Type 0} (world : World R) (f g : Fault) where
   -- ---- members
 
   abbrev member_at : World R → Ty → List ℕ → Value R → Result (Value R) Fault
-  member_at w t m v = whole_member_value w (Some t) m (out-Value R v)
+  member_at w t m v = value_of_member w (Some t) m (out-Value R v)
 
   -- a member of a null row or record
   null_agrees : (t r : Ty) (m : List ℕ) → has_members (out-Ty t) ≡ true → Agree (Is world r) (member_at left t m (value.Scalar scalar.Null)) (member_at right t m (value.Scalar scalar.Null))
   null_agrees t r m has =
-      subst (λ (layer : Value-F R (Value R)). Agree (Is world r) (whole_member_value left (Some t) m layer) (whole_member_value right (Some t) m layer)) (sym (outs-Scalar scalar.Null))
+      subst (λ (layer : Value-F R (Value R)). Agree (Is world r) (value_of_member left (Some t) m layer) (value_of_member right (Some t) m layer)) (sym (outs-Scalar scalar.Null))
       (subst (λ (b : Bool). Agree (Is world r) (if b then Err fault.NullReference else member_value left (Some t) m (Value-F.Scalar scalar.Null))
       (if b then Err fault.NullReference else member_value right (Some t) m (Value-F.Scalar scalar.Null))) (sym has) (agree_err (Is world r) fault.NullReference))
 
@@ -265,7 +265,7 @@ module _ {R : Type 0} (world : World R) (f g : Fault) where
   column_by n c r column v (a_row row cells is) =
       let cell = cells c r column in
       at_value (ty.Row n) r c v (value.Row row) is
-      (subst (λ (layer : Value-F R (Value R)). Agree (Is world r) (whole_member_value left (Some (ty.Row n)) c layer) (whole_member_value right (Some (ty.Row n)) c layer)) (sym (outs-value-Row row))
+      (subst (λ (layer : Value-F R (Value R)). Agree (Is world r) (value_of_member left (Some (ty.Row n)) c layer) (value_of_member right (Some (ty.Row n)) c layer)) (sym (outs-value-Row row))
       (subst (λ (o : Option Scalar). Agree (Is world r) (cell_value left o) (cell_value right o)) (sym cell.1)
       (agree_ok (Is world r) (value.Scalar cell.0) (by_scalar r cell.0 cell.2))))
   column_by n c r column v (no_row is) = at_value (ty.Row n) r c v (value.Scalar scalar.Null) is (null_agrees (ty.Row n) r c (ap has_members (outs-Row n)))
@@ -279,7 +279,7 @@ module _ {R : Type 0} (world : World R) (f g : Fault) where
   member_by ms m r member v (a_record vs fits is) =
       let found = has_member world m r ms vs fits member in
       at_value (ty.Rec ms) r m v (value.Rec vs) is
-      (subst (λ (layer : Value-F R (Value R)). Agree (Is world r) (whole_member_value left (Some (ty.Rec ms)) m layer) (whole_member_value right (Some (ty.Rec ms)) m layer)) (sym (outs-value-Rec vs))
+      (subst (λ (layer : Value-F R (Value R)). Agree (Is world r) (value_of_member left (Some (ty.Rec ms)) m layer) (value_of_member right (Some (ty.Rec ms)) m layer)) (sym (outs-value-Rec vs))
       (subst (λ (o : Option (Value R)). Agree (Is world r) (member_found left o) (member_found right o)) (sym found.1)
       (agree_ok (Is world r) found.0 found.2)))
   member_by ms m r member v (no_record is) = at_value (ty.Rec ms) r m v (value.Scalar scalar.Null) is (null_agrees (ty.Rec ms) r m (ap has_members (outs-Rec ms)))
@@ -292,7 +292,7 @@ module _ {R : Type 0} (world : World R) (f g : Fault) where
   key_agrees k u m v fits =
       let found = group_value world (ty.Group k u) k u v (outs-Group k u) fits in
       at_value (ty.Group k u) k m v (value.Group found.0 found.1) found.2
-      (subst (λ (layer : Value-F R (Value R)). Agree (Is world k) (whole_member_value left (Some (ty.Group k u)) m layer) (whole_member_value right (Some (ty.Group k u)) m layer))
+      (subst (λ (layer : Value-F R (Value R)). Agree (Is world k) (value_of_member left (Some (ty.Group k u)) m layer) (value_of_member right (Some (ty.Group k u)) m layer))
       (sym (outs-value-Group found.0 found.1)) (agree_ok (Is world k) found.0 found.3))
 
   -- a member of a scalar, null or not, is found by its name
@@ -301,7 +301,7 @@ module _ {R : Type 0} (world : World R) (f g : Fault) where
   no_members (Ty-F.Rec ms) h = absurd (true≢false (sym h))
   no_members layer h = (refl, refl)
 
-  of_scalar : (w : World R) (t : Ty) (m : List ℕ) (s : Scalar) → is_plain (out-Ty t) ≡ true → whole_member_value w (Some t) m (Value-F.Scalar s) ≡ as_value (of_member w.unknown (member_named m) s)
+  of_scalar : (w : World R) (t : Ty) (m : List ℕ) (s : Scalar) → is_plain (out-Ty t) ≡ true → value_of_member w (Some t) m (Value-F.Scalar s) ≡ as_value (of_member w.unknown (member_named m) s)
   of_scalar w t m scalar.Null plain =
       let none = no_members (out-Ty t) plain in
       ap₂ (λ (b : Bool) (o : Option ℕ). if b then Err fault.NullReference else as_value (if is_some o then Err fault.NullReference else of_member w.unknown (member_named m) scalar.Null))
@@ -316,6 +316,6 @@ module _ {R : Type 0} (world : World R) (f g : Fault) where
       let found = plain_value world t v plain fits in
       let here = given_agree r (λ unknown. of_member unknown (member_named m) found.0) (given found.0 found.2) in
       at_value t r m v (value.Scalar found.0) found.1
-      (subst (λ (layer : Value-F R (Value R)). Agree (Is world r) (whole_member_value left (Some t) m layer) (whole_member_value right (Some t) m layer)) (sym (outs-Scalar found.0))
-      (subst (λ (o : Result (Value R) Fault). Agree (Is world r) o (whole_member_value right (Some t) m (Value-F.Scalar found.0))) (sym (of_scalar left t m found.0 plain))
+      (subst (λ (layer : Value-F R (Value R)). Agree (Is world r) (value_of_member left (Some t) m layer) (value_of_member right (Some t) m layer)) (sym (outs-Scalar found.0))
+      (subst (λ (o : Result (Value R) Fault). Agree (Is world r) o (value_of_member right (Some t) m (Value-F.Scalar found.0))) (sym (of_scalar left t m found.0 plain))
       (subst (λ (o : Result (Value R) Fault). Agree (Is world r) (as_value (of_member f (member_named m) found.0)) o) (sym (of_scalar right t m found.0 plain)) here)))

@@ -1,5 +1,5 @@
--- Operators on values of their operands' types: what `==` decides, and what a choice keeps.
-use Rattle.std.proofs.Common.{◌≡◌, ◌||◌, List, ℕ, Bool, true, false, Some, ap, ap₂, ◌∙◌, sym, refl, subst, true≢false}
+-- Operators on values of their operands' types: what `==` decides, and what a choice keeps and gives.
+use Rattle.std.proofs.Common.{◌≡◌, ◌||◌, if◌then◌else◌, List, ℕ, Bool, true, false, Some, Result, Ok, ap, ap₂, ◌∙◌, sym, refl, subst, true≢false}
 use Rattle.std.proofs.lemmas.Option.{none-some, same_Some}
 use Rattle.lq_value.specs.declared.scalar.Scalar.{Scalar}
 use Rattle.lq_value.specs.declared.scalar.Scalar.TheVariants as scalar
@@ -13,18 +13,20 @@ use Rattle.lq_value.specs.declared.value.Value.TheOpen.{Value-F}
 use Rattle.lq_value.specs.declared.value.Value.TheVariants as value
 use Rattle.lq_value.specs.declared.value.Value.TheVariants.{outs-Group as outs-value-Group, outs-Rec as outs-value-Rec, outs-Row as outs-value-Row, outs-Scalar}
 use Rattle.lq_language.specs.Worlds.{World}
+use Rattle.lq_language.specs.OperandMeaning.{is_null, truth_value}
 use Rattle.lq_language.specs.ValuesOfTypes.{IsScalarOf, assuming}
 use Rattle.lq_language.specs.Operations.{same_content}
 use Rattle.lq_language.specs.Types.{same_types}
 use Rattle.lq_language.specs.OperandTypes.{are_comparable, chosen, coalesced, row_table}
-use Rattle.lq_language.specs.Meaning.{whole_same}
+use Rattle.lq_language.specs.Meaning.{same_operands}
 use Rattle.lq_language.specs.MeaningLaws.{by_group, by_null_record, by_record, by_row, by_scalar, by_sequence}
-use Rattle.lq_language.specs.Typing.{are_null_tests, whole_chosen}
+use Rattle.lq_language.specs.Typing.{are_null_tests, type_of_choice}
+use Rattle.lq_language.proofs.AlikeStreamLaws.{Agree, agree_ok}
 use Rattle.lq_language.proofs.FindingLaws.{when_by}
-use Rattle.lq_language.proofs.ScalarResultLaws.{Decides, Widens, chosen_widens, comparable_same}
+use Rattle.lq_language.proofs.ScalarResultLaws.{Decides, Widens, chosen_widens, coalesced_fits, comparable_same}
 use Rattle.lq_language.proofs.SameTypeLaws.{same_type}
 use Rattle.lq_language.proofs.TypingLaws.{is_of_layer, type_with}
-use Rattle.lq_language.proofs.ValueLaws.{Is, RecordOrNull, RowOrNull, a_record, a_row, group_value, is_plain, no_record, no_row, plain_value, record_value, row_value}
+use Rattle.lq_language.proofs.ValueLaws.{Is, RecordOrNull, RowOrNull, a_record, a_row, group_value, is_plain, no_record, no_row, plain_value, record_value, row_value, truth_is}
 
 -- ---- what `==` compares
 
@@ -61,9 +63,9 @@ comparing k l h = absurd (true≢false (sym h))
 
 module _ {R : Type 0} (world : World R) where
   abbrev DecidesLayers : Value-F R (Value R) → Value-F R (Value R) → Type 0
-  DecidesLayers x y = Decides (λ unknown. whole_same (assuming unknown world) x y)
+  DecidesLayers x y = Decides (λ unknown. same_operands (assuming unknown world) x y)
 
-  scalars_same : (x y : Scalar) (unknown : Fault) → whole_same (assuming unknown world) (Value-F.Scalar x) (Value-F.Scalar y) ≡ same_content unknown x y
+  scalars_same : (x y : Scalar) (unknown : Fault) → same_operands (assuming unknown world) (Value-F.Scalar x) (Value-F.Scalar y) ≡ same_content unknown x y
   scalars_same scalar.Null y unknown = refl
   scalars_same (scalar.Int n) y unknown = refl
   scalars_same (scalar.Bool b) y unknown = refl
@@ -74,7 +76,7 @@ module _ {R : Type 0} (world : World R) where
 
   at_layers : (v w v' w' : Value R) (x y : Value-F R (Value R)) → v ≡ v' → w ≡ w' → out-Value R v' ≡ x → out-Value R w' ≡ y → DecidesLayers x y → DecidesSame v w
   at_layers v w v' w' x y v_is w_is x_is y_is decided =
-      (decided.0, λ unknown. ap₂ (whole_same (assuming unknown world)) (ap (out-Value R) v_is ∙ x_is) (ap (out-Value R) w_is ∙ y_is) ∙ decided.1 unknown)
+      (decided.0, λ unknown. ap₂ (same_operands (assuming unknown world)) (ap (out-Value R) v_is ∙ x_is) (ap (out-Value R) w_is ∙ y_is) ∙ decided.1 unknown)
 
   null_of : (t : Ty) (v : Value R) → out-Ty t ≡ Ty-F.Null → Is world t v → v ≡ value.Scalar scalar.Null
   null_of t v is fits =
@@ -186,7 +188,7 @@ module _ {R : Type 0} (world : World R) where
   of_layer : (t : Ty) (layer : Ty-F Ty) → out-Ty t ≡ layer → t ≡ type_with layer
   of_layer t layer is = is_of_layer t ∙ ap type_with is
 
-  choice_by : (s t r : Ty) (k l : Ty-F Ty) → out-Ty s ≡ k → out-Ty t ≡ l → whole_chosen k l ≡ Some r → Keeps s r × Keeps t r
+  choice_by : (s t r : Ty) (k l : Ty-F Ty) → out-Ty s ≡ k → out-Ty t ≡ l → type_of_choice k l ≡ Some r → Keeps s r × Keeps t r
   choice_by s t r (Ty-F.Rec ms) (Ty-F.Rec ns) s_is t_is h =
       when_by (same_types (ty.Rec ms) (ty.Rec ns)) (Some (ty.Rec ms)) r h (λ same is. let made : ty.Rec ms ≡ r = same_Some _ r is in (
         same_keeps s r (of_layer s _ s_is ∙ made),
@@ -201,5 +203,29 @@ module _ {R : Type 0} (world : World R) where
         flat_keeps t r (ap is_flat t_is ∙ flat.1) (subst (λ (x : Ty-F Ty). Widens x (out-Ty r)) (sym t_is) widens.1),
       )
 
-  pub choice_keeps : (s t r : Ty) → whole_chosen (out-Ty s) (out-Ty t) ≡ Some r → Keeps s r × Keeps t r
+  pub choice_keeps : (s t r : Ty) → type_of_choice (out-Ty s) (out-Ty t) ≡ Some r → Keeps s r × Keeps t r
   choice_keeps s t r h = choice_by s t r (out-Ty s) (out-Ty t) refl refl h
+
+  -- ---- an outcome of two, each of which is the same in both worlds
+
+  pub and_agrees : (m n : Result (Value R) Fault) → Agree (Is world ty.Bool) m n → (c d : Bool)
+      → Agree (Is world ty.Bool) (if c then m else Ok (truth_value d)) (if c then n else Ok (truth_value d))
+  and_agrees m n agree true d = agree
+  and_agrees m n agree false d = agree_ok (Is world ty.Bool) (truth_value d) (truth_is world d)
+
+  pub or_agrees : (m n : Result (Value R) Fault) → Agree (Is world ty.Bool) m n → (c d : Bool)
+      → Agree (Is world ty.Bool) (if c then Ok (truth_value d) else m) (if c then Ok (truth_value d) else n)
+  or_agrees m n agree true d = agree_ok (Is world ty.Bool) (truth_value d) (truth_is world d)
+  or_agrees m n agree false d = agree
+
+  pub choice_agrees : (r s t : Ty) → Keeps s r → Keeps t r → (m n k l : Result (Value R) Fault) → Agree (Is world s) m n → Agree (Is world t) k l → (c : Bool)
+      → Agree (Is world r) (if c then m else k) (if c then n else l)
+  choice_agrees r s t s_keeps t_keeps m n k l first second true = (first.0, λ v is. s_keeps v (first.1 v is))
+  choice_agrees r s t s_keeps t_keeps m n k l first second false = (second.0, λ v is. t_keeps v (second.1 v is))
+
+  pub coalesced_agrees : (s t r : Ty) → coalesced (out-Ty s) (out-Ty t) ≡ Some r → (x : Scalar) → IsScalarOf (out-Ty s) x → (m n : Result (Value R) Fault)
+      → Agree (Is world t) m n → (c : Bool) → is_null x ≡ c → Agree (Is world r) (if c then m else Ok (value.Scalar x)) (if c then n else Ok (value.Scalar x))
+  coalesced_agrees s t r h x fits m n agree true is =
+      (agree.0, λ v got. plain_keeps t r (coalesced_plain (out-Ty s) (out-Ty t) r h).1 (coalesced_fits (out-Ty s) (out-Ty t) r h).1.1 v (agree.1 v got))
+  coalesced_agrees s t r h x fits m n agree false is =
+      agree_ok (Is world r) (value.Scalar x) (by_scalar r x ((coalesced_fits (out-Ty s) (out-Ty t) r h).1.0 x fits is))

@@ -6,16 +6,16 @@ use Rattle.std.specs.Prelude.{is_some}
 use Rattle.lq_value.specs.declared.ty.Ty.{Ty, out-Ty}
 use Rattle.lq_value.specs.declared.ty.Ty.TheOpen.{Ty-F}
 use Rattle.lq_value.specs.declared.ty.Ty.TheVariants as ty
-use Rattle.lq_value.specs.declared.ty.Ty.TheVariants.{outs-Bool, outs-Group, outs-IntN, outs-Rec, outs-Row, outs-Str}
+use Rattle.lq_value.specs.declared.ty.Ty.TheVariants.{outs-Group, outs-IntN, outs-Rec, outs-Row, outs-Str}
 use Rattle.lq_language.specs.ClauseTyping.{are_join_keys, are_sort_keys, body_items, continued_items, element_type, expression_type, has_place, if_placed, if_key, is_fresh, is_key, is_sort_key, is_within, last_type, matched_name, matched_type, names_after, names_after_all, query_items, sole_name, source_type, when}
 use Rattle.lq_language.specs.EnumerableCalls.{EnumerableCall, enumerable_call}
-use Rattle.lq_language.specs.Maps.{map_argument, map_enumerable, map_field, map_node}
+use Rattle.lq_language.specs.Maps.{map_argument, map_enumerable, map_field}
 use Rattle.lq_language.specs.Members.{is_search}
 use Rattle.lq_language.specs.Names.{Names, local_type, with_local}
-use Rattle.lq_language.specs.OperandTypes.{are_comparable, coalesced, if_number, is_bool, is_bool_type, is_equality, is_text, is_text_type, number_type, of_operands, operated_type, truth_type}
+use Rattle.lq_language.specs.OperandTypes.{are_comparable, coalesced, if_number, is_equality, is_text, is_text_type, number_type, of_operands, operated_type, truth_type}
 use Rattle.lq_language.specs.TypingRules.{TypeClaim, Has, Gives, Members, Sorts, Leads, LeadAll, Ends, BodyGives, Continues, QueryGives, IsRight}
 use Rattle.lq_language.specs.TypingRules as rule
-use Rattle.lq_language.specs.Typing.{are_distinct, are_null_tests, called_type, enumerable_type, given_type, if_limited, through_type, members_type, search_type, whole_choice_type, whole_member_type, whole_operated_type, whole_type, global_type, whole_name_type}
+use Rattle.lq_language.specs.Typing.{are_distinct, are_null_tests, called_type, enumerable_type, given_type, if_limited, through_type, members_type, search_type, type_of_conditional, type_of_operation, global_type, type_of_name}
 use Rattle.lq_grammar.specs.declared.syntax.Argument.{Argument}
 use Rattle.lq_grammar.specs.declared.syntax.Argument.TheVariants as argument
 use Rattle.lq_grammar.specs.declared.syntax.Binary.{Binary}
@@ -28,14 +28,13 @@ use Rattle.lq_grammar.specs.declared.syntax.Expr.TheVariants as expr
 use Rattle.lq_grammar.specs.declared.syntax.Field.{Field}
 use Rattle.lq_grammar.specs.declared.syntax.Join.{Join}
 use Rattle.lq_grammar.specs.declared.syntax.Last.{Last}
-use Rattle.lq_grammar.specs.declared.syntax.Node.{Node}
 use Rattle.lq_grammar.specs.declared.syntax.Node.TheVariants as node
 use Rattle.lq_grammar.specs.declared.syntax.Query.{Query}
 use Rattle.lq_grammar.specs.declared.syntax.Unary.TheVariants as unary
 use Rattle.lq_language.proofs.MemberLaws.{search_told}
 use Rattle.lq_language.proofs.MethodPullLaws.{call_maps}
 use Rattle.lq_language.proofs.TypingLaws.{computes_alone, joined_found as texts_join, numbers_compute, orders_alone}
-use Rattle.lq_language.proofs.TypingSoundness.{type_of_node, type_of_query}
+use Rattle.lq_language.proofs.ExpressionTypeLaws.{both_found, expression_type_is, member_found, operated_found, text_found, truth_found, type_of_query}
 
 abbrev pub IsFound : TypeClaim → Type 0
 IsFound (Has names e t) = expression_type e names ≡ Some t
@@ -49,22 +48,8 @@ IsFound (BodyGives outer body names t) = body_items expression_type outer body n
 IsFound (Continues outer rest t r) = continued_items expression_type outer rest t ≡ Some r
 IsFound (QueryGives outer q r) = query_items expression_type q outer ≡ Some r
 
--- an expression that is this node
-node_is : (names : Names) (e : Expr) (n : Node Expr) → e ≡ expr.Node n → expression_type e names ≡ whole_type (map_node expression_type n) names
-node_is names e n is = ap (λ (x : Expr). expression_type x names) is ∙ type_of_node n names
-
 abbrev type_found : Names → Expr → Option Ty
 type_found names e = expression_type e names
-
-truth_found : (names : Names) (x : Expr) → expression_type x names ≡ Some ty.Bool → is_bool_type (expression_type x names) ≡ true
-truth_found names x typed = ap is_bool_type typed ∙ ap is_bool outs-Bool
-
-text_found : (names : Names) (x : Expr) → expression_type x names ≡ Some ty.Str → is_text_type (expression_type x names) ≡ true
-text_found names x typed = ap is_text_type typed ∙ ap is_text outs-Str
-
-both_found : (names : Names) (a b : Expr) → expression_type a names ≡ Some ty.Bool → expression_type b names ≡ Some ty.Bool
-    → truth_type (is_bool_type (expression_type a names) && is_bool_type (expression_type b names)) ≡ Some ty.Bool
-both_found names a b left right = ap₂ (λ (x y : Bool). truth_type (x && y)) (truth_found names a left) (truth_found names b right)
 
 placed_found : (o : Option Ty) (t : Ty) → o ≡ Some t → has_place (out-Ty t) ≡ true → if_placed o ≡ Some t
 placed_found o t typed placed = ap if_placed typed ∙ ap (λ (b : Bool). when b (Some t)) placed
@@ -80,11 +65,6 @@ pub lambda_found : (names : Names) (n : List ℕ) (t u : Ty) (body : Expr) → l
     → when (is_fresh names n) (expression_type body (with_local names n t)) ≡ Some u
 lambda_found names n t u body fresh typed = when_found (is_fresh names n) _ (fresh_found names n fresh) ∙ typed
 
-member_found : (names : Names) (m : List ℕ) (a : Expr) (t : Ty) (layer : Ty-F Ty) (r : Option Ty) → expression_type a names ≡ Some t → out-Ty t ≡ layer
-    → whole_member_type names m layer ≡ r → option_and_then (λ s. whole_member_type names m (out-Ty s)) (expression_type a names) ≡ r
-member_found names m a t layer r typed is found =
-    ap (λ (o : Option Ty). option_and_then (λ s. whole_member_type names m (out-Ty s)) o) typed ∙ ap (whole_member_type names m) is ∙ found
-
 -- ---- operators
 
 abbrev by_equality : Binary → Ty-F Ty → Ty-F Ty → Bool → Option Ty
@@ -97,15 +77,12 @@ equality_by true comparable h = refl
 equality_by false true h = refl
 equality_by false false h = absurd (true≢false (sym h))
 
-equality_found : (op : Binary) (s t : Ty-F Ty) → is_equality op ≡ true → (are_null_tests s t || are_comparable s t) ≡ true → whole_operated_type op s t ≡ Some ty.Bool
+equality_found : (op : Binary) (s t : Ty-F Ty) → is_equality op ≡ true → (are_null_tests s t || are_comparable s t) ≡ true → type_of_operation op s t ≡ Some ty.Bool
 equality_found op s t same h = rw same (equality_by (are_null_tests s t) (are_comparable s t) h)
 
-operated_found : (op : Binary) (s t : Ty-F Ty) (r : Ty) → operated_type op s t ≡ Some r → is_equality op ≡ false → whole_operated_type op s t ≡ Some r
-operated_found op s t r given alone = ap (λ (b : Bool). if b && are_null_tests s t then Some ty.Bool else operated_type op s t) alone ∙ given
-
 operands_found : (names : Names) (op : Binary) (a b : Expr) (s t r : Ty) → expression_type a names ≡ Some s → expression_type b names ≡ Some t
-    → whole_operated_type op (out-Ty s) (out-Ty t) ≡ Some r → of_operands (whole_operated_type op) (expression_type a names) (expression_type b names) ≡ Some r
-operands_found names op a b s t r a_typed b_typed found = ap₂ (of_operands (whole_operated_type op)) a_typed b_typed ∙ found
+    → type_of_operation op (out-Ty s) (out-Ty t) ≡ Some r → of_operands (type_of_operation op) (expression_type a names) (expression_type b names) ≡ Some r
+operands_found names op a b s t r a_typed b_typed found = ap₂ (of_operands (type_of_operation op)) a_typed b_typed ∙ found
 
 -- ---- methods
 
@@ -128,7 +105,7 @@ method_found : (names : Names) (e a : Expr) (m : List ℕ) (arguments : List (Ar
     → e ≡ expr.Node (node.Method a m arguments) → enumerable_call m arguments ≡ Some call → source_type expression_type a names ≡ Some t
     → enumerable_type (λ (u : Names → Option Ty). u) names t (map_enumerable expression_type call) ≡ Some r → is_within r ≡ true → expression_type e names ≡ Some r
 method_found names e a m arguments call t r is called source gives within =
-    node_is names e (node.Method a m arguments) is
+    expression_type_is names e (node.Method a m arguments) is
     ∙ ap (λ (b : Bool). if b then search_type (λ (u : Names → Option Ty). u) m (map (map_argument expression_type) arguments) names
     else called_type (λ (u : Names → Option Ty). u) (expression_type a names) (enumerable_call m (map (map_argument expression_type) arguments)) names)
     (no_text (expression_type a names) t source)
@@ -186,55 +163,55 @@ query_found outer q t u r source fresh body rest =
     ∙ rest
 
 pub found : {claim : TypeClaim} → IsRight claim → IsFound claim
-found (rule.of_integer names e n is) = node_is names e (node.Integer n) is
-found (rule.of_text names e x is) = node_is names e (node.Text x) is
-found (rule.of_truth names e b is) = node_is names e (node.Bool b) is
-found (rule.of_null names e is) = node_is names e node.Null is
-found (rule.of_local names e x t is local) = node_is names e (node.Name x) is ∙ ap (whole_name_type names x) local
+found (rule.of_integer names e n is) = expression_type_is names e (node.Integer n) is
+found (rule.of_text names e x is) = expression_type_is names e (node.Text x) is
+found (rule.of_truth names e b is) = expression_type_is names e (node.Bool b) is
+found (rule.of_null names e is) = expression_type_is names e node.Null is
+found (rule.of_local names e x t is local) = expression_type_is names e (node.Name x) is ∙ ap (type_of_name names x) local
 found (rule.of_table names e x n is hidden table) =
-    node_is names e (node.Name x) is ∙ ap (whole_name_type names x) hidden ∙ ap (global_type names x) table
+    expression_type_is names e (node.Name x) is ∙ ap (type_of_name names x) hidden ∙ ap (global_type names x) table
 found (rule.of_session names e x known is hidden no_table there) =
-    node_is names e (node.Name x) is ∙ ap (whole_name_type names x) hidden ∙ ap (global_type names x) no_table ∙ ap (option_map (λ s. s.ty)) there
+    expression_type_is names e (node.Name x) is ∙ ap (type_of_name names x) hidden ∙ ap (global_type names x) no_table ∙ ap (option_map (λ s. s.ty)) there
 found (rule.of_column names e row c n t is row_typed column) =
-    node_is names e (node.Member row c) is ∙ member_found names c row (ty.Row n) (Ty-F.Row n) (Some t) (found row_typed) (outs-Row n) column
+    expression_type_is names e (node.Member row c) is ∙ member_found names c row (ty.Row n) (Ty-F.Row n) (Some t) (found row_typed) (outs-Row n) column
 found (rule.of_member names e a m members t is typed member) =
-    node_is names e (node.Member a m) is ∙ member_found names m a (ty.Rec members) (Ty-F.Rec members) (Some t) (found typed) (outs-Rec members) member
+    expression_type_is names e (node.Member a m) is ∙ member_found names m a (ty.Rec members) (Ty-F.Rec members) (Some t) (found typed) (outs-Rec members) member
 found (rule.of_key names e a k t is typed) =
-    node_is names e (node.Member a (codes "Key")) is ∙ member_found names (codes "Key") a (ty.Group k t) (Ty-F.Group k t) (Some k) (found typed) (outs-Group k t) refl
+    expression_type_is names e (node.Member a (codes "Key")) is ∙ member_found names (codes "Key") a (ty.Group k t) (Ty-F.Group k t) (Some k) (found typed) (outs-Group k t) refl
 found (rule.of_has_value names e a is typed) =
-    node_is names e (node.Member a (codes "HasValue")) is ∙ member_found names (codes "HasValue") a ty.IntN Ty-F.IntN (Some ty.Bool) (found typed) outs-IntN refl
+    expression_type_is names e (node.Member a (codes "HasValue")) is ∙ member_found names (codes "HasValue") a ty.IntN Ty-F.IntN (Some ty.Bool) (found typed) outs-IntN refl
 found (rule.of_value names e a is typed) =
-    node_is names e (node.Member a (codes "Value")) is ∙ member_found names (codes "Value") a ty.IntN Ty-F.IntN (Some ty.Int) (found typed) outs-IntN refl
+    expression_type_is names e (node.Member a (codes "Value")) is ∙ member_found names (codes "Value") a ty.IntN Ty-F.IntN (Some ty.Int) (found typed) outs-IntN refl
 found (rule.of_length names e a is typed) =
-    node_is names e (node.Member a (codes "Length")) is ∙ member_found names (codes "Length") a ty.Str Ty-F.Str (Some ty.Int) (found typed) outs-Str refl
+    expression_type_is names e (node.Member a (codes "Length")) is ∙ member_found names (codes "Length") a ty.Str Ty-F.Str (Some ty.Int) (found typed) outs-Str refl
 found (rule.of_ordering names e a b op s t is orders a_typed s_number b_typed t_number) =
-    node_is names e (node.Binary op a b) is
+    expression_type_is names e (node.Binary op a b) is
     ∙ operands_found names op a b s t ty.Bool (found a_typed) (found b_typed)
     (operated_found op (out-Ty s) (out-Ty t) ty.Bool (numbers_compute op (out-Ty s) (out-Ty t) (orders_alone op orders) s_number t_number
     ∙ ap (λ (c : Bool). Some (if c then ty.Bool else number_type (out-Ty s) (out-Ty t))) orders) (orders_alone op orders))
 found (rule.of_equality names e a b op s t is same a_typed b_typed compares) =
-    node_is names e (node.Binary op a b) is ∙ operands_found names op a b s t ty.Bool (found a_typed) (found b_typed) (equality_found op (out-Ty s) (out-Ty t) same compares)
+    expression_type_is names e (node.Binary op a b) is ∙ operands_found names op a b s t ty.Bool (found a_typed) (found b_typed) (equality_found op (out-Ty s) (out-Ty t) same compares)
 found (rule.of_arithmetic names e a b op s t is computes a_typed s_number b_typed t_number) =
-    node_is names e (node.Binary op a b) is
+    expression_type_is names e (node.Binary op a b) is
     ∙ operands_found names op a b s t (number_type (out-Ty s) (out-Ty t)) (found a_typed) (found b_typed)
     (operated_found op (out-Ty s) (out-Ty t) (number_type (out-Ty s) (out-Ty t)) (numbers_compute op (out-Ty s) (out-Ty t) (computes_alone op computes).0 s_number t_number
     ∙ ap (λ (c : Bool). Some (if c then ty.Bool else number_type (out-Ty s) (out-Ty t))) (computes_alone op computes).1) (computes_alone op computes).0)
 found (rule.of_joined names e a b s t is a_typed b_typed joins) =
-    node_is names e (node.Binary binary.Add a b) is
+    expression_type_is names e (node.Binary binary.Add a b) is
     ∙ operands_found names binary.Add a b s t ty.Str (found a_typed) (found b_typed) (texts_join (out-Ty s) (out-Ty t) joins)
 found (rule.of_minus names e a t is typed number) =
-    node_is names e (node.Unary unary.Minus a) is ∙ ap if_number (found typed) ∙ ap (λ (c : Bool). if c then Some t else None) number
-found (rule.of_not names e a is typed) = node_is names e (node.Unary unary.Not a) is ∙ ap truth_type (truth_found names a (found typed))
-found (rule.of_both names e a b is left right) = node_is names e (node.And a b) is ∙ both_found names a b (found left) (found right)
-found (rule.of_either names e a b is left right) = node_is names e (node.Or a b) is ∙ both_found names a b (found left) (found right)
+    expression_type_is names e (node.Unary unary.Minus a) is ∙ ap if_number (found typed) ∙ ap (λ (c : Bool). if c then Some t else None) number
+found (rule.of_not names e a is typed) = expression_type_is names e (node.Unary unary.Not a) is ∙ ap truth_type (truth_found names a (found typed))
+found (rule.of_both names e a b is left right) = expression_type_is names e (node.And a b) is ∙ both_found names a b (found left) (found right)
+found (rule.of_either names e a b is left right) = expression_type_is names e (node.Or a b) is ∙ both_found names a b (found left) (found right)
 found (rule.of_coalesced names e a b s t r is a_typed b_typed gives) =
-    node_is names e (node.Coalesce a b) is ∙ ap₂ (of_operands coalesced) (found a_typed) (found b_typed) ∙ gives
+    expression_type_is names e (node.Coalesce a b) is ∙ ap₂ (of_operands coalesced) (found a_typed) (found b_typed) ∙ gives
 found (rule.of_choice names e c a b s t r is c_typed a_typed b_typed chooses) =
-    node_is names e (node.Conditional c a b) is
-    ∙ (λ i. whole_choice_type (truth_found names c (found c_typed) i) (found a_typed i) (found b_typed i))
+    expression_type_is names e (node.Conditional c a b) is
+    ∙ (λ i. type_of_conditional (truth_found names c (found c_typed) i) (found a_typed i) (found b_typed i))
     ∙ chooses
 found (rule.of_record names e fields members is distinct typed within) =
-    node_is names e (node.New fields) is
+    expression_type_is names e (node.New fields) is
     ∙ when_found _ _ (ap are_distinct (names_same fields) ∙ distinct)
     ∙ limited_found _ (ty.Rec members) (ap (option_map ty.Rec) (found typed)) within
 found (rule.no_member names) = refl
@@ -242,7 +219,7 @@ found (rule.one_member names field fields t members typed placed others) =
     ap₂ (λ (o : Option Ty) (ms : Option (List (List ℕ × Ty))). option_and_then (λ u. option_map (λ rest. (field.name, u) ∷ rest) ms) o)
     (placed_found (expression_type field.value names) t (found typed) placed) (found others)
 found (rule.of_search names e a b m is looks a_typed b_typed) =
-    node_is names e (node.Method a m (argument.Value b ∷ [])) is
+    expression_type_is names e (node.Method a m (argument.Value b ∷ [])) is
     ∙ ap (λ (c : Bool). if c then search_type (λ (u : Names → Option Ty). u) m (argument.Value (expression_type b) ∷ []) names
     else called_type (λ (u : Names → Option Ty). u) (expression_type a names) (enumerable_call m (argument.Value (expression_type b) ∷ [])) names)
     (text_found names a (found a_typed))
@@ -304,8 +281,8 @@ found (rule.by_query outer q t u r source fresh body rest) =
     query_found outer q t u r (found source) (fresh_found outer q.name fresh) (found body) (found rest)
 
 -- what the rules give is found
-pub whole_complete : (names : Names) (e : Expr) (t : Ty) → IsRight (Has names e t) → expression_type e names ≡ Some t
-whole_complete names e t right = found right
+pub expression_complete : (names : Names) (e : Expr) (t : Ty) → IsRight (Has names e t) → expression_type e names ≡ Some t
+expression_complete names e t right = found right
 
 pub items_complete : (names : Names) (q : Query Expr) (t : Ty) → IsRight (QueryGives names q t) → query_items expression_type q names ≡ Some t
 items_complete names q t right = found right

@@ -1,6 +1,6 @@
 -- The functions of `Typing` find the types that the rules give, so that there is one type at most.
-use Rattle.std.proofs.Common.{◌≡◌, ◌==◌, ◌∷◌, ◌&&◌, if◌then◌else◌, List, [], ℕ, suc, length, arith, ℤ, Bool, true, false, Option, Some, None, codes, bytes_eq, ap, ap₂, ◌∙◌, sym, refl, subst, option_and_then, option_map, true≢false}
-use Rattle.std.proofs.lemmas.Bool.{and_from, and_parts, eqb-true}
+use Rattle.std.proofs.Common.{◌≡◌, ◌∷◌, ◌&&◌, if◌then◌else◌, List, [], ℕ, ℤ, Bool, true, false, Option, Some, None, codes, bytes_eq, ap, ap₂, ◌∙◌, sym, refl, subst, option_and_then, option_map, true≢false}
+use Rattle.std.proofs.lemmas.Bool.{and_from, and_parts}
 use Rattle.std.proofs.lemmas.Option.{none-some, same_Some}
 use Rattle.std.proofs.lemmas.Slice.Eq.{bytes_eq-Decides}
 use Rattle.lq_value.specs.declared.ty.Ty.{Ty, ind-Ty, map-Ty, out-Ty, roll-Ty}
@@ -8,26 +8,20 @@ use Rattle.lq_value.specs.declared.ty.Ty.TheOpen.{Ty-F}
 use Rattle.lq_value.specs.declared.ty.Ty.TheVariants as ty
 use Rattle.lq_value.specs.declared.ty.Ty.TheVariants.{outs-Bool, outs-Group, outs-Int, outs-IntN, outs-Null, outs-Rec, outs-Row, outs-Seq, outs-Str, rolls-Bool, rolls-Group, rolls-Int, rolls-IntN, rolls-Null, rolls-Rec, rolls-Row, rolls-Seq, rolls-Str}
 use Rattle.lq_language.specs.Members.{is_search, sole_argument}
-use Rattle.lq_language.specs.Names.{Names, local_type, table_number, with_local}
-use Rattle.lq_language.specs.OperandTypes.{are_comparable, are_joined, coalesced, is_comparison, is_equality, is_ordering, is_text, is_text_type, joined_type, member_type, of_operands, operated_type, is_bool, is_bool_type, is_number, is_scalar, item_of, binary_type, choice_type, if_number, number_type, result_type, truth_type}
-use Rattle.lq_language.specs.RuleTyping.{Claim, TypeOf, Leads, LeadAll, Selects, GivesItems, IsTyped, of_coalesced, of_equality, of_has_value, of_joined, of_length, of_null, of_ordering, of_search, of_text, of_value, of_integer, of_local, of_table, of_column, of_arithmetic, of_minus, of_choice, of_truth, of_not, of_both, of_either, by_where, by_none, by_first, by_select, by_query, HasRuleType, HasRuleItemType, body_type, if_scalar, item_type, items_over, name_type, names_behind, names_behind_all, selected_type, type_of, when_fresh}
-use Rattle.lq_language.specs.RuleTypingLaws.{HasOneRuleType, HasOneRuleItemType, FindsRuleTypes, FindsRuleItemTypes}
+use Rattle.lq_language.specs.Names.{Names, local_type, table_number}
+use Rattle.lq_language.specs.OperandTypes.{are_comparable, are_joined, coalesced, is_comparison, is_equality, is_ordering, is_text, is_text_type, joined_type, member_type, of_operands, operated_type, is_bool, is_bool_type, is_number, item_of, binary_type, choice_type, if_number, number_type, result_type, truth_type}
+use Rattle.lq_language.specs.RuleTyping.{of_coalesced, of_equality, of_has_value, of_joined, of_length, of_null, of_ordering, of_search, of_text, of_value, of_integer, of_local, of_table, of_column, of_arithmetic, of_minus, of_choice, of_truth, of_not, of_both, of_either, HasRuleType, name_type, type_of}
+use Rattle.lq_language.specs.RuleTypingLaws.{HasOneRuleType, FindsRuleTypes}
 use Rattle.lq_grammar.specs.declared.syntax.Argument.{Argument}
 use Rattle.lq_grammar.specs.declared.syntax.Argument.TheVariants as argument
-use Rattle.lq_grammar.specs.declared.syntax.Clause.{Clause}
-use Rattle.lq_grammar.specs.declared.syntax.Clause.TheVariants as clause
 use Rattle.lq_grammar.specs.declared.syntax.Binary.{Binary}
 use Rattle.lq_grammar.specs.declared.syntax.Binary.TheVariants as binary
-use Rattle.lq_grammar.specs.declared.syntax.Continuation.{Continuation}
 use Rattle.lq_grammar.specs.declared.syntax.Expr.{Expr, ind-Expr, map-Expr, roll-Expr}
 use Rattle.lq_grammar.specs.declared.syntax.Expr.TheOpen.{Expr-F}
 use Rattle.lq_grammar.specs.declared.syntax.Expr.TheVariants as expr
 use Rattle.lq_grammar.specs.declared.syntax.Expr.TheVariants.{rolls-Node}
-use Rattle.lq_grammar.specs.declared.syntax.Last.{Last}
-use Rattle.lq_grammar.specs.declared.syntax.Last.TheVariants as last
 use Rattle.lq_grammar.specs.declared.syntax.Node.{Node}
 use Rattle.lq_grammar.specs.declared.syntax.Node.TheVariants as node
-use Rattle.lq_grammar.specs.declared.syntax.Query.{Query}
 use Rattle.lq_grammar.specs.declared.syntax.Unary.TheVariants as unary
 use Rattle.lq_language.proofs.MemberLaws.{search_given, search_told}
 use Rattle.lq_language.proofs.FormLaws.{argument_type, layer_type, rolled_type, type_binary, type_both, type_choice, type_coalesce, type_either, type_integer, type_member, type_method, type_minus, type_name, type_not, type_null, type_text, type_truth}
@@ -145,34 +139,11 @@ binary_complete : (names : Names) (op : Binary) (a b : Expr) (s t : Ty) → type
     → type_of (expr.Node (node.Binary op a b)) names ≡ operated_type op (out-Ty s) (out-Ty t)
 binary_complete names op a b s t left right = type_binary op a b names ∙ ap₂ (binary_type op) left right
 
-selection_complete : (names : Names) (v : Expr) (t : Ty) → type_of v names ≡ Some t → is_scalar (out-Ty t) ≡ true → if_scalar (type_of v names) ≡ Some t
-selection_complete names v t typed scalar = ap if_scalar typed ∙ rw scalar refl
-
 both_truths : (names : Names) (a b : Expr) → type_of a names ≡ Some ty.Bool → type_of b names ≡ Some ty.Bool
     → truth_type (is_bool_type (type_of a names) && is_bool_type (type_of b names)) ≡ Some ty.Bool
 both_truths names a b left right = ap₂ (λ (x y : Bool). truth_type (x && y)) (condition_complete names a left) (condition_complete names b right)
 
--- what a claim says of the functions
-abbrev IsFound : Claim → Type 0
-IsFound (TypeOf names e t) = type_of e names ≡ Some t
-IsFound (Leads outer c before behind) = names_behind type_of outer c before ≡ Some behind
-IsFound (LeadAll outer cs before behind) = names_behind_all type_of outer cs before ≡ Some behind
-IsFound (Selects names l t) = selected_type type_of l names ≡ Some t
-IsFound (GivesItems names q t) = item_type type_of q names ≡ Some t
-
-items_found : (names behind : Names) (q : Query Expr) (item t : Ty) → type_of q.source names ≡ Some (ty.Seq item) → local_type q.name names.locals ≡ None
-    → names_behind_all type_of names q.body.clauses (with_local names q.name item) ≡ Some behind → selected_type type_of q.body.last behind ≡ Some t → q.rest ≡ []
-    → item_type type_of q names ≡ Some t
-unfolding item_type
-items_found names behind q item t source fresh clauses selected ended =
-    ap (λ (o : Option Ty). when_fresh o (items_over type_of names q (option_and_then (λ s. item_of (out-Ty s)) (type_of q.source names)))) fresh
-    ∙ ap (λ (o : Option Ty). items_over type_of names q (option_and_then (λ s. item_of (out-Ty s)) o)) source
-    ∙ ap (λ layer. items_over type_of names q (item_of layer)) (outs-Seq item)
-    ∙ ap (λ (rest : List (Continuation Expr)). if length rest == 0 then body_type type_of names q.body (with_local names q.name item) else None) ended
-    ∙ ap (option_and_then (selected_type type_of q.body.last)) clauses
-    ∙ selected
-
-found : {claim : Claim} → IsTyped claim → IsFound claim
+found : {names : Names} {e : Expr} {t : Ty} → HasRuleType names e t → type_of e names ≡ Some t
 found (of_integer names _ n is) = ap (expression_type names) is ∙ type_integer n names
 found (of_local names _ x _ is local) = ap (expression_type names) is ∙ type_name x names ∙ ap (name_type names x) local
 found (of_table names _ x n is hidden table) =
@@ -224,19 +195,9 @@ found (of_choice names _ c a b s t r is c_typed a_typed b_typed chooses) =
     ap (expression_type names) is ∙ type_choice c a b names
     ∙ (λ i. choice_type (condition_complete names c (found c_typed) i) (found a_typed i) (found b_typed i))
     ∙ chooses
-found (by_where outer names _ x is typed) =
-    ap (λ (c : Clause Expr). names_behind type_of outer c names) is ∙ ap (λ (b : Bool). if b then Some names else None) (condition_complete names x (found typed))
-found (by_none outer names) = refl
-found (by_first outer before between behind c cs first others) = ap (option_and_then (names_behind_all type_of outer cs)) (found first) ∙ found others
-found (by_select names _ v t is typed scalar) = ap (λ (l : Last Expr). selected_type type_of l names) is ∙ selection_complete names v t (found typed) scalar
-found (by_query names behind q item t source fresh clauses selected ended) =
-    items_found names behind q item t (found source) fresh (found clauses) (found selected) ended
 
 pub type_complete : (names : Names) {e : Expr} {t : Ty} → HasRuleType names e t → type_of e names ≡ Some t
 type_complete names typed = found typed
-
-pub item_type_complete : (names : Names) (q : Query Expr) (t : Ty) → HasRuleItemType names q t → item_type type_of q names ≡ Some t
-item_type_complete names q t typed = found typed
 
 -- ---- what is found is what the rules give
 
@@ -492,91 +453,10 @@ sound_layer x (Expr-F.Query q) h = subst (λ d. IsSound (roll-Expr d)) h (no_typ
 pub type_sound : (e : Expr) (names : Names) (t : Ty) → type_of e names ≡ Some t → HasRuleType names e t
 type_sound e = ind-Expr IsSound sound_layer e
 
--- ---- queries
-
-where_sound : (outer before behind : Names) (c : Expr) (b : Bool) → is_bool_type (type_of c before) ≡ b → (if b then Some before else None) ≡ Some behind
-    → IsTyped (Leads outer (clause.Where c) before behind)
-where_sound outer before behind c true is h =
-    subst (λ (names : Names). IsTyped (Leads outer (clause.Where c) before names)) (same_Some before behind h)
-    (by_where outer before (clause.Where c) c refl (condition_of c (type_sound c) before is))
-where_sound outer before behind c false is h = absurd (none-some behind h)
-
-clause_sound : (outer before behind : Names) (c : Clause Expr) → names_behind type_of outer c before ≡ Some behind → IsTyped (Leads outer c before behind)
-clause_sound outer before behind (clause.Where c) h = where_sound outer before behind c (is_bool_type (type_of c before)) refl h
-clause_sound outer before behind clause h = absurd (none-some behind h)
-
-clauses_sound_by : (outer before behind : Names) (c : Clause Expr) (cs : List (Clause Expr))
-    → ((between : Names) → names_behind_all type_of outer cs between ≡ Some behind → IsTyped (LeadAll outer cs between behind))
-    → (o : Option Names) → names_behind type_of outer c before ≡ o → option_and_then (names_behind_all type_of outer cs) o ≡ Some behind
-    → IsTyped (LeadAll outer (c ∷ cs) before behind)
-clauses_sound_by outer before behind c cs others None is h = absurd (none-some behind h)
-clauses_sound_by outer before behind c cs others (Some between) is h =
-    by_first outer before between behind c cs (clause_sound outer before between c is) (others between h)
-
-clauses_sound : (outer before behind : Names) (cs : List (Clause Expr)) → names_behind_all type_of outer cs before ≡ Some behind → IsTyped (LeadAll outer cs before behind)
-clauses_sound outer before behind [] h = subst (λ (names : Names). IsTyped (LeadAll outer [] before names)) (same_Some before behind h) (by_none outer before)
-clauses_sound outer before behind (c ∷ cs) h =
-    clauses_sound_by outer before behind c cs (λ between. clauses_sound outer between behind cs) (names_behind type_of outer c before) refl h
-
-scalar_sound : (names : Names) (v : Expr) (s t : Ty) → type_of v names ≡ Some s → (b : Bool) → is_scalar (out-Ty s) ≡ b → (if b then Some s else None) ≡ Some t
-    → IsTyped (Selects names (last.Select v) t)
-scalar_sound names v s t is true scalar h =
-    let same : s ≡ t = same_Some s t h in
-    by_select names (last.Select v) v t refl (type_sound v names t (is ∙ h)) (subst (λ (u : Ty). is_scalar (out-Ty u) ≡ true) same scalar)
-scalar_sound names v s t is false scalar h = absurd (none-some t h)
-
-value_sound : (names : Names) (v : Expr) (t : Ty) (o : Option Ty) → type_of v names ≡ o → if_scalar o ≡ Some t → IsTyped (Selects names (last.Select v) t)
-value_sound names v t None is h = absurd (none-some t h)
-value_sound names v t (Some s) is h = scalar_sound names v s t is (is_scalar (out-Ty s)) refl h
-
-selected_sound : (names : Names) (l : Last Expr) (t : Ty) → selected_type type_of l names ≡ Some t → IsTyped (Selects names l t)
-selected_sound names (last.Select v) t h = value_sound names v t (type_of v names) refl h
-selected_sound names (last.Group v key) t h = absurd (none-some t h)
-
-empty : (rest : List (Continuation Expr)) → (length rest == 0) ≡ true → rest ≡ []
-empty [] h = refl
-empty (c ∷ rest) h = absurd (let none : suc (length rest) ≡ 0 = eqb-true _ 0 h in omega (arith, none))
-
-module _ (names : Names) (q : Query Expr) (t : Ty) (fresh : local_type q.name names.locals ≡ None) where
-  clauses_and_last : (item : Ty) → HasRuleType names q.source (ty.Seq item) → q.rest ≡ [] → (o : Option Names)
-      → names_behind_all type_of names q.body.clauses (with_local names q.name item) ≡ o → option_and_then (selected_type type_of q.body.last) o ≡ Some t → HasRuleItemType names q t
-  clauses_and_last item source ended None is h = absurd (none-some t h)
-  clauses_and_last item source ended (Some behind) is h =
-      by_query names behind q item t source fresh (clauses_sound names (with_local names q.name item) behind q.body.clauses is) (selected_sound behind q.body.last t h) ended
-
-  body_sound : (item : Ty) → HasRuleType names q.source (ty.Seq item) → (b : Bool) → (length q.rest == 0) ≡ b
-      → (if b then body_type type_of names q.body (with_local names q.name item) else None) ≡ Some t → HasRuleItemType names q t
-  body_sound item source true ended h =
-      clauses_and_last item source (empty q.rest ended) (names_behind_all type_of names q.body.clauses (with_local names q.name item)) refl h
-  body_sound item source false ended h = absurd (none-some t h)
-
-  items_sound : (s : Ty) → HasRuleType names q.source s → (o : Option Ty) → item_of (out-Ty s) ≡ o → items_over type_of names q o ≡ Some t → HasRuleItemType names q t
-  items_sound s source None is h = absurd (none-some t h)
-  items_sound s source (Some item) is h = body_sound item (subst (HasRuleType names q.source) (is_sequence s item is) source) (length q.rest == 0) refl h
-
-  source_sound : (o : Option Ty) → type_of q.source names ≡ o → items_over type_of names q (option_and_then (λ s. item_of (out-Ty s)) o) ≡ Some t → HasRuleItemType names q t
-  source_sound None is h = absurd (none-some t h)
-  source_sound (Some s) is h = items_sound s (type_sound q.source names s is) (item_of (out-Ty s)) refl h
-
-fresh_sound : (names : Names) (q : Query Expr) (t : Ty) (o : Option Ty) → local_type q.name names.locals ≡ o
-    → when_fresh o (items_over type_of names q (option_and_then (λ s. item_of (out-Ty s)) (type_of q.source names))) ≡ Some t → HasRuleItemType names q t
-fresh_sound names q t None is h = source_sound names q t is (type_of q.source names) refl h
-fresh_sound names q t (Some s) is h = absurd (none-some t h)
-
-pub item_type_sound : (names : Names) (q : Query Expr) (t : Ty) → item_type type_of q names ≡ Some t → HasRuleItemType names q t
-unfolding item_type
-item_type_sound names q t h = fresh_sound names q t (local_type q.name names.locals) refl h
-
 -- ---- the laws
 
 pub one_expression_type : HasOneRuleType
 one_expression_type names e s t left right = same_Some s t (sym (type_complete names left) ∙ type_complete names right)
 
-pub one_item_type : HasOneRuleItemType
-one_item_type names q s t left right = same_Some s t (sym (item_type_complete names q s left) ∙ item_type_complete names q t right)
-
 pub type_found : FindsRuleTypes
 type_found names e t = (type_sound e names t, type_complete names)
-
-pub item_type_found : FindsRuleItemTypes
-item_type_found names q t = (item_type_sound names q t, item_type_complete names q t)

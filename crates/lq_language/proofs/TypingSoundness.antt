@@ -6,7 +6,7 @@ use Rattle.std.proofs.lemmas.Slice.Eq.{bytes_eq-Decides}
 use Rattle.lq_value.specs.declared.ty.Ty.{Ty, out-Ty}
 use Rattle.lq_value.specs.declared.ty.Ty.TheOpen.{Ty-F}
 use Rattle.lq_value.specs.declared.ty.Ty.TheVariants as ty
-use Rattle.lq_language.specs.ClauseTyping.{are_join_keys, body_items, continued_items, element_type, expression_step, expression_type, has_place, if_placed, is_fresh, is_key, is_sort_key, is_within, last_type, are_sort_keys, matched_name, matched_type, names_after, names_after_all, query_items, sole_name, source_type, when}
+use Rattle.lq_language.specs.ClauseTyping.{are_join_keys, body_items, continued_items, element_type, expression_type, has_place, if_placed, is_fresh, is_key, is_sort_key, is_within, last_type, are_sort_keys, matched_name, matched_type, names_after, names_after_all, query_items, sole_name, source_type, when}
 use Rattle.lq_language.specs.EnumerableCalls.{EnumerableCall, Given, Through, By, Plain, With, enumerable_call, method_with_lambda, method_with_value, simple_method}
 use Rattle.lq_language.specs.EnumerableCalls as called
 use Rattle.lq_language.specs.Maps.{map_argument, map_body, map_clause, map_field, map_join, map_key, map_last, map_next, map_node, map_query}
@@ -15,7 +15,7 @@ use Rattle.lq_language.specs.Names.{Names, local_type, table_number, with_local,
 use Rattle.lq_language.specs.OperandTypes.{are_comparable, are_joined, coalesced, if_number, is_bool_type, is_equality, is_number, is_ordering, is_text_type, joined_type, number_type, of_operands, result_type, truth_type}
 use Rattle.lq_language.specs.TypingRules.{Has, Gives, Members, Sorts, Leads, LeadAll, Ends, BodyGives, Continues, QueryGives, IsRight}
 use Rattle.lq_language.specs.TypingRules as rule
-use Rattle.lq_language.specs.Typing.{are_distinct, are_null_tests, called_type, enumerable_type, given_type, members_type, search_type, through_type, whole_chosen, whole_choice_type, whole_member_type, whole_operated_type, whole_type, global_type, whole_name_type}
+use Rattle.lq_language.specs.Typing.{are_distinct, are_null_tests, called_type, enumerable_type, given_type, members_type, search_type, through_type, type_of_choice, type_of_conditional, type_of_member, type_of_operation, node_type, global_type, type_of_name}
 use Rattle.lq_grammar.specs.declared.syntax.Argument.{Argument}
 use Rattle.lq_grammar.specs.declared.syntax.Argument.TheVariants as argument
 use Rattle.lq_grammar.specs.declared.syntax.Binary.{Binary}
@@ -35,23 +35,11 @@ use Rattle.lq_grammar.specs.declared.syntax.Node.TheVariants as node
 use Rattle.lq_grammar.specs.declared.syntax.Query.{Query}
 use Rattle.lq_grammar.specs.declared.syntax.SortKey.{SortKey}
 use Rattle.lq_grammar.specs.declared.syntax.Unary.TheVariants as unary
+use Rattle.lq_language.proofs.ExpressionTypeLaws.{type_of_node, type_of_query}
 use Rattle.lq_language.proofs.FindingLaws.{fresh_none, if_by, map_by, operands_by, truth_by, when_by}
-use Rattle.lq_language.proofs.Layers.{With as Beside, base, fold_node, fold_query, of_every}
+use Rattle.lq_language.proofs.LayerLaws.{With as Beside, base, of_every}
 use Rattle.lq_language.proofs.MemberLaws.{search_given}
-use Rattle.lq_language.proofs.QueryPulls.{query_typed}
 use Rattle.lq_language.proofs.TypingLaws.{compares_not, is_of_layer, is_text_of, is_truth, type_with}
-
--- ---- layers
-
-pub type_of_node : (n : Node Expr) (names : Names) → expression_type (expr.Node n) names ≡ whole_type (map_node expression_type n) names
-unfolding expression_type
-type_of_node n names = ap (λ (t : Names → Option Ty). t names) (fold_node (Names → Option Ty) expression_step n)
-
-pub type_of_query : (q : Query Expr) (names : Names) → expression_type (expr.Query q) names ≡ option_map ty.Seq (query_items expression_type q names)
-unfolding expression_type
-type_of_query q names =
-    ap (λ (t : Names → Option Ty). t names) (fold_query (Names → Option Ty) expression_step q)
-    ∙ ap (λ (o : Option Ty). option_map ty.Seq o) (query_typed expression_type (λ t. t) q names)
 
 abbrev Sound : Expr → Type 0
 Sound e = (names : Names) (t : Ty) → expression_type e names ≡ Some t → IsRight (Has names e t)
@@ -108,7 +96,7 @@ module _ (names : Names) (t : Ty) where
       map_by (λ known. known.ty) (session_name x names.session) t h
       (λ known there same. same_type _ known.ty same (rule.of_session names _ x known refl hidden is there))
 
-  name_sound : (x : List ℕ) (o : Option Ty) → local_type x names.locals ≡ o → whole_name_type names x o ≡ Some t → HasIt (expr.Node (node.Name x))
+  name_sound : (x : List ℕ) (o : Option Ty) → local_type x names.locals ≡ o → type_of_name names x o ≡ Some t → HasIt (expr.Node (node.Name x))
   name_sound x (Some s) is h = rule.of_local names _ x t refl (is ∙ h)
   name_sound x None is h = global_sound x is (table_number x names.tables) refl h
 
@@ -126,7 +114,7 @@ module _ (names : Names) (t : Ty) where
   int_sound a m typed false same h = value_sound a m typed h
 
   -- by the layer of what it is a member of
-  member_sound : (a : Expr) (m : List ℕ) (layer : Ty-F Ty) → Right a (type_with layer) → whole_member_type names m layer ≡ Some t → HasIt (expr.Node (node.Member a m))
+  member_sound : (a : Expr) (m : List ℕ) (layer : Ty-F Ty) → Right a (type_with layer) → type_of_member names m layer ≡ Some t → HasIt (expr.Node (node.Member a m))
   member_sound a m (Ty-F.Row n) typed h = rule.of_column names _ a m n t refl typed h
   member_sound a m (Ty-F.Rec members) typed h = rule.of_member names _ a m members t refl typed h
   member_sound a m (Ty-F.Group k s) typed h =
@@ -177,10 +165,10 @@ module _ (names : Names) (t : Ty) where
       if_by (are_joined (out-Ty r) (out-Ty s)) ty.Str t h (λ joins found. same_type _ ty.Str found (rule.of_joined names _ a b r s refl a_typed b_typed joins))
   joined_sound op a b r s a_typed b_typed h = absurd (none-some t h)
 
-  binary_sound : (op : Binary) (a b : Such) → of_operands (whole_operated_type op) (expression_type a.0 names) (expression_type b.0 names) ≡ Some t
+  binary_sound : (op : Binary) (a b : Such) → of_operands (type_of_operation op) (expression_type a.0 names) (expression_type b.0 names) ≡ Some t
       → HasIt (expr.Node (node.Binary op a.0 b.0))
   binary_sound op a b h =
-      operands_by (whole_operated_type op) (expression_type a.0 names) (expression_type b.0 names) t h
+      operands_by (type_of_operation op) (expression_type a.0 names) (expression_type b.0 names) t h
       (λ r s a_is b_is found. operated_sound op a.0 b.0 r s (a.1 names r a_is) (b.1 names s b_is) (is_equality op) refl found
       (λ joined. joined_sound op a.0 b.0 r s (a.1 names r a_is) (b.1 names s b_is) joined))
 
@@ -190,9 +178,9 @@ module _ (names : Names) (t : Ty) where
       if_by (is_number (out-Ty s)) s t h (λ number same. same_type _ s same (rule.of_minus names _ z.0 s refl (z.1 names s is) number))
 
   choice_sound : (c a b : Such) (x : Bool) → is_bool_type (expression_type c.0 names) ≡ x
-      → whole_choice_type x (expression_type a.0 names) (expression_type b.0 names) ≡ Some t → HasIt (expr.Node (node.Conditional c.0 a.0 b.0))
+      → type_of_conditional x (expression_type a.0 names) (expression_type b.0 names) ≡ Some t → HasIt (expr.Node (node.Conditional c.0 a.0 b.0))
   choice_sound c a b true x_is h =
-      operands_by whole_chosen (expression_type a.0 names) (expression_type b.0 names) t h
+      operands_by type_of_choice (expression_type a.0 names) (expression_type b.0 names) t h
       (λ r s a_is b_is found. rule.of_choice names _ c.0 a.0 b.0 r s t refl (condition_sound names c x_is) (a.1 names r a_is) (b.1 names s b_is) found)
   choice_sound c a b false x_is h = absurd (none-some t h)
 
@@ -322,7 +310,7 @@ members_sound names (field ∷ fields) members h =
     (rule.one_member names (map_field plain field) (map (map_field plain) fields) t ms (field.value.1 names t typed) placed (members_sound names fields ms others)))))
 
 record_sound : (names : Names) (t : Ty) (fields : List (Field Such))
-    → whole_type (map_node expression_type (map_node plain (node.New fields))) names ≡ Some t → IsRight (Has names (expr.Node (map_node plain (node.New fields))) t)
+    → node_type (map_node expression_type (map_node plain (node.New fields))) names ≡ Some t → IsRight (Has names (expr.Node (map_node plain (node.New fields))) t)
 record_sound names t fields h =
     when_by _ _ t h (λ distinct found. option_and_then_some _ _ t found
     (λ r made limited. when_by (is_within r) (Some r) t limited
@@ -331,7 +319,7 @@ record_sound names t fields h =
     (rule.of_record names _ _ members refl (ap are_distinct (sym (names_same fields)) ∙ distinct) (members_sound names fields members typed)
     (ap is_within is ∙ within))))))
 
-node_sound : (n : Node Such) (names : Names) (t : Ty) → whole_type (map_node expression_type (map_node plain n)) names ≡ Some t
+node_sound : (n : Node Such) (names : Names) (t : Ty) → node_type (map_node expression_type (map_node plain n)) names ≡ Some t
     → IsRight (Has names (expr.Node (map_node plain n)) t)
 node_sound (node.Integer n) names t h = same_type names t (expr.Node (node.Integer n)) ty.Int (same_Some ty.Int t h) (rule.of_integer names _ n refl)
 node_sound (node.Text x) names t h = same_type names t (expr.Node (node.Text x)) ty.Str (same_Some ty.Str t h) (rule.of_text names _ x refl)
@@ -339,7 +327,7 @@ node_sound (node.Bool b) names t h = same_type names t (expr.Node (node.Bool b))
 node_sound node.Null names t h = same_type names t (expr.Node node.Null) ty.Null (same_Some ty.Null t h) (rule.of_null names _ refl)
 node_sound (node.Name x) names t h = name_sound names t x (local_type x names.locals) refl h
 node_sound (node.Member a m) names t h =
-    option_and_then_some (λ s. whole_member_type names m (out-Ty s)) (expression_type a.0 names) t h
+    option_and_then_some (λ s. type_of_member names m (out-Ty s)) (expression_type a.0 names) t h
     (λ s is found. member_sound names t a.0 m (out-Ty s) (subst (λ (u : Ty). IsRight (Has names a.0 u)) (is_of_layer s) (a.1 names s is)) found)
 node_sound (node.Unary unary.Minus a) names t h = minus_sound names t a (expression_type a.0 names) refl h
 node_sound (node.Unary unary.Not a) names t h =
@@ -483,13 +471,13 @@ sound_at_query q names t h =
     (λ r found same. subst (λ (s : Ty). IsRight (Has names (expr.Query (map_query plain q)) s)) same (rule.of_query names _ _ r refl (query_sound names r q found)))
 
 -- a type that is found is one that the rules give
-pub whole_sound : (e : Expr) → Sound e
-whole_sound = of_every Sound sound_at_node sound_at_query
+pub expression_sound : (e : Expr) → Sound e
+expression_sound = of_every Sound sound_at_node sound_at_query
 
 -- ---- a query, with what holds of the expressions in it
 
 abbrev proved : Expr → Such
-proved e = (e, whole_sound e)
+proved e = (e, expression_sound e)
 
 keys_themselves : (ks : List (SortKey Expr)) → map (map_key plain) (map (map_key proved) ks) ≡ ks
 keys_themselves [] = refl

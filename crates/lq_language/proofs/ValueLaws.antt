@@ -21,7 +21,7 @@ use Rattle.lq_language.specs.OperandMeaning.{as_value, truth_value}
 use Rattle.lq_language.specs.ValuesOfTypes.{Every, HasCells, IsScalarOf}
 use Rattle.lq_language.specs.Operations.{is_int as holds_int}
 use Rattle.lq_language.specs.Stream.{Stream, whole}
-use Rattle.lq_language.specs.OperandTypes.{is_number}
+use Rattle.lq_language.specs.OperandTypes.{are_joined, is_number, is_scalar}
 use Rattle.lq_language.specs.Meaning.{as_sequence, as_truth, default_layer, default_of, member_in, no_number}
 use Rattle.lq_language.specs.MeaningLaws.{AreMembers, Fits, IsA, IsValueOf, ValueClaim, by_group, by_null_record, by_record, by_row, by_scalar, by_sequence, no_member, one_member}
 use Rattle.lq_language.specs.Typing.{has_default, is_int, member_of}
@@ -42,6 +42,19 @@ pub number_plain : (layer : Ty-F Ty) → is_number layer ≡ true → is_plain l
 number_plain Ty-F.Int h = refl
 number_plain Ty-F.IntN h = refl
 number_plain layer h = absurd (true≢false (sym h))
+
+pub scalar_plain : (layer : Ty-F Ty) → is_scalar layer ≡ true → is_plain layer ≡ true
+scalar_plain Ty-F.Int h = refl
+scalar_plain Ty-F.IntN h = refl
+scalar_plain Ty-F.Bool h = refl
+scalar_plain Ty-F.Str h = refl
+scalar_plain layer h = absurd (true≢false (sym h))
+
+pub joined_plain : (k l : Ty-F Ty) → are_joined k l ≡ true → (is_plain k ≡ true) × (is_plain l ≡ true)
+joined_plain Ty-F.Str Ty-F.Str h = (refl, refl)
+joined_plain Ty-F.Str Ty-F.Null h = (refl, refl)
+joined_plain Ty-F.Null Ty-F.Str h = (refl, refl)
+joined_plain k l h = absurd (true≢false (sym h))
 
 module _ {R : Type 0} (world : World R) where
   abbrev pub Is : Ty → Value R → Type 0

@@ -16,17 +16,14 @@ use Rattle.lq_language.specs.Names.{Names, column_named, column_type, local_type
 use Rattle.lq_language.specs.OperandTypes.{chosen, coalesced, is_number, number_type}
 use Rattle.lq_language.specs.TypingRules.{TypeClaim, Has, Gives, Members, Sorts, Leads, LeadAll, Ends, BodyGives, Continues, QueryGives, IsRight}
 use Rattle.lq_language.specs.TypingRules as rule
-use Rattle.lq_language.specs.Typing.{member_of, whole_chosen}
+use Rattle.lq_language.specs.Typing.{member_of, type_of_choice}
 use Rattle.lq_language.specs.TypingLaws.{AreWithin, LimitsItems, LimitsTypes}
 use Rattle.lq_language.proofs.FindingLaws.{map_by, when_by}
 use Rattle.lq_language.proofs.TypingLaws.{is_of_layer, type_with}
-use Rattle.lq_language.proofs.TypingSoundness.{items_sound, whole_sound}
-use Rattle.lq_language.proofs.KeptTypeLaws.{parts_out}
+use Rattle.lq_language.proofs.TypingSoundness.{items_sound, expression_sound}
+use Rattle.lq_language.proofs.TypePartLaws.{parts_at, parts_out}
 
 -- ---- parts
-
-parts_at : (t : Ty) (layer : Ty-F Ty) → out-Ty t ≡ layer → parts_of t ≡ parts_step (map-Ty Ty ℕ parts_of layer)
-parts_at t layer is = parts_out t ∙ ap (λ (l : Ty-F Ty). parts_step (map-Ty Ty ℕ parts_of l)) is
 
 within_from : (s t : Ty) → parts_of t ≤ parts_of s → is_within s ≡ true → is_within t ≡ true
 within_from s t less within = le-leb (parts_of t) 4096 (let most : parts_of s ≤ 4096 = leb-true (parts_of s) 4096 within in omega (arith, less, most))
@@ -91,7 +88,7 @@ chosen_within Ty-F.Null (Ty-F.Row n) r h = same_within (ty.Row n) r h (at_layer 
 chosen_within k l r h = absurd (none-some r h)
 
 -- what a choice gives is one of its parts' types, or of one part
-choice_by : (s t r : Ty) (k l : Ty-F Ty) → out-Ty s ≡ k → out-Ty t ≡ l → whole_chosen k l ≡ Some r → is_within s ≡ true → is_within t ≡ true → is_within r ≡ true
+choice_by : (s t r : Ty) (k l : Ty-F Ty) → out-Ty s ≡ k → out-Ty t ≡ l → type_of_choice k l ≡ Some r → is_within s ≡ true → is_within t ≡ true → is_within r ≡ true
 choice_by s t r (Ty-F.Rec ms) (Ty-F.Rec ns) s_is t_is h first second =
     when_by (same_types (ty.Rec ms) (ty.Rec ns)) (Some (ty.Rec ms)) r h
     (λ same is. same_within (ty.Rec ms) r is (subst (λ (u : Ty). is_within u ≡ true) (is_of_layer s ∙ ap type_with s_is) first))
@@ -229,7 +226,7 @@ limited (rule.by_into outer next rest t u r fresh body others) = λ within. limi
 limited (rule.by_query outer q t u r source fresh body rest) = λ all. limited rest (limited body)
 
 pub limits_types : LimitsTypes
-limits_types names all e t typed = limited (whole_sound e names t typed) all
+limits_types names all e t typed = limited (expression_sound e names t typed) all
 
 pub limits_items : LimitsItems
 limits_items names all q t typed = limited (items_sound names q t typed) all

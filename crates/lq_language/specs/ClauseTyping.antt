@@ -1,11 +1,11 @@
 -- «Typing» of clauses: which types the parts of a query have, whatever their expressions are (ECMA-334, query expressions and scopes).
--- `typed` tells the type that an expression has under names. The queries that `RuleTyping` types have these types.
+-- `typed` tells the type that an expression has under names.
 use Rattle.std.specs.Prelude.{◌∷◌, ◌&&◌, List, [], ℕ, Bool, true, Option, Some, None, option_and_then, option_map}
 use Rattle.lq_value.specs.declared.ty.Ty.{Ty, out-Ty}
 use Rattle.lq_value.specs.declared.ty.Ty.TheVariants as ty
 use Rattle.lq_language.specs.Names.{Names, with_local}
 use Rattle.lq_language.specs.OperandTypes.{is_bool_type}
-use Rattle.lq_language.specs.Typing.{whole_type}
+use Rattle.lq_language.specs.Typing.{node_type}
 unfoldable pub use Rattle.lq_language.specs.Types.{are_join_keys, element_type, fresh_type, has_place, if_key, if_placed, is_fresh, is_key, is_sort_key, is_within, parts_of, parts_step, same_types, when}
 use Rattle.lq_grammar.specs.declared.syntax.Body.{Body}
 use Rattle.lq_grammar.specs.declared.syntax.Clause.{Clause}
@@ -104,7 +104,7 @@ module _ {X : Type 0} (typed : X → Names → Option Ty) where
 
 -- the layers of an expression: a query is a sequence of its items
 abbrev pub expression_step : Expr-F (Names → Option Ty) → Names → Option Ty
-expression_step (Expr-F.Node n) names = whole_type n names
+expression_step (Expr-F.Node n) names = node_type n names
 expression_step (Expr-F.Query q) names = option_map ty.Seq (query_items (λ x. x) q names)
 
 -- the type of an expression

@@ -20,6 +20,7 @@ pub mod OperationLaws
 pub mod Operations
 pub mod Operators
 pub mod RuleMeaning
+pub mod RuleMeaningLaws
 pub mod RuleTyping
 pub mod RuleTypingLaws
 pub mod Stream

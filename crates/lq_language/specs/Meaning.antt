@@ -20,13 +20,13 @@ use Rattle.lq_language.specs.EnumerableCalls as of
 use Rattle.lq_language.specs.Worlds.{Binding, Meaning, Scope, SessionValue, World, binding_of, bound, names_at, or_null}
 use Rattle.lq_language.specs.OperandMeaning.{as_value, member_value, on_scalar, same_values, sequence, stream_of, table_value, told, truth_value}
 use Rattle.lq_language.specs.ClauseMeaning.{condition_at, item_type_at, query_meaning}
-use Rattle.lq_language.specs.RuleMeaning.{Meant, node_meaning}
+use Rattle.lq_language.specs.RuleMeaning.{Meant, rule_node_meaning}
 use Rattle.lq_language.specs.Members.{search_named, sole_argument}
 use Rattle.lq_language.specs.Operations.{of_search, on_ok}
 use Rattle.lq_language.specs.Stream.{Stream, select_by, where_by}
 use Rattle.lq_language.specs.Names.{Names, table_number, with_local}
 use Rattle.lq_language.specs.OperandTypes.{is_equality, is_text_type}
-use Rattle.lq_language.specs.Typing.{is_int, method_type, whole_member_type}
+use Rattle.lq_language.specs.Typing.{is_int, method_type, type_of_member}
 use Rattle.lq_grammar.specs.declared.syntax.Argument.{Argument}
 use Rattle.lq_grammar.specs.declared.syntax.Binary.{Binary}
 use Rattle.lq_grammar.specs.declared.syntax.Expr.{Expr, para-Expr}
@@ -156,27 +156,27 @@ module _ {R : Type 0} (world : World R) where
   global_value x None = session_value x world.session
 
   -- a local name's value, else what its name stands for outside
-  abbrev pub whole_name_value : List ℕ → Option (Binding R) → Result (Value R) Fault
-  whole_name_value x (Some b) = Ok b.value
-  whole_name_value x None = global_value x (table_number x world.schemas)
+  abbrev pub value_of_name : List ℕ → Option (Binding R) → Result (Value R) Fault
+  value_of_name x (Some b) = Ok b.value
+  value_of_name x None = global_value x (table_number x world.schemas)
 
   -- a member of a record, the key of a group, or what a row or a scalar of this type has; a null record or row has none
-  abbrev pub whole_member_value : Option Ty → List ℕ → Value-F R (Value R) → Result (Value R) Fault
-  whole_member_value t m (Value-F.Rec members) = member_found (member_in m members)
-  whole_member_value t m (Value-F.Group key xs) = Ok key
-  whole_member_value t m (Value-F.Scalar scalar.Null) = if has_members_type t then Err fault.NullReference else member_value world t m (Value-F.Scalar scalar.Null)
-  whole_member_value t m layer = member_value world t m layer
+  abbrev pub value_of_member : Option Ty → List ℕ → Value-F R (Value R) → Result (Value R) Fault
+  value_of_member t m (Value-F.Rec members) = member_found (member_in m members)
+  value_of_member t m (Value-F.Group key xs) = Ok key
+  value_of_member t m (Value-F.Scalar scalar.Null) = if has_members_type t then Err fault.NullReference else member_value world t m (Value-F.Scalar scalar.Null)
+  value_of_member t m layer = member_value world t m layer
 
   -- whether two operands are the same: a row, record or group is not null
-  abbrev pub whole_same : Value-F R (Value R) → Value-F R (Value R) → Result Bool Fault
-  whole_same (Value-F.Rec ms) (Value-F.Scalar scalar.Null) = Ok false
-  whole_same (Value-F.Group key xs) (Value-F.Scalar scalar.Null) = Ok false
-  whole_same (Value-F.Scalar scalar.Null) (Value-F.Rec ms) = Ok false
-  whole_same (Value-F.Scalar scalar.Null) (Value-F.Group key xs) = Ok false
-  whole_same v w = same_values world v w
+  abbrev pub same_operands : Value-F R (Value R) → Value-F R (Value R) → Result Bool Fault
+  same_operands (Value-F.Rec ms) (Value-F.Scalar scalar.Null) = Ok false
+  same_operands (Value-F.Group key xs) (Value-F.Scalar scalar.Null) = Ok false
+  same_operands (Value-F.Scalar scalar.Null) (Value-F.Rec ms) = Ok false
+  same_operands (Value-F.Scalar scalar.Null) (Value-F.Group key xs) = Ok false
+  same_operands v w = same_values world v w
 
-  abbrev pub whole_compared : Binary → Result (Value R) Fault → Result (Value R) Fault → Result (Value R) Fault
-  whole_compared sign a b = on_ok a (λ v. on_ok b (λ w. on_ok (whole_same (out-Value R v) (out-Value R w)) (λ same. Ok (truth_value (told sign same)))))
+  abbrev pub equality_meaning : Binary → Result (Value R) Fault → Result (Value R) Fault → Result (Value R) Fault
+  equality_meaning sign a b = on_ok a (λ v. on_ok b (λ w. on_ok (same_operands (out-Value R v) (out-Value R w)) (λ same. Ok (truth_value (told sign same)))))
 
   -- An expression of a sequence's type doesn't fault: a fault met in making it is the ending of its stream, before any item.
   abbrev pub settled : Option Ty → Result (Value R) Fault → Result (Value R) Fault
@@ -226,25 +226,25 @@ module _ {R E : Type 0} (world : World R) (type_of : E → Names → Option Ty) 
 
   -- the type of a member, and of a method
   abbrev pub member_type_at : E × Meaning R → List ℕ → Scope R → Option Ty
-  member_type_at a m scope = option_and_then (λ t. whole_member_type (names_at world scope) m (out-Ty t)) (typed a (names_at world scope))
+  member_type_at a m scope = option_and_then (λ t. type_of_member (names_at world scope) m (out-Ty t)) (typed a (names_at world scope))
 
   abbrev pub method_type_at : E × Meaning R → List ℕ → List (Argument (E × Meaning R)) → Scope R → Option Ty
   method_type_at a m arguments scope = method_type typed a m arguments (names_at world scope)
 
   -- the meaning of a form, over the meanings of what it holds; a form without a clause of its own here means what `RuleMeaning` says
-  abbrev pub whole_meaning : Node (E × Meaning R) → Meaning R
-  whole_meaning (node.Name x) scope = whole_name_value world x (binding_of x scope)
-  whole_meaning (node.Member a m) scope =
-      settled world (member_type_at a m scope) (on_ok (meant a scope) (λ v. whole_member_value world (typed a (names_at world scope)) m (out-Value R v)))
-  whole_meaning (node.Method a m arguments) scope = settled world (method_type_at a m arguments scope) (method_meaning a m arguments scope)
-  whole_meaning (node.New fields) scope = on_ok (members_meaning fields scope) (λ members. Ok (value.Rec members))
-  whole_meaning (node.Binary op a b) scope =
-      if is_equality op then whole_compared world op (meant a scope) (meant b scope) else node_meaning world type_of (node.Binary op a b) scope
-  whole_meaning n scope = node_meaning world type_of n scope
+  abbrev pub node_meaning : Node (E × Meaning R) → Meaning R
+  node_meaning (node.Name x) scope = value_of_name world x (binding_of x scope)
+  node_meaning (node.Member a m) scope =
+      settled world (member_type_at a m scope) (on_ok (meant a scope) (λ v. value_of_member world (typed a (names_at world scope)) m (out-Value R v)))
+  node_meaning (node.Method a m arguments) scope = settled world (method_type_at a m arguments scope) (method_meaning a m arguments scope)
+  node_meaning (node.New fields) scope = on_ok (members_meaning fields scope) (λ members. Ok (value.Rec members))
+  node_meaning (node.Binary op a b) scope =
+      if is_equality op then equality_meaning world op (meant a scope) (meant b scope) else rule_node_meaning world type_of (node.Binary op a b) scope
+  node_meaning n scope = rule_node_meaning world type_of n scope
 
 module _ {R : Type 0} (world : World R) where
   abbrev pub expression_meaning_step : Expr-F (Meant R) → Meaning R
-  expression_meaning_step (Expr-F.Node n) scope = whole_meaning world expression_type n scope
+  expression_meaning_step (Expr-F.Node n) scope = node_meaning world expression_type n scope
   expression_meaning_step (Expr-F.Query q) scope = Ok (sequence (query_meaning world (λ x. expression_type x.0) (λ x. x.1) q scope))
 
   -- the value of an expression, or its first fault

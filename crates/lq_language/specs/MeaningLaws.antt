@@ -13,10 +13,10 @@ use Rattle.lq_value.specs.declared.value.Value.TheVariants as value
 use Rattle.lq_language.specs.ClauseTyping.{expression_type, query_items}
 use Rattle.lq_language.specs.Worlds.{Scope, World, names_at}
 use Rattle.lq_language.specs.OperandMeaning.{sequence}
-use Rattle.lq_language.specs.RuleMeaning.{meaning, stream_meaning}
+use Rattle.lq_language.specs.RuleMeaning.{meaning}
 use Rattle.lq_language.specs.ValuesOfTypes.{Every, HasCells, HoldsRows, IsOfScope, IsScalarOf, assuming}
 use Rattle.lq_language.specs.Stream.{Stream}
-use Rattle.lq_language.specs.RuleTyping.{HasRuleItemType, HasRuleType}
+use Rattle.lq_language.specs.RuleTyping.{HasRuleType}
 use Rattle.lq_language.specs.Meaning.{expression_meaning, items_meaning}
 use Rattle.lq_grammar.specs.declared.syntax.Expr.{Expr}
 use Rattle.lq_grammar.specs.declared.syntax.Query.{Query}
@@ -85,9 +85,3 @@ abbrev pub KeepsRuleMeanings : Type 0 → Type 0
 KeepsRuleMeanings R =
     (world : World R) → HoldsRows world → (scope : Scope R) → IsOfScope world scope → (e : Expr) (t : Ty) → HasRuleType (names_at world scope) e t → (unknown : Fault)
     → expression_meaning (assuming unknown world) e scope ≡ meaning (assuming unknown world) e scope
-
--- and so does a query
-abbrev pub KeepsRuleStreams : Type 0 → Type 0
-KeepsRuleStreams R =
-    (world : World R) → HoldsRows world → (scope : Scope R) → IsOfScope world scope → (q : Query Expr) (t : Ty) → HasRuleItemType (names_at world scope) q t → (unknown : Fault)
-    → items_meaning (assuming unknown world) q scope ≡ stream_meaning (assuming unknown world) q scope

@@ -1,5 +1,5 @@
 -- What the names of a place stand for: tables and their columns, the names of the session, and local names with their types.
-use Rattle.std.specs.Prelude.{◌∷◌, if◌then◌else◌, List, [], ℕ, Bool, Option, Some, None, slice_get, option_and_then, option_map}
+use Rattle.std.specs.Prelude.{◌∷◌, if◌then◌else◌, List, [], ℕ, Option, Some, None, slice_get, option_and_then, option_map}
 use Rattle.std.specs.Str.{bytes_eq}
 use Rattle.lq_value.specs.Tables.{first_named}
 use Rattle.lq_value.specs.declared.table.Column.{Column}

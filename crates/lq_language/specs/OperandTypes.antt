@@ -1,5 +1,5 @@
 -- Types of operands, and the types of what operators and members of scalars give (ECMA-334, expressions).
-use Rattle.std.specs.Prelude.{◌==◌, ◌&&◌, if◌then◌else◌, List, [], ℕ, Bool, true, false, Option, Some, None, codes}
+use Rattle.std.specs.Prelude.{◌==◌, ◌&&◌, if◌then◌else◌, List, ℕ, Bool, true, false, Option, Some, None, codes}
 use Rattle.std.specs.Str.{bytes_eq}
 use Rattle.lq_value.specs.declared.ty.Ty.{Ty, out-Ty}
 use Rattle.lq_value.specs.declared.ty.Ty.TheOpen.{Ty-F}

@@ -2,32 +2,19 @@
 -- is the type in the language.
 use Rattle.std.specs.Prelude.{◌≡◌, ◌↔◌, Some}
 use Rattle.lq_value.specs.declared.ty.Ty.{Ty}
-use Rattle.lq_language.specs.ClauseTyping.{expression_type, query_items}
+use Rattle.lq_language.specs.ClauseTyping.{expression_type}
 use Rattle.lq_language.specs.Names.{Names}
-use Rattle.lq_language.specs.RuleTyping.{HasRuleType, HasRuleItemType, type_of, item_type}
+use Rattle.lq_language.specs.RuleTyping.{HasRuleType, type_of}
 use Rattle.lq_grammar.specs.declared.syntax.Expr.{Expr}
-use Rattle.lq_grammar.specs.declared.syntax.Query.{Query}
 
 -- under given names an expression has at most one type
 abbrev pub HasOneRuleType : Type 0
 HasOneRuleType = (names : Names) (e : Expr) (s t : Ty) → HasRuleType names e s → HasRuleType names e t → s ≡ t
 
--- under given names the items of a query have at most one type
-abbrev pub HasOneRuleItemType : Type 0
-HasOneRuleItemType = (names : Names) (q : Query Expr) (s t : Ty) → HasRuleItemType names q s → HasRuleItemType names q t → s ≡ t
-
 -- the function finds a type for an expression exactly where the rules give it
 abbrev pub FindsRuleTypes : Type 0
 FindsRuleTypes = (names : Names) (e : Expr) (t : Ty) → (type_of e names ≡ Some t) ↔ HasRuleType names e t
 
--- the function finds a type for a query's items exactly where the rules give it
-abbrev pub FindsRuleItemTypes : Type 0
-FindsRuleItemTypes = (names : Names) (q : Query Expr) (t : Ty) → (item_type type_of q names ≡ Some t) ↔ HasRuleItemType names q t
-
 -- what has a type in the part that rules are of has it in the language
 abbrev pub KeepsRuleTypes : Type 0
 KeepsRuleTypes = (names : Names) (e : Expr) (t : Ty) → type_of e names ≡ Some t → expression_type e names ≡ Some t
-
--- and so have a query's items
-abbrev pub KeepsRuleItemTypes : Type 0
-KeepsRuleItemTypes = (names : Names) (q : Query Expr) (t : Ty) → item_type type_of q names ≡ Some t → query_items expression_type q names ≡ Some t

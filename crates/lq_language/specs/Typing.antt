@@ -11,7 +11,7 @@ use Rattle.lq_language.specs.Members.{is_search, sole_argument}
 use Rattle.lq_language.specs.Types.{element_type, fresh_type, if_placed, is_key, is_within, same_types, when}
 use Rattle.lq_language.specs.Names.{Names, local_type, session_name, table_number, with_local}
 use Rattle.lq_language.specs.OperandTypes.{chosen, is_bool_type, is_equality, is_number, is_text_type, member_type, of_operands, operated_type, truth_type}
-use Rattle.lq_language.specs.RuleTyping.{node_type}
+use Rattle.lq_language.specs.RuleTyping.{rule_node_type}
 use Rattle.lq_grammar.specs.declared.syntax.Argument.{Argument}
 use Rattle.lq_grammar.specs.declared.syntax.Binary.{Binary}
 use Rattle.lq_grammar.specs.declared.syntax.Field.{Field}
@@ -29,10 +29,10 @@ abbrev pub member_of : List ℕ → List (List ℕ × Ty) → Option Ty
 member_of m [] = None
 member_of m (member ∷ members) = if bytes_eq m member.0 then Some member.1 else member_of m members
 
-abbrev pub whole_member_type : Names → List ℕ → Ty-F Ty → Option Ty
-whole_member_type names m (Ty-F.Rec members) = member_of m members
-whole_member_type names m (Ty-F.Group k t) = if bytes_eq m (codes "Key") then Some k else None
-whole_member_type names m layer = member_type names m layer
+abbrev pub type_of_member : Names → List ℕ → Ty-F Ty → Option Ty
+type_of_member names m (Ty-F.Rec members) = member_of m members
+type_of_member names m (Ty-F.Group k t) = if bytes_eq m (codes "Key") then Some k else None
+type_of_member names m layer = member_type names m layer
 
 -- a record or a group beside null, which `==` compares as well
 abbrev pub are_null_tests : Ty-F Ty → Ty-F Ty → Bool
@@ -42,19 +42,19 @@ are_null_tests Ty-F.Null (Ty-F.Rec ms) = true
 are_null_tests Ty-F.Null (Ty-F.Group k t) = true
 are_null_tests s t = false
 
-abbrev pub whole_operated_type : Binary → Ty-F Ty → Ty-F Ty → Option Ty
-whole_operated_type op s t = if is_equality op && are_null_tests s t then Some ty.Bool else operated_type op s t
+abbrev pub type_of_operation : Binary → Ty-F Ty → Ty-F Ty → Option Ty
+type_of_operation op s t = if is_equality op && are_null_tests s t then Some ty.Bool else operated_type op s t
 
 -- a choice between records of one type, or a record and null
-abbrev pub whole_chosen : Ty-F Ty → Ty-F Ty → Option Ty
-whole_chosen (Ty-F.Rec ms) (Ty-F.Rec ns) = when (same_types (ty.Rec ms) (ty.Rec ns)) (Some (ty.Rec ms))
-whole_chosen (Ty-F.Rec ms) Ty-F.Null = Some (ty.Rec ms)
-whole_chosen Ty-F.Null (Ty-F.Rec ms) = Some (ty.Rec ms)
-whole_chosen s t = chosen s t
+abbrev pub type_of_choice : Ty-F Ty → Ty-F Ty → Option Ty
+type_of_choice (Ty-F.Rec ms) (Ty-F.Rec ns) = when (same_types (ty.Rec ms) (ty.Rec ns)) (Some (ty.Rec ms))
+type_of_choice (Ty-F.Rec ms) Ty-F.Null = Some (ty.Rec ms)
+type_of_choice Ty-F.Null (Ty-F.Rec ms) = Some (ty.Rec ms)
+type_of_choice s t = chosen s t
 
-abbrev pub whole_choice_type : Bool → Option Ty → Option Ty → Option Ty
-whole_choice_type true s t = of_operands whole_chosen s t
-whole_choice_type false s t = None
+abbrev pub type_of_conditional : Bool → Option Ty → Option Ty → Option Ty
+type_of_conditional true s t = of_operands type_of_choice s t
+type_of_conditional false s t = None
 
 -- whether a name is none of these
 abbrev pub is_new : List ℕ → List (List ℕ) → Bool
@@ -188,16 +188,16 @@ global_type names x (Some n) = Some (ty.Seq (ty.Row n))
 global_type names x None = option_map (λ known. known.ty) (session_name x names.session)
 
 -- a local name's type, else what its name stands for outside
-abbrev pub whole_name_type : Names → List ℕ → Option Ty → Option Ty
-whole_name_type names x (Some t) = Some t
-whole_name_type names x None = global_type names x (table_number x names.tables)
+abbrev pub type_of_name : Names → List ℕ → Option Ty → Option Ty
+type_of_name names x (Some t) = Some t
+type_of_name names x None = global_type names x (table_number x names.tables)
 
 -- the type of a form; a form without a clause of its own here has the type that `RuleTyping` gives it
-abbrev pub whole_type : Node (Names → Option Ty) → Names → Option Ty
-whole_type (node.Name x) names = whole_name_type names x (local_type x names.locals)
-whole_type (node.Member a m) names = option_and_then (λ t. whole_member_type names m (out-Ty t)) (a names)
-whole_type (node.Method a m arguments) names = method_type (λ typed. typed) a m arguments names
-whole_type (node.Binary op a b) names = of_operands (whole_operated_type op) (a names) (b names)
-whole_type (node.Conditional c a b) names = whole_choice_type (is_bool_type (c names)) (a names) (b names)
-whole_type (node.New fields) names = record_type (λ typed. typed) fields names
-whole_type n names = node_type n names
+abbrev pub node_type : Node (Names → Option Ty) → Names → Option Ty
+node_type (node.Name x) names = type_of_name names x (local_type x names.locals)
+node_type (node.Member a m) names = option_and_then (λ t. type_of_member names m (out-Ty t)) (a names)
+node_type (node.Method a m arguments) names = method_type (λ typed. typed) a m arguments names
+node_type (node.Binary op a b) names = of_operands (type_of_operation op) (a names) (b names)
+node_type (node.Conditional c a b) names = type_of_conditional (is_bool_type (c names)) (a names) (b names)
+node_type (node.New fields) names = record_type (λ typed. typed) fields names
+node_type n names = rule_node_type n names

@@ -8,7 +8,7 @@ use Rattle.lq_language.specs.Members.{IsSearch}
 use Rattle.lq_language.specs.Types.{are_join_keys, element_type, has_place, is_key, is_within}
 use Rattle.lq_language.specs.Names.{Names, SessionName, column_type, local_type, session_name, table_number, with_local}
 use Rattle.lq_language.specs.OperandTypes.{are_comparable, are_joined, coalesced, is_comparison, is_equality, is_number, is_ordering, is_scalar, number_type}
-use Rattle.lq_language.specs.Typing.{are_distinct, are_null_tests, given_type, member_of, simple_type, through_type, whole_chosen}
+use Rattle.lq_language.specs.Typing.{are_distinct, are_null_tests, given_type, member_of, simple_type, through_type, type_of_choice}
 use Rattle.lq_grammar.specs.declared.syntax.Argument.{Argument}
 use Rattle.lq_grammar.specs.declared.syntax.Argument.TheVariants as argument
 use Rattle.lq_grammar.specs.declared.syntax.Binary.{Binary}
@@ -93,7 +93,7 @@ pub data IsRight : TypeClaim → Type 0 where
   of_coalesced : (names : Names) (e a b : Expr) (s t r : Ty) → e ≡ expr.Node (node.Coalesce a b) → IsRight (Has names a s) → IsRight (Has names b t)
       → coalesced (out-Ty s) (out-Ty t) ≡ Some r → IsRight (Has names e r)
   of_choice : (names : Names) (e c a b : Expr) (s t r : Ty) → e ≡ expr.Node (node.Conditional c a b) → IsRight (Has names c ty.Bool)
-      → IsRight (Has names a s) → IsRight (Has names b t) → whole_chosen (out-Ty s) (out-Ty t) ≡ Some r → IsRight (Has names e r)
+      → IsRight (Has names a s) → IsRight (Has names b t) → type_of_choice (out-Ty s) (out-Ty t) ≡ Some r → IsRight (Has names e r)
   -- records, whose members have different names and are of any type but null
   of_record : (names : Names) (e : Expr) (fields : List (Field Expr)) (members : List (List ℕ × Ty)) → e ≡ expr.Node (node.New fields)
       → are_distinct (map (λ field. field.name) fields) ≡ true → IsRight (Members names fields members) → is_within (ty.Rec members) ≡ true

@@ -1,6 +1,5 @@
--- Which values are of a type, and the law of the part that rules of policies are of: what is typed there has a meaning of its own, a
--- value of its type or a fault.
-use Rattle.std.specs.Prelude.{◌≡◌, ◌∷◌, List, [], ℕ, Some, Ok, slice_get}
+-- Which values are of a type: scalars, rows with their cells, and sequences; and scopes, worlds and tables that hold such values.
+use Rattle.std.specs.Prelude.{◌≡◌, ◌∷◌, List, [], ℕ, Some, slice_get}
 use Rattle.lq_value.specs.Tables.{Table}
 use Rattle.lq_value.specs.declared.scalar.Scalar.{Scalar}
 use Rattle.lq_value.specs.declared.scalar.Scalar.TheVariants as scalar
@@ -12,14 +11,9 @@ use Rattle.lq_value.specs.declared.value.End.{End}
 use Rattle.lq_value.specs.declared.value.Fault.{Fault}
 use Rattle.lq_value.specs.declared.value.Value.{Value}
 use Rattle.lq_value.specs.declared.value.Value.TheVariants as value
-use Rattle.lq_language.specs.Worlds.{Scope, World, names_at}
-use Rattle.lq_language.specs.RuleMeaning.{meaning, stream_meaning}
+use Rattle.lq_language.specs.Worlds.{Scope, World}
 use Rattle.lq_language.specs.Names.{column_type, type_of_column}
 use Rattle.lq_language.specs.OperandTypes.{item_of, row_table}
-use Rattle.lq_language.specs.RuleTyping.{HasRuleItemType, HasRuleType}
-use Rattle.lq_language.specs.TableRows.{TableRow}
-use Rattle.lq_grammar.specs.declared.syntax.Expr.{Expr}
-use Rattle.lq_grammar.specs.declared.syntax.Query.{Query}
 
 -- each item of a list is such
 abbrev pub Every : {A : Type 0} → (A → Type 0) → List A → Type 0
@@ -62,28 +56,6 @@ module _ {R : Type 0} (world : World R) where
 -- the same world with this fault where an expression has no meaning
 abbrev pub assuming : {R : Type 0} → Fault → World R → World R
 assuming unknown world = record { schemas = world.schemas; rows = world.rows; session = world.session; cell = world.cell; unknown = unknown }
-
--- ---- the laws
-
--- what a typed expression means is the same whatever stands where there is no meaning, and if it is a value, then one of its type
-abbrev pub HasRuleMeaning : Type 0
-HasRuleMeaning =
-    (world : World TableRow) → HoldsRows world → (scope : Scope TableRow) → IsOfScope world scope → (e : Expr) (t : Ty) → HasRuleType (names_at world scope) e t
-    → (f g : Fault)
-    → (meaning (assuming f world) e scope ≡ meaning (assuming g world) e scope) × ((v : Value TableRow) → meaning (assuming f world) e scope ≡ Ok v → IsOf world t v)
-
--- and so are a typed query's stream, and the items in it
-abbrev pub HasRuleStream : Type 0
-HasRuleStream =
-    (world : World TableRow) → HoldsRows world → (scope : Scope TableRow) → IsOfScope world scope → (q : Query Expr) (t : Ty) → HasRuleItemType (names_at world scope) q t
-    → (f g : Fault)
-    → (stream_meaning (assuming f world) q scope ≡ stream_meaning (assuming g world) q scope) × Every (IsOf world t) (stream_meaning (assuming f world) q scope).0
-
--- the items of a query that is typed there are scalars
-abbrev pub SelectsScalars : Type 0
-SelectsScalars =
-    (world : World TableRow) → HoldsRows world → (scope : Scope TableRow) → IsOfScope world scope → (q : Query Expr) (t : Ty) → HasRuleItemType (names_at world scope) q t
-    → (f : Fault) → Every (λ v. (s : Scalar) × (v ≡ value.Scalar s)) (stream_meaning (assuming f world) q scope).0
 
 -- ---- what the machine serves
 

@@ -2,18 +2,16 @@
 //! themselves do nothing.
 ghost use Rattle.lq_language.specs.ArrangementLaws.{ArrangesByKeys, KeepsTies};
 ghost use Rattle.lq_language.specs.KeyOrder.{TellsKeyOrder};
-ghost use Rattle.lq_language.specs.ValuesOfTypes.{HasRuleMeaning, HasRuleStream, SelectsScalars};
+ghost use Rattle.lq_language.specs.RuleMeaningLaws.{HasRuleMeaning};
 ghost use Rattle.lq_language.specs.OneArrangement.{ArrangesItems, ArrangesOnce};
-ghost use Rattle.lq_language.specs.MeaningLaws.{HasMeaning, HasStream, KeepsRuleMeanings, KeepsRuleStreams, NeverFaults};
+ghost use Rattle.lq_language.specs.MeaningLaws.{HasMeaning, HasStream, KeepsRuleMeanings, NeverFaults};
 
 /// In the part of the language that rules of policies are of, where local names have values of their
 /// types and tables have their rows, a typed expression has
 /// a meaning of its own, the same whatever stands where there is none: a value of its type, or a
-/// fault. So has a typed query: its stream, of items of their type, which are scalars.
+/// fault.
 pub fn rule_meanings()
-    ensures expression { HasRuleMeaning }
-    ensures query { HasRuleStream }
-    ensures items { SelectsScalars }
+    ensures { HasRuleMeaning }
 {}
 
 /// Of two lists of sort keys one stands before the other exactly where, at the first place at which they
@@ -50,10 +48,9 @@ pub fn typed_meanings<R>()
 {}
 
 /// What has a type in that part means in the language what it means there, where local names have
-/// values of their types and tables have their rows: expressions, and the streams of queries.
+/// values of their types and tables have their rows.
 pub fn rule_meanings_are_kept<R>()
-    ensures expression { KeepsRuleMeanings R }
-    ensures query { KeepsRuleStreams R }
+    ensures { KeepsRuleMeanings R }
 {}
 
 /// An expression whose type is that of a sequence never faults: a fault that is met in making it is the

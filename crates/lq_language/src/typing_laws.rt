@@ -1,26 +1,22 @@
 //! Laws of the typing rules. Each function's contract is the law that it is named for; the
 //! functions themselves do nothing.
-ghost use Rattle.lq_language.specs.RuleTypingLaws.{HasOneRuleType, HasOneRuleItemType, FindsRuleTypes, FindsRuleItemTypes, KeepsRuleTypes, KeepsRuleItemTypes};
+ghost use Rattle.lq_language.specs.RuleTypingLaws.{FindsRuleTypes, HasOneRuleType, KeepsRuleTypes};
 ghost use Rattle.lq_language.specs.TypingLaws.{FindsQueryItems, FindsTypes, GivesOneType, HasOneType, LimitsItems, LimitsTypes};
 
 /// In the part of the language that rules of policies are of, an expression has at most one type under
-/// given names, and so have the items of a query.
+/// given names.
 pub fn one_rule_type()
-    ensures expression { HasOneRuleType }
-    ensures query { HasOneRuleItemType }
+    ensures { HasOneRuleType }
 {}
 
-/// The function that looks for a type in that part finds exactly the type that its rules give, for
-/// expressions and for the items of queries.
+/// The function that looks for a type in that part finds exactly the type that its rules give.
 pub fn rule_type_is_found()
-    ensures expression { FindsRuleTypes }
-    ensures query { FindsRuleItemTypes }
+    ensures { FindsRuleTypes }
 {}
 
-/// What has a type in that part has the same type in the language, and so have the items of a query.
+/// What has a type in that part has the same type in the language.
 pub fn rule_types_are_kept()
-    ensures expression { KeepsRuleTypes }
-    ensures query { KeepsRuleItemTypes }
+    ensures { KeepsRuleTypes }
 {}
 
 /// An expression has at most one type under given names, by rules for each

@@ -1,6 +1,6 @@
 pub mod Blanks
 pub mod Cutting
-pub mod Fronts
+pub mod DigitLaws
+pub mod FrontLaws
 pub mod Names
 pub mod Spelling
-pub mod Values

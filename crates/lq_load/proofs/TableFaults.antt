@@ -4,6 +4,7 @@ use Rattle.std.specs.Prelude.{◌≢◌, nat_lt, Result, Ok, Err}
 use Rattle.std.specs.Bool.{Decides}
 use Rattle.std.specs.List.{zip}
 use Rattle.std.specs.Str.{bytes_eq}
+use Rattle.std.proofs.lemmas.Bool.{le-ltb, lt-ltb, ltb-false, ltb-true}
 use Rattle.std.proofs.lemmas.Bool.Decides.{nat_tests}
 use Rattle.std.proofs.lemmas.List.{append-nil, append_assoc, length-append}
 use Rattle.std.proofs.lemmas.List.Folds.{Any-from_list_any, list_any-from_Any}
@@ -495,18 +496,6 @@ rows_of columns n (fields ∷ rest) h =
 
 -- ---- files
 
-above : (limit n : ℕ) → limit < n → nat_lt limit n ≡ true
-above limit n h = grind (arith, nat_tests)
-
-not_above : (limit n : ℕ) → n ≤ limit → nat_lt limit n ≡ false
-not_above limit n h = grind (arith, nat_tests)
-
-is_above : (limit n : ℕ) → nat_lt limit n ≡ true → limit < n
-is_above limit n h = grind (arith, nat_tests)
-
-is_not_above : (limit n : ℕ) → nat_lt limit n ≡ false → n ≤ limit
-is_not_above limit n h = grind (arith, nat_tests)
-
 -- how far a file is read before its rows, and what is answered there
 data Way (name bytes : List ℕ) : Result Table LoadError → Type 0 where
   too_large : table_limit < length bytes → Way name bytes (Err TooLarge)
@@ -528,9 +517,9 @@ way_columns name bytes header rest small is few (Err x) e = in_header x header r
 way_header : (name bytes : List ℕ) (header : List (List ℕ)) (rest : List (List (List ℕ))) → length bytes ≤ table_limit → records_in bytes ≡ header ∷ rest
     → (b : Bool) → nat_lt column_limit (length header) ≡ b
     → Way name bytes (and_then (with_records rest) (if b then Err TooLarge else and_then (λ columns. Ok (new_table name columns)) (columns_from header [])))
-way_header name bytes header rest small is true many = too_many header rest small is (is_above column_limit (length header) many)
+way_header name bytes header rest small is true many = too_many header rest small is (ltb-true column_limit (length header) many)
 way_header name bytes header rest small is false many =
-    way_columns name bytes header rest small is (is_not_above column_limit (length header) many) (columns_from header []) refl
+    way_columns name bytes header rest small is (ltb-false column_limit (length header) many) (columns_from header []) refl
 
 way_records : (name bytes : List ℕ) → length bytes ≤ table_limit → (rs : List (List (List ℕ))) → records_in bytes ≡ rs → Way name bytes (table_of_records name rs)
 way_records name bytes small [] is = no_header small is
@@ -538,8 +527,8 @@ way_records name bytes small (header ∷ rest) is = way_header name bytes header
 
 way_bytes : (name bytes : List ℕ) (b : Bool) → nat_lt table_limit (length bytes) ≡ b
     → Way name bytes (if b then Err TooLarge else table_of_records name (records_in bytes))
-way_bytes name bytes true large = too_large (is_above table_limit (length bytes) large)
-way_bytes name bytes false large = way_records name bytes (is_not_above table_limit (length bytes) large) (records_in bytes) refl
+way_bytes name bytes true large = too_large (ltb-true table_limit (length bytes) large)
+way_bytes name bytes false large = way_records name bytes (ltb-false table_limit (length bytes) large) (records_in bytes) refl
 
 way_of : (name bytes : List ℕ) → Way name bytes (table_of name bytes)
 unfolding table_of
@@ -548,21 +537,21 @@ way_of name bytes = way_bytes name bytes (nat_lt table_limit (length bytes)) ref
 -- each way is gone
 large_goes : (name bytes : List ℕ) → table_limit < length bytes → table_of name bytes ≡ Err TooLarge
 unfolding table_of
-large_goes name bytes h = rw (above table_limit (length bytes) h) refl
+large_goes name bytes h = rw (lt-ltb table_limit (length bytes) h) refl
 
 small_goes : (name bytes : List ℕ) (rs : List (List (List ℕ))) → length bytes ≤ table_limit → records_in bytes ≡ rs → table_of name bytes ≡ table_of_records name rs
 unfolding table_of
-small_goes name bytes rs h is = rw (not_above table_limit (length bytes) h) (ap (table_of_records name) is)
+small_goes name bytes rs h is = rw (le-ltb table_limit (length bytes) h) (ap (table_of_records name) is)
 
 many_goes : (name : List ℕ) (header : List (List ℕ)) (rest : List (List (List ℕ))) → column_limit < length header
     → table_of_records name (header ∷ rest) ≡ Err TooLarge
-many_goes name header rest h = rw (above column_limit (length header) h) refl
+many_goes name header rest h = rw (lt-ltb column_limit (length header) h) refl
 
 few_goes : (name : List ℕ) (header : List (List ℕ)) (rest : List (List (List ℕ))) (r : Result (List Column) LoadError) → length header ≤ column_limit
     → columns_from header [] ≡ r
     → table_of_records name (header ∷ rest) ≡ and_then (with_records rest) (and_then (λ columns. Ok (new_table name columns)) r)
 few_goes name header rest r h is =
-    rw (not_above column_limit (length header) h) (ap (λ found. and_then (with_records rest) (and_then (λ columns. Ok (new_table name columns)) found)) is)
+    rw (le-ltb column_limit (length header) h) (ap (λ found. and_then (with_records rest) (and_then (λ columns. Ok (new_table name columns)) found)) is)
 
 goes_on : (name bytes : List ℕ) (header : List (List ℕ)) (rest : List (List (List ℕ))) (columns : List Column) → length bytes ≤ table_limit
     → records_in bytes ≡ header ∷ rest → length header ≤ column_limit → AreColumns header columns

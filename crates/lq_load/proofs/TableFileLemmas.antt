@@ -1,6 +1,7 @@
 -- What loading a table's file rests on.
-use Rattle.std.proofs.Common.{◌≡◌, ◌≤◌, ◌<◌, ◌+◌, ◌==◌, ℕ, zero, suc, true, false, List, [], length, Option, Some, None, refl, arith}
-use Rattle.std.specs.Prelude.{◌≢◌, nat_lt, Result, Ok, Err}
+use Rattle.std.proofs.Common.{◌≡◌, ◌≤◌, ◌<◌, ◌+◌, ◌==◌, ℕ, zero, suc, false, List, [], length, Option, Some, None, refl, arith}
+use Rattle.std.specs.Prelude.{◌≢◌, Result, Ok, Err}
+use Rattle.std.proofs.lemmas.Bool.{le-ltb, lt-ltb}
 use Rattle.std.proofs.lemmas.Bool.Decides.{nat_tests}
 use Rattle.csv.specs.Machine.{Read, next_record}
 use Rattle.csv.specs.Reading.{default_config, records, records_from, records_next, strip_bom}
@@ -49,21 +50,15 @@ only_memory store.DuplicateTable h = cc
 only_memory store.TooMany h = cc
 only_memory store.UnknownTable h = cc
 
-above : (limit n : ℕ) → limit < n → nat_lt limit n ≡ true
-above limit n h = grind (arith, nat_tests)
-
-not_above : (limit n : ℕ) → n ≤ limit → nat_lt limit n ≡ false
-not_above limit n h = grind (arith, nat_tests)
-
 -- a file of more than 16 MiB
 pub table_of-large : (name bytes : List ℕ) → table_limit < length bytes → table_of name bytes ≡ Err TooLarge
 unfolding table_of
-table_of-large name bytes h = rw (above table_limit (length bytes) h) refl
+table_of-large name bytes h = rw (lt-ltb table_limit (length bytes) h) refl
 
 -- any other file
 pub table_of-small : (name bytes : List ℕ) → length bytes ≤ table_limit → table_of name bytes ≡ table_of_records name (records default_config (strip_bom (without_marks bytes)))
 unfolding table_of
-table_of-small name bytes h = rw (not_above table_limit (length bytes) h, strip_bom-without_marks bytes) refl
+table_of-small name bytes h = rw (le-ltb table_limit (length bytes) h, strip_bom-without_marks bytes) refl
 
 records_from-few : (turns : ℕ) (state : State) (bytes : List ℕ) → length (records_from default_config turns state bytes) ≤ turns
 unfolding records_from

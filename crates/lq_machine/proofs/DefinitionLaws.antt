@@ -24,7 +24,7 @@ use Rattle.lq_grammar.specs.declared.syntax.Expr.{Expr}
 use Rattle.lq_language.proofs.AlikeStreamLaws.{every_append}
 use Rattle.lq_language.proofs.ItemLaws.{every_more, every_none}
 use Rattle.lq_language.proofs.SequenceLaws.{never_faults}
-use Rattle.lq_language.proofs.TypedMeaningLaws.{has_whole_meaning}
+use Rattle.lq_language.proofs.TypedMeaningLaws.{has_language_meaning}
 
 -- ---- what is known
 
@@ -65,7 +65,7 @@ module _ {R : Type 0} where
         let there = query_stream e item typed world.unknown in
         subst (λ (v : Value R). IsValueOf world (ty.Seq item) v)
         (ap sequence (sym (back world.unknown there.0)) ∙ ap (λ (m : Result (Value R) Fault). sequence (stream_of world m)) (sym there.1))
-        ((has_whole_meaning world holds kept [] (every_none (λ (b : Binding R). IsValueOf world b.ty b.value)) e (ty.Seq item) typed world.unknown world.unknown).1
+        ((has_language_meaning world holds kept [] (every_none (λ (b : Binding R). IsValueOf world b.ty b.value)) e (ty.Seq item) typed world.unknown world.unknown).1
         (sequence there.0) there.1)
 
     defined_value : (name : List ℕ) (defined : Defined) → IsDefined world.schemas (session_names world.session) defined
@@ -80,7 +80,7 @@ module _ {R : Type 0} where
     same_value (of.Variable t s) is unknown = refl
     same_value (of.Query e opened) is unknown =
         let there = query_stream e is.0 is.1 unknown in
-        let here = (has_whole_meaning world holds kept [] (every_none (λ (b : Binding R). IsValueOf world b.ty b.value)) e (ty.Seq is.0) is.1 unknown world.unknown).0 in
+        let here = (has_language_meaning world holds kept [] (every_none (λ (b : Binding R). IsValueOf world b.ty b.value)) e (ty.Seq is.0) is.1 unknown world.unknown).0 in
         ap (λ (m : Result (Value R) Fault). sequence (stream_of (assuming unknown world) m)) there.1
         ∙ ap sequence (back unknown there.0 ∙ sym (back world.unknown there.0))
         ∙ ap (λ (m : Result (Value R) Fault). sequence (stream_of world m)) (sym there.1 ∙ here)

@@ -48,7 +48,7 @@ use Rattle.lq_security.proofs.LookAlikeLaws.{map_set}
 use Rattle.lq_machine.proofs.MachineMeaningLaws.{agrees}
 use Rattle.lq_language.proofs.SameTypeLaws.{same_type}
 use Rattle.lq_language.proofs.TypingLaws.{is_of_layer, type_with}
-use Rattle.lq_language.proofs.ValueLaws.{is_plain, plain_value}
+use Rattle.lq_language.proofs.ValueLaws.{is_plain, plain_value, scalar_plain}
 
 -- ---- names
 
@@ -179,13 +179,6 @@ defined_behind schemas earlier (x ∷ ds) d all is new =
     (all.0, defined_behind schemas (earlier ++ known_as schemas earlier x.name x.defined ∷ []) ds d all.1 is new, all.2)
 
 -- ---- types that a scalar's value has
-
-scalar_plain : (layer : Ty-F Ty) → is_scalar layer ≡ true → is_plain layer ≡ true
-scalar_plain Ty-F.Int h = refl
-scalar_plain Ty-F.IntN h = refl
-scalar_plain Ty-F.Bool h = refl
-scalar_plain Ty-F.Str h = refl
-scalar_plain layer h = absurd (true≢false (sym h))
 
 -- the values of one type have a place where the other type is
 pub record HasPlaceAt (x y : Ty-F Ty) : Type 0 where

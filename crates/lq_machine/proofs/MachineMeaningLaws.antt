@@ -23,7 +23,7 @@ use Rattle.lq_grammar.specs.declared.syntax.Expr.{Expr}
 use Rattle.lq_language.proofs.ItemLaws.{every_none}
 use Rattle.lq_machine.proofs.SeenTableLaws.{holds_seen}
 use Rattle.lq_language.proofs.ValueLaws.{sequence_value}
-use Rattle.lq_language.proofs.TypedMeaningLaws.{has_whole_meaning}
+use Rattle.lq_language.proofs.TypedMeaningLaws.{has_language_meaning}
 use Rattle.lq_machine.specs.DefinitionLaws.{AreDefined, ServesMeanings}
 use Rattle.lq_machine.specs.Definitions.{defining, outer_names, valued_as, with_session, world_after}
 use Rattle.lq_machine.specs.declared.session.Definition.{Definition}
@@ -78,7 +78,7 @@ module _ (s : State) (typed : Every IsTypedTable s.tables) (all : AreDefined (sc
 
   pub agrees : (t : Ty) → expression_type e (names_in s) ≡ Some t → Agrees t
   agrees t is =
-      has_whole_meaning world holds_all (names_have_values tables_alone s.definitions (holds_seen s typed fault.NullReference) refl all) []
+      has_language_meaning world holds_all (names_have_values tables_alone s.definitions (holds_seen s typed fault.NullReference) refl all) []
       (every_none (λ b. IsValueOf world b.ty b.value)) e t (ap (expression_type e) names_same ∙ is) world.unknown unknown
 
   -- a sequence has its items in both

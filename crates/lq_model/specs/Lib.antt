@@ -31,6 +31,7 @@ pub use Rattle.lq_language.specs.OperationLaws
 pub use Rattle.lq_language.specs.Operations
 pub use Rattle.lq_language.specs.Operators
 pub use Rattle.lq_language.specs.RuleMeaning
+pub use Rattle.lq_language.specs.RuleMeaningLaws
 pub use Rattle.lq_language.specs.RuleTyping
 pub use Rattle.lq_language.specs.RuleTypingLaws
 pub use Rattle.lq_language.specs.Stream

@@ -1,8 +1,9 @@
 -- Sums, counts and the best of numbers, item by item.
-use Rattle.std.proofs.Common.{◌≡◌, ◌∷◌, ◌+◌, ◌<◌, ◌≤◌, ◌&&◌, if◌then◌else◌, List, [], ℕ, suc, ℤ, pos, negsuc, ◌+ℤ◌, Bool, true, false, Option, Some, None, Result, Ok, Err, map, drop, drop-cons, get_or, length, ap, ◌∙◌, sym, refl, subst, arith, int_le, SFits, w32, true≢false}
+use Rattle.std.proofs.Common.{◌≡◌, ◌∷◌, ◌+◌, ◌<◌, ◌≤◌, if◌then◌else◌, List, [], ℕ, suc, ℤ, pos, ◌+ℤ◌, Bool, true, false, Option, Some, None, Result, Ok, Err, map, drop, drop-cons, get_or, length, ap, ◌∙◌, sym, refl, arith, SFits, w32}
 use Rattle.std.specs.List.{cons_option}
-use Rattle.std.proofs.lemmas.Bool.{le-leb, leb-true}
 use Rattle.std.proofs.lemmas.List.{drop_all}
+use Rattle.std.proofs.lemmas.Option.{none-some, same_Some}
+use Rattle.lq_language.proofs.IntLaws.{fit_is, is_fit}
 use Rattle.lq_value.specs.declared.scalar.Scalar.{Scalar}
 use Rattle.lq_value.specs.declared.ty.Ty.{Ty}
 use Rattle.lq_value.specs.declared.value.End.{End}
@@ -22,20 +23,6 @@ use Rattle.lq_operators.specs.declared.numbers.Extreme.{Extreme}
 use Rattle.lq_operators.specs.declared.numbers.Tally.{Tally}
 use Rattle.lq_operators.specs.declared.numbers.Tally.TheVariants as tally
 
--- ---- an int holds a number exactly where its 32 bits do
-
-is_fit : (z : ℤ) → is_int z ≡ true → SFits w32 z
-is_fit (pos n) h = record { sfits = omega (arith, leb-true n 2147483647 h) }
-is_fit (negsuc n) h =
-    record { sfits = omega (arith, leb-true n 2147483647 (left_true (int_le (negsuc 2147483647) (negsuc n)) (int_le (negsuc n) (pos 2147483647)) h)) } where
-      left_true : (a b : Bool) → (a && b) ≡ true → a ≡ true
-      left_true true b k = refl
-      left_true false b k = absurd (true≢false (sym k))
-
-fit_is : (z : ℤ) → SFits w32 z → is_int z ≡ true
-fit_is (pos n) h = le-leb n 2147483647 (omega (arith, h.sfits))
-fit_is (negsuc n) h = ap (λ b. b && true) (le-leb n 2147483647 (omega (arith, h.sfits)))
-
 -- ---- sums
 
 -- a number more, where checked arithmetic gave the sum, and where it gave none
@@ -50,18 +37,6 @@ sum_past total n h = by (is_int (total +ℤ n)) refl where
   by false is = refl
 
 pub ruleset sums = (sum_held, sum_past)
-
-none_some : {A : Type 0} {x : A} → None ≡ Some x → ⊥
-none_some {A} {x} is = subst (λ (o : Option A). is_none o) is tt where
-  is_none : Option A → Type 0
-  is_none None = Unit {0}
-  is_none (Some y) = ⊥
-
-some_is : {A : Type 0} {x y : A} → Some x ≡ Some y → x ≡ y
-some_is {A} {x} is = ap (λ (o : Option A). get_or_else o) is where
-  get_or_else : Option A → A
-  get_or_else None = x
-  get_or_else (Some z) = z
 
 -- ---- tallies
 
@@ -81,7 +56,7 @@ best_by which none None (Some n) ns = refl
 best_by which none (Some m) None ns = refl
 best_by which none (Some m) (Some n) ns = refl
 
-told_is : (R : Type 0) (t : Ty) (k : Tally) (e : End) → told t k e ≡ tallied {R = R} t k ([], e)
+pub told_is : (R : Type 0) (t : Ty) (k : Tally) (e : End) → told t k e ≡ tallied {R = R} t k ([], e)
 told_is R t (tally.Count n) e = refl
 told_is R t (tally.Sum n) e = refl
 told_is R t (tally.Best which best) e = refl
@@ -135,18 +110,18 @@ module _ {R : Type 0} where
   -- a method's answer is its tally's
   pub begun : (method : Simple) (tally : Tally) → begins method ≡ Some tally → (t : Ty) (s : Stream (Value R))
       → simple_meaning method t s ≡ as_value (tallied t tally s)
-  begun simple.Count tally is t s = ap (λ k. as_value (tallied t k s)) (some_is is)
-  begun simple.Sum tally is t s = ap (λ k. as_value (tallied t k s)) (some_is is)
-  begun simple.Min tally is t s = ap (λ k. as_value (tallied t k s)) (some_is is)
-  begun simple.Max tally is t s = ap (λ k. as_value (tallied t k s)) (some_is is)
-  begun simple.Distinct tally is t s = absurd (none_some is)
-  begun simple.Reverse tally is t s = absurd (none_some is)
-  begun simple.DefaultIfEmpty tally is t s = absurd (none_some is)
-  begun simple.Any tally is t s = absurd (none_some is)
-  begun simple.First tally is t s = absurd (none_some is)
-  begun simple.FirstOrDefault tally is t s = absurd (none_some is)
-  begun simple.Last tally is t s = absurd (none_some is)
-  begun simple.Single tally is t s = absurd (none_some is)
-  begun simple.SingleOrDefault tally is t s = absurd (none_some is)
+  begun simple.Count tally is t s = ap (λ k. as_value (tallied t k s)) (same_Some _ _ is)
+  begun simple.Sum tally is t s = ap (λ k. as_value (tallied t k s)) (same_Some _ _ is)
+  begun simple.Min tally is t s = ap (λ k. as_value (tallied t k s)) (same_Some _ _ is)
+  begun simple.Max tally is t s = ap (λ k. as_value (tallied t k s)) (same_Some _ _ is)
+  begun simple.Distinct tally is t s = absurd (none-some _ is)
+  begun simple.Reverse tally is t s = absurd (none-some _ is)
+  begun simple.DefaultIfEmpty tally is t s = absurd (none-some _ is)
+  begun simple.Any tally is t s = absurd (none-some _ is)
+  begun simple.First tally is t s = absurd (none-some _ is)
+  begun simple.FirstOrDefault tally is t s = absurd (none-some _ is)
+  begun simple.Last tally is t s = absurd (none-some _ is)
+  begun simple.Single tally is t s = absurd (none-some _ is)
+  begun simple.SingleOrDefault tally is t s = absurd (none-some _ is)
 
 pub ruleset steps = (counts_on, counts_past, sums_on, sums_past, sums_stay, bests_on)

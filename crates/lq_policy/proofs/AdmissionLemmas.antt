@@ -1,5 +1,6 @@
 -- Rules that are put behind others, policy by policy.
-use Rattle.std.proofs.Common.{◌≡◌, ◌∙◌, ℕ, zero, suc, ◌+◌, ◌<◌, Bool, true, false, ◌&&◌, ◌||◌, cond, not, List, [], ◌∷◌, filter, length, get_or, slice_get, Some, drop, refl, ap, sym, subst, arith}
+use Rattle.std.proofs.Common.{◌≡◌, ◌∙◌, ℕ, zero, suc, ◌+◌, ◌<◌, Bool, true, false, ◌&&◌, ◌||◌, cond, not, List, [], ◌∷◌, filter, length, get_or, slice_get, Some, drop, ap, sym, subst, arith}
+use Rattle.std.proofs.Math.Bool.{and-true, and_assoc, or-false, or_assoc}
 use Rattle.std.specs.List.{list_all, list_any}
 use Rattle.std.proofs.lemmas.List.{drop_more}
 use Rattle.lq_value.specs.declared.scalar.Scalar.{Scalar}
@@ -13,31 +14,15 @@ use Rattle.lq_policy.specs.RowRules.{admits_by, allowed_by, permitted_by}
 use Rattle.lq_policy.specs.declared.access.Access.{Access}
 use Rattle.lq_policy.specs.declared.admission.Admission.{Admission}
 
-or_assoc : (a b c : Bool) → (a || b) || c ≡ a || (b || c)
-or_assoc true b c = refl
-or_assoc false b c = refl
-
-or_false : (a : Bool) → a || false ≡ a
-or_false true = refl
-or_false false = refl
-
-and_assoc : (a b c : Bool) → (a && b) && c ≡ a && (b && c)
-and_assoc true b c = refl
-and_assoc false b c = refl
-
-and_true : (a : Bool) → a && true ≡ a
-and_true true = refl
-and_true false = refl
-
 any_if : (test : Policy → Bool) (policy : Policy) (rest : List Policy) (so_far applies : Bool)
     → (so_far || (applies && test policy)) || list_any test rest ≡ so_far || list_any test (cond applies (policy ∷ rest) rest)
 any_if test policy rest so_far true = or_assoc so_far (test policy) (list_any test rest)
-any_if test policy rest so_far false = ap (λ b. b || list_any test rest) (or_false so_far)
+any_if test policy rest so_far false = ap (λ b. b || list_any test rest) (or-false so_far)
 
 all_if : (test : Policy → Bool) (policy : Policy) (rest : List Policy) (so_far applies : Bool)
     → (so_far && (not applies || test policy)) && list_all test rest ≡ so_far && list_all test (cond applies (policy ∷ rest) rest)
 all_if test policy rest so_far true = and_assoc so_far (test policy) (list_all test rest)
-all_if test policy rest so_far false = ap (λ b. b && list_all test rest) (and_true so_far)
+all_if test policy rest so_far false = ap (λ b. b && list_all test rest) (and-true so_far)
 
 -- one more policy, of which some one passes a test if it applies
 any_more : (test applies : Policy → Bool) (policy : Policy) (left : List Policy) (so_far now : Bool) → now ≡ so_far || (applies policy && test policy)
@@ -103,5 +88,5 @@ module _ (tables : List TablePart) (roles : List Role) (access : Access) where
   pub all_so_far : (policies : List Policy) (rules : Admission) → AreSoFar policies [] rules → (cells : List Scalar) (user : List ℕ)
       → admits_by cells user rules ≡ admit access.action (filter (bears_on roles access) policies) (asked_at tables access.table cells user)
   all_so_far policies rules so_far cells user =
-      ap (λ b. b && allowed_by cells user rules) (sym (or_false (permitted_by cells user rules)) ∙ so_far.permitted cells user)
-      ∙ ap (λ b. list_any (permitting cells user) (filter (bears_on roles access) policies) && b) (sym (and_true (allowed_by cells user rules)) ∙ so_far.allowed cells user)
+      ap (λ b. b && allowed_by cells user rules) (sym (or-false (permitted_by cells user rules)) ∙ so_far.permitted cells user)
+      ∙ ap (λ b. list_any (permitting cells user) (filter (bears_on roles access) policies) && b) (sym (and-true (allowed_by cells user rules)) ∙ so_far.allowed cells user)

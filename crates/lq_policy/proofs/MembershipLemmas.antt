@@ -1,5 +1,6 @@
 -- Memberships of roles, worked out from the first role on.
-use Rattle.std.proofs.Common.{◌≡◌, ◌∙◌, ℕ, zero, suc, ◌+◌, ◌<◌, Bool, true, false, ◌||◌, ◌==◌, List, [], ◌∷◌, ◌++◌, length, get_or, slice_get, flat_map, Option, Some, refl, ap, sym, subst, ◌⊎◌, inl, inr, length-append, drop, arith}
+use Rattle.std.proofs.Common.{◌≡◌, ◌∙◌, ℕ, zero, suc, ◌+◌, ◌<◌, Bool, ◌||◌, ◌==◌, List, [], ◌∷◌, ◌++◌, length, get_or, slice_get, flat_map, Option, Some, refl, ap, sym, subst, ◌⊎◌, inl, inr, length-append, drop, arith}
+use Rattle.std.proofs.Math.Bool.{or_assoc}
 use Rattle.std.specs.List.{list_any}
 use Rattle.std.proofs.lemmas.List.{drop_more}
 use Rattle.lq_security.specs.Visible.{goes_by_after, memberships_after}
@@ -13,10 +14,6 @@ pub record AreSoFar (roles left : List Role) (sets : List RoleSet) : Type 0 wher
   pub as_many : length earlier ≡ length sets
   pub told : TellMemberships earlier sets
   pub rest : memberships_after earlier left ≡ memberships_after [] roles
-
-or_assoc : (a b c : Bool) → (a || b) || c ≡ a || (b || c)
-or_assoc true b c = refl
-or_assoc false b c = refl
 
 -- ---- numbers in lists
 

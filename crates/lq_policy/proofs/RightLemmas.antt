@@ -2,6 +2,7 @@
 use Rattle.std.proofs.Common.{◌≡◌, ◌&&◌, ◌||◌, not, List, [], ◌∷◌, ℕ, Bool, true, false, Result, Ok, Err, IfOk, ap, ◌∙◌, sym, refl}
 use Rattle.std.specs.declared.alloc.AllocError.{AllocError}
 use Rattle.std.specs.List.{list_any}
+use Rattle.std.proofs.Math.Bool.{and_assoc}
 use Rattle.lq_security.proofs.RightLaws.{same_use}
 use Rattle.lq_security.specs.Rights.{bears, covers, is_same_use, is_withheld, may_use}
 use Rattle.lq_security.specs.Visible.{is_listed}
@@ -61,10 +62,6 @@ and_over_or true false true = refl
 and_over_or true false false = refl
 and_over_or false b c = refl
 
-and_assoc : (a b c : Bool) → a && (b && c) ≡ (a && b) && c
-and_assoc true b c = refl
-and_assoc false b c = refl
-
 module _ (withheld : Use → Bool) (used : Use) where
   -- a right to the use itself is withheld where the use is
   by_itself : (right : Use) → is_same_use used right && not (withheld right) ≡ is_same_use used right && not (withheld used)
@@ -85,7 +82,7 @@ module _ (withheld : Use → Bool) (used : Use) where
   by_rules roles role [] = refl
   by_rules roles role (rule ∷ rest) =
       (λ i. (is_listed roles role rule.to && by_rights rule.rights i) || by_rules roles role rest i)
-      ∙ ap (λ (b : Bool). b || (list_any (bears roles role used) rest && not (withheld used))) (and_assoc (is_listed roles role rule.to) (covers used rule) (not (withheld used)))
+      ∙ ap (λ (b : Bool). b || (list_any (bears roles role used) rest && not (withheld used))) (sym (and_assoc (is_listed roles role rule.to) (covers used rule) (not (withheld used))))
       ∙ and_over_or (bears roles role used rule) (list_any (bears roles role used) rest) (not (withheld used))
 
 module _ (parts : PolicyParts) (role : ℕ) (withheld allowed : UseSet)

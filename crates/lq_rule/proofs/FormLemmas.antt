@@ -34,7 +34,7 @@ use Rattle.lq_grammar.specs.declared.syntax.Node.TheVariants as node
 use Rattle.lq_grammar.specs.declared.syntax.Query.{Query}
 use Rattle.lq_grammar.specs.declared.syntax.Unary.TheVariants as unary
 use Rattle.lq_security.proofs.RuleTypeLaws.{total_no_row}
-use Rattle.lq_security.proofs.TotalityLaws.{has_sure_argument, is_total_binary, strength_and, strength_binary, strength_coalesce, strength_conditional, strength_host, strength_member, strength_method, strength_minus, strength_name, strength_new, strength_not, strength_or, strength_query, tells_total}
+use Rattle.lq_security.proofs.TotalityLaws.{has_sure_argument, is_total_binary, node_with, row_name, strength_and, strength_binary, strength_coalesce, strength_conditional, strength_host, strength_member, strength_method, strength_minus, strength_name, strength_new, strength_not, strength_or, strength_query, tells_total}
 use Rattle.lq_scalar.specs.Named.{Shape, TheRow, shape_at, shape_in}
 use Rattle.lq_scalar.specs.Shapes.{member_of_scalar, member_shape, operated_scalars, scalar_in, scalar_or_fault, scalar_shape, shape_of, told_parts, told_shapes, truth_in, truth_shape}
 use Rattle.lq_scalar.proofs.ShapeLaws.{shape_binary, shape_both, shape_choice, shape_coalesce, shape_either, shape_integer, shape_member, shape_method, shape_minus, shape_name, shape_not, shape_null, shape_text, shape_truth}
@@ -43,7 +43,7 @@ use Rattle.lq_rule.specs.Reading.{on_truth, read}
 use Rattle.lq_rule.specs.declared.prepared.Prepared.{Prepared}
 use Rattle.lq_rule.specs.declared.prepared.Prepared.TheVariants as prepared
 use Rattle.lq_rule.proofs.ReadingLemmas.{read_and, read_binary, read_coalesce, read_conditional, read_fault, read_has_value, read_literal, read_not, read_or, read_search, read_user}
-use Rattle.lq_rule.proofs.SureLemmas.{divisor_total, node_with, row_name, sure_total}
+use Rattle.lq_rule.proofs.SureLemmas.{divisor_total, sure_total}
 
 -- ---- operands that are scalars, or faults
 

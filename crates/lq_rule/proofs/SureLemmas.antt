@@ -1,28 +1,15 @@
 -- What the forms of total expressions ask of their parts.
-use Rattle.std.proofs.Common.{◌≡◌, ◌&&◌, List, ℕ, Bool, true, false, codes, ap, ◌∙◌, sym, refl, subst, true≢false}
+use Rattle.std.proofs.Common.{◌≡◌, ◌&&◌, Bool, true, false, ap, ◌∙◌, sym, refl, subst, true≢false}
 use Rattle.std.proofs.lemmas.Bool.{and_parts, and_from}
-use Rattle.std.proofs.lemmas.Slice.Eq.{bytes_eq-Decides}
-use Rattle.lq_security.specs.Totality.{Strength, is_divisor, is_row, is_sure, is_total, strength_of}
+use Rattle.lq_security.specs.Totality.{Strength, is_divisor, is_sure, is_total, strength_of}
 use Rattle.lq_grammar.specs.declared.syntax.Expr.{Expr, ind-Expr, map-Expr, out-Expr, roll-Expr}
 use Rattle.lq_grammar.specs.declared.syntax.Expr.TheOpen.{Expr-F}
 use Rattle.lq_grammar.specs.declared.syntax.Expr.TheVariants as expr
 use Rattle.lq_grammar.specs.declared.syntax.Expr.TheVariants.{rolls-Node, rolls-Query}
-use Rattle.lq_grammar.specs.declared.syntax.Expr.TheViews.{roll-out-Expr}
 use Rattle.lq_grammar.specs.declared.syntax.Node.{Node}
 use Rattle.lq_grammar.specs.declared.syntax.Node.TheVariants as node
 use Rattle.lq_grammar.specs.declared.syntax.Unary.TheVariants as unary
-use Rattle.lq_security.proofs.TotalityLaws.{strength_and, strength_binary, strength_coalesce, strength_conditional, strength_host, strength_integer, strength_member, strength_method, strength_minus, strength_name, strength_new, strength_not, strength_null, strength_or, strength_query, strength_text, strength_truth}
-
--- ---- what stands in a layer
-
-pub node_with : (e : Expr) (n : Node Expr) → out-Expr e ≡ Expr-F.Node n → e ≡ expr.Node n
-node_with e n is = sym (roll-out-Expr e) ∙ ap roll-Expr is ∙ rolls-Node n
-
-pub row_name : (e : Expr) → is_row (out-Expr e) ≡ true → e ≡ expr.Node (node.Name (codes "row"))
-row_name e h = by (out-Expr e) refl h where
-  by : (layer : Expr-F Expr) → out-Expr e ≡ layer → is_row layer ≡ true → e ≡ expr.Node (node.Name (codes "row"))
-  by (Expr-F.Node (node.Name x)) is h = node_with e (node.Name x) is ∙ ap (λ (k : List ℕ). expr.Node (node.Name k)) ((bytes_eq-Decides x (codes "row")).0 h)
-  by layer is h = absurd (true≢false (sym h))
+use Rattle.lq_security.proofs.TotalityLaws.{node_with, strength_and, strength_binary, strength_coalesce, strength_conditional, strength_host, strength_integer, strength_member, strength_method, strength_minus, strength_name, strength_new, strength_not, strength_null, strength_or, strength_query, strength_text, strength_truth}
 
 -- ---- what is sure is total
 

@@ -23,19 +23,20 @@ use Rattle.lq_language.specs.ValuesOfTypes.{Every, HasCells, HaveTypes}
 use Rattle.lq_language.specs.Operations.{truth_of}
 use Rattle.lq_machine.specs.States.{State, schemas_of, world_in}
 use Rattle.lq_machine.specs.Statements.{chosen, removable}
-use Rattle.lq_language.specs.Stream.{Stream, kept, then_ending, then_stream, where_by}
+use Rattle.lq_language.specs.Stream.{Stream, kept, then_stream, where_by}
 use Rattle.lq_language.specs.TableRows.{TableRow}
 use Rattle.lq_security.specs.Visible.{visible_to}
 use Rattle.lq_language.specs.Meaning.{expression_meaning}
 use Rattle.lq_security.specs.declared.policy.Action.TheVariants as action
 use Rattle.lq_grammar.specs.declared.syntax.Expr.{Expr}
 use Rattle.lq_language.proofs.ItemLaws.{each_same, every_filter, every_map}
+use Rattle.lq_language.proofs.StreamLaws.{map_twice, then_assoc}
 use Rattle.lq_machine.proofs.SeenTableLaws.{column_by}
 use Rattle.lq_tree.specs.FormMeaning.{form_meaning, is_true}
 use Rattle.lq_tree.specs.Rows.{stream_map}
 use Rattle.lq_tree.specs.declared.tree.Form.{Form}
 use Rattle.lq_tree.specs.declared.tree.Tree.{Tree}
-use Rattle.lq_tree.proofs.MappedStreamLaws.{map_twice, where_natural}
+use Rattle.lq_tree.proofs.MappedStreamLaws.{where_natural}
 use Rattle.lq_tree.proofs.MappedValueLaws.{mapped_Row}
 use Rattle.lq_tree.proofs.RowFormLaws.{means_alike}
 use Rattle.lq_tree.proofs.RowMeaningLaws.{condition_like}
@@ -91,12 +92,6 @@ module _ (s : State) (tables : List (TableRows SeenRow)) (seen : AreSeen s table
 abbrev is_done : End → Bool
 is_done end.Done = true
 is_done (end.Fault f) = false
-
--- one stream behind another, behind a third
-then_assoc : {A : Type 0} (xs : List A) (d : End) (ys : List A) (e : End) (c : Stream A) → then_ending xs d (then_ending ys e c) ≡ then_stream (then_ending xs d (ys, e)) c
-then_assoc xs end.Done ys end.Done c = ap (λ l. (l, c.1)) (sym (append_assoc xs ys c.0))
-then_assoc xs end.Done ys (end.Fault f) c = refl
-then_assoc xs (end.Fault f) ys e c = refl
 
 -- what is kept of rows behind others comes behind what is kept of these
 kept_behind : {A : Type 0} (holds : A → Result Bool Fault) (xs ys : List A) → where_by holds (xs ++ ys) end.Done ≡ then_stream (where_by holds xs end.Done) (where_by holds ys end.Done)

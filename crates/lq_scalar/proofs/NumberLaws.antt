@@ -1,25 +1,14 @@
--- An int holds a number exactly where its 32 bits do, and checked arithmetic tells so.
-use Rattle.std.proofs.Common.{◌≡◌, ◌&&◌, zero, suc, ℤ, pos, negsuc, Bool, true, false, Option, Some, None, Ok, Err, ap, refl, sym, ◌∙◌, arith, true≢false, if◌then◌else◌, int_le, SFits, w32}
+-- Checked arithmetic of ints answers what the definitions say.
+use Rattle.std.proofs.Common.{◌≡◌, zero, suc, ℤ, pos, negsuc, Bool, true, false, Option, Some, None, Ok, Err, ap, refl, sym, ◌∙◌, arith, true≢false, if◌then◌else◌, SFits, w32}
 use Rattle.std.specs.Prelude.{int_div, int_rem}
 use Rattle.std.specs.Int.{CanDivide, IsNonZero}
 use Rattle.std.specs.Option.{SomeIff}
 use Rattle.std.specs.Ordering.{int_eq}
-use Rattle.std.proofs.lemmas.Bool.{le-leb, leb-true}
+use Rattle.lq_language.proofs.IntLaws.{fit_is, is_fit}
 use Rattle.lq_value.specs.declared.scalar.Scalar.TheVariants as scalar
 use Rattle.lq_value.specs.declared.value.Fault.TheVariants as fault
 use Rattle.lq_language.specs.Operations.{checked, divided, is_int, left_over, on_ok}
 use Rattle.lq_scalar.specs.Operands.{int_or_overflow}
-
-is_fit : (z : ℤ) → is_int z ≡ true → SFits w32 z
-is_fit (pos n) h = record { sfits = omega (arith, leb-true n 2147483647 h) }
-is_fit (negsuc n) h = record { sfits = omega (arith, leb-true n 2147483647 (left_true (int_le (negsuc 2147483647) (negsuc n)) (int_le (negsuc n) (pos 2147483647)) h)) } where
-  left_true : (a b : Bool) → (a && b) ≡ true → a ≡ true
-  left_true true b k = refl
-  left_true false b k = absurd (true≢false (sym k))
-
-fit_is : (z : ℤ) → SFits w32 z → is_int z ≡ true
-fit_is (pos n) h = le-leb n 2147483647 (omega (arith, h.sfits))
-fit_is (negsuc n) h = ap (λ b. b && true) (le-leb n 2147483647 (omega (arith, h.sfits)))
 
 -- what checked arithmetic answers, as the definitions say it
 pub checked_is : (r : Option ℤ) (z : ℤ) → SomeIff r (SFits w32 z) z → int_or_overflow r ≡ checked z

@@ -276,7 +276,7 @@ module _ {R : Type 0} (world : World R) (scope : Scope R) where
 
   pub shape_query : (q : Query Expr) → shape_of world scope (expr.Query q) ≡ Err fault.NullReference
   unfolding shape_of
-  shape_query q = ap viewed (meaning_query (faulting world) q scope) ∙ ap shape_in (outs-Seq _ _)
+  shape_query q = ap viewed (meaning_query (faulting world) q scope)
 
 -- ---- how operands are read
 

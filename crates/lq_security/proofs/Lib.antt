@@ -9,7 +9,6 @@ pub mod RightLaws
 pub mod RuleLemmas
 pub mod RuleMeanings
 pub mod RuleTypeLaws
-pub mod RuleTyping
 pub mod SeenRowLemmas
 pub mod TotalRules
 pub mod TotalityLaws

@@ -1,5 +1,5 @@
 -- Policies that were read for the tables: what rows are decided by is what the language says of their rules.
-use Rattle.std.proofs.Common.{◌≡◌, ◌↔◌, ◌∷◌, List, [], map, ℕ, Bool, true, Some, Result, Ok, slice_get, ap, ◌∙◌, sym, subst}
+use Rattle.std.proofs.Common.{◌≡◌, ◌↔◌, ◌∷◌, ◌++◌, List, [], map, ℕ, Bool, true, Some, Result, Ok, slice_get, ap, ◌∙◌, sym, subst}
 use Rattle.std.specs.List.{Contains}
 use Rattle.std.proofs.lemmas.List.Elements.{Contains-append_left, Contains-append_right}
 use Rattle.std.proofs.lemmas.Option.{same_Some}
@@ -97,6 +97,14 @@ module _ (columns : List Column) (asked : Asked) (names : asked.columns ≡ map 
 
     -- ---- new rows
 
+    -- the first policy that refuses, and those before it, are among the policies
+    among : (front rest : List Policy) (refusing : Policy) → parts.policies ≡ front ++ refusing ∷ rest → Contains parts.policies refusing
+    among front rest refusing split = subst (λ l. Contains l refusing) (sym split) (Contains-append_right front (refusing ∷ rest) refusing (has_first refusing rest))
+
+    before : (front rest : List Policy) (refusing : Policy) → parts.policies ≡ front ++ refusing ∷ rest → (policy : Policy) → Contains front policy
+        → Contains parts.policies policy
+    before front rest refusing split policy has = subst (λ l. Contains l policy) (sym split) (Contains-append_left front (refusing ∷ rest) policy has)
+
     first_refusing : (refusing : Policy) → decided.IsFirstRefusing parts role table asked refusing → IsFirstRefusing columns parts role table asked refusing
     first_refusing refusing is = record {
       front = is.front;
@@ -104,14 +112,9 @@ module _ (columns : List Column) (asked : Asked) (names : asked.columns ≡ map 
       split = is.split;
       restrictive = is.restrictive;
       applying = is.applying;
-      unsatisfied = λ holds. is.unsatisfied (decided_satisfied action.Insert refusing (rules refusing here is.applying.on_table) holds);
-      first = λ policy has bound applying. satisfied action.Insert policy (rules policy (before policy has) applying.on_table) (is.first policy has bound applying);
-    } where
-      here : Contains parts.policies refusing
-      here = subst (λ l. Contains l refusing) (sym is.split) (Contains-append_right is.front (refusing ∷ is.rest) refusing (has_first refusing is.rest))
-
-      before : (policy : Policy) → Contains is.front policy → Contains parts.policies policy
-      before policy has = subst (λ l. Contains l policy) (sym is.split) (Contains-append_left is.front (refusing ∷ is.rest) policy has)
+      unsatisfied = λ holds. is.unsatisfied (decided_satisfied action.Insert refusing (rules refusing (among is.front is.rest refusing is.split) is.applying.on_table) holds);
+      first = λ policy has bound applying. satisfied action.Insert policy (rules policy (before is.front is.rest refusing is.split policy has) applying.on_table) (is.first policy has bound applying);
+    }
 
     decided_refusing : (refusing : Policy) → IsFirstRefusing columns parts role table asked refusing → decided.IsFirstRefusing parts role table asked refusing
     decided_refusing refusing is = record {
@@ -120,14 +123,9 @@ module _ (columns : List Column) (asked : Asked) (names : asked.columns ≡ map 
       split = is.split;
       restrictive = is.restrictive;
       applying = is.applying;
-      unsatisfied = λ holds. is.unsatisfied (satisfied action.Insert refusing (rules refusing here is.applying.on_table) holds);
-      first = λ policy has bound applying. decided_satisfied action.Insert policy (rules policy (before policy has) applying.on_table) (is.first policy has bound applying);
-    } where
-      here : Contains parts.policies refusing
-      here = subst (λ l. Contains l refusing) (sym is.split) (Contains-append_right is.front (refusing ∷ is.rest) refusing (has_first refusing is.rest))
-
-      before : (policy : Policy) → Contains is.front policy → Contains parts.policies policy
-      before policy has = subst (λ l. Contains l policy) (sym is.split) (Contains-append_left is.front (refusing ∷ is.rest) policy has)
+      unsatisfied = λ holds. is.unsatisfied (satisfied action.Insert refusing (rules refusing (among is.front is.rest refusing is.split) is.applying.on_table) holds);
+      first = λ policy has bound applying. decided_satisfied action.Insert policy (rules policy (before is.front is.rest refusing is.split policy has) applying.on_table) (is.first policy has bound applying);
+    }
 
     refused : (name : List ℕ) → decided.IsRefusedBy parts role table asked name → IsRefusedBy columns parts role table asked name
     refused name (decided.default unpermitted) =

@@ -1,6 +1,6 @@
 -- The truth value that policies are decided by is what the language says of a rule on a row with its columns' types.
-use Rattle.std.proofs.Common.{◌≡◌, ◌∷◌, List, [], map, ℕ, zero, suc, Bool, true, false, Option, Some, None, Result, Ok, Err, codes, ap, ◌∙◌, sym, refl, subst, option_map}
-use Rattle.std.proofs.lemmas.Option.{none-some, same_Some}
+use Rattle.std.proofs.Common.{◌≡◌, ◌∷◌, List, [], map, ℕ, zero, suc, Bool, true, false, Result, Ok, Err, codes, ap, ◌∙◌, sym, refl, subst}
+use Rattle.std.proofs.lemmas.Option.{none-some}
 use Rattle.lq_value.specs.declared.scalar.Scalar.{Scalar}
 use Rattle.lq_value.specs.declared.scalar.Scalar.TheVariants as scalar
 use Rattle.lq_value.specs.declared.table.Column.{Column}
@@ -22,7 +22,6 @@ use Rattle.lq_language.specs.ValuesOfTypes.{Every, HasCells, HoldsRows, IsOf, Is
 use Rattle.lq_language.specs.Operations.{on_ok, truth_of}
 use Rattle.lq_security.specs.RuleLaws.{HoldsAsMeant, HoldsWhereTrue, IsRowOver, IsRuleOver, language_world}
 use Rattle.lq_security.specs.TotalityLaws.{rule_names}
-use Rattle.lq_language.specs.Names.{column_named, type_of_column}
 use Rattle.lq_language.specs.OperandTypes.{row_table}
 use Rattle.lq_language.specs.RuleTyping.{HasRuleType}
 use Rattle.lq_language.specs.TableRows.{cell_named}
@@ -31,12 +30,11 @@ use Rattle.lq_language.specs.Meaning.{expression_meaning}
 use Rattle.lq_language.specs.MeaningLaws.{IsScopeOfValues, IsValueOf, by_row, by_scalar}
 use Rattle.lq_grammar.specs.declared.syntax.Expr.{Expr}
 use Rattle.lq_language.proofs.ItemLaws.{every_more, every_none}
-use Rattle.lq_language.proofs.MeaningLaws.{cell_there}
-use Rattle.lq_security.proofs.RuleTyping.{total_alike}
+use Rattle.lq_security.proofs.RuleTypeLaws.{total_alike}
 use Rattle.lq_language.proofs.ServedMeaningLaws.{keeps_meanings}
-use Rattle.lq_security.proofs.TotalRules.{decides_rules}
+use Rattle.lq_security.proofs.TotalRules.{decides_rules, typed_cell}
 use Rattle.lq_language.proofs.TypingLaws.{type_sound}
-use Rattle.lq_language.proofs.TypedMeaningLaws.{has_whole_meaning}
+use Rattle.lq_language.proofs.TypedMeaningLaws.{has_language_meaning}
 use Rattle.lq_security.proofs.RuleMeanings.{total_same}
 
 -- what is true of what an expression means
@@ -57,13 +55,7 @@ module _ (columns : List Column) (cells : List Scalar) (row : IsRowOver columns 
   scope = rule_scope cells user
 
   has_cells : HasCells world 0 cells
-  has_cells c t h = by (column_named c columns) refl h where
-    by : (o : Option Column) → column_named c columns ≡ o → option_map (λ column. type_of_column column.ty) o ≡ Some t
-        → (s : Scalar) × (cell_named (map (λ column. column.name) columns) cells c ≡ Some s) × IsScalarOf (out-Ty t) s
-    by None is g = absurd (none-some t g)
-    by (Some column) is g =
-        let cell = cell_there columns cells row.typed c column is in
-        (cell.0, cell.1, subst (λ (u : Ty). IsScalarOf (out-Ty u) cell.0) (same_Some (type_of_column column.ty) t g) cell.2)
+  has_cells c t h = typed_cell columns cells row.typed c t h
 
   holds_rows : HoldsRows world
   holds_rows zero schema is = ([], refl, every_none (HasCells world zero))
@@ -100,7 +92,7 @@ module _ (columns : List Column) (cells : List Scalar) (row : IsRowOver columns 
         → expression_meaning (language_world columns unknown) rule scope
         ≡ Ok (value.Scalar (scalar.Bool (rule_holds (map (λ column. column.name) columns) rule cells user)))
     meant unknown =
-        (has_whole_meaning world holds_rows (every_none _) scope scope_of_values rule ty.Bool is.truth unknown fault.NullReference).0
+        (has_language_meaning world holds_rows (every_none _) scope scope_of_values rule ty.Bool is.truth unknown fault.NullReference).0
         ∙ keeps_meanings world holds_rows scope of_scope rule ty.Bool served fault.NullReference
         ∙ total_same (record { name = []; columns = columns } ∷ []) ([] ∷ []) (cell_named (map (λ column. column.name) columns)) fault.NullReference cells user is.total
         ∙ decided.1

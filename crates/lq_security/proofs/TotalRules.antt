@@ -1,5 +1,5 @@
 -- A typed total rule has a truth value on every row.
-use Rattle.std.proofs.Common.{◌≡◌, ◌∷◌, ◌&&◌, if◌then◌else◌, List, [], map, ℕ, zero, suc, ℤ, pos, negsuc, neg_ℤ, Bool, true, false, not, true≢false, Option, Some, None, Result, Ok, Err, codes, bytes_eq, ap, ◌∙◌, sym, refl, subst, arith, option_and_then, option_map, int_le, int_lt, SFits, w32}
+use Rattle.std.proofs.Common.{◌≡◌, ◌∷◌, ◌&&◌, if◌then◌else◌, List, [], map, ℕ, zero, suc, ℤ, pos, neg_ℤ, Bool, true, false, not, true≢false, Option, Some, None, Result, Ok, Err, codes, bytes_eq, ap, ap₂, ◌∙◌, sym, refl, subst, arith, option_and_then, option_map, int_le, int_lt, w32}
 use Rattle.std.proofs.Math.Dec.{lt→ltb}
 use Rattle.std.proofs.lemmas.Bool.{and_parts, le-leb, leb-true}
 use Rattle.std.proofs.lemmas.Bool.Decides.{Decides-int_eq}
@@ -8,6 +8,7 @@ use Rattle.std.proofs.lemmas.Option.{none-some, same_Some}
 use Rattle.std.specs.List.{list_all}
 use Rattle.std.specs.Ordering.{int_eq}
 use Rattle.std.specs.Prelude.{int_div, int_rem, is_some, unsigned_abs}
+use Rattle.lq_language.proofs.IntLaws.{fit_is, is_fit}
 use Rattle.lq_value.specs.declared.scalar.Scalar.{Scalar}
 use Rattle.lq_value.specs.declared.scalar.Scalar.TheVariants as scalar
 use Rattle.lq_value.specs.declared.table.Column.{Column}
@@ -52,14 +53,6 @@ use Rattle.lq_language.proofs.ScalarResultLaws.{Coalesces, bool_layer, chosen_wi
 use Rattle.lq_language.proofs.TypingLaws.{is_text_of, is_truth, type_complete}
 
 -- ---- ints
-
-is_fit : (z : ℤ) → is_int z ≡ true → SFits w32 z
-is_fit (pos n) h = record { sfits = omega (arith, leb-true n 2147483647 h) }
-is_fit (negsuc n) h = record { sfits = omega (arith, leb-true n 2147483647 (and_parts (int_le (negsuc 2147483647) (negsuc n)) _ h).0) }
-
-fit_is : (z : ℤ) → SFits w32 z → is_int z ≡ true
-fit_is (pos n) h = le-leb n 2147483647 (omega (arith, h.sfits))
-fit_is (negsuc n) h = ap (λ b. b && true) (le-leb n 2147483647 (omega (arith, h.sfits)))
 
 -- an int of 0 or more has a negative
 negative_int : (n : ℕ) → is_int (pos n) ≡ true → is_int (neg_ℤ (pos n)) ≡ true
@@ -120,21 +113,9 @@ text_typed : (o : Option Ty) → is_text_type o ≡ true → o ≡ Some ty.Str
 text_typed None h = absurd (true≢false (sym h))
 text_typed (Some t) h = ap Some (is_text_of t h)
 
-pub record AreTyped (given : Ty-F Ty → Ty-F Ty → Option Ty) (o p : Option Ty) (r : Ty) : Type 0 where
-  pub left : Ty
-  pub right : Ty
-  pub left_is : o ≡ Some left
-  pub right_is : p ≡ Some right
-  pub result : given (out-Ty left) (out-Ty right) ≡ Some r
-
-operands_typed : (given : Ty-F Ty → Ty-F Ty → Option Ty) (o p : Option Ty) (r : Ty) → of_operands given o p ≡ Some r → AreTyped given o p r
-operands_typed given None p r h = absurd (none-some r h)
-operands_typed given (Some s) None r h = absurd (none-some r h)
-operands_typed given (Some s) (Some t) r h = record { left = s; right = t; left_is = refl; right_is = refl; result = h }
-
-choice_typed : (c : Bool) (o p : Option Ty) (r : Ty) → choice_type c o p ≡ Some r → (c ≡ true) × AreTyped chosen o p r
+choice_typed : (c : Bool) (o p : Option Ty) (r : Ty) → choice_type c o p ≡ Some r → (c ≡ true) × (of_operands chosen o p ≡ Some r)
 choice_typed false o p r h = absurd (none-some r h)
-choice_typed true o p r h = (refl, operands_typed chosen o p r h)
+choice_typed true o p r h = (refl, h)
 
 -- operands that a sign other than `==` takes, which joins no texts
 abbrev IsComputed : Binary → Ty-F Ty → Ty-F Ty → Ty → Type 0
@@ -158,6 +139,24 @@ orders_else binary.Equal h other = absurd (true≢false other)
 orders_else binary.NotEqual h other = absurd (true≢false other)
 orders_else op h other = absurd (true≢false (sym h))
 
+-- ---- what is claimed of scalars
+
+abbrev IsHeld : Scalar → Type 0
+IsHeld s = is_held s ≡ true
+
+abbrev IsText : Scalar → Type 0
+IsText s = (x : List ℕ) × (s ≡ scalar.Text x)
+
+-- this int, which 32 bits hold
+abbrev IsInt : ℤ → Scalar → Type 0
+IsInt n s = (s ≡ scalar.Int n) × (is_int n ≡ true)
+
+text_held : (s : Scalar) → IsText s → IsHeld s
+text_held s text = ap is_held text.1
+
+int_held : (n : ℤ) (s : Scalar) → IsInt n s → IsHeld s
+int_held n s int = ap is_held int.0 ∙ int.1
+
 -- ---- operators
 
 -- a sign that asks for the order of its operands
@@ -172,10 +171,14 @@ ordered_truth binary.LessOrEqual h o p x y a b = let decided = numbers_ordered i
 ordered_truth binary.GreaterOrEqual h o p x y a b = let decided = numbers_ordered int_le y x b a in (decided.0, λ unknown. ap (truth unknown) (decided.1 unknown))
 ordered_truth op h o p x y a b = absurd (true≢false (sym h))
 
-search_truth : (m : List ℕ) → IsSearch m → (x y : List ℕ) → GivesTruth (λ unknown. of_search unknown (search_named m) (scalar.Text x) (scalar.Text y))
-search_truth m (starts is) x y = (begins_with x y, λ unknown. ap (λ (k : List ℕ). of_search unknown (search_named k) (scalar.Text x) (scalar.Text y)) is)
-search_truth m (ends is) x y = (ends_in x y, λ unknown. ap (λ (k : List ℕ). of_search unknown (search_named k) (scalar.Text x) (scalar.Text y)) is)
-search_truth m (contains is) x y = (has_in x y, λ unknown. ap (λ (k : List ℕ). of_search unknown (search_named k) (scalar.Text x) (scalar.Text y)) is)
+search_truth : (m : List ℕ) → IsSearch m → (s t : Scalar) → IsText s → IsText t → GivesTruth (λ unknown. of_search unknown (search_named m) s t)
+search_truth m looks s t (x, s_is) (y, t_is) =
+    let found = by looks in (found.0, λ unknown. ap₂ (of_search unknown (search_named m)) s_is t_is ∙ found.1 unknown)
+  where
+    by : IsSearch m → GivesTruth (λ unknown. of_search unknown (search_named m) (scalar.Text x) (scalar.Text y))
+    by (starts is) = (begins_with x y, λ unknown. ap (λ (k : List ℕ). of_search unknown (search_named k) (scalar.Text x) (scalar.Text y)) is)
+    by (ends is) = (ends_in x y, λ unknown. ap (λ (k : List ℕ). of_search unknown (search_named k) (scalar.Text x) (scalar.Text y)) is)
+    by (contains is) = (has_in x y, λ unknown. ap (λ (k : List ℕ). of_search unknown (search_named k) (scalar.Text x) (scalar.Text y)) is)
 
 -- a scalar of a layer, which an operator gives
 record Gets (layer : Ty-F Ty) (o : Result Scalar Fault) : Type 0 where
@@ -235,10 +238,22 @@ coalesced_texts : (k : Ty-F Ty) (r : Ty) → coalesced k Ty-F.Str ≡ Some r →
 coalesced_texts Ty-F.Str r h = refl
 coalesced_texts k r h = absurd (none-some r h)
 
-text_besides_null : (s : Scalar) → IsScalarOf Ty-F.Str s → is_null s ≡ false → (x : List ℕ) × (s ≡ scalar.Text x)
+text_besides_null : (s : Scalar) → IsScalarOf Ty-F.Str s → is_null s ≡ false → IsText s
 text_besides_null (scalar.Text x) fits h = (x, refl)
 text_besides_null scalar.Null fits h = absurd (true≢false h)
 text_besides_null s fits h = absurd fits
+
+-- what is so of the second operand of `??` is so of the first, where that isn't null
+abbrev IsOfFirst : (Scalar → Type 0) → Type 0
+IsOfFirst P =
+    (k l : Ty-F Ty) (r : Ty) (x y : Scalar) → coalesced k l ≡ Some r → IsScalarOf k x → IsScalarOf l y → IsHeld x → P y → is_null x ≡ false → P x
+
+text_of_first : IsOfFirst IsText
+text_of_first k l r x y result x_fits y_fits held text some = text_besides_null x (subst (λ (m : Ty-F Ty). IsScalarOf m x) texts x_fits) some where
+  texts : k ≡ Ty-F.Str
+  texts =
+      coalesced_texts k r
+      (subst (λ (m : Ty-F Ty). coalesced k m ≡ Some r) (text_of_layer l text.0 (subst (λ (s : Scalar). IsScalarOf l s) text.1 y_fits)) result)
 
 -- ---- the literals of a rule
 
@@ -263,6 +278,18 @@ held_cell (name ∷ names) (cell ∷ cells) c s held h =
     let parts = and_parts (is_held cell) (list_all is_held cells) held in
     held_by (bytes_eq name c) cell (cell_named names cells c) s parts.0 (λ g. held_cell names cells c s parts.1 g) h
 
+-- the cell under a column is of the column's type
+pub typed_cell : (columns : List Column) (cells : List Scalar) → HaveTypes columns cells → (c : List ℕ) (t : Ty)
+    → option_map (λ column. type_of_column column.ty) (column_named c columns) ≡ Some t
+    → (s : Scalar) × (cell_named (map (λ column. column.name) columns) cells c ≡ Some s) × IsScalarOf (out-Ty t) s
+typed_cell columns cells fit c t h = by (column_named c columns) refl h where
+  by : (o : Option Column) → column_named c columns ≡ o → option_map (λ column. type_of_column column.ty) o ≡ Some t
+      → (s : Scalar) × (cell_named (map (λ column. column.name) columns) cells c ≡ Some s) × IsScalarOf (out-Ty t) s
+  by None is g = absurd (none-some t g)
+  by (Some column) is g =
+      let cell = cell_there columns cells fit c column is in
+      (cell.0, cell.1, subst (λ (u : Ty). IsScalarOf (out-Ty u) cell.0) (same_Some (type_of_column column.ty) t g) cell.2)
+
 -- ---- what follows a scalar and a truth value
 
 module _ {R : Type 0} (world : World R) where
@@ -278,52 +305,40 @@ module _ {R : Type 0} (world : World R) where
   on_comparand_is s next is =
       ap (λ (o : Result (Value R) Fault). on_comparand world o next) is ∙ ap (λ (layer : Value-F R (Value R)). on_ok (comparand world layer) next) (outs-Scalar s)
 
-  -- an expression means a scalar of this type, and a text
-  pub record Comes (t : Ty) (o : Result (Value R) Fault) : Type 0 where
+  -- an expression means a scalar of this type, of which this is so
+  pub record Comes (P : Scalar → Type 0) (t : Ty) (o : Result (Value R) Fault) : Type 0 where
     pub scalar : Scalar
     pub is : o ≡ Ok (value.Scalar scalar)
     pub fits : IsScalarOf (out-Ty t) scalar
-    pub held : is_held scalar ≡ true
+    pub so : P scalar
 
-  pub record ComesText (t : Ty) (o : Result (Value R) Fault) : Type 0 where
-    pub text : List ℕ
-    pub is : o ≡ Ok (value.Scalar (scalar.Text text))
-    pub fits : IsScalarOf (out-Ty t) (scalar.Text text)
-
-  comes_as : {t : Ty} {o p : Result (Value R) Fault} → o ≡ p → Comes t p → Comes t o
-  comes_as same comes = record { scalar = comes.scalar; is = same ∙ comes.is; fits = comes.fits; held = comes.held }
-
-  comes_text_as : {t : Ty} {o p : Result (Value R) Fault} → o ≡ p → ComesText t p → ComesText t o
-  comes_text_as same comes = record { text = comes.text; is = same ∙ comes.is; fits = comes.fits }
-
-  comes_text : {t : Ty} {o : Result (Value R) Fault} → ComesText t o → Comes t o
-  comes_text comes = record { scalar = scalar.Text comes.text; is = comes.is; fits = comes.fits; held = refl }
+  comes_as : {P : Scalar → Type 0} {t : Ty} {o p : Result (Value R) Fault} → o ≡ p → Comes P t p → Comes P t o
+  comes_as same comes = record { scalar = comes.scalar; is = same ∙ comes.is; fits = comes.fits; so = comes.so }
 
   -- a scalar of a type, by the type's layer
-  scalar_comes : (t u : Ty) (layer : Ty-F Ty) (s : Scalar) → u ≡ t → out-Ty u ≡ layer → IsScalarOf layer s → is_held s ≡ true → Comes t (Ok (value.Scalar s))
-  scalar_comes t u layer s same is fits held = record {
+  scalar_comes : (P : Scalar → Type 0) (t u : Ty) (layer : Ty-F Ty) (s : Scalar) → u ≡ t → out-Ty u ≡ layer → IsScalarOf layer s → P s
+      → Comes P t (Ok (value.Scalar s))
+  scalar_comes P t u layer s same is fits so = record {
     scalar = s;
     is = refl;
     fits = subst (λ (l : Ty-F Ty). IsScalarOf l s) (sym is ∙ ap out-Ty same) fits;
-    held = held;
+    so = so;
   }
 
-  truth_comes : (t : Ty) (b : Bool) → ty.Bool ≡ t → Comes t (Ok (truth_value b))
-  truth_comes t b same = scalar_comes t ty.Bool Ty-F.Bool (scalar.Bool b) same outs-Bool tt refl
+  truth_comes : (t : Ty) (b : Bool) → ty.Bool ≡ t → Comes IsHeld t (Ok (truth_value b))
+  truth_comes t b same = scalar_comes IsHeld t ty.Bool Ty-F.Bool (scalar.Bool b) same outs-Bool tt refl
 
-  text_comes : (t : Ty) (x : List ℕ) → ty.Str ≡ t → ComesText t (Ok (value.Scalar (scalar.Text x)))
-  text_comes t x same = record { text = x; is = refl; fits = subst (λ (l : Ty-F Ty). IsScalarOf l (scalar.Text x)) (sym outs-Str ∙ ap out-Ty same) tt }
+  text_comes : (t : Ty) (x : List ℕ) → ty.Str ≡ t → Comes IsText t (Ok (value.Scalar (scalar.Text x)))
+  text_comes t x same = scalar_comes IsText t ty.Str Ty-F.Str (scalar.Text x) same outs-Str tt (x, refl)
 
-  truth_there : {o : Result (Value R) Fault} → Comes ty.Bool o → (b : Bool) × (o ≡ Ok (value.Scalar (scalar.Bool b)))
+  truth_there : {P : Scalar → Type 0} {o : Result (Value R) Fault} → Comes P ty.Bool o → (b : Bool) × (o ≡ Ok (value.Scalar (scalar.Bool b)))
   truth_there comes =
       let found = bool_layer comes.scalar (subst (λ (l : Ty-F Ty). IsScalarOf l comes.scalar) outs-Bool comes.fits) in
       (found.0, comes.is ∙ ap (λ (s : Scalar). Ok (value.Scalar s)) found.1)
 
-  widened_comes : {s t : Ty} {o : Result (Value R) Fault} → ((x : Scalar) → IsScalarOf (out-Ty s) x → IsScalarOf (out-Ty t) x) → Comes s o → Comes t o
-  widened_comes widens comes = record { scalar = comes.scalar; is = comes.is; fits = widens comes.scalar comes.fits; held = comes.held }
-
-  widened_text : {s t : Ty} {o : Result (Value R) Fault} → ((x : Scalar) → IsScalarOf (out-Ty s) x → IsScalarOf (out-Ty t) x) → ComesText s o → ComesText t o
-  widened_text widens comes = record { text = comes.text; is = comes.is; fits = widens (scalar.Text comes.text) comes.fits }
+  widened_comes : {P : Scalar → Type 0} {s t : Ty} {o : Result (Value R) Fault} → ((x : Scalar) → IsScalarOf (out-Ty s) x → IsScalarOf (out-Ty t) x)
+      → Comes P s o → Comes P t o
+  widened_comes widens comes = record { scalar = comes.scalar; is = comes.is; fits = widens comes.scalar comes.fits; so = comes.so }
 
   -- whether an int? has a value, where what is asked isn't a row
   has_value_there : (o : Option Ty) → is_row_type o ≡ false → (s : Scalar) → IsScalarOf Ty-F.IntN s
@@ -365,43 +380,50 @@ module _ (table : List ℕ) (columns : List Column) (cells : List Scalar) (fit :
   abbrev typed : Expr → Option Ty
   typed e = type_of e names
 
+  -- of what an expression means, where it is typed
+  abbrev Gives : (Scalar → Type 0) → Expr → Type 0
+  Gives P e = is_held_rule e ≡ true → (t : Ty) → typed e ≡ Some t → Comes world P t (meant e)
+
   -- what a claim says of meanings
   abbrev Means : Claim → Type 0
-  Means (Total e) = is_held_rule e ≡ true → (t : Ty) → typed e ≡ Some t → Comes world t (meant e)
-  Means (Sure e) = is_held_rule e ≡ true → (t : Ty) → typed e ≡ Some t → ComesText world t (meant e)
+  Means (Total e) = Gives IsHeld e
+  Means (Sure e) = Gives IsText e
 
   -- an expression that is this one
-  total_as : {e d : Expr} → e ≡ d → Means (Total d) → Means (Total e)
-  total_as is means = subst (λ (x : Expr). Means (Total x)) (sym is) means
+  gives_as : {P : Scalar → Type 0} {e d : Expr} → e ≡ d → Gives P d → Gives P e
+  gives_as {P} is gives = subst (λ (x : Expr). Gives P x) (sym is) gives
 
-  sure_as : {e d : Expr} → e ≡ d → Means (Sure d) → Means (Sure e)
-  sure_as is means = subst (λ (x : Expr). Means (Sure x)) (sym is) means
+  -- what follows from what is claimed
+  gives_where : {P Q : Scalar → Type 0} (e : Expr) → ((s : Scalar) → P s → Q s) → Gives P e → Gives Q e
+  gives_where e so gives literals t h =
+      let found = gives literals t h in record { scalar = found.scalar; is = found.is; fits = found.fits; so = so found.scalar found.so }
 
-  means_integer : (n : ℤ) → Means (Total (expr.Node (node.Integer n)))
+  means_integer : (n : ℤ) → Gives (IsInt n) (expr.Node (node.Integer n))
   means_integer n literals t h =
       comes_as world (meaning_integer world n scope)
-      (scalar_comes world t ty.Int Ty-F.Int (scalar.Int n) (same_Some ty.Int t (sym (type_integer n names) ∙ h)) outs-Int tt (sym (held_node (node.Integer n)) ∙ literals))
+      (scalar_comes world (IsInt n) t ty.Int Ty-F.Int (scalar.Int n) (same_Some ty.Int t (sym (type_integer n names) ∙ h)) outs-Int tt
+      (refl, sym (held_node (node.Integer n)) ∙ literals))
 
-  means_text : (x : List ℕ) → Means (Sure (expr.Node (node.Text x)))
-  means_text x literals t h = comes_text_as world (meaning_text world x scope) (text_comes world t x (same_Some ty.Str t (sym (type_text x names) ∙ h)))
+  means_text : (x : List ℕ) → Gives IsText (expr.Node (node.Text x))
+  means_text x literals t h = comes_as world (meaning_text world x scope) (text_comes world t x (same_Some ty.Str t (sym (type_text x names) ∙ h)))
 
-  means_truth : (b : Bool) → Means (Total (expr.Node (node.Bool b)))
+  means_truth : (b : Bool) → Gives IsHeld (expr.Node (node.Bool b))
   means_truth b literals t h = comes_as world (meaning_truth world b scope) (truth_comes world t b (same_Some ty.Bool t (sym (type_truth b names) ∙ h)))
 
-  means_null : Means (Total (expr.Node node.Null))
+  means_null : Gives IsHeld (expr.Node node.Null)
   means_null literals t h =
-      comes_as world (meaning_null world scope) (scalar_comes world t ty.Null Ty-F.Null scalar.Null (same_Some ty.Null t (sym (type_null names) ∙ h)) outs-Null tt refl)
+      comes_as world (meaning_null world scope) (scalar_comes world IsHeld t ty.Null Ty-F.Null scalar.Null (same_Some ty.Null t (sym (type_null names) ∙ h)) outs-Null tt refl)
 
-  means_user : Means (Sure (expr.Node (node.Name (codes "user"))))
+  means_user : Gives IsText (expr.Node (node.Name (codes "user")))
   means_user literals t h =
-      comes_text_as world (meaning_name world (codes "user") scope) (text_comes world t user (same_Some ty.Str t (sym (type_name (codes "user") names) ∙ h)))
+      comes_as world (meaning_name world (codes "user") scope) (text_comes world t user (same_Some ty.Str t (sym (type_name (codes "user") names) ∙ h)))
 
-  means_minus : (a : Expr) (n : ℕ) → a ≡ expr.Node (node.Integer (pos n)) → Means (Total (expr.Node (node.Unary unary.Minus a)))
+  means_minus : (a : Expr) (n : ℕ) → a ≡ expr.Node (node.Integer (pos n)) → Gives IsHeld (expr.Node (node.Unary unary.Minus a))
   means_minus a n literal literals t h =
       comes_as world
       (meaning_minus world a scope ∙ on_scalar_is world (scalar.Int (pos n)) (λ s. as_value (negated world.unknown s)) (ap meant literal ∙ meaning_integer world (pos n) scope)
       ∙ ap as_value (checked_int (neg_ℤ (pos n)) negative))
-      (scalar_comes world t ty.Int Ty-F.Int (scalar.Int (neg_ℤ (pos n))) same outs-Int tt negative)
+      (scalar_comes world IsHeld t ty.Int Ty-F.Int (scalar.Int (neg_ℤ (pos n))) same outs-Int tt negative)
     where
       negative : is_int (neg_ℤ (pos n)) ≡ true
       negative = negative_int n (sym (ap is_held_rule literal ∙ held_node (node.Integer (pos n))) ∙ (sym (held_node (node.Unary unary.Minus a)) ∙ literals))
@@ -411,64 +433,80 @@ module _ (table : List ℕ) (columns : List Column) (cells : List Scalar) (fit :
           same_Some ty.Int t
           (sym (type_minus a names ∙ ap if_number (ap typed literal ∙ type_integer (pos n) names) ∙ ap (λ (l : Ty-F Ty). if is_number l then Some ty.Int else None) outs-Int) ∙ h)
 
-  means_column : (row : Expr) (c : List ℕ) → row ≡ expr.Node (node.Name (codes "row")) → Means (Total (expr.Node (node.Member row c)))
-  means_column row c of_row literals t h = by (column_named c columns) refl column_is where
-    column_is : column_type names.tables 0 c ≡ Some t
-    column_is =
-        sym (type_member row c names ∙ ap (λ (o : Option Ty). option_and_then (λ u. member_type names c (out-Ty u)) o) (ap typed of_row ∙ type_name (codes "row") names)
-        ∙ ap (member_type names c) (outs-Row 0)) ∙ h
+  means_column : (row : Expr) (c : List ℕ) → row ≡ expr.Node (node.Name (codes "row")) → Gives IsHeld (expr.Node (node.Member row c))
+  means_column row c of_row literals t h =
+      comes_as world
+      (meaning_member world row c scope ∙ ap (λ (o : Result (Value (List Scalar)) Fault). on_ok o (λ v. member_of (out-Value (List Scalar) v))) row_is
+      ∙ ap member_of (outs-value-Row cells) ∙ ap (cell_value world) cell.1)
+      (record { scalar = cell.0; is = refl; fits = cell.2; so = held_cell (map (λ column. column.name) columns) cells c cell.0 held cell.1 })
+    where
+      column_is : column_type names.tables 0 c ≡ Some t
+      column_is =
+          sym (type_member row c names ∙ ap (λ (o : Option Ty). option_and_then (λ u. member_type names c (out-Ty u)) o) (ap typed of_row ∙ type_name (codes "row") names)
+          ∙ ap (member_type names c) (outs-Row 0)) ∙ h
 
-    row_is : meant row ≡ Ok (value.Row cells)
-    row_is = ap meant of_row ∙ meaning_name world (codes "row") scope
+      cell : (s : Scalar) × (cell_named (map (λ column. column.name) columns) cells c ≡ Some s) × IsScalarOf (out-Ty t) s
+      cell = typed_cell columns cells fit c t column_is
 
-    member_of : Value-F (List Scalar) (Value (List Scalar)) → Result (Value (List Scalar)) Fault
-    member_of layer = member_value world (type_of row (names_at world scope)) c layer
+      row_is : meant row ≡ Ok (value.Row cells)
+      row_is = ap meant of_row ∙ meaning_name world (codes "row") scope
 
-    by : (o : Option Column) → column_named c columns ≡ o → option_map (λ column. type_of_column column.ty) o ≡ Some t → Comes world t (meant (expr.Node (node.Member row c)))
-    by None is g = absurd (none-some t g)
-    by (Some column) is g =
-        let cell = cell_there columns cells fit c column is in
-        comes_as world
-        (meaning_member world row c scope ∙ ap (λ (o : Result (Value (List Scalar)) Fault). on_ok o (λ v. member_of (out-Value (List Scalar) v))) row_is
-        ∙ ap member_of (outs-value-Row cells) ∙ ap (cell_value world) cell.1)
-        (record {
-          scalar = cell.0;
-          is = refl;
-          fits = subst (λ (u : Ty). IsScalarOf (out-Ty u) cell.0) (same_Some (type_of_column column.ty) t g) cell.2;
-          held = held_cell (map (λ d. d.name) columns) cells c cell.0 held cell.1;
-        })
+      member_of : Value-F (List Scalar) (Value (List Scalar)) → Result (Value (List Scalar)) Fault
+      member_of layer = member_value world (type_of row (names_at world scope)) c layer
 
-  means_not : (a : Expr) → Means (Total a) → Means (Total (expr.Node (node.Unary unary.Not a)))
+  means_not : (a : Expr) → Gives IsHeld a → Gives IsHeld (expr.Node (node.Unary unary.Not a))
   means_not a operand literals t h =
       let result = truth_typed (is_bool_type (typed a)) t (sym (type_not a names) ∙ h) in
       let x = truth_there world (operand (sym (held_node (node.Unary unary.Not a)) ∙ literals) ty.Bool (bool_typed (typed a) result.0)) in
       comes_as world (meaning_not world a scope ∙ on_truth_is world x.0 _ x.1) (truth_comes world t (not x.0) result.1)
 
-  means_both : (a b : Expr) → Means (Total a) → Means (Total b) → Means (Total (expr.Node (node.And a b)))
-  means_both a b left right literals t h =
-      let result = truth_typed (is_bool_type (typed a) && is_bool_type (typed b)) t (sym (type_both a b names) ∙ h) in
+  -- `&&` and `||`, by what comes of the second operand where the first has this truth value
+  means_joined : (e a b : Expr) (next : Bool → Result (Value (List Scalar)) Fault) → is_held_rule e ≡ (is_held_rule a && is_held_rule b)
+      → typed e ≡ truth_type (is_bool_type (typed a) && is_bool_type (typed b)) → meant e ≡ on_truth world (meant a) next
+      → (Comes world IsHeld ty.Bool (meant b) → (c : Bool) → Comes world IsHeld ty.Bool (next c)) → Gives IsHeld a → Gives IsHeld b → Gives IsHeld e
+  means_joined e a b next held_is typed_is meant_is by left right literals t h =
+      let result = truth_typed (is_bool_type (typed a) && is_bool_type (typed b)) t (sym typed_is ∙ h) in
       let are = and_parts (is_bool_type (typed a)) _ result.0 in
-      let parts = and_parts (is_held_rule a) (is_held_rule b) (sym (held_node (node.And a b)) ∙ literals) in
+      let parts = and_parts (is_held_rule a) (is_held_rule b) (sym held_is ∙ literals) in
       let x = truth_there world (left parts.0 ty.Bool (bool_typed (typed a) are.0)) in
-      comes_as world (meaning_both world a b scope ∙ on_truth_is world x.0 _ x.1)
-      (subst (λ (u : Ty). Comes world u (if x.0 then meant b else Ok (truth_value false))) result.1 (by (right parts.1 ty.Bool (bool_typed (typed b) are.1)) x.0))
-    where
-      by : Comes world ty.Bool (meant b) → (c : Bool) → Comes world ty.Bool (if c then meant b else Ok (truth_value false))
-      by second true = second
-      by second false = truth_comes world ty.Bool false refl
+      comes_as world (meant_is ∙ on_truth_is world x.0 next x.1)
+      (subst (λ (u : Ty). Comes world IsHeld u (next x.0)) result.1 (by (right parts.1 ty.Bool (bool_typed (typed b) are.1)) x.0))
 
-  means_either : (a b : Expr) → Means (Total a) → Means (Total b) → Means (Total (expr.Node (node.Or a b)))
-  means_either a b left right literals t h =
-      let result = truth_typed (is_bool_type (typed a) && is_bool_type (typed b)) t (sym (type_either a b names) ∙ h) in
-      let are = and_parts (is_bool_type (typed a)) _ result.0 in
-      let parts = and_parts (is_held_rule a) (is_held_rule b) (sym (held_node (node.Or a b)) ∙ literals) in
-      let x = truth_there world (left parts.0 ty.Bool (bool_typed (typed a) are.0)) in
-      comes_as world (meaning_either world a b scope ∙ on_truth_is world x.0 _ x.1)
-      (subst (λ (u : Ty). Comes world u (if x.0 then Ok (truth_value true) else meant b)) result.1 (by (right parts.1 ty.Bool (bool_typed (typed b) are.1)) x.0))
-    where
-      by : Comes world ty.Bool (meant b) → (c : Bool) → Comes world ty.Bool (if c then Ok (truth_value true) else meant b)
-      by second true = truth_comes world ty.Bool true refl
-      by second false = second
+  means_both : (a b : Expr) → Gives IsHeld a → Gives IsHeld b → Gives IsHeld (expr.Node (node.And a b))
+  means_both a b = means_joined (expr.Node (node.And a b)) a b _ (held_node (node.And a b)) (type_both a b names) (meaning_both world a b scope) by where
+    by : Comes world IsHeld ty.Bool (meant b) → (c : Bool) → Comes world IsHeld ty.Bool (if c then meant b else Ok (truth_value false))
+    by second true = second
+    by second false = truth_comes world ty.Bool false refl
+
+  means_either : (a b : Expr) → Gives IsHeld a → Gives IsHeld b → Gives IsHeld (expr.Node (node.Or a b))
+  means_either a b = means_joined (expr.Node (node.Or a b)) a b _ (held_node (node.Or a b)) (type_either a b names) (meaning_either world a b scope) by where
+    by : Comes world IsHeld ty.Bool (meant b) → (c : Bool) → Comes world IsHeld ty.Bool (if c then Ok (truth_value true) else meant b)
+    by second true = truth_comes world ty.Bool true refl
+    by second false = second
+
+  -- two operands that are typed, of which an operator has this type
+  pub record Operands (given : Ty-F Ty → Ty-F Ty → Option Ty) (P Q : Scalar → Type 0) (a b : Expr) (t : Ty) : Type 0 where
+    pub left : Ty
+    pub right : Ty
+    pub right_is : typed b ≡ Some right
+    pub result : given (out-Ty left) (out-Ty right) ≡ Some t
+    pub x : Comes world P left (meant a)
+    pub y : Comes world Q right (meant b)
+
+  operands_there : (given : Ty-F Ty → Ty-F Ty → Option Ty) {P Q : Scalar → Type 0} (a b : Expr) (t : Ty) → Gives P a → Gives Q b
+      → (is_held_rule a ≡ true) × (is_held_rule b ≡ true) → of_operands given (typed a) (typed b) ≡ Some t → Operands given P Q a b t
+  operands_there given {P} {Q} a b t left right held h = by (typed a) (typed b) refl refl h where
+    by : (o p : Option Ty) → typed a ≡ o → typed b ≡ p → of_operands given o p ≡ Some t → Operands given P Q a b t
+    by None p a_is b_is g = absurd (none-some t g)
+    by (Some s) None a_is b_is g = absurd (none-some t g)
+    by (Some s) (Some u) a_is b_is g =
+        record { left = s; right = u; right_is = b_is; result = g; x = left held.0 s a_is; y = right held.1 u b_is }
+
+  binary_operands : (op : Binary) {Q : Scalar → Type 0} (a b : Expr) (t : Ty) → Gives IsHeld a → Gives Q b → is_held_rule (expr.Node (node.Binary op a b)) ≡ true
+      → typed (expr.Node (node.Binary op a b)) ≡ Some t → Operands (operated_type op) IsHeld Q a b t
+  binary_operands op a b t left right literals h =
+      operands_there (operated_type op) a b t left right (and_parts (is_held_rule a) (is_held_rule b) (sym (held_node (node.Binary op a b)) ∙ literals))
+      (sym (type_binary op a b names) ∙ h)
 
   -- a sign, by whether it is `==` or `!=`
   sign_there : (op : Binary) (a b : Expr) (equal : Bool) → is_equality op ≡ equal
@@ -480,19 +518,10 @@ module _ (table : List ℕ) (columns : List Column) (cells : List Scalar) (fit :
       ∙ ap (λ (e : Bool). if e then compared_meaning world op (meant a) (meant b)
       else operated_meaning world op (type_of a (names_at world scope)) (type_of b (names_at world scope)) (meant a) (meant b)) is
 
-  means_comparison : (a b : Expr) (op : Binary) → is_comparison op ≡ true → Means (Total a) → Means (Total b) → Means (Total (expr.Node (node.Binary op a b)))
+  means_comparison : (a b : Expr) (op : Binary) → is_comparison op ≡ true → Gives IsHeld a → Gives IsHeld b → Gives IsHeld (expr.Node (node.Binary op a b))
   means_comparison a b op compares left right literals t h = by (is_equality op) refl where
-    operands : AreTyped (operated_type op) (typed a) (typed b) t
-    operands = operands_typed (operated_type op) (typed a) (typed b) t (sym (type_binary op a b names) ∙ h)
-
-    parts : (is_held_rule a ≡ true) × (is_held_rule b ≡ true)
-    parts = and_parts (is_held_rule a) (is_held_rule b) (sym (held_node (node.Binary op a b)) ∙ literals)
-
-    x : Comes world operands.left (meant a)
-    x = left parts.0 operands.left operands.left_is
-
-    y : Comes world operands.right (meant b)
-    y = right parts.1 operands.right operands.right_is
+    operands : Operands (operated_type op) IsHeld IsHeld a b t
+    operands = binary_operands op a b t left right literals h
 
     k : Ty-F Ty
     k = out-Ty operands.left
@@ -500,113 +529,66 @@ module _ (table : List ℕ) (columns : List Column) (cells : List Scalar) (fit :
     l : Ty-F Ty
     l = out-Ty operands.right
 
-    by : (equal : Bool) → is_equality op ≡ equal → Comes world t (meant (expr.Node (node.Binary op a b)))
+    by : (equal : Bool) → is_equality op ≡ equal → Comes world IsHeld t (meant (expr.Node (node.Binary op a b)))
     by true is =
         let result =
         truth_typed (are_comparable k l) t
         (sym (ap (λ (e : Bool). if e then truth_type (are_comparable k l) else (if is_number k && is_number l then Some (result_type op k l) else joined_type op k l)) is)
         ∙ operands.result) in
-        let found = equality_there world op k l result.0 (meant a) (meant b) x.scalar y.scalar x.fits y.fits x.is y.is in
+        let found = equality_there world op k l result.0 (meant a) (meant b) operands.x.scalar operands.y.scalar operands.x.fits operands.y.fits operands.x.is operands.y.is in
         comes_as world (sign_there op a b true is ∙ found.1) (truth_comes world t found.0 result.1)
     by false is =
         let orders = orders_else op compares is in
         let result = computed_typed op k l t is (orders.1 k l) operands.result in
         let found =
-        ordered_truth op orders.0 (type_of a (names_at world scope)) (type_of b (names_at world scope)) x.scalar y.scalar
-        (number_there k x.scalar (number_layer k result.0) x.fits) (number_there l y.scalar (number_layer l result.1) y.fits) in
-        comes_as world (sign_there op a b false is ∙ operated_there world op _ _ (meant a) (meant b) x.scalar y.scalar x.is y.is ∙ ap as_value (found.1 world.unknown))
+        ordered_truth op orders.0 (type_of a (names_at world scope)) (type_of b (names_at world scope)) operands.x.scalar operands.y.scalar
+        (number_there k operands.x.scalar (number_layer k result.0) operands.x.fits) (number_there l operands.y.scalar (number_layer l result.1) operands.y.fits) in
+        comes_as world (sign_there op a b false is ∙ operated_there world op _ _ (meant a) (meant b) operands.x.scalar operands.y.scalar operands.x.is operands.y.is ∙ ap as_value (found.1 world.unknown))
         (truth_comes world t found.0 (sym (ap (λ (c : Bool). if c then ty.Bool else number_type k l) orders.0) ∙ result.2))
 
-  means_conditional : (c a b : Expr) → Means (Total c) → Means (Total a) → Means (Total b) → Means (Total (expr.Node (node.Conditional c a b)))
-  means_conditional c a b test left right literals t h =
+  means_conditional : {P : Scalar → Type 0} (c a b : Expr) → Gives IsHeld c → Gives P a → Gives P b → Gives P (expr.Node (node.Conditional c a b))
+  means_conditional {P} c a b test left right literals t h =
       let result = choice_typed (is_bool_type (typed c)) (typed a) (typed b) t (sym (type_choice c a b names) ∙ h) in
       let outer = and_parts (is_held_rule c && is_held_rule a) _ (sym (held_node (node.Conditional c a b)) ∙ literals) in
       let inner = and_parts (is_held_rule c) (is_held_rule a) outer.0 in
-      let x = truth_there world (test inner.0 ty.Bool (bool_typed (typed c) result.0)) in
-      let widens = chosen_widens (out-Ty result.1.left) (out-Ty result.1.right) t result.1.result in
-      comes_as world (meaning_choice world c a b scope ∙ on_truth_is world x.0 _ x.1)
-      (by (widened_comes world widens.0.scalars (left inner.1 result.1.left result.1.left_is)) (widened_comes world widens.1.scalars (right outer.1 result.1.right result.1.right_is)) x.0)
+      let d = truth_there world (test inner.0 ty.Bool (bool_typed (typed c) result.0)) in
+      let operands = operands_there chosen a b t left right (inner.1, outer.1) result.1 in
+      let widens = chosen_widens (out-Ty operands.left) (out-Ty operands.right) t operands.result in
+      comes_as world (meaning_choice world c a b scope ∙ on_truth_is world d.0 _ d.1)
+      (by (widened_comes world widens.0.scalars operands.x) (widened_comes world widens.1.scalars operands.y) d.0)
     where
-      by : Comes world t (meant a) → Comes world t (meant b) → (d : Bool) → Comes world t (if d then meant a else meant b)
+      by : Comes world P t (meant a) → Comes world P t (meant b) → (d : Bool) → Comes world P t (if d then meant a else meant b)
       by first second true = first
       by first second false = second
 
-  sure_conditional_means : (c a b : Expr) → Means (Total c) → Means (Sure a) → Means (Sure b) → Means (Sure (expr.Node (node.Conditional c a b)))
-  sure_conditional_means c a b test left right literals t h =
-      let result = choice_typed (is_bool_type (typed c)) (typed a) (typed b) t (sym (type_choice c a b names) ∙ h) in
-      let outer = and_parts (is_held_rule c && is_held_rule a) _ (sym (held_node (node.Conditional c a b)) ∙ literals) in
-      let inner = and_parts (is_held_rule c) (is_held_rule a) outer.0 in
-      let x = truth_there world (test inner.0 ty.Bool (bool_typed (typed c) result.0)) in
-      let widens = chosen_widens (out-Ty result.1.left) (out-Ty result.1.right) t result.1.result in
-      comes_text_as world (meaning_choice world c a b scope ∙ on_truth_is world x.0 _ x.1)
-      (by (widened_text world widens.0.scalars (left inner.1 result.1.left result.1.left_is)) (widened_text world widens.1.scalars (right outer.1 result.1.right result.1.right_is)) x.0)
+  means_coalesce : {P : Scalar → Type 0} (a b : Expr) → IsOfFirst P → Gives IsHeld a → Gives P b → Gives P (expr.Node (node.Coalesce a b))
+  means_coalesce {P} a b first left right literals t h =
+      comes_as world (meaning_coalesce world a b scope ∙ on_scalar_is world operands.x.scalar _ operands.x.is) (by (is_null operands.x.scalar) refl)
     where
-      by : ComesText world t (meant a) → ComesText world t (meant b) → (d : Bool) → ComesText world t (if d then meant a else meant b)
-      by first second true = first
-      by first second false = second
-
-  means_coalesce : (a b : Expr) → Means (Total a) → Means (Total b) → Means (Total (expr.Node (node.Coalesce a b)))
-  means_coalesce a b left right literals t h =
-      comes_as world (meaning_coalesce world a b scope ∙ on_scalar_is world x.scalar _ x.is) (by (is_null x.scalar) refl)
-    where
-      operands : AreTyped coalesced (typed a) (typed b) t
-      operands = operands_typed coalesced (typed a) (typed b) t (sym (type_coalesce a b names) ∙ h)
-
-      parts : (is_held_rule a ≡ true) × (is_held_rule b ≡ true)
-      parts = and_parts (is_held_rule a) (is_held_rule b) (sym (held_node (node.Coalesce a b)) ∙ literals)
-
-      x : Comes world operands.left (meant a)
-      x = left parts.0 operands.left operands.left_is
+      operands : Operands coalesced IsHeld P a b t
+      operands =
+          operands_there coalesced a b t left right (and_parts (is_held_rule a) (is_held_rule b) (sym (held_node (node.Coalesce a b)) ∙ literals))
+          (sym (type_coalesce a b names) ∙ h)
 
       fitting : Coalesces (out-Ty operands.left) (out-Ty operands.right) t
       fitting = coalesced_fits (out-Ty operands.left) (out-Ty operands.right) t operands.result
 
-      by : (n : Bool) → is_null x.scalar ≡ n → Comes world t (if n then meant b else Ok (value.Scalar x.scalar))
-      by true is = widened_comes world fitting.1.1.scalars (right parts.1 operands.right operands.right_is)
-      by false is = record { scalar = x.scalar; is = refl; fits = fitting.1.0 x.scalar x.fits is; held = x.held }
+      by : (n : Bool) → is_null operands.x.scalar ≡ n → Comes world P t (if n then meant b else Ok (value.Scalar operands.x.scalar))
+      by true is = widened_comes world fitting.1.1.scalars operands.y
+      by false is = record {
+        scalar = operands.x.scalar;
+        is = refl;
+        fits = fitting.1.0 operands.x.scalar operands.x.fits is;
+        so = first (out-Ty operands.left) (out-Ty operands.right) t _ _ operands.result operands.x.fits operands.y.fits operands.x.so operands.y.so is;
+      }
 
-  sure_coalesce_means : (a b : Expr) → Means (Total a) → Means (Sure b) → Means (Sure (expr.Node (node.Coalesce a b)))
-  sure_coalesce_means a b left right literals t h =
-      comes_text_as world (meaning_coalesce world a b scope ∙ on_scalar_is world x.scalar _ x.is) (by (is_null x.scalar) refl)
-    where
-      operands : AreTyped coalesced (typed a) (typed b) t
-      operands = operands_typed coalesced (typed a) (typed b) t (sym (type_coalesce a b names) ∙ h)
-
-      parts : (is_held_rule a ≡ true) × (is_held_rule b ≡ true)
-      parts = and_parts (is_held_rule a) (is_held_rule b) (sym (held_node (node.Coalesce a b)) ∙ literals)
-
-      x : Comes world operands.left (meant a)
-      x = left parts.0 operands.left operands.left_is
-
-      y : ComesText world operands.right (meant b)
-      y = right parts.1 operands.right operands.right_is
-
-      fitting : Coalesces (out-Ty operands.left) (out-Ty operands.right) t
-      fitting = coalesced_fits (out-Ty operands.left) (out-Ty operands.right) t operands.result
-
-      -- the second operand is a text, and so the first is one or null
-      texts : out-Ty operands.left ≡ Ty-F.Str
-      texts =
-          coalesced_texts (out-Ty operands.left) t
-          (subst (λ (l : Ty-F Ty). coalesced (out-Ty operands.left) l ≡ Some t) (text_of_layer (out-Ty operands.right) y.text y.fits) operands.result)
-
-      by : (n : Bool) → is_null x.scalar ≡ n → ComesText world t (if n then meant b else Ok (value.Scalar x.scalar))
-      by true is = widened_text world fitting.1.1.scalars y
-      by false is =
-          let found = text_besides_null x.scalar (subst (λ (l : Ty-F Ty). IsScalarOf l x.scalar) texts x.fits) is in
-          record {
-            text = found.0;
-            is = ap (λ (s : Scalar). Ok (value.Scalar s)) found.1;
-            fits = subst (λ (s : Scalar). IsScalarOf (out-Ty t) s) found.1 (fitting.1.0 x.scalar x.fits is);
-          }
-
-  means_has_value : (a : Expr) → Holds (Total a) → Means (Total a) → Means (Total (expr.Node (node.Member a (codes "HasValue"))))
+  means_has_value : (a : Expr) → Holds (Total a) → Gives IsHeld a → Gives IsHeld (expr.Node (node.Member a (codes "HasValue")))
   means_has_value a total operand literals t h = by (typed a) refl (sym (type_member a (codes "HasValue") names) ∙ h) where
     member_of : Value-F (List Scalar) (Value (List Scalar)) → Result (Value (List Scalar)) Fault
     member_of layer = member_value world (type_of a (names_at world scope)) (codes "HasValue") layer
 
     by : (o : Option Ty) → typed a ≡ o → option_and_then (λ u. member_type names (codes "HasValue") (out-Ty u)) o ≡ Some t
-        → Comes world t (meant (expr.Node (node.Member a (codes "HasValue"))))
+        → Comes world IsHeld t (meant (expr.Node (node.Member a (codes "HasValue"))))
     by None is g = absurd (none-some t g)
     by (Some u) is g =
         let result = has_value_typed names (out-Ty u) t (ap is_row_type (sym is) ∙ total_no_row names.tables total) g in
@@ -617,25 +599,20 @@ module _ (table : List ℕ) (columns : List Column) (cells : List Scalar) (fit :
         ∙ ap member_of (outs-Scalar x.scalar) ∙ found.1)
         (truth_comes world t found.0 result.1)
 
-  means_division : (a b : Expr) (op : Binary) (n : ℕ) → is_division op ≡ true → Means (Total a) → b ≡ expr.Node (node.Integer (pos (suc n)))
-      → Means (Total (expr.Node (node.Binary op a b)))
+  means_division : (a b : Expr) (op : Binary) (n : ℕ) → is_division op ≡ true → Gives IsHeld a → b ≡ expr.Node (node.Integer (pos (suc n)))
+      → Gives IsHeld (expr.Node (node.Binary op a b))
   means_division a b op n divides left literal literals t h =
       comes_as world
-      (sign_there op a b false alone.0 ∙ operated_there world op _ _ (meant a) (meant b) x.scalar (scalar.Int (pos (suc n))) x.is (ap meant literal ∙ meaning_integer world (pos (suc n)) scope)
+      (sign_there op a b false alone.0
+      ∙ operated_there world op _ _ (meant a) (meant b) operands.x.scalar (scalar.Int (pos (suc n))) operands.x.is (operands.y.is ∙ ap (λ (s : Scalar). Ok (value.Scalar s)) operands.y.so.0)
       ∙ ap as_value quotient.is)
-      (record { scalar = quotient.scalar; is = refl; fits = subst (λ (u : Ty). IsScalarOf (out-Ty u) quotient.scalar) same quotient.fits; held = quotient.held })
+      (record { scalar = quotient.scalar; is = refl; fits = subst (λ (u : Ty). IsScalarOf (out-Ty u) quotient.scalar) same quotient.fits; so = quotient.held })
     where
       alone : (is_equality op ≡ false) × (is_ordering op ≡ false) × ((k l : Ty-F Ty) → joined_type op k l ≡ None)
       alone = divides_alone op divides
 
-      operands : AreTyped (operated_type op) (typed a) (typed b) t
-      operands = operands_typed (operated_type op) (typed a) (typed b) t (sym (type_binary op a b names) ∙ h)
-
-      parts : (is_held_rule a ≡ true) × (is_held_rule b ≡ true)
-      parts = and_parts (is_held_rule a) (is_held_rule b) (sym (held_node (node.Binary op a b)) ∙ literals)
-
-      x : Comes world operands.left (meant a)
-      x = left parts.0 operands.left operands.left_is
+      operands : Operands (operated_type op) IsHeld (IsInt (pos (suc n))) a b t
+      operands = binary_operands op a b t left (gives_as literal (means_integer (pos (suc n)))) literals h
 
       k : Ty-F Ty
       k = out-Ty operands.left
@@ -643,22 +620,20 @@ module _ (table : List ℕ) (columns : List Column) (cells : List Scalar) (fit :
       result : IsComputed op k (out-Ty operands.right) t
       result = computed_typed op k (out-Ty operands.right) t alone.0 (alone.2 k (out-Ty operands.right)) operands.result
 
-      divisor : is_int (pos (suc n)) ≡ true
-      divisor = sym (ap is_held_rule literal ∙ held_node (node.Integer (pos (suc n)))) ∙ parts.1
-
-      quotient : Gets (out-Ty (number_type k Ty-F.Int)) (quotient_of world.unknown op (type_of a (names_at world scope)) (type_of b (names_at world scope)) x.scalar n)
-      quotient = quotient_there world.unknown op divides _ _ k n x.scalar result.0 x.fits x.held divisor
+      quotient : Gets (out-Ty (number_type k Ty-F.Int)) (quotient_of world.unknown op (type_of a (names_at world scope)) (type_of b (names_at world scope)) operands.x.scalar n)
+      quotient = quotient_there world.unknown op divides _ _ k n operands.x.scalar result.0 operands.x.fits operands.x.so operands.y.so.1
 
       -- the divisor's type is that of ints
       right_layer : out-Ty operands.right ≡ Ty-F.Int
-      right_layer = ap out-Ty (sym (same_Some ty.Int operands.right (sym (ap typed literal ∙ type_integer (pos (suc n)) names) ∙ operands.right_is))) ∙ outs-Int
+      right_layer =
+          ap out-Ty (sym (same_Some ty.Int operands.right (sym (ap typed literal ∙ type_integer (pos (suc n)) names) ∙ operands.right_is))) ∙ outs-Int
 
       same : number_type k Ty-F.Int ≡ t
       same =
           ap (number_type k) (sym right_layer)
           ∙ (sym (ap (λ (c : Bool). if c then ty.Bool else number_type k (out-Ty operands.right)) alone.1) ∙ result.2)
 
-  means_search : (a b : Expr) (m : List ℕ) → IsSearch m → Means (Sure a) → Means (Sure b) → Means (Total (expr.Node (node.Method a m (argument.Value b ∷ []))))
+  means_search : (a b : Expr) (m : List ℕ) → IsSearch m → Gives IsText a → Gives IsText b → Gives IsHeld (expr.Node (node.Method a m (argument.Value b ∷ [])))
   means_search a b m looks left right literals t h =
       let result = truth_typed (is_search m && is_text_type (typed a) && is_text_type (typed b)) t (sym (type_method a m (argument.Value b ∷ []) names) ∙ h) in
       let outer = and_parts (is_search m && is_text_type (typed a)) _ result.0 in
@@ -666,33 +641,33 @@ module _ (table : List ℕ) (columns : List Column) (cells : List Scalar) (fit :
       let parts = and_parts (is_held_rule a) (is_held_rule b) (sym (held_node (node.Method a m (argument.Value b ∷ []))) ∙ literals) in
       let x = left parts.0 ty.Str (text_typed (typed a) inner.1) in
       let y = right parts.1 ty.Str (text_typed (typed b) outer.1) in
-      let found = search_truth m looks x.text y.text in
+      let found = search_truth m looks x.scalar y.scalar x.so y.so in
       comes_as world
-      (meaning_method world a m (argument.Value b ∷ []) scope ∙ on_scalar_is world (scalar.Text x.text) _ x.is ∙ on_scalar_is world (scalar.Text y.text) _ y.is
+      (meaning_method world a m (argument.Value b ∷ []) scope ∙ on_scalar_is world x.scalar _ x.is ∙ on_scalar_is world y.scalar _ y.is
       ∙ ap as_value (found.1 world.unknown))
       (truth_comes world t found.0 result.1)
 
   means : {claim : Claim} → Holds claim → Means claim
-  means (total_integer _ n is) = total_as is (means_integer n)
-  means (total_text _ x is) = total_as is (λ literals t h. comes_text world (means_text x literals t h))
-  means (total_truth _ b is) = total_as is (means_truth b)
-  means (total_null _ is) = total_as is means_null
-  means (total_minus _ a n is literal) = total_as is (means_minus a n literal)
-  means (total_column _ row c is of_row) = total_as is (means_column row c of_row)
-  means (total_user _ is) = total_as is (λ literals t h. comes_text world (means_user literals t h))
-  means (total_not _ a is operand) = total_as is (means_not a (means operand))
-  means (total_and _ a b is left right) = total_as is (means_both a b (means left) (means right))
-  means (total_or _ a b is left right) = total_as is (means_either a b (means left) (means right))
-  means (total_comparison _ a b op is compares left right) = total_as is (means_comparison a b op compares (means left) (means right))
-  means (total_conditional _ c a b is test left right) = total_as is (means_conditional c a b (means test) (means left) (means right))
-  means (total_coalesce _ a b is left right) = total_as is (means_coalesce a b (means left) (means right))
-  means (total_has_value _ a is operand) = total_as is (means_has_value a operand (means operand))
-  means (total_division _ a b op n is divides left literal) = total_as is (means_division a b op n divides (means left) literal)
-  means (total_search _ a b m is looks left right) = total_as is (means_search a b m looks (means left) (means right))
-  means (sure_text _ x is) = sure_as is (means_text x)
-  means (sure_user _ is) = sure_as is means_user
-  means (sure_coalesce _ a b is left right) = sure_as is (sure_coalesce_means a b (means left) (means right))
-  means (sure_conditional _ c a b is test left right) = sure_as is (sure_conditional_means c a b (means test) (means left) (means right))
+  means (total_integer _ n is) = gives_as is (gives_where _ (int_held n) (means_integer n))
+  means (total_text _ x is) = gives_as is (gives_where _ text_held (means_text x))
+  means (total_truth _ b is) = gives_as is (means_truth b)
+  means (total_null _ is) = gives_as is means_null
+  means (total_minus _ a n is literal) = gives_as is (means_minus a n literal)
+  means (total_column _ row c is of_row) = gives_as is (means_column row c of_row)
+  means (total_user _ is) = gives_as is (gives_where _ text_held means_user)
+  means (total_not _ a is operand) = gives_as is (means_not a (means operand))
+  means (total_and _ a b is left right) = gives_as is (means_both a b (means left) (means right))
+  means (total_or _ a b is left right) = gives_as is (means_either a b (means left) (means right))
+  means (total_comparison _ a b op is compares left right) = gives_as is (means_comparison a b op compares (means left) (means right))
+  means (total_conditional _ c a b is test left right) = gives_as is (means_conditional c a b (means test) (means left) (means right))
+  means (total_coalesce _ a b is left right) = gives_as is (means_coalesce a b (λ k l r x y result x_fits y_fits held also some. held) (means left) (means right))
+  means (total_has_value _ a is operand) = gives_as is (means_has_value a operand (means operand))
+  means (total_division _ a b op n is divides left literal) = gives_as is (means_division a b op n divides (means left) literal)
+  means (total_search _ a b m is looks left right) = gives_as is (means_search a b m looks (means left) (means right))
+  means (sure_text _ x is) = gives_as is (means_text x)
+  means (sure_user _ is) = gives_as is means_user
+  means (sure_coalesce _ a b is left right) = gives_as is (means_coalesce a b text_of_first (means left) (means right))
+  means (sure_conditional _ c a b is test left right) = gives_as is (means_conditional c a b (means test) (means left) (means right))
 
 pub decides_rules : DecidesRules
 decides_rules table columns cells fit held user rule literals typed total =

@@ -179,7 +179,7 @@ is_told (sure_conditional _ c a b is test left right) = sure_by is (strength_con
 
 -- ---- what is told is given by a form
 
-node_with : (e : Expr) (n : Node Expr) → out-Expr e ≡ Expr-F.Node n → e ≡ expr.Node n
+pub node_with : (e : Expr) (n : Node Expr) → out-Expr e ≡ Expr-F.Node n → e ≡ expr.Node n
 node_with e n is = sym (roll-out-Expr e) ∙ ap roll-Expr is ∙ rolls-Node n
 
 -- an integer literal that is no less than the bound
@@ -206,7 +206,7 @@ divisor_literal e h = by (out-Expr e) refl h where
       let found = positive_at n h in (found.0, node_with e (node.Integer n) is ∙ ap (λ (k : ℤ). expr.Node (node.Integer k)) found.1)
   by layer is h = absurd (true≢false (sym h))
 
-row_name : (e : Expr) → is_row (out-Expr e) ≡ true → e ≡ expr.Node (node.Name (codes "row"))
+pub row_name : (e : Expr) → is_row (out-Expr e) ≡ true → e ≡ expr.Node (node.Name (codes "row"))
 row_name e h = by (out-Expr e) refl h where
   by : (layer : Expr-F Expr) → out-Expr e ≡ layer → is_row layer ≡ true → e ≡ expr.Node (node.Name (codes "row"))
   by (Expr-F.Node (node.Name x)) is h = node_with e (node.Name x) is ∙ ap (λ (k : List ℕ). expr.Node (node.Name k)) ((bytes_eq-Decides x (codes "row")).0 h)

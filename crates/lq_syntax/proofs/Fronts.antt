@@ -1,20 +1,12 @@
--- What stands at the front of a list, and what is taken from the front of tokens.
-use Rattle.std.proofs.Common.{◌≡◌, suc, ◌-◌, ◌≤◌, false, true, List, [], ◌∷◌, length, get_or, take, drop, refl, arith}
+-- What is taken from the front of tokens.
+use Rattle.std.proofs.Common.{◌≡◌, false, true, List, [], ◌∷◌, refl}
 use Rattle.std.specs.Prelude.{Some, None}
-use Rattle.std.proofs.Math.Seq.{take-length}
 use Rattle.lq_grammar.specs.Parsing.{same_kind, begins_with, begins_with_two, expect, peek, behind}
 use Rattle.lq_grammar.specs.declared.token.Kind.{Kind}
 use Rattle.lq_grammar.specs.declared.token.Kind.TheVariants as k
 use Rattle.lq_grammar.specs.declared.token.Token.{Token}
 use Rattle.lq_syntax.specs.Outcome.{next_token}
 use Rattle.lq_syntax.specs.Parts.{any_token}
-
--- a list is its first item before the others
-pub head_tail : {X : Type 0} (list : List X) (first : X) → 1 ≤ length list → first ≡ get_or list 0 first → list ≡ first ∷ take (length list - 1) (drop 1 list)
-head_tail [] first some is = absurd (omega arith)
-head_tail (x ∷ xs) first some is =
-    let count : suc (length xs) - 1 ≡ length xs = omega arith in
-    rw (is, count, take-length xs) refl
 
 pub peek_none : (tokens : List Token) → tokens ≡ [] → k.Semicolon ≡ peek tokens
 unfolding peek

@@ -3,4 +3,3 @@ pub mod LevelLemmas
 pub mod Readers
 pub mod Readings
 pub mod Turns
-pub mod Values

@@ -53,7 +53,7 @@ impl<'a> Tokens<'a> {
     }
 
     /// The next token, and those behind it.
-    #[tactic(auto, using(crate::proofs::Fronts::head_tail))]
+    #[tactic(auto, using(lq_lex::proofs::FrontLaws::head_tail))]
     pub fn next(&self) -> Option<(Token, &'a [Token])>
         ensures { MatchOption result (self.now ≡ []) (λ found. self.now ≡ found.0 ∷ found.1.now) }
     {

@@ -2,7 +2,7 @@
 use Rattle.std.proofs.Common.{◌≡◌, ◌∷◌, if◌then◌else◌, List, ℕ, true, Option, Some, Ok, ap, ◌∙◌, sym, refl, option_map, bytes_eq, true≢false}
 use Rattle.lq_value.specs.declared.ty.Ty.{Ty}
 use Rattle.lq_value.specs.declared.ty.Ty.TheVariants as ty
-use Rattle.lq_language.specs.ClauseTyping.{expression_step, expression_type, query_items}
+use Rattle.lq_language.specs.ClauseTyping.{expression_type, query_items}
 use Rattle.lq_language.specs.Worlds.{Binding, Meaning, Scope, World, binding_of}
 use Rattle.lq_language.specs.OperandMeaning.{sequence}
 use Rattle.lq_language.specs.ClauseMeaning.{query_meaning}
@@ -10,8 +10,8 @@ use Rattle.lq_language.specs.RuleMeaning.{Meant}
 use Rattle.lq_language.specs.Operators.{call_items, call_meaning}
 use Rattle.lq_language.specs.Terms.{MeantTerm, term_meaning, term_meaning_step, term_step, term_type}
 use Rattle.lq_language.specs.Names.{Names, local_type, with_local}
-use Rattle.lq_language.specs.Meaning.{expression_meaning, expression_meaning_step, items_meaning, whole_meaning, whole_name_value}
-use Rattle.lq_language.specs.Typing.{whole_type, whole_name_type}
+use Rattle.lq_language.specs.Meaning.{expression_meaning, expression_meaning_step, items_meaning, node_meaning, value_of_name}
+use Rattle.lq_language.specs.Typing.{node_type, type_of_name}
 use Rattle.lq_language.specs.declared.calls.Call.{Call}
 use Rattle.lq_language.specs.declared.calls.Term.{Term, out-Term, roll-Term}
 use Rattle.lq_language.specs.declared.calls.Term.TheOpen.{Term-F}
@@ -26,10 +26,13 @@ use Rattle.lq_grammar.specs.declared.syntax.Query.{Query}
 use Rattle.lq_translate.specs.Maps.{map_call, map_node, map_query}
 use Rattle.lq_translate.specs.Translated.{is_name, layer_is_name, translated, translated_query, translated_step}
 use Rattle.lq_translate.specs.TranslationLaws.{NamesMean, NamesTyped}
-use Rattle.lq_translate.proofs.LayerLaws.{With, base, fold_call, fold_node, fold_query, fold_term_node, of_every, para_call, para_node, para_query, para_term_node}
+use Rattle.lq_language.proofs.ExpressionTypeLaws.{expression_type_node, expression_type_query}
+use Rattle.lq_language.proofs.LayerLaws.{With, base, fold_node, fold_query, of_every, para_node, para_query}
+use Rattle.lq_translate.proofs.LayerLaws.{fold_call, fold_term_node, para_call, para_term_node}
 use Rattle.lq_translate.proofs.MeaningLemmas.{means_alike}
 use Rattle.lq_translate.proofs.NodePullLaws.{map_nodes, node_pull}
-use Rattle.lq_translate.proofs.QueryPullLaws.{call_meant, call_typed, query_meant, query_typed}
+use Rattle.lq_language.proofs.QueryPullLaws.{query_meant, query_typed}
+use Rattle.lq_translate.proofs.CallPullLaws.{call_meant, call_typed}
 use Rattle.lq_translate.proofs.TypingLemmas.{typed_alike}
 
 -- ---- what is translated
@@ -44,20 +47,11 @@ translated_to_call q = fold_query Term translated_step q
 
 -- ---- the types of forms
 
-whole_node : (n : Node Expr) → expression_type (expr.Node n) ≡ (λ names. whole_type (map_node expression_type n) names)
-unfolding expression_type
-whole_node n = fold_node (Names → Option Ty) expression_step n
-
-whole_query : (q : Query Expr) → expression_type (expr.Query q) ≡ (λ names. option_map ty.Seq (query_items expression_type q names))
-unfolding expression_type
-whole_query q =
-    fold_query (Names → Option Ty) expression_step q ∙ (λ i names. option_map ty.Seq (query_typed expression_type (λ t. t) q names i))
-
-term_node : (n : Node Term) → term_type (term.Node n) ≡ (λ names. whole_type (map_node term_type n) names)
+pub term_node : (n : Node Term) → term_type (term.Node n) ≡ (λ names. node_type (map_node term_type n) names)
 unfolding term_type
 term_node n = fold_term_node (Names → Option Ty) term_step n
 
-term_call : (c : Call Term) → term_type (term.Call c) ≡ (λ names. option_map ty.Seq (call_items term_type c names))
+pub term_call : (c : Call Term) → term_type (term.Call c) ≡ (λ names. option_map ty.Seq (call_items term_type c names))
 unfolding term_type
 term_call c = fold_call (Names → Option Ty) term_step c ∙ (λ i names. option_map ty.Seq (call_typed term_type (λ t. t) c names i))
 
@@ -79,7 +73,7 @@ names_typed t n h names s =
     let found = named t n h in
     ap (λ (x : Term). term_type x (with_local names n s)) found.1
     ∙ ap (λ (g : Names → Option Ty). g (with_local names n s)) (term_node (node.Name found.0))
-    ∙ ap (λ b. whole_name_type (with_local names n s) found.0 (if b then Some s else local_type found.0 names.locals)) found.2
+    ∙ ap (λ b. type_of_name (with_local names n s) found.0 (if b then Some s else local_type found.0 names.locals)) found.2
 
 -- ---- types
 
@@ -90,10 +84,10 @@ types_at_node : (n : Node (With TypesAlike)) → TypesAlike (expr.Node (map_node
 types_at_node n =
     ap term_type (translated_node (map_node (base {P = TypesAlike}) n))
     ∙ term_node (map_node translated (map_node (base {P = TypesAlike}) n))
-    ∙ ap (λ (m : Node (Names → Option Ty)). (λ names. whole_type m names))
+    ∙ ap (λ (m : Node (Names → Option Ty)). (λ names. node_type m names))
     (ap (map_node term_type) (map_nodes translated (base {P = TypesAlike}) n) ∙ map_nodes term_type (λ z. translated z.0) n
     ∙ (λ i. map_node (λ z. z.1 i) n) ∙ sym (map_nodes expression_type (base {P = TypesAlike}) n))
-    ∙ sym (whole_node (map_node (base {P = TypesAlike}) n))
+    ∙ sym (expression_type_node (map_node (base {P = TypesAlike}) n))
 
 -- the calls of a query whose expressions are translated
 calls_typed : (q : Query Expr) (names : Names) → call_items term_type (translated_query q) names ≡ query_items (λ e. term_type (translated e)) q names
@@ -104,7 +98,7 @@ types_at_query q =
     ap term_type (translated_to_call (map_query (base {P = TypesAlike}) q))
     ∙ term_call (translated_query (map_query (base {P = TypesAlike}) q))
     ∙ (λ i names. option_map ty.Seq (here names i))
-    ∙ sym (whole_query (map_query (base {P = TypesAlike}) q))
+    ∙ sym (expression_type_query (map_query (base {P = TypesAlike}) q))
   where
     here : (names : Names)
         → call_items term_type (translated_query (map_query (base {P = TypesAlike}) q)) names ≡ query_items expression_type (map_query (base {P = TypesAlike}) q) names
@@ -132,7 +126,7 @@ module _ {R : Type 0} (world : World R) where
   abbrev meant_term : Term → MeantTerm R
   meant_term t = (t, term_meaning world t)
 
-  meaning_node : (n : Node Expr) → expression_meaning world (expr.Node n) ≡ (λ scope. whole_meaning world expression_type (map_node meant n) scope)
+  meaning_node : (n : Node Expr) → expression_meaning world (expr.Node n) ≡ (λ scope. node_meaning world expression_type (map_node meant n) scope)
   unfolding expression_meaning
   meaning_node n = para_node (Meaning R) (expression_meaning_step world) n
 
@@ -140,7 +134,7 @@ module _ {R : Type 0} (world : World R) where
   unfolding expression_meaning
   meaning_query q = para_query (Meaning R) (expression_meaning_step world) q
 
-  term_meaning_node : (n : Node Term) → term_meaning world (term.Node n) ≡ (λ scope. whole_meaning world term_type (map_node meant_term n) scope)
+  term_meaning_node : (n : Node Term) → term_meaning world (term.Node n) ≡ (λ scope. node_meaning world term_type (map_node meant_term n) scope)
   unfolding term_meaning
   term_meaning_node n = para_term_node (Meaning R) (term_meaning_step world) n
 
@@ -156,7 +150,7 @@ module _ {R : Type 0} (world : World R) where
       let b : Binding R = record { name = n; ty = s; value = v } in
       ap (λ (x : Term). term_meaning world x (b ∷ scope)) found.1
       ∙ ap (λ (g : Meaning R). g (b ∷ scope)) (term_meaning_node (node.Name found.0))
-      ∙ ap (λ c. whole_name_value world found.0 (if c then Some b else binding_of found.0 scope)) found.2
+      ∙ ap (λ c. value_of_name world found.0 (if c then Some b else binding_of found.0 scope)) found.2
 
   abbrev MeaningsAlike : Expr → Type 0
   MeaningsAlike e = term_meaning world (translated e) ≡ expression_meaning world e
@@ -175,15 +169,15 @@ module _ {R : Type 0} (world : World R) where
       ∙ sym (meaning_node (map_node plain n))
     where
       here : (scope : Scope R)
-          → whole_meaning world term_type (map_node meant_term (map_node translated (map_node plain n))) scope
-          ≡ whole_meaning world expression_type (map_node meant (map_node plain n)) scope
+          → node_meaning world term_type (map_node meant_term (map_node translated (map_node plain n))) scope
+          ≡ node_meaning world expression_type (map_node meant (map_node plain n)) scope
       here scope =
-          ap (λ (m : Node (MeantTerm R)). whole_meaning world term_type m scope)
+          ap (λ (m : Node (MeantTerm R)). node_meaning world term_type m scope)
           (ap (map_node meant_term) (map_nodes translated plain n) ∙ map_nodes meant_term (λ (z : Such). translated z.0) n)
           ∙ node_pull world term_type (λ (z : Such). translated z.0) (λ z. term_meaning world (translated z.0)) n scope
-          ∙ (λ i. whole_meaning world (λ (z : Such). types_same z.0 i) (map_node (λ (z : Such). (z, z.1 i)) n) scope)
+          ∙ (λ i. node_meaning world (λ (z : Such). types_same z.0 i) (map_node (λ (z : Such). (z, z.1 i)) n) scope)
           ∙ sym (node_pull world expression_type plain (λ z. expression_meaning world z.0) n scope)
-          ∙ ap (λ (m : Node (Meant R)). whole_meaning world expression_type m scope) (sym (map_nodes meant plain n))
+          ∙ ap (λ (m : Node (Meant R)). node_meaning world expression_type m scope) (sym (map_nodes meant plain n))
 
   -- the calls of a query whose expressions are translated
   calls_meant : (q : Query Expr) (scope : Scope R)

@@ -18,7 +18,8 @@ use Rattle.lq_translate.specs.Maps.{map_node, map_query}
 use Rattle.lq_translate.specs.Translated.{is_name, translated, translated_query}
 use Rattle.lq_translate.specs.TranslationLaws.{NamesUsed}
 use Rattle.lq_translate.proofs.AlikeTermLaws.{named, names_typed, translated_node, translated_to_call, types_same}
-use Rattle.lq_translate.proofs.LayerLaws.{With, of_every, para_call, para_node, para_query, para_term_node}
+use Rattle.lq_language.proofs.LayerLaws.{With, of_every, para_node, para_query}
+use Rattle.lq_translate.proofs.LayerLaws.{para_call, para_term_node}
 use Rattle.lq_translate.proofs.UseLemmas.{used_alike}
 use Rattle.lq_translate.proofs.UsePullLaws.{call_pull, node_pull, query_pull}
 

@@ -1,11 +1,10 @@
 pub mod AlikeTermLaws
 pub mod AlikeUseLaws
 pub mod CallLemmas
+pub mod CallPullLaws
 pub mod LayerLaws
 pub mod MeaningLemmas
 pub mod NodePullLaws
-pub mod QueryPullLaws
-pub mod StreamLaws
 pub mod TypingLemmas
 pub mod UseLemmas
 pub mod UsePullLaws

@@ -28,7 +28,7 @@ use Rattle.lq_grammar.specs.declared.syntax.Query.{Query}
 use Rattle.lq_grammar.specs.declared.syntax.SortKey.{SortKey}
 use Rattle.lq_translate.specs.Translation.{body_operators, call_of, last_operators, operators_of, part_of}
 use Rattle.lq_translate.specs.TranslationLaws.{NamesMean, NamesTyped}
-use Rattle.lq_translate.proofs.StreamLaws.{each_alike, each_each, each_ext, each_made, each_map, each_natural, each_of, each_one, group_map, kept_mapped, map_same, mapped, order_natural, value_alike, whole_alike, whole_each, whole_ext}
+use Rattle.lq_language.proofs.StreamLaws.{each_alike, each_each, each_ext, each_made, each_map, each_natural, each_of, each_one, group_map, kept_mapped, map_same, mapped, order_natural, value_alike, whole_alike, whole_each, whole_ext}
 use Rattle.lq_translate.proofs.TypingLemmas.{Fits, body_same, fits_any, still_fits}
 
 -- ---- pairs

@@ -4,33 +4,28 @@ use Rattle.lq_value.specs.declared.ty.Ty.{Ty, out-Ty}
 use Rattle.lq_value.specs.declared.value.Fault.{Fault}
 use Rattle.lq_value.specs.declared.value.Value.{Value}
 use Rattle.lq_value.specs.declared.value.Value.TheVariants as value
-use Rattle.lq_language.specs.EnumerableCalls.{EnumerableCall, By, Plain, With, enumerable_call, method_with_lambda, method_with_value, simple_method}
+use Rattle.lq_language.specs.EnumerableCalls.{EnumerableCall, By, Plain, With, enumerable_call}
 use Rattle.lq_language.specs.Worlds.{Meaning, Scope, World, names_at, or_null}
 use Rattle.lq_language.specs.Members.{is_search, sole_argument}
 use Rattle.lq_language.specs.Operations.{on_ok}
 use Rattle.lq_language.specs.Types.{element_type}
 use Rattle.lq_language.specs.Names.{Names}
 use Rattle.lq_language.specs.OperandTypes.{is_text_type, truth_type}
-use Rattle.lq_language.specs.Meaning.{argument_meaning, called_meaning, members_meaning, method_meaning, search_meaning, settled, typed, whole_meaning}
+use Rattle.lq_language.specs.Meaning.{argument_meaning, called_meaning, members_meaning, method_meaning, search_meaning, settled, typed, node_meaning}
 use Rattle.lq_language.specs.Typing.{argument_type, called_type, method_type}
-use Rattle.lq_language.specs.declared.methods.Given.{Given}
-use Rattle.lq_language.specs.declared.methods.Simple.{Simple}
-use Rattle.lq_language.specs.declared.methods.Through.{Through}
 use Rattle.lq_grammar.specs.declared.syntax.Argument.{Argument}
 use Rattle.lq_grammar.specs.declared.syntax.Argument.TheVariants as argument
 use Rattle.lq_grammar.specs.declared.syntax.Field.{Field}
 use Rattle.lq_grammar.specs.declared.syntax.Node.{Node}
 use Rattle.lq_grammar.specs.declared.syntax.Node.TheVariants as node
 use Rattle.lq_grammar.specs.declared.syntax.Unary.TheVariants as unary
+use Rattle.lq_language.proofs.MethodPullLaws.{call_maps}
+use Rattle.lq_language.proofs.StreamLaws.{map_twice}
 use Rattle.lq_translate.specs.Maps.{map_argument, map_enumerable, map_field, map_node}
 
 -- ---- two replacements in turn
 
 module _ {X Y Z : Type 0} (g : Y → Z) (f : X → Y) where
-  maps : (xs : List X) → map g (map f xs) ≡ map (λ x. g (f x)) xs
-  maps [] = refl
-  maps (x ∷ xs) = ap (λ ys. g (f x) ∷ ys) (maps xs)
-
   map_fields : (fields : List (Field X)) → map (map_field g) (map (map_field f) fields) ≡ map (map_field (λ x. g (f x))) fields
   map_fields [] = refl
   map_fields (x ∷ xs) = ap (λ ys. record { name = x.name; value = g (f x.value) } ∷ ys) (map_fields xs)
@@ -53,31 +48,9 @@ module _ {X Y Z : Type 0} (g : Y → Z) (f : X → Y) where
   map_nodes (node.Or x y) = refl
   map_nodes (node.Coalesce x y) = refl
   map_nodes (node.Conditional c x y) = refl
-  map_nodes (node.Host p xs) = ap (node.Host p) (maps xs)
+  map_nodes (node.Host p xs) = ap (node.Host p) (map_twice f g xs)
   map_nodes (node.New fields) = ap node.New (map_fields fields)
   map_nodes (node.Method x m xs) = ap (node.Method (g (f x)) m) (map_arguments xs)
-
-module _ {X Y : Type 0} (f : X → Y) where
-  plain_maps : (o : Option Simple) → option_map Plain o ≡ option_map (map_enumerable f) (option_map Plain o)
-  plain_maps None = refl
-  plain_maps (Some method) = refl
-
-  given_maps : (x : X) (o : Option Given) → option_map (λ given. With given (f x)) o ≡ option_map (map_enumerable f) (option_map (λ given. With given x) o)
-  given_maps x None = refl
-  given_maps x (Some method) = refl
-
-  through_maps : (n : List ℕ) (x : X) (o : Option Through)
-      → option_map (λ through. By through n (f x)) o ≡ option_map (map_enumerable f) (option_map (λ through. By through n x) o)
-  through_maps n x None = refl
-  through_maps n x (Some method) = refl
-
-  -- which method it is doesn't depend on what its argument is
-  call_maps : (m : List ℕ) (xs : List (Argument X)) → enumerable_call m (map (map_argument f) xs) ≡ option_map (map_enumerable f) (enumerable_call m xs)
-  call_maps m [] = plain_maps (simple_method m)
-  call_maps m (argument.Value x ∷ []) = given_maps x (method_with_value m)
-  call_maps m (argument.Lambda n x ∷ []) = through_maps n x (method_with_lambda m)
-  call_maps m (argument.Value x ∷ y ∷ xs) = refl
-  call_maps m (argument.Lambda n x ∷ y ∷ xs) = refl
 
 -- ---- meaning
 
@@ -93,7 +66,7 @@ module _ {R E X : Type 0} (world : World R) (type_of : E → Names → Option Ty
   turned_type x = type_of (turned x)
 
   abbrev NodePulls : Node X → Type 0
-  NodePulls n = (scope : Scope R) → whole_meaning world type_of (map_node replaced n) scope ≡ whole_meaning world turned_type (map_node kept n) scope
+  NodePulls n = (scope : Scope R) → node_meaning world type_of (map_node replaced n) scope ≡ node_meaning world turned_type (map_node kept n) scope
 
   -- ---- methods
 

@@ -1,5 +1,6 @@
 -- The calls of a query use what its clauses use, in the same order.
 use Rattle.std.proofs.Common.{◌≡◌, ◌∷◌, ◌++◌, ◌&&◌, if◌then◌else◌, List, [], map, ℕ, Bool, true, false, Option, Some, None, ap, ◌∙◌, sym, refl, subst, option_and_then, option_map}
+use Rattle.std.proofs.lemmas.List.{append-nil}
 use Rattle.lq_value.specs.declared.ty.Ty.{Ty}
 use Rattle.lq_language.specs.ClauseTyping.{are_sort_keys, body_items, from_type, is_fresh, join_type, joined_name, let_type, sole_name, source_type, when}
 use Rattle.lq_language.specs.Operators.{Pattern, One, With, names_of, operators_items, paired_pattern, pattern_after, sole_pattern}
@@ -22,10 +23,6 @@ use Rattle.lq_translate.specs.Translation.{body_operators, call_of, last_operato
 use Rattle.lq_translate.specs.TranslationLaws.{NamesTyped, NamesUsed}
 use Rattle.lq_translate.proofs.TypingLemmas.{Fits, body_same as body_typed, fits_any, still_fits}
 
-append_none : (us : List Use) → us ++ [] ≡ us
-append_none [] = refl
-append_none (u ∷ us) = ap (λ more. u ∷ more) (append_none us)
-
 module _ {X : Type 0} (is_name : X → List ℕ → Bool) (typed : X → Names → Option Ty) (uses : X → Names → List Use) (named : NamesTyped is_name typed)
     (used : NamesUsed is_name uses) (outer : Names) where
   abbrev calls : List (Operator X) → Pattern → List Use
@@ -36,8 +33,8 @@ module _ {X : Type 0} (is_name : X → List ℕ → Bool) (typed : X → Names �
 
   -- behind the last call nothing is used
   ended : (us : List Use) (o : Option Pattern) → us ++ under o (operators_uses typed uses outer []) ≡ us
-  ended us None = append_none us
-  ended us (Some p) = append_none us
+  ended us None = append-nil us
+  ended us (Some p) = append-nil us
 
   select_by_name : (n : List ℕ) (t : Ty) (v : X) (b : Bool) → is_name v n ≡ b
       → calls (if b then [] else operator.Select v ∷ []) (One n t) ≡ uses v (names_of outer (One n t))
@@ -87,15 +84,15 @@ module _ {X : Type 0} (is_name : X → List ℕ → Bool) (typed : X → Names �
       → ((t : Ty) → calls ops (With p n t) ≡ texts cs l (names_of outer (With p n t))) → (o : Option Ty)
       → (us ++ under o (paired_uses typed uses outer p n paired.Pair)) ++ under (option_and_then (paired_pattern typed outer p n paired.Pair) o) (operators_uses typed uses outer ops)
       ≡ us ++ under (option_map (with_local (names_of outer p) n) o) (clauses_uses typed uses outer cs l)
-  paired_in us n ops cs l p h None = append_none (us ++ [])
-  paired_in us n ops cs l p h (Some t) = λ i. append_none us i ++ h t i
+  paired_in us n ops cs l p h None = append-nil (us ++ [])
+  paired_in us n ops cs l p h (Some t) = λ i. append-nil us i ++ h t i
 
   -- one whose call makes the value at once
   fused : (us : List Use) (n : List ℕ) (v : X) (p : Pattern) (o : Option Ty)
       → (us ++ under o (paired_uses typed uses outer p n (paired.Value v)))
       ++ under (option_and_then (paired_pattern typed outer p n (paired.Value v)) o) (operators_uses typed uses outer [])
       ≡ us ++ under (option_map (with_local (names_of outer p) n) o) (clauses_uses typed uses outer [] (last.Select v))
-  fused us n v p None = append_none (us ++ [])
+  fused us n v p None = append-nil (us ++ [])
   fused us n v p (Some t) = ended (us ++ uses v (names_of outer (With p n t))) (paired_pattern typed outer p n (paired.Value v) t)
 
   abbrev from_uses : X → Pattern → List Use

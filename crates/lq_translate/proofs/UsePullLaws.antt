@@ -26,7 +26,8 @@ use Rattle.lq_grammar.specs.declared.syntax.Node.TheVariants as node
 use Rattle.lq_grammar.specs.declared.syntax.Query.{Query}
 use Rattle.lq_grammar.specs.declared.syntax.SortKey.{SortKey}
 use Rattle.lq_translate.specs.Maps.{map_argument, map_body, map_call, map_clause, map_field, map_key, map_last, map_next, map_node, map_operator, map_part, map_query}
-use Rattle.lq_translate.proofs.QueryPullLaws.{body_typed, clause_typed, items_typed, operator_typed}
+use Rattle.lq_language.proofs.QueryPullLaws.{body_typed, clause_typed}
+use Rattle.lq_translate.proofs.CallPullLaws.{items_typed, operator_typed}
 
 module _ {X Y : Type 0} (f : X → Y) (typed : Y → Names → Option Ty) (uses : Y → Names → List Use) where
   -- the type of what an expression is replaced by, and what that uses

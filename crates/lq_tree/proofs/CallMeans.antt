@@ -1,13 +1,12 @@
 -- The tree of the calls of a query is the sequence of their stream, call by call, if the trees of the expressions in them mean what those
 -- mean.
-use Rattle.std.proofs.Common.{true≢false, ◌≡◌, ◌∷◌, ◌++◌, ◌+◌, if◌then◌else◌, List, [], map, ℕ, Bool, true, false, Option, Some, None, Result, Ok, ap, ap₂, ◌∙◌, sym, refl, subst, option_and_then}
+use Rattle.std.proofs.Common.{◌≡◌, ◌∷◌, ◌++◌, ◌+◌, if◌then◌else◌, List, [], map, ℕ, Bool, true, false, Option, Some, None, Result, Ok, ap, ap₂, ◌∙◌, sym, refl, subst, option_and_then}
 use Rattle.std.proofs.lemmas.Option.{none-some, option_and_then_some, same_Some}
 use Rattle.std.specs.List.{fold}
 use Rattle.std.specs.Prelude.{is_some}
 use Rattle.lq_value.specs.SameAndOrder.{same_values as same_keys}
 use Rattle.lq_value.specs.declared.scalar.Scalar.{Scalar}
 use Rattle.lq_value.specs.declared.ty.Ty.{Ty, out-Ty}
-use Rattle.lq_value.specs.declared.ty.Ty.TheOpen.{Ty-F}
 use Rattle.lq_value.specs.declared.ty.Ty.TheVariants as ty
 use Rattle.lq_value.specs.declared.ty.Ty.TheVariants.{outs-Group}
 use Rattle.lq_value.specs.declared.value.End.{End}
@@ -44,7 +43,7 @@ use Rattle.lq_language.proofs.ItemLaws.{every_more, every_none, first_of, others
 use Rattle.lq_language.proofs.FindingLaws.{map_by, when_by}
 use Rattle.lq_language.proofs.TypedMethodLaws.{scalar_after, stream_alike, truth_same}
 use Rattle.lq_language.proofs.TypingLaws.{is_truth}
-use Rattle.lq_language.proofs.ValueLaws.{gets_ok, is_plain, sequence_is}
+use Rattle.lq_language.proofs.ValueLaws.{gets_ok, scalar_plain, sequence_is}
 use Rattle.lq_tree.specs.Binding.{Binds, Stage, body_tree, call_items_tree, call_tree, condition_tree, element_tree, expanded_stage, gathered, grouped_stage, group_stage, if_fresh, inner_stage, items_of_stage, items_of_tree, join_keys, join_stage, joined_form, joined_stage, key_tree, keyed_tree, keys_of, let_stage, matched_stage, matched_type, operator_stage, order_stage, paired_stage, part_tree, placed_tree, query_tree, select_many_stage, select_stage, sequence_tree, sortable_tree, source_tree, stage_of, tree_of, walk_step, walked, where_stage}
 use Rattle.lq_tree.specs.FormMeaning.{Means, Slots, form_meaning, is_true, matched, sort_key}
 use Rattle.lq_tree.specs.Places.{Places, names_of_places, with_item, with_name}
@@ -52,8 +51,8 @@ use Rattle.lq_tree.specs.declared.tree.Form.{Form}
 use Rattle.lq_tree.specs.declared.tree.Form.TheVariants as form
 use Rattle.lq_tree.specs.declared.tree.Tree.{Tree}
 use Rattle.lq_tree.proofs.CallTypes.{at_item, body_found, operator_found, pattern_found}
-use Rattle.lq_tree.proofs.FormSteps.{of_group, of_join, of_order, of_pair, of_select_many, of_sequence, of_through}
-use Rattle.lq_tree.proofs.MeansMembers.{at_slots, same_agree}
+use Rattle.lq_tree.proofs.FormSteps.{meaning_at}
+use Rattle.lq_tree.proofs.MeansMembers.{same_agree}
 use Rattle.lq_tree.proofs.Patterns.{behind_after}
 use Rattle.lq_tree.proofs.ScopeLaws.{IsItem, Stands, append_behind, item_stands, item_value, slot_means, slot_reached, types_at}
 use Rattle.lq_tree.proofs.TypeLaws.{type_found}
@@ -113,7 +112,7 @@ module _ {R : Type 0} (world : World R) (holds : HoldsRows world) {X : Type 0} (
       (λ y bound truth. when_by _ (Some y) x truth
       (λ bool same. to_stage _ next _ is
       (gives_by stage.pattern (form.Through through.Where ty.Null ty.Null stage.form x.form) _ _
-      (at_slots world slots (of_through world through.Where ty.Null ty.Null stage.form x.form))
+      (meaning_at world slots _ (form.outs-Through through.Where ty.Null ty.Null stage.form x.form))
       (where_alike (Item stage.pattern) (λ v. is_true world (form_meaning world x.form) (slots ++ v ∷ [])) (λ v. condition_at world typed meant c
       (bind stage.pattern scope v))
       (λ v item. truth_same world world.unknown world.unknown (mean_at x.form v) (meant c (bind stage.pattern scope v))
@@ -128,7 +127,7 @@ module _ {R : Type 0} (world : World R) (holds : HoldsRows world) {X : Type 0} (
       map_by _ _ next h
       (λ r found is. to_stage _ next _ is
       (gives_by (unnamed r.ty) (form.Through through.Select ty.Null ty.Null stage.form r.form) _ _
-      (at_slots world slots (of_through world through.Select ty.Null ty.Null stage.form r.form))
+      (meaning_at world slots _ (form.outs-Through through.Select ty.Null ty.Null stage.form r.form))
       (select_alike (Item stage.pattern) (Val r.ty) (mean_at r.form) (λ v. meant x (bind stage.pattern scope v)) (λ v item. in_item x stage.pattern r
       (placed_same _ r found) v item)
       (stream_of world (mean stage.form)) s (stream_back stage s gives))))
@@ -137,7 +136,7 @@ module _ {R : Type 0} (world : World R) (holds : HoldsRows world) {X : Type 0} (
   pair_item : (p : Pattern) (n : List ℕ) (x : X) (r : Tree) → tree x (with_item places p) ≡ Some r → (v : Value R) → Item p v
       → Agree (Item (With p n r.ty)) (mean_at (form.Pair (form.Slot places.depth) r.form) v) (on_ok (meant x (bind p scope v)) (λ w. Ok (pair v w)))
   pair_item p n x r bound v item =
-      let is = ap (λ (m : Means R). m (slots ++ v ∷ [])) (of_pair world (form.Slot places.depth) r.form)
+      let is = meaning_at world (slots ++ v ∷ []) _ (form.outs-Pair (form.Slot places.depth) r.form)
       ∙ ap (λ (o : Result (Value R) Fault). on_ok o (λ a. on_ok (mean_at r.form v) (λ b. Ok (pair a b)))) (slot_means world slots places scope v at) in
       let all = on_ok_agree (Val r.ty) (Item (With p n r.ty)) (λ w. Ok (pair v w)) (λ w. Ok (pair v w))
       (λ w fits. agree_ok (Item (With p n r.ty)) (pair v w) (v, w, refl, item, fits)) (mean_at r.form v) (meant x (bind p scope v))
@@ -151,7 +150,7 @@ module _ {R : Type 0} (world : World R) (holds : HoldsRows world) {X : Type 0} (
       (λ r found is. when_by _ _ r found
       (λ fresh placed. to_stage _ next _ is
       (gives_by (With stage.pattern n r.ty) (form.Through through.Select ty.Null ty.Null stage.form (form.Pair (form.Slot places.depth) r.form)) _ _
-      (at_slots world slots (of_through world through.Select ty.Null ty.Null stage.form (form.Pair (form.Slot places.depth) r.form)))
+      (meaning_at world slots _ (form.outs-Through through.Select ty.Null ty.Null stage.form (form.Pair (form.Slot places.depth) r.form)))
       (select_alike (Item stage.pattern) (Item (With stage.pattern n r.ty)) (mean_at (form.Pair (form.Slot places.depth) r.form))
       (λ v. on_ok (meant x (bind stage.pattern scope v)) (λ w. Ok (pair v w)))
       (λ v item. pair_item stage.pattern n x r (placed_same _ r placed) v item) (stream_of world (mean stage.form)) s (stream_back stage s gives)))))
@@ -200,7 +199,7 @@ module _ {R : Type 0} (world : World R) (holds : HoldsRows world) {X : Type 0} (
 
       is : form_meaning world (form.Pair (form.Slot places.depth) (form.Slot (places.depth + 1))) (slots ++ v ∷ w ∷ []) ≡ Ok (pair v w)
       is =
-          ap (λ (m : Means R). m (slots ++ v ∷ w ∷ [])) (of_pair world (form.Slot places.depth) (form.Slot (places.depth + 1)))
+          meaning_at world (slots ++ v ∷ w ∷ []) _ (form.outs-Pair (form.Slot places.depth) (form.Slot (places.depth + 1)))
           ∙ ap₂ (λ (k l : Result (Value R) Fault). on_ok k (λ a. on_ok l (λ b. Ok (pair a b)))) first_slot second_slot
   pair_means p n t (paired.Value x) made h v item w fits =
       map_by _ _ made h
@@ -227,7 +226,7 @@ module _ {R : Type 0} (world : World R) (holds : HoldsRows world) {X : Type 0} (
       s.1))
       (sym (element_of_type (typed x (names_of (names_at world scope) stage.pattern)) y.ty inner.ty (under_item x stage.pattern y bound) element))
       (gives_by pairs.pattern (form.SelectMany stage.form inner.form pairs.form) _ _
-      (at_slots world slots (of_select_many world stage.form inner.form pairs.form))
+      (meaning_at world slots _ (form.outs-SelectMany stage.form inner.form pairs.form))
       (expand_alike (Item stage.pattern) (Val inner.ty) (Item pairs.pattern) (λ v. stream_of world (mean_at inner.form v))
       (λ v. stream_of world (meant x (bind stage.pattern scope v)))
       (λ v w. form_meaning world pairs.form (slots ++ v ∷ w ∷ [])) (result_of world typed meant scope stage.pattern n inner.ty result)
@@ -299,7 +298,7 @@ module _ {R : Type 0} (world : World R) (holds : HoldsRows world) {X : Type 0} (
       (sym (ap (joined_type world typed meant j.into) (element_of_type (typed j.source (names_at world scope)) y.ty inner.ty
       (at_place j.source y bound) element)
       ∙ joined_is j.into stage.pattern inner.ty t into))
-      (gives_by pairs.pattern joined _ _ (at_slots world slots (of_join world stage.form _))
+      (gives_by pairs.pattern joined _ _ (meaning_at world slots _ (form.outs-Join stage.form _))
       (join_alike (Item stage.pattern) (Val t) (Item pairs.pattern) (Val a.ty) (Pair (Val b.ty) (Val inner.ty)) (mean_at a.form)
       (λ v. meant j.outer_key (bind stage.pattern scope v))
       (matched world (is_some j.into)) (joined_values world typed meant j.into) (λ v w. form_meaning world pairs.form (slots ++ v ∷ w ∷ []))
@@ -335,13 +334,6 @@ module _ {R : Type 0} (world : World R) (holds : HoldsRows world) {X : Type 0} (
       (join_pieces j result stage s inner y a b t pairs gives bound element y_form outer_bound inner_bound into pairs_there)))))))))))
 
   -- ---- order
-
-  scalar_plain : (layer : Ty-F Ty) → is_scalar layer ≡ true → is_plain layer ≡ true
-  scalar_plain Ty-F.Int h = refl
-  scalar_plain Ty-F.IntN h = refl
-  scalar_plain Ty-F.Bool h = refl
-  scalar_plain Ty-F.Str h = refl
-  scalar_plain layer h = absurd (true≢false (sym h))
 
   abbrev key_at : Pattern → SortKey X → Value R → Result Scalar Fault
   key_at p k v = sort_key_at world typed meant k (bind p scope v)
@@ -408,7 +400,7 @@ module _ {R : Type 0} (world : World R) (holds : HoldsRows world) {X : Type 0} (
       let items = stream_back stage s gives in
       let self = order_alike (Item stage.pattern) (λ (k : SortKey X). k.descending) (key_at stage.pattern) (key_at stage.pattern) ks
       (keys_self stage.pattern ks) s s (refl, gives.1) in (
-        at_slots world slots (of_order world stage.form fs)
+        meaning_at world slots _ (form.outs-OrderBy stage.form fs)
             ∙ ap (λ (z : Stream (Value R)). as_sequence (order_by (λ k. k.descending) (sort_key world slots) (map form_key fs) z.0 z.1)) items.0
             ∙ ap as_sequence (sorted_same stage.pattern ks fs keys s.0 s.1 gives.1),
         self.1,
@@ -434,7 +426,7 @@ module _ {R : Type 0} (world : World R) (holds : HoldsRows world) {X : Type 0} (
       (λ z bound is_one. when_by (is_key z.ty) (Some z) k is_one
       (λ one same. map_by _ (option_and_then placed_tree (element_tree world.schemas tree places stage.pattern element)) next made
       (λ r found is. to_stage _ next _ is
-      (gives_by (unnamed (ty.Group k.ty r.ty)) (form.GroupBy stage.form k.form r.form) _ _ (at_slots world slots (of_group world stage.form k.form r.form))
+      (gives_by (unnamed (ty.Group k.ty r.ty)) (form.GroupBy stage.form k.form r.form) _ _ (meaning_at world slots _ (form.outs-GroupBy stage.form k.form r.form))
       (group_alike (Item stage.pattern) (Val k.ty) (Val r.ty) (Val (ty.Group k.ty r.ty)) same_keys (mean_at k.form)
       (λ v. meant key (bind stage.pattern scope v)) (mean_at r.form)
       (element_at world typed meant scope stage.pattern element) as_group (λ v item. in_item key stage.pattern k (bound ∙ same) v item)
@@ -537,7 +529,7 @@ module _ {R : Type 0} (world : World R) (holds : HoldsRows world) {X : Type 0} (
       stream_alike world world.unknown world.unknown y.ty source.ty element (mean source.form) (meant c.source scope)
       (subst (λ (f : Form). Agree (Val y.ty) (mean f) (meant c.source scope)) y_form (means c.source slots places scope at y bound)) in (
         (
-          at_slots world slots (of_sequence world source.form) ∙ ap as_sequence items.0,
+          meaning_at world slots _ (form.outs-Sequence source.form) ∙ ap as_sequence items.0,
           subst (λ (z : Stream (Value R)). Every (Val source.ty) z.0) items.0
               items.1,
         ),

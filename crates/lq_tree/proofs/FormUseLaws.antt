@@ -1,5 +1,5 @@
 -- What a form uses, over the uses of the forms in it.
-use Rattle.std.proofs.Common.{◌≡◌, List, map, ℕ, Bool, ap, ◌∙◌}
+use Rattle.std.proofs.Common.{◌≡◌, List, map, ℕ, Bool}
 use Rattle.lq_value.specs.declared.scalar.Scalar.{Scalar}
 use Rattle.lq_value.specs.declared.ty.Ty.{Ty}
 use Rattle.lq_language.specs.Maps.{map_field, map_key}
@@ -11,10 +11,11 @@ use Rattle.lq_language.specs.declared.rights.Use.{Use}
 use Rattle.lq_grammar.specs.declared.syntax.Field.{Field}
 use Rattle.lq_grammar.specs.declared.syntax.SortKey.{SortKey}
 use Rattle.lq_tree.specs.UsesOfForms.{form_uses, form_uses_step}
-use Rattle.lq_tree.specs.declared.tree.Form.{Form, fold_out-Form, map-Form, out-Form}
+use Rattle.lq_tree.specs.declared.tree.Form.{Form, map-Form, out-Form}
 use Rattle.lq_tree.specs.declared.tree.Form.TheOpen.{Form-F}
 use Rattle.lq_tree.specs.declared.tree.Form.TheVariants as form
 use Rattle.lq_tree.specs.declared.tree.Joined.{Joined}
+use Rattle.lq_tree.proofs.FormSteps.{folded_at}
 
 abbrev used : Form → List Use
 used = form_uses
@@ -22,84 +23,84 @@ used = form_uses
 abbrev step : Form-F (List Use) → List Use
 step = form_uses_step
 
-pub by_layer : (f : Form) (layer : Form-F Form) → out-Form f ≡ layer → used f ≡ step (map-Form Form (List Use) used layer)
+pub uses_at : (f : Form) {layer : Form-F Form} → out-Form f ≡ layer → used f ≡ step (map-Form Form (List Use) used layer)
 unfolding form_uses
-by_layer f layer is = fold_out-Form (List Use) step f ∙ ap (λ (l : Form-F Form). step (map-Form Form (List Use) used l)) is
+uses_at f is = folded_at step f is
 
 pub of_literal : (s : Scalar) → used (form.Literal s) ≡ step (Form-F.Literal s)
-of_literal s = by_layer (form.Literal s) _ (form.outs-Literal s)
+of_literal s = uses_at _ (form.outs-Literal s)
 
 pub of_slot : (n : ℕ) → used (form.Slot n) ≡ step (Form-F.Slot n)
-of_slot n = by_layer (form.Slot n) _ (form.outs-Slot n)
+of_slot n = uses_at _ (form.outs-Slot n)
 
 pub of_first : (a : Form) → used (form.First a) ≡ step (Form-F.First (used a))
-of_first a = by_layer (form.First a) _ (form.outs-First a)
+of_first a = uses_at _ (form.outs-First a)
 
 pub of_second : (a : Form) → used (form.Second a) ≡ step (Form-F.Second (used a))
-of_second a = by_layer (form.Second a) _ (form.outs-Second a)
+of_second a = uses_at _ (form.outs-Second a)
 
 pub of_table : (n : ℕ) → used (form.Table n) ≡ step (Form-F.Table n)
-of_table n = by_layer (form.Table n) _ (form.outs-Table n)
+of_table n = uses_at _ (form.outs-Table n)
 
 pub of_column : (a : Form) (n c : ℕ) → used (form.Column a n c) ≡ step (Form-F.Column (used a) n c)
-of_column a n c = by_layer (form.Column a n c) _ (form.outs-Column a n c)
+of_column a n c = uses_at _ (form.outs-Column a n c)
 
 pub of_member : (a : Form) (n : ℕ) → used (form.Member a n) ≡ step (Form-F.Member (used a) n)
-of_member a n = by_layer (form.Member a n) _ (form.outs-Member a n)
+of_member a n = uses_at _ (form.outs-Member a n)
 
 pub of_key : (a : Form) → used (form.Key a) ≡ step (Form-F.Key (used a))
-of_key a = by_layer (form.Key a) _ (form.outs-Key a)
+of_key a = uses_at _ (form.outs-Key a)
 
 pub of_unary : (o : Op) (a : Form) → used (form.Unary o a) ≡ step (Form-F.Unary o (used a))
-of_unary o a = by_layer (form.Unary o a) _ (form.outs-Unary o a)
+of_unary o a = uses_at _ (form.outs-Unary o a)
 
 pub of_binary : (o : Op) (a b : Form) → used (form.Binary o a b) ≡ step (Form-F.Binary o (used a) (used b))
-of_binary o a b = by_layer (form.Binary o a b) _ (form.outs-Binary o a b)
+of_binary o a b = uses_at _ (form.outs-Binary o a b)
 
 pub of_and : (a b : Form) → used (form.And a b) ≡ step (Form-F.And (used a) (used b))
-of_and a b = by_layer (form.And a b) _ (form.outs-And a b)
+of_and a b = uses_at _ (form.outs-And a b)
 
 pub of_or : (a b : Form) → used (form.Or a b) ≡ step (Form-F.Or (used a) (used b))
-of_or a b = by_layer (form.Or a b) _ (form.outs-Or a b)
+of_or a b = uses_at _ (form.outs-Or a b)
 
 pub of_coalesce : (a b : Form) → used (form.Coalesce a b) ≡ step (Form-F.Coalesce (used a) (used b))
-of_coalesce a b = by_layer (form.Coalesce a b) _ (form.outs-Coalesce a b)
+of_coalesce a b = uses_at _ (form.outs-Coalesce a b)
 
 pub of_conditional : (c a b : Form) → used (form.Conditional c a b) ≡ step (Form-F.Conditional (used c) (used a) (used b))
-of_conditional c a b = by_layer (form.Conditional c a b) _ (form.outs-Conditional c a b)
+of_conditional c a b = uses_at _ (form.outs-Conditional c a b)
 
 pub of_is_null : (wanted : Bool) (a : Form) → used (form.IsNull wanted a) ≡ step (Form-F.IsNull wanted (used a))
-of_is_null wanted a = by_layer (form.IsNull wanted a) _ (form.outs-IsNull wanted a)
+of_is_null wanted a = uses_at _ (form.outs-IsNull wanted a)
 
 pub of_record : (fields : List (Field Form)) → used (form.Record fields) ≡ step (Form-F.Record (map (map_field used) fields))
-of_record fields = by_layer (form.Record fields) _ (form.outs-Record fields)
+of_record fields = uses_at _ (form.outs-Record fields)
 
 pub of_pair : (a b : Form) → used (form.Pair a b) ≡ step (Form-F.Pair (used a) (used b))
-of_pair a b = by_layer (form.Pair a b) _ (form.outs-Pair a b)
+of_pair a b = uses_at _ (form.outs-Pair a b)
 
 pub of_sequence : (a : Form) → used (form.Sequence a) ≡ step (Form-F.Sequence (used a))
-of_sequence a = by_layer (form.Sequence a) _ (form.outs-Sequence a)
+of_sequence a = uses_at _ (form.outs-Sequence a)
 
 pub of_simple : (method : Simple) (t : Ty) (a : Form) → used (form.Simple method t a) ≡ step (Form-F.Simple method t (used a))
-of_simple method t a = by_layer (form.Simple method t a) _ (form.outs-Simple method t a)
+of_simple method t a = uses_at _ (form.outs-Simple method t a)
 
 pub of_given : (method : Given) (a b : Form) → used (form.Given method a b) ≡ step (Form-F.Given method (used a) (used b))
-of_given method a b = by_layer (form.Given method a b) _ (form.outs-Given method a b)
+of_given method a b = uses_at _ (form.outs-Given method a b)
 
 pub of_through : (method : Through) (t u : Ty) (a f : Form) → used (form.Through method t u a f) ≡ step (Form-F.Through method t u (used a) (used f))
-of_through method t u a f = by_layer (form.Through method t u a f) _ (form.outs-Through method t u a f)
+of_through method t u a f = uses_at _ (form.outs-Through method t u a f)
 
 pub of_select_many : (a inner result : Form) → used (form.SelectMany a inner result) ≡ step (Form-F.SelectMany (used a) (used inner) (used result))
-of_select_many a inner result = by_layer (form.SelectMany a inner result) _ (form.outs-SelectMany a inner result)
+of_select_many a inner result = uses_at _ (form.outs-SelectMany a inner result)
 
 abbrev pub join_used : Joined Form → Joined (List Use)
 join_used j = record { inner = used j.inner; outer_key = used j.outer_key; inner_key = used j.inner_key; grouped = j.grouped; result = used j.result }
 
 pub of_join : (a : Form) (j : Joined Form) → used (form.Join a j) ≡ step (Form-F.Join (used a) (join_used j))
-of_join a j = by_layer (form.Join a j) _ (form.outs-Join a j)
+of_join a j = uses_at _ (form.outs-Join a j)
 
 pub of_order : (a : Form) (ks : List (SortKey Form)) → used (form.OrderBy a ks) ≡ step (Form-F.OrderBy (used a) (map (map_key used) ks))
-of_order a ks = by_layer (form.OrderBy a ks) _ (form.outs-OrderBy a ks)
+of_order a ks = uses_at _ (form.outs-OrderBy a ks)
 
 pub of_group : (a key element : Form) → used (form.GroupBy a key element) ≡ step (Form-F.GroupBy (used a) (used key) (used element))
-of_group a key element = by_layer (form.GroupBy a key element) _ (form.outs-GroupBy a key element)
+of_group a key element = uses_at _ (form.outs-GroupBy a key element)

@@ -31,20 +31,17 @@ use Rattle.lq_language.specs.declared.operation.Op.{Op}
 use Rattle.lq_language.specs.declared.operation.Op.TheVariants as op
 use Rattle.lq_grammar.specs.declared.syntax.SortKey.{SortKey}
 use Rattle.lq_language.proofs.ItemLaws.{each_same}
-use Rattle.lq_tree.specs.FormMeaning.{Means, Slots, cell_in, form_meaning, if_there, is_null_value, is_true, joined_stream, key_in, matched, member_at, members_of, name_of_column, sort_key}
+use Rattle.lq_tree.specs.FormMeaning.{Means, Slots, cell_in, form_meaning, form_step, if_there, is_null_value, is_true, joined_stream, key_in, matched, member_at, members_of, name_of_column, sort_key}
 use Rattle.lq_tree.specs.OperandKinds.{Among, Finds, HasCell, HasMember, IsEnumerable, IsGroup, IsScalar, IsScalarThat, MeetsKinds, Run, Runs, RunsFields, RunsKeys, TakesArgument, TakesMade, is_count, is_number, is_text, is_truth, items_in, takes_one, takes_two}
 use Rattle.lq_tree.specs.OperandKinds as kind
 use Rattle.lq_tree.specs.TypedFormLaws.{KindsSuffice}
-use Rattle.lq_tree.specs.declared.tree.Form.{Form}
+use Rattle.lq_tree.specs.declared.tree.Form.{Form, map-Form, out-Form}
+use Rattle.lq_tree.specs.declared.tree.Form.TheOpen.{Form-F}
+use Rattle.lq_tree.specs.declared.tree.Form.TheVariants as form
 use Rattle.lq_tree.specs.declared.tree.Joined.{Joined}
-use Rattle.lq_tree.proofs.FormSteps.{join_means, of_and, of_binary, of_coalesce, of_column, of_conditional, of_first, of_given, of_group, of_is_null, of_join, of_key, of_literal, of_member, of_or, of_order, of_pair, of_record, of_second, of_select_many, of_sequence, of_simple, of_slot, of_table, of_through, of_unary}
-use Rattle.lq_tree.proofs.MeansMembers.{at_slots}
+use Rattle.lq_tree.proofs.FormSteps.{meaning_at}
 
 -- ---- scalars
-
-both_true : (a b : Bool) → (a && b) ≡ true → (a ≡ true) × (b ≡ true)
-both_true true b h = (refl, h)
-both_true false b h = absurd (true≢false (sym h))
 
 module _ (f g : Fault) where
   one_same : (o : Op) (s : Scalar) → takes_one o s ≡ true → of_one f o s ≡ of_one g o s
@@ -148,9 +145,9 @@ value_same m n f g is same = ap (λ o. on_value o f) is ∙ by n same where
   by (Ok x) h = h x refl
   by (Err e) h = refl
 
-whole_same : {A B : Type 0} (xs : List A) (e : End) (f g : List A → Stream B) → f xs ≡ g xs → whole xs e f ≡ whole xs e g
-whole_same xs end.Done f g h = h
-whole_same xs (end.Fault x) f g h = refl
+same_whole : {A B : Type 0} (xs : List A) (e : End) (f g : List A → Stream B) → f xs ≡ g xs → whole xs e f ≡ whole xs e g
+same_whole xs end.Done f g h = h
+same_whole xs (end.Fault x) f g h = refl
 
 abbrev In : {A : Type 0} → List A → A → Type 0
 In xs v = (i : ℕ) × (slice_get xs i ≡ Some v)
@@ -163,7 +160,7 @@ join_in : {A B K Q V : Type 0} (qs : Stream Q) (key key' : A → Result K Fault)
     → ((v : A) (w : V) (k : K) → In xs v → key v ≡ Ok k → In (found k qs.0) w → result' v w ≡ result v w)
     → join_by qs key' found' result' xs e ≡ join_by qs key found result xs e
 join_in {A} {B} {K} {Q} {V} qs key key' found found' result result' xs e keys founds results =
-    whole_same qs.0 qs.1 (λ zs. each (λ x. on_value (key' x) (λ k. made (result' x) (found' k zs, end.Done))) xs e)
+    same_whole qs.0 qs.1 (λ zs. each (λ x. on_value (key' x) (λ k. made (result' x) (found' k zs, end.Done))) xs e)
     (λ zs. each (λ x. on_value (key x) (λ k. made (result x) (found k zs, end.Done))) xs e)
     (each_in (λ x. on_value (key' x) (λ k. made (result' x) (found' k qs.0, end.Done))) (λ x. on_value (key x) (λ k. made (result x) (found k qs.0, end.Done)))
     xs e
@@ -335,38 +332,43 @@ module _ {R : Type 0} (world : World R) (unknown : Fault) where
       ∙ each_in _ _ (items j.inner slots) (stream_of world (mean j.inner slots)).1
       (λ w there. ap (λ (o : Result (Value R) Fault). one (both o (Ok w))) (keys w there))
 
-  -- by what a form means in each world
-  by_steps : (slots : Slots R) {m' m n' n : Means R} → m' ≡ n' → m ≡ n → n' slots ≡ n slots → m' slots ≡ m slots
-  by_steps slots h k same = at_slots other slots h ∙ same ∙ sym (at_slots world slots k)
+  abbrev join_means : {Q : Type 0} → World Q → Joined Form → Joined (Means Q)
+  join_means w j =
+      record { inner = form_meaning w j.inner; outer_key = form_meaning w j.outer_key; inner_key = form_meaning w j.inner_key; grouped = j.grouped; result = form_meaning w j.result }
+
+  -- by what a form's layer means in each world
+  by_layer : (slots : Slots R) (f : Form) {layer : Form-F Form} → out-Form f ≡ layer
+      → form_step other (map-Form Form (Means R) mean' layer) slots ≡ form_step world (map-Form Form (Means R) mean layer) slots → mean' f slots ≡ mean f slots
+  by_layer slots f is same = meaning_at other slots f is ∙ same ∙ sym (meaning_at world slots f is)
 
   pub same : {run : Run R} → MeetsKinds world run → Same run
-  same (kind.at_literal c slots) = by_steps slots (of_literal other c) (of_literal world c) refl
+  same (kind.at_literal c slots) = by_layer slots _ (form.outs-Literal c) refl
   same (kind.at_slot n slots v there) =
-      by_steps slots (of_slot other n) (of_slot world n) (ap (if_there other) there ∙ sym (ap (if_there world) there))
+      by_layer slots _ (form.outs-Slot n) (ap (if_there other) there ∙ sym (ap (if_there world) there))
   same (kind.at_table n slots rows there) =
-      by_steps slots (of_table other n) (of_table world n) (ap (table_value other) there ∙ sym (ap (table_value world) there))
+      by_layer slots _ (form.outs-Table n) (ap (table_value other) there ∙ sym (ap (table_value world) there))
   same (kind.at_first a slots h kinds) =
-      by_steps slots (of_first other a) (of_first world a) (ap (λ (o : Result (Value R) Fault). on_ok o (λ v. Ok (first v))) (same h))
+      by_layer slots _ (form.outs-First a) (ap (λ (o : Result (Value R) Fault). on_ok o (λ v. Ok (first v))) (same h))
   same (kind.at_second a slots h kinds) =
-      by_steps slots (of_second other a) (of_second world a) (ap (λ (o : Result (Value R) Fault). on_ok o (λ v. Ok (second v))) (same h))
+      by_layer slots _ (form.outs-Second a) (ap (λ (o : Result (Value R) Fault). on_ok o (λ v. Ok (second v))) (same h))
   same (kind.at_column a n c slots h kinds) =
-      by_steps slots (of_column other a n c) (of_column world a n c)
+      by_layer slots _ (form.outs-Column a n c)
       (after_same (mean' a slots) (mean a slots) (λ v. cell_in other n c (out-Value R v)) (λ v. cell_in world n c (out-Value R v)) (same h)
       (λ v is. cell_same n c v (kinds v is)))
   same (kind.at_member a place slots h kinds) =
-      by_steps slots (of_member other a place) (of_member world a place)
+      by_layer slots _ (form.outs-Member a place)
       (after_same (mean' a slots) (mean a slots) (λ v. member_at other place (out-Value R v)) (λ v. member_at world place (out-Value R v)) (same h)
       (λ v is. member_same place v (kinds v is)))
   same (kind.at_key a slots h kinds) =
-      by_steps slots (of_key other a) (of_key world a)
+      by_layer slots _ (form.outs-Key a)
       (after_same (mean' a slots) (mean a slots) (λ v. key_in other (out-Value R v)) (λ v. key_in world (out-Value R v)) (same h)
       (λ v is. key_same v (kinds v is)))
   same (kind.at_one o a slots h kinds) =
-      by_steps slots (of_unary other o a) (of_unary world o a)
+      by_layer slots _ (form.outs-Unary o a)
       (scalar_after (mean' a slots) (mean a slots) (λ s. as_value (of_one unknown o s)) (λ s. as_value (of_one world.unknown o s)) (same h)
       (λ v is. let found = kinds v is in (found.0, found.1, ap as_value (one_same unknown world.unknown o found.0 found.2))))
   same (kind.at_two o a b slots h k kinds scalars) =
-      by_steps slots (of_binary other o a b) (of_binary world o a b)
+      by_layer slots _ (form.outs-Binary o a b)
       (scalar_after (mean' a slots) (mean a slots) (λ s. on_scalar other (mean' b slots) (λ t. as_value (of_two unknown o s t)))
       (λ s. on_scalar world (mean b slots) (λ t. as_value (of_two world.unknown o s t))) (same h)
       (λ v v_is. let x = scalars v v_is in (
@@ -384,53 +386,53 @@ module _ {R : Type 0} (world : World R) (unknown : Fault) where
       scalar_is : {s t : Scalar} → ◌≡◌ {A = Value R} (value.Scalar s) (value.Scalar t) → s ≡ t
       scalar_is {s} {t} h = let layers : ◌≡◌ {A = Value-F R (Value R)} (Value-F.Scalar s) (Value-F.Scalar t) = sym (outs-Scalar s) ∙ ap (out-Value R) h ∙ outs-Scalar t in cc
   same (kind.at_and a b slots h k truths others) =
-      by_steps slots (of_and other a b) (of_and world a b)
+      by_layer slots _ (form.outs-And a b)
       (ap₂ (λ (o : Result Bool Fault) (p : Result (Value R) Fault). on_ok o (λ t. if t then p else Ok (value.Scalar (scalar.Bool false))))
       (truth_after (mean' a slots) (mean a slots) (same h) truths) (same k))
   same (kind.at_or a b slots h k truths others) =
-      by_steps slots (of_or other a b) (of_or world a b)
+      by_layer slots _ (form.outs-Or a b)
       (ap₂ (λ (o : Result Bool Fault) (p : Result (Value R) Fault). on_ok o (λ t. if t then Ok (value.Scalar (scalar.Bool true)) else p))
       (truth_after (mean' a slots) (mean a slots) (same h) truths) (same k))
   same (kind.at_default a b slots h k scalars others) =
-      by_steps slots (of_coalesce other a b) (of_coalesce world a b)
+      by_layer slots _ (form.outs-Coalesce a b)
       (scalar_after (mean' a slots) (mean a slots) (λ s. if is_null s then mean' b slots else Ok (value.Scalar s)) (λ s. if is_null s then mean b slots else Ok (value.Scalar s)) (same h)
       (λ v is. let found = scalars v is in
       (found.0, found.1, ap (λ (o : Result (Value R) Fault). if is_null found.0 then o else Ok (value.Scalar found.0)) (same k))))
   same (kind.at_choice c a b slots g h k truths) =
-      by_steps slots (of_conditional other c a b) (of_conditional world c a b)
+      by_layer slots _ (form.outs-Conditional c a b)
       (ap (λ (o : Result Bool Fault). on_ok o (λ t. if t then mean' a slots else mean' b slots)) (truth_after (mean' c slots) (mean c slots) (same g) truths)
       ∙ ap₂ (λ (x y : Result (Value R) Fault). on_truth world (mean c slots) (λ t. if t then x else y)) (same h) (same k))
   same (kind.at_null_test wanted a slots h kinds) =
-      by_steps slots (of_is_null other wanted a) (of_is_null world wanted a)
+      by_layer slots _ (form.outs-IsNull wanted a)
       (after_same (mean' a slots) (mean a slots) _ _ (same h)
       (λ v is. ap (λ (b : Bool). Ok (value.Scalar (scalar.Bool (if wanted then b else not b)))) (null_same (out-Value R v))))
   same (kind.at_record fields slots h) =
-      by_steps slots (of_record other fields) (of_record world fields)
+      by_layer slots _ (form.outs-Record fields)
       (ap (λ (o : Result (List (List ℕ × Value R)) Fault). on_ok o (λ members. Ok (value.Rec members))) (same h))
   same (kind.no_field slots) = refl
   same (kind.one_field field fields slots h k) =
       ap₂ (λ (o : Result (Value R) Fault) (p : Result (List (List ℕ × Value R)) Fault). on_ok o (λ v. on_ok p (λ members. Ok ((field.name, v) ∷ members))))
       (same h) (same k)
   same (kind.at_pair a b slots h k) =
-      by_steps slots (of_pair other a b) (of_pair world a b)
+      by_layer slots _ (form.outs-Pair a b)
       (ap₂ (λ (o p : Result (Value R) Fault). on_ok o (λ v. on_ok p (λ w. Ok (pair v w)))) (same h) (same k))
   same (kind.at_sequence a slots h kinds) =
-      by_steps slots (of_sequence other a) (of_sequence world a) (ap as_sequence (stream_same (mean' a slots) (mean a slots) (same h) kinds))
+      by_layer slots _ (form.outs-Sequence a) (ap as_sequence (stream_same (mean' a slots) (mean a slots) (same h) kinds))
   same (kind.at_simple method t a slots h kinds takes suited twos) =
-      by_steps slots (of_simple other method t a) (of_simple world method t a)
+      by_layer slots _ (form.outs-Simple method t a)
       (ap (simple_meaning method t) (stream_same (mean' a slots) (mean a slots) (same h) kinds))
   same (kind.at_given method a b slots h kinds takes k arguments others beside pairs) =
-      by_steps slots (of_given other method a b) (of_given world method a b)
+      by_layer slots _ (form.outs-Given method a b)
       (ap (given_meaning other method (mean' b slots)) (stream_same (mean' a slots) (mean a slots) (same h) kinds)
       ∙ given_same method (mean' b slots) (mean b slots) (stream_of world (mean a slots)) (same k) arguments)
   same (kind.at_through method t u a f slots h kinds takes bodies makes suited sources pairs) =
-      by_steps slots (of_through other method t u a f) (of_through world method t u a f)
+      by_layer slots _ (form.outs-Through method t u a f)
       (ap (through_meaning other method t u (λ v. is_true other (mean' f) (slots ++ v ∷ [])) (λ v. mean' f (slots ++ v ∷ [])))
       (stream_same (mean' a slots) (mean a slots) (same h) kinds)
       ∙ through_same method t u (λ v. mean' f (slots ++ v ∷ [])) (λ v. mean f (slots ++ v ∷ [])) (stream_of world (mean a slots))
       (λ v there. same (bodies v there)) (λ v there. makes v there))
   same (kind.at_expansion a inner result slots h kinds bodies inners results) =
-      by_steps slots (of_select_many other a inner result) (of_select_many world a inner result)
+      by_layer slots _ (form.outs-SelectMany a inner result)
       (ap as_sequence
       (ap (λ (s : Stream (Value R)). expand_by (λ v. stream_of other (mean' inner (slots ++ v ∷ []))) (λ v w. mean' result (slots ++ v ∷ w ∷ [])) s.0 s.1)
       (stream_same (mean' a slots) (mean a slots) (same h) kinds)
@@ -440,7 +442,7 @@ module _ {R : Type 0} (world : World R) (unknown : Fault) where
       (stream_same (mean' inner (slots ++ v ∷ [])) (mean inner (slots ++ v ∷ [])) (same (bodies v there)) (inners v there))
       ∙ each_in _ _ (items inner (slots ++ v ∷ [])) (stream_of world (mean inner (slots ++ v ∷ []))).1 (λ w w_there. ap one (same (results v w there w_there))))))
   same (kind.at_join a j slots h kinds k inner_kinds outers outer_keys inners inner_keys results matching) =
-      by_steps slots (of_join other a j) (of_join world a j)
+      by_layer slots _ (form.outs-Join a j)
       (ap as_sequence
       (ap (joined_stream other slots (join_means other j)) (stream_same (mean' a slots) (mean a slots) (same h) kinds)
       ∙ ap (λ (q : Stream (Value R × Value R)). join_by q (λ v. mean' j.outer_key (slots ++ v ∷ [])) (matched other j.grouped)
@@ -451,11 +453,11 @@ module _ {R : Type 0} (world : World R) (unknown : Fault) where
       (λ v w. mean' j.result (slots ++ v ∷ w ∷ [])) (items a slots) (stream_of world (mean a slots)).1 (λ v there. same (outers v there))
       (matched_same j.grouped) (λ v w key there is w_there. same (results v w key there is w_there))))
   same (kind.at_order a ks slots h kinds keys alike) =
-      by_steps slots (of_order other a ks) (of_order world a ks)
+      by_layer slots _ (form.outs-OrderBy a ks)
       (ap as_sequence
       (ap (λ (s : Stream (Value R)). order_by (λ (k : SortKey (Means R)). k.descending) (sort_key other slots) (map (map_key mean') ks) s.0 s.1)
       (stream_same (mean' a slots) (mean a slots) (same h) kinds)
-      ∙ whole_same (items a slots) (stream_of world (mean a slots)).1 _ _
+      ∙ same_whole (items a slots) (stream_of world (mean a slots)).1 _ _
       (ap₂ (λ (o : Result (List (Keyed (Value R))) Fault) (ds : List Bool). on_value o (λ rows. (map (λ row. row.1) (arranged ds rows), end.Done)))
       (keyed_same slots ks (items a slots) (λ v there. same (keys v there))) (descending_same ks))))
   same (kind.no_key slots) = tt
@@ -465,7 +467,7 @@ module _ {R : Type 0} (world : World R) (unknown : Fault) where
     same others,
   )
   same (kind.at_grouping a key element slots h kinds keys key_kinds elements grouping) =
-      by_steps slots (of_group other a key element) (of_group world a key element)
+      by_layer slots _ (form.outs-GroupBy a key element)
       (ap as_sequence
       (ap (λ (s : Stream (Value R)). group_by same_keys (λ v. mean' key (slots ++ v ∷ [])) (λ v. mean' element (slots ++ v ∷ [])) as_group s.0 s.1)
       (stream_same (mean' a slots) (mean a slots) (same h) kinds)

@@ -4,7 +4,6 @@ pub mod CallUses
 pub mod FormSteps
 pub mod FormUseLaws
 pub mod KindsSuffice
-pub mod Layers
 pub mod MappedItems
 pub mod MappedMethods
 pub mod MappedReplyLaws
@@ -13,6 +12,7 @@ pub mod MappedValueLaws
 pub mod MeansMembers
 pub mod MeansOperators
 pub mod MeetsOperands
+pub mod MemberTrees
 pub mod NodeMeans
 pub mod NodeTypes
 pub mod NodeUseLaws

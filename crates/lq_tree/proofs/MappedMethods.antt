@@ -9,7 +9,8 @@ use Rattle.lq_language.specs.Enumerable.{all, any, at_end, concat, contains, cou
 use Rattle.lq_language.specs.Operations.{on_ok}
 use Rattle.lq_language.specs.Stream.{Stream, first_keys}
 use Rattle.lq_tree.specs.Rows.{result_map, stream_map}
-use Rattle.lq_tree.proofs.MappedStreamLaws.{filter_natural, first_keys_natural, map_twice, then_natural, whole_natural}
+use Rattle.lq_language.proofs.StreamLaws.{map_twice, then_mapped}
+use Rattle.lq_tree.proofs.MappedStreamLaws.{filter_natural, first_keys_natural, whole_natural}
 
 module _ {A B : Type 0} (g : A → B) where
   -- ---- sequences
@@ -90,7 +91,7 @@ module _ {A B : Type 0} (g : A → B) where
   -- ---- what compares items
 
   pub concat_natural : (xs ys : Stream A) → concat (stream_map g xs) (stream_map g ys) ≡ stream_map g (concat xs ys)
-  concat_natural xs ys = then_natural g xs.0 xs.1 ys
+  concat_natural xs ys = then_mapped g xs.0 xs.1 ys
 
   module _ (same : A → A → Bool) (alike : B → B → Bool) (h : (x y : A) → alike (g x) (g y) ≡ same x y) where
     pub distinct_natural : (xs : List A) (e : End) → distinct alike (map g xs) e ≡ stream_map g (distinct same xs e)

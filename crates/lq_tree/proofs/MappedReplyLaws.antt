@@ -12,7 +12,7 @@ use Rattle.lq_value.specs.declared.value.Value.TheViews.{out-roll-Value}
 use Rattle.lq_machine.specs.Served.{fault_at, fault_step, first_member, first_of, group_data, item_data, layer_data, nested_fault, or_next, record_data, record_members, row_data, sequence_data, served_item, served_stream, stream_data, unless_fault, value_data}
 use Rattle.lq_language.specs.Stream.{Stream, each, one}
 use Rattle.lq_machine.proofs.ServedLaws.{fault_out, item_out}
-use Rattle.lq_translate.proofs.StreamLaws.{each_map}
+use Rattle.lq_language.proofs.StreamLaws.{each_map}
 use Rattle.lq_tree.specs.RowLaws.{ServesAlikeOverRows}
 use Rattle.lq_tree.specs.Rows.{mapped, result_map, stream_map}
 use Rattle.lq_tree.proofs.MappedValueLaws.{Such, mapped_layer, mapped_member, mapped_out, of_every, plain}

@@ -1,16 +1,15 @@
 -- Steps over items that are replaced, one by one: what a step gives of them is what it gave of the items, replaced. Where a step asks
 -- something of an item, the answer for what stands in its place is to be the same.
-use Rattle.std.proofs.Common.{◌≡◌, ◌∷◌, if◌then◌else◌, List, [], filter, map, Bool, true, false, not, Result, Ok, Err, ap, ap₂, ◌∙◌, sym, refl}
-use Rattle.std.proofs.lemmas.List.{map-append}
+use Rattle.std.proofs.Common.{◌≡◌, ◌∷◌, if◌then◌else◌, List, [], filter, map, Bool, true, false, not, Result, Ok, Err, ap, ap₂, ◌∙◌, refl}
 use Rattle.lq_value.specs.declared.scalar.Scalar.{Scalar}
 use Rattle.lq_value.specs.declared.value.End.{End}
 use Rattle.lq_value.specs.declared.value.End.TheVariants as end
 use Rattle.lq_value.specs.declared.value.Fault.{Fault}
-use Rattle.lq_language.specs.Arrangement.{Keyed, all_of, arranged, keyed, order_by, with_key}
+use Rattle.lq_language.specs.Arrangement.{order_by}
 use Rattle.lq_language.specs.Operations.{on_ok}
-use Rattle.lq_language.specs.Stream.{Stream, both, each, elements_of, expand_by, first_keys, group_by, groups_of, join_by, kept, made, on_value, one, select_by, then_ending, where_by, whole, with_keys}
+use Rattle.lq_language.specs.Stream.{Stream, both, each, elements_of, expand_by, first_keys, group_by, groups_of, join_by, kept, made, on_value, one, select_by, where_by, whole, with_keys}
 use Rattle.lq_tree.specs.Rows.{result_map, stream_map}
-use Rattle.lq_translate.proofs.StreamLaws.{each_natural, kept_mapped, order_natural}
+use Rattle.lq_language.proofs.StreamLaws.{each_natural, kept_mapped, order_natural}
 
 -- a pair whose parts are replaced
 abbrev pub pair_map : {A B C D : Type 0} → (A → C) → (B → D) → A × B → C × D
@@ -55,10 +54,6 @@ pub map_square : {A B C D : Type 0} (b : A → B) (d : C → D) (f : A → C) (g
 map_square b d f g h [] = refl
 map_square b d f g h (x ∷ xs) = ap₂ (λ y ys. y ∷ ys) (h x) (map_square b d f g h xs)
 
-pub map_twice : {A B C : Type 0} (b : A → B) (g : B → C) (xs : List A) → map g (map b xs) ≡ map (λ x. g (b x)) xs
-map_twice b g [] = refl
-map_twice b g (x ∷ xs) = ap (λ ys. g (b x) ∷ ys) (map_twice b g xs)
-
 kept_by : {A B : Type 0} (g : A → B) (x : A) (xs : List A) (ys : List B) → ys ≡ map g xs → (b : Bool)
     → (if b then g x ∷ ys else ys) ≡ map g (if b then x ∷ xs else xs)
 kept_by g x xs ys h true = ap (λ zs. g x ∷ zs) h
@@ -76,11 +71,6 @@ filter_natural g p q h (x ∷ xs) =
 pub one_natural : {C D : Type 0} (d : C → D) (o : Result C Fault) → one (result_map d o) ≡ stream_map d (one o)
 one_natural d (Ok x) = refl
 one_natural d (Err e) = refl
-
-pub then_natural : {A B : Type 0} (d : A → B) (xs : List A) (e : End) (t : Stream A)
-    → then_ending (map d xs) e (stream_map d t) ≡ stream_map d (then_ending xs e t)
-then_natural d xs end.Done t = ap (λ ys. (ys, t.1)) (sym (map-append d xs t.0))
-then_natural d xs (end.Fault f) t = refl
 
 pub select_natural : {A B C D : Type 0} (b : A → B) (d : C → D) (f : A → Result C Fault) (g : B → Result D Fault) → ((x : A) → g (b x) ≡ result_map d (f x))
     → (xs : List A) (e : End)
@@ -176,19 +166,6 @@ module _ {K L : Type 0} (g : K → L) (same : K → K → Bool) (alike : L → L
       (select_by (λ x. both (key x) (element x)) xs e).0 (select_by (λ x. both (key x) (element x)) xs e).1
 
 -- ---- order
-
-module _ {A S T : Type 0} (t : S → T) (descending : T → Bool) (key : T → A → Result Scalar Fault) where
-  keyed_keys : (ss : List S) (xs : List A) → keyed key (map t ss) xs ≡ keyed (λ s. key (t s)) ss xs
-  keyed_keys [] xs = refl
-  keyed_keys (s ∷ ss) xs =
-      ap (λ (o : Result (List (Keyed A)) Fault). on_ok (all_of (key (t s)) xs) (λ ks. on_ok o (λ rows. Ok (with_key ks rows)))) (keyed_keys ss xs)
-
-  -- keys that are replaced before the items are sorted by them
-  pub order_keys : (ss : List S) (xs : List A) (e : End) → order_by descending key (map t ss) xs e ≡ order_by (λ s. descending (t s)) (λ s. key (t s)) ss xs e
-  order_keys ss xs end.Done = λ i. sorted (map_twice t descending ss i) (keyed_keys ss xs i) where
-    sorted : List Bool → Result (List (Keyed A)) Fault → Stream A
-    sorted ds o = on_value o (λ rows. (map (λ row. row.1) (arranged ds rows), end.Done))
-  order_keys ss xs (end.Fault f) = refl
 
 pub arranged_natural : {A B S : Type 0} (b : A → B) (descending : S → Bool) (key : S → A → Result Scalar Fault) (other : S → B → Result Scalar Fault)
     → ((s : S) (x : A) → other s (b x) ≡ key s x) → (ss : List S) (xs : List A) (e : End)

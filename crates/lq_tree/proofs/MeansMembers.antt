@@ -1,13 +1,9 @@
 -- Members by their numbers: what a column, a record's member, a group's key or a member of a scalar is, is what the name's meaning is.
-use Rattle.std.proofs.Common.{◌≡◌, ◌∷◌, ◌+◌, if◌then◌else◌, List, [], map, ℕ, Bool, true, false, Option, Some, None, Result, Ok, Err, ap, ap₂, ◌∙◌, sym, refl, subst, bytes_eq, codes, true≢false, option_and_then, option_map, slice_get}
-use Rattle.std.proofs.lemmas.Option.{none-some, option_and_then_some, same_Some}
-use Rattle.std.proofs.lemmas.Slice.Eq.{bytes_eq-Decides}
+use Rattle.std.proofs.Common.{◌≡◌, ◌∷◌, ◌+◌, if◌then◌else◌, List, [], map, ℕ, Bool, true, false, Option, Some, None, Result, Ok, Err, ap, ap₂, ◌∙◌, sym, refl, subst, bytes_eq, true≢false, option_and_then, option_map}
 use Rattle.std.specs.List.{position_from}
 use Rattle.std.specs.Prelude.{is_some}
 use Rattle.lq_value.specs.declared.scalar.Scalar.{Scalar}
 use Rattle.lq_value.specs.declared.scalar.Scalar.TheVariants as scalar
-use Rattle.lq_value.specs.declared.table.Column.{Column}
-use Rattle.lq_value.specs.declared.table.Schema.{Schema}
 use Rattle.lq_value.specs.declared.ty.Ty.{Ty, out-Ty}
 use Rattle.lq_value.specs.declared.ty.Ty.TheOpen.{Ty-F}
 use Rattle.lq_value.specs.declared.ty.Ty.TheVariants as ty
@@ -22,27 +18,27 @@ use Rattle.lq_language.specs.OperandMeaning.{stream_of, as_value, cell_value, me
 use Rattle.lq_language.specs.ValuesOfTypes.{IsScalarOf}
 use Rattle.lq_language.specs.Members.{member_named}
 use Rattle.lq_language.specs.Operations.{of_member, of_one, on_ok}
-use Rattle.lq_language.specs.Types.{when}
-use Rattle.lq_language.specs.Names.{column_named, column_type, type_of_column}
+use Rattle.lq_language.specs.Names.{column_type, type_of_column}
 use Rattle.lq_language.specs.OperandTypes.{row_table}
-use Rattle.lq_language.specs.Meaning.{as_sequence, has_members, is_sequence_layer, settled, member_found, member_in, whole_member_value}
+use Rattle.lq_language.specs.Meaning.{as_sequence, has_members, is_sequence_layer, settled, member_found, member_in, value_of_member}
 use Rattle.lq_language.specs.MeaningLaws.{AreMembers, Fits, IsValueOf, no_member, one_member}
 use Rattle.lq_language.specs.Typing.{member_of}
 use Rattle.lq_language.specs.declared.operation.Op.{Op}
 use Rattle.lq_language.specs.declared.operation.Op.TheVariants as op
 use Rattle.lq_language.proofs.AlikeStreamLaws.{Agree, on_ok_agree}
-use Rattle.lq_language.proofs.FindingLaws.{map_by, when_by}
+use Rattle.lq_language.proofs.FindingLaws.{map_by}
 use Rattle.lq_language.proofs.ScalarResultLaws.{Gives, given_of, has_value_given, length_given, value_given}
 use Rattle.lq_language.proofs.TypedMethodLaws.{column_agrees, key_agrees, member_agrees, scalar_member_agrees, settled_agree}
 use Rattle.lq_language.proofs.TypingLaws.{is_of_layer, type_with}
 use Rattle.lq_language.proofs.ValueLaws.{RecordOrNull, RowOrNull, a_record, a_row, group_value, is_plain, no_record, no_row, plain_value, record_value, row_value}
-use Rattle.lq_tree.specs.Binding.{group_key_tree, member_layer, member_tree, settled_form, settled_tree, nullable_tree, record_member_tree, text_tree, tree_of}
-use Rattle.lq_tree.specs.FormMeaning.{Slots, cell_in, column_name, form_meaning, if_there, key_in, member_at, name_of_column}
+use Rattle.lq_tree.specs.Binding.{member_layer, member_tree, settled_form, settled_tree, tree_of}
+use Rattle.lq_tree.specs.FormMeaning.{Slots, cell_in, form_meaning, if_there, key_in, member_at, name_of_column}
 use Rattle.lq_tree.specs.declared.tree.Form.{Form}
 use Rattle.lq_tree.specs.declared.tree.Form.TheVariants as form
 use Rattle.lq_tree.specs.declared.tree.Tree.{Tree}
-use Rattle.lq_tree.proofs.FormSteps.{of_column, of_key, of_member as means_member, of_sequence, of_unary}
-use Rattle.lq_tree.proofs.TypeLaws.{column_first, first_position, first_with, get_at, map_if, member_first}
+use Rattle.lq_tree.proofs.FormSteps.{meaning_at}
+use Rattle.lq_tree.proofs.MemberTrees.{Member, a_column, a_key, a_member, column_known, has_value, its_length, its_value, member_by}
+use Rattle.lq_tree.proofs.TypeLaws.{first_position, first_with, get_at, map_if, member_first}
 
 -- ---- positions
 
@@ -56,16 +52,6 @@ positions_same p q (x ∷ xs) (y ∷ ys) same start =
     ap₂ (λ (b : Bool) (o : Option ℕ). if b then Some start else o) here (positions_same p q xs ys rest (start + 1))
 positions_same p q [] (y ∷ ys) same start = absurd cc
 positions_same p q (x ∷ xs) [] same start = absurd cc
-
-name_is : (xs ys : List ℕ) → bytes_eq xs ys ≡ true → xs ≡ ys
-name_is xs ys h = (bytes_eq-Decides xs ys).0 h
-
-pub first_passes : {A : Type 0} (test : A → Bool) (xs : List A) (x : A) → first_with test xs ≡ Some x → test x ≡ true
-first_passes test [] x h = absurd (none-some x h)
-first_passes test (y ∷ ys) x h = by (test y) refl h (first_passes test ys x) where
-  by : (b : Bool) → test y ≡ b → (if b then Some y else first_with test ys) ≡ Some x → (first_with test ys ≡ Some x → test x ≡ true) → test x ≡ true
-  by true is found rest = ap test (sym (same_Some y x found)) ∙ is
-  by false is found rest = rest found
 
 pub on_ok_twice : {A B C : Type 0} (o : Result A Fault) (f : A → Result B Fault) (g : B → Result C Fault) → on_ok (on_ok o f) g ≡ on_ok o (λ x. on_ok (f x) g)
 on_ok_twice (Ok x) f g = refl
@@ -89,10 +75,10 @@ module _ {R : Type 0} (world : World R) (slots : Slots R) where
 
   -- the member of this name of a value of a type
   abbrev named : List ℕ → Ty → Value R → Result (Value R) Fault
-  named m t v = whole_member_value world (Some t) m (out-Value R v)
+  named m t v = value_of_member world (Some t) m (out-Value R v)
 
-  pub same_agree : (t : Ty) (x y : Result (Value R) Fault) → x ≡ y → Agree (Val t) y y → Agree (Val t) x y
-  same_agree t x y same agree = (same, λ v is. agree.1 v (sym same ∙ is))
+  pub same_agree : (t : Ty) (x y : Result (Value R) Fault) {z : Result (Value R) Fault} → x ≡ y → Agree (Val t) y z → Agree (Val t) x z
+  same_agree t x y same agree = (same ∙ agree.0, λ v is. agree.1 v (sym same ∙ is))
 
   abbrev Goal : List ℕ → Ty → Form → Tree → Type 0
   Goal m t f r = (n : Result (Value R) Fault) → Agree (Val t) (mean f) n → Agree (Val r.ty) (mean r.form) (on_ok n (named m t))
@@ -103,9 +89,6 @@ module _ {R : Type 0} (world : World R) (slots : Slots R) where
   by_step m t u f g step is same n agree =
       subst (λ (o : Result (Value R) Fault). Agree (Val u) o (on_ok n (named m t))) (sym is) (on_ok_agree (Val t) (Val u) step (named m t) same
       (mean f) n agree)
-
-  pub at_slots : {g h : Slots R → Result (Value R) Fault} → g ≡ h → g slots ≡ h slots
-  at_slots same = ap (λ (m : Slots R → Result (Value R) Fault). m slots) same
 
   -- ---- rows
 
@@ -119,30 +102,15 @@ module _ {R : Type 0} (world : World R) (slots : Slots R) where
       by (a_row row cells is) =
           ap (λ (w : Value R). cell_in world n c (out-Value R w)) is ∙ ap (cell_in world n c) (outs-value-Row row)
           ∙ ap (λ (o : Option (List ℕ)). cell_value world (option_and_then (world.cell row) o)) name
-          ∙ sym (ap (λ (w : Value R). named m (ty.Row n) w) is ∙ ap (whole_member_value world (Some (ty.Row n)) m) (outs-value-Row row))
+          ∙ sym (ap (λ (w : Value R). named m (ty.Row n) w) is ∙ ap (value_of_member world (Some (ty.Row n)) m) (outs-value-Row row))
       by (no_row is) =
           ap (λ (w : Value R). cell_in world n c (out-Value R w)) is ∙ ap (cell_in world n c) (outs-Scalar scalar.Null)
-          ∙ sym (ap (λ (w : Value R). named m (ty.Row n) w) is ∙ ap (whole_member_value world (Some (ty.Row n)) m) (outs-Scalar scalar.Null) ∙ null_row)
+          ∙ sym (ap (λ (w : Value R). named m (ty.Row n) w) is ∙ ap (value_of_member world (Some (ty.Row n)) m) (outs-Scalar scalar.Null) ∙ null_row)
         where
-          null_row : whole_member_value world (Some (ty.Row n)) m (Value-F.Scalar scalar.Null) ≡ Err fault.NullReference
+          null_row : value_of_member world (Some (ty.Row n)) m (Value-F.Scalar scalar.Null) ≡ Err fault.NullReference
           null_row =
               ap (λ (b : Bool). if b then Err fault.NullReference else member_value world (Some (ty.Row n)) m (Value-F.Scalar scalar.Null))
               (ap has_members (outs-Row n))
-
-  row_goal : (m : List ℕ) (n : ℕ) (f : Form) (r : Tree) → member_layer world.schemas m f (Ty-F.Row n) ≡ Some r → Goal m (ty.Row n) f r
-  row_goal m n f r h =
-      option_and_then_some _ (slice_get world.schemas n) r h
-      (λ schema there found. option_and_then_some _ (position_from (λ (column : Column). bytes_eq column.name m) 0 schema.columns) r found
-      (λ c position made. map_by _ (slice_get schema.columns c) r made
-      (λ column at is. subst (Goal m (ty.Row n) f) is
-      (let first : first_with (λ (d : Column). bytes_eq d.name m) schema.columns ≡ Some column =
-      sym (first_position (λ (d : Column). bytes_eq d.name m) schema.columns) ∙ ap (get_at schema.columns) position ∙ at in
-      by_step m (ty.Row n) (type_of_column column.ty) f (form.Column f n c) (λ v. cell_in world n c (out-Value R v)) (at_slots (of_column world f n c))
-      (column_step n c m (type_of_column column.ty)
-      (ap (option_and_then (column_name c)) there ∙ ap (option_map (λ (d : Column). d.name)) at
-      ∙ ap Some (name_is column.name m (first_passes _ schema.columns column first)))
-      (ap (option_and_then (λ (s : Schema). option_map (λ (d : Column). type_of_column d.ty) (column_named m s.columns))) there
-      ∙ ap (option_map (λ (d : Column). type_of_column d.ty)) (sym (column_first m schema.columns) ∙ first)))))))
 
   -- ---- records
 
@@ -169,22 +137,12 @@ module _ {R : Type 0} (world : World R) (slots : Slots R) where
           ∙ first_position (λ d. bytes_eq m d.0) vs)
           ∙ there_found (option_map (λ d. d.1) (first_with (λ d. bytes_eq m d.0) vs)) ∙ ap (member_found world) (named_member m vs (member_in world m) refl
           (λ d ds. refl))
-          ∙ sym (ap (λ (w : Value R). named m (ty.Rec ms) w) is ∙ ap (whole_member_value world (Some (ty.Rec ms)) m) (outs-value-Rec vs))
+          ∙ sym (ap (λ (w : Value R). named m (ty.Rec ms) w) is ∙ ap (value_of_member world (Some (ty.Rec ms)) m) (outs-value-Rec vs))
       by (no_record is) =
           ap (λ (w : Value R). member_at world place (out-Value R w)) is ∙ ap (member_at world place) (outs-Scalar scalar.Null)
-          ∙ sym (ap (λ (w : Value R). named m (ty.Rec ms) w) is ∙ ap (whole_member_value world (Some (ty.Rec ms)) m) (outs-Scalar scalar.Null)
+          ∙ sym (ap (λ (w : Value R). named m (ty.Rec ms) w) is ∙ ap (value_of_member world (Some (ty.Rec ms)) m) (outs-Scalar scalar.Null)
           ∙ ap (λ (b : Bool). if b then Err fault.NullReference else member_value world (Some (ty.Rec ms)) m (Value-F.Scalar scalar.Null))
           (ap has_members (outs-Rec ms)))
-
-  record_goal : (m : List ℕ) (ms : List (List ℕ × Ty)) (f : Form) (r : Tree) → record_member_tree m f ms ≡ Some r → Goal m (ty.Rec ms) f r
-  record_goal m ms f r h =
-      option_and_then_some _ (position_from (λ (d : List ℕ × Ty). bytes_eq m d.0) 0 ms) r h
-      (λ place position made. map_by _ (slice_get ms place) r made
-      (λ member at is. subst (Goal m (ty.Rec ms) f) is
-      (by_step m (ty.Rec ms) member.1 f (form.Member f place) (λ v. member_at world place (out-Value R v)) (at_slots (means_member world f place))
-      (member_step ms m place member.1 position
-      (sym (member_first m ms) ∙ ap (option_map (λ (d : List ℕ × Ty). d.1)) (sym (first_position (λ (d : List ℕ × Ty). bytes_eq m d.0) ms)
-      ∙ ap (get_at ms) position ∙ at))))))
 
   -- ---- groups
 
@@ -193,14 +151,8 @@ module _ {R : Type 0} (world : World R) (slots : Slots R) where
       let found = group_value world (ty.Group k t) k t v (outs-Group k t) fits in
       same_agree k _ _
       (ap (λ (w : Value R). key_in world (out-Value R w)) found.2 ∙ ap (key_in world) (outs-value-Group found.0 found.1)
-      ∙ sym (ap (λ (w : Value R). named m (ty.Group k t) w) found.2 ∙ ap (whole_member_value world (Some (ty.Group k t)) m) (outs-value-Group found.0 found.1)))
+      ∙ sym (ap (λ (w : Value R). named m (ty.Group k t) w) found.2 ∙ ap (value_of_member world (Some (ty.Group k t)) m) (outs-value-Group found.0 found.1)))
       (key_agrees world world.unknown world.unknown k t m v fits)
-
-  key_goal : (m : List ℕ) (k t : Ty) (f : Form) (r : Tree) → group_key_tree m k f ≡ Some r → Goal m (ty.Group k t) f r
-  key_goal m k t f r h =
-      when_by (bytes_eq m (codes "Key")) (Some (tree_of k (form.Key f))) r h
-      (λ same is. subst (Goal m (ty.Group k t) f) (same_Some _ r is)
-      (by_step m (ty.Group k t) k f (form.Key f) (λ v. key_in world (out-Value R v)) (at_slots (of_key world f)) (key_step m k t)))
 
   -- ---- members of scalars
 
@@ -210,7 +162,7 @@ module _ {R : Type 0} (world : World R) (slots : Slots R) where
   no_members layer h = (refl, refl)
 
   of_scalar : (t : Ty) (m : List ℕ) (s : Scalar) → is_plain (out-Ty t) ≡ true
-      → whole_member_value world (Some t) m (Value-F.Scalar s) ≡ as_value (of_member world.unknown (member_named m) s)
+      → value_of_member world (Some t) m (Value-F.Scalar s) ≡ as_value (of_member world.unknown (member_named m) s)
   of_scalar t m scalar.Null plain =
       let none = no_members (out-Ty t) plain in
       ap₂ (λ (b : Bool) (o : Option ℕ). if b then Err fault.NullReference else as_value (if is_some o then Err fault.NullReference else of_member
@@ -224,7 +176,7 @@ module _ {R : Type 0} (world : World R) (slots : Slots R) where
       → ((x : Scalar) → IsScalarOf k x → Gives l (λ unknown. of_one unknown o x)) → Goal m t f (tree_of r (form.Unary o f))
   scalar_goal m t r k l o f t_is r_is plain named_is given =
       by_step m t r f (form.Unary o f) (λ v. on_ok (scalar_of world (out-Value R v)) (λ s. as_value (of_one world.unknown o s)))
-      (at_slots (of_unary world o f) ∙ on_ok_twice (mean f) (λ v. scalar_of world (out-Value R v)) (λ s. as_value (of_one world.unknown o s)))
+      (meaning_at world slots _ (form.outs-Unary o f) ∙ on_ok_twice (mean f) (λ v. scalar_of world (out-Value R v)) (λ s. as_value (of_one world.unknown o s)))
       (λ v fits. same_agree r _ _ (same v fits)
       (scalar_member_agrees world world.unknown world.unknown t r m (ap is_plain t_is ∙ plain)
       (λ x x_fits. subst (λ (q : Option Op). Gives (out-Ty r) (λ unknown. of_member unknown q x)) (sym named_is)
@@ -235,48 +187,38 @@ module _ {R : Type 0} (world : World R) (slots : Slots R) where
           let found = plain_value world t v (ap is_plain t_is ∙ plain) fits in
           ap (λ (w : Value R). on_ok (scalar_of world (out-Value R w)) (λ s. as_value (of_one world.unknown o s))) found.1
           ∙ ap (λ (layer : Value-F R (Value R)). on_ok (scalar_of world layer) (λ s. as_value (of_one world.unknown o s))) (outs-Scalar found.0)
-          ∙ sym (ap (named m t) found.1 ∙ ap (whole_member_value world (Some t) m) (outs-Scalar found.0) ∙ of_scalar t m found.0 (ap is_plain t_is ∙ plain)
+          ∙ sym (ap (named m t) found.1 ∙ ap (value_of_member world (Some t) m) (outs-Scalar found.0) ∙ of_scalar t m found.0 (ap is_plain t_is ∙ plain)
           ∙ ap (λ (q : Option Op). as_value (of_member world.unknown q found.0)) named_is)
-
-  -- an int? and a text, by the member's name
-  nullable_goal : (m : List ℕ) (t : Ty) (f : Form) (r : Tree) → out-Ty t ≡ Ty-F.IntN → nullable_tree m f ≡ Some r → Goal m t f r
-  nullable_goal m t f r is h = by (bytes_eq m (codes "HasValue")) refl h where
-    by : (b : Bool) → bytes_eq m (codes "HasValue") ≡ b
-        → (if b then Some (tree_of ty.Bool (form.Unary op.HasValue f)) else when (bytes_eq m (codes "Value"))
-        (Some (tree_of ty.Int (form.Unary op.Value f)))) ≡ Some r → Goal m t f r
-    by true same found =
-        subst (Goal m t f) (same_Some _ r found)
-        (scalar_goal m t ty.Bool Ty-F.IntN Ty-F.Bool op.HasValue f is outs-Bool refl (ap member_named (name_is m (codes "HasValue") same)) has_value_given)
-    by false differ found =
-        when_by (bytes_eq m (codes "Value")) _ r found
-        (λ same made. subst (Goal m t f) (same_Some _ r made)
-        (scalar_goal m t ty.Int Ty-F.IntN Ty-F.Int op.Value f is outs-Int refl (ap member_named (name_is m (codes "Value") same)) value_given))
-
-  text_goal : (m : List ℕ) (t : Ty) (f : Form) (r : Tree) → out-Ty t ≡ Ty-F.Str → text_tree m f ≡ Some r → Goal m t f r
-  text_goal m t f r is h =
-      when_by (bytes_eq m (codes "Length")) _ r h
-      (λ same made. subst (Goal m t f) (same_Some _ r made)
-      (scalar_goal m t ty.Int Ty-F.Str Ty-F.Int op.Length f is outs-Int refl (ap member_named (name_is m (codes "Length") same)) length_given))
 
   -- ---- any member
 
-  member_goal : (m : List ℕ) (t : Ty) (layer : Ty-F Ty) (f : Form) (r : Tree) → out-Ty t ≡ layer → member_layer world.schemas m f layer ≡ Some r → Goal m t f r
-  member_goal m t (Ty-F.Row n) f r is h = subst (λ (u : Ty). Goal m u f r) (sym (is_of_layer t ∙ ap type_with is)) (row_goal m n f r h)
-  member_goal m t (Ty-F.Rec ms) f r is h = subst (λ (u : Ty). Goal m u f r) (sym (is_of_layer t ∙ ap type_with is)) (record_goal m ms f r h)
-  member_goal m t (Ty-F.Group k u) f r is h = subst (λ (u : Ty). Goal m u f r) (sym (is_of_layer t ∙ ap type_with is)) (key_goal m k u f r h)
-  member_goal m t Ty-F.IntN f r is h = nullable_goal m t f r is h
-  member_goal m t Ty-F.Str f r is h = text_goal m t f r is h
-  member_goal m t Ty-F.Int f r is h = absurd (none-some r h)
-  member_goal m t Ty-F.Bool f r is h = absurd (none-some r h)
-  member_goal m t Ty-F.Null f r is h = absurd (none-some r h)
-  member_goal m t (Ty-F.Seq u) f r is h = absurd (none-some r h)
+  member_goal : (m : List ℕ) (t : Ty) (layer : Ty-F Ty) (f : Form) (r : Tree) → out-Ty t ≡ layer → Member world.schemas m f layer r → Goal m t f r
+  member_goal m t _ f _ is (a_column n c schema column there named at) =
+      let known = column_known world.schemas m f n c schema column there named at in
+      subst (λ (u : Ty). Goal m u f (tree_of (type_of_column column.ty) (form.Column f n c))) (sym (is_of_layer t ∙ ap type_with is))
+      (by_step m (ty.Row n) (type_of_column column.ty) f (form.Column f n c) (λ v. cell_in world n c (out-Value R v))
+      (meaning_at world slots _ (form.outs-Column f n c)) (column_step n c m (type_of_column column.ty) known.0 known.1))
+  member_goal m t _ f _ is (a_member ms place member position there) =
+      subst (λ (u : Ty). Goal m u f (tree_of member.1 (form.Member f place))) (sym (is_of_layer t ∙ ap type_with is))
+      (by_step m (ty.Rec ms) member.1 f (form.Member f place) (λ v. member_at world place (out-Value R v))
+      (meaning_at world slots _ (form.outs-Member f place))
+      (member_step ms m place member.1 position
+      (sym (member_first m ms) ∙ ap (option_map (λ (d : List ℕ × Ty). d.1)) (sym (first_position (λ (d : List ℕ × Ty). bytes_eq m d.0) ms)
+      ∙ ap (get_at ms) position ∙ there))))
+  member_goal m t _ f _ is (a_key k u) =
+      subst (λ (w : Ty). Goal m w f (tree_of k (form.Key f))) (sym (is_of_layer t ∙ ap type_with is))
+      (by_step m (ty.Group k u) k f (form.Key f) (λ v. key_in world (out-Value R v)) (meaning_at world slots _ (form.outs-Key f)) (key_step m k u))
+  member_goal m t _ f _ is (has_value named) =
+      scalar_goal m t ty.Bool Ty-F.IntN Ty-F.Bool op.HasValue f is outs-Bool refl (ap member_named named) has_value_given
+  member_goal m t _ f _ is (its_value named) = scalar_goal m t ty.Int Ty-F.IntN Ty-F.Int op.Value f is outs-Int refl (ap member_named named) value_given
+  member_goal m t _ f _ is (its_length named) = scalar_goal m t ty.Int Ty-F.Str Ty-F.Int op.Length f is outs-Int refl (ap member_named named) length_given
 
   -- ---- what a sequence's type settles
 
   settled_means : (t : Ty) (f : Form) → mean (settled_form t f) ≡ settled world (Some t) (mean f)
   settled_means t f = by (is_sequence_layer (out-Ty t)) where
     by : (b : Bool) → mean (if b then form.Sequence f else f) ≡ (if b then as_sequence (stream_of world (mean f)) else mean f)
-    by true = at_slots (of_sequence world f)
+    by true = meaning_at world slots _ (form.outs-Sequence f)
     by false = refl
 
   pub settled_goal : (t : Ty) (o : Option Ty) (f : Form) (n : Result (Value R) Fault) → o ≡ Some t → Agree (Val t) (mean f) n
@@ -293,4 +235,4 @@ module _ {R : Type 0} (world : World R) (slots : Slots R) where
   member_means m a r o n h is agree =
       map_by settled_tree (member_layer world.schemas m a.form (out-Ty a.ty)) r h
       (λ found there same. subst (λ (x : Tree). o ≡ Some x.ty → Agree (Val x.ty) (mean x.form) (settled world o (on_ok n (named m a.ty)))) same
-      (λ o_is. settled_goal found.ty o found.form (on_ok n (named m a.ty)) o_is (member_goal m a.ty (out-Ty a.ty) a.form found refl there n agree)) is)
+      (λ o_is. settled_goal found.ty o found.form (on_ok n (named m a.ty)) o_is (member_goal m a.ty (out-Ty a.ty) a.form found refl (member_by world.schemas m a.form (out-Ty a.ty) found there) n agree)) is)

@@ -1,5 +1,6 @@
 -- Operators: what the form that the operands' types choose means, is what the sign means between them.
-use Rattle.std.proofs.Common.{◌⊎◌, inl, inr, ◌≡◌, ◌&&◌, ◌||◌, if◌then◌else◌, not, Bool, true, false, Option, Some, Result, Ok, Err, ap, ap₂, ◌∙◌, sym, refl, subst, true≢false}
+use Rattle.std.proofs.Common.{inl, inr, ◌≡◌, ◌&&◌, ◌||◌, if◌then◌else◌, not, Bool, true, false, Option, Some, Result, Ok, Err, ap, ap₂, ◌∙◌, sym, refl, subst, true≢false}
+use Rattle.std.proofs.lemmas.Bool.{and_parts}
 use Rattle.std.proofs.lemmas.Option.{none-some, same_Some}
 use Rattle.lq_value.specs.declared.scalar.Scalar.{Scalar}
 use Rattle.lq_value.specs.declared.scalar.Scalar.TheVariants as scalar
@@ -18,10 +19,10 @@ use Rattle.lq_language.specs.RuleMeaning.{compared_meaning, operated_meaning}
 use Rattle.lq_language.specs.ValuesOfTypes.{IsScalarOf}
 use Rattle.lq_language.specs.Operations.{negated, of_two, on_ok, operation_of, same_content, truth, truth_of}
 use Rattle.lq_language.specs.Operators.{first, pair, second}
-use Rattle.lq_language.specs.OperandTypes.{are_comparable, are_joined, coalesced, is_bool, is_equality, is_number, is_ordering, is_text, joined_type, number_type, result_type, truth_type}
-use Rattle.lq_language.specs.Meaning.{whole_compared, whole_same}
+use Rattle.lq_language.specs.OperandTypes.{are_comparable, are_joined, coalesced, is_bool, is_equality, is_number, is_ordering, is_text, joined_type, number_type}
+use Rattle.lq_language.specs.Meaning.{equality_meaning, same_operands}
 use Rattle.lq_language.specs.MeaningLaws.{IsValueOf, by_scalar}
-use Rattle.lq_language.specs.Typing.{are_null_tests, whole_chosen, whole_operated_type}
+use Rattle.lq_language.specs.Typing.{are_null_tests, type_of_choice, type_of_operation}
 use Rattle.lq_language.specs.declared.operation.Op.{Op}
 use Rattle.lq_language.specs.declared.operation.Op.TheVariants as op
 use Rattle.lq_grammar.specs.declared.syntax.Binary.{Binary}
@@ -33,41 +34,27 @@ use Rattle.lq_language.proofs.ScalarResultLaws.{Gives, arithmetic_of, coalesced_
 use Rattle.lq_language.proofs.TypedMethodLaws.{given_agree, scalar_after, truth_after}
 use Rattle.lq_language.proofs.TypedOperatorLaws.{Keeps, choice_keeps, coalesced_plain, decides, plain_keeps}
 use Rattle.lq_language.proofs.TypingLaws.{compares_not, is_truth}
-use Rattle.lq_language.proofs.ValueLaws.{RecordOrNull, RowOrNull, a_record, a_row, group_value, is_plain, no_record, no_row, number_plain, plain_value, record_value, row_value, truth_is}
+use Rattle.lq_language.proofs.ValueLaws.{is_plain, number_plain, plain_value, truth_is}
 use Rattle.lq_tree.specs.Binding.{and_tree, binary_form, binary_tree, coalesce_tree, conditional_tree, equality_form, is_literal, is_object, operation_at, or_tree, tested_first, tested_second, tree_of, unary_tree}
 use Rattle.lq_tree.specs.FormMeaning.{Slots, form_meaning, is_null_value}
+use Rattle.lq_tree.specs.OperandKinds as kind
 use Rattle.lq_tree.specs.declared.tree.Form.{Form, out-Form}
 use Rattle.lq_tree.specs.declared.tree.Form.TheOpen.{Form-F}
 use Rattle.lq_tree.specs.declared.tree.Form.TheVariants as form
 use Rattle.lq_tree.specs.declared.tree.Tree.{Tree}
-use Rattle.lq_tree.proofs.FormSteps.{by_layer, of_and, of_binary, of_coalesce, of_conditional, of_first, of_is_null, of_or, of_pair, of_second, of_unary}
-use Rattle.lq_tree.proofs.MeansMembers.{at_slots, on_ok_twice, same_agree}
+use Rattle.lq_tree.proofs.FormSteps.{meaning_at}
+use Rattle.lq_tree.proofs.MeansMembers.{on_ok_twice, same_agree}
+use Rattle.lq_tree.proofs.OperandLemmas.{Computes, alike_plain, compared_alike, joined_sides, number_no_text, number_numeric, number_scalar, object_value, text_scalar, type_of_computed, type_of_equality}
 use Rattle.lq_tree.proofs.ScopeLaws.{first_of_pair, second_of_pair}
 
 -- ---- which operator a sign is
 
-abbrev text_in : Scalar → Bool
-text_in (scalar.Text x) = true
-text_in s = false
-
-number_no_text : (layer : Ty-F Ty) → is_number layer ≡ true → is_text layer ≡ false
-number_no_text Ty-F.Int h = refl
-number_no_text Ty-F.IntN h = refl
-number_no_text layer h = absurd (true≢false (sym h))
-
-number_scalar : (layer : Ty-F Ty) → is_number layer ≡ true → (x : Scalar) → IsScalarOf layer x → text_in x ≡ false
-number_scalar Ty-F.Int h (scalar.Int n) fits = refl
-number_scalar Ty-F.IntN h (scalar.Int n) fits = refl
-number_scalar Ty-F.IntN h scalar.Null fits = refl
-number_scalar Ty-F.Int h x fits = absurd fits
-number_scalar Ty-F.IntN h x fits = absurd fits
-number_scalar layer h x fits = absurd (true≢false (sym h))
-
 -- `+` between scalars that aren't texts, of types that aren't either
-added : (s t : Ty) (x y : Scalar) → (is_text (out-Ty s) || is_text (out-Ty t)) ≡ false → text_in x ≡ false → text_in y ≡ false
+added : (s t : Ty) (x y : Scalar) → (is_text (out-Ty s) || is_text (out-Ty t)) ≡ false → kind.is_number x ≡ true
+    → kind.is_number y ≡ true
     → operation_on binary.Add (Some s) (Some t) x y ≡ operation_at binary.Add (out-Ty s) (out-Ty t)
-added s t (scalar.Text x) y none h k = absurd (true≢false h)
-added s t x (scalar.Text y) none h k = absurd (true≢false k)
+added s t (scalar.Text x) y none h k = absurd (true≢false (sym h))
+added s t x (scalar.Text y) none h k = absurd (true≢false (sym k))
 added s t scalar.Null scalar.Null none h k = refl
 added s t x y none h k = sym (ap (λ (b : Bool). if b then op.Concat else op.Add) none)
 
@@ -75,15 +62,9 @@ numbers_signed : (sign : Binary) (s t : Ty) → is_number (out-Ty s) ≡ true �
     → IsScalarOf (out-Ty t) y
     → operation_on sign (Some s) (Some t) x y ≡ operation_at sign (out-Ty s) (out-Ty t)
 numbers_signed binary.Add s t h k x y x_fits y_fits =
-    added s t x y (ap₂ (λ (a b : Bool). a || b) (number_no_text (out-Ty s) h) (number_no_text (out-Ty t) k)) (number_scalar (out-Ty s) h x x_fits)
-    (number_scalar (out-Ty t) k y y_fits)
+    added s t x y (ap₂ (λ (a b : Bool). a || b) (number_no_text (out-Ty s) h) (number_no_text (out-Ty t) k))
+    (number_scalar (out-Ty s) (number_numeric (out-Ty s) h) x x_fits) (number_scalar (out-Ty t) (number_numeric (out-Ty t) k) y y_fits)
 numbers_signed sign s t h k x y x_fits y_fits = refl
-
-joined_text : (k l : Ty-F Ty) → are_joined k l ≡ true → (is_text k || is_text l) ≡ true
-joined_text Ty-F.Str Ty-F.Str h = refl
-joined_text Ty-F.Str Ty-F.Null h = refl
-joined_text Ty-F.Null Ty-F.Str h = refl
-joined_text k l h = absurd (true≢false (sym h))
 
 joined_plain : (k l : Ty-F Ty) → are_joined k l ≡ true → (is_plain k ≡ true) × (is_plain l ≡ true)
 joined_plain Ty-F.Str Ty-F.Str h = (refl, refl)
@@ -91,28 +72,8 @@ joined_plain Ty-F.Str Ty-F.Null h = (refl, refl)
 joined_plain Ty-F.Null Ty-F.Str h = (refl, refl)
 joined_plain k l h = absurd (true≢false (sym h))
 
--- a text or null
-abbrev text_or_null : Scalar → Bool
-text_or_null (scalar.Text x) = true
-text_or_null scalar.Null = true
-text_or_null s = false
-
-joined_scalar : (k : Ty-F Ty) → (is_text k ≡ true) ⊎ (k ≡ Ty-F.Null) → (x : Scalar) → IsScalarOf k x → text_or_null x ≡ true
-joined_scalar Ty-F.Str h (scalar.Text x) fits = refl
-joined_scalar Ty-F.Str h scalar.Null fits = refl
-joined_scalar Ty-F.Str h x fits = absurd fits
-joined_scalar Ty-F.Null h scalar.Null fits = refl
-joined_scalar Ty-F.Null h x fits = absurd fits
-joined_scalar k (inl h) x fits = absurd (true≢false (sym h))
-joined_scalar k (inr h) x fits = absurd cc
-
-joined_sides : (k l : Ty-F Ty) → are_joined k l ≡ true → ((is_text k ≡ true) ⊎ (k ≡ Ty-F.Null)) × ((is_text l ≡ true) ⊎ (l ≡ Ty-F.Null))
-joined_sides Ty-F.Str Ty-F.Str h = (inl refl, inl refl)
-joined_sides Ty-F.Str Ty-F.Null h = (inl refl, inr refl)
-joined_sides Ty-F.Null Ty-F.Str h = (inr refl, inl refl)
-joined_sides k l h = absurd (true≢false (sym h))
-
-texts_signed : (s t : Ty) (x y : Scalar) → (is_text (out-Ty s) || is_text (out-Ty t)) ≡ true → text_or_null x ≡ true → text_or_null y ≡ true
+texts_signed : (s t : Ty) (x y : Scalar) → (is_text (out-Ty s) || is_text (out-Ty t)) ≡ true → kind.is_text x ≡ true
+    → kind.is_text y ≡ true
     → operation_on binary.Add (Some s) (Some t) x y ≡ operation_at binary.Add (out-Ty s) (out-Ty t)
 texts_signed s t (scalar.Text x) y some h k = sym (ap (λ (b : Bool). if b then op.Concat else op.Add) some)
 texts_signed s t scalar.Null (scalar.Text y) some h k = sym (ap (λ (b : Bool). if b then op.Concat else op.Add) some)
@@ -130,12 +91,6 @@ module _ {R : Type 0} (world : World R) (slots : Slots R) where
   abbrev Means : Tree → Result (Value R) Fault → Type 0
   Means tree n = Agree (Val tree.ty) (mean tree.form) n
 
-  -- a form that means this
-  as_form : (t : Ty) (f : Form) (m n : Result (Value R) Fault) → mean f ≡ m → Agree (Val t) m n → Means (tree_of t f) n
-  as_form t f m n is agree = same_first is agree where
-    same_first : mean f ≡ m → Agree (Val t) m n → Agree (Val t) (mean f) n
-    same_first same agree = (same ∙ agree.0, λ v is. agree.1 v (sym same ∙ is))
-
   -- ---- signs that compute or ask for the order
 
   -- the types of operands that have a result, and what the sign gives
@@ -145,26 +100,13 @@ module _ {R : Type 0} (world : World R) (slots : Slots R) where
       × ((x y : Scalar) → IsScalarOf (out-Ty s) x → IsScalarOf (out-Ty t) y
       → Gives (out-Ty r) (signed sign s t x y) × (operation_on sign (Some s) (Some t) x y ≡ operation_at sign (out-Ty s) (out-Ty t)))
 
-  numbers_by : (sign : Binary) (s t r : Ty) → is_equality sign ≡ false → is_number (out-Ty s) ≡ true → is_number (out-Ty t) ≡ true → (b : Bool)
+  numbers_given : (sign : Binary) (s t : Ty) → is_equality sign ≡ false → is_number (out-Ty s) ≡ true → is_number (out-Ty t) ≡ true → (b : Bool)
       → is_ordering sign ≡ b
-      → (if b then ty.Bool else number_type (out-Ty s) (out-Ty t)) ≡ r → Signs sign s t r
-  numbers_by sign s t r other h k true orders is = (
-    number_plain (out-Ty s) h,
-    number_plain (out-Ty t) k,
-    λ x y x_fits y_fits. (
-      subst (λ (u : Ty). Gives (out-Ty u) (signed sign s t x y)) is (given_of ty.Bool Ty-F.Bool (signed sign s t x y) outs-Bool
-          (ordering_given sign s t orders h k x y x_fits y_fits)),
-      numbers_signed sign s t h k x y x_fits y_fits,
-    ),
-  )
-  numbers_by sign s t r other h k false computes is = (
-    number_plain (out-Ty s) h,
-    number_plain (out-Ty t) k,
-    λ x y x_fits y_fits. (
-      subst (λ (u : Ty). Gives (out-Ty u) (signed sign s t x y)) is (arithmetic_of sign s t (compares_not sign other computes) h k x y x_fits y_fits),
-      numbers_signed sign s t h k x y x_fits y_fits,
-    ),
-  )
+      → (x y : Scalar) → IsScalarOf (out-Ty s) x → IsScalarOf (out-Ty t) y
+      → Gives (out-Ty (if b then ty.Bool else number_type (out-Ty s) (out-Ty t))) (signed sign s t x y)
+  numbers_given sign s t other h k true orders x y x_fits y_fits =
+      given_of ty.Bool Ty-F.Bool (signed sign s t x y) outs-Bool (ordering_given sign s t orders h k x y x_fits y_fits)
+  numbers_given sign s t other h k false computes x y x_fits y_fits = arithmetic_of sign s t (compares_not sign other computes) h k x y x_fits y_fits
 
   joined_by : (sign : Binary) (s t r : Ty) → joined_type sign (out-Ty s) (out-Ty t) ≡ Some r → Signs sign s t r
   joined_by binary.Add s t r h =
@@ -177,36 +119,30 @@ module _ {R : Type 0} (world : World R) (slots : Slots R) where
         λ x y x_fits y_fits. (
           subst (λ (u : Ty). Gives (out-Ty u) (signed binary.Add s t x y)) is (given_of ty.Str Ty-F.Str (signed binary.Add s t x y) outs-Str
               (joined_given s t joins x y x_fits y_fits)),
-          texts_signed s t x y (joined_text (out-Ty s) (out-Ty t) joins) (joined_scalar (out-Ty s) sides.0 x x_fits)
-              (joined_scalar (out-Ty t) sides.1 y y_fits),
+          texts_signed s t x y sides.2 (text_scalar (out-Ty s) sides.0 x x_fits) (text_scalar (out-Ty t) sides.1 y y_fits),
         ),
       ))
   joined_by sign s t r h = absurd (none-some r h)
 
-  both_true : (a b : Bool) → (a && b) ≡ true → (a ≡ true) × (b ≡ true)
-  both_true true b h = (refl, h)
-  both_true false b h = absurd (true≢false (sym h))
-
-  operated_by : (sign : Binary) (s t r : Ty) → is_equality sign ≡ false → (b : Bool) → (is_number (out-Ty s) && is_number (out-Ty t)) ≡ b
-      → (if b then Some (result_type sign (out-Ty s) (out-Ty t)) else joined_type sign (out-Ty s) (out-Ty t)) ≡ Some r → Signs sign s t r
-  operated_by sign s t r other true numbers h =
-      let are = both_true (is_number (out-Ty s)) (is_number (out-Ty t)) numbers in
-      numbers_by sign s t r other are.0 are.1 (is_ordering sign) refl (same_Some _ r h)
-  operated_by sign s t r other false numbers h = joined_by sign s t r h
-
-  signs : (sign : Binary) (s t r : Ty) → is_equality sign ≡ false → whole_operated_type sign (out-Ty s) (out-Ty t) ≡ Some r → Signs sign s t r
-  signs sign s t r other h =
-      operated_by sign s t r other (is_number (out-Ty s) && is_number (out-Ty t)) refl
-      (sym (ap (λ (c : Bool). if c && are_null_tests (out-Ty s) (out-Ty t) then Some ty.Bool
-      else (if c then truth_type (are_comparable (out-Ty s) (out-Ty t))
-      else (if is_number (out-Ty s) && is_number (out-Ty t) then Some (result_type sign (out-Ty s) (out-Ty t)) else joined_type sign (out-Ty s) (out-Ty t))))
-      other) ∙ h)
+  signs : (sign : Binary) (s t r : Ty) → is_equality sign ≡ false → type_of_operation sign (out-Ty s) (out-Ty t) ≡ Some r → Signs sign s t r
+  signs sign s t r other h = by (type_of_computed sign (out-Ty s) (out-Ty t) r other h) where
+    by : Computes sign (out-Ty s) (out-Ty t) r → Signs sign s t r
+    by (inl are) = (
+      number_plain (out-Ty s) are.0,
+      number_plain (out-Ty t) are.1,
+      λ x y x_fits y_fits. (
+        subst (λ (u : Ty). Gives (out-Ty u) (signed sign s t x y)) are.2
+            (numbers_given sign s t other are.0 are.1 (is_ordering sign) refl x y x_fits y_fits),
+        numbers_signed sign s t are.0 are.1 x y x_fits y_fits,
+      ),
+    )
+    by (inr joins) = joined_by sign s t r joins
 
   signed_means : (sign : Binary) (a b : Tree) (r : Ty) (m n : Result (Value R) Fault) → Signs sign a.ty b.ty r → Means a m → Means b n
       → Means (tree_of r (form.Binary (operation_at sign (out-Ty a.ty) (out-Ty b.ty)) a.form b.form)) (operated_meaning world sign (Some a.ty) (Some b.ty) m n)
   signed_means sign a b r m n typed first second =
-      as_form r (form.Binary (operation_at sign (out-Ty a.ty) (out-Ty b.ty)) a.form b.form) _ _
-      (at_slots world slots (of_binary world (operation_at sign (out-Ty a.ty) (out-Ty b.ty)) a.form b.form))
+      same_agree world slots r _ _
+      (meaning_at world slots _ (form.outs-Binary (operation_at sign (out-Ty a.ty) (out-Ty b.ty)) a.form b.form))
       (scalar_after world world.unknown world.unknown (Agree (Val r)) (agree_err (Val r)) a.ty typed.0 _ _
       (λ x x_fits. scalar_after world world.unknown world.unknown (Agree (Val r)) (agree_err (Val r)) b.ty typed.1 _ _
       (λ y y_fits. let here = typed.2 x y x_fits y_fits in
@@ -238,15 +174,15 @@ module _ {R : Type 0} (world : World R) (slots : Slots R) where
   second_twice (Err f) n next = refl
 
   pair_first : (a b : Form) → mean (form.First (form.Pair a b)) ≡ on_ok (on_ok (mean a) (λ v. on_ok (mean b) (λ w. Ok (pair v w)))) (λ p. Ok (first p))
-  pair_first a b = at_slots world slots (of_first world (form.Pair a b)) ∙ ap (λ (o : Result (Value R) Fault). on_ok o (λ p. Ok (first p)))
-      (at_slots world slots (of_pair world a b))
+  pair_first a b = meaning_at world slots _ (form.outs-First (form.Pair a b)) ∙ ap (λ (o : Result (Value R) Fault). on_ok o (λ p. Ok (first p)))
+      (meaning_at world slots _ (form.outs-Pair a b))
 
   pair_second : (a b : Form) → mean (form.Second (form.Pair a b)) ≡ on_ok (on_ok (mean a) (λ v. on_ok (mean b) (λ w. Ok (pair v w)))) (λ p. Ok (second p))
-  pair_second a b = at_slots world slots (of_second world (form.Pair a b)) ∙ ap (λ (o : Result (Value R) Fault). on_ok o (λ p. Ok (second p)))
-      (at_slots world slots (of_pair world a b))
+  pair_second a b = meaning_at world slots _ (form.outs-Second (form.Pair a b)) ∙ ap (λ (o : Result (Value R) Fault). on_ok o (λ p. Ok (second p)))
+      (meaning_at world slots _ (form.outs-Pair a b))
 
   literal_mean : (b : Form) (s : Scalar) → out-Form b ≡ Form-F.Literal s → mean b ≡ Ok (value.Scalar s)
-  literal_mean b s is = at_slots world slots (by_layer world b (Form-F.Literal s) is)
+  literal_mean b s is = meaning_at world slots b is
 
   first_by : (a b : Form) (layer : Form-F Form) → out-Form b ≡ layer → (next : Value R → Result (Value R) Fault)
       → on_ok (mean (if is_literal layer then a else form.First (form.Pair a b))) next ≡ on_ok (mean a) (λ v. on_ok (mean b) (λ w. next v))
@@ -281,29 +217,6 @@ module _ {R : Type 0} (world : World R) (slots : Slots R) where
   null_before k (Ty-F.Group l t) h object = absurd (true≢false (sym h))
   null_before k l h object = absurd (true≢false (sym object))
 
-  both_plain : (k l : Ty-F Ty) → (are_null_tests k l || are_comparable k l) ≡ true → is_object k ≡ false → is_object l ≡ false
-      → (is_plain k ≡ true) × (is_plain l ≡ true)
-  both_plain Ty-F.Int Ty-F.Int h a b = (refl, refl)
-  both_plain Ty-F.Int Ty-F.IntN h a b = (refl, refl)
-  both_plain Ty-F.Int Ty-F.Null h a b = (refl, refl)
-  both_plain Ty-F.IntN Ty-F.Int h a b = (refl, refl)
-  both_plain Ty-F.IntN Ty-F.IntN h a b = (refl, refl)
-  both_plain Ty-F.IntN Ty-F.Null h a b = (refl, refl)
-  both_plain Ty-F.Bool Ty-F.Bool h a b = (refl, refl)
-  both_plain Ty-F.Str Ty-F.Str h a b = (refl, refl)
-  both_plain Ty-F.Str Ty-F.Null h a b = (refl, refl)
-  both_plain Ty-F.Null Ty-F.Int h a b = (refl, refl)
-  both_plain Ty-F.Null Ty-F.IntN h a b = (refl, refl)
-  both_plain Ty-F.Null Ty-F.Str h a b = (refl, refl)
-  both_plain Ty-F.Null Ty-F.Null h a b = (refl, refl)
-  both_plain (Ty-F.Row n) l h a b = absurd (true≢false a)
-  both_plain (Ty-F.Rec ms) l h a b = absurd (true≢false a)
-  both_plain (Ty-F.Group k t) l h a b = absurd (true≢false a)
-  both_plain k (Ty-F.Row n) h a b = absurd (true≢false b)
-  both_plain k (Ty-F.Rec ms) h a b = absurd (true≢false b)
-  both_plain k (Ty-F.Group l t) h a b = absurd (true≢false b)
-  both_plain k l h a b = absurd (true≢false (sym h))
-
   null_scalar : (s : Scalar) → IsScalarOf Ty-F.Null s → s ≡ scalar.Null
   null_scalar scalar.Null fits = refl
   null_scalar s fits = absurd fits
@@ -319,28 +232,21 @@ module _ {R : Type 0} (world : World R) (slots : Slots R) where
   -- whether a value is null, as `==` with null tells it, from either side
   abbrev AsksNull : Value R → Type 0
   AsksNull v =
-      (whole_same world (out-Value R v) Null ≡ Ok (is_null_value world (out-Value R v))) × (whole_same world Null (out-Value R v)
+      (same_operands world (out-Value R v) Null ≡ Ok (is_null_value world (out-Value R v))) × (same_operands world Null (out-Value R v)
       ≡ Ok (is_null_value world (out-Value R v)))
 
-  asks_by : (v w : Value R) (layer : Value-F R (Value R)) → v ≡ w → out-Value R w ≡ layer → (whole_same world layer Null ≡ Ok (is_null_value world layer))
-      → (whole_same world Null layer ≡ Ok (is_null_value world layer)) → AsksNull v
+  asks_by : (v w : Value R) (layer : Value-F R (Value R)) → v ≡ w → out-Value R w ≡ layer → (same_operands world layer Null ≡ Ok (is_null_value world layer))
+      → (same_operands world Null layer ≡ Ok (is_null_value world layer)) → AsksNull v
   asks_by v w layer v_is w_is before behind =
       subst (λ (x : Value R). AsksNull x) (sym v_is)
-      (subst (λ (l : Value-F R (Value R)). (whole_same world l Null ≡ Ok (is_null_value world l)) × (whole_same world Null l ≡ Ok (is_null_value world l)))
+      (subst (λ (l : Value-F R (Value R)). (same_operands world l Null ≡ Ok (is_null_value world l)) × (same_operands world Null l ≡ Ok (is_null_value world l)))
       (sym w_is) (before, behind))
 
-  asks_null : (t : Ty) (layer : Ty-F Ty) → out-Ty t ≡ layer → is_object layer ≡ true → (v : Value R) → Val t v → AsksNull v
-  asks_null t (Ty-F.Row n) is object v fits = by (row_value world t n v is fits) where
-    by : RowOrNull world n v → AsksNull v
-    by (a_row r cells same) = asks_by v _ _ same (outs-value-Row r) refl refl
-    by (no_row same) = asks_by v _ _ same (outs-Scalar scalar.Null) refl refl
-  asks_null t (Ty-F.Rec ms) is object v fits = by (record_value world t ms v is fits) where
-    by : RecordOrNull world ms v → AsksNull v
-    by (a_record vs members same) = asks_by v _ _ same (outs-value-Rec vs) refl refl
-    by (no_record same) = asks_by v _ _ same (outs-Scalar scalar.Null) refl refl
-  asks_null t (Ty-F.Group k u) is object v fits =
-      let found = group_value world t k u v is fits in asks_by v _ _ found.2 (outs-value-Group found.0 found.1) refl refl
-  asks_null t layer is object v fits = absurd (true≢false (sym object))
+  asks_null : (v : Value R) → kind.IsObject v → AsksNull v
+  asks_null v (kind.a_row r same) = asks_by v _ _ same (outs-value-Row r) refl refl
+  asks_null v (kind.a_record vs same) = asks_by v _ _ same (outs-value-Rec vs) refl refl
+  asks_null v (kind.a_grouped key xs same) = asks_by v _ _ same (outs-value-Group key xs) refl refl
+  asks_null v (kind.no_object same) = asks_by v _ _ same (outs-Scalar scalar.Null) refl refl
 
   -- what two operands tell, where it is known whether they are the same
   told_agree : (sign : Binary) (x : Result (Value R) Fault) (o : Result Bool Fault) (b : Bool) → o ≡ Ok b → x ≡ Ok (truth_value (told sign b))
@@ -357,7 +263,7 @@ module _ {R : Type 0} (world : World R) (slots : Slots R) where
       (ap (λ (b : Bool). Ok (truth_value b)) (sym (told_is sign (is_null_value world (out-Value R v)) same)))
 
   -- scalars
-  scalars_same : (x y : Scalar) → whole_same world (Value-F.Scalar x) (Value-F.Scalar y) ≡ same_content world.unknown x y
+  scalars_same : (x y : Scalar) → same_operands world (Value-F.Scalar x) (Value-F.Scalar y) ≡ same_content world.unknown x y
   scalars_same scalar.Null y = refl
   scalars_same (scalar.Int n) y = refl
   scalars_same (scalar.Bool b) y = refl
@@ -373,7 +279,7 @@ module _ {R : Type 0} (world : World R) (slots : Slots R) where
       → is_plain (out-Ty s) ≡ true → is_plain (out-Ty t) ≡ true → (v w : Value R) → Val s v → Val t w
       → Agree (Val ty.Bool) (on_ok (scalar_of world (out-Value R v)) (λ x. on_ok (scalar_of world (out-Value R w))
       (λ y. as_value (of_two world.unknown (operation_of sign) x y))))
-      (on_ok (whole_same world (out-Value R v) (out-Value R w)) (λ same. Ok (truth_value (told sign same))))
+      (on_ok (same_operands world (out-Value R v) (out-Value R w)) (λ same. Ok (truth_value (told sign same))))
   scalars_agree sign s t same compares s_plain t_plain v w v_fits w_fits =
       let x = plain_value world s v s_plain v_fits in
       let y = plain_value world t w t_plain w_fits in
@@ -383,7 +289,7 @@ module _ {R : Type 0} (world : World R) (slots : Slots R) where
       told_agree sign _ _ decided.0 (decided.1 world.unknown)
       (ap₂ (λ (k l : Value-F R (Value R)). on_ok (scalar_of world k) (λ x. on_ok (scalar_of world l)
       (λ y. as_value (of_two world.unknown (operation_of sign) x y)))) x_out y_out
-      ∙ compared_scalars sign x.0 y.0 decided.0 same (sym (scalars_same x.0 y.0) ∙ sym (ap₂ (whole_same world) x_out y_out) ∙ decided.1 world.unknown))
+      ∙ compared_scalars sign x.0 y.0 decided.0 same (sym (scalars_same x.0 y.0) ∙ sym (ap₂ (same_operands world) x_out y_out) ∙ decided.1 world.unknown))
 
   abbrev told_scalars : Binary → Scalar → Scalar → Result (Value R) Fault
   told_scalars sign x y = as_value (of_two world.unknown (operation_of sign) x y)
@@ -399,90 +305,76 @@ module _ {R : Type 0} (world : World R) (slots : Slots R) where
   scalars_means : (sign : Binary) (a b : Tree) (m n : Result (Value R) Fault) → is_equality sign ≡ true
       → (are_null_tests (out-Ty a.ty) (out-Ty b.ty) || are_comparable (out-Ty a.ty) (out-Ty b.ty)) ≡ true → is_plain (out-Ty a.ty) ≡ true
       → is_plain (out-Ty b.ty) ≡ true
-      → Means a m → Means b n → Agree (Val ty.Bool) (mean (form.Binary (operation_of sign) a.form b.form)) (whole_compared world sign m n)
+      → Means a m → Means b n → Agree (Val ty.Bool) (mean (form.Binary (operation_of sign) a.form b.form)) (equality_meaning world sign m n)
   scalars_means sign a b m n same compares a_plain b_plain first second =
-      as_form ty.Bool (form.Binary (operation_of sign) a.form b.form) _ _
-      (at_slots world slots (of_binary world (operation_of sign) a.form b.form)
+      same_agree world slots ty.Bool _ _
+      (meaning_at world slots _ (form.outs-Binary (operation_of sign) a.form b.form)
       ∙ on_ok_twice (mean a.form) (λ v. scalar_of world (out-Value R v)) (λ x. on_scalar world (mean b.form) (told_scalars sign x)))
       (on_ok_agree (Val a.ty) (Val ty.Bool) (λ v. on_ok (scalar_of world (out-Value R v)) (λ x. on_scalar world (mean b.form) (told_scalars sign x)))
-      (λ v. on_ok n (λ w. on_ok (whole_same world (out-Value R v) (out-Value R w)) (λ same. Ok (truth_value (told sign same)))))
+      (λ v. on_ok n (λ w. on_ok (same_operands world (out-Value R v) (out-Value R w)) (λ same. Ok (truth_value (told sign same)))))
       (λ v v_fits. let x = plain_value world a.ty v a_plain v_fits in
-      same_first _ _ _ (turned sign (mean b.form) v x.0 (ap (out-Value R) x.1 ∙ outs-Scalar x.0))
+      same_agree world slots ty.Bool _ _ (turned sign (mean b.form) v x.0 (ap (out-Value R) x.1 ∙ outs-Scalar x.0))
       (on_ok_agree (Val b.ty) (Val ty.Bool) _ _ (λ w w_fits. scalars_agree sign a.ty b.ty same compares a_plain b_plain v w v_fits w_fits)
       (mean b.form) n second))
       (mean a.form) m first)
-    where
-      same_first : (x y z : Result (Value R) Fault) → x ≡ y → Agree (Val ty.Bool) y z → Agree (Val ty.Bool) x z
-      same_first x y z h agree = (h ∙ agree.0, λ v is. agree.1 v (sym h ∙ is))
 
   -- what has members or is grouped, beside null
   object_first : (sign : Binary) (a b : Tree) (m n : Result (Value R) Fault) → is_equality sign ≡ true → is_object (out-Ty a.ty) ≡ true → out-Ty b.ty
       ≡ Ty-F.Null → Means a m → Means b n
-      → Agree (Val ty.Bool) (mean (form.IsNull (told sign true) (tested_first a.form b.form))) (whole_compared world sign m n)
+      → Agree (Val ty.Bool) (mean (form.IsNull (told sign true) (tested_first a.form b.form))) (equality_meaning world sign m n)
   object_first sign a b m n same object null first second =
-      as_form ty.Bool (form.IsNull (told sign true) (tested_first a.form b.form)) _ _
-      (at_slots world slots (of_is_null world (told sign true) (tested_first a.form b.form)) ∙ first_by a.form b.form (out-Form b.form) refl
+      same_agree world slots ty.Bool _ _
+      (meaning_at world slots _ (form.outs-IsNull (told sign true) (tested_first a.form b.form)) ∙ first_by a.form b.form (out-Form b.form) refl
       (λ v. Ok (asked (told sign true) v)))
       (on_ok_agree (Val a.ty) (Val ty.Bool) _ _ (λ v v_fits. on_ok_agree (Val b.ty) (Val ty.Bool) _ _
       (λ w w_fits. asked_agree sign v _ same
-      (ap (λ (x : Value R). whole_same world (out-Value R v) (out-Value R x)) (null_of b.ty w null w_fits) ∙ ap (whole_same world (out-Value R v))
+      (ap (λ (x : Value R). same_operands world (out-Value R v) (out-Value R x)) (null_of b.ty w null w_fits) ∙ ap (same_operands world (out-Value R v))
       (outs-Scalar scalar.Null)
-      ∙ (asks_null a.ty (out-Ty a.ty) refl object v v_fits).0)) (mean b.form) n second) (mean a.form) m first)
+      ∙ (asks_null v (object_value world a.ty object v v_fits)).0)) (mean b.form) n second) (mean a.form) m first)
 
   object_second : (sign : Binary) (a b : Tree) (m n : Result (Value R) Fault) → is_equality sign ≡ true → is_object (out-Ty b.ty) ≡ true → out-Ty a.ty
       ≡ Ty-F.Null → Means a m → Means b n
-      → Agree (Val ty.Bool) (mean (form.IsNull (told sign true) (tested_second a.form b.form))) (whole_compared world sign m n)
+      → Agree (Val ty.Bool) (mean (form.IsNull (told sign true) (tested_second a.form b.form))) (equality_meaning world sign m n)
   object_second sign a b m n same object null first second =
-      as_form ty.Bool (form.IsNull (told sign true) (tested_second a.form b.form)) _ _
-      (at_slots world slots (of_is_null world (told sign true) (tested_second a.form b.form)) ∙ second_by a.form b.form (out-Form a.form) refl
+      same_agree world slots ty.Bool _ _
+      (meaning_at world slots _ (form.outs-IsNull (told sign true) (tested_second a.form b.form)) ∙ second_by a.form b.form (out-Form a.form) refl
       (λ v. Ok (asked (told sign true) v)))
       (on_ok_agree (Val a.ty) (Val ty.Bool) _ _ (λ v v_fits. on_ok_agree (Val b.ty) (Val ty.Bool) _ _
       (λ w w_fits. asked_agree sign w _ same
-      (ap (λ (x : Value R). whole_same world (out-Value R x) (out-Value R w)) (null_of a.ty v null v_fits)
-      ∙ ap (λ (l : Value-F R (Value R)). whole_same world l (out-Value R w)) (outs-Scalar scalar.Null)
-      ∙ (asks_null b.ty (out-Ty b.ty) refl object w w_fits).1)) (mean b.form) n second) (mean a.form) m first)
+      (ap (λ (x : Value R). same_operands world (out-Value R x) (out-Value R w)) (null_of a.ty v null v_fits)
+      ∙ ap (λ (l : Value-F R (Value R)). same_operands world l (out-Value R w)) (outs-Scalar scalar.Null)
+      ∙ (asks_null w (object_value world b.ty object w w_fits)).1)) (mean b.form) n second) (mean a.form) m first)
 
   equality_means : (sign : Binary) (a b : Tree) (m n : Result (Value R) Fault) → is_equality sign ≡ true
       → (are_null_tests (out-Ty a.ty) (out-Ty b.ty) || are_comparable (out-Ty a.ty) (out-Ty b.ty)) ≡ true → Means a m → Means b n
-      → Agree (Val ty.Bool) (mean (equality_form sign a b)) (whole_compared world sign m n)
+      → Agree (Val ty.Bool) (mean (equality_form sign a b)) (equality_meaning world sign m n)
   equality_means sign a b m n same compares first second = by (is_object (out-Ty a.ty)) (is_object (out-Ty b.ty)) refl refl where
     by : (c d : Bool) → is_object (out-Ty a.ty) ≡ c → is_object (out-Ty b.ty) ≡ d
         → Agree (Val ty.Bool)
         (mean (if c then form.IsNull (told sign true) (tested_first a.form b.form)
         else (if d then form.IsNull (told sign true) (tested_second a.form b.form) else form.Binary (operation_of sign) a.form b.form)))
-        (whole_compared world sign m n)
+        (equality_meaning world sign m n)
     by true d c_is d_is = object_first sign a b m n same c_is (beside_null (out-Ty a.ty) (out-Ty b.ty) compares c_is) first second
     by false true c_is d_is = object_second sign a b m n same d_is (null_before (out-Ty a.ty) (out-Ty b.ty) compares d_is) first second
     by false false c_is d_is =
-        let plain = both_plain (out-Ty a.ty) (out-Ty b.ty) compares c_is d_is in scalars_means sign a b m n same compares plain.0 plain.1 first second
-
-  -- the types that `==` takes
-  equality_by : (c d : Bool) (r : Ty) → (if c then Some ty.Bool else truth_type d) ≡ Some r → ((c || d) ≡ true) × (ty.Bool ≡ r)
-  equality_by true d r h = (refl, same_Some ty.Bool r h)
-  equality_by false true r h = (refl, same_Some ty.Bool r h)
-  equality_by false false r h = absurd (none-some r h)
+        let plain = alike_plain (out-Ty a.ty) (out-Ty b.ty) (compared_alike (out-Ty a.ty) (out-Ty b.ty) compares c_is d_is) in scalars_means sign a b m n same compares plain.0 plain.1 first second
 
   -- ---- any sign
 
   -- what a sign means between operands of these types
   abbrev pub sign_meaning : Binary → Option Ty → Option Ty → Result (Value R) Fault → Result (Value R) Fault → Result (Value R) Fault
   sign_meaning sign s t m n =
-      if is_equality sign then whole_compared world sign m n
+      if is_equality sign then equality_meaning world sign m n
       else (if is_equality sign then compared_meaning world sign m n else operated_meaning world sign s t m n)
 
-  sign_by : (sign : Binary) (a b : Tree) (r : Ty) (m n : Result (Value R) Fault) → whole_operated_type sign (out-Ty a.ty) (out-Ty b.ty) ≡ Some r → Means a m
+  sign_by : (sign : Binary) (a b : Tree) (r : Ty) (m n : Result (Value R) Fault) → type_of_operation sign (out-Ty a.ty) (out-Ty b.ty) ≡ Some r → Means a m
       → Means b n
       → (c : Bool) → is_equality sign ≡ c
       → Agree (Val r) (mean (if c then equality_form sign a b else form.Binary (operation_at sign (out-Ty a.ty) (out-Ty b.ty)) a.form b.form))
-      (if c then whole_compared world sign m n else (if c then compared_meaning world sign m n else operated_meaning world sign (Some a.ty) (Some b.ty) m n))
+      (if c then equality_meaning world sign m n else (if c then compared_meaning world sign m n else operated_meaning world sign (Some a.ty) (Some b.ty) m n))
   sign_by sign a b r m n h first second true same =
-      let types =
-      equality_by (are_null_tests (out-Ty a.ty) (out-Ty b.ty)) (are_comparable (out-Ty a.ty) (out-Ty b.ty)) r
-      (sym (ap (λ (c : Bool). if c && are_null_tests (out-Ty a.ty) (out-Ty b.ty) then Some ty.Bool
-      else (if c then truth_type (are_comparable (out-Ty a.ty) (out-Ty b.ty))
-      else (if is_number (out-Ty a.ty) && is_number (out-Ty b.ty) then Some (result_type sign (out-Ty a.ty) (out-Ty b.ty)) else joined_type sign
-      (out-Ty a.ty) (out-Ty b.ty)))) same) ∙ h) in
-      subst (λ (u : Ty). Agree (Val u) (mean (equality_form sign a b)) (whole_compared world sign m n)) types.1
+      let types = type_of_equality sign (out-Ty a.ty) (out-Ty b.ty) r same h in
+      subst (λ (u : Ty). Agree (Val u) (mean (equality_form sign a b)) (equality_meaning world sign m n)) types.1
       (equality_means sign a b m n same types.0 first second)
   sign_by sign a b r m n h first second false other = signed_means sign a b r m n (signs sign a.ty b.ty r other h) first second
 
@@ -490,7 +382,7 @@ module _ {R : Type 0} (world : World R) (slots : Slots R) where
       ≡ Some b.ty → Means a m → Means b n
       → Means r (sign_meaning sign s t m n)
   binary_means sign a b r m n s t h s_is t_is first second =
-      map_by _ (whole_operated_type sign (out-Ty a.ty) (out-Ty b.ty)) r h
+      map_by _ (type_of_operation sign (out-Ty a.ty) (out-Ty b.ty)) r h
       (λ u found is. subst (λ (x : Tree). Means x (sign_meaning sign s t m n)) is
       (subst (λ (o : Option Ty). Means (tree_of u (binary_form sign a b)) (sign_meaning sign o t m n)) (sym s_is)
       (subst (λ (o : Option Ty). Means (tree_of u (binary_form sign a b)) (sign_meaning sign (Some a.ty) o m n)) (sym t_is)
@@ -503,7 +395,7 @@ module _ {R : Type 0} (world : World R) (slots : Slots R) where
   minus_means a r n h agree =
       when_by (is_number (out-Ty a.ty)) _ r h
       (λ number is. subst (λ (x : Tree). Means x (on_scalar world n (λ s. as_value (negated world.unknown s)))) (same_Some _ r is)
-      (as_form a.ty (form.Unary op.Minus a.form) _ _ (at_slots world slots (of_unary world op.Minus a.form))
+      (same_agree world slots a.ty _ _ (meaning_at world slots _ (form.outs-Unary op.Minus a.form))
       (scalar_after world world.unknown world.unknown (Agree (Val a.ty)) (agree_err (Val a.ty)) a.ty (number_plain (out-Ty a.ty) number) _ _
       (λ s fits. given_agree world world.unknown world.unknown a.ty (λ unknown. negated unknown s) (minus_given (out-Ty a.ty) number s fits))
       (mean a.form) n agree)))
@@ -520,8 +412,8 @@ module _ {R : Type 0} (world : World R) (slots : Slots R) where
   not_means a r n h agree =
       when_by (is_bool (out-Ty a.ty)) _ r h
       (λ truth_type is. subst (λ (x : Tree). Means x (on_truth world n (λ t. Ok (truth_value (not t))))) (same_Some _ r is)
-      (as_form ty.Bool (form.Unary op.Not a.form) (on_truth world (mean a.form) (λ t. Ok (truth_value (not t)))) _
-      (at_slots world slots (of_unary world op.Not a.form)
+      (same_agree world slots ty.Bool _ (on_truth world (mean a.form) (λ t. Ok (truth_value (not t))))
+      (meaning_at world slots _ (form.outs-Unary op.Not a.form)
       ∙ ap (λ (k : Scalar → Result (Value R) Fault). on_scalar world (mean a.form) k) (λ i s. not_by (truth_of world.unknown s) i)
       ∙ sym (on_ok_twice (on_ok (mean a.form) (λ v. scalar_of world (out-Value R v))) (truth_of world.unknown) (λ t. Ok (truth_value (not t)))))
       (truth_after world world.unknown world.unknown ty.Bool (λ t. Ok (truth_value (not t))) (λ t. Ok (truth_value (not t)))
@@ -541,9 +433,9 @@ module _ {R : Type 0} (world : World R) (slots : Slots R) where
       → Means r (on_truth world m (λ t. if t then n else Ok (truth_value false)))
   and_means a b r m n h first second =
       when_by (is_bool (out-Ty a.ty) && is_bool (out-Ty b.ty)) _ r h
-      (λ truths is. let are = both_true (is_bool (out-Ty a.ty)) (is_bool (out-Ty b.ty)) truths in
+      (λ truths is. let are = and_parts (is_bool (out-Ty a.ty)) (is_bool (out-Ty b.ty)) truths in
       subst (λ (x : Tree). Means x (on_truth world m (λ t. if t then n else Ok (truth_value false)))) (same_Some _ r is)
-      (as_form ty.Bool (form.And a.form b.form) _ _ (at_slots world slots (of_and world a.form b.form))
+      (same_agree world slots ty.Bool _ _ (meaning_at world slots _ (form.outs-And a.form b.form))
       (truth_after world world.unknown world.unknown ty.Bool _ _ (λ c. both_by (mean b.form) n (bools b n are.1 second) c false) (mean a.form) m
       (bools a m are.0 first))))
 
@@ -551,9 +443,9 @@ module _ {R : Type 0} (world : World R) (slots : Slots R) where
       → Means r (on_truth world m (λ t. if t then Ok (truth_value true) else n))
   or_means a b r m n h first second =
       when_by (is_bool (out-Ty a.ty) && is_bool (out-Ty b.ty)) _ r h
-      (λ truths is. let are = both_true (is_bool (out-Ty a.ty)) (is_bool (out-Ty b.ty)) truths in
+      (λ truths is. let are = and_parts (is_bool (out-Ty a.ty)) (is_bool (out-Ty b.ty)) truths in
       subst (λ (x : Tree). Means x (on_truth world m (λ t. if t then Ok (truth_value true) else n))) (same_Some _ r is)
-      (as_form ty.Bool (form.Or a.form b.form) _ _ (at_slots world slots (of_or world a.form b.form))
+      (same_agree world slots ty.Bool _ _ (meaning_at world slots _ (form.outs-Or a.form b.form))
       (truth_after world world.unknown world.unknown ty.Bool _ _ (λ c. either_by (mean b.form) n (bools b n are.1 second) c true) (mean a.form) m
       (bools a m are.0 first))))
 
@@ -569,7 +461,7 @@ module _ {R : Type 0} (world : World R) (slots : Slots R) where
   coalesce_means a b r m n h first second =
       map_by _ (coalesced (out-Ty a.ty) (out-Ty b.ty)) r h
       (λ u found is. subst (λ (x : Tree). Means x (on_scalar world m (λ s. if is_null s then n else Ok (value.Scalar s)))) is
-      (as_form u (form.Coalesce a.form b.form) _ _ (at_slots world slots (of_coalesce world a.form b.form))
+      (same_agree world slots u _ _ (meaning_at world slots _ (form.outs-Coalesce a.form b.form))
       (scalar_after world world.unknown world.unknown (Agree (Val u)) (agree_err (Val u)) a.ty (coalesced_plain (out-Ty a.ty) (out-Ty b.ty) u found).0 _ _
       (λ x fits. coalesced_by a.ty b.ty u found x fits (mean b.form) n second (is_null x) refl) (mean a.form) m first)))
 
@@ -582,9 +474,9 @@ module _ {R : Type 0} (world : World R) (slots : Slots R) where
       → Means r (on_truth world l (λ t. if t then m else n))
   conditional_means c a b r l m n h condition first second =
       when_by (is_bool (out-Ty c.ty)) _ r h
-      (λ truth found. map_by _ (whole_chosen (out-Ty a.ty) (out-Ty b.ty)) r found
+      (λ truth found. map_by _ (type_of_choice (out-Ty a.ty) (out-Ty b.ty)) r found
       (λ u chooses is. let keeps = choice_keeps world a.ty b.ty u chooses in
       subst (λ (x : Tree). Means x (on_truth world l (λ t. if t then m else n))) is
-      (as_form u (form.Conditional c.form a.form b.form) _ _ (at_slots world slots (of_conditional world c.form a.form b.form))
+      (same_agree world slots u _ _ (meaning_at world slots _ (form.outs-Conditional c.form a.form b.form))
       (truth_after world world.unknown world.unknown u _ _ (choice_by u a.ty b.ty keeps.0 keeps.1 (mean a.form) m (mean b.form) n first second)
       (mean c.form) l (bools c l truth condition)))))

@@ -15,12 +15,12 @@ use Rattle.lq_language.specs.declared.operation.Op.TheVariants as op
 use Rattle.lq_language.proofs.AlikeStreamLaws.{Pair, agree_ok, both_agree, select_alike}
 use Rattle.lq_language.proofs.TypedOperatorLaws.{coalesced_plain}
 use Rattle.lq_language.proofs.ValueLaws.{RecordOrNull, RowOrNull, a_record, a_row, group_value, is_plain, no_record, no_row, plain_value, record_value, row_value}
-use Rattle.lq_tree.specs.FormMeaning.{Means, Slots, form_meaning, name_of_column}
+use Rattle.lq_tree.specs.FormMeaning.{Slots, form_meaning, name_of_column}
 use Rattle.lq_tree.specs.OperandKinds.{Finds, HasCell, HasMember, IsEnumerable, IsGroup, IsPair, IsScalar, IsScalarThat, MeetsKinds, Runs, RunsFields, RunsKeys, SortAlike, takes_one, takes_two}
 use Rattle.lq_tree.specs.OperandKinds as kind
 use Rattle.lq_tree.specs.TypedForms.{Both, FormClaim, Gives, Has, IsTyped, Many, Members, Of, Shape, Sorts, matched_items, with_slot}
 use Rattle.lq_tree.specs.TypedForms as rule
-use Rattle.lq_tree.specs.TypedFormLaws.{AreOfShapes, IsOfShape, MeetsOperands, StatementsMeetOperands}
+use Rattle.lq_tree.specs.TypedFormLaws.{AreOfShapes, MeetsOperands, StatementsMeetOperands}
 use Rattle.lq_tree.specs.declared.tree.Form.{Form}
 use Rattle.lq_tree.proofs.OperandLemmas.{alike_values, argument_taken, beside_taken, both_so, join_kind, pairs_taken, same_kind, sources_taken, two_made_taken, two_taken, enumerable_value, item_taken, items_taken, join_keys, key_value, made_taken, number_value, object_value, scalar_value, search_taken, second_items, sign_taken, source_taken, suited, suited_through, text_value, truth_value}
 use Rattle.lq_tree.proofs.TypedMeanings.{found_fit, keeps, one_more, placed, slot_there, two_more}
@@ -29,12 +29,6 @@ use Rattle.lq_tree.proofs.TypedStatements.{typed_statements}
 module _ {R : Type 0} (world : World R) (holds : HoldsRows world) where
   abbrev Val : Ty → Value R → Type 0
   Val = IsValueOf world
-
-  abbrev Fit : Shape → Value R → Type 0
-  Fit = IsOfShape world
-
-  abbrev mean : Form → Means R
-  mean = form_meaning world
 
   abbrev Safe : Form → Slots R → Type 0
   Safe f slots = MeetsKinds world (Runs f slots)
@@ -152,9 +146,9 @@ module _ {R : Type 0} (world : World R) (holds : HoldsRows world) where
       λ slots fit. let source = meets h slots fit in
       kind.at_given method a b slots source.0 source.1 (λ v there. item_taken world method t u r typed v (keeps world holds h slots fit there.0 v there.1))
       (meets k slots fit) (λ v is. argument_taken world method t u r typed v (keeps world holds k slots fit v is))
-      (λ v there. second_items world method t u r typed (mean b slots) (keeps world holds k slots fit) there.0 v there.1)
+      (λ v there. second_items world method t u r typed (form_meaning world b slots) (keeps world holds k slots fit) there.0 v there.1)
       (λ w is v there. beside_taken world method t u r typed w v (keeps world holds k slots fit w is) (keeps world holds h slots fit there.0 v there.1))
-      (pairs_taken world method t u r typed (mean b slots) (keeps world holds k slots fit) (stream_of world (mean a slots)).0 (keeps world holds h slots fit))
+      (pairs_taken world method t u r typed (form_meaning world b slots) (keeps world holds k slots fit) (stream_of world (form_meaning world a slots)).0 (keeps world holds h slots fit))
   meets (rule.of_through shapes method t u r a f h k typed) =
       λ slots fit. let source = meets h slots fit in
       kind.at_through method t u a f slots source.0 source.1 (λ v there. source_taken world method t u r typed v (keeps world holds h slots fit there.0 v there.1))
@@ -201,9 +195,9 @@ module _ {R : Type 0} (world : World R) (holds : HoldsRows world) where
       (two_more world holds shapes slots s (Of (matched_items j.grouped u)) v w fit (keeps world holds h slots fit there.0 v there.1)
       (found_fit world holds j.grouped l u key _
       (select_alike (Val u) (Pair (Val l) (Val u)) _ _
-      (λ x p. both_agree (Val l) (Val u) (mean j.inner_key (slots ++ x ∷ [])) _ (Ok x) _
+      (λ x p. both_agree (Val l) (Val u) (form_meaning world j.inner_key (slots ++ x ∷ [])) _ (Ok x) _
       (refl, keeps world holds inner_key (slots ++ x ∷ []) (one_more world holds shapes slots (Of u) x fit p)) (agree_ok (Val u) x p))
-      (stream_of world (mean j.inner slots)) (stream_of world (mean j.inner slots)) (refl, keeps world holds inner slots fit)).1 w_there.0 w w_there.1)))
+      (stream_of world (form_meaning world j.inner slots)) (stream_of world (form_meaning world j.inner slots)) (refl, keeps world holds inner slots fit)).1 w_there.0 w w_there.1)))
       (λ v w there w_there x x_is y y_is. join_kind world k l comparable x y
       (keeps world holds outer_key (slots ++ v ∷ []) (one_more world holds shapes slots s v fit (keeps world holds h slots fit there.0 v there.1)) x x_is)
       (keeps world holds inner_key (slots ++ w ∷ [])

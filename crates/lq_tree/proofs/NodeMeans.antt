@@ -1,5 +1,5 @@
 -- The tree of a node means what the node means, and gives values of its type, if the same is so of the expressions in it.
-use Rattle.std.proofs.Common.{◌≡◌, ◌∷◌, ◌++◌, if◌then◌else◌, List, [], map, ℕ, Bool, true, false, Option, Some, None, Result, Ok, ap, ◌∙◌, sym, refl, subst, bytes_eq, codes, true≢false, option_and_then, option_map}
+use Rattle.std.proofs.Common.{◌≡◌, ◌∷◌, ◌++◌, if◌then◌else◌, List, [], map, ℕ, Bool, true, false, Option, Some, None, Result, Ok, ap, ◌∙◌, sym, refl, subst, bytes_eq, codes, option_and_then, option_map}
 use Rattle.std.proofs.lemmas.Option.{none-some, option_and_then_some, same_Some}
 use Rattle.std.specs.Prelude.{is_some}
 use Rattle.lq_value.specs.declared.scalar.Scalar.{Scalar}
@@ -25,9 +25,9 @@ use Rattle.lq_language.specs.Stream.{Stream}
 use Rattle.lq_language.specs.Types.{element_type, is_fresh, is_within}
 use Rattle.lq_language.specs.Names.{Names, table_number, with_local, SessionName}
 use Rattle.lq_language.specs.OperandTypes.{is_text, is_text_type}
-use Rattle.lq_language.specs.Meaning.{argument_meaning, as_sequence, called_meaning, enumerable_meaning, given_meaning, is_sequence_layer, members_meaning, method_type_at, search_meaning, settled, simple_meaning, through_meaning, whole_meaning, whole_member_value, global_value, session_value, whole_name_value}
+use Rattle.lq_language.specs.Meaning.{argument_meaning, as_sequence, called_meaning, enumerable_meaning, given_meaning, is_sequence_layer, members_meaning, method_type_at, search_meaning, settled, simple_meaning, through_meaning, node_meaning, value_of_member, global_value, session_value, value_of_name}
 use Rattle.lq_language.specs.MeaningLaws.{AreMembers, Fits, IsValueOf, by_record, by_row, no_member, one_member, IsSessionOfValues}
-use Rattle.lq_language.specs.Typing.{given_type, simple_type, through_type, whole_type}
+use Rattle.lq_language.specs.Typing.{given_type, simple_type, through_type, node_type}
 use Rattle.lq_language.specs.declared.operation.Op.{Op}
 use Rattle.lq_grammar.specs.declared.syntax.Argument.{Argument}
 use Rattle.lq_grammar.specs.declared.syntax.Field.{Field}
@@ -42,17 +42,18 @@ use Rattle.lq_language.proofs.MethodPullLaws.{call_maps}
 use Rattle.lq_language.proofs.ScalarResultLaws.{given_of, search_given}
 use Rattle.lq_language.proofs.TypedMethodLaws.{given_agree, given_typed, scalar_after, simple_typed, stream_alike, through_typed, truth_same}
 use Rattle.lq_language.proofs.TypingLaws.{is_text_of, is_truth}
-use Rattle.lq_language.proofs.ValueLaws.{is_plain, scalar_is, sequence_is}
+use Rattle.lq_language.proofs.ValueLaws.{scalar_is, sequence_is}
 use Rattle.lq_tree.specs.Binding.{Binds, and_tree, binary_tree, coalesce_tree, conditional_tree, member_tree, of_two_trees, or_tree, called_tree, enumerable_tree, field_tree, fields_tree, form_of_field, gathered, lambda_tree, name_tree, node_tree, placed_tree, record_tree, search_form, search_tree, settled_tree, tree_of, type_of_field, within_tree, global_tree}
 use Rattle.lq_tree.specs.FormMeaning.{Slots, form_meaning, is_true, members_of}
 use Rattle.lq_tree.specs.Places.{Place, Places, names_of_places, place_of, with_name, SessionPlace, session_place}
 use Rattle.lq_tree.specs.declared.tree.Form.{Form}
 use Rattle.lq_tree.specs.declared.tree.Form.TheVariants as form
 use Rattle.lq_tree.specs.declared.tree.Tree.{Tree}
-use Rattle.lq_tree.proofs.FormSteps.{of_binary, of_given, of_literal, of_record, of_simple, of_table, of_through}
-use Rattle.lq_tree.proofs.MeansMembers.{at_slots, member_means, same_agree, settled_goal}
+use Rattle.lq_tree.proofs.FormSteps.{meaning_at}
+use Rattle.lq_tree.proofs.MeansMembers.{member_means, same_agree, settled_goal}
 use Rattle.lq_tree.proofs.MeansOperators.{and_means, binary_means, coalesce_means, conditional_means, minus_means, not_means, or_means}
 use Rattle.lq_tree.proofs.NodeTypes.{method_by, node_found, sole_by}
+use Rattle.lq_tree.proofs.OperandLemmas.{text_plain}
 use Rattle.lq_tree.proofs.ScopeLaws.{Found, Stands, append_none, item_stands, name_there, types_at}
 use Rattle.lq_tree.proofs.TypeLaws.{search_by, type_found}
 use Rattle.lq_tree.proofs.WalkLaws.{gathered_all, traversed}
@@ -78,9 +79,9 @@ module _ {R : Type 0} (world : World R) (holds : HoldsRows world) (fits : IsSess
 
   node_type_at : (n : Node X) (slots : Slots R) (places : Places) (scope : Scope R) → Stands world slots places scope → (r : Tree)
       → node_tree world.schemas tree n places ≡ Some r
-      → whole_type (map_node typed n) (names_at world scope) ≡ Some r.ty
+      → node_type (map_node typed n) (names_at world scope) ≡ Some r.ty
   node_type_at n slots places scope at r h =
-      ap (whole_type (map_node typed n)) (types_at world slots places scope at) ∙ sym (node_found world.schemas tree typed alike n places) ∙ ap type_found h
+      ap (node_type (map_node typed n)) (types_at world slots places scope at) ∙ sym (node_found world.schemas tree typed alike n places) ∙ ap type_found h
 
   module _ (slots : Slots R) (places : Places) (scope : Scope R) (at : Stands world slots places scope) where
     abbrev mean : Form → Result (Value R) Fault
@@ -96,14 +97,14 @@ module _ {R : Type 0} (world : World R) (holds : HoldsRows world) (fits : IsSess
 
     literal_means : (t : Ty) (layer : Ty-F Ty) (s : Scalar) → out-Ty t ≡ layer → IsScalarOf layer s → As (Ok (value.Scalar s)) (tree_of t (form.Literal s))
     literal_means t layer s is fits =
-        same_agree world slots t _ _ (at_slots world slots (of_literal world s)) (agree_ok (Val t) (value.Scalar s) (scalar_is world t layer s is fits))
+        same_agree world slots t _ _ (meaning_at world slots _ (form.outs-Literal s)) (agree_ok (Val t) (value.Scalar s) (scalar_is world t layer s is fits))
 
-    table_means : (x : List ℕ) (n : ℕ) → table_number x world.schemas ≡ Some n → As (whole_name_value world x None) (tree_of (ty.Seq (ty.Row n)) (form.Table n))
+    table_means : (x : List ℕ) (n : ℕ) → table_number x world.schemas ≡ Some n → As (value_of_name world x None) (tree_of (ty.Seq (ty.Row n)) (form.Table n))
     table_means x n table =
         let there = table_there x world.schemas n table in
         let rows = holds n there.0 there.1 in
         same_agree world slots (ty.Seq (ty.Row n)) _ _
-        (at_slots world slots (of_table world n) ∙ sym (ap (global_value world x) table))
+        (meaning_at world slots _ (form.outs-Table n) ∙ sym (ap (global_value world x) table))
         (subst (λ (o : Option ℕ). Agree (Val (ty.Seq (ty.Row n))) (global_value world x o) (global_value world x o))
         (sym table)
         (subst (λ (o : Option (List R)). Agree (Val (ty.Seq (ty.Row n))) (table_value world o) (table_value world o)) (sym rows.1)
@@ -135,19 +136,19 @@ module _ {R : Type 0} (world : World R) (holds : HoldsRows world) (fits : IsSess
     session_there x (place ∷ places) [] known gives typed h = absurd gives
 
     global_means : (x : List ℕ) (o : Option ℕ) → table_number x world.schemas ≡ o → (r : Tree) → global_tree world.schemas places x o ≡ Some r
-        → As (whole_name_value world x None) r
-    global_means x (Some n) is r h = subst (As (whole_name_value world x None)) (same_Some _ r h) (table_means x n is)
+        → As (value_of_name world x None) r
+    global_means x (Some n) is r h = subst (As (value_of_name world x None)) (same_Some _ r h) (table_means x n is)
     global_means x None is r h =
         map_by _ (session_place x places.session) r h
         (λ place there is_it.
         let found = session_there x places.session world.session place at.1.2 fits there in
-        subst (As (whole_name_value world x None)) is_it
+        subst (As (value_of_name world x None)) is_it
         (same_agree world slots place.known.ty _ _ (found.2 ∙ sym (ap (global_value world x) is ∙ found.1))
         (subst (λ (o : Result (Value R) Fault). Agree (Val place.known.ty) o o) (sym (ap (global_value world x) is ∙ found.1))
         (agree_ok (Val place.known.ty) found.0 found.3))))
 
     name_by : (x : List ℕ) (o : Option Place) (p : Option (Binding R)) → Found world slots o p → (r : Tree) → name_tree world.schemas places x o ≡ Some r
-        → As (whole_name_value world x p) r
+        → As (value_of_name world x p) r
     name_by x (Some place) (Some b) found r h =
         subst (As (Ok b.value)) (same_Some _ r h)
         (same_agree world slots place.ty _ _ (ap (form_meaning world place.form) (sym (append_none slots)) ∙ found.0.2 [])
@@ -158,10 +159,6 @@ module _ {R : Type 0} (world : World R) (holds : HoldsRows world) (fits : IsSess
 
     -- ---- methods
 
-    text_plain : (layer : Ty-F Ty) → is_text layer ≡ true → is_plain layer ≡ true
-    text_plain Ty-F.Str h = refl
-    text_plain layer h = absurd (true≢false (sym h))
-
     text_scalar : (t : Ty) (x : Scalar) → is_text (out-Ty t) ≡ true → IsScalarOf (out-Ty t) x → IsScalarOf Ty-F.Str x
     text_scalar t x text fits = subst (λ (u : Ty-F Ty). IsScalarOf u x) (ap out-Ty (is_text_of t text) ∙ outs-Str) fits
 
@@ -170,7 +167,7 @@ module _ {R : Type 0} (world : World R) (holds : HoldsRows world) (fits : IsSess
         → As (search_meaning world typed k m l) (tree_of ty.Bool (form.Binary o a.form b.form))
     searched m o named a b a_text b_text k l first second =
         same_agree world slots ty.Bool _ _
-        (at_slots world slots (of_binary world o a.form b.form)
+        (meaning_at world slots _ (form.outs-Binary o a.form b.form)
         ∙ ap (λ (q : Option Op). on_scalar world (mean a.form) (λ s. on_scalar world (mean b.form) (λ t. as_value (of_search world.unknown q s t))))
         (sym named) ∙ agrees.0)
         (refl, λ v is. agrees.1 v (agrees.0 ∙ is))
@@ -216,7 +213,7 @@ module _ {R : Type 0} (world : World R) (holds : HoldsRows world) (fits : IsSess
         let items = stream_alike world world.unknown world.unknown a.ty t element (mean a.form) k agree in
         map_by _ (simple_type method t) r h
         (λ u gives is. subst (As _) is
-        (same_agree world slots u _ _ (at_slots world slots (of_simple world method t a.form) ∙ ap (simple_meaning method t) items.0)
+        (same_agree world slots u _ _ (meaning_at world slots _ (form.outs-Simple method t a.form) ∙ ap (simple_meaning method t) items.0)
         (refl, simple_typed world method t u (stream_of world k) gives (subst (λ (s : Stream (Value R)). Every (Val t) s.0) items.0 items.1))))
     enumerated a t k element agree (With method x) r h =
         let items = stream_alike world world.unknown world.unknown a.ty t element (mean a.form) k agree in
@@ -224,7 +221,7 @@ module _ {R : Type 0} (world : World R) (holds : HoldsRows world) (fits : IsSess
         (λ b bound made. map_by _ (given_type method t (Some b.ty)) r made
         (λ u gives is. subst (As _) is
         (subst (λ (o : Result (Value R) Fault). Agree (Val u) o (given_meaning world method (meant x scope) (stream_of world k)))
-        (sym (at_slots world slots (of_given world method a.form b.form)))
+        (sym (meaning_at world slots _ (form.outs-Given method a.form b.form)))
         (subst (λ (s : Stream (Value R)). Agree (Val u) (given_meaning world method (mean b.form) (stream_of world (mean a.form)))
         (given_meaning world method (meant x scope) s)) items.0
         (given_typed world world.unknown world.unknown method t b.ty u (stream_of world (mean a.form)) gives items.1 (mean b.form) (meant x scope)
@@ -237,7 +234,7 @@ module _ {R : Type 0} (world : World R) (holds : HoldsRows world) (fits : IsSess
         (λ fresh body_bound. subst (As _) is
         (subst (λ (o : Result (Value R) Fault). Agree (Val u) o (through_meaning world method t
         (or_null (typed body (with_local (names_at world scope) n t))) (in_truth n body) (in_body n body) (stream_of world k)))
-        (sym (at_slots world slots (of_through world method t f.ty a.form f.form)))
+        (sym (meaning_at world slots _ (form.outs-Through method t f.ty a.form f.form)))
         (subst (λ (w : Ty). Agree (Val u)
         (through_meaning world method t f.ty (λ v. is_true world (form_meaning world f.form) (slots ++ v ∷ [])) (λ v. form_meaning world f.form
         (slots ++ v ∷ [])) (stream_of world (mean a.form)))
@@ -359,7 +356,7 @@ module _ {R : Type 0} (world : World R) (holds : HoldsRows world) (fits : IsSess
         (λ made made_there within. when_by (is_within made.ty) _ r within
         (λ limited same. map_by fields_tree (gathered (field_tree world.schemas tree places) fields) made made_there
         (λ ts there is. subst (As _) (is ∙ same_Some made r same)
-        (same_agree world slots (ty.Rec (map type_of_field ts)) _ _ (at_slots world slots (of_record world (map form_of_field ts))
+        (same_agree world slots (ty.Rec (map type_of_field ts)) _ _ (meaning_at world slots _ (form.outs-Record (map form_of_field ts))
         ∙ (made_of ts (fields_mean fields ts (sym (gathered_all (field_tree world.schemas tree places) fields) ∙ there))).0) (
           refl,
           λ v v_is. let all = made_of ts (fields_mean fields ts (sym (gathered_all (field_tree world.schemas tree places) fields) ∙ there)) in all.1 v
@@ -386,7 +383,7 @@ module _ {R : Type 0} (world : World R) (holds : HoldsRows world) (fits : IsSess
         option_and_then_some _ (tree a places) r h (λ x x_there found. option_and_then_some (given x) (tree b places) r found
         (λ y y_there made. next x y x_there y_there made))
 
-    pub node_means : (n : Node X) (r : Tree) → node_tree world.schemas tree n places ≡ Some r → As (whole_meaning world typed (map_node kept n) scope) r
+    pub node_means : (n : Node X) (r : Tree) → node_tree world.schemas tree n places ≡ Some r → As (node_meaning world typed (map_node kept n) scope) r
     node_means (node.Integer n) r h = subst (As _) (same_Some _ r h) (literal_means ty.Int Ty-F.Int (scalar.Int n) outs-Int tt)
     node_means (node.Text t) r h = subst (As _) (same_Some _ r h) (literal_means ty.Str Ty-F.Str (scalar.Text t) outs-Str tt)
     node_means (node.Bool b) r h = subst (As _) (same_Some _ r h) (literal_means ty.Bool Ty-F.Bool (scalar.Bool b) outs-Bool tt)
@@ -394,14 +391,14 @@ module _ {R : Type 0} (world : World R) (holds : HoldsRows world) (fits : IsSess
     node_means (node.Name x) r h = name_by x (place_of x places.locals) (binding_of x scope) (name_there world slots x places.locals scope at.1.1 at.0) r h
     node_means (node.Member a m) r h =
         option_and_then_some (member_tree world.schemas m) (tree a places) r h
-        (λ found bound made. subst (λ (o : Option Ty). As (settled world (type_of_member a m) (on_ok (meant a scope) (λ v. whole_member_value world o m
+        (λ found bound made. subst (λ (o : Option Ty). As (settled world (type_here a m) (on_ok (meant a scope) (λ v. value_of_member world o m
         (out-Value R v)))) r)
         (sym (type_at a slots places scope at found bound))
-        (member_means world slots m found r (type_of_member a m) (meant a scope) made (node_type_at (node.Member a m) slots places scope at r h)
+        (member_means world slots m found r (type_here a m) (meant a scope) made (node_type_at (node.Member a m) slots places scope at r h)
         (here a found bound)))
       where
-        type_of_member : X → List ℕ → Option Ty
-        type_of_member a m = whole_type (map_node typed (node.Member a m)) (names_at world scope)
+        type_here : X → List ℕ → Option Ty
+        type_here a m = node_type (map_node typed (node.Member a m)) (names_at world scope)
     node_means (node.Unary unary.Minus a) r h =
         option_and_then_some _ (tree a places) r h (λ found bound made. minus_means world slots found r (meant a scope) made (here a found bound))
     node_means (node.Unary unary.Not a) r h =

@@ -1,12 +1,10 @@
 -- The tree of a node uses what the node uses, in the same order, if the same is so of the expressions in it.
-use Rattle.std.proofs.Common.{◌≡◌, ◌∷◌, ◌++◌, if◌then◌else◌, List, [], map, flat_map, ℕ, Bool, true, false, Option, Some, None, ap, ap₂, ◌∙◌, sym, refl, subst, bytes_eq, codes, true≢false, option_and_then, option_map, slice_get}
+use Rattle.std.proofs.Common.{◌≡◌, ◌∷◌, ◌++◌, if◌then◌else◌, List, [], map, flat_map, ℕ, Bool, true, false, Option, Some, None, ap, ap₂, ◌∙◌, sym, refl, subst, true≢false, option_and_then, option_map, slice_get}
 use Rattle.std.proofs.lemmas.Option.{none-some, option_and_then_some, same_Some}
-use Rattle.lq_value.specs.Tables.{first_named}
 use Rattle.lq_value.specs.declared.scalar.Scalar.TheVariants as scalar
 use Rattle.lq_value.specs.declared.table.Schema.{Schema}
 use Rattle.lq_value.specs.declared.ty.Ty.{Ty, out-Ty}
 use Rattle.lq_value.specs.declared.ty.Ty.TheOpen.{Ty-F}
-use Rattle.lq_value.specs.declared.ty.Ty.TheVariants as ty
 use Rattle.lq_language.specs.ClauseTyping.{source_type}
 use Rattle.lq_language.specs.EnumerableCalls.{EnumerableCall, By, Plain, With, enumerable_call, method_with_lambda, method_with_value, simple_method}
 use Rattle.lq_language.specs.Maps.{map_field}
@@ -15,12 +13,12 @@ use Rattle.lq_language.specs.ValuesOfTypes.{Every}
 use Rattle.lq_language.specs.Members.{search_named, sole_argument}
 use Rattle.lq_language.specs.Operations.{operation_of}
 use Rattle.lq_language.specs.Operators.{Pattern, One, With as Pair}
-use Rattle.lq_language.specs.Types.{element_type, is_fresh, is_within, when}
+use Rattle.lq_language.specs.Types.{element_type, is_fresh, is_within}
 use Rattle.lq_language.specs.Names.{Names, table_number, with_local, SessionName}
 use Rattle.lq_language.specs.OperandTypes.{coalesced, is_bool, is_equality, is_number, is_text}
 use Rattle.lq_language.specs.Uses.{argument_uses, column_number, member_uses, name_uses, node_uses, under, global_uses}
 use Rattle.lq_language.specs.Meaning.{is_sequence_layer}
-use Rattle.lq_language.specs.Typing.{given_type, simple_type, through_type, whole_chosen, whole_operated_type}
+use Rattle.lq_language.specs.Typing.{given_type, simple_type, through_type, type_of_choice, type_of_operation}
 use Rattle.lq_language.specs.declared.operation.Op.TheVariants as op
 use Rattle.lq_language.specs.declared.rights.Use.{Use}
 use Rattle.lq_language.specs.declared.rights.Use.TheVariants as of
@@ -32,18 +30,19 @@ use Rattle.lq_grammar.specs.declared.syntax.Node.{Node}
 use Rattle.lq_grammar.specs.declared.syntax.Node.TheVariants as node
 use Rattle.lq_grammar.specs.declared.syntax.Unary.{Unary}
 use Rattle.lq_grammar.specs.declared.syntax.Unary.TheVariants as unary
-use Rattle.lq_language.proofs.ItemLaws.{every_more, first_of, others_of}
+use Rattle.lq_language.proofs.ItemLaws.{every_more}
 use Rattle.lq_language.proofs.FindingLaws.{map_by, when_by}
-use Rattle.lq_tree.specs.Binding.{Binds, and_tree, binary_form, binary_tree, called_tree, coalesce_tree, column_tree, conditional_tree, enumerable_tree, field_tree, fields_tree, form_of_field, gathered, is_literal, is_object, lambda_tree, member_layer, member_tree, name_tree, node_tree, of_two_trees, operation_at, or_tree, placed_tree, record_tree, search_form, search_tree, settled_form, settled_tree, tested_first, tested_second, tree_of, unary_tree, within_tree, global_tree}
-use Rattle.lq_tree.specs.Places.{Place, Places, names_of_places, place_of, places_of, with_item, with_name, SessionPlace, session_place}
+use Rattle.lq_tree.specs.Binding.{Binds, and_tree, binary_form, binary_tree, called_tree, coalesce_tree, conditional_tree, enumerable_tree, field_tree, fields_tree, form_of_field, gathered, is_literal, is_object, lambda_tree, member_layer, member_tree, name_tree, node_tree, of_two_trees, operation_at, or_tree, placed_tree, record_tree, search_form, search_tree, settled_form, settled_tree, tested_first, tested_second, unary_tree, within_tree, global_tree}
+use Rattle.lq_tree.specs.Places.{Place, Places, names_of_places, place_of, places_of, with_item, with_name, session_place}
 use Rattle.lq_tree.specs.UsesOfForms.{UseWhatIsKnown, form_uses}
 use Rattle.lq_tree.specs.declared.tree.Form.{Form, out-Form}
 use Rattle.lq_tree.specs.declared.tree.Form.TheOpen.{Form-F}
 use Rattle.lq_tree.specs.declared.tree.Form.TheVariants as form
 use Rattle.lq_tree.specs.declared.tree.Tree.{Tree}
-use Rattle.lq_tree.proofs.FormUseLaws.{by_layer, of_and, of_binary, of_coalesce, of_column, of_conditional, of_first, of_given, of_is_null, of_key, of_literal, of_member, of_or, of_pair, of_record, of_second, of_sequence, of_simple, of_slot, of_table, of_through, of_unary}
+use Rattle.lq_tree.proofs.FormUseLaws.{of_and, of_binary, of_coalesce, of_column, of_conditional, of_first, of_given, of_is_null, of_key, of_literal, of_member, of_or, of_pair, of_record, of_second, of_sequence, of_simple, of_slot, of_table, of_through, of_unary, uses_at}
+use Rattle.lq_tree.proofs.MemberTrees.{Member, a_column, a_key, a_member, has_value, its_length, its_value, member_by}
 use Rattle.lq_tree.proofs.ScopeLaws.{append_none}
-use Rattle.lq_tree.proofs.TypeLaws.{local_place, type_found, place_known}
+use Rattle.lq_tree.proofs.TypeLaws.{local_place, place_holds, place_known, session_place_holds, type_found}
 use Rattle.lq_tree.proofs.WalkLaws.{gathered_all, traversed}
 
 -- ---- forms
@@ -56,7 +55,7 @@ settled_used t f = by (is_sequence_layer (out-Ty t)) where
   by false = refl
 
 literal_used : (f : Form) (layer : Form-F Form) → out-Form f ≡ layer → is_literal layer ≡ true → form_uses f ≡ []
-literal_used f (Form-F.Literal s) is h = by_layer f (Form-F.Literal s) is
+literal_used f (Form-F.Literal s) is h = uses_at f is
 literal_used f layer is h = absurd (true≢false (sym h))
 
 -- the operand beside a null one: the other is a literal, or both are evaluated
@@ -98,32 +97,6 @@ pub item_unused : (places : Places) (p : Pattern) → UseWhatIsKnown places → 
 item_unused places p nothing =
     record { locals = places_unused p (form.Slot places.depth) places.locals (of_slot places.depth) nothing.locals; session = nothing.session }
 
--- the form of a local name
-place_used : (x : List ℕ) (places : List Place) → Every (λ place. form_uses place.form ≡ []) places → (place : Place) → place_of x places ≡ Some place
-    → form_uses place.form ≡ []
-place_used x [] nothing place h = absurd (none-some place h)
-place_used x (p ∷ places) nothing place h =
-    by (bytes_eq p.name x) h (place_used x places (others_of (λ q. form_uses q.form ≡ []) p places nothing) place)
-  where
-    by : (b : Bool) → (if b then Some p else place_of x places) ≡ Some place → (place_of x places ≡ Some place → form_uses place.form ≡ [])
-        → form_uses place.form ≡ []
-    by true is rest = subst (λ (q : Place). form_uses q.form ≡ []) (same_Some p place is) (first_of (λ q. form_uses q.form ≡ []) p places nothing)
-    by false is rest = rest is
-
--- the form of a name of the session
-session_used : (x : List ℕ) (places : List SessionPlace) → Every (λ place. (depth : ℕ) → form_uses (place.form depth) ≡ place.known.uses) places
-    → (place : SessionPlace) → session_place x places ≡ Some place → (depth : ℕ) → form_uses (place.form depth) ≡ place.known.uses
-session_used x [] known place h = absurd (none-some place h)
-session_used x (p ∷ places) known place h =
-    by (bytes_eq p.known.name x) h (session_used x places (others_of (λ q. (depth : ℕ) → form_uses (q.form depth) ≡ q.known.uses) p places known) place)
-  where
-    by : (b : Bool) → (if b then Some p else session_place x places) ≡ Some place
-        → (session_place x places ≡ Some place → (depth : ℕ) → form_uses (place.form depth) ≡ place.known.uses)
-        → (depth : ℕ) → form_uses (place.form depth) ≡ place.known.uses
-    by true is rest = subst (λ (q : SessionPlace). (depth : ℕ) → form_uses (q.form depth) ≡ q.known.uses) (same_Some p place is)
-        (first_of (λ q. (depth : ℕ) → form_uses (q.form depth) ≡ q.known.uses) p places known)
-    by false is rest = rest is
-
 module _ (schemas : List Schema) where
   global_used : (x : List ℕ) (places : Places) → Every (λ place. (depth : ℕ) → form_uses (place.form depth) ≡ place.known.uses) places.session
       → (o : Option ℕ) (r : Tree) → global_tree schemas places x o ≡ Some r → form_uses r.form ≡ global_uses (names_of_places schemas places) x o
@@ -132,7 +105,7 @@ module _ (schemas : List Schema) where
   global_used x places known None r h =
       map_by _ (session_place x places.session) r h
       (λ place there is. subst (λ (t : Tree). form_uses t.form ≡ global_uses (names_of_places schemas places) x None) is
-      (session_used x places.session known place there places.depth
+      (session_place_holds {P = λ q. (depth : ℕ) → form_uses (q.form depth) ≡ q.known.uses} x places.session known place there places.depth
       ∙ ap (λ (o : Option SessionName). under o (λ s. s.uses)) (sym (place_known x places.session ∙ ap (option_map (λ p. p.known)) there))))
 
   name_used : (x : List ℕ) (places : Places) (o : Option Place) → ((place : Place) → o ≡ Some place → form_uses place.form ≡ [])
@@ -143,51 +116,31 @@ module _ (schemas : List Schema) where
 
   -- ---- members
 
-  column_used : (names : Names) → names.tables ≡ schemas → (m : List ℕ) (n : ℕ) (a : Form) (r : Tree)
-      → option_and_then (column_tree m n a) (slice_get schemas n) ≡ Some r → form_uses r.form ≡ form_uses a ++ member_uses names m (Ty-F.Row n)
-  column_used names tables m n a r h =
-      option_and_then_some (column_tree m n a) (slice_get schemas n) r h
-      (λ schema there found. option_and_then_some _ (first_named (λ column. column.name) m schema.columns) r found
-      (λ c named made. map_by _ (slice_get schema.columns c) r made
-      (λ column column_there is. subst (λ (t : Tree). form_uses t.form ≡ form_uses a ++ member_uses names m (Ty-F.Row n)) is
-      (of_column a n c
+  -- a member that is no column
+  plain_used : (a f : Form) → form_uses f ≡ form_uses a → form_uses f ≡ form_uses a ++ []
+  plain_used a f same = same ∙ sym (append_none (form_uses a))
+
+  layer_used : (names : Names) → names.tables ≡ schemas → (m : List ℕ) (a : Form) (layer : Ty-F Ty) (r : Tree) → Member schemas m a layer r
+      → form_uses r.form ≡ form_uses a ++ member_uses names m layer
+  layer_used names tables m a _ _ (a_column n c schema column there named at) =
+      of_column a n c
       ∙ ap (λ us. form_uses a ++ us)
       (sym (ap (λ (ts : List Schema). under (column_number m (slice_get ts n)) (λ k. of.Column n k ∷ [])) tables
       ∙ ap (λ (o : Option Schema). under (column_number m o) (λ k. of.Column n k ∷ [])) there
-      ∙ ap (λ (o : Option ℕ). under o (λ k. of.Column n k ∷ [])) named))))))
-
-  -- a member that is no column
-  plain_used : (a f : Form) (t : Ty) (r : Tree) → form_uses f ≡ form_uses a → tree_of t f ≡ r → form_uses r.form ≡ form_uses a ++ []
-  plain_used a f t r same is = subst (λ (x : Tree). form_uses x.form ≡ form_uses a ++ []) is (same ∙ sym (append_none (form_uses a)))
-
-  layer_used : (names : Names) → names.tables ≡ schemas → (m : List ℕ) (a : Form) (layer : Ty-F Ty) (r : Tree) → member_layer schemas m a layer ≡ Some r
-      → form_uses r.form ≡ form_uses a ++ member_uses names m layer
-  layer_used names tables m a (Ty-F.Row n) r h = column_used names tables m n a r h
-  layer_used names tables m a (Ty-F.Rec members) r h =
-      option_and_then_some _ _ r h
-      (λ place named made. map_by _ (slice_get members place) r made (λ member there is. plain_used a (form.Member a place) _ r (of_member a place) is))
-  layer_used names tables m a (Ty-F.Group k t) r h =
-      when_by (bytes_eq m (codes "Key")) _ r h (λ named is. plain_used a (form.Key a) _ r (of_key a) (same_Some _ r is))
-  layer_used names tables m a Ty-F.IntN r h = by (bytes_eq m (codes "HasValue")) h where
-    by : (b : Bool) → (if b then Some (tree_of ty.Bool (form.Unary op.HasValue a)) else when (bytes_eq m (codes "Value")) (Some (tree_of ty.Int (form.Unary op.Value a)))) ≡ Some r
-        → form_uses r.form ≡ form_uses a ++ []
-    by true is = plain_used a (form.Unary op.HasValue a) _ r (of_unary op.HasValue a) (same_Some _ r is)
-    by false is =
-        when_by (bytes_eq m (codes "Value")) _ r is
-        (λ named same. plain_used a (form.Unary op.Value a) _ r (of_unary op.Value a) (same_Some _ r same))
-  layer_used names tables m a Ty-F.Str r h =
-      when_by (bytes_eq m (codes "Length")) _ r h (λ named is. plain_used a (form.Unary op.Length a) _ r (of_unary op.Length a) (same_Some _ r is))
-  layer_used names tables m a Ty-F.Int r h = absurd (none-some r h)
-  layer_used names tables m a Ty-F.Bool r h = absurd (none-some r h)
-  layer_used names tables m a Ty-F.Null r h = absurd (none-some r h)
-  layer_used names tables m a (Ty-F.Seq t) r h = absurd (none-some r h)
+      ∙ ap (λ (o : Option ℕ). under o (λ k. of.Column n k ∷ [])) named))
+  layer_used names tables m a _ _ (a_member ms place member named there) = plain_used a (form.Member a place) (of_member a place)
+  layer_used names tables m a _ _ (a_key k t) = plain_used a (form.Key a) (of_key a)
+  layer_used names tables m a _ _ (has_value named) = plain_used a (form.Unary op.HasValue a) (of_unary op.HasValue a)
+  layer_used names tables m a _ _ (its_value named) = plain_used a (form.Unary op.Value a) (of_unary op.Value a)
+  layer_used names tables m a _ _ (its_length named) = plain_used a (form.Unary op.Length a) (of_unary op.Length a)
 
   member_used : (places : Places) (m : List ℕ) (a r : Tree) → member_tree schemas m a ≡ Some r
       → form_uses r.form ≡ form_uses a.form ++ member_uses (names_of_places schemas places) m (out-Ty a.ty)
   member_used places m a r h =
       map_by settled_tree (member_layer schemas m a.form (out-Ty a.ty)) r h
       (λ found there is. subst (λ (x : Tree). form_uses x.form ≡ form_uses a.form ++ member_uses (names_of_places schemas places) m (out-Ty a.ty)) is
-      (settled_used found.ty found.form ∙ layer_used (names_of_places schemas places) refl m a.form (out-Ty a.ty) found there))
+      (settled_used found.ty found.form ∙ layer_used (names_of_places schemas places) refl m a.form (out-Ty a.ty) found
+      (member_by schemas m a.form (out-Ty a.ty) found there)))
 
   module _ {X : Type 0} (tree : X → Binds) (typed : X → Names → Option Ty) (uses : X → Names → List Use)
       (alike : (x : X) (places : Places) → type_found (tree x places) ≡ typed x (names_of_places schemas places))
@@ -221,7 +174,7 @@ module _ (schemas : List Schema) where
 
     binary_gives : (sign : Binary) (x y r : Tree) → binary_tree sign x y ≡ Some r → form_uses r.form ≡ form_uses x.form ++ form_uses y.form
     binary_gives sign x y r h =
-        map_by _ (whole_operated_type sign (out-Ty x.ty) (out-Ty y.ty)) r h
+        map_by _ (type_of_operation sign (out-Ty x.ty) (out-Ty y.ty)) r h
         (λ t typed is. subst (Uses (form_uses x.form ++ form_uses y.form)) is (binary_used sign x y))
 
     and_gives : (x y r : Tree) → and_tree x y ≡ Some r → form_uses r.form ≡ form_uses x.form ++ form_uses y.form
@@ -238,7 +191,7 @@ module _ (schemas : List Schema) where
     choice_gives : (c x y r : Tree) → conditional_tree c x y ≡ Some r → form_uses r.form ≡ form_uses c.form ++ (form_uses x.form ++ form_uses y.form)
     choice_gives c x y r h =
         when_by (is_bool (out-Ty c.ty)) _ r h
-        (λ truth found. map_by _ (whole_chosen (out-Ty x.ty) (out-Ty y.ty)) r found
+        (λ truth found. map_by _ (type_of_choice (out-Ty x.ty) (out-Ty y.ty)) r found
         (λ t typed is. subst (Uses (form_uses c.form ++ (form_uses x.form ++ form_uses y.form))) is (of_conditional c.form x.form y.form)))
 
     choice_used : (c a b : X) (r : Tree) → node_tree schemas tree (node.Conditional c a b) places ≡ Some r
@@ -374,7 +327,7 @@ module _ (schemas : List Schema) where
     node_used (node.Bool b) r h = subst (Uses []) (same_Some _ r h) (of_literal (scalar.Bool b))
     node_used node.Null r h = subst (Uses []) (same_Some _ r h) (of_literal scalar.Null)
     node_used (node.Name x) r h =
-        name_used x places (place_of x places.locals) (place_used x places.locals nothing.locals) nothing.session r h
+        name_used x places (place_of x places.locals) (place_holds {P = λ q. form_uses q.form ≡ []} x places.locals nothing.locals) nothing.session r h
         ∙ ap (λ (o : Option Ty). name_uses o x names) (sym (local_place x places.locals))
     node_used (node.Member a m) r h =
         option_and_then_some (member_tree schemas m) (tree a places) r h

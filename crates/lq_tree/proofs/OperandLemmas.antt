@@ -1,5 +1,6 @@
 -- Values of a type are of the kind that what works on the type asks of them.
 use Rattle.std.proofs.Common.{◌≡◌, ◌∷◌, ◌++◌, ◌&&◌, ◌||◌, ◌⊎◌, inl, inr, if◌then◌else◌, List, [], map, ℕ, zero, suc, Bool, true, false, Some, None, Result, Ok, Err, ap, ap₂, ◌∙◌, sym, refl, subst, true≢false, bytes_eq, codes, slice_get}
+use Rattle.std.proofs.lemmas.Bool.{and_parts}
 use Rattle.std.proofs.lemmas.Option.{none-some, option_and_then_some, same_Some}
 use Rattle.lq_value.specs.SameAndOrder.{IsKey, by_record as key_of_record, by_scalar as key_of_scalar}
 use Rattle.lq_value.specs.declared.scalar.Scalar.{Scalar}
@@ -19,7 +20,7 @@ use Rattle.lq_language.specs.Members.{search_named}
 use Rattle.lq_language.specs.Types.{all_members, are_join_keys, are_widened, element_type, is_key, key_step, same_types}
 use Rattle.lq_language.specs.OperandTypes.{are_comparable, are_joined, is_bool, is_equality, is_number, is_scalar, is_text, joined_type, result_type, truth_type}
 use Rattle.lq_language.specs.MeaningLaws.{AreMembers, Fits, IsA, IsValueOf, ValueClaim, by_group, by_null_record, by_record, by_row, by_scalar, by_sequence, no_member, one_member}
-use Rattle.lq_language.specs.Typing.{are_null_tests, converts, given_type, has_default, if_same, is_int, simple_type, takes_null, through_type, whole_operated_type, widens}
+use Rattle.lq_language.specs.Typing.{are_null_tests, converts, given_type, has_default, if_same, is_int, simple_type, takes_null, through_type, type_of_operation, widens}
 use Rattle.lq_language.specs.declared.methods.Given.{Given}
 use Rattle.lq_language.specs.declared.methods.Given.TheVariants as given
 use Rattle.lq_language.specs.declared.methods.Simple.{Simple}
@@ -35,25 +36,25 @@ use Rattle.lq_language.proofs.ItemLaws.{every_none}
 use Rattle.lq_language.proofs.FindingLaws.{if_by, when_by}
 use Rattle.lq_language.proofs.SameTypeLaws.{same_type}
 use Rattle.lq_language.proofs.TypedMethodLaws.{stream_alike}
-use Rattle.lq_language.proofs.ValueLaws.{Gets, RecordOrNull, RowOrNull, a_record, a_row, group_value, is_plain, no_record, no_row, plain_value, record_value, row_value, scalar_is, sequence_value}
+use Rattle.lq_language.proofs.ValueLaws.{Gets, RecordOrNull, RowOrNull, a_record, a_row, group_value, is_plain, no_record, no_row, number_plain, plain_value, record_value, row_value, scalar_is, scalar_plain, sequence_value}
 use Rattle.lq_tree.specs.Binding.{is_object, operation_at}
 use Rattle.lq_tree.specs.OperandKinds.{IsEnumerable, IsScalar, IsScalarThat, Takes, TakesArgument, TakesItem, TakesMade, TakesSource, a_group, a_sequence, is_count, is_truth, suits, suits_through, takes_two}
 use Rattle.lq_tree.specs.OperandKinds as kind
 
 -- ---- scalars, by the layers of their types
 
-abbrev numeric : Ty-F Ty → Bool
+abbrev pub numeric : Ty-F Ty → Bool
 numeric Ty-F.Int = true
 numeric Ty-F.IntN = true
 numeric Ty-F.Null = true
 numeric layer = false
 
-abbrev textual : Ty-F Ty → Bool
+abbrev pub textual : Ty-F Ty → Bool
 textual Ty-F.Str = true
 textual Ty-F.Null = true
 textual layer = false
 
-number_scalar : (k : Ty-F Ty) → numeric k ≡ true → (x : Scalar) → IsScalarOf k x → kind.is_number x ≡ true
+pub number_scalar : (k : Ty-F Ty) → numeric k ≡ true → (x : Scalar) → IsScalarOf k x → kind.is_number x ≡ true
 number_scalar Ty-F.Int h (scalar.Int n) fits = refl
 number_scalar Ty-F.Int h x fits = absurd fits
 number_scalar Ty-F.IntN h (scalar.Int n) fits = refl
@@ -63,7 +64,7 @@ number_scalar Ty-F.Null h scalar.Null fits = refl
 number_scalar Ty-F.Null h x fits = absurd fits
 number_scalar k h x fits = absurd (true≢false (sym h))
 
-text_scalar : (k : Ty-F Ty) → textual k ≡ true → (x : Scalar) → IsScalarOf k x → kind.is_text x ≡ true
+pub text_scalar : (k : Ty-F Ty) → textual k ≡ true → (x : Scalar) → IsScalarOf k x → kind.is_text x ≡ true
 text_scalar Ty-F.Str h (scalar.Text t) fits = refl
 text_scalar Ty-F.Str h scalar.Null fits = refl
 text_scalar Ty-F.Str h x fits = absurd fits
@@ -81,7 +82,7 @@ count_scalar Ty-F.Int h (scalar.Int n) fits = refl
 count_scalar Ty-F.Int h x fits = absurd fits
 count_scalar k h x fits = absurd (true≢false (sym h))
 
-number_numeric : (k : Ty-F Ty) → is_number k ≡ true → numeric k ≡ true
+pub number_numeric : (k : Ty-F Ty) → is_number k ≡ true → numeric k ≡ true
 number_numeric Ty-F.Int h = refl
 number_numeric Ty-F.IntN h = refl
 number_numeric k h = absurd (true≢false (sym h))
@@ -91,12 +92,7 @@ text_textual Ty-F.Str h = refl
 text_textual k h = absurd (true≢false (sym h))
 
 -- what is a scalar's layer
-number_plain : (k : Ty-F Ty) → is_number k ≡ true → is_plain k ≡ true
-number_plain Ty-F.Int h = refl
-number_plain Ty-F.IntN h = refl
-number_plain k h = absurd (true≢false (sym h))
-
-text_plain : (k : Ty-F Ty) → is_text k ≡ true → is_plain k ≡ true
+pub text_plain : (k : Ty-F Ty) → is_text k ≡ true → is_plain k ≡ true
 text_plain Ty-F.Str h = refl
 text_plain k h = absurd (true≢false (sym h))
 
@@ -108,17 +104,15 @@ int_plain : (k : Ty-F Ty) → is_int k ≡ true → is_plain k ≡ true
 int_plain Ty-F.Int h = refl
 int_plain k h = absurd (true≢false (sym h))
 
-scalar_plain : (k : Ty-F Ty) → is_scalar k ≡ true → is_plain k ≡ true
-scalar_plain Ty-F.Int h = refl
-scalar_plain Ty-F.IntN h = refl
-scalar_plain Ty-F.Bool h = refl
-scalar_plain Ty-F.Str h = refl
-scalar_plain k h = absurd (true≢false (sym h))
+textual_plain : (k : Ty-F Ty) → textual k ≡ true → is_plain k ≡ true
+textual_plain Ty-F.Str h = refl
+textual_plain Ty-F.Null h = refl
+textual_plain k h = absurd (true≢false (sym h))
 
 -- ---- two operands
 
 -- two layers whose scalars an operator takes together
-data Alike (k l : Ty-F Ty) : Type 0 where
+pub data Alike (k l : Ty-F Ty) : Type 0 where
   numbers : numeric k ≡ true → numeric l ≡ true → Alike k l
   texts : textual k ≡ true → textual l ≡ true → Alike k l
   truths : is_bool k ≡ true → is_bool l ≡ true → Alike k l
@@ -177,24 +171,21 @@ no_null_tests Ty-F.Null (Ty-F.Rec ms) a b = absurd (true≢false b)
 no_null_tests Ty-F.Null (Ty-F.Group k t) a b = absurd (true≢false b)
 no_null_tests k l a b = refl
 
-truth_found : (b : Bool) (r : Ty) → truth_type b ≡ Some r → b ≡ true
-truth_found true r h = refl
-truth_found false r h = absurd (none-some r h)
+told_by : (c d : Bool) (r : Ty) → (if c then Some ty.Bool else truth_type d) ≡ Some r → ((c || d) ≡ true) × (ty.Bool ≡ r)
+told_by true d r h = (refl, same_Some ty.Bool r h)
+told_by false true r h = (refl, same_Some ty.Bool r h)
+told_by false false r h = absurd (none-some r h)
 
-joined_sides : (k l : Ty-F Ty) → are_joined k l ≡ true → (textual k ≡ true) × (textual l ≡ true) × ((is_text k || is_text l) ≡ true)
+pub joined_sides : (k l : Ty-F Ty) → are_joined k l ≡ true → (textual k ≡ true) × (textual l ≡ true) × ((is_text k || is_text l) ≡ true)
 joined_sides Ty-F.Str Ty-F.Str h = (refl, refl, refl)
 joined_sides Ty-F.Str Ty-F.Null h = (refl, refl, refl)
 joined_sides Ty-F.Null Ty-F.Str h = (refl, refl, refl)
 joined_sides k l h = absurd (true≢false (sym h))
 
-number_no_text : (k : Ty-F Ty) → is_number k ≡ true → is_text k ≡ false
+pub number_no_text : (k : Ty-F Ty) → is_number k ≡ true → is_text k ≡ false
 number_no_text Ty-F.Int h = refl
 number_no_text Ty-F.IntN h = refl
 number_no_text k h = absurd (true≢false (sym h))
-
-both_true : (a b : Bool) → (a && b) ≡ true → (a ≡ true) × (b ≡ true)
-both_true true b h = (refl, h)
-both_true false b h = absurd (true≢false (sym h))
 
 -- a sign between numbers
 signed_numbers : (sign : Binary) (k l : Ty-F Ty) → is_equality sign ≡ false → is_number k ≡ true → is_number l ≡ true → (x y : Scalar)
@@ -219,25 +210,16 @@ signed_joined binary.Add k l r h =
       λ x y x_fits y_fits. ap (λ (b : Bool). takes_two (if b then op.Concat else op.Add) x y) sides.2
           ∙ both_so _ _ (text_scalar k sides.0 x x_fits) (text_scalar l sides.1 y y_fits),
     ))
-  where
-    textual_plain : (k : Ty-F Ty) → textual k ≡ true → is_plain k ≡ true
-    textual_plain Ty-F.Str h = refl
-    textual_plain Ty-F.Null h = refl
-    textual_plain k h = absurd (true≢false (sym h))
 signed_joined sign k l r h = absurd (none-some r h)
 
-alike_plain : (k l : Ty-F Ty) → Alike k l → (is_plain k ≡ true) × (is_plain l ≡ true)
+pub alike_plain : (k l : Ty-F Ty) → Alike k l → (is_plain k ≡ true) × (is_plain l ≡ true)
 alike_plain k l (numbers h i) = (numeric_plain k h, numeric_plain l i) where
   numeric_plain : (k : Ty-F Ty) → numeric k ≡ true → is_plain k ≡ true
   numeric_plain Ty-F.Int h = refl
   numeric_plain Ty-F.IntN h = refl
   numeric_plain Ty-F.Null h = refl
   numeric_plain k h = absurd (true≢false (sym h))
-alike_plain k l (texts h i) = (textual_plain k h, textual_plain l i) where
-  textual_plain : (k : Ty-F Ty) → textual k ≡ true → is_plain k ≡ true
-  textual_plain Ty-F.Str h = refl
-  textual_plain Ty-F.Null h = refl
-  textual_plain k h = absurd (true≢false (sym h))
+alike_plain k l (texts h i) = (textual_plain k h, textual_plain l i)
 alike_plain k l (truths h i) = (bool_plain k h, bool_plain l i)
 
 equal_taken : (sign : Binary) (k l : Ty-F Ty) → is_equality sign ≡ true → (x y : Scalar) → takes_two op.Equal x y ≡ true
@@ -247,40 +229,67 @@ equal_taken binary.NotEqual k l h x y are = are
 equal_taken binary.Add k l h x y are = absurd (true≢false (sym h))
 equal_taken sign k l h x y are = absurd (true≢false (sym h))
 
-pub sign_taken : (sign : Binary) (k l : Ty-F Ty) (r : Ty) → is_object k ≡ false → is_object l ≡ false → whole_operated_type sign k l ≡ Some r
-    → TakesSigned sign k l
-sign_taken sign k l r a b h = by (is_equality sign) refl h where
-  signed : is_equality sign ≡ false → (c : Bool) → (is_number k && is_number l) ≡ c → (if c then Some (result_type sign k l) else joined_type sign k l) ≡ Some r
-      → TakesSigned sign k l
-  signed other true so found =
-      let are = both_true (is_number k) (is_number l) so in (
-        number_plain k are.0,
-        number_plain l are.1,
-        λ x y x_fits y_fits. signed_numbers sign k l other are.0 are.1 x y
-            (both_so _ _ (number_scalar k (number_numeric k are.0) x x_fits) (number_scalar l (number_numeric l are.1) y y_fits)),
-      )
-  signed other false so found = signed_joined sign k l r found
+-- ---- what there being a result tells of the operands' types
 
-  by : (c : Bool) → is_equality sign ≡ c
-      → (if c && are_null_tests k l then Some ty.Bool
-      else (if c then truth_type (are_comparable k l) else (if is_number k && is_number l then Some (result_type sign k l) else joined_type sign k l))) ≡ Some r
-      → TakesSigned sign k l
-  by true same found =
-      let alike = comparable_alike k l
-      (truth_found (are_comparable k l) r (ap (λ (c : Bool). if c then Some ty.Bool else truth_type (are_comparable k l)) (sym (no_null_tests k l a b)) ∙ found)) a b in
+pub type_of_equality : (sign : Binary) (k l : Ty-F Ty) (r : Ty) → is_equality sign ≡ true → type_of_operation sign k l ≡ Some r
+    → ((are_null_tests k l || are_comparable k l) ≡ true) × (ty.Bool ≡ r)
+type_of_equality binary.Equal k l r same h = told_by (are_null_tests k l) (are_comparable k l) r h
+type_of_equality binary.NotEqual k l r same h = told_by (are_null_tests k l) (are_comparable k l) r h
+type_of_equality sign k l r same h = absurd (true≢false (sym same))
+
+-- two numbers, or texts that are joined
+abbrev pub Computes : Binary → Ty-F Ty → Ty-F Ty → Ty → Type 0
+Computes sign k l r = ((is_number k ≡ true) × (is_number l ≡ true) × (result_type sign k l ≡ r)) ⊎ (joined_type sign k l ≡ Some r)
+
+pub type_of_computed : (sign : Binary) (k l : Ty-F Ty) (r : Ty) → is_equality sign ≡ false → type_of_operation sign k l ≡ Some r → Computes sign k l r
+type_of_computed sign k l r other h =
+    by (is_number k && is_number l) refl
+    (sym (ap (λ (c : Bool). if c && are_null_tests k l then Some ty.Bool
+    else (if c then truth_type (are_comparable k l) else (if is_number k && is_number l then Some (result_type sign k l) else joined_type sign k l))) other) ∙ h)
+  where
+    by : (b : Bool) → (is_number k && is_number l) ≡ b → (if b then Some (result_type sign k l) else joined_type sign k l) ≡ Some r → Computes sign k l r
+    by true so found = let are = and_parts (is_number k) (is_number l) so in inl (are.0, are.1, same_Some _ r found)
+    by false so found = inr found
+
+pub computed_plain : (sign : Binary) (k l : Ty-F Ty) (r : Ty) → Computes sign k l r → (is_plain k ≡ true) × (is_plain l ≡ true)
+computed_plain sign k l r (inl are) = (number_plain k are.0, number_plain l are.1)
+computed_plain binary.Add k l r (inr found) =
+    if_by (are_joined k l) ty.Str r found (λ joined is. let sides = joined_sides k l joined in (textual_plain k sides.0, textual_plain l sides.1))
+computed_plain sign k l r (inr found) = absurd (none-some r found)
+
+pub compared_alike : (k l : Ty-F Ty) → (are_null_tests k l || are_comparable k l) ≡ true → is_object k ≡ false → is_object l ≡ false → Alike k l
+compared_alike k l h a b = comparable_alike k l (sym (ap (λ (c : Bool). c || are_comparable k l) (no_null_tests k l a b)) ∙ h) a b
+
+pub sign_taken : (sign : Binary) (k l : Ty-F Ty) (r : Ty) → is_object k ≡ false → is_object l ≡ false → type_of_operation sign k l ≡ Some r
+    → TakesSigned sign k l
+sign_taken sign k l r a b h = by (is_equality sign) refl where
+  signed : is_equality sign ≡ false → Computes sign k l r → TakesSigned sign k l
+  signed other (inl are) = (
+    number_plain k are.0,
+    number_plain l are.1,
+    λ x y x_fits y_fits. signed_numbers sign k l other are.0 are.1 x y
+        (both_so _ _ (number_scalar k (number_numeric k are.0) x x_fits) (number_scalar l (number_numeric l are.1) y y_fits)),
+  )
+  signed other (inr found) = signed_joined sign k l r found
+
+  by : (c : Bool) → is_equality sign ≡ c → TakesSigned sign k l
+  by true same =
+      let alike = compared_alike k l (type_of_equality sign k l r same h).0 a b in
       let plain = alike_plain k l alike in
       (plain.0, plain.1, λ x y x_fits y_fits. equal_taken sign k l same x y (alike_scalars k l alike x y x_fits y_fits))
-  by false other found = signed other (is_number k && is_number l) refl found
+  by false other = signed other (type_of_computed sign k l r other h)
 
--- a search in a text
-pub search_taken : (o : Op) (m : List ℕ) → search_named m ≡ Some o → (x y : Scalar) → (kind.is_text x && kind.is_text y) ≡ true → takes_two o x y ≡ true
-search_taken o m h x y are = by (bytes_eq m (codes "StartsWith")) (bytes_eq m (codes "EndsWith")) (bytes_eq m (codes "Contains")) h where
-  by : (a b c : Bool) → (if a then Some op.StartsWith else (if b then Some op.EndsWith else (if c then Some op.Contains else None))) ≡ Some o
-      → takes_two o x y ≡ true
-  by true b c is = subst (λ (p : Op). takes_two p x y ≡ true) (same_Some op.StartsWith o is) are
-  by false true c is = subst (λ (p : Op). takes_two p x y ≡ true) (same_Some op.EndsWith o is) are
-  by false false true is = subst (λ (p : Op). takes_two p x y ≡ true) (same_Some op.Contains o is) are
+-- what holds of the three searches in a text holds of the one that a name stands for
+pub search_holds : (P : Op → Type 0) (o : Op) (m : List ℕ) → search_named m ≡ Some o → P op.StartsWith → P op.EndsWith → P op.Contains → P o
+search_holds P o m h starts ends has = by (bytes_eq m (codes "StartsWith")) (bytes_eq m (codes "EndsWith")) (bytes_eq m (codes "Contains")) h where
+  by : (a b c : Bool) → (if a then Some op.StartsWith else (if b then Some op.EndsWith else (if c then Some op.Contains else None))) ≡ Some o → P o
+  by true b c is = subst P (same_Some op.StartsWith o is) starts
+  by false true c is = subst P (same_Some op.EndsWith o is) ends
+  by false false true is = subst P (same_Some op.Contains o is) has
   by false false false is = absurd (none-some o is)
+
+pub search_taken : (o : Op) (m : List ℕ) → search_named m ≡ Some o → (x y : Scalar) → (kind.is_text x && kind.is_text y) ≡ true → takes_two o x y ≡ true
+search_taken o m h x y are = search_holds (λ p. takes_two p x y ≡ true) o m h are are are
 
 -- ---- the types that methods name
 
@@ -361,7 +370,7 @@ module _ {R : Type 0} (world : World R) where
   keys (by_sequence t u vs e is items) = λ h. absurd (no_key t (Ty-F.Seq u) is refl h)
   keys no_member = λ h i m there. absurd (none-some m there)
   keys (one_member n t v ms vs fits others) =
-      λ h. let are = both_true (is_key t) (all_members (map (λ (m : List ℕ × Ty). (m.0, is_key m.1)) ms)) h in
+      λ h. let are = and_parts (is_key t) (all_members (map (λ (m : List ℕ × Ty). (m.0, is_key m.1)) ms)) h in
       next_key n v vs (keys fits are.0) (keys others are.1)
 
   pub key_value : (t : Ty) (v : Value R) → is_key t ≡ true → Val t v → IsKey v
@@ -435,7 +444,7 @@ module _ {R : Type 0} (world : World R) where
   one_kind (by_sequence t u vs e is items) = λ h w w_fits. absurd (no_key t (Ty-F.Seq u) is refl h)
   one_kind no_member = λ h ws fits i m n m_is n_is. absurd (none-some m m_is)
   one_kind (one_member n t v ms vs fits others) =
-      λ h. let are = both_true (is_key t) (all_members (map (λ (m : List ℕ × Ty). (m.0, is_key m.1)) ms)) h in
+      λ h. let are = and_parts (is_key t) (all_members (map (λ (m : List ℕ × Ty). (m.0, is_key m.1)) ms)) h in
       first_member n t v ms vs (one_kind fits are.0) (one_kind others are.1)
 
   pub same_kind : (t : Ty) (v w : Value R) → is_key t ≡ true → Val t v → Val t w → kind.MayBeSame v w

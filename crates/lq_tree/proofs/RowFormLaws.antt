@@ -14,10 +14,12 @@ use Rattle.lq_grammar.specs.declared.syntax.SortKey.{SortKey}
 use Rattle.lq_tree.specs.FormMeaning.{Means, Slots, form_meaning, form_step, members_of, sort_key}
 use Rattle.lq_tree.specs.RowLaws.{MeansAlikeOverRows, StreamsAlikeOverRows}
 use Rattle.lq_tree.specs.Rows.{OverRows, mapped, result_map, stream_map}
-use Rattle.lq_tree.specs.declared.tree.Form.{Form, fold_out-Form, ind-Form, map-Form, out-Form, roll-Form}
+use Rattle.lq_tree.specs.declared.tree.Form.{Form, ind-Form, map-Form, roll-Form}
 use Rattle.lq_tree.specs.declared.tree.Form.TheOpen.{Form-F}
 use Rattle.lq_tree.specs.declared.tree.Form.TheViews.{out-roll-Form}
-use Rattle.lq_tree.proofs.MappedStreamLaws.{arranged_natural, ok_by, order_keys}
+use Rattle.lq_language.proofs.StreamLaws.{order_keys}
+use Rattle.lq_tree.proofs.FormSteps.{meaning_at}
+use Rattle.lq_tree.proofs.MappedStreamLaws.{arranged_natural, ok_by}
 use Rattle.lq_tree.proofs.MappedValueLaws.{mapped_Rec, mapped_member}
 use Rattle.lq_tree.proofs.RowMeaningLaws.{Like, and_like, binary_like, coalesce_like, column_like, conditional_like, first_like, given_like, group_like, join_like, key_like, many_like, member_like, null_like, or_like, over, pair_like, scalar_follows, second_like, sequence_follows, sequence_like, simple_like, slot_like, sorted_like, stream_follows, table_follows, through_like, unary_like}
 
@@ -27,13 +29,6 @@ module _ {R : Type 0} (world : World R) where
   -- a layer whose forms have become their meanings
   abbrev meant : Form-F Form → Form-F (Means R)
   meant layer = map-Form Form (Means R) (form_meaning world) layer
-
-  meaning_out : (form : Form) (slots : Slots R) → form_meaning world form slots ≡ form_step world (meant (out-Form form)) slots
-  unfolding form_meaning
-  meaning_out form slots = ap (λ (g : Means R). g slots) (fold_out-Form (Means R) (form_step world) form)
-
-  meaning_roll : (layer : Form-F Form) (slots : Slots R) → form_meaning world (roll-Form layer) slots ≡ form_step world (meant layer) slots
-  meaning_roll layer slots = meaning_out (roll-Form layer) slots ∙ ap (λ (l : Form-F Form). form_step world (meant l) slots) (out-roll-Form layer)
 
 module _ {R S : Type 0} (f : R → S) (world : World R) (session : List (SessionValue S)) (cell : S → List ℕ → Option Scalar)
     (same_cells : (r : R) (column : List ℕ) → cell (f r) column ≡ world.cell r column) where
@@ -160,7 +155,8 @@ module _ {R S : Type 0} (f : R → S) (world : World R) (session : List (Session
 
   layer_alike : (y : Form-F Such) → Alike (roll-Form (plain y))
   layer_alike y slots =
-      meaning_roll (over f world session cell) (plain y) (map m slots) ∙ steps y slots ∙ ap (result_map m) (sym (meaning_roll world (plain y) slots))
+      meaning_at (over f world session cell) (map m slots) _ (out-roll-Form (plain y)) ∙ steps y slots
+      ∙ ap (result_map m) (sym (meaning_at world slots _ (out-roll-Form (plain y))))
 
   alike : (form : Form) → Alike form
   alike form = ind-Form Alike (λ x y h. subst (λ (d : Form-F Form). Alike (roll-Form d)) h (layer_alike y)) form

@@ -16,7 +16,7 @@ use Rattle.lq_tree.specs.FormMeaning.{Slots, form_meaning, if_there}
 use Rattle.lq_tree.specs.Places.{Place, Places, names_of_places, place_of, places_of, with_item, SessionPlace}
 use Rattle.lq_tree.specs.declared.tree.Form.{Form}
 use Rattle.lq_tree.specs.declared.tree.Form.TheVariants as form
-use Rattle.lq_tree.proofs.FormSteps.{of_first, of_second, of_slot}
+use Rattle.lq_tree.proofs.FormSteps.{meaning_at}
 use Rattle.lq_language.specs.Names.{SessionName}
 
 -- ---- slots
@@ -113,11 +113,11 @@ module _ {R : Type 0} (world : World R) where
     (
       refl,
       refl,
-      λ more. ap (λ (m : Slots R → Result (Value R) Fault). m (slots ++ more)) (of_second world item)
+      λ more. meaning_at world (slots ++ more) _ (form.outs-Second item)
           ∙ ap (λ (o : Result (Value R) Fault). on_ok o (λ w. Ok (second w))) (here more),
     ),
     parts_reached slots p (form.First item) (first v) places scope
-        (λ more. ap (λ (m : Slots R → Result (Value R) Fault). m (slots ++ more)) (of_first world item)
+        (λ more. meaning_at world (slots ++ more) _ (form.outs-First item)
         ∙ ap (λ (o : Result (Value R) Fault). on_ok o (λ w. Ok (first w))) (here more)) reach,
   )
 
@@ -162,7 +162,7 @@ module _ {R : Type 0} (world : World R) where
 
   pub slot_reached : (slots : Slots R) (n : ℕ) (v : Value R) → length slots ≡ n → At (slots ++ v ∷ []) (form.Slot n) v
   slot_reached slots n v is more =
-      ap (λ (m : Slots R → Result (Value R) Fault). m ((slots ++ v ∷ []) ++ more)) (of_slot world n)
+      meaning_at world ((slots ++ v ∷ []) ++ more) _ (form.outs-Slot n)
       ∙ ap (λ (k : ℕ). if_there world (slice_get ((slots ++ v ∷ []) ++ more) k)) (sym is) ∙ ap (if_there world) (at_end slots v more)
 
   -- where an item stands in one slot more

@@ -54,6 +54,18 @@ module _ (schemas : List Schema) where
   unfolding session_places known_names
   places_known ds = known_behind [] ds
 
+  -- what holds of the place of each definition where it holds of those of the earlier ones holds of all places
+  pub every_placed : (P : SessionPlace → Type 0)
+      → ((earlier : List SessionPlace) → Every P earlier → (d : Definition) → IsDefined schemas (known_of earlier) d.defined → P (placed_as schemas earlier d))
+      → (earlier : List SessionPlace) → Every P earlier → (ds : List Definition) → AreDefinedAfter schemas (known_of earlier) ds
+      → Every P (placed_after schemas earlier ds)
+  every_placed P next earlier holds [] all = holds
+  every_placed P next earlier holds (d ∷ ds) all =
+      every_placed P next (earlier ++ placed_as schemas earlier d ∷ [])
+      (every_append P earlier (placed_as schemas earlier d ∷ []) holds
+      (every_more P (placed_as schemas earlier d) [] (next earlier holds d all.0) (every_none P))) ds
+      (subst (λ (names : List SessionName). AreDefinedAfter schemas names ds) (sym (known_so_far earlier d)) all.1)
+
   -- ---- where a name is found
 
   known_name : (names : List SessionName) (name : List ℕ) (defined : Defined) → (known_as schemas names name defined).name ≡ name
@@ -165,9 +177,9 @@ module _ (schemas : List Schema) where
   query_tree earlier e t typed depth =
       tree_there (term_tree schemas (translated e) (places_outside earlier depth)) t (type_outside earlier e depth ∙ typed)
 
-  whole_tree : (o : Option Tree) → tree_of (or_null (type_found o)) (form_or_null o) ≡ tree_or_null o
-  whole_tree None = refl
-  whole_tree (Some tree) = refl
+  tree_given : (o : Option Tree) → tree_of (or_null (type_found o)) (form_or_null o) ≡ tree_or_null o
+  tree_given None = refl
+  tree_given (Some tree) = refl
 
   -- what a named query's place tells is the tree of its expression
   pub named_tree : (earlier : List SessionPlace) (name : List ℕ) (e : Expr) (opened : Opened) (depth : ℕ)
@@ -176,7 +188,7 @@ module _ (schemas : List Schema) where
   named_tree earlier name e opened depth =
       ap (λ (o : Option Ty). tree_of (or_null o) (form_or_null (term_tree schemas (translated e) (places_outside earlier depth))))
       (sym (type_outside earlier e depth))
-      ∙ whole_tree (term_tree schemas (translated e) (places_outside earlier depth))
+      ∙ tree_given (term_tree schemas (translated e) (places_outside earlier depth))
 
   -- ---- uses
 
@@ -198,15 +210,6 @@ module _ (schemas : List Schema) where
   defined_uses earlier used name (of.Variable t s) is depth = of_literal s
   defined_uses earlier used name (of.Query e opened) is depth = query_uses earlier used e (ty.Seq is.0) is.1 depth
 
-  used_behind : (earlier : List SessionPlace) → Every Uses earlier → (ds : List Definition) → AreDefinedAfter schemas (known_of earlier) ds
-      → Every Uses (placed_after schemas earlier ds)
-  used_behind earlier used [] all = used
-  used_behind earlier used (d ∷ ds) all =
-      used_behind (earlier ++ placed_as schemas earlier d ∷ [])
-      (every_append Uses earlier (placed_as schemas earlier d ∷ []) used
-      (every_more Uses (placed_as schemas earlier d) [] (defined_uses earlier used d.name d.defined all.0) (every_none Uses))) ds
-      (subst (λ (names : List SessionName). AreDefinedAfter schemas names ds) (sym (known_so_far earlier d)) all.1)
-
 pub places_are_known : PlacesAreKnown
 places_are_known schemas definitions = places_known schemas definitions
 
@@ -214,7 +217,8 @@ pub places_use : PlacesUse
 unfolding session_places
 places_use schemas definitions all = record {
   locals = every_none (λ (place : Place). form_uses place.form ≡ []);
-  session = used_behind schemas [] (every_none (Uses schemas)) definitions all;
+  session = every_placed schemas (Uses schemas) (λ earlier used d is. defined_uses schemas earlier used d.name d.defined is) [] (every_none (Uses schemas))
+      definitions all;
 }
 
 -- ---- whole statements

@@ -28,14 +28,15 @@ use Rattle.lq_translate.specs.Translated.{translated}
 use Rattle.lq_translate.proofs.AlikeTermLaws.{terms_mean}
 use Rattle.lq_tree.specs.Binding.{term_tree}
 use Rattle.lq_tree.specs.BindingLaws.{Gives, GivesAll}
-use Rattle.lq_tree.specs.FormMeaning.{Means, Slots, form_meaning}
+use Rattle.lq_tree.specs.FormMeaning.{Slots, form_meaning}
 use Rattle.lq_tree.specs.Places.{SessionPlace}
 use Rattle.lq_tree.specs.Rows.{OverRows, mapped, result_map}
 use Rattle.lq_tree.specs.SessionLaws.{MeaningsOfStatements, PlacesGive, ReadsNoSession}
 use Rattle.lq_tree.specs.SessionPlaces.{defined_form, form_or_null, placed_after, placed_as, places_outside, session_places, statement_places}
 use Rattle.lq_tree.specs.declared.tree.Form.{Form}
+use Rattle.lq_tree.specs.declared.tree.Form.TheVariants as form
 use Rattle.lq_tree.specs.declared.tree.Tree.{Tree}
-use Rattle.lq_tree.proofs.FormSteps.{of_literal}
+use Rattle.lq_tree.proofs.FormSteps.{meaning_at}
 use Rattle.lq_tree.proofs.MappedValueLaws.{mapped_same}
 use Rattle.lq_tree.proofs.RowFormLaws.{means_alike}
 use Rattle.lq_tree.proofs.ScopeLaws.{session_same}
@@ -105,7 +106,7 @@ module _ {R : Type 0} where
 
     defined_gives : (defined : Defined) → IsDefined world.schemas (session_names world.session) defined → (slots : Slots R)
         → form_meaning world (defined_form world.schemas earlier defined (length slots)) slots ≡ Ok (value_in world defined)
-    defined_gives (of.Variable t s) is slots = ap (λ (m : Means R). m slots) (of_literal world s)
+    defined_gives (of.Variable t s) is slots = meaning_at world slots _ (form.outs-Literal s)
     defined_gives (of.Query e opened) is slots = query_gives e is.0 is.1 slots
 
     -- one name more

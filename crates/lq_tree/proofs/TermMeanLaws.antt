@@ -13,7 +13,7 @@ use Rattle.lq_language.specs.Operators.{call_meaning}
 use Rattle.lq_language.specs.Stream.{Stream}
 use Rattle.lq_language.specs.Terms.{MeantTerm, term_meaning, term_meaning_step, term_type}
 use Rattle.lq_language.specs.Names.{Names}
-use Rattle.lq_language.specs.Meaning.{whole_meaning}
+use Rattle.lq_language.specs.Meaning.{node_meaning}
 use Rattle.lq_language.specs.MeaningLaws.{IsSessionOfValues, IsValueOf}
 use Rattle.lq_language.specs.declared.calls.Call.{Call}
 use Rattle.lq_language.specs.declared.calls.Term.{Term}
@@ -25,7 +25,7 @@ use Rattle.lq_translate.specs.Translated.{translated, translated_query}
 use Rattle.lq_translate.proofs.AlikeTermLaws.{items_typed, streams_mean, terms_mean, terms_typed}
 use Rattle.lq_translate.proofs.LayerLaws.{para_call, para_term_node}
 use Rattle.lq_translate.proofs.NodePullLaws.{map_nodes, node_pull as meaning_pull}
-use Rattle.lq_translate.proofs.QueryPullLaws.{call_meant}
+use Rattle.lq_translate.proofs.CallPullLaws.{call_meant}
 use Rattle.lq_tree.specs.Binding.{Binds, call_tree, term_tree, tree_of}
 use Rattle.lq_tree.specs.BindingLaws.{BindsExpressions, BindsQueries, MeaningsOfCalls, MeaningsOfTrees}
 use Rattle.lq_tree.specs.FormMeaning.{Slots, form_meaning}
@@ -33,7 +33,7 @@ use Rattle.lq_tree.specs.Places.{Places, names_of_places}
 use Rattle.lq_tree.specs.declared.tree.Form.{Form}
 use Rattle.lq_tree.specs.declared.tree.Tree.{Tree}
 use Rattle.lq_tree.proofs.CallMeans.{call_means}
-use Rattle.lq_tree.proofs.Layers.{Such, of_every, plain}
+use Rattle.lq_translate.proofs.LayerLaws.{Such, of_every, plain}
 use Rattle.lq_tree.proofs.NodeMeans.{node_means}
 use Rattle.lq_tree.proofs.ScopeLaws.{Stands, names_same}
 use Rattle.lq_tree.proofs.TermTypeLaws.{call_types_same, types_same}
@@ -45,7 +45,7 @@ module _ {R : Type 0} (world : World R) (holds : HoldsRows world) (kept : IsSess
   abbrev beside : Term → MeantTerm R
   beside t = (t, term_meaning world t)
 
-  meaning_of_node : (n : Node Term) → term_meaning world (term.Node n) ≡ (λ scope. whole_meaning world term_type (map_node beside n) scope)
+  meaning_of_node : (n : Node Term) → term_meaning world (term.Node n) ≡ (λ scope. node_meaning world term_type (map_node beside n) scope)
   unfolding term_meaning
   meaning_of_node n = para_term_node (Meaning R) (term_meaning_step world) n
 
@@ -72,10 +72,10 @@ module _ {R : Type 0} (world : World R) (holds : HoldsRows world) (kept : IsSess
   meant_at z = term_meaning world z.0
 
   node_meant : (n : Node (Such MeansAlike)) (scope : Scope R)
-      → term_meaning world (term.Node (map_node base n)) scope ≡ whole_meaning world type_at (map_node (λ z. (z, meant_at z)) n) scope
+      → term_meaning world (term.Node (map_node base n)) scope ≡ node_meaning world type_at (map_node (λ z. (z, meant_at z)) n) scope
   node_meant n scope =
       ap (λ (m : Meaning R). m scope) (meaning_of_node (map_node base n))
-      ∙ ap (λ (m : Node (MeantTerm R)). whole_meaning world term_type m scope) (map_nodes beside base n)
+      ∙ ap (λ (m : Node (MeantTerm R)). node_meaning world term_type m scope) (map_nodes beside base n)
       ∙ meaning_pull world term_type base meant_at n scope
 
   call_meant_at : (c : Call (Such MeansAlike)) (scope : Scope R)

@@ -4,33 +4,24 @@ use Rattle.lq_value.specs.declared.table.Schema.{Schema}
 use Rattle.lq_value.specs.declared.ty.Ty.{Ty}
 use Rattle.lq_value.specs.declared.ty.Ty.TheVariants as ty
 use Rattle.lq_language.specs.Operators.{call_items}
-use Rattle.lq_language.specs.Terms.{term_step, term_type}
+use Rattle.lq_language.specs.Terms.{term_type}
 use Rattle.lq_language.specs.Names.{Names}
-use Rattle.lq_language.specs.Typing.{whole_type}
+use Rattle.lq_language.specs.Typing.{node_type}
 use Rattle.lq_language.specs.declared.calls.Call.{Call}
 use Rattle.lq_language.specs.declared.calls.Term.{Term}
 use Rattle.lq_language.specs.declared.calls.Term.TheVariants as term
 use Rattle.lq_grammar.specs.declared.syntax.Node.{Node}
 use Rattle.lq_translate.specs.Maps.{map_call, map_node}
-use Rattle.lq_translate.proofs.LayerLaws.{fold_call, fold_term_node}
+use Rattle.lq_translate.proofs.AlikeTermLaws.{term_call, term_node}
 use Rattle.lq_translate.proofs.NodePullLaws.{map_nodes}
-use Rattle.lq_translate.proofs.QueryPullLaws.{call_typed}
+use Rattle.lq_translate.proofs.CallPullLaws.{call_typed}
 use Rattle.lq_tree.specs.Binding.{Binds, call_tree, term_tree}
 use Rattle.lq_tree.specs.Places.{Places, names_of_places}
 use Rattle.lq_tree.proofs.CallTypes.{call_found}
-use Rattle.lq_tree.proofs.Layers.{Such, of_every, plain}
+use Rattle.lq_translate.proofs.LayerLaws.{Such, of_every, plain}
 use Rattle.lq_tree.proofs.NodeTypes.{node_found}
 use Rattle.lq_tree.proofs.TreePullLaws.{call_pull, node_pull, tree_of_call, tree_of_node}
 use Rattle.lq_tree.proofs.TypeLaws.{type_found}
-
--- the types of terms, layer by layer
-pub type_of_node : (n : Node Term) → term_type (term.Node n) ≡ (λ names. whole_type (map_node term_type n) names)
-unfolding term_type
-type_of_node n = fold_term_node (Names → Option Ty) term_step n
-
-pub type_of_call : (c : Call Term) → term_type (term.Call c) ≡ (λ names. option_map ty.Seq (call_items term_type c names))
-unfolding term_type
-type_of_call c = fold_call (Names → Option Ty) term_step c ∙ (λ i names. option_map ty.Seq (call_typed term_type (λ t. t) c names i))
 
 module _ (schemas : List Schema) where
   abbrev TypesAlike : Term → Type 0
@@ -50,8 +41,8 @@ module _ (schemas : List Schema) where
       ap (λ (b : Binds). type_found (b places)) (tree_of_node schemas (map_node base n))
       ∙ ap type_found (node_pull schemas base (term_tree schemas) n places)
       ∙ node_found schemas tree_at type_at (λ z. z.1) n places
-      ∙ ap (λ (m : Node (Names → Option Ty)). whole_type m (names_of_places schemas places)) (sym (map_nodes term_type base n))
-      ∙ ap (λ (t : Names → Option Ty). t (names_of_places schemas places)) (sym (type_of_node (map_node base n)))
+      ∙ ap (λ (m : Node (Names → Option Ty)). node_type m (names_of_places schemas places)) (sym (map_nodes term_type base n))
+      ∙ ap (λ (t : Names → Option Ty). t (names_of_places schemas places)) (sym (term_node (map_node base n)))
 
   at_call : (c : Call (Such TypesAlike)) → TypesAlike (term.Call (map_call base c))
   at_call c places =
@@ -59,7 +50,7 @@ module _ (schemas : List Schema) where
       ∙ ap type_found (call_pull schemas base (term_tree schemas) c places)
       ∙ call_found schemas tree_at type_at (λ z. z.1) c places
       ∙ ap (option_map ty.Seq) (sym (call_typed base term_type c (names_of_places schemas places)))
-      ∙ ap (λ (t : Names → Option Ty). t (names_of_places schemas places)) (sym (type_of_call (map_call base c)))
+      ∙ ap (λ (t : Names → Option Ty). t (names_of_places schemas places)) (sym (term_call (map_call base c)))
 
   pub types_same : (t : Term) (places : Places) → type_found (term_tree schemas t places) ≡ term_type t (names_of_places schemas places)
   types_same = of_every TypesAlike at_node at_call

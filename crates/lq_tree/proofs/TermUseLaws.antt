@@ -22,7 +22,7 @@ use Rattle.lq_tree.specs.Places.{Places, names_of_places}
 use Rattle.lq_tree.specs.UsesOfForms.{UseWhatIsKnown, form_uses}
 use Rattle.lq_tree.specs.declared.tree.Tree.{Tree}
 use Rattle.lq_tree.proofs.CallUses.{call_used}
-use Rattle.lq_tree.proofs.Layers.{Such, of_every, plain}
+use Rattle.lq_translate.proofs.LayerLaws.{Such, of_every, plain}
 use Rattle.lq_tree.proofs.NodeUseLaws.{node_used}
 use Rattle.lq_tree.proofs.TermTypeLaws.{types_same}
 use Rattle.lq_tree.proofs.TreePullLaws.{call_pull, node_pull, tree_of_call, tree_of_node}

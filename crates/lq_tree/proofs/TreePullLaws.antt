@@ -30,6 +30,11 @@ use Rattle.lq_tree.specs.declared.tree.Form.TheVariants as form
 use Rattle.lq_tree.specs.declared.tree.Tree.{Tree}
 use Rattle.lq_tree.proofs.WalkLaws.{walk_map}
 
+pub names_kept : {X Y : Type 0} (f : X → Y) (fields : List (Field X))
+    → map (λ (field : Field Y). field.name) (map (map_field f) fields) ≡ map (λ field. field.name) fields
+names_kept f [] = refl
+names_kept f (field ∷ fields) = ap (λ ns. field.name ∷ ns) (names_kept f fields)
+
 module _ (schemas : List Schema) {X Y : Type 0} (f : X → Y) (tree : Y → Binds) where
   abbrev before : X → Binds
   before x = tree (f x)
@@ -58,15 +63,11 @@ module _ (schemas : List Schema) {X Y : Type 0} (f : X → Y) (tree : Y → Bind
       (ap (λ (q : Option Tree). option_and_then (λ o. option_and_then (search_form o a) q) (search_named m)) (argument_pull places xs))
       (ap (λ (o : Option (EnumerableCall Y)). called_tree schemas tree o a places) (call_maps f m xs) ∙ called_pull a places (enumerable_call m xs))
 
-  names_pull : (fields : List (Field X)) → map (λ (field : Field Y). field.name) (map (map_field f) fields) ≡ map (λ field. field.name) fields
-  names_pull [] = refl
-  names_pull (field ∷ fields) = ap (λ ns. field.name ∷ ns) (names_pull fields)
-
   record_pull : (fields : List (Field X)) (places : Places) → record_tree schemas tree (map (map_field f) fields) places
       ≡ record_tree schemas before fields places
   record_pull fields places =
       ap₂ (λ (ns : List (List ℕ)) (o : Option (List (Field Tree))). when (are_distinct ns) (option_and_then within_tree (option_map fields_tree o)))
-      (names_pull fields)
+      (names_kept f fields)
       (walk_map (map_field f) (gather_step (field_tree schemas tree places)) fields (Some []))
 
   pub node_pull : (n : Node X) (places : Places) → node_tree schemas tree (map_node f n) places ≡ node_tree schemas before n places

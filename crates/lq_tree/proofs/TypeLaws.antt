@@ -1,5 +1,6 @@
 -- A node has a tree exactly where it has a type, and the tree's type is that, if the same is so of the expressions in it.
-use Rattle.std.proofs.Common.{arith, ◌≡◌, ◌∷◌, ◌+◌, ◌&&◌, ◌||◌, if◌then◌else◌, List, [], map, ℕ, suc, Bool, true, false, Option, Some, None, ap, ap₂, ◌∙◌, sym, refl, bytes_eq, codes, option_and_then, option_map, slice_get}
+use Rattle.std.proofs.Common.{arith, ◌≡◌, ◌∷◌, ◌+◌, ◌&&◌, ◌||◌, if◌then◌else◌, List, [], map, ℕ, suc, Bool, true, false, Option, Some, None, ap, ap₂, ◌∙◌, sym, refl, subst, bytes_eq, codes, option_and_then, option_map, slice_get}
+use Rattle.std.proofs.lemmas.Option.{none-some, same_Some}
 use Rattle.std.specs.List.{position_from}
 use Rattle.std.specs.Prelude.{is_some}
 use Rattle.lq_value.specs.declared.table.Column.{Column}
@@ -9,10 +10,11 @@ use Rattle.lq_value.specs.declared.ty.Ty.TheOpen.{Ty-F}
 use Rattle.lq_value.specs.declared.ty.Ty.TheVariants as ty
 use Rattle.lq_language.specs.EnumerableCalls.{EnumerableCall, By, Plain, With, enumerable_call}
 use Rattle.lq_language.specs.Members.{search_named, sole_argument}
+use Rattle.lq_language.specs.ValuesOfTypes.{Every}
 use Rattle.lq_language.specs.Types.{element_type, has_place, if_placed, is_fresh, is_key, is_within, when}
-use Rattle.lq_language.specs.Names.{Names, column_named, local_type, table_number, type_of_column, session_name}
+use Rattle.lq_language.specs.Names.{Names, column_named, local_type, table_number, type_of_column, session_name, SessionName}
 use Rattle.lq_language.specs.OperandTypes.{is_bool, is_bool_type, is_text, is_text_type, of_operands, truth_type}
-use Rattle.lq_language.specs.Typing.{argument_type, are_distinct, called_type, enumerable_type, given_type, if_limited, lambda_type, member_of, members_type, method_type, record_type, search_type, simple_type, through_type, whole_chosen, whole_choice_type, whole_member_type, global_type, whole_name_type}
+use Rattle.lq_language.specs.Typing.{argument_type, are_distinct, called_type, enumerable_type, given_type, if_limited, lambda_type, member_of, members_type, method_type, record_type, search_type, simple_type, through_type, type_of_choice, type_of_conditional, type_of_member, global_type, type_of_name}
 use Rattle.lq_language.specs.declared.methods.Given.{Given}
 use Rattle.lq_language.specs.declared.methods.Given.TheVariants as given
 use Rattle.lq_language.specs.declared.methods.Through.{Through}
@@ -21,6 +23,7 @@ use Rattle.lq_language.specs.declared.operation.Op.{Op}
 use Rattle.lq_language.specs.declared.operation.Op.TheVariants as op
 use Rattle.lq_grammar.specs.declared.syntax.Argument.{Argument}
 use Rattle.lq_grammar.specs.declared.syntax.Field.{Field}
+use Rattle.lq_language.proofs.ItemLaws.{first_of, others_of}
 use Rattle.lq_tree.specs.Binding.{Binds, called_tree, column_tree, conditional_tree, enumerable_tree, field_tree, fields_tree, gathered, lambda_tree, member_layer, member_tree, method_tree, name_tree, of_three_trees, of_two_trees, placed_tree, record_member_tree, record_tree, search_form, search_tree, settled_tree, tree_of, type_of_field, typed_tree, within_tree, global_tree}
 use Rattle.lq_tree.specs.Places.{Place, Places, names_of_places, place_of, with_name, SessionPlace, session_place}
 use Rattle.lq_tree.specs.declared.tree.Form.{Form}
@@ -93,20 +96,20 @@ pub number_found : (x : Tree) (f : Form) (b : Bool) → type_found (when b (Some
 number_found x f true = refl
 number_found x f false = refl
 
-choice_none : (b : Bool) (o : Option Ty) → whole_choice_type b o None ≡ None
+choice_none : (b : Bool) (o : Option Ty) → type_of_conditional b o None ≡ None
 choice_none true None = refl
 choice_none true (Some t) = refl
 choice_none false o = refl
 
-choice_first_none : (b : Bool) (o : Option Ty) → whole_choice_type b None o ≡ None
+choice_first_none : (b : Bool) (o : Option Ty) → type_of_conditional b None o ≡ None
 choice_first_none true o = refl
 choice_first_none false o = refl
 
-choice_by : (b : Bool) (s t : Ty) (f : Form) → type_found (when b (typed_tree (whole_chosen (out-Ty s) (out-Ty t)) f)) ≡ whole_choice_type b (Some s) (Some t)
-choice_by true s t f = typed_found (whole_chosen (out-Ty s) (out-Ty t)) f
+choice_by : (b : Bool) (s t : Ty) (f : Form) → type_found (when b (typed_tree (type_of_choice (out-Ty s) (out-Ty t)) f)) ≡ type_of_conditional b (Some s) (Some t)
+choice_by true s t f = typed_found (type_of_choice (out-Ty s) (out-Ty t)) f
 choice_by false s t f = refl
 
-pub choice_found : (o p q : Option Tree) → type_found (of_three_trees conditional_tree o p q) ≡ whole_choice_type (is_bool_type (type_found o))
+pub choice_found : (o p q : Option Tree) → type_found (of_three_trees conditional_tree o p q) ≡ type_of_conditional (is_bool_type (type_found o))
     (type_found p) (type_found q)
 choice_found None p q = refl
 choice_found (Some c) None q = sym (choice_first_none (is_bool (out-Ty c.ty)) (type_found q))
@@ -172,11 +175,9 @@ at_position xs type_at form_at (Some n) = map_two (λ tree. tree.ty) (λ x. tree
 pub place_known : (x : List ℕ) (places : List SessionPlace)
     → session_name x (map (λ place. place.known) places) ≡ option_map (λ place. place.known) (session_place x places)
 place_known x [] = refl
-place_known x (place ∷ places) = by (bytes_eq place.known.name x) (place_known x places) where
-  by : (b : Bool) → session_name x (map (λ p. p.known) places) ≡ option_map (λ p. p.known) (session_place x places)
-      → (if b then Some place.known else session_name x (map (λ p. p.known) places)) ≡ option_map (λ p. p.known) (if b then Some place else session_place x places)
-  by true rest = refl
-  by false rest = rest
+place_known x (place ∷ places) =
+    ap (λ (o : Option SessionName). if bytes_eq place.known.name x then Some place.known else o) (place_known x places)
+    ∙ sym (map_if (λ p. p.known) (bytes_eq place.known.name x) place (session_place x places))
 
 pub local_place : (x : List ℕ) (places : List Place) → local_type x (map (λ place. (place.name, place.ty)) places) ≡ option_map (λ place. place.ty)
     (place_of x places)
@@ -184,6 +185,25 @@ local_place x [] = refl
 local_place x (place ∷ places) =
     ap (λ (o : Option Ty). if bytes_eq place.name x then Some place.ty else o) (local_place x places)
     ∙ sym (map_if (λ y. y.ty) (bytes_eq place.name x) place (place_of x places))
+
+-- what holds of each holds of the one that a search finds
+found_holds : {A : Type 0} {P : A → Type 0} (test : A → Bool) (find : List A → Option A) → find [] ≡ None
+    → ((x : A) (xs : List A) → find (x ∷ xs) ≡ (if test x then Some x else find xs)) → (xs : List A) → Every P xs → (x : A) → find xs ≡ Some x → P x
+found_holds test find none next [] all x h = absurd (none-some x (sym none ∙ h))
+found_holds {A} {P} test find none next (y ∷ ys) all x h =
+    by (test y) (sym (next y ys) ∙ h) (found_holds {P = P} test find none next ys (others_of P y ys all) x)
+  where
+    by : (b : Bool) → (if b then Some y else find ys) ≡ Some x → (find ys ≡ Some x → P x) → P x
+    by true is rest = subst P (same_Some y x is) (first_of P y ys all)
+    by false is rest = rest is
+
+-- so of the place of a name
+pub place_holds : {P : Place → Type 0} (x : List ℕ) (places : List Place) → Every P places → (place : Place) → place_of x places ≡ Some place → P place
+place_holds {P} x = found_holds {P = P} (λ p. bytes_eq p.name x) (place_of x) refl (λ p ps. refl)
+
+pub session_place_holds : {P : SessionPlace → Type 0} (x : List ℕ) (places : List SessionPlace) → Every P places → (place : SessionPlace)
+    → session_place x places ≡ Some place → P place
+session_place_holds {P} x = found_holds {P = P} (λ p. bytes_eq p.known.name x) (session_place x) refl (λ p ps. refl)
 
 -- ---- searches
 
@@ -255,7 +275,7 @@ module _ (schemas : List Schema) where
       ∙ ap (option_map (λ member. member.1)) (first_position (λ member. bytes_eq m member.0) members) ∙ member_first m members
 
   layer_found : (places : Places) (m : List ℕ) (a : Form) (layer : Ty-F Ty)
-      → type_found (member_layer schemas m a layer) ≡ whole_member_type (names_of_places schemas places) m layer
+      → type_found (member_layer schemas m a layer) ≡ type_of_member (names_of_places schemas places) m layer
   layer_found places m a (Ty-F.Row n) = row_found m n a (slice_get schemas n)
   layer_found places m a (Ty-F.Rec members) = record_found m a members
   layer_found places m a (Ty-F.Group k t) = key_found (bytes_eq m (codes "Key")) k (form.Key a)
@@ -266,7 +286,7 @@ module _ (schemas : List Schema) where
   layer_found places m a Ty-F.Null = refl
   layer_found places m a (Ty-F.Seq t) = refl
 
-  pub member_found : (places : Places) (m : List ℕ) (a : Tree) → type_found (member_tree schemas m a) ≡ whole_member_type (names_of_places schemas places) m
+  pub member_found : (places : Places) (m : List ℕ) (a : Tree) → type_found (member_tree schemas m a) ≡ type_of_member (names_of_places schemas places) m
       (out-Ty a.ty)
   member_found places m a = settled_found (member_layer schemas m a.form (out-Ty a.ty)) ∙ layer_found places m a.form (out-Ty a.ty)
 
@@ -278,7 +298,7 @@ module _ (schemas : List Schema) where
       ∙ ap (option_map (λ known. known.ty)) (sym (place_known x places.session))
 
   pub name_found : (places : Places) (x : List ℕ) (o : Option Place)
-      → type_found (name_tree schemas places x o) ≡ whole_name_type (names_of_places schemas places) x (option_map (λ place. place.ty) o)
+      → type_found (name_tree schemas places x o) ≡ type_of_name (names_of_places schemas places) x (option_map (λ place. place.ty) o)
   name_found places x (Some place) = refl
   name_found places x None = global_found places x (table_number x schemas)
 

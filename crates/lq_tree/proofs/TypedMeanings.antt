@@ -1,5 +1,5 @@
 -- What a typed form gives, where it gives a value, is such as it is typed to give: by induction over the rules.
-use Rattle.std.proofs.Common.{◌≡◌, ◌∷◌, ◌++◌, ◌&&◌, if◌then◌else◌, List, [], map, ℕ, zero, suc, Bool, true, false, Option, Some, None, Result, Ok, Err, ap, ap₂, ◌∙◌, sym, refl, subst, bytes_eq, codes, option_map, slice_get}
+use Rattle.std.proofs.Common.{◌≡◌, ◌∷◌, ◌++◌, ◌&&◌, if◌then◌else◌, List, [], map, ℕ, zero, suc, Bool, true, false, Option, Some, Result, Ok, Err, ap, ap₂, ◌∙◌, sym, refl, subst, option_map, slice_get}
 use Rattle.std.proofs.lemmas.Option.{none-some, same_Some}
 use Rattle.lq_value.specs.SameAndOrder.{same_values as same_keys}
 use Rattle.lq_value.specs.declared.scalar.Scalar.{Scalar}
@@ -44,9 +44,10 @@ use Rattle.lq_tree.specs.TypedForms as rule
 use Rattle.lq_tree.specs.TypedFormLaws.{AreOfShapes, IsOfShape, KeepsItems, KeepsShapes}
 use Rattle.lq_tree.specs.declared.tree.Form.{Form}
 use Rattle.lq_tree.specs.declared.tree.Form.TheVariants as form
-use Rattle.lq_tree.proofs.FormSteps.{of_binary, of_column, of_first, of_given, of_group, of_is_null, of_join, of_key, of_literal, of_member, of_order, of_pair, of_record, of_second, of_select_many, of_sequence, of_simple, of_slot, of_table, of_through, of_unary}
-use Rattle.lq_tree.proofs.MeansMembers.{at_slots, column_step, key_step}
+use Rattle.lq_tree.proofs.FormSteps.{meaning_at}
+use Rattle.lq_tree.proofs.MeansMembers.{column_step, key_step}
 use Rattle.lq_tree.proofs.MeansOperators.{and_means, binary_means, coalesce_means, conditional_means, minus_means, not_means, or_means}
+use Rattle.lq_tree.proofs.OperandLemmas.{search_holds}
 use Rattle.lq_tree.proofs.ScopeLaws.{first_of_pair, second_of_pair}
 
 -- a sign between scalars is the operator that its types choose
@@ -140,19 +141,9 @@ module _ {R : Type 0} (world : World R) (holds : HoldsRows world) where
       (given_of r l (λ unknown. of_one unknown o x) r_is (given x (subst (λ (u : Ty-F Ty). IsScalarOf u x) t_is fits)))) m m (refl, gets)).1
 
   search_gets : (o : Op) (m : List ℕ) → search_named m ≡ Some o → (x y : Scalar) → Gets (Of ty.Bool) (as_value (of_two world.unknown o x y))
-  search_gets o m h x y = by (bytes_eq m (codes "StartsWith")) (bytes_eq m (codes "EndsWith")) (bytes_eq m (codes "Contains")) h where
-    by : (a b c : Bool) → (if a then Some op.StartsWith else (if b then Some op.EndsWith else (if c then Some op.Contains else None))) ≡ Some o
-        → Gets (Of ty.Bool) (as_value (of_two world.unknown o x y))
-    by true b c is =
-        subst (λ (p : Op). Gets (Of ty.Bool) (as_value (of_two world.unknown p x y))) (same_Some op.StartsWith o is)
-        (gets_truth (searched world.unknown op.StartsWith x y))
-    by false true c is =
-        subst (λ (p : Op). Gets (Of ty.Bool) (as_value (of_two world.unknown p x y))) (same_Some op.EndsWith o is)
-        (gets_truth (searched world.unknown op.EndsWith x y))
-    by false false true is =
-        subst (λ (p : Op). Gets (Of ty.Bool) (as_value (of_two world.unknown p x y))) (same_Some op.Contains o is)
-        (gets_truth (searched world.unknown op.Contains x y))
-    by false false false is = absurd (none-some o is)
+  search_gets o m h x y =
+      search_holds (λ p. Gets (Of ty.Bool) (as_value (of_two world.unknown p x y))) o m h (gets_truth (searched world.unknown op.StartsWith x y))
+      (gets_truth (searched world.unknown op.EndsWith x y)) (gets_truth (searched world.unknown op.Contains x y))
 
   -- ---- members by their places
 
@@ -251,34 +242,34 @@ module _ {R : Type 0} (world : World R) (holds : HoldsRows world) where
   keeps (rule.by_elements shapes f t u h element) = λ slots fit.
       (stream_alike world world.unknown world.unknown t u element (mean f slots) (mean f slots) (refl, keeps h slots fit)).1
   keeps (rule.of_literal shapes c t fits) = λ slots fit.
-      gets_as (Of t) _ _ (at_slots world slots (of_literal world c)) (gets_ok (Of t) (value.Scalar c) (by_scalar t c fits))
+      gets_as (Of t) _ _ (meaning_at world slots _ (form.outs-Literal c)) (gets_ok (Of t) (value.Scalar c) (by_scalar t c fits))
   keeps (rule.of_slot shapes n s there) = λ slots fit.
       let found = slot_there shapes slots fit n s there in
-      gets_as s _ (Ok found.0) (at_slots world slots (of_slot world n) ∙ ap (if_there world) found.1) (gets_ok s found.0 found.2)
+      gets_as s _ (Ok found.0) (meaning_at world slots _ (form.outs-Slot n) ∙ ap (if_there world) found.1) (gets_ok s found.0 found.2)
   keeps (rule.of_first shapes a s t h) = λ slots fit.
-      gets_as s _ _ (at_slots world slots (of_first world a))
+      gets_as s _ _ (meaning_at world slots _ (form.outs-First a))
       (then_gets (Both s t) s (mean a slots) (λ v. Ok (first v)) (keeps h slots fit)
       (λ v p. gets_ok s (first v) (subst (Fit s) (sym (ap first p.2 ∙ first_of_pair world p.0 p.1)) p.3)))
   keeps (rule.of_second shapes a s t h) = λ slots fit.
-      gets_as t _ _ (at_slots world slots (of_second world a))
+      gets_as t _ _ (meaning_at world slots _ (form.outs-Second a))
       (then_gets (Both s t) t (mean a slots) (λ v. Ok (second v)) (keeps h slots fit)
       (λ v p. gets_ok t (second v) (subst (Fit t) (sym (ap second p.2 ∙ second_of_pair world p.0 p.1)) p.4)))
   keeps (rule.of_table shapes n schema there) = λ slots fit.
       let rows = holds n schema there in
-      gets_as (Of (ty.Seq (ty.Row n))) _ _ (at_slots world slots (of_table world n) ∙ ap (table_value world) rows.1)
+      gets_as (Of (ty.Seq (ty.Row n))) _ _ (meaning_at world slots _ (form.outs-Table n) ∙ ap (table_value world) rows.1)
       (gets_ok (Of (ty.Seq (ty.Row n))) (value.Seq (map value.Row rows.0) end.Done)
       (by_sequence (ty.Seq (ty.Row n)) (ty.Row n) (map value.Row rows.0) end.Done (outs-Seq (ty.Row n))
       (every_map (HasCells world n) (Val (ty.Row n)) value.Row (λ r cells. by_row (ty.Row n) n r (outs-Row n) cells) rows.0 rows.2)))
   keeps (rule.of_column shapes row n c m t u h is name typed) = λ slots fit.
-      gets_as (Of u) _ _ (at_slots world slots (of_column world row n c))
+      gets_as (Of u) _ _ (meaning_at world slots _ (form.outs-Column row n c))
       (then_gets (Of t) (Of u) (mean row slots) (λ v. cell_in world n c (out-Value R v)) (keeps h slots fit)
       (λ v p. (column_step world slots n c m u name typed v (subst (λ (x : Ty). Val x v) (is_of_layer t ∙ ap type_with is) p)).1))
   keeps (rule.of_member shapes a place t ms m h is there) = λ slots fit.
-      gets_as (Of m.1) _ _ (at_slots world slots (of_member world a place))
+      gets_as (Of m.1) _ _ (meaning_at world slots _ (form.outs-Member a place))
       (then_gets (Of t) (Of m.1) (mean a slots) (λ v. member_at world place (out-Value R v)) (keeps h slots fit)
       (λ v p. member_gets t ms place m is there v p))
   keeps (rule.of_key shapes a t k u h is) = λ slots fit.
-      gets_as (Of k) _ _ (at_slots world slots (of_key world a))
+      gets_as (Of k) _ _ (meaning_at world slots _ (form.outs-Key a))
       (then_gets (Of t) (Of k) (mean a slots) (λ v. key_in world (out-Value R v)) (keeps h slots fit)
       (λ v p. (key_step world slots [] k u v (subst (λ (x : Ty). Val x v) (is_of_layer t ∙ ap type_with is) p)).1))
   keeps (rule.of_minus shapes a t h number) = λ slots fit.
@@ -288,16 +279,16 @@ module _ {R : Type 0} (world : World R) (holds : HoldsRows world) where
       (not_means world slots (tree_of t a) (tree_of ty.Bool (form.Unary op.Not a)) (mean a slots) (ap (λ (b : Bool). when b (Some (tree_of ty.Bool (form.Unary op.Not a)))) bool)
       (refl, keeps h slots fit)).1
   keeps (rule.of_has_value shapes a t h is) = λ slots fit.
-      gets_as (Of ty.Bool) _ _ (at_slots world slots (of_unary world op.HasValue a))
+      gets_as (Of ty.Bool) _ _ (meaning_at world slots _ (form.outs-Unary op.HasValue a))
       (gets_one op.HasValue t ty.Bool Ty-F.IntN Ty-F.Bool is outs-Bool refl has_value_given (mean a slots) (keeps h slots fit))
   keeps (rule.of_value shapes a t h is) = λ slots fit.
-      gets_as (Of ty.Int) _ _ (at_slots world slots (of_unary world op.Value a))
+      gets_as (Of ty.Int) _ _ (meaning_at world slots _ (form.outs-Unary op.Value a))
       (gets_one op.Value t ty.Int Ty-F.IntN Ty-F.Int is outs-Int refl value_given (mean a slots) (keeps h slots fit))
   keeps (rule.of_length shapes a t h is) = λ slots fit.
-      gets_as (Of ty.Int) _ _ (at_slots world slots (of_unary world op.Length a))
+      gets_as (Of ty.Int) _ _ (meaning_at world slots _ (form.outs-Unary op.Length a))
       (gets_one op.Length t ty.Int Ty-F.Str Ty-F.Int is outs-Int refl length_given (mean a slots) (keeps h slots fit))
   keeps (rule.of_search shapes a b m o s t h s_text k t_text named) = λ slots fit.
-      gets_as (Of ty.Bool) _ _ (at_slots world slots (of_binary world o a b))
+      gets_as (Of ty.Bool) _ _ (meaning_at world slots _ (form.outs-Binary o a b))
       (after (Of ty.Bool) (on_ok (mean a slots) (λ v. scalar_of world (out-Value R v))) _
       (λ x. after (Of ty.Bool) (on_ok (mean b slots) (λ v. scalar_of world (out-Value R v))) _ (λ y. search_gets o m named x y)))
   keeps (rule.of_sign shapes a b sign s t r h s_no k t_no typed) = λ slots fit.
@@ -306,7 +297,7 @@ module _ {R : Type 0} (world : World R) (holds : HoldsRows world) where
       (Some s) (Some t) (ap (option_map (λ u. tree_of u (binary_form sign (tree_of s a) (tree_of t b)))) typed) refl refl (refl, keeps h slots fit)
       (refl, keeps k slots fit)).1
   keeps (rule.of_is_null shapes wanted a t h object) = λ slots fit.
-      gets_as (Of ty.Bool) _ _ (at_slots world slots (of_is_null world wanted a))
+      gets_as (Of ty.Bool) _ _ (meaning_at world slots _ (form.outs-IsNull wanted a))
       (after (Of ty.Bool) (mean a slots) _ (λ v. gets_ok (Of ty.Bool) (truth_value _) (truth_is world _)))
   keeps (rule.of_and shapes a b s t h s_bool k t_bool) = λ slots fit.
       (and_means world slots (tree_of s a) (tree_of t b) (tree_of ty.Bool (form.And a b)) (mean a slots) (mean b slots)
@@ -322,41 +313,41 @@ module _ {R : Type 0} (world : World R) (holds : HoldsRows world) where
       (ap₂ (λ (x : Bool) (o : Option Ty). when x (option_map (λ u. tree_of u (form.Conditional c a b)) o)) q_bool typed) (refl, keeps g slots fit)
       (refl, keeps h slots fit) (refl, keeps k slots fit)).1
   keeps (rule.of_record shapes fields ms h) = λ slots fit.
-      gets_as (Of (ty.Rec ms)) _ _ (at_slots world slots (of_record world fields))
+      gets_as (Of (ty.Rec ms)) _ _ (meaning_at world slots _ (form.outs-Record fields))
       (record_fits (members_of world (map (map_field mean) fields) slots) ms (keeps h slots fit))
   keeps (rule.no_field shapes) = λ slots fit vs h. let same : [] ≡ vs = cc in subst (λ (us : List (List ℕ × Value R)). Fits world (AreMembers [] us)) same no_member
   keeps (rule.one_field shapes field fields t ms h k) = λ slots fit vs is.
       field_fits (mean field.value slots) (members_of world (map (map_field mean) fields) slots) field.name t ms (keeps h slots fit) (keeps k slots fit) vs is
   keeps (rule.of_pair shapes a b s t h k) = λ slots fit.
-      gets_as (Both s t) _ _ (at_slots world slots (of_pair world a b))
+      gets_as (Both s t) _ _ (meaning_at world slots _ (form.outs-Pair a b))
       (then_gets s (Both s t) (mean a slots) _ (keeps h slots fit)
       (λ v p. then_gets t (Both s t) (mean b slots) _ (keeps k slots fit) (λ w q. gets_ok (Both s t) (pair v w) (v, w, refl, p, q))))
   keeps (rule.of_sequence shapes a s h) = λ slots fit.
-      gets_as (Many s) _ _ (at_slots world slots (of_sequence world a)) (gets_sequence s (stream_of world (mean a slots)) (keeps h slots fit))
+      gets_as (Many s) _ _ (meaning_at world slots _ (form.outs-Sequence a)) (gets_sequence s (stream_of world (mean a slots)) (keeps h slots fit))
   keeps (rule.of_simple shapes method t r a h typed) = λ slots fit.
-      gets_as (Of r) _ _ (at_slots world slots (of_simple world method t a)) (simple_typed world method t r (stream_of world (mean a slots)) typed (keeps h slots fit))
+      gets_as (Of r) _ _ (meaning_at world slots _ (form.outs-Simple method t a)) (simple_typed world method t r (stream_of world (mean a slots)) typed (keeps h slots fit))
   keeps (rule.of_given shapes method t u r a b h k typed) = λ slots fit.
-      gets_as (Of r) _ _ (at_slots world slots (of_given world method a b))
+      gets_as (Of r) _ _ (meaning_at world slots _ (form.outs-Given method a b))
       (given_typed world world.unknown world.unknown method t u r (stream_of world (mean a slots)) typed (keeps h slots fit) (mean b slots) (mean b slots)
       (refl, keeps k slots fit)).1
   keeps (rule.of_through shapes method t u r a f h k typed) = λ slots fit.
-      gets_as (Of r) _ _ (at_slots world slots (of_through world method t u a f))
+      gets_as (Of r) _ _ (meaning_at world slots _ (form.outs-Through method t u a f))
       (through_typed world world.unknown world.unknown method t u r _ _ _ _ typed (λ truth v fits. refl)
       (λ v fits. (refl, keeps k (slots ++ v ∷ []) (one_more shapes slots (Of t) v fit fits))) (stream_of world (mean a slots)) (stream_of world (mean a slots))
       (refl, keeps h slots fit)).1
   keeps (rule.of_where shapes t u c a f s h k bool) = λ slots fit.
-      gets_as (Many s) _ _ (at_slots world slots (of_through world through.Where t u a f))
+      gets_as (Many s) _ _ (meaning_at world slots _ (form.outs-Through through.Where t u a f))
       (gets_sequence s _
       (where_alike (Fit s) (λ v. is_true world (mean f) (slots ++ v ∷ [])) (λ v. is_true world (mean f) (slots ++ v ∷ [])) (λ v p. refl)
       (stream_of world (mean a slots)) (stream_of world (mean a slots)) (refl, keeps h slots fit)).1)
   keeps (rule.of_select shapes t u a f s r h k) = λ slots fit.
-      gets_as (Many r) _ _ (at_slots world slots (of_through world through.Select t u a f))
+      gets_as (Many r) _ _ (meaning_at world slots _ (form.outs-Through through.Select t u a f))
       (gets_sequence r _
       (select_alike (Fit s) (Fit r) (λ v. mean f (slots ++ v ∷ [])) (λ v. mean f (slots ++ v ∷ []))
       (λ v p. (refl, keeps k (slots ++ v ∷ []) (one_more shapes slots s v fit p))) (stream_of world (mean a slots)) (stream_of world (mean a slots))
       (refl, keeps h slots fit)).1)
   keeps (rule.of_select_many shapes a inner result s u r h k l) = λ slots fit.
-      gets_as (Many r) _ _ (at_slots world slots (of_select_many world a inner result))
+      gets_as (Many r) _ _ (meaning_at world slots _ (form.outs-SelectMany a inner result))
       (gets_sequence r _
       (expand_alike (Fit s) (Fit u) (Fit r) (λ v. stream_of world (mean inner (slots ++ v ∷ []))) (λ v. stream_of world (mean inner (slots ++ v ∷ [])))
       (λ v w. mean result (slots ++ v ∷ w ∷ [])) (λ v w. mean result (slots ++ v ∷ w ∷ []))
@@ -364,7 +355,7 @@ module _ {R : Type 0} (world : World R) (holds : HoldsRows world) where
       (λ v p w q. (refl, keeps l (slots ++ v ∷ w ∷ []) (two_more shapes slots s u v w fit p q)))
       (stream_of world (mean a slots)) (stream_of world (mean a slots)) (refl, keeps h slots fit)).1)
   keeps (rule.of_join shapes a j s r u k l h inner outer_key inner_key comparable result) = λ slots fit.
-      gets_as (Many r) _ _ (at_slots world slots (of_join world a j))
+      gets_as (Many r) _ _ (meaning_at world slots _ (form.outs-Join a j))
       (gets_sequence r _
       (join_alike (Fit s) (Val (matched_items j.grouped u)) (Fit r) (Val k) (Pair (Val l) (Val u)) (λ v. mean j.outer_key (slots ++ v ∷ []))
       (λ v. mean j.outer_key (slots ++ v ∷ [])) (matched world j.grouped) (matched world j.grouped) (λ v w. mean j.result (slots ++ v ∷ w ∷ []))
@@ -381,14 +372,14 @@ module _ {R : Type 0} (world : World R) (holds : HoldsRows world) where
       )
       (stream_of world (mean a slots)) (stream_of world (mean a slots)) (refl, keeps h slots fit)).1)
   keeps (rule.of_order shapes a ks s h k) = λ slots fit.
-      gets_as (Many s) _ _ (at_slots world slots (of_order world a ks))
+      gets_as (Many s) _ _ (meaning_at world slots _ (form.outs-OrderBy a ks))
       (gets_sequence s _
       (order_alike (Fit s) (λ (x : SortKey (Means R)). x.descending) (sort_key world slots) (sort_key world slots) (map (map_key mean) ks)
       (keys_alike s (sort_key world slots) (map (map_key mean) ks)) (stream_of world (mean a slots)) (stream_of world (mean a slots)) (refl, keeps h slots fit)).1)
   keeps (rule.no_key shapes) = tt
   keeps (rule.one_key shapes k ks t h sortable others) = tt
   keeps (rule.of_group shapes a key element s k e h key_typed is_key element_typed) = λ slots fit.
-      gets_as (Many (Of (ty.Group k e))) _ _ (at_slots world slots (of_group world a key element))
+      gets_as (Many (Of (ty.Group k e))) _ _ (meaning_at world slots _ (form.outs-GroupBy a key element))
       (gets_sequence (Of (ty.Group k e)) _
       (group_alike (Fit s) (Val k) (Val e) (Val (ty.Group k e)) same_keys (λ v. mean key (slots ++ v ∷ [])) (λ v. mean key (slots ++ v ∷ []))
       (λ v. mean element (slots ++ v ∷ [])) (λ v. mean element (slots ++ v ∷ [])) as_group

@@ -1,10 +1,8 @@
 -- The tree of a node is typed, if the same is so of the expressions in it.
-use Rattle.std.proofs.Common.{◌≡◌, ◌∷◌, ◌++◌, ◌+◌, ◌&&◌, if◌then◌else◌, List, [], map, length, ℕ, Bool, true, false, Option, Some, None, ap, ◌∙◌, sym, refl, subst, bytes_eq, codes, true≢false, option_and_then, option_map, slice_get}
+use Rattle.std.proofs.Common.{◌≡◌, ◌∷◌, ◌++◌, ◌+◌, ◌&&◌, if◌then◌else◌, List, [], map, length, ℕ, Bool, true, false, Option, Some, None, ap, ◌∙◌, sym, refl, subst, true≢false, option_and_then, option_map, slice_get}
+use Rattle.std.proofs.lemmas.Bool.{and_parts}
 use Rattle.std.proofs.lemmas.Option.{none-some, option_and_then_some, same_Some}
-use Rattle.std.proofs.lemmas.Slice.Eq.{bytes_eq-Decides}
-use Rattle.std.specs.List.{position_from}
 use Rattle.lq_value.specs.declared.scalar.Scalar.TheVariants as scalar
-use Rattle.lq_value.specs.declared.table.Column.{Column}
 use Rattle.lq_value.specs.declared.table.Schema.{Schema}
 use Rattle.lq_value.specs.declared.ty.Ty.{Ty, out-Ty}
 use Rattle.lq_value.specs.declared.ty.Ty.TheOpen.{Ty-F}
@@ -16,13 +14,12 @@ use Rattle.lq_language.specs.ValuesOfTypes.{Every, IsScalarOf}
 use Rattle.lq_language.specs.Members.{search_named, sole_argument}
 use Rattle.lq_language.specs.Operations.{operation_of}
 use Rattle.lq_language.specs.Operators.{Pattern, One, With as Pair}
-use Rattle.lq_language.specs.Types.{element_type, is_fresh, is_within, when}
-use Rattle.lq_language.specs.Names.{column_named, table_number, type_of_column}
-use Rattle.lq_language.specs.OperandTypes.{are_comparable, are_joined, coalesced, is_bool, is_equality, is_number, is_text, joined_type, result_type, truth_type}
+use Rattle.lq_language.specs.Types.{element_type, is_fresh, is_within}
+use Rattle.lq_language.specs.Names.{table_number, type_of_column}
+use Rattle.lq_language.specs.OperandTypes.{coalesced, is_bool, is_equality, is_number, is_text}
 use Rattle.lq_language.specs.Meaning.{is_sequence_layer}
-use Rattle.lq_language.specs.Typing.{are_null_tests, given_type, simple_type, through_type, whole_chosen, whole_operated_type}
+use Rattle.lq_language.specs.Typing.{given_type, simple_type, through_type, type_of_choice, type_of_operation}
 use Rattle.lq_language.specs.declared.operation.Op.{Op}
-use Rattle.lq_language.specs.declared.operation.Op.TheVariants as op
 use Rattle.lq_grammar.specs.declared.syntax.Argument.{Argument}
 use Rattle.lq_grammar.specs.declared.syntax.Binary.{Binary}
 use Rattle.lq_grammar.specs.declared.syntax.Binary.TheVariants as binary
@@ -31,21 +28,22 @@ use Rattle.lq_grammar.specs.declared.syntax.Node.{Node}
 use Rattle.lq_grammar.specs.declared.syntax.Node.TheVariants as node
 use Rattle.lq_grammar.specs.declared.syntax.Unary.{Unary}
 use Rattle.lq_grammar.specs.declared.syntax.Unary.TheVariants as unary
-use Rattle.lq_language.proofs.ItemLaws.{every_more, first_of, others_of, table_there}
-use Rattle.lq_language.proofs.FindingLaws.{if_by, map_by, when_by}
+use Rattle.lq_language.proofs.ItemLaws.{every_more, table_there}
+use Rattle.lq_language.proofs.FindingLaws.{map_by, when_by}
 use Rattle.lq_language.proofs.TypingLaws.{is_of_layer, type_with}
-use Rattle.lq_tree.specs.Binding.{Binds, and_tree, binary_form, binary_tree, called_tree, coalesce_tree, column_tree, conditional_tree, enumerable_tree, field_tree, fields_tree, form_of_field, gathered, global_tree, is_literal, is_object, lambda_tree, member_layer, member_tree, name_tree, node_tree, of_two_trees, operation_at, or_tree, placed_tree, record_tree, search_form, search_tree, settled_tree, tested_first, tested_second, tree_of, type_of_field, unary_tree, within_tree}
-use Rattle.lq_tree.specs.FormMeaning.{column_name}
-use Rattle.lq_tree.specs.Places.{Place, Places, SessionPlace, names_of_places, place_of, places_of, session_place, with_item, with_name}
+use Rattle.lq_language.proofs.ValueLaws.{is_plain}
+use Rattle.lq_tree.specs.Binding.{Binds, and_tree, binary_form, binary_tree, called_tree, coalesce_tree, conditional_tree, enumerable_tree, field_tree, fields_tree, form_of_field, gathered, global_tree, is_literal, is_object, lambda_tree, member_layer, member_tree, name_tree, node_tree, of_two_trees, operation_at, or_tree, placed_tree, record_tree, search_form, search_tree, settled_tree, tested_first, tested_second, type_of_field, unary_tree, within_tree}
+use Rattle.lq_tree.specs.Places.{Place, Places, names_of_places, place_of, places_of, session_place, with_item, with_name}
 use Rattle.lq_tree.specs.TypedForms.{Both, Gives, IsTyped, IsTypedForm, Many, Members, Of, Shape, shape_of, with_slot}
 use Rattle.lq_tree.specs.TypedForms as rule
 use Rattle.lq_tree.specs.TypedFormLaws.{AreTyped}
 use Rattle.lq_tree.specs.declared.tree.Form.{Form, out-Form}
 use Rattle.lq_tree.specs.declared.tree.Form.TheVariants as form
 use Rattle.lq_tree.specs.declared.tree.Tree.{Tree}
-use Rattle.lq_tree.proofs.MeansMembers.{first_passes}
+use Rattle.lq_tree.proofs.MemberTrees.{Member, a_column, a_key, a_member, column_known, has_value, its_length, its_value, member_by}
+use Rattle.lq_tree.proofs.OperandLemmas.{computed_plain, type_of_computed, type_of_equality}
 use Rattle.lq_tree.proofs.ScopeLaws.{append_behind, append_none, at_end, length_one_more}
-use Rattle.lq_tree.proofs.TypeLaws.{column_first, first_position, first_with, get_at}
+use Rattle.lq_tree.proofs.TypeLaws.{place_holds, session_place_holds}
 use Rattle.lq_tree.proofs.WalkLaws.{gathered_all, traversed}
 
 -- ---- which operator a sign is
@@ -54,53 +52,17 @@ operation_same : (sign : Binary) (k l : Ty-F Ty) → is_equality sign ≡ true �
 operation_same binary.Add k l h = absurd (true≢false (sym h))
 operation_same sign k l h = refl
 
-joined_no_object : (k l : Ty-F Ty) → are_joined k l ≡ true → (is_object k ≡ false) × (is_object l ≡ false)
-joined_no_object Ty-F.Str Ty-F.Str h = (refl, refl)
-joined_no_object Ty-F.Str Ty-F.Null h = (refl, refl)
-joined_no_object Ty-F.Null Ty-F.Str h = (refl, refl)
-joined_no_object k l h = absurd (true≢false (sym h))
-
-number_no_object : (layer : Ty-F Ty) → is_number layer ≡ true → is_object layer ≡ false
-number_no_object Ty-F.Int h = refl
-number_no_object Ty-F.IntN h = refl
-number_no_object layer h = absurd (true≢false (sym h))
-
-both_true : (a b : Bool) → (a && b) ≡ true → (a ≡ true) × (b ≡ true)
-both_true true b h = (refl, h)
-both_true false b h = absurd (true≢false (sym h))
+plain_no_object : (layer : Ty-F Ty) → is_plain layer ≡ true → is_object layer ≡ false
+plain_no_object (Ty-F.Row n) h = absurd (true≢false (sym h))
+plain_no_object (Ty-F.Rec ms) h = absurd (true≢false (sym h))
+plain_no_object (Ty-F.Group k t) h = absurd (true≢false (sym h))
+plain_no_object layer h = refl
 
 -- what is computed has operands that are scalars
-no_object : (sign : Binary) (k l : Ty-F Ty) (r : Ty) → is_equality sign ≡ false → whole_operated_type sign k l ≡ Some r
+no_object : (sign : Binary) (k l : Ty-F Ty) (r : Ty) → is_equality sign ≡ false → type_of_operation sign k l ≡ Some r
     → (is_object k ≡ false) × (is_object l ≡ false)
 no_object sign k l r other h =
-    by (is_number k && is_number l) refl
-    (sym (ap (λ (c : Bool). if c && are_null_tests k l then Some ty.Bool
-    else (if c then truth_type (are_comparable k l) else (if is_number k && is_number l then Some (result_type sign k l) else joined_type sign k l))) other) ∙ h)
-  where
-    joins : (s : Binary) → joined_type s k l ≡ Some r → (is_object k ≡ false) × (is_object l ≡ false)
-    joins binary.Add found = if_by (are_joined k l) ty.Str r found (λ joined is. joined_no_object k l joined)
-    joins s found = absurd (none-some r found)
-
-    by : (b : Bool) → (is_number k && is_number l) ≡ b → (if b then Some (result_type sign k l) else joined_type sign k l) ≡ Some r
-        → (is_object k ≡ false) × (is_object l ≡ false)
-    by true numbers found =
-        let are = both_true (is_number k) (is_number l) numbers in (number_no_object k are.0, number_no_object l are.1)
-    by false numbers found = joins sign found
-
--- the type of what `==` tells
-told_type : (sign : Binary) (k l : Ty-F Ty) (r : Ty) → is_equality sign ≡ true → whole_operated_type sign k l ≡ Some r → ty.Bool ≡ r
-told_type sign k l r same h =
-    by (are_null_tests k l) (are_comparable k l)
-    (sym (ap (λ (c : Bool). if c && are_null_tests k l then Some ty.Bool
-    else (if c then truth_type (are_comparable k l) else (if is_number k && is_number l then Some (result_type sign k l) else joined_type sign k l))) same) ∙ h)
-  where
-    by : (a b : Bool) → (if a then Some ty.Bool else truth_type b) ≡ Some r → ty.Bool ≡ r
-    by true b found = same_Some ty.Bool r found
-    by false true found = same_Some ty.Bool r found
-    by false false found = absurd (none-some r found)
-
-name_is : (xs ys : List ℕ) → bytes_eq xs ys ≡ true → xs ≡ ys
-name_is xs ys h = (bytes_eq-Decides xs ys).0 h
+    let plain = computed_plain sign k l r (type_of_computed sign k l r other h) in (plain_no_object k plain.0, plain_no_object l plain.1)
 
 module _ (schemas : List Schema) where
   abbrev pub Typed : List Shape → Form → Shape → Type 0
@@ -135,7 +97,7 @@ module _ (schemas : List Schema) where
     by false = rule.of_second shapes (form.Pair a b) (Of s) (Of t) (rule.of_pair shapes a b (Of s) (Of t) h k)
 
   binary_typed : (shapes : List Shape) (sign : Binary) (a b : Tree) (r : Ty) → IsTypedTree shapes a → IsTypedTree shapes b
-      → whole_operated_type sign (out-Ty a.ty) (out-Ty b.ty) ≡ Some r → Typed shapes (binary_form sign a b) (Of r)
+      → type_of_operation sign (out-Ty a.ty) (out-Ty b.ty) ≡ Some r → Typed shapes (binary_form sign a b) (Of r)
   binary_typed shapes sign a b r h k found =
       by (is_equality sign) (is_object (out-Ty a.ty)) (is_object (out-Ty b.ty)) refl refl refl
     where
@@ -145,11 +107,11 @@ module _ (schemas : List Schema) where
           else form.Binary (operation_at sign (out-Ty a.ty) (out-Ty b.ty)) a.form b.form) (Of r)
       by true true e c_is d_is e_is =
           subst (λ (t : Ty). Typed shapes (form.IsNull (told sign true) (tested_first a.form b.form)) (Of t))
-          (told_type sign (out-Ty a.ty) (out-Ty b.ty) r c_is found)
+          (type_of_equality sign (out-Ty a.ty) (out-Ty b.ty) r c_is found).1
           (rule.of_is_null shapes (told sign true) (tested_first a.form b.form) a.ty (first_typed shapes a.form b.form a.ty b.ty h k) d_is)
       by true false true c_is d_is e_is =
           subst (λ (t : Ty). Typed shapes (form.IsNull (told sign true) (tested_second a.form b.form)) (Of t))
-          (told_type sign (out-Ty a.ty) (out-Ty b.ty) r c_is found)
+          (type_of_equality sign (out-Ty a.ty) (out-Ty b.ty) r c_is found).1
           (rule.of_is_null shapes (told sign true) (tested_second a.form b.form) b.ty (second_typed shapes a.form b.form a.ty b.ty h k) e_is)
       by true false false c_is d_is e_is =
           subst (λ (o : Op). Typed shapes (form.Binary o a.form b.form) (Of r)) (operation_same sign (out-Ty a.ty) (out-Ty b.ty) c_is)
@@ -189,65 +151,23 @@ module _ (schemas : List Schema) where
     session = known.session;
   }
 
-  -- the place that a name has is one of them
-  place_there : {P : Place → Type 0} (x : List ℕ) (places : List Place) → Every P places → (place : Place) → place_of x places ≡ Some place → P place
-  place_there x [] all place h = absurd (none-some place h)
-  place_there {P} x (p ∷ places) all place h = by (bytes_eq p.name x) h (place_there x places (others_of P p places all) place) where
-    by : (b : Bool) → (if b then Some p else place_of x places) ≡ Some place → (place_of x places ≡ Some place → P place) → P place
-    by true is rest = subst P (same_Some p place is) (first_of P p places all)
-    by false is rest = rest is
-
-  session_there : {P : SessionPlace → Type 0} (x : List ℕ) (places : List SessionPlace) → Every P places → (place : SessionPlace)
-      → session_place x places ≡ Some place → P place
-  session_there x [] all place h = absurd (none-some place h)
-  session_there {P} x (p ∷ places) all place h = by (bytes_eq p.known.name x) h (session_there x places (others_of P p places all) place) where
-    by : (b : Bool) → (if b then Some p else session_place x places) ≡ Some place → (session_place x places ≡ Some place → P place) → P place
-    by true is rest = subst P (same_Some p place is) (first_of P p places all)
-    by false is rest = rest is
-
   -- ---- members
 
-  column_typed : (shapes : List Shape) (m : List ℕ) (t : Ty) (n : ℕ) (a : Form) (r : Tree) → out-Ty t ≡ Ty-F.Row n → Typed shapes a (Of t)
-      → option_and_then (column_tree m n a) (slice_get schemas n) ≡ Some r → IsTypedTree shapes r
-  column_typed shapes m t n a r is h found =
-      option_and_then_some _ (slice_get schemas n) r found
-      (λ schema there more. option_and_then_some _ (position_from (λ (column : Column). bytes_eq column.name m) 0 schema.columns) r more
-      (λ c position made. map_by _ (slice_get schema.columns c) r made
-      (λ column at same. subst (IsTypedTree shapes) same
-      (let first : first_with (λ (d : Column). bytes_eq d.name m) schema.columns ≡ Some column =
-      sym (first_position (λ (d : Column). bytes_eq d.name m) schema.columns) ∙ ap (get_at schema.columns) position ∙ at in
-      rule.of_column shapes a n c m t (type_of_column column.ty) h is
-      (ap (option_and_then (column_name c)) there ∙ ap (option_map (λ (d : Column). d.name)) at
-      ∙ ap Some (name_is column.name m (first_passes _ schema.columns column first)))
-      (ap (option_and_then (λ (s : Schema). option_map (λ (d : Column). type_of_column d.ty) (column_named m s.columns))) there
-      ∙ ap (option_map (λ (d : Column). type_of_column d.ty)) (sym (column_first m schema.columns) ∙ first))))))
-
   layer_typed : (shapes : List Shape) (m : List ℕ) (t : Ty) (layer : Ty-F Ty) (a : Form) (r : Tree) → out-Ty t ≡ layer → Typed shapes a (Of t)
-      → member_layer schemas m a layer ≡ Some r → IsTypedTree shapes r
-  layer_typed shapes m t (Ty-F.Row n) a r is h found = column_typed shapes m t n a r is h found
-  layer_typed shapes m t (Ty-F.Rec ms) a r is h found =
-      option_and_then_some _ (position_from (λ (d : List ℕ × Ty). bytes_eq m d.0) 0 ms) r found
-      (λ place position made. map_by _ (slice_get ms place) r made
-      (λ member there same. subst (IsTypedTree shapes) same (rule.of_member shapes a place t ms member h is there)))
-  layer_typed shapes m t (Ty-F.Group k u) a r is h found =
-      when_by (bytes_eq m (codes "Key")) _ r found (λ named same. subst (IsTypedTree shapes) (same_Some _ r same) (rule.of_key shapes a t k u h is))
-  layer_typed shapes m t Ty-F.IntN a r is h found = by (bytes_eq m (codes "HasValue")) found where
-    by : (b : Bool) → (if b then Some (tree_of ty.Bool (form.Unary op.HasValue a)) else when (bytes_eq m (codes "Value")) (Some (tree_of ty.Int (form.Unary op.Value a)))) ≡ Some r
-        → IsTypedTree shapes r
-    by true made = subst (IsTypedTree shapes) (same_Some _ r made) (rule.of_has_value shapes a t h is)
-    by false made =
-        when_by (bytes_eq m (codes "Value")) _ r made (λ named same. subst (IsTypedTree shapes) (same_Some _ r same) (rule.of_value shapes a t h is))
-  layer_typed shapes m t Ty-F.Str a r is h found =
-      when_by (bytes_eq m (codes "Length")) _ r found (λ named same. subst (IsTypedTree shapes) (same_Some _ r same) (rule.of_length shapes a t h is))
-  layer_typed shapes m t Ty-F.Int a r is h found = absurd (none-some r found)
-  layer_typed shapes m t Ty-F.Bool a r is h found = absurd (none-some r found)
-  layer_typed shapes m t Ty-F.Null a r is h found = absurd (none-some r found)
-  layer_typed shapes m t (Ty-F.Seq u) a r is h found = absurd (none-some r found)
+      → Member schemas m a layer r → IsTypedTree shapes r
+  layer_typed shapes m t _ a _ is h (a_column n c schema column there named at) =
+      let known = column_known schemas m a n c schema column there named at in
+      rule.of_column shapes a n c m t (type_of_column column.ty) h is known.0 known.1
+  layer_typed shapes m t _ a _ is h (a_member ms place member named there) = rule.of_member shapes a place t ms member h is there
+  layer_typed shapes m t _ a _ is h (a_key k u) = rule.of_key shapes a t k u h is
+  layer_typed shapes m t _ a _ is h (has_value named) = rule.of_has_value shapes a t h is
+  layer_typed shapes m t _ a _ is h (its_value named) = rule.of_value shapes a t h is
+  layer_typed shapes m t _ a _ is h (its_length named) = rule.of_length shapes a t h is
 
   member_typed : (shapes : List Shape) (m : List ℕ) (a r : Tree) → IsTypedTree shapes a → member_tree schemas m a ≡ Some r → IsTypedTree shapes r
   member_typed shapes m a r h found =
       map_by settled_tree (member_layer schemas m a.form (out-Ty a.ty)) r found
-      (λ x there is. subst (IsTypedTree shapes) is (settled_typed shapes x (layer_typed shapes m a.ty (out-Ty a.ty) a.form x refl h there)))
+      (λ x there is. subst (IsTypedTree shapes) is (settled_typed shapes x (layer_typed shapes m a.ty (out-Ty a.ty) a.form x refl h (member_by schemas m a.form (out-Ty a.ty) x there))))
 
   -- ---- operators
 
@@ -263,19 +183,19 @@ module _ (schemas : List Schema) where
 
   binary_joins : (shapes : List Shape) (sign : Binary) → Joins shapes (binary_tree sign)
   binary_joins shapes sign x y r h k found =
-      map_by _ (whole_operated_type sign (out-Ty x.ty) (out-Ty y.ty)) r found
+      map_by _ (type_of_operation sign (out-Ty x.ty) (out-Ty y.ty)) r found
       (λ t typed is. subst (IsTypedTree shapes) is (binary_typed shapes sign x y t h k typed))
 
   and_joins : (shapes : List Shape) → Joins shapes and_tree
   and_joins shapes x y r h k found =
       when_by (is_bool (out-Ty x.ty) && is_bool (out-Ty y.ty)) _ r found
-      (λ truths is. let are = both_true (is_bool (out-Ty x.ty)) (is_bool (out-Ty y.ty)) truths in
+      (λ truths is. let are = and_parts (is_bool (out-Ty x.ty)) (is_bool (out-Ty y.ty)) truths in
       subst (IsTypedTree shapes) (same_Some _ r is) (rule.of_and shapes x.form y.form x.ty y.ty h are.0 k are.1))
 
   or_joins : (shapes : List Shape) → Joins shapes or_tree
   or_joins shapes x y r h k found =
       when_by (is_bool (out-Ty x.ty) && is_bool (out-Ty y.ty)) _ r found
-      (λ truths is. let are = both_true (is_bool (out-Ty x.ty)) (is_bool (out-Ty y.ty)) truths in
+      (λ truths is. let are = and_parts (is_bool (out-Ty x.ty)) (is_bool (out-Ty y.ty)) truths in
       subst (IsTypedTree shapes) (same_Some _ r is) (rule.of_or shapes x.form y.form x.ty y.ty h are.0 k are.1))
 
   coalesce_joins : (shapes : List Shape) → Joins shapes coalesce_tree
@@ -286,7 +206,7 @@ module _ (schemas : List Schema) where
   choice_joins : (shapes : List Shape) (c : Tree) → IsTypedTree shapes c → Joins shapes (conditional_tree c)
   choice_joins shapes c g x y r h k found =
       when_by (is_bool (out-Ty c.ty)) _ r found
-      (λ truth more. map_by _ (whole_chosen (out-Ty x.ty) (out-Ty y.ty)) r more
+      (λ truth more. map_by _ (type_of_choice (out-Ty x.ty) (out-Ty y.ty)) r more
       (λ t typed is. subst (IsTypedTree shapes) is (rule.of_conditional shapes c.form x.form y.form c.ty x.ty y.ty t g truth h k typed)))
 
   module _ {X : Type 0} (tree : X → Binds)
@@ -305,13 +225,13 @@ module _ (schemas : List Schema) where
         map_by _ (session_place x places.session) r h
         (λ place there same. subst (IsTypedTree shapes) same
         (subst (λ (n : ℕ). Typed shapes (place.form n) (Of place.known.ty)) known.depth
-        (session_there {P = λ q. (slots : List Shape) → Typed slots (q.form (length slots)) (Of q.known.ty)} x places.session known.session place there shapes)))
+        (session_place_holds {P = λ q. (slots : List Shape) → Typed slots (q.form (length slots)) (Of q.known.ty)} x places.session known.session place there shapes)))
 
     name_typed : (x : List ℕ) (o : Option Place) → place_of x places.locals ≡ o → (r : Tree) → name_tree schemas places x o ≡ Some r → IsTypedTree shapes r
     name_typed x (Some place) is r h =
         subst (IsTypedTree shapes) (same_Some _ r h)
         (subst (λ (s : List Shape). Typed s place.form (Of place.ty)) (append_none shapes)
-        (place_there {P = Stays shapes} x places.locals known.locals place is []))
+        (place_holds {P = Stays shapes} x places.locals known.locals place is []))
     name_typed x None is r h = global_typed x (table_number x schemas) refl r h
 
     -- ---- operators

@@ -1,26 +1,23 @@
 -- The places of a statement are typed: a variable's form is a literal of its type, and a named query's the tree of its expression.
-use Rattle.std.proofs.Common.{◌∷◌, ◌++◌, List, [], length, ℕ, Option, ap, sym, refl, subst}
+use Rattle.std.proofs.Common.{◌++◌, List, [], length, ℕ, Option, ap, sym, refl, subst}
 use Rattle.lq_value.specs.declared.table.Schema.{Schema}
 use Rattle.lq_value.specs.declared.ty.Ty.{Ty}
 use Rattle.lq_value.specs.declared.ty.Ty.TheVariants as ty
-use Rattle.lq_machine.specs.DefinitionLaws.{AreDefinedAfter, IsDefined}
+use Rattle.lq_machine.specs.DefinitionLaws.{IsDefined}
 use Rattle.lq_machine.specs.Definitions.{known_as}
 use Rattle.lq_language.specs.Worlds.{or_null}
 use Rattle.lq_language.specs.ValuesOfTypes.{Every}
-use Rattle.lq_language.specs.Names.{SessionName}
 use Rattle.lq_machine.specs.declared.session.Defined.{Defined}
 use Rattle.lq_machine.specs.declared.session.Defined.TheVariants as of
-use Rattle.lq_machine.specs.declared.session.Definition.{Definition}
-use Rattle.lq_language.proofs.AlikeStreamLaws.{every_append}
-use Rattle.lq_language.proofs.ItemLaws.{every_more, every_none}
+use Rattle.lq_language.proofs.ItemLaws.{every_none}
 use Rattle.lq_tree.specs.Binding.{tree_of}
 use Rattle.lq_tree.specs.Places.{Place, SessionPlace}
-use Rattle.lq_tree.specs.SessionPlaces.{defined_form, form_or_null, known_of, placed_after, placed_as, places_outside, session_places, statement_places}
+use Rattle.lq_tree.specs.SessionPlaces.{defined_form, form_or_null, known_of, places_outside, session_places, statement_places}
 use Rattle.lq_tree.specs.TypedForms.{IsTypedForm, Of, Shape}
 use Rattle.lq_tree.specs.TypedForms as rule
 use Rattle.lq_tree.specs.TypedFormLaws.{PlacesAreTyped, TypedStatements}
 use Rattle.lq_tree.specs.declared.tree.Tree.{Tree}
-use Rattle.lq_tree.proofs.SessionPlaceLaws.{known_so_far, query_tree}
+use Rattle.lq_tree.proofs.SessionPlaceLaws.{every_placed, query_tree}
 use Rattle.lq_tree.proofs.TypedTerms.{typed_expressions}
 
 module _ (schemas : List Schema) where
@@ -40,21 +37,13 @@ module _ (schemas : List Schema) where
       (record { depth = refl; locals = every_none (λ (place : Place). (more : List Shape) → IsTypedForm schemas (slots ++ more) place.form (Of place.ty)); session = all })
       (tree_of (ty.Seq is.0) there.0) there.1))
 
-  typed_behind : (earlier : List SessionPlace) → Every IsTypedPlace earlier → (ds : List Definition) → AreDefinedAfter schemas (known_of earlier) ds
-      → Every IsTypedPlace (placed_after schemas earlier ds)
-  typed_behind earlier typed [] all = typed
-  typed_behind earlier typed (d ∷ ds) all =
-      typed_behind (earlier ++ placed_as schemas earlier d ∷ [])
-      (every_append IsTypedPlace earlier (placed_as schemas earlier d ∷ []) typed
-      (every_more IsTypedPlace (placed_as schemas earlier d) [] (defined_typed earlier typed d.name d.defined all.0) (every_none IsTypedPlace))) ds
-      (subst (λ (names : List SessionName). AreDefinedAfter schemas names ds) (sym (known_so_far schemas earlier d)) all.1)
-
 pub places_are_typed : PlacesAreTyped
 unfolding session_places
 places_are_typed schemas definitions all = record {
   depth = refl;
   locals = every_none (λ (place : Place). (more : List Shape) → IsTypedForm schemas ([] ++ more) place.form (Of place.ty));
-  session = typed_behind schemas [] (every_none (IsTypedPlace schemas)) definitions all;
+  session = every_placed schemas (IsTypedPlace schemas) (λ earlier typed d is. defined_typed schemas earlier typed d.name d.defined is) []
+      (every_none (IsTypedPlace schemas)) definitions all;
 }
 
 pub typed_statements : TypedStatements

@@ -12,7 +12,7 @@ use Rattle.lq_tree.specs.Places.{Places}
 use Rattle.lq_tree.specs.TypedForms.{Shape}
 use Rattle.lq_tree.specs.TypedFormLaws.{AreTyped, TypedCalls, TypedExpressions, TypedTrees}
 use Rattle.lq_tree.specs.declared.tree.Tree.{Tree}
-use Rattle.lq_tree.proofs.Layers.{Such, of_every, plain}
+use Rattle.lq_translate.proofs.LayerLaws.{Such, of_every, plain}
 use Rattle.lq_tree.proofs.TreePullLaws.{call_pull, node_pull, tree_of_call, tree_of_node}
 use Rattle.lq_tree.proofs.TypedCalls.{call_typed}
 use Rattle.lq_tree.proofs.TypedNodes.{IsTypedTree, node_typed}

@@ -20,7 +20,7 @@ use Rattle.lq_language.specs.Types.{are_join_keys, element_type, has_place, is_f
 use Rattle.lq_language.specs.Names.{table_number, type_of_column}
 use Rattle.lq_language.specs.OperandTypes.{coalesced, is_bool, is_equality, is_number, is_text}
 use Rattle.lq_language.specs.Meaning.{is_sequence_layer}
-use Rattle.lq_language.specs.Typing.{are_distinct, given_type, simple_type, through_type, whole_chosen, whole_operated_type}
+use Rattle.lq_language.specs.Typing.{are_distinct, given_type, simple_type, through_type, type_of_choice, type_of_operation}
 use Rattle.lq_language.specs.declared.calls.Call.{Call}
 use Rattle.lq_language.specs.declared.calls.Operator.{Operator}
 use Rattle.lq_language.specs.declared.calls.Operator.TheVariants as operator
@@ -109,7 +109,7 @@ binary_form sign a b =
     if is_equality sign then equality_form sign a b else form.Binary (operation_at sign (out-Ty a.ty) (out-Ty b.ty)) a.form b.form
 
 abbrev pub binary_tree : Binary → Tree → Tree → Option Tree
-binary_tree sign a b = typed_tree (whole_operated_type sign (out-Ty a.ty) (out-Ty b.ty)) (binary_form sign a b)
+binary_tree sign a b = typed_tree (type_of_operation sign (out-Ty a.ty) (out-Ty b.ty)) (binary_form sign a b)
 
 abbrev pub unary_tree : Unary → Tree → Option Tree
 unary_tree unary.Minus a = when (is_number (out-Ty a.ty)) (Some (tree_of a.ty (form.Unary op.Minus a.form)))
@@ -126,7 +126,7 @@ coalesce_tree a b = typed_tree (coalesced (out-Ty a.ty) (out-Ty b.ty)) (form.Coa
 
 abbrev pub conditional_tree : Tree → Tree → Tree → Option Tree
 conditional_tree c a b =
-    when (is_bool (out-Ty c.ty)) (typed_tree (whole_chosen (out-Ty a.ty) (out-Ty b.ty)) (form.Conditional c.form a.form b.form))
+    when (is_bool (out-Ty c.ty)) (typed_tree (type_of_choice (out-Ty a.ty) (out-Ty b.ty)) (form.Conditional c.form a.form b.form))
 
 -- what two operands that are bound give, and three
 abbrev pub of_two_trees : (Tree → Tree → Option Tree) → Option Tree → Option Tree → Option Tree

@@ -12,7 +12,7 @@ use Rattle.lq_language.specs.Operators.{Pattern, One, With, pair_type}
 use Rattle.lq_language.specs.Types.{are_join_keys, element_type, is_key, is_sort_key}
 use Rattle.lq_language.specs.Names.{column_type}
 use Rattle.lq_language.specs.OperandTypes.{coalesced, is_bool, is_number, is_text}
-use Rattle.lq_language.specs.Typing.{given_type, simple_type, through_type, whole_chosen, whole_operated_type}
+use Rattle.lq_language.specs.Typing.{given_type, simple_type, through_type, type_of_choice, type_of_operation}
 use Rattle.lq_language.specs.declared.methods.Given.{Given}
 use Rattle.lq_language.specs.declared.methods.Simple.{Simple}
 use Rattle.lq_language.specs.declared.methods.Through.{Through}
@@ -102,7 +102,7 @@ module _ (schemas : List Schema) where
         → IsTyped (Has slots b (Of t)) → is_text (out-Ty t) ≡ true → search_named m ≡ Some o → IsTyped (Has slots (form.Binary o a b) (Of ty.Bool))
     -- a sign between scalars; rows, records and groups are asked only whether they are null
     of_sign : (slots : List Shape) (a b : Form) (sign : Binary) (s t r : Ty) → IsTyped (Has slots a (Of s)) → is_object (out-Ty s) ≡ false
-        → IsTyped (Has slots b (Of t)) → is_object (out-Ty t) ≡ false → whole_operated_type sign (out-Ty s) (out-Ty t) ≡ Some r
+        → IsTyped (Has slots b (Of t)) → is_object (out-Ty t) ≡ false → type_of_operation sign (out-Ty s) (out-Ty t) ≡ Some r
         → IsTyped (Has slots (form.Binary (operation_at sign (out-Ty s) (out-Ty t)) a b) (Of r))
     of_is_null : (slots : List Shape) (wanted : Bool) (a : Form) (t : Ty) → IsTyped (Has slots a (Of t)) → is_object (out-Ty t) ≡ true
         → IsTyped (Has slots (form.IsNull wanted a) (Of ty.Bool))
@@ -113,7 +113,7 @@ module _ (schemas : List Schema) where
     of_coalesce : (slots : List Shape) (a b : Form) (s t r : Ty) → IsTyped (Has slots a (Of s)) → IsTyped (Has slots b (Of t))
         → coalesced (out-Ty s) (out-Ty t) ≡ Some r → IsTyped (Has slots (form.Coalesce a b) (Of r))
     of_conditional : (slots : List Shape) (c a b : Form) (q s t r : Ty) → IsTyped (Has slots c (Of q)) → is_bool (out-Ty q) ≡ true
-        → IsTyped (Has slots a (Of s)) → IsTyped (Has slots b (Of t)) → whole_chosen (out-Ty s) (out-Ty t) ≡ Some r
+        → IsTyped (Has slots a (Of s)) → IsTyped (Has slots b (Of t)) → type_of_choice (out-Ty s) (out-Ty t) ≡ Some r
         → IsTyped (Has slots (form.Conditional c a b) (Of r))
     of_record : (slots : List Shape) (fields : List (Field Form)) (ms : List (List ℕ × Ty)) → IsTyped (Members slots fields ms)
         → IsTyped (Has slots (form.Record fields) (Of (ty.Rec ms)))

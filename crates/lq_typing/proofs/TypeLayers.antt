@@ -6,6 +6,7 @@ use Rattle.lq_value.specs.declared.ty.Ty.TheOpen.{Ty-F}
 use Rattle.lq_value.specs.declared.ty.Ty.TheVariants as ty
 use Rattle.lq_value.specs.declared.ty.Ty.TheVariants.{outs-Bool, outs-Group, outs-Int, outs-IntN, outs-Null, outs-Rec, outs-Row, outs-Seq, outs-Str}
 use Rattle.lq_language.specs.Types.{all_members, is_key, key_step, parts_of, parts_step, same_layers, same_step, same_types, sum_of_members, tested_member}
+use Rattle.lq_language.proofs.TypePartLaws.{parts_at, parts_out}
 use Rattle.lq_typing.specs.TypeParts.{are_keys, member_parts, same_member, same_members, same_parts}
 
 pub ruleset layers = (outs-Int, outs-IntN, outs-Bool, outs-Str, outs-Null, outs-Row, outs-Rec, outs-Seq, outs-Group)
@@ -53,13 +54,6 @@ key_group k t = key_at _ _ (outs-Group k t)
 pub ruleset keys = (key_int, key_nullable, key_bool, key_str, key_null, key_row, key_rec, key_seq, key_group)
 
 -- ---- parts
-
-parts_out : (t : Ty) → parts_of t ≡ parts_step (map-Ty Ty ℕ parts_of (out-Ty t))
-unfolding parts_of
-parts_out t = fold_out-Ty ℕ parts_step t
-
-parts_at : (t : Ty) (x : Ty-F Ty) → out-Ty t ≡ x → parts_of t ≡ parts_step (map-Ty Ty ℕ parts_of x)
-parts_at t x e = parts_out t ∙ (λ i. parts_step (map-Ty Ty ℕ parts_of (e i)))
 
 parts_of_members : (ms : List (List ℕ × Ty)) → sum_of_members (map (λ (m : List ℕ × Ty). (m.0, parts_of m.1)) ms) ≡ member_parts ms
 parts_of_members [] = refl

@@ -4,7 +4,7 @@ ghost use Rattle.lq_value.specs.declared.ty.Ty.{out-Ty};
 ghost use Rattle.lq_value.specs.declared.ty.Ty.TheVariants as ty;
 ghost use Rattle.lq_language.specs.Types.{are_join_keys, are_widened, when};
 ghost use Rattle.lq_language.specs.OperandTypes.{are_comparable, are_joined, chosen, coalesced, is_equality, is_ordering, joined_type, number_type, operated_type, result_type};
-ghost use Rattle.lq_language.specs.Typing.{are_null_tests, given_type, if_int, if_same, if_same_keys, simple_type, through_type, whole_chosen, whole_operated_type};
+ghost use Rattle.lq_language.specs.Typing.{are_null_tests, given_type, if_int, if_same, if_same_keys, simple_type, through_type, type_of_choice, type_of_operation};
 
 use crate::types::{
     converts, copy_ty, has_default, has_place, is_bool, is_int, is_key, is_number, same_types,
@@ -96,7 +96,7 @@ fn joined_type(sign: Binary, left: &Ty, right: &Ty) -> Option<Ty>
 /// The type of what an operator gives to operands of these types; None where it takes no such (ECMA-334, binary operator
 /// overload resolution).
 pub fn operated_type(sign: Binary, left: &Ty, right: &Ty) -> Option<Ty>
-    ensures { result ≡ whole_operated_type sign (out-Ty left.now) (out-Ty right.now) }
+    ensures { result ≡ type_of_operation sign (out-Ty left.now) (out-Ty right.now) }
 {
     if is_equality(sign) {
         (are_null_tests(left, right) || are_comparable(left, right)).then_some(Ty::Bool)
@@ -132,7 +132,7 @@ pub fn coalesced(left: &Ty, right: &Ty) -> Option<Ty>
 /// The type of a choice between null and what is of this type, which may be null.
 #[tactic(auto, using(crate::proofs::TypeLayers::layers))]
 fn chosen_beside_null(other: Ty) -> Option<Ty>
-    ensures { result ≡ whole_chosen (out-Ty ty.Null) (out-Ty other) }
+    ensures { result ≡ type_of_choice (out-Ty ty.Null) (out-Ty other) }
 {
     match other {
         Ty::IntN | Ty::Str | Ty::Row(_) | Ty::Rec(_) => Some(other),
@@ -143,7 +143,7 @@ fn chosen_beside_null(other: Ty) -> Option<Ty>
 /// The type of a choice between what is of this record type and what is of the other one, or null.
 #[tactic(auto, using(crate::proofs::TypeLayers::layers))]
 fn chosen_record(members: List<(Txt, Ty)>, right: Ty) -> Option<Ty>
-    ensures { result ≡ whole_chosen (out-Ty (ty.Rec members)) (out-Ty right) }
+    ensures { result ≡ type_of_choice (out-Ty (ty.Rec members)) (out-Ty right) }
 {
     let left = Ty::Rec(members);
     match &right {
@@ -157,7 +157,7 @@ fn chosen_record(members: List<(Txt, Ty)>, right: Ty) -> Option<Ty>
 /// beside null that of the other, where it may be null (ECMA-334, conditional operator).
 #[tactic(auto, using(crate::proofs::TypeLayers::layers))]
 pub fn chosen(left: Ty, right: Ty) -> Option<Ty>
-    ensures { result ≡ whole_chosen (out-Ty left) (out-Ty right) }
+    ensures { result ≡ type_of_choice (out-Ty left) (out-Ty right) }
 {
     match left {
         Ty::Int => match right {

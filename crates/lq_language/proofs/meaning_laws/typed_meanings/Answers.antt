@@ -1,8 +1,8 @@
-use Rattle.lq_language.proofs.TypedMeaningLaws.{has_whole_meaning, has_whole_stream}
+use Rattle.lq_language.proofs.TypedMeaningLaws.{has_language_meaning, has_language_stream}
 use Rattle.lq_language.proofs.meaning_laws.typed_meanings.Goals as goal
 
 pub returns-clause-expression : goal.returns-clause-expression
-returns-clause-expression c start = has_whole_meaning
+returns-clause-expression c start = has_language_meaning
 
 pub returns-clause-query : goal.returns-clause-query
-returns-clause-query c start = has_whole_stream
+returns-clause-query c start = has_language_stream

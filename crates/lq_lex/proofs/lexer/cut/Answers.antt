@@ -1,7 +1,7 @@
 use Rattle.std.proofs.Common.{◌≡◌, ◌≤◌, ◌+◌, length, take, drop, ap, sym, ◌∙◌, arith}
 use Rattle.std.specs.Prelude.{sum_by}
 use Rattle.std.specs.Char.{len_utf8}
-use Rattle.lq_lex.proofs.Fronts.{head_tail}
+use Rattle.lq_lex.proofs.FrontLaws.{head_tail}
 use Rattle.lq_lex.proofs.Cutting.{piece_fits, token_found, blank_found, fault_found, end_found, width_split, width_bound}
 use Rattle.lq_lex.proofs.lexer.cut.Goals as goal
 use Rattle.lq_lex.proofs.lexer.cut.Goals.{In-Some, After-width_of}

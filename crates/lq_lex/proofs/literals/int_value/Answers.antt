@@ -1,7 +1,7 @@
 use Rattle.std.proofs.Common.{◌≤◌, arith}
 use Rattle.std.proofs.lemmas.Bool.Decides.{nat_tests}
 use Rattle.lq_grammar.specs.Tokens.{decimal_value}
-use Rattle.lq_lex.proofs.Values.{past_limit}
+use Rattle.lq_lex.proofs.DigitLaws.{past_limit}
 use Rattle.lq_lex.proofs.literals.int_value.Goals as goal
 
 pub returns-then-value-ge-LARGEST : goal.returns-then-value-ge-LARGEST

@@ -1,7 +1,7 @@
 use Rattle.std.proofs.Common.{◌≤◌, arith}
 use Rattle.std.proofs.lemmas.Bool.Decides.{nat_tests}
 use Rattle.lq_grammar.specs.Tokens.{decimal_value}
-use Rattle.lq_syntax.proofs.Values.{past_limit}
+use Rattle.lq_lex.proofs.DigitLaws.{past_limit}
 use Rattle.lq_syntax.proofs.literals.value_of.Goals as goal
 
 pub returns-then-value-from : goal.returns-then-value-from

@@ -1,4 +1,4 @@
--- How steps over a stream go with a map of its items, and how one step follows another.
+-- Streams: one behind another, how steps over a stream go with a map of its items, and how one step follows another.
 use Rattle.std.proofs.Common.{◌≡◌, ◌∷◌, ◌++◌, if◌then◌else◌, List, [], map, Bool, true, false, Result, Ok, Err, ap, ap₂, ◌∙◌, sym, refl}
 use Rattle.std.proofs.lemmas.List.{append-nil, append_assoc, map-append}
 use Rattle.lq_value.specs.declared.scalar.Scalar.{Scalar}
@@ -15,9 +15,19 @@ mapped d s = (map d s.0, s.1)
 abbrev pub each_of : {A B : Type 0} → (A → Stream B) → Stream A → Stream B
 each_of f s = each f s.0 s.1
 
+-- ---- lists
+
+pub map_same : {A : Type 0} (xs : List A) → map (λ x. x) xs ≡ xs
+map_same [] = refl
+map_same (x ∷ xs) = ap (λ ys. x ∷ ys) (map_same xs)
+
+pub map_twice : {A B C : Type 0} (b : A → B) (g : B → C) (xs : List A) → map g (map b xs) ≡ map (λ x. g (b x)) xs
+map_twice b g [] = refl
+map_twice b g (x ∷ xs) = ap (λ ys. g (b x) ∷ ys) (map_twice b g xs)
+
 -- ---- one stream behind another
 
-then_mapped : {A B : Type 0} (d : A → B) (xs : List A) (e : End) (t : Stream A) → then_ending (map d xs) e (mapped d t) ≡ mapped d (then_ending xs e t)
+pub then_mapped : {A B : Type 0} (d : A → B) (xs : List A) (e : End) (t : Stream A) → then_ending (map d xs) e (mapped d t) ≡ mapped d (then_ending xs e t)
 then_mapped d xs end.Done t = ap (λ ys. (ys, t.1)) (sym (map-append d xs t.0))
 then_mapped d xs (end.Fault f) t = refl
 
@@ -25,13 +35,11 @@ then_nil : {A : Type 0} (xs : List A) (e : End) → then_ending xs e ([], end.Do
 then_nil xs end.Done = ap (λ ys. (ys, end.Done)) (append-nil xs)
 then_nil xs (end.Fault f) = refl
 
-then_then : {A : Type 0} (xs ys : List A) (e : End) (t : Stream A) → then_ending (xs ++ ys) e t ≡ then_ending xs end.Done (then_ending ys e t)
-then_then xs ys end.Done t = ap (λ zs. (zs, t.1)) (append_assoc xs ys t.0)
-then_then xs ys (end.Fault f) t = refl
-
-then_assoc : {A : Type 0} (xs : List A) (e : End) (s t : Stream A) → then_stream (then_ending xs e s) t ≡ then_ending xs e (then_stream s t)
-then_assoc xs end.Done s t = then_then xs s.0 s.1 t
-then_assoc xs (end.Fault f) s t = refl
+-- one stream behind another, behind a third
+pub then_assoc : {A : Type 0} (xs : List A) (d : End) (ys : List A) (e : End) (c : Stream A) → then_ending xs d (then_ending ys e c) ≡ then_stream (then_ending xs d (ys, e)) c
+then_assoc xs end.Done ys end.Done c = ap (λ l. (l, c.1)) (sym (append_assoc xs ys c.0))
+then_assoc xs end.Done ys (end.Fault f) c = refl
+then_assoc xs (end.Fault f) ys e c = refl
 
 -- ---- a map of the items
 
@@ -62,11 +70,14 @@ kept_mapped b (Err f) x = refl
 each_append : {A B : Type 0} (k : A → Stream B) (xs ys : List A) (e : End) → each k (xs ++ ys) e ≡ then_stream (each k xs end.Done) (each k ys e)
 each_append k [] ys e = refl
 each_append k (x ∷ xs) ys e =
-    ap (then_stream (k x)) (each_append k xs ys e) ∙ sym (then_assoc (k x).0 (k x).1 (each k xs end.Done) (each k ys e))
+    ap (then_stream (k x)) (each_append k xs ys e)
+    ∙ then_assoc (k x).0 (k x).1 (each k xs end.Done).0 (each k xs end.Done).1 (each k ys e)
 
 each_fault : {A B : Type 0} (k : A → Stream B) (xs : List A) (f : Fault) (t : Stream B) → each k xs (end.Fault f) ≡ then_stream (each k xs (end.Fault f)) t
 each_fault k [] f t = refl
-each_fault k (x ∷ xs) f t = ap (then_stream (k x)) (each_fault k xs f t) ∙ sym (then_assoc (k x).0 (k x).1 (each k xs (end.Fault f)) t)
+each_fault k (x ∷ xs) f t =
+    ap (then_stream (k x)) (each_fault k xs f t)
+    ∙ then_assoc (k x).0 (k x).1 (each k xs (end.Fault f)).0 (each k xs (end.Fault f)).1 t
 
 each_then : {A B : Type 0} (k : A → Stream B) (xs : List A) (e : End) (t : Stream A) → each_of k (then_ending xs e t) ≡ then_stream (each k xs e) (each_of k t)
 each_then k xs end.Done t = each_append k xs t.0 t.1
@@ -86,10 +97,6 @@ each_made k g vs =
 pub each_one : {A B : Type 0} (b : A → B) (xs : List A) (e : End) → each (λ x. one (Ok (b x))) xs e ≡ (map b xs, e)
 each_one b [] e = refl
 each_one b (x ∷ xs) e = ap (then_stream (one (Ok (b x)))) (each_one b xs e)
-
-pub map_same : {A : Type 0} (xs : List A) → map (λ x. x) xs ≡ xs
-map_same [] = refl
-map_same (x ∷ xs) = ap (λ ys. x ∷ ys) (map_same xs)
 
 -- ---- what is read whole, and what depends on a key
 
@@ -182,6 +189,17 @@ pub order_natural : {A B S : Type 0} (b : A → B) (descending : S → Bool) (ke
 order_natural b descending key ss xs end.Done =
     ap (in_order (map descending ss)) (keyed_map b key ss xs) ∙ in_order_map b (map descending ss) (keyed (λ s x. key s (b x)) ss xs)
 order_natural b descending key ss xs (end.Fault f) = refl
+
+-- keys that are replaced before the items are sorted by them
+module _ {A S T : Type 0} (t : S → T) (descending : T → Bool) (key : T → A → Result Scalar Fault) where
+  keyed_keys : (ss : List S) (xs : List A) → keyed key (map t ss) xs ≡ keyed (λ s. key (t s)) ss xs
+  keyed_keys [] xs = refl
+  keyed_keys (s ∷ ss) xs =
+      ap (λ (o : Result (List (Keyed A)) Fault). on_ok (all_of (key (t s)) xs) (λ ks. on_ok o (λ rows. Ok (with_key ks rows)))) (keyed_keys ss xs)
+
+  pub order_keys : (ss : List S) (xs : List A) (e : End) → order_by descending key (map t ss) xs e ≡ order_by (λ s. descending (t s)) (λ s. key (t s)) ss xs e
+  order_keys ss xs e =
+      λ i. whole xs e (λ ys. on_value (keyed_keys ss ys i) (λ rows. (map (λ row. row.1) (arranged (map_twice t descending ss i) rows), end.Done)))
 
 pub group_map : {A B C K V : Type 0} (b : A → B) (same : K → K → Bool) (key : B → Result K Fault) (element : B → Result V Fault) (result : K × List V → C) (xs : List A) (e : End)
     → group_by same key element result (map b xs) e ≡ group_by same (λ x. key (b x)) (λ x. element (b x)) result xs e

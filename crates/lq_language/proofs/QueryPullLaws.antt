@@ -1,18 +1,12 @@
 -- What a query means, and its type, is a matter of what the expressions in it have and mean: they may be replaced before or after.
-use Rattle.std.proofs.Common.{◌≡◌, ◌∷◌, ◌&&◌, List, [], map, ℕ, Bool, Option, Some, Result, Ok, ap, refl, option_and_then}
-use Rattle.lq_value.specs.declared.scalar.Scalar.{Scalar}
+use Rattle.std.proofs.Common.{◌≡◌, ◌∷◌, ◌&&◌, List, [], map, ℕ, Option, Some, ap, refl, option_and_then}
 use Rattle.lq_value.specs.declared.ty.Ty.{Ty}
-use Rattle.lq_value.specs.declared.value.End.{End}
-use Rattle.lq_value.specs.declared.value.End.TheVariants as end
-use Rattle.lq_value.specs.declared.value.Fault.{Fault}
 use Rattle.lq_value.specs.declared.value.Value.{Value}
-use Rattle.lq_language.specs.Arrangement.{Keyed, all_of, arranged, keyed, order_by, with_key}
 use Rattle.lq_language.specs.ClauseTyping.{are_sort_keys, body_items, continued_items, if_within, is_sort_key, last_type, names_after, names_after_all, query_items, sole_name, source_type, when}
 use Rattle.lq_language.specs.Worlds.{Meaning, Scope, World, bound_stream, names_at, or_null}
 use Rattle.lq_language.specs.OperandMeaning.{stream_of}
 use Rattle.lq_language.specs.ClauseMeaning.{body_meaning, body_type_at, clause_meaning, clauses_meaning, continued, item_type_at, last_meaning, query_meaning, sort_key_at}
-use Rattle.lq_language.specs.Operations.{on_ok}
-use Rattle.lq_language.specs.Stream.{Stream, on_value, whole}
+use Rattle.lq_language.specs.Stream.{Stream}
 use Rattle.lq_language.specs.Names.{Names}
 use Rattle.lq_grammar.specs.declared.syntax.Body.{Body}
 use Rattle.lq_grammar.specs.declared.syntax.Clause.{Clause}
@@ -23,6 +17,7 @@ use Rattle.lq_grammar.specs.declared.syntax.Last.TheVariants as last
 use Rattle.lq_grammar.specs.declared.syntax.Query.{Query}
 use Rattle.lq_grammar.specs.declared.syntax.SortKey.{SortKey}
 use Rattle.lq_language.specs.Maps.{map_body, map_clause, map_key, map_last, map_next, map_query}
+use Rattle.lq_language.proofs.StreamLaws.{order_keys}
 
 -- ---- types
 
@@ -31,11 +26,11 @@ module _ {X Y : Type 0} (f : X → Y) (typed : Y → Names → Option Ty) where
   abbrev before : X → Names → Option Ty
   before x = typed (f x)
 
-  keys_typed : (ks : List (SortKey X)) (names : Names) → are_sort_keys typed (map (map_key f) ks) names ≡ are_sort_keys before ks names
+  pub keys_typed : (ks : List (SortKey X)) (names : Names) → are_sort_keys typed (map (map_key f) ks) names ≡ are_sort_keys before ks names
   keys_typed [] names = refl
   keys_typed (k ∷ ks) names = ap (λ b. is_sort_key (typed (f k.value) names) && b) (keys_typed ks names)
 
-  clause_typed : (outer : Names) (c : Clause X) (names : Names) → names_after typed outer (map_clause f c) names ≡ names_after before outer c names
+  pub clause_typed : (outer : Names) (c : Clause X) (names : Names) → names_after typed outer (map_clause f c) names ≡ names_after before outer c names
   clause_typed outer (clause.From n x) names = refl
   clause_typed outer (clause.Let n x) names = refl
   clause_typed outer (clause.Where x) names = refl
@@ -64,23 +59,6 @@ module _ {X Y : Type 0} (f : X → Y) (typed : Y → Names → Option Ty) where
       λ i. option_and_then (λ t. option_and_then (λ u. next_typed outer q.rest u i) (option_and_then (λ names. body_typed outer q.body names i) (sole_name typed outer q.name t)))
       (source_type typed (f q.source) outer)
 
--- ---- sorting
-
-module _ {A S T : Type 0} (g : S → T) (key : T → A → Result Scalar Fault) where
-  keyed_by : (ss : List S) (xs : List A) → keyed key (map g ss) xs ≡ keyed (λ s. key (g s)) ss xs
-  keyed_by [] xs = refl
-  keyed_by (s ∷ ss) xs =
-      ap (λ (o : Result (List (Keyed A)) Fault). on_ok (all_of (key (g s)) xs) (λ ks. on_ok o (λ rows. Ok (with_key ks rows)))) (keyed_by ss xs)
-
-  flags_by : (descending : T → Bool) (ss : List S) → map descending (map g ss) ≡ map (λ s. descending (g s)) ss
-  flags_by descending [] = refl
-  flags_by descending (s ∷ ss) = ap (λ ds. descending (g s) ∷ ds) (flags_by descending ss)
-
-  order_pull : (descending : T → Bool) (ss : List S) (xs : List A) (e : End)
-      → order_by descending key (map g ss) xs e ≡ order_by (λ s. descending (g s)) (λ s. key (g s)) ss xs e
-  order_pull descending ss xs e =
-      λ i. whole xs e (λ ys. on_value (keyed_by ss ys i) (λ rows. (map (λ row. row.1) (arranged (flags_by descending ss i) rows), end.Done)))
-
 -- ---- meaning
 
 module _ {R X Y : Type 0} (f : X → Y) (world : World R) (typed : Y → Names → Option Ty) (meant : Y → Meaning R) where
@@ -97,7 +75,7 @@ module _ {R X Y : Type 0} (f : X → Y) (world : World R) (typed : Y → Names �
   clause_meant outer (clause.Let n x) scopes = refl
   clause_meant outer (clause.Where x) scopes = refl
   clause_meant outer (clause.Join j) scopes = refl
-  clause_meant outer (clause.OrderBy ks) scopes = order_pull (map_key f) (sort_key_at world typed meant) (λ k. k.descending) ks scopes.0 scopes.1
+  clause_meant outer (clause.OrderBy ks) scopes = order_keys (map_key f) (λ k. k.descending) (sort_key_at world typed meant) ks scopes.0 scopes.1
 
   clauses_meant : (outer : Scope R) (cs : List (Clause X)) (scopes : Stream (Scope R))
       → clauses_meaning world typed meant outer (map (map_clause f) cs) scopes ≡ clauses_meaning world typed_before meant_before outer cs scopes

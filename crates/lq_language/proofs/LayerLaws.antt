@@ -19,7 +19,7 @@ use Rattle.lq_grammar.specs.declared.syntax.Node.TheVariants as node
 use Rattle.lq_grammar.specs.declared.syntax.Query.{Query}
 use Rattle.lq_language.specs.Maps.{map_argument, map_body, map_clause, map_last, map_next, map_node, map_query}
 
-map_ext : {A B : Type 0} (f g : A → B) → ((x : A) → f x ≡ g x) → (xs : List A) → map f xs ≡ map g xs
+pub map_ext : {A B : Type 0} (f g : A → B) → ((x : A) → f x ≡ g x) → (xs : List A) → map f xs ≡ map g xs
 map_ext f g h xs = ap (λ k. map k xs) (λ i x. h x i)
 
 module _ {X Y : Type 0} (f : X → Y) where
