@@ -38,6 +38,7 @@ TIMES = re.compile(r"`([^`]+);`\s+with\s+(\d+)\s+times\s+`([^`]+)`\s+before\s+it
                    r"\s+and\s+with\s+(\d+)\s+times\s+`([^`]+)`")
 TYPED = re.compile(r"((?:`[^`]+`(?:,\s+|\s+and\s+|,\s+and\s+)?)+)\s+(has|have)\s+(no|a)\s+type")
 POLICY = re.compile(r"policy\s+`(\w+)`")
+POLICY_FILE = re.compile(r"`(examples/\w+/policy\.toml)`")
 
 
 class Failure(Exception):
@@ -154,17 +155,26 @@ class Page:
             printed = (ROOT / found[2]).read_bytes() if found[1] else bytes_of(found[2])
             self.add(block.line, block.text, {}, printed=printed)
         elif block.word == "toml":
-            headers = HEADER.findall(before.text) if before else []
-            if not headers:
-                raise self.failure(block.line, "the paragraph before names no table as \"`T` with the header `H`\"")
-            self.policies = block.text, dict(headers)
-            for role in tomllib.loads(block.text)["role"]:
-                self.add_policies(block.line, block.text, role["name"])
+            self.read_policies(block, before.text if before else "")
         elif block.word == "json":
             if not any(it.kind == "fence" and it.word == "csharp" for it in self.before(block)):
                 raise self.failure(block.line, "no block of statements (`csharp`) stands before these replies")
         elif block.word not in ("ebnf", "sh") and not (block.word == "text" and block.text in FORMS):
             raise self.failure(block.line, f"a block of the kind `{block.word}` is no example that can be run, and no form")
+
+    def read_policies(self, block, before):
+        """The starts of the roles of a policy file, or the file of examples/ that the sentence before says it is."""
+        file = POLICY_FILE.search(before)
+        if file:
+            if (ROOT / file[1]).read_text(encoding="utf-8") != block.text:
+                raise self.failure(block.line, f"this is not what stands in {file[1]}")
+            return
+        headers = HEADER.findall(before)
+        if not headers:
+            raise self.failure(block.line, "the paragraph before names no table as \"`T` with the header `H`\", and no policy file")
+        self.policies = block.text, dict(headers)
+        for role in tomllib.loads(block.text)["role"]:
+            self.add_policies(block.line, block.text, role["name"])
 
     def before(self, block):
         """The two blocks before this one."""
