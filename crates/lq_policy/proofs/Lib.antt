@@ -1,4 +1,5 @@
 pub mod AdmissionLemmas
+pub mod ExplainingLemmas
 pub mod GuardLemmas
 pub mod MembershipLemmas
 pub mod NameLemmas

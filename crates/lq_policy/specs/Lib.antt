@@ -1,4 +1,5 @@
 pub mod Asking
+pub mod Explanations
 pub mod Guards
 pub mod Memberships
 pub mod RoleRights

@@ -16,6 +16,11 @@ number_of role = role.number
 abbrev pub role_number : PolicyParts → List ℕ → Option ℕ
 role_number parts name = first_named (λ role. role.name) name parts.roles
 
+-- whether row security doesn't bear on a role; it does on one that isn't there
+abbrev pub is_bypassing : Option Role → Bool
+is_bypassing None = false
+is_bypassing (Some role) = role.bypass
+
 -- whether a role that a role goes by has this name
 abbrev pub goes_by_name : List Role → ℕ → List ℕ → Bool
 goes_by_name roles role name = list_any (λ n. is_named name (slice_get roles n)) (goes_by roles role)

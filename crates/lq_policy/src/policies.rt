@@ -90,7 +90,7 @@ pub fn rules_are_total(parts: &PolicyParts) -> bool
 }
 
 /// Whether two actions are the same.
-fn is_same_action(a: Action, b: Action) -> bool
+pub(crate) fn is_same_action(a: Action, b: Action) -> bool
     ensures { result ≡ is_same_action a b }
 {
     a == b
@@ -176,7 +176,7 @@ impl Policies {
     }
 
     /// Whether the policy applies to what a role does with a table.
-    fn applies(&self, access: Access, policy: &Policy) -> bool
+    pub(crate) fn applies(&self, access: Access, policy: &Policy) -> bool
         ensures { result ≡ bears_on self.now.roles access policy.now }
     {
         policy.table == access.table
@@ -185,7 +185,7 @@ impl Policies {
     }
 
     /// The prepared rule for an action of the policy of this number, if it has one.
-    fn rule_of(&self, number: usize, action: Action) -> Option<&PreparedRule>
+    pub(crate) fn rule_of(&self, number: usize, action: Action) -> Option<&PreparedRule>
         ensures { IsRuleOf self.now.tables action (slice_get self.now.policies number) (option_copied result) }
     {
         rule_at(self.guards.as_slice(), number, action)
