@@ -1,0 +1,6 @@
+pub mod Cells
+pub mod Grids
+pub mod Parts
+pub mod Replies
+pub mod Sentences
+pub mod Types

@@ -1,0 +1,110 @@
+//! What a reply is shown by: the type of what a statement serves, and the most rows.
+ghost use Rattle.std.specs.Prelude.{◌≡◌, IfOk, map, option_map, slice_get};
+ghost use Rattle.lq_value.specs.declared.ty.Ty.{out-Ty};
+ghost use Rattle.lq_render.specs.Types.{column_names, member_names, schemas_of, shape_in, shape_of};
+
+use lq_store::Store;
+use lq_value::{Column, List, Txt, Ty};
+use std::alloc::{AllocError, Global};
+
+/// What a reply is shown by.
+pub struct Layout<'a> {
+    /// The type of the expression that the line serves, where it is known: it gives the order of columns.
+    pub ty: Option<&'a Ty>,
+    /// The tables, whose schemas give the names of columns.
+    pub store: &'a Store,
+    /// The most rows of a table, lines of a list or groups that are shown.
+    pub most_rows: usize,
+}
+
+/// The shape of what a reply holds.
+#[derive(Drop)]
+pub(crate) struct Shape {
+    /// Whether the items or the value are groups.
+    pub is_group: bool,
+    /// The members of a row, a record or a group's element, in the order of their type.
+    pub names: List<Txt>,
+    /// The most rows that are shown.
+    pub most_rows: usize,
+}
+
+/// The names of columns.
+fn names_of_columns(alloc: Global, columns: &[Column]) -> Result<List<Txt>, AllocError>
+    ensures { IfOk result (λ names. names ≡ map (λ column. column.name) columns.now) }
+{
+    let mut names = List::new(alloc);
+    for column in columns {
+        names.push(Txt::from_str(alloc, column.name.as_str())?)?;
+    }
+    Ok(names)
+}
+
+/// The names of the columns of a table; none where there is no such table.
+fn column_names(alloc: Global, store: &Store, table: u16) -> Result<List<Txt>, AllocError>
+    ensures { IfOk result (λ names. names
+        ≡ column_names (slice_get (schemas_of store.now) table)) }
+{
+    if table as usize >= store.len() {
+        return Ok(List::new(alloc));
+    }
+    names_of_columns(alloc, store.schema(table).columns.as_slice())
+}
+
+/// The names of the members of a record.
+fn names_of_fields(alloc: Global, fields: &[(Txt, Ty)]) -> Result<List<Txt>, AllocError>
+    ensures { IfOk result (λ names. names ≡ map (λ field. field.0) fields.now) }
+{
+    let mut names = List::new(alloc);
+    for (name, _) in fields {
+        names.push(Txt::from_str(alloc, name.as_str())?)?;
+    }
+    Ok(names)
+}
+
+/// The names of the members of values of a type.
+fn member_names(alloc: Global, store: &Store, ty: &Ty) -> Result<List<Txt>, AllocError>
+    ensures { IfOk result (λ names. names
+        ≡ member_names (schemas_of store.now) (out-Ty ty.now)) }
+{
+    match ty {
+        Ty::Row(table) => column_names(alloc, store, *table),
+        Ty::Rec(fields) => names_of_fields(alloc, fields.as_slice()),
+        Ty::Int | Ty::IntN | Ty::Bool | Ty::Str | Ty::Null | Ty::Group(_, _) | Ty::Seq(_) => {
+            Ok(List::new(alloc))
+        }
+    }
+}
+
+/// The shape of values of a type that is no sequence.
+fn shape_in(alloc: Global, store: &Store, most_rows: usize, ty: &Ty) -> Result<Shape, AllocError>
+    ensures { IfOk result (λ shape. shape
+        ≡ shape_in (schemas_of store.now) most_rows (out-Ty ty.now)) }
+{
+    let (is_group, element) = match ty {
+        Ty::Group(_, element) => (true, element.get()),
+        _ => (false, ty),
+    };
+    Ok(Shape {
+        is_group,
+        names: member_names(alloc, store, element)?,
+        most_rows,
+    })
+}
+
+impl Layout<'_> {
+    /// The shape of the type; that of a sequence is the shape of its items.
+    pub(crate) fn shape(&self, alloc: Global) -> Result<Shape, AllocError>
+        ensures { IfOk result (λ shape. shape ≡ shape_of (schemas_of self.now.store.now)
+            self.now.most_rows (option_map (λ ty. ty.now) self.now.ty)) }
+    {
+        match self.ty {
+            Some(Ty::Seq(item)) => shape_in(alloc, self.store, self.most_rows, item.get()),
+            Some(ty) => shape_in(alloc, self.store, self.most_rows, ty),
+            None => Ok(Shape {
+                is_group: false,
+                names: List::new(alloc),
+                most_rows: self.most_rows,
+            }),
+        }
+    }
+}

@@ -1,0 +1,23 @@
+//! What people read of a reply at a prompt: the JSON line of a session's reply as a table or a sentence.
+//!
+//! The text is exactly that of the reply as `specs/Replies.antt` defines it. Each item has its line, in the
+//! items' order, with a cell a column, and where there are more items than are shown, their number is said.
+#![tactic(auto)]
+
+mod cells;
+mod columns;
+mod counts;
+mod floats;
+mod grid;
+mod groups;
+mod items;
+mod layout;
+mod reply;
+mod sentences;
+mod types;
+mod value;
+
+pub use grid::{Cell, grid_text};
+pub use layout::Layout;
+pub use reply::reply_text;
+pub use types::type_text;
