@@ -1,9 +1,9 @@
-//! What expressions without names mean, and which rules hold on a row, each spelled as a script or a policy has it.
-use crate::operations::word_of;
+//! What expressions without names mean, and which rules hold on a row, each spelled as a script or a policy has it. Operators row by row
+//! are shown by the built program (tests/cli).
 use crate::values::spelled;
-use lq_scalar::{Cells, ExprType, Named, Names, eval, holds, is_total};
+use lq_scalar::{Cells, ExprType, Named, Names, Op, ScalarError, apply, eval, holds, is_total};
 use lq_syntax::parse_rule;
-use lq_value::{Scalar, Txt};
+use lq_value::{Fault, Scalar, Txt};
 use std::alloc::{AllocError, Global};
 use std::test::Fail;
 
@@ -102,24 +102,21 @@ impl Names for NoNames {
     }
 }
 
+// The result as a row spells it.
+fn word_of(alloc: Global, found: &Result<Scalar, ScalarError>) -> Result<String, AllocError> {
+    match found {
+        Ok(Scalar::Null) => String::from_str(alloc, "null"),
+        Ok(Scalar::Int(number)) => format!(in alloc; "{number}"),
+        Ok(Scalar::Bool(truth)) => format!(in alloc; "{truth}"),
+        Ok(Scalar::Text(text)) => format!(in alloc; "'{}'", text.as_str()),
+        Err(ScalarError::Fault(fault)) => format!(in alloc; "{fault:?}"),
+        Err(ScalarError::Memory) => Err(AllocError),
+    }
+}
+
 fn meant(alloc: Global, text: &str) -> Result<String, Fail> {
     let expression = parse_rule(alloc, text)?;
     Ok(word_of(alloc, &eval(alloc, &expression, &NoNames))?)
-}
-
-// The names of the columns that rules read.
-fn columns(alloc: Global) -> Result<Vec<Txt>, AllocError> {
-    let mut names = Vec::new(alloc);
-    names.push(Txt::from_str(alloc, "name")?)?;
-    names.push(Txt::from_str(alloc, "boss")?)?;
-    Ok(names)
-}
-
-fn cells(alloc: Global, name: &str, boss: &str) -> Result<Vec<Scalar>, AllocError> {
-    let mut cells = Vec::new(alloc);
-    cells.push(spelled(alloc, name)?)?;
-    cells.push(spelled(alloc, boss)?)?;
-    Ok(cells)
 }
 
 // Whether a rule, which must be total, holds on the row for ann.
@@ -128,11 +125,11 @@ fn holds_for_ann(alloc: Global, name: &str, boss: &str, text: &str) -> Result<bo
     if !is_total(&rule) {
         return Err(Fail::from("the rule may fault"));
     }
-    let columns = columns(alloc)?;
-    let cells = cells(alloc, name, boss)?;
+    let columns = [Txt::from_str(alloc, "name")?, Txt::from_str(alloc, "boss")?];
+    let cells = [spelled(alloc, name)?, spelled(alloc, boss)?];
     let row = Cells {
-        columns: columns.as_slice(),
-        cells: cells.as_slice(),
+        columns: &columns,
+        cells: &cells,
     };
     Ok(holds(&rule, row, "ann"))
 }
@@ -150,5 +147,23 @@ fn rules_are_read_on_a_row(rt: HostRuntime) -> Result<(), Fail> {
     for (name, boss, text, expected) in &RULES {
         assert!(rt; holds_for_ann(rt.alloc(), name, boss, text)? == *expected);
     }
+    Ok(())
+}
+
+// Whether an operator has no value for these operands.
+fn is_without_a_value(alloc: Global, op: Op, operands: &[Scalar]) -> bool {
+    matches!(
+        apply(alloc, op, operands),
+        Err(ScalarError::Fault(Fault::NullReference))
+    )
+}
+
+// No typed expression has these operands.
+#[test]
+fn operands_of_no_operator_have_no_value(rt: HostRuntime) -> Result<(), Fail> {
+    let texts = [spelled(rt.alloc(), "'a'")?, spelled(rt.alloc(), "'b'")?];
+    assert!(rt; is_without_a_value(rt.alloc(), Op::Less, &texts));
+    assert!(rt; is_without_a_value(rt.alloc(), Op::Add, &[Scalar::Int(1)]));
+    assert!(rt; is_without_a_value(rt.alloc(), Op::Add, &[]));
     Ok(())
 }

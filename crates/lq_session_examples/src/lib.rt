@@ -1,11 +1,9 @@
-//! Tests of values, operators, tables, policies and sessions, by public calls. They stand here and not in the crates that they test: a
-//! crate without tests is proved once.
+//! Tests of values, operators, tables, policies and sessions, by public calls, where the built program can't show it. They stand here
+//! and not in the crates that they test: a crate without tests is proved once.
 #![tactic(auto)]
 
 #[cfg(test)]
 mod evaluations;
-#[cfg(test)]
-mod operations;
 #[cfg(test)]
 mod policies;
 #[cfg(test)]

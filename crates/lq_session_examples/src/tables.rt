@@ -1,14 +1,15 @@
-//! Outcomes of pushes and additions, as callers see them.
-ghost use Rattle.std.specs.Prelude.{◌≡◌, ◌≤◌, true, IfOk};
+//! What tables and stores refuse, and hand back then, and how rows are numbered and removed.
+ghost use Rattle.std.specs.Prelude.{◌≡◌, ◌≤◌, ◌<◌, length, true, IfOk};
 ghost use Rattle.lq_store.specs.Rules.{keeps_rules};
 
+use crate::values::spelled;
 use lq_store::{Column, ColumnType, Row, Schema, Store, StoreError, Table};
 use lq_value::{List, Scalar, Txt};
 use std::alloc::{AllocError, Global};
 use std::process::Abort;
 use std::test::Fail;
 
-// The schema of a table with one column, of numbers from 1 to 9.
+// The schema of a table with one column, c, of numbers from 1 to 9.
 fn schema(alloc: Global, name: &str) -> Result<Schema, AllocError>
     ensures { IfOk result (λ s. keeps_rules s ≡ true) }
 {
@@ -25,165 +26,161 @@ fn schema(alloc: Global, name: &str) -> Result<Schema, AllocError>
 }
 
 // A table of that schema.
-fn table(alloc: Global, name: &str, next: u64) -> Result<Table, AllocError>
+pub(crate) fn table(alloc: Global, name: &str, next: u64) -> Result<Table, AllocError>
     requires { 1 ≤ next }
 {
     Ok(Table::new(alloc, schema(alloc, name)?, next))
 }
 
-fn one_cell(alloc: Global, cell: Scalar) -> Result<Vec<Scalar>, AllocError> {
+fn cells(alloc: Global, words: &str) -> Result<Vec<Scalar>, AllocError> {
     let mut cells = Vec::new(alloc);
-    cells.push(cell)?;
+    for word in words.split_whitespace() {
+        cells.push(spelled(alloc, word)?)?;
+    }
     Ok(cells)
 }
 
-// Asserts that a push was refused so, and gave this many cells back.
-fn assert_refused(
-    rt: &impl Abort,
-    outcome: Result<u64, (StoreError, Vec<Scalar>)>,
-    error: StoreError,
-    cells: usize,
-) {
+// What is answered to a row: its number, or the refusal and how many cells are handed back.
+type Answer = Result<u64, (StoreError, usize)>;
+
+fn answer(outcome: Result<u64, (StoreError, Vec<Scalar>)>) -> Answer {
     match outcome {
-        Ok(_) => panic!(rt; "the row was taken"),
-        Err((refusal, back)) => {
-            assert!(rt; refusal == error);
-            assert!(rt; back.len() == cells);
-        }
+        Ok(number) => Ok(number),
+        Err((error, back)) => Err((error, back.len())),
     }
+}
+
+// What a table answers to the last of some rows.
+fn last_answer(alloc: Global, mut table: Table, rows: &[&str]) -> Result<Answer, AllocError> {
+    let mut last = Ok(0);
+    for words in rows {
+        last = answer(table.push(cells(alloc, words)?));
+    }
+    Ok(last)
 }
 
 #[test]
 fn cells_are_checked_in_order(rt: HostRuntime) -> Result<(), Fail> {
-    let alloc = rt.alloc();
-    let mut t = table(alloc, "t", 1)?;
-    assert_refused(&rt, t.push(Vec::new(alloc)), StoreError::Arity, 0);
-    let truth = one_cell(alloc, Scalar::Bool(true))?;
-    assert_refused(&rt, t.push(truth), StoreError::CellType, 1);
-    let ten = one_cell(alloc, Scalar::Int(10))?;
-    assert_refused(&rt, t.push(ten), StoreError::CellRange, 1);
-    assert!(rt; t.rows().is_empty());
-    assert!(rt; t.push(one_cell(alloc, Scalar::Int(9))?).ok() == Some(1));
-    assert!(rt; t.rows().len() == 1);
-    assert!(rt; t.schema().name.as_str() == "t");
+    let cases: [(&[&str], Answer); 4] = [
+        (&[""], Err((StoreError::Arity, 0))),
+        (&["true"], Err((StoreError::CellType, 1))),
+        (&["10"], Err((StoreError::CellRange, 1))),
+        (&["", "true", "10", "9"], Ok(1)),
+    ];
+    for (rows, expected) in &cases {
+        let first = table(rt.alloc(), "t", 1)?;
+        assert!(rt; last_answer(rt.alloc(), first, rows)? == *expected);
+    }
+    let full = table(rt.alloc(), "t", u64::MAX)?;
+    assert!(rt; last_answer(rt.alloc(), full, &["1"])? == Ok(u64::MAX));
+    let full = table(rt.alloc(), "t", u64::MAX)?;
+    assert!(rt; last_answer(rt.alloc(), full, &["1", "2"])? == Err((StoreError::Full, 1)));
     Ok(())
 }
 
-#[test]
-fn the_last_number_is_given_once(rt: HostRuntime) -> Result<(), Fail> {
-    let alloc = rt.alloc();
-    let mut t = table(alloc, "t", u64::MAX)?;
-    assert!(rt; t.push(one_cell(alloc, Scalar::Int(1))?).ok() == Some(u64::MAX));
-    let cells = one_cell(alloc, Scalar::Int(1))?;
-    assert_refused(&rt, t.push(cells), StoreError::Full, 1);
-    Ok(())
+// The number that a store gives to a table, or the refusal, if that table is handed back.
+fn added(alloc: Global, store: &mut Store, name: &str) -> Result<Result<u16, StoreError>, Fail> {
+    match store.add(table(alloc, name, 1)?) {
+        Ok(number) => Ok(Ok(number)),
+        Err((error, back)) if back.schema().name.as_str() == name => Ok(Err(error)),
+        Err(_) => Err(Fail::from("another table is handed back")),
+    }
 }
 
 #[test]
-fn a_second_table_of_a_name_is_handed_back(rt: HostRuntime) -> Result<(), Fail> {
-    let alloc = rt.alloc();
-    let mut store = Store::new(alloc);
+fn a_refused_table_is_handed_back(rt: HostRuntime) -> Result<(), Fail> {
+    let mut store = Store::new(rt.alloc());
     assert!(rt; store.is_empty());
-    assert!(rt; store.add(table(alloc, "t", 1)?).ok() == Some(0));
-    assert!(rt; store.add(table(alloc, "u", 1)?).ok() == Some(1));
-    match store.add(table(alloc, "t", 7)?) {
-        Ok(_) => panic!(rt; "the table was taken"),
-        Err((error, back)) => {
-            assert!(rt; error == StoreError::DuplicateTable);
-            assert!(rt; back.schema().name.as_str() == "t");
-        }
+    for number in 0..64u16 {
+        let name = format!(in rt.alloc(); "t{number}")?;
+        assert!(rt; added(rt.alloc(), &mut store, &name)? == Ok(number));
+        assert!(rt; added(rt.alloc(), &mut store, "t0")? == Err(StoreError::DuplicateTable));
     }
-    assert!(rt; store.len() == 2);
-    assert!(rt; store.find("u") == Some(1));
-    assert!(rt; store.find("v") == None);
+    assert!(rt; added(rt.alloc(), &mut store, "u")? == Err(StoreError::TooMany));
+    assert!(rt; store.len() == 64 && store.find("t1") == Some(1) && store.find("u") == None);
     Ok(())
 }
 
-#[test]
-fn a_store_holds_64_tables(rt: HostRuntime) -> Result<(), Fail> {
-    let alloc = rt.alloc();
+// A store of the tables t and u, u with the last number next, and with the rows 1, 2 and 3 in t.
+fn two_tables(alloc: Global) -> Result<Store, Fail> {
     let mut store = Store::new(alloc);
-    for number in 0..64u32 {
-        let name = format!(in alloc; "t{number}")?;
-        assert!(rt; store.add(table(alloc, name.as_str(), 1)?).is_ok());
+    let first = store.add(table(alloc, "t", 1)?).is_ok();
+    let second = store.add(table(alloc, "u", u64::MAX)?).is_ok();
+    for word in &["1", "2", "3"] {
+        answer(store.insert(0, cells(alloc, word)?))
+            .ok()
+            .ok_or("a row is refused")?;
     }
-    assert!(rt; store.len() == 64);
-    assert!(rt; store.schema(63).name.as_str() == "t63");
-    assert!(rt; store.rows(63).is_empty());
-    match store.add(table(alloc, "u", 1)?) {
-        Ok(_) => panic!(rt; "the table was taken"),
-        Err((error, back)) => {
-            assert!(rt; error == StoreError::TooMany);
-            assert!(rt; back.schema().name.as_str() == "u");
-        }
+    if first && second {
+        Ok(store)
+    } else {
+        Err(Fail::from("a table is refused"))
     }
-    Ok(())
-}
-
-// A store of the tables t and u, with the rows 1, 2 and 3 in t.
-fn two_tables(rt: &impl Abort, alloc: Global) -> Result<Store, AllocError> {
-    let mut store = Store::new(alloc);
-    assert!(rt; store.add(table(alloc, "t", 1)?).is_ok());
-    assert!(rt; store.add(table(alloc, "u", u64::MAX)?).is_ok());
-    for (cell, number) in &[(1, 1u64), (2, 2), (3, 3)] {
-        let cells = one_cell(alloc, Scalar::Int(*cell))?;
-        assert!(rt; store.insert(0, cells).ok() == Some(*number));
-    }
-    Ok(store)
 }
 
 // The rows of a table that a store has.
-fn rows_of<'s>(rt: &impl Abort, store: &'s Store, t: u16) -> &'s [Row] {
+pub(crate) fn rows_of<'s>(rt: &impl Abort, store: &'s Store, t: u16) -> &'s [Row] {
     assert!(rt; (t as usize) < store.len());
     store.rows(t)
 }
 
-// How many rows are removed from a table that a store has.
-fn removed(rt: &impl Abort, store: &mut Store, t: u16, numbers: &[u64]) -> u64 {
-    assert!(rt; (t as usize) < store.len());
-    store.delete_rows(t, numbers)
-}
+// To whom a row is put in turn, its cells, and what is answered.
+const INSERTS: [(u16, &str, Answer); 6] = [
+    (2, "1", Err((StoreError::UnknownTable, 1))),
+    (0, "", Err((StoreError::Arity, 0))),
+    (0, "true", Err((StoreError::CellType, 1))),
+    (0, "10", Err((StoreError::CellRange, 1))),
+    (1, "1", Ok(u64::MAX)),
+    (1, "1", Err((StoreError::Full, 1))),
+];
 
 #[test]
 fn rows_are_put_into_a_table_of_a_store(rt: HostRuntime) -> Result<(), Fail> {
-    let alloc = rt.alloc();
-    let mut store = two_tables(&rt, alloc)?;
-    let cells = one_cell(alloc, Scalar::Int(1))?;
-    assert_refused(&rt, store.insert(2, cells), StoreError::UnknownTable, 1);
-    assert_refused(&rt, store.insert(0, Vec::new(alloc)), StoreError::Arity, 0);
-    let truth = one_cell(alloc, Scalar::Bool(true))?;
-    assert_refused(&rt, store.insert(0, truth), StoreError::CellType, 1);
-    let ten = one_cell(alloc, Scalar::Int(10))?;
-    assert_refused(&rt, store.insert(0, ten), StoreError::CellRange, 1);
-    let last = one_cell(alloc, Scalar::Int(1))?;
-    assert!(rt; store.insert(1, last).ok() == Some(u64::MAX));
-    let cells = one_cell(alloc, Scalar::Int(1))?;
-    assert_refused(&rt, store.insert(1, cells), StoreError::Full, 1);
+    let mut store = two_tables(rt.alloc())?;
+    for (t, words, expected) in &INSERTS {
+        assert!(rt;
+            answer(store.insert(*t, cells(rt.alloc(), words)?)) == *expected,
+            "{t} {words}"
+        );
+    }
     assert!(rt; rows_of(&rt, &store, 0).len() == 3);
     assert!(rt; rows_of(&rt, &store, 1).len() == 1);
     Ok(())
 }
 
+// Whether the rows have these numbers.
+pub(crate) fn has_numbers(rows: &[Row], numbers: &[u64]) -> bool {
+    let mut left = numbers;
+    for row in rows {
+        match left {
+            [first, others @ ..] if *first == row.number => left = others,
+            _ => return false,
+        }
+    }
+    left.is_empty()
+}
+
+// Numbers of rows that are to be removed, how many there are, and the numbers of those left.
+const REMOVALS: [(&[u64], u64, &[u64]); 5] = [
+    (&[1, 3], 2, &[2]),
+    (&[3, 1, 1], 2, &[2]),
+    (&[2], 1, &[1, 3]),
+    (&[0, 4, 9], 0, &[1, 2, 3]),
+    (&[], 0, &[1, 2, 3]),
+];
+
+// Whether so many rows are removed from the first table of a store and these are left, and no number is used again.
+fn removes(rt: &impl Abort, store: &mut Store, numbers: &[u64], gone: u64, left: &[u64]) -> bool {
+    assert!(rt; 0 < store.len());
+    store.delete_rows(0, numbers) == gone && has_numbers(rows_of(rt, store, 0), left)
+}
+
 #[test]
 fn rows_of_some_numbers_are_removed(rt: HostRuntime) -> Result<(), Fail> {
-    let alloc = rt.alloc();
-    for (numbers, gone, left) in &[
-        ([1, 3].as_slice(), 2u64, [2].as_slice()),
-        (&[3, 1, 1], 2, &[2]),
-        (&[2], 1, &[1, 3]),
-        (&[0, 4, 9], 0, &[1, 2, 3]),
-        (&[], 0, &[1, 2, 3]),
-    ] {
-        let mut store = two_tables(&rt, alloc)?;
-        assert!(rt; removed(&rt, &mut store, 0, numbers) == *gone);
-        let rows = rows_of(&rt, &store, 0);
-        assert!(rt; rows.len() == left.len());
-        for (row, number) in rows.iter().zip(left.iter()) {
-            assert!(rt; row.number == *number);
-        }
-        // (no number is used again)
-        let cells = one_cell(alloc, Scalar::Int(1))?;
-        assert!(rt; store.insert(0, cells).ok() == Some(4));
+    for (numbers, gone, left) in &REMOVALS {
+        let mut store = two_tables(rt.alloc())?;
+        assert!(rt; removes(&rt, &mut store, numbers, *gone, left));
+        assert!(rt; answer(store.insert(0, cells(rt.alloc(), "1")?)) == Ok(4));
     }
     Ok(())
 }
