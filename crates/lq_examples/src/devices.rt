@@ -267,11 +267,12 @@ fn is_marked(alloc: Global, bad: u64, fault: Fault, taken: usize) -> bool {
     is_refused && BYTES.starts_with(&sink.taken) && sink.taken.len() == taken
 }
 
-fn is_taken_whole(alloc: Global, fault: Fault) -> bool {
-    let mut sink = taking(alloc, 4, fault);
+// Whether a device over a writer of whose calls the one numbered `bad` fails takes these bytes whole.
+fn takes_whole(alloc: Global, bytes: &[u8], bad: u64, fault: Fault) -> bool {
+    let mut sink = taking(alloc, bad, fault);
     let mut writer = Device::new(&mut sink);
-    let is_taken = writer.write_all(BYTES).is_ok() && !writer.failed();
-    is_taken && sink.taken.as_slice() == BYTES
+    let is_taken = writer.write_all(bytes).is_ok() && !writer.failed();
+    is_taken && sink.taken.as_slice() == bytes
 }
 
 #[test]
@@ -283,61 +284,48 @@ fn a_device_marks_itself_at_each_failed_write(rt: HostRuntime) {
                 "at write {bad}"
             );
         }
-        assert!(rt; is_taken_whole(rt.alloc(), *fault));
+        assert!(rt; takes_whole(rt.alloc(), BYTES, 4, *fault));
     }
 }
 
 // How many bytes are written at a time, none of them too many for one call.
 const LENGTHS: [usize; 4] = [65_535, 65_536, 65_537, 200_000];
 
-// Whether a device whose writer never fails takes so many bytes whole.
-fn takes_whole(alloc: Global, length: usize) -> Result<bool, AllocError> {
-    let bytes = vec![in alloc; b'a'; length]?;
-    let mut sink = taking(alloc, 0, Fault::Never);
-    let mut writer = Device::new(&mut sink);
-    let is_taken = writer.write_all(&bytes).is_ok() && !writer.failed();
-    Ok(is_taken && sink.taken.as_slice() == bytes.as_slice())
-}
-
 #[test]
 fn bytes_are_written_whole_however_many(rt: HostRuntime) -> Result<(), Fail> {
     for length in &LENGTHS {
-        assert!(rt; takes_whole(rt.alloc(), *length)?, "{length} bytes");
+        let bytes = vec![in rt.alloc(); b'a'; *length]?;
+        assert!(rt;
+            takes_whole(rt.alloc(), &bytes, 0, Fault::Never),
+            "{length} bytes"
+        );
     }
     Ok(())
 }
 
-// A byte, how many times it is given, and the lines of such a script (none: it is too long).
-const SIZES: [(u8, usize, Option<u64>); 4] = [
-    (b'\n', 1_048_576, Some(1_048_576)),
-    (b'\n', 1_048_577, None),
-    (b' ', 65_536, Some(1)),
-    (b' ', 65_537, None),
+// A byte, how many times it is given, how many of them a read, and the lines of such a script (none: it is too long) and the
+// reads that it takes (0: any number).
+const SIZES: [(u8, usize, usize, Option<u64>, u64); 5] = [
+    (b'\n', 1_048_576, 4096, Some(1_048_576), 0),
+    (b'\n', 1_048_577, 4096, None, 0),
+    (b' ', 65_536, 4096, Some(1), 0),
+    (b' ', 65_537, 4096, None, 0),
+    // An endless reader is left after one byte too many.
+    (b'\n', usize::MAX, 1, None, 1_048_577),
 ];
 
 #[test]
 fn sizes_are_refused_from_one_byte_too_many(rt: HostRuntime) -> Result<(), Fail> {
-    for (byte, left, lines) in &SIZES {
+    for (byte, left, piece, lines, reads) in &SIZES {
         let script = Repeated {
             byte: *byte,
             left: *left,
-            piece: 4096,
+            piece: *piece,
         };
         let run = serve_script(rt.alloc(), script, taking(rt.alloc(), 0, Fault::Never))?;
         assert!(rt; has_lines(&run, *lines), "{left} times {byte}");
+        assert!(rt; *reads == 0 || run.reads == *reads, "{left} times {byte}");
     }
-    Ok(())
-}
-
-#[test]
-fn an_endless_reader_is_left_after_one_byte_too_many(rt: HostRuntime) -> Result<(), Fail> {
-    let script = Repeated {
-        byte: b'\n',
-        left: usize::MAX,
-        piece: 1,
-    };
-    let run = serve_script(rt.alloc(), script, taking(rt.alloc(), 0, Fault::Never))?;
-    assert!(rt; has_lines(&run, None) && run.reads == 1_048_577);
     Ok(())
 }
 
@@ -372,9 +360,9 @@ struct Ended {
     sink: Taker,
 }
 
-fn end_script<R: Read + Drop>(
+fn end_script(
     alloc: Global,
-    script: R,
+    script: Pieces,
     mut sink: Taker,
     mut told: Taker,
 ) -> Result<Ended, Fail> {
@@ -392,49 +380,33 @@ fn end_script<R: Read + Drop>(
     })
 }
 
-// Scripts, the read and the call of the writer that fail (0: none), and the status and the line that follow.
-const ENDINGS: [(&[u8], u64, u64, u8, &[u8]); 4] = [
-    (SCRIPT, 0, 0, 0, b""),
-    (SCRIPT, 1, 0, 4, b"lq: script: read\n"),
-    (b"", 0, 1, 4, b"lq: script: write\n"),
-    (b"one\n\xFF\n", 0, 0, 4, b"lq: script: utf8\n"),
+// Scripts, the read, the call of the writer and the call of the writer of errors that fail (0: none), and the status and the line
+// that follow.
+const ENDINGS: [(&[u8], [u64; 3], u8, &[u8]); 5] = [
+    (SCRIPT, [0, 0, 0], 0, b""),
+    (SCRIPT, [1, 0, 0], 4, b"lq: script: read\n"),
+    (b"", [0, 1, 0], 4, b"lq: script: write\n"),
+    (b"one\n\xFF\n", [0, 0, 0], 4, b"lq: script: utf8\n"),
+    // A fault that nobody can be told of keeps its status.
+    (b"one\n\xFF\n", [0, 0, 3], 4, b"lq: script"),
 ];
 
-fn ends_so(end: &Ended, status: u8, line: &[u8]) -> bool {
+fn ends_so(end: &Ended, status: u8, line: &[u8], is_marked: bool) -> bool {
     end.status == status
-        && !end.is_marked
+        && end.is_marked == is_marked
         && end.told.taken.as_slice() == line
         && (status != 0 || end.sink.taken.as_slice() == OUTPUT)
 }
 
 #[test]
 fn a_fault_ends_with_its_status_and_its_line(rt: HostRuntime) -> Result<(), Fail> {
-    for (text, bad_read, bad_call, status, line) in &ENDINGS {
+    for (text, [bad_read, bad_call, bad_told], status, line) in &ENDINGS {
         let mut script = whole(text);
         script.bad = *bad_read;
         let sink = taking(rt.alloc(), *bad_call, Fault::Errs(ErrorKind::Other));
-        let told = taking(rt.alloc(), 0, Fault::Never);
+        let told = taking(rt.alloc(), *bad_told, Fault::Stalls);
         let end = end_script(rt.alloc(), script, sink, told)?;
-        assert!(rt; ends_so(&end, *status, line), "{text:?}");
+        assert!(rt; ends_so(&end, *status, line, *bad_told > 0), "{text:?}");
     }
-    Ok(())
-}
-
-#[test]
-fn a_fault_that_nobody_can_be_told_of_keeps_its_status(rt: HostRuntime) -> Result<(), Fail> {
-    let script = Repeated {
-        byte: b'a',
-        left: 65_537,
-        piece: 100,
-    };
-    let sink = taking(rt.alloc(), 0, Fault::Never);
-    let end = end_script(
-        rt.alloc(),
-        script,
-        sink,
-        taking(rt.alloc(), 3, Fault::Stalls),
-    )?;
-    assert!(rt; end.status == 4 && end.is_marked);
-    assert!(rt; end.told.taken.as_slice() == b"lq: script".as_slice());
     Ok(())
 }

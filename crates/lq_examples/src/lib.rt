@@ -1,14 +1,10 @@
-//! Tests of the server by public calls, and of scripts from bytes to bytes. They stand here and not in the crates that they
-//! test: a crate without tests is proved once.
+//! Tests of the server by public calls, over devices and files that fail. They stand here and not in the crates that they test: a crate
+//! without tests is proved once.
 #![tactic(auto)]
 
 #[cfg(test)]
 mod devices;
 #[cfg(test)]
 mod loads;
-#[cfg(test)]
-mod rows;
-#[cfg(test)]
-mod scripts;
 #[cfg(test)]
 mod table_files;
