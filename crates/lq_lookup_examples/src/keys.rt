@@ -5,7 +5,7 @@ use lq_value::{Key, List, RowRef, Scalar, Txt, Value, key_of};
 use std::alloc::{AllocError, Global};
 
 /// A row with no cells.
-#[derive(Clone, Copy, Debug)]
+#[derive(Clone, Copy)]
 pub(crate) struct NoRow;
 
 impl RowRef for NoRow {

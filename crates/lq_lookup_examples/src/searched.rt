@@ -74,12 +74,14 @@ fn finds_one(
     Ok(keeping.find(&key) == places.as_slice() && skipping.find(&key) == skipped)
 }
 
-// Whether the groups are the first values, each with what is searched.
+// Whether the distinct places are those of the first values, and the groups these values, each with what is searched.
 fn groups(alloc: Global, values: &[Value<NoRow>]) -> Result<bool, AllocError> {
     let keys = keys_of(alloc, values)?;
     let groups = Groups::build(alloc, keys.as_slice())?;
     let firsts = searched_firsts(alloc, values)?;
-    let mut right = groups.len() == firsts.len() && groups.get(firsts.len()).is_none();
+    let mut right = distinct(alloc, keys.as_slice())?.as_slice() == firsts.as_slice()
+        && groups.len() == firsts.len()
+        && groups.get(firsts.len()).is_none();
     for (number, first) in firsts.iter().enumerate() {
         if let (Some(value), Some(wanted)) = (values.get(*first), keys.get(*first)) {
             let places = searched(alloc, values, value)?;
@@ -112,19 +114,6 @@ fn groups_are_what_is_searched(rt: HostRuntime) -> Result<(), Fail> {
     for _ in 0..500u32 {
         let values = random_values(alloc, &mut random)?;
         assert!(rt; groups(alloc, values.as_slice())?);
-    }
-    Ok(())
-}
-
-#[test]
-fn distinct_places_are_what_is_searched(rt: HostRuntime) -> Result<(), Fail> {
-    let alloc = rt.alloc();
-    let mut random = Random { state: 99 };
-    for _ in 0..500u32 {
-        let values = random_values(alloc, &mut random)?;
-        let keys = keys_of(alloc, values.as_slice())?;
-        let firsts = searched_firsts(alloc, values.as_slice())?;
-        assert!(rt; distinct(alloc, keys.as_slice())?.as_slice() == firsts.as_slice());
     }
     Ok(())
 }
