@@ -1,5 +1,6 @@
 //! What expressions without names mean, and which rules hold on a row, each spelled as a script or a policy has it. Operators row by row
 //! are shown by the built program (tests/cli).
+use crate::tables::cells;
 use crate::values::spelled;
 use lq_scalar::{Cells, ExprType, Named, Names, Op, ScalarError, apply, eval, holds, is_total};
 use lq_syntax::parse_rule;
@@ -150,20 +151,21 @@ fn rules_are_read_on_a_row(rt: HostRuntime) -> Result<(), Fail> {
     Ok(())
 }
 
-// Whether an operator has no value for these operands.
-fn is_without_a_value(alloc: Global, op: Op, operands: &[Scalar]) -> bool {
-    matches!(
-        apply(alloc, op, operands),
+// Operators with operands that no typed expression has.
+const UNTYPED: [(Op, &str); 3] = [(Op::Less, "'a' 'b'"), (Op::Add, "1"), (Op::Add, "")];
+
+fn is_without_a_value(alloc: Global, op: Op, words: &str) -> Result<bool, AllocError> {
+    let operands = cells(alloc, words)?;
+    Ok(matches!(
+        apply(alloc, op, operands.as_slice()),
         Err(ScalarError::Fault(Fault::NullReference))
-    )
+    ))
 }
 
-// No typed expression has these operands.
 #[test]
 fn operands_of_no_operator_have_no_value(rt: HostRuntime) -> Result<(), Fail> {
-    let texts = [spelled(rt.alloc(), "'a'")?, spelled(rt.alloc(), "'b'")?];
-    assert!(rt; is_without_a_value(rt.alloc(), Op::Less, &texts));
-    assert!(rt; is_without_a_value(rt.alloc(), Op::Add, &[Scalar::Int(1)]));
-    assert!(rt; is_without_a_value(rt.alloc(), Op::Add, &[]));
+    for (op, words) in &UNTYPED {
+        assert!(rt; is_without_a_value(rt.alloc(), *op, words)?, "{words}");
+    }
     Ok(())
 }

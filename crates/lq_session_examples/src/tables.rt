@@ -32,7 +32,7 @@ pub(crate) fn table(alloc: Global, name: &str, next: u64) -> Result<Table, Alloc
     Ok(Table::new(alloc, schema(alloc, name)?, next))
 }
 
-fn cells(alloc: Global, words: &str) -> Result<Vec<Scalar>, AllocError> {
+pub(crate) fn cells(alloc: Global, words: &str) -> Result<Vec<Scalar>, AllocError> {
     let mut cells = Vec::new(alloc);
     for word in words.split_whitespace() {
         cells.push(spelled(alloc, word)?)?;
@@ -59,22 +59,25 @@ fn last_answer(alloc: Global, mut table: Table, rows: &[&str]) -> Result<Answer,
     Ok(last)
 }
 
+// The number that a table gives to its next row, the rows that it is to take, and its answer to the last of them.
+const ROWS: [(u64, &[&str], Answer); 6] = [
+    (1, &[""], Err((StoreError::Arity, 0))),
+    (1, &["true"], Err((StoreError::CellType, 1))),
+    (1, &["10"], Err((StoreError::CellRange, 1))),
+    (1, &["", "true", "10", "9"], Ok(1)),
+    (u64::MAX, &["1"], Ok(u64::MAX)),
+    (u64::MAX, &["1", "2"], Err((StoreError::Full, 1))),
+];
+
 #[test]
 fn cells_are_checked_in_order(rt: HostRuntime) -> Result<(), Fail> {
-    let cases: [(&[&str], Answer); 4] = [
-        (&[""], Err((StoreError::Arity, 0))),
-        (&["true"], Err((StoreError::CellType, 1))),
-        (&["10"], Err((StoreError::CellRange, 1))),
-        (&["", "true", "10", "9"], Ok(1)),
-    ];
-    for (rows, expected) in &cases {
-        let first = table(rt.alloc(), "t", 1)?;
-        assert!(rt; last_answer(rt.alloc(), first, rows)? == *expected);
+    for (next, rows, expected) in &ROWS {
+        let first = table(rt.alloc(), "t", (*next).max(1))?;
+        assert!(rt;
+            last_answer(rt.alloc(), first, rows)? == *expected,
+            "{rows:?}"
+        );
     }
-    let full = table(rt.alloc(), "t", u64::MAX)?;
-    assert!(rt; last_answer(rt.alloc(), full, &["1"])? == Ok(u64::MAX));
-    let full = table(rt.alloc(), "t", u64::MAX)?;
-    assert!(rt; last_answer(rt.alloc(), full, &["1", "2"])? == Err((StoreError::Full, 1)));
     Ok(())
 }
 

@@ -70,7 +70,10 @@ pub(crate) fn spelled(alloc: Global, word: &str) -> Result<Scalar, AllocError> {
     Ok(match word {
         "true" => Scalar::Bool(true),
         "false" => Scalar::Bool(false),
-        _ => word.parse().map_or(Scalar::Null, Scalar::Int),
+        _ => match word.parse() {
+            Ok(number) => Scalar::Int(number),
+            Err(_) => Scalar::Null,
+        },
     })
 }
 
@@ -122,25 +125,20 @@ fn around<'a>(alloc: Global, value: Value<Cells<'a>>) -> Result<Value<Cells<'a>>
     Ok(Value::Rec(members))
 }
 
+// Whether the records are the same, each in another one.
 fn are_same(alloc: Global, first: Spelled<'_>, second: Spelled<'_>) -> Result<bool, AllocError> {
-    let left = spelled_record(alloc, first)?;
-    Ok(is_same(left, spelled_record(alloc, second)?))
-}
-
-fn are_same_nested(
-    alloc: Global,
-    first: Spelled<'_>,
-    second: Spelled<'_>,
-) -> Result<bool, AllocError> {
     let left = around(alloc, spelled_record(alloc, first)?)?;
-    Ok(is_same(left, around(alloc, spelled_record(alloc, second)?)?))
+    let right = around(alloc, spelled_record(alloc, second)?)?;
+    Ok(is_same(left, right))
 }
 
 #[test]
 fn records_are_the_same_by_all_members(rt: HostRuntime) -> Result<(), Fail> {
-    for (first, second, expected) in &RECORDS {
-        assert!(rt; are_same(rt.alloc(), first, second)? == *expected);
-        assert!(rt; are_same_nested(rt.alloc(), first, second)? == *expected);
+    for (number, (first, second, expected)) in RECORDS.iter().enumerate() {
+        assert!(rt;
+            are_same(rt.alloc(), first, second)? == *expected,
+            "records {number}"
+        );
     }
     Ok(())
 }
