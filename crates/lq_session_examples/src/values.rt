@@ -21,6 +21,16 @@ impl RowRef for Cells<'_> {
     }
 }
 
+#[test]
+fn a_list_gives_back_its_items(rt: HostRuntime) -> Result<(), Fail> {
+    let mut list = List::new(rt.alloc());
+    assert!(rt; list.is_empty());
+    list.push(3)?;
+    assert!(rt; list.len() == 1);
+    assert!(rt; List::from_vec(list.into_vec()).as_slice() == [3].as_slice());
+    Ok(())
+}
+
 // Two scalars as they are spelled, a text in quotes, and how the first stands to the second.
 const ORDERS: [(&str, &str, Ordering); 16] = [
     ("null", "null", Ordering::Equal),
