@@ -4,6 +4,7 @@ pub mod InsertLemmas
 pub mod LengthLemmas
 pub mod OpeningLemmas
 pub mod Outcomes
+pub mod ServingLemmas
 pub mod StepLemmas
 pub mod StoredLemmas
 pub mod TableLemmas

@@ -8,6 +8,7 @@ pub mod meaning_laws;
 mod opening;
 mod replies;
 mod rows;
+mod serving;
 mod session;
 mod statements;
 mod variables;

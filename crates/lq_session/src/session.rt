@@ -2,6 +2,7 @@
 ghost use Rattle.lq_policy.specs.Roles.{number_of};
 
 use crate::opening::opening_for;
+use crate::serving::type_of_line;
 use crate::statements::perform;
 use lq_grammar::Statement;
 use lq_json::Line;
@@ -10,6 +11,7 @@ use lq_policy::{Policies, RoleId};
 use lq_run::{State, refusal};
 use lq_store::Store;
 use lq_syntax::{SyntaxError, parse_statement};
+use lq_value::Ty;
 use std::alloc::{AllocError, Global};
 
 /// A session: the tables that its statements work on, the policies in front of them, the role that it
@@ -27,6 +29,7 @@ impl Session {
     ghost use Rattle.lq_machine.specs.Output.{Answers};
     ghost use Rattle.lq_machine.specs.Served.{error_data, line_of};
     ghost use Rattle.lq_session.specs.Performed.{Performs, Steps};
+    ghost use Rattle.lq_session.specs.ServedTypes.{line_type};
     ghost use Rattle.lq_session.specs.States.{state_of};
 
     /// The first state of a session over these tables, with these policies, under this role. No name is
@@ -45,6 +48,22 @@ impl Session {
         ensures { result.now ≡ (state_of self.now).tables }
     {
         self.state.store()
+    }
+
+    /// The state of the session as it is now.
+    pub fn state(&self) -> &State
+        ensures { result.now ≡ state_of self.now }
+    {
+        &self.state
+    }
+
+    /// The type by which the value is served that a line asks for, were it stepped now: that of the
+    /// expression of its `run`. None where the line says no `run`, the statement opens more than it
+    /// may, or its expression has no type, or that of null alone, which is refused.
+    pub fn served_type(&self, line: &str) -> Result<Option<Ty>, AllocError>
+        ensures { IfOk result (λ found. found ≡ line_type (state_of self.now) line.now) }
+    {
+        type_of_line(self.alloc, line, &self.state)
     }
 
     /// Answers one line of a script: a step of the session machine, or the memory line in place
