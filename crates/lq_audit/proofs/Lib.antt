@@ -1,0 +1,2 @@
+pub mod HiddenRowLemmas
+pub mod RowLemmas

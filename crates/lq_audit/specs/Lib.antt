@@ -1,0 +1,2 @@
+pub mod Disclosure
+pub mod DisclosureLaws

@@ -1,0 +1,13 @@
+//! Explanations of rows, for those who may know of them.
+//!
+//! `why` explains a row exactly to whom the row is no secret: where the session's starting role
+//! bypasses row security, or the present role sees the row. It answers a hidden row as one that is
+//! not there.
+#![tactic(auto)]
+
+mod answers;
+mod disclosure;
+pub mod disclosure_laws;
+
+pub use answers::Why;
+pub use disclosure::why;
