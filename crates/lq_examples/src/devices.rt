@@ -382,13 +382,13 @@ fn end_script(
 
 // Scripts, the read, the call of the writer and the call of the writer of errors that fail (0: none), and the status and the line
 // that follow.
-const ENDINGS: [(&[u8], [u64; 3], u8, &[u8]); 5] = [
-    (SCRIPT, [0, 0, 0], 0, b""),
-    (SCRIPT, [1, 0, 0], 4, b"lq: script: read\n"),
-    (b"", [0, 1, 0], 4, b"lq: script: write\n"),
-    (b"one\n\xFF\n", [0, 0, 0], 4, b"lq: script: utf8\n"),
+const ENDINGS: [(&[u8], u64, u64, u64, u8, &[u8]); 5] = [
+    (SCRIPT, 0, 0, 0, 0, b""),
+    (SCRIPT, 1, 0, 0, 4, b"lq: script: read\n"),
+    (b"", 0, 1, 0, 4, b"lq: script: write\n"),
+    (b"one\n\xFF\n", 0, 0, 0, 4, b"lq: script: utf8\n"),
     // A fault that nobody can be told of keeps its status.
-    (b"one\n\xFF\n", [0, 0, 3], 4, b"lq: script"),
+    (b"one\n\xFF\n", 0, 0, 3, 4, b"lq: script"),
 ];
 
 fn ends_so(end: &Ended, status: u8, line: &[u8], is_marked: bool) -> bool {
@@ -400,7 +400,7 @@ fn ends_so(end: &Ended, status: u8, line: &[u8], is_marked: bool) -> bool {
 
 #[test]
 fn a_fault_ends_with_its_status_and_its_line(rt: HostRuntime) -> Result<(), Fail> {
-    for (text, [bad_read, bad_call, bad_told], status, line) in &ENDINGS {
+    for (text, bad_read, bad_call, bad_told, status, line) in &ENDINGS {
         let mut script = whole(text);
         script.bad = *bad_read;
         let sink = taking(rt.alloc(), *bad_call, Fault::Errs(ErrorKind::Other));
