@@ -8,6 +8,7 @@ use lq_value::{Column, List, Txt, Ty};
 use std::alloc::{AllocError, Global};
 
 /// What a reply is shown by.
+#[derive(Clone, Copy)]
 pub struct Layout<'a> {
     /// The type of the expression that the line serves, where it is known: it gives the order of columns.
     pub ty: Option<&'a Ty>,

@@ -1,2 +1,13 @@
-//! Tests of what is shown of replies, by public calls. They stand here and not in the crate that they test: a crate without tests is proved once.
+//! Tests of what people read of replies, by public calls. They stand here and not in the crate that they test: a crate without tests is proved once.
 #![tactic(auto)]
+
+#[cfg(test)]
+mod building;
+#[cfg(test)]
+mod grids;
+#[cfg(test)]
+mod sentences;
+#[cfg(test)]
+mod tables;
+#[cfg(test)]
+mod types;
