@@ -1,5 +1,5 @@
 -- What people read of a reply's line.
-use Rattle.std.specs.Prelude.{◌++◌, ◌&&◌, List, ℕ, Option, Some, None, bytes_eq, codes, if◌then◌else◌, option_and_then, option_map, unwrap_or}
+use Rattle.std.specs.Prelude.{◌++◌, ◌-◌, ◌==◌, ◌&&◌, List, ℕ, Option, Some, None, bytes_eq, codes, if◌then◌else◌, length, option_and_then, option_map, slice_index, take, unwrap_or}
 use Rattle.serde_json.specs.Data.{Data, Members, member, no_members, number, object, string}
 use Rattle.serde_json.specs.Find.{as_str, as_u64}
 use Rattle.serde_json.specs.Read.{read}
@@ -73,6 +73,11 @@ text_of_reply shape d = None
 abbrev pub without_floats : Data → Option Data
 without_floats d = if has_float d then None else Some d
 
--- the text of a reply's line; a line that is no reply as it is
+-- the text of a line, given without its line feed; what is no reply is shown as it is
 abbrev pub line_text : Shape → List ℕ → List ℕ
-line_text shape text = unwrap_or (option_and_then (text_of_reply shape) (option_and_then without_floats (read text))) text
+line_text shape text =
+    unwrap_or (option_and_then (text_of_reply shape) (option_and_then without_floats (read text))) (text ++ codes "\n")
+
+-- a line without the line feed at its end
+abbrev pub front_of : List ℕ → List ℕ
+front_of line = if slice_index line (length line - 1) == 10 then take (length line - 1) line else line

@@ -4,7 +4,7 @@ ghost use Rattle.serde_json.specs.Find.{as_str};
 ghost use Rattle.serde_json.specs.Read.{read};
 ghost use Rattle.serde_json.specs.View.{members_view, view};
 ghost use Rattle.lq_render.specs.Parts.{all_items, items_in};
-ghost use Rattle.lq_render.specs.Replies.{count_reply, denial, items_and_fault, line_text, members_reply, pair_reply, plain_reply, sole_reply, text_of_reply, without_floats, word_reply};
+ghost use Rattle.lq_render.specs.Replies.{count_reply, denial, front_of, items_and_fault, line_text, members_reply, pair_reply, plain_reply, sole_reply, text_of_reply, without_floats, word_reply};
 ghost use Rattle.lq_render.specs.Types.{schemas_of, shape_of};
 
 use crate::floats::has_float;
@@ -230,27 +230,37 @@ fn shown_reply(alloc: Global, shape: &Shape, line: &str) -> Result<Option<String
     }
 }
 
-/// The text of a line by a shape.
+/// The text of a line, given without its line feed, by a shape.
 fn line_text(alloc: Global, shape: &Shape, line: &str) -> Result<String, AllocError>
     ensures { IfOk result (λ text. string_bytes text ≡ line_text shape.now line.now) }
 {
     match shown_reply(alloc, shape, line)? {
         Some(text) => Ok(text),
-        None => String::from_str(alloc, line),
+        None => format!(in alloc; "{line}\n"),
     }
 }
 
-/// What a person reads of a reply's line, its line feed included: a table, a list or a sentence, with a line feed at
-/// the end of each line. A line that is no reply is given as it is, and bytes that are no UTF-8 as a sentence that says
-/// so; a session gives neither. Refuses for want of memory alone.
+/// A line without the line feed at its end.
+fn front_of(line: &[u8]) -> &[u8]
+    ensures { result.now ≡ front_of line.now }
+{
+    match line {
+        [front @ .., b'\n'] => front,
+        _ => line,
+    }
+}
+
+/// What a person reads of a reply's line, whose line feed may be there or not: a table, a list or a sentence,
+/// with a line feed at the end of each line. A line that is no reply is shown as it is, and bytes that are no
+/// UTF-8 as a sentence that says so; a session gives neither. Refuses for want of memory alone.
 pub fn reply_text(alloc: Global, line: &[u8], layout: &Layout<'_>) -> Result<String, AllocError>
-    ensures text { IfOk result (λ text. IsUtf8 line.now → string_bytes text
+    ensures text { IfOk result (λ text. IsUtf8 (front_of line.now) → string_bytes text
         ≡ line_text (shape_of (schemas_of layout.now.store.now) layout.now.most_rows
-        (option_map (λ ty. ty.now) layout.now.ty)) line.now) }
-    ensures other { IfOk result (λ text. ¬ IsUtf8 line.now → string_bytes text
+        (option_map (λ ty. ty.now) layout.now.ty)) (front_of line.now)) }
+    ensures other { IfOk result (λ text. ¬ IsUtf8 (front_of line.now) → string_bytes text
         ≡ codes "the reply is no text in UTF-8\n") }
 {
-    match str::from_utf8(line) {
+    match str::from_utf8(front_of(line)) {
         Ok(line) => {
             let shape = layout.shape(alloc)?;
             line_text(alloc, &shape, line)

@@ -3,7 +3,7 @@ use crate::building::{Served, shown};
 use std::test::Fail;
 
 /// Lines, and what is read of them.
-const CASES: [(&str, &str); 30] = [
+const CASES: [(&str, &str); 32] = [
     (
         "{\"fault\":\"DivideByZero\"}\n",
         "fault: DivideByZero, a division by zero\n",
@@ -81,7 +81,9 @@ const CASES: [(&str, &str); 30] = [
     ("{\"deleted\":1234567}\n", "1,234,567 rows deleted\n"),
     ("{\"role\":\"dan\"}\n", "the role is dan\n"),
     // no replies
-    ("hello", "hello"),
+    ("hello", "hello\n"),
+    ("{\"role\":\"dan\"}", "the role is dan\n"),
+    ("", "\n"),
     ("{\"items\":7}\n", "{\"items\":7}\n"),
     ("{\"value\":1.5}\n", "{\"value\":1.5}\n"),
     (
