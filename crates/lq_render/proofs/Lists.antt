@@ -4,7 +4,7 @@ use Rattle.std.specs.List.{repeat}
 use Rattle.std.proofs.lemmas.List.{length-map, take-map}
 use Rattle.serde_json.specs.View.{items_view, view}
 use Rattle.serde_json.specs.declared.value.Value.{Value}
-use Rattle.lq_render.specs.Parts.{listed}
+use Rattle.lq_render.specs.Parts.{data_list}
 
 -- a text some times is the text and then the text once less
 pub repeat_less : (n : ℕ) (xs : List ℕ) → 0 < n → repeat n xs ≡ xs ++ repeat (n - 1) xs
@@ -12,9 +12,9 @@ repeat_less zero xs h = absurd (omega arith)
 repeat_less (suc n) xs h = let less : n ≡ suc n - 1 = omega arith in ap (λ m. xs ++ repeat m xs) less
 
 -- the items of an array are the data of its values
-pub listed_view : (vs : List Value) → listed (items_view vs) ≡ map view vs
-listed_view [] = refl
-listed_view (v ∷ vs) = ap (λ ds. view v ∷ ds) (listed_view vs)
+pub data_list_view : (vs : List Value) → data_list (items_view vs) ≡ map view vs
+data_list_view [] = refl
+data_list_view (v ∷ vs) = ap (λ ds. view v ∷ ds) (data_list_view vs)
 
 pub shown_count : (vs : List Value) → length (map view vs) ≡ length vs
 shown_count vs = length-map vs view

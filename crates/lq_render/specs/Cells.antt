@@ -32,8 +32,8 @@ abbrev pub shown_character : ℕ → List ℕ
 shown_character c = if is_control c then escape c else encode_utf8 c
 
 -- a text with its control characters escaped: it stays on one line
-abbrev pub escaped : List ℕ → List ℕ
-escaped text = flat_map shown_character (chars text)
+abbrev pub escaped_text : List ℕ → List ℕ
+escaped_text text = flat_map shown_character (chars text)
 
 -- ---- values
 
@@ -42,14 +42,14 @@ abbrev pub null_sign : List ℕ
 null_sign = 226 ∷ 136 ∷ 133 ∷ []
 
 -- Texts without quotes, and else compact JSON. A value with a float in it has no text here; a reply has none.
-abbrev pub plain : Data → List ℕ
-plain null = null_sign
-plain (string text) = text
-plain d = if has_float d then [] else compact_text d
+abbrev pub plain_text : Data → List ℕ
+plain_text null = null_sign
+plain_text (string text) = text
+plain_text d = if has_float d then [] else compact_text d
 
 -- a value as it is read
 abbrev pub text_of : Data → List ℕ
-text_of d = escaped (plain d)
+text_of d = escaped_text (plain_text d)
 
 -- ---- cells of a table
 
@@ -70,11 +70,11 @@ front n [] = []
 front n (c ∷ cs) = if nat_le (own_width c) n then encode_utf8 c ++ front (n - own_width c) cs else []
 
 -- a text that is too wide ends in an ellipsis
-abbrev pub cut : List ℕ → List ℕ
-cut text = if nat_le (width text) most_width then text else front (most_width - 1) (chars text) ++ ellipsis
+abbrev pub short_text : List ℕ → List ℕ
+short_text text = if nat_le (width text) most_width then text else front (most_width - 1) (chars text) ++ ellipsis
 
 abbrev pub cell_of : Data → Cell
-cell_of d = record { text = cut (text_of d); is_number = is_some (as_number d) }
+cell_of d = record { text = short_text (text_of d); is_number = is_some (as_number d) }
 
 -- a text that is no number
 abbrev pub text_cell : List ℕ → Cell
@@ -86,10 +86,10 @@ text_cell text = record { text = text; is_number = false }
 abbrev pub separator : ℕ → List ℕ
 separator left = if nat_lt 0 left && ((left % 3) == 0) then codes "," else []
 
-abbrev pub grouped : List ℕ → List ℕ
-grouped [] = []
-grouped (digit ∷ digits) = encode_utf8 digit ++ (separator (length digits) ++ grouped digits)
+abbrev pub grouped_digits : List ℕ → List ℕ
+grouped_digits [] = []
+grouped_digits (digit ∷ digits) = encode_utf8 digit ++ (separator (length digits) ++ grouped_digits digits)
 
 -- a number with a comma between each three digits
 abbrev pub count_text : ℕ → List ℕ
-count_text n = grouped (chars (decimal n))
+count_text n = grouped_digits (chars (decimal n))

@@ -22,18 +22,18 @@ widths header rows = map (column_width rows) (enumerate_from 0 header)
 
 -- ---- lines
 
--- a cell, filled up to a width: numbers stand to the right, everything else to the left
-abbrev pub filled : ℕ → Cell → List ℕ
-filled n cell =
+-- a cell, filled up to a width: numbers are aligned to the right, everything else to the left
+abbrev pub filled_cell : ℕ → Cell → List ℕ
+filled_cell n cell =
     let gap = spaces (n - width cell.text) in
     if cell.is_number then gap ++ cell.text else cell.text ++ gap
 
 -- the last cell of a line has no spaces after it
 abbrev pub last_cell : ℕ → Cell → List ℕ
-last_cell n cell = if cell.is_number then filled n cell else cell.text
+last_cell n cell = if cell.is_number then filled_cell n cell else cell.text
 
-abbrev pub placed : ℕ → Cell → Bool → List ℕ
-placed n cell is_last = if is_last then last_cell n cell else filled n cell ++ codes "  "
+abbrev pub placed_cell : ℕ → Cell → Bool → List ℕ
+placed_cell n cell is_last = if is_last then last_cell n cell else filled_cell n cell ++ codes "  "
 
 abbrev pub first_width : List ℕ → ℕ
 first_width [] = 0
@@ -46,7 +46,7 @@ other_widths (n ∷ ns) = ns
 -- cells, each filled up to the width of its column, with two spaces between them
 abbrev pub cells_text : List ℕ → List Cell → List ℕ
 cells_text ns [] = []
-cells_text ns (cell ∷ cells) = placed (first_width ns) cell (length cells == 0) ++ cells_text (other_widths ns) cells
+cells_text ns (cell ∷ cells) = placed_cell (first_width ns) cell (length cells == 0) ++ cells_text (other_widths ns) cells
 
 -- a line of a table that is indented by so many spaces
 abbrev pub line : ℕ → List ℕ → List Cell → List ℕ

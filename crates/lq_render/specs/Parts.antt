@@ -3,20 +3,20 @@ use Rattle.std.specs.Prelude.{◌∷◌, ◌++◌, ◌==◌, ◌-◌, ◌&&◌, 
 use Rattle.std.specs.List.{list_all, list_any}
 use Rattle.serde_json.specs.Data.{Data, Items, Members, item, member, no_items, no_members, null, object}
 use Rattle.serde_json.specs.Find.{as_array, get}
-use Rattle.lq_render.specs.Cells.{cell_of, count_text, cut, ellipsis, escaped, text_cell, text_of}
+use Rattle.lq_render.specs.Cells.{cell_of, count_text, short_text, ellipsis, escaped_text, text_cell, text_of}
 use Rattle.lq_render.specs.Grids.{grid, spaces}
 use Rattle.lq_render.specs.declared.grid.Cell.{Cell}
 use Rattle.lq_render.specs.declared.layout.Shape.{Shape}
 
 -- ---- what is in a value
 
-abbrev pub listed : Items → List Data
-listed no_items = []
-listed (item d ds) = d ∷ listed ds
+abbrev pub data_list : Items → List Data
+data_list no_items = []
+data_list (item d ds) = d ∷ data_list ds
 
 -- the items of an array
 abbrev pub items_in : Data → Option (List Data)
-items_in d = option_map listed (as_array d)
+items_in d = option_map data_list (as_array d)
 
 -- the names of members, in their order
 abbrev pub names_of : Members → List (List ℕ)
@@ -60,7 +60,7 @@ abbrev pub row_of : List (List ℕ) → Data → List Cell
 row_of names d = map (λ name. cell_of (member_of d name)) names
 
 abbrev pub heading : List ℕ → List ℕ
-heading name = cut (escaped name)
+heading name = short_text (escaped_text name)
 
 -- a table of these columns
 abbrev pub table_text : ℕ → List (List ℕ) → List Data → List ℕ
@@ -100,7 +100,7 @@ items_text indent shape items =
 abbrev pub group_shown : Shape → Data → List Data → List ℕ
 group_shown shape key elements = codes "Key: " ++ (text_of key ++ (codes "\n" ++ items_text 2 shape elements))
 
--- a group; a value that isn't one stands on a line of its own
+-- a group; a value that isn't one has a line of its own
 abbrev pub group_or_line : Shape → Data → Option Data → Option (List Data) → List ℕ
 group_or_line shape d (Some key) (Some elements) = group_shown shape key elements
 group_or_line shape d key elements = line_text 0 d
@@ -128,7 +128,7 @@ all_items shape items = if shape.is_group then groups_text shape items else item
 
 -- a member by its name and its value; the value is whole
 abbrev pub member_row : Data → List ℕ → List Cell
-member_row d name = text_cell (escaped name) ∷ text_cell (text_of (member_of d name)) ∷ []
+member_row d name = text_cell (escaped_text name) ∷ text_cell (text_of (member_of d name)) ∷ []
 
 abbrev pub member_table : List (List ℕ) → Data → List ℕ
 member_table names d = grid 0 (codes "name" ∷ codes "value" ∷ []) (map (member_row d) names)

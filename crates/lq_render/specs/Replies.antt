@@ -58,7 +58,7 @@ pair_reply shape first second =
 
 -- ---- lines
 
--- by the members of a reply, which stand in the order of their names
+-- by the members of a reply, which are in the order of their names
 abbrev pub members_reply : Shape → Members → Option (List ℕ)
 members_reply shape (member name d no_members) = sole_reply shape name d
 members_reply shape (member name d (member other e no_members)) = pair_reply shape (name, d) (other, e)

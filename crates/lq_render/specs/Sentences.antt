@@ -1,6 +1,6 @@
 -- The sentences of replies without rows.
 use Rattle.std.specs.Prelude.{◌++◌, ◌==◌, List, [], ℕ, Option, Some, None, bytes_eq, codes, if◌then◌else◌, unwrap_or}
-use Rattle.lq_render.specs.Cells.{count_text, escaped}
+use Rattle.lq_render.specs.Cells.{count_text, escaped_text}
 
 -- ---- faults
 
@@ -15,7 +15,7 @@ reason name =
     else []
 
 abbrev pub fault_sentence : List ℕ → List ℕ
-fault_sentence name = codes "fault: " ++ (escaped name ++ reason name)
+fault_sentence name = codes "fault: " ++ (escaped_text name ++ reason name)
 
 abbrev pub fault_text : List ℕ → List ℕ
 fault_text name = fault_sentence name ++ codes "\n"
@@ -39,25 +39,25 @@ advice word =
     else None
 
 abbrev pub error_text : List ℕ → List ℕ
-error_text word = codes "error: " ++ (unwrap_or (advice word) (escaped word) ++ codes "\n")
+error_text word = codes "error: " ++ (unwrap_or (advice word) (escaped_text word) ++ codes "\n")
 
 -- the rule that denies a use, and the use
 abbrev pub denied_text : List ℕ → List ℕ → List ℕ
 denied_text rule used =
-    if bytes_eq rule (codes "no-grant") then codes "denied: no grant covers " ++ (escaped used ++ codes "\n")
-    else if bytes_eq rule (codes "default-deny") then codes "denied by default: no policy permits this row (" ++ (escaped used ++ codes ")\n")
-    else codes "denied by " ++ (escaped rule ++ (codes ": " ++ (escaped used ++ codes "\n")))
+    if bytes_eq rule (codes "no-grant") then codes "denied: no grant covers " ++ (escaped_text used ++ codes "\n")
+    else if bytes_eq rule (codes "default-deny") then codes "denied by default: no policy permits this row (" ++ (escaped_text used ++ codes ")\n")
+    else codes "denied by " ++ (escaped_text rule ++ (codes ": " ++ (escaped_text used ++ codes "\n")))
 
 -- ---- what was done
 
 abbrev pub defined_text : List ℕ → List ℕ
-defined_text name = escaped name ++ codes " is defined\n"
+defined_text name = escaped_text name ++ codes " is defined\n"
 
 abbrev pub assigned_text : List ℕ → List ℕ
-assigned_text name = escaped name ++ codes " is assigned\n"
+assigned_text name = escaped_text name ++ codes " is assigned\n"
 
 abbrev pub role_text : List ℕ → List ℕ
-role_text name = codes "the role is " ++ (escaped name ++ codes "\n")
+role_text name = codes "the role is " ++ (escaped_text name ++ codes "\n")
 
 -- a number of rows
 abbrev pub rows_text : ℕ → List ℕ

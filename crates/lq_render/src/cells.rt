@@ -1,7 +1,7 @@
 //! The texts of values and cells: control characters are escaped, and what is too wide for a table is cut.
 ghost use Rattle.std.specs.Prelude.{◌≡◌, ◌++◌, ◌<◌, OnOk, IfOk, chars, flat_map, string_bytes, ◌-◌};
 ghost use Rattle.serde_json.specs.View.{view};
-ghost use Rattle.lq_render.specs.Cells.{cell_of, cut, ellipsis, escape, escaped, front, hex_digit, is_control, most_width, own_width, plain, shown_character, text_of};
+ghost use Rattle.lq_render.specs.Cells.{cell_of, short_text, ellipsis, escape, escaped_text, front, hex_digit, is_control, most_width, own_width, plain_text, shown_character, text_of};
 
 use crate::floats::has_float;
 use crate::grid::{Cell, width_of};
@@ -77,24 +77,24 @@ pub(crate) fn characters(alloc: Global, text: &str) -> Result<Vec<char>, AllocEr
 
 /// Puts a text at the end, its control characters escaped.
 pub(crate) fn push_escaped(alloc: Global, out: &mut String, text: &str) -> Result<(), AllocError>
-    ensures { OnOk result (string_bytes out.new ≡ string_bytes out.old ++ escaped text.now) }
+    ensures { OnOk result (string_bytes out.new ≡ string_bytes out.old ++ escaped_text text.now) }
 {
     let characters = characters(alloc, text)?;
     push_characters(out, characters.as_slice())
 }
 
 /// A text with its control characters escaped.
-pub(crate) fn escaped(alloc: Global, text: &str) -> Result<Txt, AllocError>
-    ensures { IfOk result (λ shown. shown ≡ escaped text.now) }
+pub(crate) fn escaped_text(alloc: Global, text: &str) -> Result<Txt, AllocError>
+    ensures { IfOk result (λ t. t ≡ escaped_text text.now) }
 {
-    let mut shown = String::new(alloc);
-    push_escaped(alloc, &mut shown, text)?;
-    Ok(Txt::from_string(shown))
+    let mut out = String::new(alloc);
+    push_escaped(alloc, &mut out, text)?;
+    Ok(Txt::from_string(out))
 }
 
 /// A value as text: texts without quotes, compact JSON elsewhere. Empty for a value with a float in it.
-fn plain(alloc: Global, value: &Value) -> Result<String, AllocError>
-    ensures { IfOk result (λ text. string_bytes text ≡ plain (view value.now)) }
+fn plain_text(alloc: Global, value: &Value) -> Result<String, AllocError>
+    ensures { IfOk result (λ text. string_bytes text ≡ plain_text (view value.now)) }
 {
     match value {
         Value::Null => String::from_str(alloc, "∅"),
@@ -112,8 +112,8 @@ fn plain(alloc: Global, value: &Value) -> Result<String, AllocError>
 pub(crate) fn text_of(alloc: Global, value: &Value) -> Result<Txt, AllocError>
     ensures { IfOk result (λ text. text ≡ text_of (view value.now)) }
 {
-    let text = plain(alloc, value)?;
-    escaped(alloc, text.as_str())
+    let text = plain_text(alloc, value)?;
+    escaped_text(alloc, text.as_str())
 }
 
 /// The columns that a character takes.
@@ -154,8 +154,8 @@ fn start_of(alloc: Global, text: &str) -> Result<Txt, AllocError>
 }
 
 /// A text, cut where it is too wide for a table.
-pub(crate) fn cut(alloc: Global, text: Txt) -> Result<Txt, AllocError>
-    ensures { IfOk result (λ short. short ≡ cut text) }
+pub(crate) fn short_text(alloc: Global, text: Txt) -> Result<Txt, AllocError>
+    ensures { IfOk result (λ t. t ≡ short_text text) }
 {
     if width_of(text.as_str()) <= MOST_WIDTH {
         return Ok(text);
@@ -169,7 +169,7 @@ pub(crate) fn cell_of(alloc: Global, value: &Value) -> Result<Cell, AllocError>
 {
     let text = text_of(alloc, value)?;
     Ok(Cell {
-        text: cut(alloc, text)?,
+        text: short_text(alloc, text)?,
         is_number: value.is_number(),
     })
 }

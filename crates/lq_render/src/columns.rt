@@ -54,7 +54,7 @@ fn add_names(alloc: Global, names: &mut Vec<Txt>, value: &Value) -> Result<(), A
 }
 
 /// Copies of names.
-fn copied(alloc: Global, names: &[Txt]) -> Result<Vec<Txt>, AllocError>
+fn copies_of(alloc: Global, names: &[Txt]) -> Result<Vec<Txt>, AllocError>
     ensures { IfOk result (λ copies. copies.items ≡ names.now) }
 {
     let mut copies = Vec::new(alloc);
@@ -72,7 +72,7 @@ pub(crate) fn columns_of(
 ) -> Result<Vec<Txt>, AllocError>
     ensures { IfOk result (λ found. found.items ≡ columns names.now (map view items.now)) }
 {
-    let mut found = copied(alloc, names)?;
+    let mut found = copies_of(alloc, names)?;
     for item in items {
         add_names(alloc, &mut found, item)?;
     }
@@ -87,7 +87,7 @@ pub(crate) fn columns_of_value(
 ) -> Result<Vec<Txt>, AllocError>
     ensures { IfOk result (λ found. found.items ≡ with_names names.now (view value.now)) }
 {
-    let mut found = copied(alloc, names)?;
+    let mut found = copies_of(alloc, names)?;
     add_names(alloc, &mut found, value)?;
     Ok(found)
 }

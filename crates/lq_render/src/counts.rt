@@ -1,6 +1,6 @@
 //! Counts with a comma between each three digits.
 ghost use Rattle.std.specs.Prelude.{◌≡◌, ◌++◌, OnOk, encode_utf8, string_bytes};
-ghost use Rattle.lq_render.specs.Cells.{count_text, grouped, separator};
+ghost use Rattle.lq_render.specs.Cells.{count_text, grouped_digits, separator};
 
 use crate::cells::characters;
 use std::alloc::{AllocError, Global};
@@ -19,7 +19,7 @@ fn push_digit(out: &mut String, digit: char, left: usize) -> Result<(), AllocErr
 
 /// Puts digits at the end, with a comma between each three of them.
 fn push_grouped(out: &mut String, digits: &[char]) -> Result<(), AllocError>
-    ensures { OnOk result (string_bytes out.new ≡ string_bytes out.old ++ grouped digits.now) }
+    ensures { OnOk result (string_bytes out.new ≡ string_bytes out.old ++ grouped_digits digits.now) }
 {
     let mut left = digits;
     while let [digit, others @ ..] = left {

@@ -2,7 +2,7 @@
 ghost use Rattle.std.specs.Prelude.{◌≡◌, ◌++◌, OnOk, IfOk, map, codes, flat_map, slice_get, string_bytes};
 ghost use Rattle.std.specs.List.{repeat};
 ghost use Rattle.lq_render.specs.Cells.{text_cell, width};
-ghost use Rattle.lq_render.specs.Grids.{cell_width, cells_text, column_width, dashes, filled, first_width, grid, line, other_widths, placed, widths};
+ghost use Rattle.lq_render.specs.Grids.{cell_width, cells_text, column_width, dashes, filled_cell, first_width, grid, line, other_widths, placed_cell, widths};
 
 use lq_value::{List, Txt};
 use std::alloc::{AllocError, Global};
@@ -13,7 +13,7 @@ use unicode_width::UnicodeWidthStr;
 pub struct Cell {
     /// What it shows. A line feed in it would break the table's lines.
     pub text: Txt,
-    /// Whether it stands to the right in its column, as numbers do.
+    /// Whether it is aligned to the right in its column, as numbers are.
     pub is_number: bool,
 }
 
@@ -50,7 +50,7 @@ pub(crate) fn push_repeated(out: &mut String, text: &str, count: usize) -> Resul
 
 /// Puts a cell at the end, filled up to a width.
 fn push_filled(out: &mut String, cell: &Cell, width: usize) -> Result<(), AllocError>
-    ensures { OnOk result (string_bytes out.new ≡ string_bytes out.old ++ filled width cell.now) }
+    ensures { OnOk result (string_bytes out.new ≡ string_bytes out.old ++ filled_cell width cell.now) }
 {
     let gap = width.saturating_sub(width_of(cell.text.as_str()));
     if cell.is_number {
@@ -64,7 +64,7 @@ fn push_filled(out: &mut String, cell: &Cell, width: usize) -> Result<(), AllocE
 /// Puts a cell of a line at the end.
 fn push_placed(out: &mut String, cell: &Cell, width: usize, is_last: bool) -> Result<(), AllocError>
     ensures { OnOk result (string_bytes out.new
-        ≡ string_bytes out.old ++ placed width cell.now is_last) }
+        ≡ string_bytes out.old ++ placed_cell width cell.now is_last) }
 {
     if !is_last {
         push_filled(out, cell, width)?;
@@ -215,7 +215,7 @@ pub(crate) fn push_grid(
 }
 
 /// A table as text: the header, a line of dashes, and a line a row. Each column is as wide as the widest text
-/// in it, with two spaces between columns; numbers stand to the right, everything else to the left. A row may
+/// in it, with two spaces between columns; numbers are aligned to the right, everything else to the left. A row may
 /// have fewer cells than there are headings; cells past the last heading follow one another unaligned.
 /// Refuses for want of memory alone.
 pub fn grid_text(alloc: Global, header: &[Txt], rows: &[List<Cell>]) -> Result<String, AllocError>

@@ -37,7 +37,7 @@ fn elements_of(value: &Value) -> Option<&[Value]>
     }
 }
 
-/// Puts a group at the end; a value that isn't one stands on a line of its own.
+/// Puts a group at the end; a value that isn't one has a line of its own.
 pub(crate) fn push_group(
     alloc: Global,
     out: &mut String,

@@ -5,7 +5,7 @@ ghost use Rattle.serde_json.specs.View.{view};
 ghost use Rattle.lq_render.specs.Cells.{cell_of};
 ghost use Rattle.lq_render.specs.Parts.{first_items_text, heading, is_row, items_in, items_shown, items_text, left_out, line_text, member_of, row_of, shown_by_columns, table_text};
 
-use crate::cells::{cell_of, cut, escaped, text_of};
+use crate::cells::{cell_of, escaped_text, short_text, text_of};
 use crate::columns::columns_of;
 use crate::counts::push_count;
 use crate::grid::{Cell, push_grid, push_repeated};
@@ -72,8 +72,8 @@ fn rows_of(alloc: Global, names: &[Txt], items: &[Value]) -> Result<Vec<List<Cel
 fn heading(alloc: Global, name: &str) -> Result<Txt, AllocError>
     ensures { IfOk result (λ text. text ≡ heading name.now) }
 {
-    let name = escaped(alloc, name)?;
-    cut(alloc, name)
+    let name = escaped_text(alloc, name)?;
+    short_text(alloc, name)
 }
 
 /// The headings of columns.
@@ -228,8 +228,8 @@ fn push_first(
     ensures { OnOk result (string_bytes out.new
         ≡ string_bytes out.old ++ first_items_text indent shape.now (map view items.now)) }
 {
-    let shown = first_items(items, shape.most_rows);
-    push_by_columns(alloc, out, indent, shape.names.as_slice(), shown)?;
+    let first = first_items(items, shape.most_rows);
+    push_by_columns(alloc, out, indent, shape.names.as_slice(), first)?;
     push_left_out(
         alloc,
         out,

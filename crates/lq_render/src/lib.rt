@@ -12,6 +12,7 @@ mod grid;
 mod groups;
 mod items;
 mod layout;
+pub mod reading_laws;
 mod reply;
 mod sentences;
 mod types;

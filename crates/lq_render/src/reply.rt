@@ -21,10 +21,10 @@ use std::alloc::{AllocError, Global};
 
 /// The text of a reply whose member is a text; none of what is no such reply.
 fn word_reply(alloc: Global, name: &str, text: &str) -> Result<Option<String>, AllocError>
-    ensures { IfOk result (λ shown. option_map string_bytes shown
+    ensures { IfOk result (λ reply. option_map string_bytes reply
         ≡ word_reply name.now text.now) }
 {
-    let shown = if name == "fault" {
+    let reply = if name == "fault" {
         fault_text(alloc, text)?
     } else if name == "error" {
         error_text(alloc, text)?
@@ -37,26 +37,26 @@ fn word_reply(alloc: Global, name: &str, text: &str) -> Result<Option<String>, A
     } else {
         return Ok(None);
     };
-    Ok(Some(shown))
+    Ok(Some(reply))
 }
 
 /// The text of a reply whose member is a count; none of what is no such reply.
 fn count_reply(alloc: Global, name: &str, count: u64) -> Result<Option<String>, AllocError>
-    ensures { IfOk result (λ shown. option_map string_bytes shown ≡ count_reply name.now count) }
+    ensures { IfOk result (λ reply. option_map string_bytes reply ≡ count_reply name.now count) }
 {
-    let shown = if name == "inserted" {
+    let reply = if name == "inserted" {
         inserted_text(alloc, count)?
     } else if name == "deleted" {
         deleted_text(alloc, count)?
     } else {
         return Ok(None);
     };
-    Ok(Some(shown))
+    Ok(Some(reply))
 }
 
 /// The text of a reply whose member is a text or a count; none of what is no such reply.
 fn plain_reply(alloc: Global, name: &str, member: &Value) -> Result<Option<String>, AllocError>
-    ensures { IfOk result (λ shown. option_map string_bytes shown
+    ensures { IfOk result (λ reply. option_map string_bytes reply
         ≡ plain_reply name.now (view member.now)) }
 {
     match member {
@@ -71,7 +71,7 @@ fn plain_reply(alloc: Global, name: &str, member: &Value) -> Result<Option<Strin
 
 /// The text of the items of a reply; none of a value that is no array.
 fn items_reply(alloc: Global, shape: &Shape, member: &Value) -> Result<Option<String>, AllocError>
-    ensures { IfOk result (λ shown. option_map string_bytes shown
+    ensures { IfOk result (λ reply. option_map string_bytes reply
         ≡ option_map (all_items shape.now) (items_in (view member.now))) }
 {
     match items_in(member) {
@@ -91,7 +91,7 @@ fn sole_reply(
     name: &str,
     member: &Value,
 ) -> Result<Option<String>, AllocError>
-    ensures { IfOk result (λ shown. option_map string_bytes shown
+    ensures { IfOk result (λ reply. option_map string_bytes reply
         ≡ sole_reply shape.now name.now (view member.now)) }
 {
     if name == "items" {
@@ -107,7 +107,7 @@ fn sole_reply(
 
 /// The text of a denial; none where the rule or the use is no text.
 fn denial(alloc: Global, rule: &Value, used: &Value) -> Result<Option<String>, AllocError>
-    ensures { IfOk result (λ shown. option_map string_bytes shown
+    ensures { IfOk result (λ reply. option_map string_bytes reply
         ≡ denial (as_str (view rule.now)) (as_str (view used.now))) }
 {
     match (rule.as_str(), used.as_str()) {
@@ -123,7 +123,7 @@ fn items_and_fault(
     fault: &Value,
     items: &Value,
 ) -> Result<Option<String>, AllocError>
-    ensures { IfOk result (λ shown. option_map string_bytes shown
+    ensures { IfOk result (λ reply. option_map string_bytes reply
         ≡ items_and_fault shape.now (as_str (view fault.now)) (items_in (view items.now))) }
 {
     match (fault.as_str(), items_in(items)) {
@@ -145,7 +145,7 @@ fn pair_reply(
     first: (&str, &Value),
     second: (&str, &Value),
 ) -> Result<Option<String>, AllocError>
-    ensures { IfOk result (λ shown. option_map string_bytes shown
+    ensures { IfOk result (λ reply. option_map string_bytes reply
         ≡ pair_reply shape.now (first.entry.0.now, view first.entry.1.now)
         (second.entry.0.now, view second.entry.1.now)) }
 {
@@ -164,7 +164,7 @@ fn members_reply(
     shape: &Shape,
     members: &Map<String, Value>,
 ) -> Result<Option<String>, AllocError>
-    ensures { IfOk result (λ shown. option_map string_bytes shown
+    ensures { IfOk result (λ reply. option_map string_bytes reply
         ≡ members_reply shape.now (members_view members.now.entries)) }
 {
     let mut left = members.iter();
@@ -187,7 +187,7 @@ fn members_reply(
 
 /// The text of a reply; none of what is no reply.
 fn text_of_reply(alloc: Global, shape: &Shape, reply: &Value) -> Result<Option<String>, AllocError>
-    ensures { IfOk result (λ shown. option_map string_bytes shown
+    ensures { IfOk result (λ text. option_map string_bytes text
         ≡ text_of_reply shape.now (view reply.now)) }
 {
     match reply {
@@ -221,7 +221,7 @@ fn read_reply(alloc: Global, line: &str) -> Result<Option<Value>, AllocError>
 
 /// The text of a reply's line, if it is one.
 fn shown_reply(alloc: Global, shape: &Shape, line: &str) -> Result<Option<String>, AllocError>
-    ensures { IfOk result (λ shown. option_map string_bytes shown
+    ensures { IfOk result (λ reply. option_map string_bytes reply
         ≡ option_and_then (text_of_reply shape.now) (option_and_then without_floats (read line.now))) }
 {
     match read_reply(alloc, line)? {

@@ -2,7 +2,7 @@
 ghost use Rattle.std.specs.Prelude.{◌≡◌, IfOk, option_map, string_bytes};
 ghost use Rattle.lq_render.specs.Sentences.{advice, assigned_text, defined_text, deleted_text, denied_text, ending_text, error_text, fault_sentence, fault_text, inserted_text, reason, role_text, rows_text};
 
-use crate::cells::escaped;
+use crate::cells::escaped_text;
 use crate::counts::push_count;
 use std::alloc::{AllocError, Global};
 
@@ -30,7 +30,7 @@ fn fault_sentence(alloc: Global, name: &str) -> Result<String, AllocError>
     ensures { IfOk result (λ text. string_bytes text ≡ fault_sentence name.now) }
 {
     let reason = reason(name);
-    let name = escaped(alloc, name)?;
+    let name = escaped_text(alloc, name)?;
     let name = name.as_str();
     format!(in alloc; "fault: {name}{reason}")
 }
@@ -82,7 +82,7 @@ fn advice(word: &str) -> Option<&'static str>
 pub(crate) fn error_text(alloc: Global, word: &str) -> Result<String, AllocError>
     ensures { IfOk result (λ text. string_bytes text ≡ error_text word.now) }
 {
-    let word_shown = escaped(alloc, word)?;
+    let word_shown = escaped_text(alloc, word)?;
     let advice = advice(word).unwrap_or(word_shown.as_str());
     format!(in alloc; "error: {advice}\n")
 }
@@ -91,7 +91,7 @@ pub(crate) fn error_text(alloc: Global, word: &str) -> Result<String, AllocError
 pub(crate) fn denied_text(alloc: Global, rule: &str, used: &str) -> Result<String, AllocError>
     ensures { IfOk result (λ text. string_bytes text ≡ denied_text rule.now used.now) }
 {
-    let used = escaped(alloc, used)?;
+    let used = escaped_text(alloc, used)?;
     let used = used.as_str();
     if rule == "no-grant" {
         return format!(in alloc; "denied: no grant covers {used}\n");
@@ -99,7 +99,7 @@ pub(crate) fn denied_text(alloc: Global, rule: &str, used: &str) -> Result<Strin
     if rule == "default-deny" {
         return format!(in alloc; "denied by default: no policy permits this row ({used})\n");
     }
-    let rule = escaped(alloc, rule)?;
+    let rule = escaped_text(alloc, rule)?;
     let rule = rule.as_str();
     format!(in alloc; "denied by {rule}: {used}\n")
 }
@@ -108,7 +108,7 @@ pub(crate) fn denied_text(alloc: Global, rule: &str, used: &str) -> Result<Strin
 pub(crate) fn defined_text(alloc: Global, name: &str) -> Result<String, AllocError>
     ensures { IfOk result (λ text. string_bytes text ≡ defined_text name.now) }
 {
-    let name = escaped(alloc, name)?;
+    let name = escaped_text(alloc, name)?;
     let name = name.as_str();
     format!(in alloc; "{name} is defined\n")
 }
@@ -117,7 +117,7 @@ pub(crate) fn defined_text(alloc: Global, name: &str) -> Result<String, AllocErr
 pub(crate) fn assigned_text(alloc: Global, name: &str) -> Result<String, AllocError>
     ensures { IfOk result (λ text. string_bytes text ≡ assigned_text name.now) }
 {
-    let name = escaped(alloc, name)?;
+    let name = escaped_text(alloc, name)?;
     let name = name.as_str();
     format!(in alloc; "{name} is assigned\n")
 }
@@ -126,7 +126,7 @@ pub(crate) fn assigned_text(alloc: Global, name: &str) -> Result<String, AllocEr
 pub(crate) fn role_text(alloc: Global, name: &str) -> Result<String, AllocError>
     ensures { IfOk result (λ text. string_bytes text ≡ role_text name.now) }
 {
-    let name = escaped(alloc, name)?;
+    let name = escaped_text(alloc, name)?;
     let name = name.as_str();
     format!(in alloc; "the role is {name}\n")
 }

@@ -23,7 +23,7 @@ fn opening(is_part: bool) -> &'static str
     if is_part { "(group of " } else { "group of " }
 }
 
-/// What stands before a member of a record type.
+/// What is written before a member of a record type.
 fn separator(is_first: bool) -> &'static str
     ensures { result.now ≡ separator is_first }
 {
@@ -90,7 +90,7 @@ fn push_fields(out: &mut String, fields: &[(Txt, Ty)], store: &Store) -> Result<
 
 /// A type as text: `int`, `int?`, `bool`, `string`, `null`, the name of a table for a row of it, `{name: string, n: int}`,
 /// `employees[]` for a sequence, `group of string by int` for a group of texts by an int. A group in a sequence or a
-/// group stands in parentheses. Refuses for want of memory alone.
+/// group is in parentheses. Refuses for want of memory alone.
 pub fn type_text(alloc: Global, ty: &Ty, store: &Store) -> Result<String, AllocError>
     ensures { IfOk result (λ text. string_bytes text
         ≡ type_text (schemas_of store.now) ty.now) }

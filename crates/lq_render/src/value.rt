@@ -4,7 +4,7 @@ ghost use Rattle.serde_json.specs.View.{view};
 ghost use Rattle.lq_render.specs.Cells.{text_of};
 ghost use Rattle.lq_render.specs.Parts.{member_of, member_row, member_table, members_or_line, value_text};
 
-use crate::cells::{escaped, text_of};
+use crate::cells::{escaped_text, text_of};
 use crate::columns::columns_of_value;
 use crate::grid::{Cell, push_grid};
 use crate::groups::push_group;
@@ -29,7 +29,7 @@ fn member_row(alloc: Global, value: &Value, name: &str) -> Result<List<Cell>, Al
     ensures { IfOk result (λ cells. cells ≡ member_row (view value.now) name.now) }
 {
     let text = member_text(alloc, value, name)?;
-    let name = escaped(alloc, name)?;
+    let name = escaped_text(alloc, name)?;
     let mut cells = List::new(alloc);
     cells.push(Cell::from_text(name))?;
     cells.push(Cell::from_text(text))?;

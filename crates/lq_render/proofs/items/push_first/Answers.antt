@@ -4,9 +4,9 @@ use Rattle.serde_json.specs.Data.{Data}
 use Rattle.lq_render.specs.Parts.{left_out, shown_by_columns}
 use Rattle.lq_render.proofs.items.push_first.Goals as goal
 
-carried : {T E : Type 0} (r : Result T E) (P Q : Type 0) → (P → Q) → OnOk r P → OnOk r Q
-carried (Ok x) P Q f h = f h
-carried (Err e) P Q f h = h
+on_ok_map : {T E : Type 0} (r : Result T E) (P Q : Type 0) → (P → Q) → OnOk r P → OnOk r Q
+on_ok_map (Ok x) P Q f h = f h
+on_ok_map (Err e) P Q f h = h
 
 whole : (old mid new : List ℕ) (indent left most : ℕ) (names given : List (List ℕ)) (items shown : List Data)
     → mid ≡ old ++ shown_by_columns indent given shown → given ≡ names → shown ≡ take most items → left ≡ length items - most
@@ -17,7 +17,7 @@ whole old mid new indent left most names given items shown first names_are shown
 
 pub returns : goal.returns
 returns c =
-    carried _ _ _
-    (whole _ _ _ _ _ _ _ _ _ _ c.in_ok-push_by_columns.ensures c.as_slice.ensures c.first_items-shown.ensures
+    on_ok_map _ _ _
+    (whole _ _ _ _ _ _ _ _ _ _ c.in_ok-push_by_columns.ensures c.as_slice.ensures c.first_items-first.ensures
     (c.saturating_sub.ensures ∙ ap₂ (λ n m. n - m) c.count_of.ensures refl))
     c.push_left_out.ensures

@@ -1,5 +1,5 @@
 use Rattle.std.proofs.Common.{◌≡◌, take}
-use Rattle.lq_render.proofs.columns.copied.Given as goal
+use Rattle.lq_render.proofs.columns.copies_of.Given as goal
 
 -- the first ones are done
 abbrev pub invariant-loop-name : goal.invariant-loop-name
