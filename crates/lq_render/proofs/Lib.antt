@@ -1,3 +1,4 @@
+pub mod ColumnLaws
 pub mod Lists
 pub mod ReadingLaws
 pub mod TypeFolds

@@ -4,4 +4,5 @@ pub mod Parts
 pub mod Readings
 pub mod Replies
 pub mod Sentences
+pub mod TableLaws
 pub mod Types

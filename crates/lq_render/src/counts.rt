@@ -19,7 +19,8 @@ fn push_digit(out: &mut String, digit: char, left: usize) -> Result<(), AllocErr
 
 /// Puts digits at the end, with a comma between each three of them.
 fn push_grouped(out: &mut String, digits: &[char]) -> Result<(), AllocError>
-    ensures { OnOk result (string_bytes out.new ≡ string_bytes out.old ++ grouped_digits digits.now) }
+    ensures { OnOk result (string_bytes out.new
+        ≡ string_bytes out.old ++ grouped_digits digits.now) }
 {
     let mut left = digits;
     while let [digit, others @ ..] = left {

@@ -50,7 +50,8 @@ pub(crate) fn push_repeated(out: &mut String, text: &str, count: usize) -> Resul
 
 /// Puts a cell at the end, filled up to a width.
 fn push_filled(out: &mut String, cell: &Cell, width: usize) -> Result<(), AllocError>
-    ensures { OnOk result (string_bytes out.new ≡ string_bytes out.old ++ filled_cell width cell.now) }
+    ensures { OnOk result (string_bytes out.new
+        ≡ string_bytes out.old ++ filled_cell width cell.now) }
 {
     let gap = width.saturating_sub(width_of(cell.text.as_str()));
     if cell.is_number {

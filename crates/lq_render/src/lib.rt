@@ -15,6 +15,7 @@ mod layout;
 pub mod reading_laws;
 mod reply;
 mod sentences;
+pub mod table_laws;
 mod types;
 mod value;
 

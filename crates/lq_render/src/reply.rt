@@ -222,7 +222,8 @@ fn read_reply(alloc: Global, line: &str) -> Result<Option<Value>, AllocError>
 /// The text of a reply's line, if it is one.
 fn shown_reply(alloc: Global, shape: &Shape, line: &str) -> Result<Option<String>, AllocError>
     ensures { IfOk result (λ reply. option_map string_bytes reply
-        ≡ option_and_then (text_of_reply shape.now) (option_and_then without_floats (read line.now))) }
+        ≡ option_and_then (text_of_reply shape.now)
+        (option_and_then without_floats (read line.now))) }
 {
     match read_reply(alloc, line)? {
         Some(reply) => text_of_reply(alloc, shape, &reply),

@@ -74,8 +74,9 @@ fn push_type(out: &mut String, ty: &Ty, store: &Store, is_part: bool) -> Result<
 #[cycle(types)]
 #[tactic(auto, using(crate::proofs::TypeFolds::types))]
 fn push_fields(out: &mut String, fields: &[(Txt, Ty)], store: &Store) -> Result<(), AllocError>
-    ensures { OnOk result (string_bytes out.new ≡ string_bytes out.old
-        ++ fields_text true (map (λ field. (field.0, type_part (schemas_of store.now) field.1)) fields.now)) }
+    ensures { let parts = map (λ field. (field.0, type_part (schemas_of store.now) field.1))
+        fields.now in
+        OnOk result (string_bytes out.new ≡ string_bytes out.old ++ fields_text true parts) }
 {
     let mut is_first = true;
     for (name, ty) in fields {
