@@ -1,5 +1,5 @@
 -- What methods answer of the items that they read, and of tallies.
-use Rattle.std.proofs.Common.{◌≡◌, ◌∷◌, ◌+◌, List, [], ℕ, zero, suc, ℤ, pos, negsuc, Option, Some, None, Result, Ok, Err, ap, ◌∙◌, sym, refl, subst, arith}
+use Rattle.std.proofs.Common.{◌≡◌, ◌∷◌, ◌+◌, List, [], ℕ, zero, suc, ℤ, pos, negsuc, if◌then◌else◌, Bool, true, false, Option, Some, None, Result, Ok, Err, ap, ◌∙◌, sym, refl, subst, arith}
 use Rattle.lq_value.specs.declared.scalar.Scalar.{Scalar}
 use Rattle.lq_value.specs.declared.scalar.Scalar.TheVariants as scalar
 use Rattle.lq_value.specs.declared.ty.Ty.{Ty}
@@ -7,7 +7,7 @@ use Rattle.lq_value.specs.declared.value.End.{End}
 use Rattle.lq_value.specs.declared.value.Fault.{Fault}
 use Rattle.lq_value.specs.declared.value.Value.{Value, out-Value}
 use Rattle.lq_value.specs.declared.value.Value.TheOpen.{Value-F}
-use Rattle.lq_language.specs.Enumerable.{as_count, element_at, first, in_front, item_behind, single, take_first}
+use Rattle.lq_language.specs.Enumerable.{as_count, contains, element_at, first, in_front, item_behind, single, take_first}
 use Rattle.lq_language.specs.Worlds.{World}
 use Rattle.lq_language.specs.OperandMeaning.{as_value, scalar_of}
 use Rattle.lq_language.specs.Operations.{on_ok}
@@ -113,10 +113,6 @@ module _ {R : Type 0} (world : World R) where
   taken_again (suc n) [] e = refl
   taken_again (suc n) (x ∷ xs) e = ap (in_front x) (taken_again n xs e)
 
-  placed : (n : ℤ) (xs : List (Value R)) (e : End) → element_at n (take_first (as_count n + 1) xs e).0 (take_first (as_count n + 1) xs e).1 ≡ element_at n xs e
-  placed (pos n) xs e = behind n xs e
-  placed (negsuc n) xs e = refl
-
   of_number : (n : ℤ) (v : Value R) (f : ℤ → Result (Value R) Fault) → out-Value R v ≡ Value-F.Scalar (scalar.Int n) → on_number world (Ok v) f ≡ f n
   of_number n v f is = ap (λ (layer : Value-F R (Value R)). on_ok (on_ok (scalar_of world layer) (number_of world)) f) is
 
@@ -127,11 +123,14 @@ module _ {R : Type 0} (world : World R) where
       ∙ of_number m v (λ k. as_sequence (take_first (as_count k) (take_first (as_count m) s.0 s.1).0 (take_first (as_count m) s.0 s.1).1)) layer
       ∙ ap as_sequence (taken_again (as_count m) s.0 s.1)
       ∙ sym (of_number m v (λ k. as_sequence (take_first (as_count k) s.0 s.1)) layer)
-  up_to_is given.ElementAt m n v s layer is =
+  up_to_is given.ElementAt (pos m) n v s layer is =
       ap (λ k. given_meaning world given.ElementAt (Ok v) (take_first k s.0 s.1)) (sym (some_is is))
-      ∙ of_number m v (λ k. element_at k (take_first (as_count m + 1) s.0 s.1).0 (take_first (as_count m + 1) s.0 s.1).1) layer
-      ∙ placed m s.0 s.1
-      ∙ sym (of_number m v (λ k. element_at k s.0 s.1) layer)
+      ∙ of_number (pos m) v (λ k. element_at k (take_first (m + 1) s.0 s.1).0 (take_first (m + 1) s.0 s.1).1) layer
+      ∙ behind m s.0 s.1
+      ∙ sym (of_number (pos m) v (λ k. element_at k s.0 s.1) layer)
+  up_to_is given.ElementAt (negsuc m) n v s layer is =
+      of_number (negsuc m) v (λ k. element_at k (take_first n s.0 s.1).0 (take_first n s.0 s.1).1) layer
+      ∙ sym (of_number (negsuc m) v (λ k. element_at k s.0 s.1) layer)
   up_to_is given.Concat m n v s layer is = absurd (none_some is)
   up_to_is given.Union m n v s layer is = absurd (none_some is)
   up_to_is given.Intersect m n v s layer is = absurd (none_some is)
@@ -153,7 +152,14 @@ module _ {R : Type 0} (world : World R) where
   needed_is : (method : Given) (argument : Result (Value R) Fault) (n : ℕ) (s : Stream (Value R)) → needed method argument ≡ Some n
       → given_meaning world method argument (take_first n s.0 s.1) ≡ given_meaning world method argument s
   needed_is method (Ok v) n s is = by_layer method n v s (out-Value R v) refl is
-  needed_is method (Err f) n s is = absurd (none_some is)
+  needed_is given.Skip (Err f) n s is = refl
+  needed_is given.Take (Err f) n s is = refl
+  needed_is given.ElementAt (Err f) n s is = refl
+  needed_is given.Contains (Err f) n s is = refl
+  needed_is given.Concat (Err f) n s is = absurd (none_some is)
+  needed_is given.Union (Err f) n s is = absurd (none_some is)
+  needed_is given.Intersect (Err f) n s is = absurd (none_some is)
+  needed_is given.Except (Err f) n s is = absurd (none_some is)
 
   pub needed_some : (method : Given) (argument : Result (Value R) Fault) (n : ℕ) (items s : Stream (Value R)) → needed method argument ≡ Some n
       → items ≡ take_first n s.0 s.1 → given_meaning world method argument items ≡ given_meaning world method argument s
@@ -162,6 +168,20 @@ module _ {R : Type 0} (world : World R) where
   pub needed_all : (method : Given) (argument : Result (Value R) Fault) (items s : Stream (Value R)) → items ≡ s
       → given_meaning world method argument items ≡ given_meaning world method argument s
   needed_all method argument items s is = ap (given_meaning world method argument) is
+
+module _ {A : Type 0} (same : A → A → Bool) (v : A) where
+  -- an item that isn't the value is passed by, and the first that is answers
+  pub contains_on : (old new : Stream A) (x : A) (all : Result Bool Fault) → old ≡ in_front x new → same v x ≡ false
+      → contains same v old.0 old.1 ≡ all → contains same v new.0 new.1 ≡ all
+  contains_on old new x all is other goes =
+      sym (ap (λ (s : Stream A). contains same v s.0 s.1) is ∙ ap (λ (b : Bool). if b then Ok true else contains same v new.0 new.1) other) ∙ goes
+
+  pub contains_found : (old new : Stream A) (x : A) (all : Result Bool Fault) → old ≡ in_front x new → same v x ≡ true
+      → contains same v old.0 old.1 ≡ all → all ≡ Ok true
+  contains_found old new x all is found goes =
+      sym goes ∙ ap (λ (s : Stream A). contains same v s.0 s.1) is ∙ ap (λ (b : Bool). if b then Ok true else contains same v new.0 new.1) found
+
+pub ruleset contains_steps = (contains_on, contains_found)
 
 pub ruleset reads = (read_some, read_all)
 

@@ -4,6 +4,8 @@ pub mod CountLemmas
 pub mod Forms
 pub mod ItemLemmas
 pub mod PartLemmas
+pub mod PassingLemmas
+pub mod PreparedLemmas
 pub mod PullLemmas
 pub mod RowLemmas
 pub mod SlotLemmas

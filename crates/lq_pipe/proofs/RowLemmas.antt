@@ -1,20 +1,18 @@
 -- Rows that are kept one by one where a condition is true on them.
-use Rattle.std.proofs.Common.{◌≡◌, ◌∷◌, ◌++◌, ◌+◌, ◌<◌, ◌≤◌, ◌∙◌, List, [], ℕ, Bool, true, false, Option, Some, None, Result, Ok, Err, IfSome, Bor, ap, sym, append-nil, get_or, length}
-use Rattle.std.specs.Option.{option_copied}
-use Rattle.std.specs.Prelude.{option_and_then}
+use Rattle.std.proofs.Common.{◌≡◌, ◌∷◌, ◌++◌, ◌+◌, ◌<◌, ◌≤◌, List, [], ℕ, Bool, true, false, Some, Result, Ok, Err, IfSome, ap, sym, subst, append-nil, get_or, length}
+use Rattle.lq_value.specs.declared.scalar.Scalar.{Scalar}
 use Rattle.lq_value.specs.declared.value.End.TheVariants as end
 use Rattle.lq_value.specs.declared.value.Fault.{Fault}
-use Rattle.lq_value.specs.declared.scalar.Scalar.{Scalar}
-use Rattle.lq_value.specs.declared.value.Value.{Value, out-Value}
 use Rattle.lq_value.specs.declared.value.Value.TheVariants as value
-use Rattle.lq_language.specs.Worlds.{World}
-use Rattle.lq_language.specs.OperandMeaning.{cell_value}
-use Rattle.lq_language.specs.Operations.{on_ok}
 use Rattle.lq_language.specs.Stream.{Stream, kept, where_by}
-use Rattle.lq_tree.specs.FormMeaning.{cell_in, form_meaning, name_of_column}
+use Rattle.lq_language.specs.Worlds.{World}
+use Rattle.lq_condition.specs.Verdicts.{verdict}
+use Rattle.lq_condition.specs.declared.condition.Condition.{Condition}
+use Rattle.lq_tree.specs.FormMeaning.{form_meaning}
 use Rattle.lq_tree.specs.declared.tree.Form.{Form}
-use Rattle.lq_tree.specs.declared.tree.Form.TheVariants as form
-use Rattle.lq_pipe.proofs.Forms.{form_column, form_slot}
+use Rattle.lq_pipe.specs.Conditions.{holds_on}
+use Rattle.lq_pipe.specs.Prepared.{Decides}
+use Rattle.lq_pipe.specs.Running.{truth_in}
 use Rattle.lq_pipe.proofs.StreamLemmas.{Goes, each_ends, each_goes, each_stops}
 
 module _ {A : Type 0} (holds : A → Result Bool Fault) (rows : List A) where
@@ -44,18 +42,10 @@ module _ {A : Type 0} (holds : A → Result Bool Fault) (rows : List A) where
 
 pub ruleset keeps_rows = (row_kept, row_dropped, rows_ended)
 
--- a cell of the row that stands in the only slot
-module _ {R : Type 0} (world : World R) (table c : ℕ) (r : R) where
-  cell_of_row : (s : Scalar) → option_and_then (world.cell r) (name_of_column world.schemas table c) ≡ Some s
-      → form_meaning world (form.Column (form.Slot 0) table c) (value.Row r ∷ []) ≡ Ok (value.Scalar s)
-  cell_of_row s is =
-      form_column world (form.Slot 0) table c (value.Row r ∷ [])
-      ∙ ap (λ (found : Result (Value R) Fault). on_ok found (λ v. cell_in world table c (out-Value R v))) (form_slot world 0 (value.Row r ∷ []))
-      ∙ ap (cell_in world table c) (value.outs-Row r) ∙ ap (cell_value world) is
-
-  pub cell_read : (of : Form) (found : Option (Bor Scalar)) → of ≡ form.Slot 0
-      → option_copied found ≡ option_and_then (world.cell r) (name_of_column world.schemas table c)
-      → IfSome found (λ s. form_meaning world (form.Column of table c) (value.Row r ∷ []) ≡ Ok (value.Scalar s.now))
-  cell_read of None first is = tt
-  cell_read of (Some s) first is =
-      ap (λ (a : Form). form_meaning world (form.Column a table c) (value.Row r ∷ [])) first ∙ cell_of_row s.now (sym is)
+-- what a condition says of a row is what it is there
+module _ {R : Type 0} (table_of : R → ℕ) (shown : R → List Scalar) (world : World R) where
+  pub row_decided : (table : ℕ) (condition : Form) (c : Condition) (r : R) (b : Bool)
+      → Decides table_of shown world [] table condition c → table_of r ≡ table → verdict c (shown r) ≡ Some b
+      → Ok b ≡ holds_on world condition r
+  row_decided table condition c r b decides here is =
+      sym (subst (λ t. IfSome t (λ b. truth_in world (form_meaning world condition (value.Row r ∷ [])) ≡ Ok b)) is (decides.at r here))

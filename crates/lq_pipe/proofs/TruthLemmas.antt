@@ -53,3 +53,9 @@ module _ {R : Type 0} (world : World R) where
   truth_binary sign o a b slots x y is left right =
       ap (truth_in world) (binary_of world o a b slots x y left right ∙ ap (λ p. as_value (of_two world.unknown p x y)) is)
       ∙ of_value (of_two world.unknown (operation_of sign) x y)
+
+  pub truth_two : (o : Op) (a b : Form) (slots : Slots R) (x y : Scalar)
+      → form_meaning world a slots ≡ Ok (value.Scalar x) → form_meaning world b slots ≡ Ok (value.Scalar y)
+      → truth_in world (form_meaning world (form.Binary o a b) slots) ≡ on_ok (of_two world.unknown o x y) (truth_of world.unknown)
+  truth_two o a b slots x y left right =
+      ap (truth_in world) (binary_of world o a b slots x y left right) ∙ of_value (of_two world.unknown o x y)

@@ -3,6 +3,7 @@ pub mod Conditions
 pub mod Counts
 pub mod Items
 pub mod Lists
+pub mod Prepared
 pub mod Pulling
 pub mod Running
 pub mod Slots

@@ -17,7 +17,8 @@ pub(crate) struct Base<'a, R> {
 }
 
 impl<'a, R: RowRef> Base<'a, R> {
-    ghost use Rattle.std.specs.Prelude.{◌≡◌};
+    ghost use Rattle.std.specs.Prelude.{◌≡◌, IfSome, None};
+    ghost use Rattle.lq_language.specs.Enumerable.{in_front};
     ghost use Rattle.lq_pipe.specs.Pulling.{Steps};
 
     /// The rows of a table, behind which they end so.
@@ -50,6 +51,19 @@ impl<'a, R: RowRef> Base<'a, R> {
             Some(item) => Step::Item(item),
             None => Step::End(self.end),
         }
+    }
+
+    /// The next row of the table, if one is left.
+    pub(crate) fn next_row(&mut self) -> Option<R>
+        ensures row { IfSome result (λ row.
+            base_stream self.old ≡ in_front (value.Row row) (base_stream self.new)) }
+        ensures none { result ≡ None → base_stream self.new ≡ base_stream self.old }
+    {
+        let [row, further @ ..] = self.rows else {
+            return None;
+        };
+        self.rows = further;
+        Some(*row)
     }
 
     /// The next item, or how they end.

@@ -1,7 +1,7 @@
 //! How many items a method reads at most.
 ghost use Rattle.std.specs.Prelude.{◌≡◌};
 ghost use Rattle.lq_value.specs.declared.value.Value.{out-Value};
-ghost use Rattle.lq_pipe.specs.Counts.{needed, needed_by, read, up_to};
+ghost use Rattle.lq_pipe.specs.Counts.{needed, needed_at_fault, needed_by, read, up_to};
 
 use lq_language::{Given, Simple};
 use lq_value::{Fault, RowRef, Scalar, Value};
@@ -22,10 +22,9 @@ pub(crate) fn read(method: Simple) -> Option<usize>
 fn up_to(method: Given, number: i32) -> Option<usize>
     ensures { result ≡ up_to method number }
 {
-    let count = if number < 0 { 0 } else { number as usize };
     match method {
-        Given::Take => Some(count),
-        Given::ElementAt => Some(count + 1),
+        Given::Take => Some(if number < 0 { 0 } else { number as usize }),
+        Given::ElementAt => Some(if number < 0 { 0 } else { number as usize + 1 }),
         _ => None,
     }
 }
@@ -42,12 +41,22 @@ fn needed_by<R: RowRef>(method: Given, argument: &Value<R>) -> Option<usize>
     }
 }
 
+/// No item is read where the argument is a fault that is the answer.
+fn needed_at_fault(method: Given) -> Option<usize>
+    ensures { result ≡ needed_at_fault method }
+{
+    match method {
+        Given::Skip | Given::Take | Given::ElementAt | Given::Contains => Some(0),
+        Given::Concat | Given::Union | Given::Intersect | Given::Except => None,
+    }
+}
+
 /// So many items are read by a method with this argument, where there is a limit to them.
 pub(crate) fn needed<R: RowRef>(method: Given, argument: &Result<Value<R>, Fault>) -> Option<usize>
     ensures { result ≡ needed method argument.now }
 {
     match argument {
         Ok(value) => needed_by(method, value),
-        Err(_) => None,
+        Err(_) => needed_at_fault(method),
     }
 }

@@ -12,6 +12,8 @@ mod counts;
 mod methods;
 mod operations;
 mod parts;
+mod plans;
+mod prepared;
 mod pulling;
 mod reached;
 mod rows;

@@ -8,15 +8,17 @@ use crate::{parts, scalars, sequences};
 use lq_language::{Given, Simple, Through};
 use lq_operators::{RunError, Tally, given, simple};
 use lq_tree::Form;
-use lq_value::{End, Fault, List, Ty, Value};
+use lq_value::{End, Fault, List, Ty, Value, same};
 use std::alloc::AllocError;
 
 impl<'a, R: TableRow> Running<'a, R> {
     ghost use Rattle.std.specs.Prelude.{◌≡◌, IfOk, Ok};
+    ghost use Rattle.lq_value.specs.SameAndOrder.{same_values};
     ghost use Rattle.lq_value.specs.declared.ty.Ty.{Ty};
     ghost use Rattle.lq_language.specs.OperandMeaning.{as_value, stream_of};
-    ghost use Rattle.lq_language.specs.Enumerable.{all};
+    ghost use Rattle.lq_language.specs.Enumerable.{all, contains};
     ghost use Rattle.lq_language.specs.Stream.{select_by};
+    ghost use Rattle.lq_language.specs.declared.methods.Given.TheVariants as given;
     ghost use Rattle.lq_operators.specs.Answers.{IsAnswer};
     ghost use Rattle.lq_operators.specs.Tallies.{tallied};
     ghost use Rattle.lq_language.specs.Meaning.{as_truth, given_meaning, simple_meaning};
@@ -116,10 +118,11 @@ impl<'a, R: TableRow> Running<'a, R> {
     ) -> Result<Value<R>, RunError>
         ensures { IsAnswer (as_value (tallied of.now tally (pulled (world_of R.table_of R.shown self.now.tables.now) (values_in slots.now) stage source.now body.now))) result }
     {
+        let plan = self.plan(stage, source, body, slots)?;
         let mut base = self.open(source, slots)?;
         let mut tally = tally;
         loop {
-            match self.next(stage, source, body, &mut base, slots)? {
+            match self.next_planned(&plan, stage, source, body, &mut base, slots)? {
                 Step::Item(item) => tally = tally.with(&item)?,
                 Step::End(end) => return Ok(Value::Scalar(tally.told(of, end)?)),
             }
@@ -140,8 +143,86 @@ impl<'a, R: TableRow> Running<'a, R> {
         ensures { IsAnswer (meant (world_of R.table_of R.shown self.now.tables.now) (form.Given method source.now argument.now) slots.now) result }
     {
         let argument = sequences::settled(self.evaluate(argument, slots))?;
+        self.given_value(method, argument, source, slots)
+    }
+
+    /// The same of a method whose argument was evaluated.
+    #[cycle(running)]
+    fn given_value(
+        &self,
+        method: Given,
+        argument: Result<Value<R>, Fault>,
+        source: &Form,
+        slots: &Slots<'_, R>,
+    ) -> Result<Value<R>, RunError>
+        ensures { IsAnswer (given_meaning (world_of R.table_of R.shown self.now.tables.now) method argument
+            (items_meant (world_of R.table_of R.shown self.now.tables.now) source.now slots.now)) result }
+    {
+        match method {
+            Given::Contains => self.contains(argument, source, slots),
+            _ => self.given_items(method, argument, source, slots),
+        }
+    }
+
+    /// The same, where the items that the method reads are made before it.
+    #[cycle(running)]
+    fn given_items(
+        &self,
+        method: Given,
+        argument: Result<Value<R>, Fault>,
+        source: &Form,
+        slots: &Slots<'_, R>,
+    ) -> Result<Value<R>, RunError>
+        ensures { IsAnswer (given_meaning (world_of R.table_of R.shown self.now.tables.now) method argument
+            (items_meant (world_of R.table_of R.shown self.now.tables.now) source.now slots.now)) result }
+    {
         let (items, end) = self.needed_items(method, &argument, source, slots)?;
         given(self.alloc, method, argument, items, end)
+    }
+
+    /// Whether a value is among the items. Where it is a fault, no item is pulled.
+    #[cycle(running)]
+    fn contains(
+        &self,
+        value: Result<Value<R>, Fault>,
+        source: &Form,
+        slots: &Slots<'_, R>,
+    ) -> Result<Value<R>, RunError>
+        ensures { IsAnswer (given_meaning (world_of R.table_of R.shown self.now.tables.now)
+            given.Contains value
+            (items_meant (world_of R.table_of R.shown self.now.tables.now) source.now slots.now)) result }
+    {
+        match value {
+            Ok(value) => self.has_item(&value, source, slots),
+            Err(fault) => Err(RunError::Fault(fault)),
+        }
+    }
+
+    /// Whether an item is the same as a value. Nothing is pulled after the first that is.
+    #[cycle(running)]
+    #[tactic(auto, using(crate::proofs::CountLemmas::contains_steps))]
+    fn has_item(
+        &self,
+        value: &Value<R>,
+        source: &Form,
+        slots: &Slots<'_, R>,
+    ) -> Result<Value<R>, RunError>
+        ensures { IsAnswer (as_truth (contains same_values value.now
+            (items_meant (world_of R.table_of R.shown self.now.tables.now) source.now slots.now).0
+            (items_meant (world_of R.table_of R.shown self.now.tables.now) source.now slots.now).1)) result }
+    {
+        let plan = self.plan(Stage::Plain, source, source, slots)?;
+        let mut base = self.open(source, slots)?;
+        loop {
+            match self.next_planned(&plan, Stage::Plain, source, source, &mut base, slots)? {
+                Step::Item(item) => {
+                    if same(value, &item) {
+                        return Ok(parts::truth(true));
+                    }
+                }
+                Step::End(end) => return parts::no_item_at_end(end),
+            }
+        }
     }
 
     /// The items that such a method reads, and how they end as far as it reads them.

@@ -1,5 +1,5 @@
 //! Parts of values: those of pairs, members of records, keys of groups.
-ghost use Rattle.std.specs.Prelude.{◌≡◌, ◌∷◌, ◌++◌, [], if◌then◌else◌, not, true, Ok, IfOk, OnOk, option_map, slice_get};
+ghost use Rattle.std.specs.Prelude.{◌≡◌, ◌∷◌, ◌++◌, [], if◌then◌else◌, not, false, true, Ok, IfOk, OnOk, option_map, slice_get};
 ghost use Rattle.std.specs.Option.{option_copied};
 ghost use Rattle.lq_value.specs.declared.value.Value.{out-Value};
 ghost use Rattle.lq_language.specs.Enumerable.{at_end};
@@ -101,6 +101,16 @@ pub(crate) fn truth<R: RowRef>(truth: bool) -> Value<R>
     ensures { result ≡ truth_value truth }
 {
     Value::Scalar(Scalar::Bool(truth))
+}
+
+/// False where the items come to their end, or the fault that ends them.
+pub(crate) fn no_item_at_end<R: RowRef>(end: End) -> Result<Value<R>, RunError>
+    ensures { IsAnswer (as_truth (at_end end (Ok false))) result }
+{
+    match end {
+        End::Done => Ok(truth(false)),
+        End::Fault(met) => Err(RunError::Fault(met)),
+    }
 }
 
 /// True where the items come to their end, or the fault that ends them.

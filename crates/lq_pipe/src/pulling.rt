@@ -1,5 +1,6 @@
 //! The pulling of items: one by one from a base, each through the conditions and lambdas above it.
 use crate::bases::Base;
+use crate::plans::Plan;
 use crate::running::Running;
 use crate::sequences;
 use crate::slots::Slots;
@@ -7,16 +8,18 @@ use crate::stages::{Passed, Stage, Step};
 use crate::tables::TableRow;
 use lq_language::Through;
 use lq_tree::Form;
-use lq_value::{End, Fault, List, Ty, Value};
+use lq_value::{End, Fault, List, Ty, Value, copy_scalar};
 use std::alloc::AllocError;
 
 impl<'a, R: TableRow> Running<'a, R> {
-    ghost use Rattle.std.specs.Prelude.{◌≡◌, ◌∷◌, [], true, IfOk, slice_get};
+    ghost use Rattle.std.specs.Prelude.{◌≡◌, ◌∷◌, [], true, IfOk, IfSome, slice_get};
     ghost use Rattle.lq_value.specs.declared.value.Value.{Value};
+    ghost use Rattle.lq_value.specs.declared.value.Value.TheVariants as value;
     ghost use Rattle.lq_value.specs.declared.value.End.TheVariants as end;
     ghost use Rattle.lq_language.specs.OperandMeaning.{stream_of, table_value};
     ghost use Rattle.lq_language.specs.Enumerable.{take_first};
     ghost use Rattle.lq_pipe.specs.Pulling.{At, Steps, end_of, rows_or_none, base_stream, left, passed_at, passed_on, pulled, staged};
+    ghost use Rattle.lq_pipe.specs.Prepared.{DecidesStage, IsCell, last};
     ghost use Rattle.lq_pipe.specs.Running.{meant};
     ghost use Rattle.lq_tree.specs.declared.tree.Form.TheVariants as form;
     ghost use Rattle.lq_pipe.specs.declared.stages.Stage.TheVariants as stage;
@@ -356,6 +359,103 @@ impl<'a, R: TableRow> Running<'a, R> {
         }
     }
 
+    /// What comes of a row that has passed the conditions above its table, at the last stage.
+    #[cycle(running)]
+    #[tactic(auto, using(crate::proofs::PassingLemmas::selects_cell))]
+    fn at_last(
+        &self,
+        plan: &Plan,
+        stage: Stage,
+        body: &Form,
+        row: &R,
+        slots: &Slots<'_, R>,
+    ) -> Result<Passed<R>, AllocError>
+        requires table { R.table_of row.now ≡ plan.now.table }
+        requires place { IfSome plan.now.place (λ place.
+            IsCell R.table_of R.shown (world_of R.table_of R.shown self.now.tables.now)
+            (values_in slots.now) plan.now.table body.now place) }
+        ensures { IfOk result (λ p. passed_on p
+            ≡ last R.table_of R.shown (world_of R.table_of R.shown self.now.tables.now)
+            (values_in slots.now) stage body.now (value.Row row.now)) }
+    {
+        match stage {
+            Stage::Plain => Ok(Passed::Item(Value::Row(*row))),
+            Stage::Where => Ok(Passed::Item(Value::Row(*row))),
+            Stage::Select => match plan.cell(row) {
+                Some(cell) => Ok(Passed::Item(Value::Scalar(copy_scalar(self.alloc, cell)?))),
+                None => self.made(body, &Value::Row(*row), slots),
+            },
+        }
+    }
+
+    /// What a row becomes at a source and the stage after it. Where the plan says nothing of it, it
+    /// goes the general way.
+    #[cycle(running)]
+    #[tactic(auto, using(crate::proofs::PassingLemmas::plan_decides))]
+    fn pass_planned(
+        &self,
+        plan: &Plan,
+        stage: Stage,
+        source: &Form,
+        body: &Form,
+        row: &R,
+        slots: &Slots<'_, R>,
+    ) -> Result<Passed<R>, AllocError>
+        requires condition { DecidesStage R.table_of R.shown (world_of R.table_of R.shown self.now.tables.now)
+            (values_in slots.now) stage source.now body.now plan.now.table plan.now.condition }
+        requires place { IfSome plan.now.place (λ place.
+            IsCell R.table_of R.shown (world_of R.table_of R.shown self.now.tables.now)
+            (values_in slots.now) plan.now.table body.now place) }
+        ensures { IfOk result (λ p. passed_on p
+            ≡ staged (world_of R.table_of R.shown self.now.tables.now) (values_in slots.now) stage body.now
+            (passed_at (world_of R.table_of R.shown self.now.tables.now) (values_in slots.now) source.now
+            (value.Row row.now))) }
+    {
+        match plan.verdict(row) {
+            Some(false) => Ok(Passed::Dropped),
+            Some(true) => self.at_last(plan, stage, body, row, slots),
+            None => self.pass_through(stage, source, body, Value::Row(*row), slots),
+        }
+    }
+
+    /// The next item of a source after its last stage, for which there is a plan, or how they end.
+    #[cycle(running)]
+    #[inline(never)]
+    pub(crate) fn next_planned(
+        &self,
+        plan: &Plan,
+        stage: Stage,
+        source: &Form,
+        body: &Form,
+        base: &mut Base<'a, R>,
+        slots: &Slots<'_, R>,
+    ) -> Result<Step<R>, AllocError>
+        requires condition { DecidesStage R.table_of R.shown (world_of R.table_of R.shown self.now.tables.now)
+            (values_in slots.now) stage source.now body.now plan.now.table plan.now.condition }
+        requires place { IfSome plan.now.place (λ place.
+            IsCell R.table_of R.shown (world_of R.table_of R.shown self.now.tables.now)
+            (values_in slots.now) plan.now.table body.now place) }
+        ensures { IfOk result (λ step. Steps
+            (left (world_of R.table_of R.shown self.now.tables.now) (values_in slots.now)
+            stage source.now body.now base.old) step
+            (left (world_of R.table_of R.shown self.now.tables.now) (values_in slots.now)
+            stage source.now body.now base.new)) }
+    {
+        if plan.is_silent() {
+            return self.next(stage, source, body, base, slots);
+        }
+        loop {
+            match base.next_row() {
+                Some(row) => match self.pass_planned(plan, stage, source, body, &row, slots)? {
+                    Passed::Item(item) => return Ok(Step::Item(item)),
+                    Passed::Dropped => {}
+                    Passed::Fault(met) => return Ok(Step::End(End::Fault(met))),
+                },
+                None => return self.next(stage, source, body, base, slots),
+            }
+        }
+    }
+
     /// All items of a source behind its last stage, and how they end.
     #[cycle(running)]
     #[inline(never)]
@@ -369,10 +469,11 @@ impl<'a, R: TableRow> Running<'a, R> {
     ) -> Result<(List<Value<R>>, End), AllocError>
         ensures { IfOk result (λ s. s ≡ pulled (world_of R.table_of R.shown self.now.tables.now) (values_in slots.now) stage source.now body.now) }
     {
+        let plan = self.plan(stage, source, body, slots)?;
         let mut base = self.open(source, slots)?;
         let mut made = List::new(self.alloc);
         loop {
-            match self.next(stage, source, body, &mut base, slots)? {
+            match self.next_planned(&plan, stage, source, body, &mut base, slots)? {
                 Step::Item(item) => made.push(item)?,
                 Step::End(end) => return Ok((made, end)),
             }
@@ -394,11 +495,12 @@ impl<'a, R: TableRow> Running<'a, R> {
         ensures { IfOk result (λ s. s ≡ take_first count (pulled (world_of R.table_of R.shown self.now.tables.now) (values_in slots.now) stage source.now body.now).0
             (pulled (world_of R.table_of R.shown self.now.tables.now) (values_in slots.now) stage source.now body.now).1) }
     {
+        let plan = self.plan(stage, source, body, slots)?;
         let mut base = self.open(source, slots)?;
         let mut made = List::new(self.alloc);
         let mut wanted = count;
         while wanted > 0 {
-            match self.next(stage, source, body, &mut base, slots)? {
+            match self.next_planned(&plan, stage, source, body, &mut base, slots)? {
                 Step::Item(item) => made.push(item)?,
                 Step::End(end) => return Ok((made, end)),
             }

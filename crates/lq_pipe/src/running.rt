@@ -109,7 +109,12 @@ impl<'a, R: TableRow> Running<'a, R> {
     }
 
     /// The cell of what is a row, by the number of its column.
-    fn cell_there<'s>(&'s self, row: &'s Value<R>, table: u16, column: u16) -> Option<&'s Scalar>
+    pub(crate) fn cell_there<'s>(
+        &'s self,
+        row: &'s Value<R>,
+        table: u16,
+        column: u16,
+    ) -> Option<&'s Scalar>
         ensures { IfSome result (λ scalar. cell_in (world_of R.table_of R.shown self.now.tables.now) table column (out-Value R row.now) ≡ Ok (value.Scalar scalar.now)) }
     {
         match row {

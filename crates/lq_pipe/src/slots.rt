@@ -13,7 +13,7 @@ pub(crate) enum Slots<'a, R> {
 }
 
 impl<'a, R: RowRef> Slots<'a, R> {
-    ghost use Rattle.std.specs.Prelude.{◌≡◌, ◌∷◌, ◌++◌, ◌+◌, [], Some, IfOk, IfErr, length, slice_get};
+    ghost use Rattle.std.specs.Prelude.{◌≡◌, ◌∷◌, ◌++◌, ◌+◌, [], true, Some, IfOk, IfErr, length, slice_get};
     ghost use Rattle.std.specs.Option.{option_copied};
     ghost use Rattle.lq_pipe.specs.Slots.{values_in};
 
@@ -40,6 +40,13 @@ impl<'a, R: RowRef> Slots<'a, R> {
                 Err(past) => Err(past - 1),
             },
         }
+    }
+
+    /// Whether the slot of this number would be the next one.
+    pub(crate) fn is_next(&self, number: usize) -> bool
+        ensures { result ≡ true → number ≡ length (values_in self.now) + 0 }
+    {
+        matches!(self.find(number), Err(0))
     }
 
     /// What the slot of this number holds, if there is such a slot.

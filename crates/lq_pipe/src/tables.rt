@@ -41,7 +41,7 @@ fn columns<'a, R: TableRow>(tables: &[TableRows<'a, R>], table: u16) -> &'a [Col
 }
 
 /// The name of a column, by its number.
-fn column_name<'a, R: TableRow>(
+pub(crate) fn column_name<'a, R: TableRow>(
     tables: &[TableRows<'a, R>],
     table: u16,
     column: u16,

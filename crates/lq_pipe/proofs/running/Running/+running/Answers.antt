@@ -139,8 +139,12 @@ listed-returns g t c =
 pub given-returns : goal.given-returns
 given-returns g t c =
     let all = (stream_of (world_of g.R.TableRow.table_of g.R.RowRef.shown c.args.self.now.tables.now) (form_meaning (world_of g.R.TableRow.table_of g.R.RowRef.shown c.args.self.now.tables.now) c.args.source.now (values_in c.args.slots.now))) in
-    given_answer (world_of g.R.TableRow.table_of g.R.RowRef.shown c.args.self.now.tables.now) c.args.method c.args.source.now c.args.argument.now (values_in c.args.slots.now) _ all c.given.result (c.in_ok-argument.ensures _ c.evaluate.ensures) refl
-    (subst (λ m. IsAnswer m c.given.result) c.in_ok-items.ensures (c.given.ensures (world_of g.R.TableRow.table_of g.R.RowRef.shown c.args.self.now.tables.now) refl))
+    given_answer (world_of g.R.TableRow.table_of g.R.RowRef.shown c.args.self.now.tables.now) c.args.method c.args.source.now c.args.argument.now (values_in c.args.slots.now) _ all c.given_value.result (c.in_ok-argument.ensures _ c.evaluate.ensures) refl
+    c.given_value.ensures
+
+pub given_items-returns : goal.given_items-returns
+given_items-returns g t c =
+    subst (λ m. IsAnswer m c.given.result) c.in_ok-items.ensures (c.given.ensures (world_of g.R.TableRow.table_of g.R.RowRef.shown c.args.self.now.tables.now) refl)
 
 pub method_opened-returns : goal.method_opened-returns
 method_opened-returns g t c = c.of_items.ensures ∙ c.in_ok-items.ensures (world_of g.R.TableRow.table_of g.R.RowRef.shown c.args.self.now.tables.now) _ refl c.through-made.ensures
@@ -149,7 +153,7 @@ pub taken-returns-in-End : goal.taken-returns-in-End
 taken-returns-in-End g t c =
     let world = world_of g.R.TableRow.table_of g.R.RowRef.shown c.args.self.now.tables.now in
     let old = left world (values_in c.args.slots.now) c.args.stage c.args.source.now c.args.body.now c.loop-wanted.base in
-    let new = left world (values_in c.args.slots.now) c.args.stage c.args.source.now c.args.body.now c.next.new.base in
+    let new = left world (values_in c.args.slots.now) c.args.stage c.args.source.now c.args.body.now c.next_planned.new.base in
     let ended : Steps old (step.End c.in-End.end) new = subst (λ s. Steps old s new) c.in-End.is c.in_ok-item.ensures in
     let some : 0 < c.loop-wanted.wanted = omega (arith, c.loop-wanted-test.true) in
     taken_ended old _ c.loop-wanted.made c.in-End.end c.loop-wanted.wanted ended some c.loop-wanted.invariant

@@ -3,8 +3,9 @@
 use Rattle.std.proofs.Common.{◌≡◌, ◌+◌, ◌*◌, ◌++◌, Ok, length, map, max, drop}
 use Rattle.lq_language.specs.Arrangement.{all_of}
 use Rattle.lq_language.specs.Operations.{on_ok}
-use Rattle.lq_language.specs.Enumerable.{all, take_first}
+use Rattle.lq_language.specs.Enumerable.{all, contains, take_first}
 use Rattle.lq_language.specs.Stream.{each, one, select_by, then_ending}
+use Rattle.lq_value.specs.SameAndOrder.{same_values}
 use Rattle.lq_value.specs.declared.value.End.TheVariants as end
 use Rattle.lq_tree.proofs.tree.Form.TheLaws.{the_size}
 use Rattle.lq_tree.specs.FormMeaning.{members_of}
@@ -23,211 +24,232 @@ use Rattle.lq_pipe.proofs.StreamLemmas.{Goes}
 use Rattle.lq_pipe.proofs.running.Running.+running.Given as goal
 
 abbrev pub decreases-evaluate : goal.decreases-evaluate
-decreases-evaluate g l = 16 * the_size l.form.now
+decreases-evaluate g l = 32 * the_size l.form.now
 
 abbrev pub decreases-stream : goal.decreases-stream
-decreases-stream g l = 16 * the_size l.form.now + 1
+decreases-stream g l = 32 * the_size l.form.now + 2
 
 abbrev pub decreases-scalar : goal.decreases-scalar
-decreases-scalar g l = 16 * the_size l.form.now + 1
+decreases-scalar g l = 32 * the_size l.form.now + 2
 
 abbrev pub decreases-truth : goal.decreases-truth
-decreases-truth g l = 16 * the_size l.form.now + 2
+decreases-truth g l = 32 * the_size l.form.now + 4
 
 abbrev pub decreases-truth_of_both : goal.decreases-truth_of_both
-decreases-truth_of_both g l = 16 * max (the_size l.left.now) (the_size l.right.now) + 5
+decreases-truth_of_both g l = 32 * max (the_size l.left.now) (the_size l.right.now) + 10
 
 abbrev pub decreases-truth_of_either : goal.decreases-truth_of_either
-decreases-truth_of_either g l = 16 * max (the_size l.left.now) (the_size l.right.now) + 5
+decreases-truth_of_either g l = 32 * max (the_size l.left.now) (the_size l.right.now) + 10
 
 abbrev pub decreases-truth_of_two : goal.decreases-truth_of_two
-decreases-truth_of_two g l = 16 * max (the_size l.left.now) (the_size l.right.now) + 6
+decreases-truth_of_two g l = 32 * max (the_size l.left.now) (the_size l.right.now) + 12
 
 abbrev pub decreases-reach : goal.decreases-reach
-decreases-reach g l = 16 * the_size l.form.now + 1
+decreases-reach g l = 32 * the_size l.form.now + 2
 
 abbrev pub decreases-of_item : goal.decreases-of_item
-decreases-of_item g l = 16 * the_size l.body.now + 1
+decreases-of_item g l = 32 * the_size l.body.now + 2
 
 abbrev pub decreases-selected : goal.decreases-selected
-decreases-selected g l = 16 * the_size l.body.now + 2
+decreases-selected g l = 32 * the_size l.body.now + 4
 
 abbrev pub decreases-holds : goal.decreases-holds
-decreases-holds g l = 16 * the_size l.condition.now + 3
+decreases-holds g l = 32 * the_size l.condition.now + 6
 
 abbrev pub decreases-all : goal.decreases-all
-decreases-all g l = 16 * max (the_size l.source.now) (the_size l.condition.now) + 8
+decreases-all g l = 32 * max (the_size l.source.now) (the_size l.condition.now) + 16
 
 abbrev pub decreases-first : goal.decreases-first
-decreases-first g l = 16 * the_size l.pair.now + 5
+decreases-first g l = 32 * the_size l.pair.now + 10
 
 abbrev pub decreases-second : goal.decreases-second
-decreases-second g l = 16 * the_size l.pair.now + 5
+decreases-second g l = 32 * the_size l.pair.now + 10
 
 abbrev pub decreases-column : goal.decreases-column
-decreases-column g l = 16 * the_size l.row.now + 5
+decreases-column g l = 32 * the_size l.row.now + 10
 
 abbrev pub decreases-member : goal.decreases-member
-decreases-member g l = 16 * the_size l.value.now + 5
+decreases-member g l = 32 * the_size l.value.now + 10
 
 abbrev pub decreases-key : goal.decreases-key
-decreases-key g l = 16 * the_size l.group.now + 5
+decreases-key g l = 32 * the_size l.group.now + 10
 
 abbrev pub decreases-is_null : goal.decreases-is_null
-decreases-is_null g l = 16 * the_size l.operand.now + 5
+decreases-is_null g l = 32 * the_size l.operand.now + 10
 
 abbrev pub decreases-unary : goal.decreases-unary
-decreases-unary g l = 16 * the_size l.operand.now + 5
+decreases-unary g l = 32 * the_size l.operand.now + 10
 
 abbrev pub decreases-binary : goal.decreases-binary
-decreases-binary g l = 16 * max (the_size l.left.now) (the_size l.right.now) + 5
+decreases-binary g l = 32 * max (the_size l.left.now) (the_size l.right.now) + 10
 
 abbrev pub decreases-binary_beside : goal.decreases-binary_beside
-decreases-binary_beside g l = 16 * the_size l.right.now + 4
+decreases-binary_beside g l = 32 * the_size l.right.now + 8
 
 abbrev pub decreases-both : goal.decreases-both
-decreases-both g l = 16 * max (the_size l.left.now) (the_size l.right.now) + 5
+decreases-both g l = 32 * max (the_size l.left.now) (the_size l.right.now) + 10
 
 abbrev pub decreases-either : goal.decreases-either
-decreases-either g l = 16 * max (the_size l.left.now) (the_size l.right.now) + 5
+decreases-either g l = 32 * max (the_size l.left.now) (the_size l.right.now) + 10
 
 abbrev pub decreases-coalesced : goal.decreases-coalesced
-decreases-coalesced g l = 16 * max (the_size l.left.now) (the_size l.right.now) + 5
+decreases-coalesced g l = 32 * max (the_size l.left.now) (the_size l.right.now) + 10
 
 abbrev pub decreases-chosen : goal.decreases-chosen
-decreases-chosen g l = 16 * max (the_size l.condition.now) (max (the_size l.left.now) (the_size l.right.now)) + 5
+decreases-chosen g l = 32 * max (the_size l.condition.now) (max (the_size l.left.now) (the_size l.right.now)) + 10
 
 abbrev pub decreases-members : goal.decreases-members
-decreases-members g l = 16 * goal.size-members g l + 5
+decreases-members g l = 32 * goal.size-members g l + 10
 
 abbrev pub decreases-record : goal.decreases-record
-decreases-record g l = 16 * goal.size-record g l + 6
+decreases-record g l = 32 * goal.size-record g l + 12
 
 abbrev pub decreases-pair : goal.decreases-pair
-decreases-pair g l = 16 * max (the_size l.left.now) (the_size l.right.now) + 5
+decreases-pair g l = 32 * max (the_size l.left.now) (the_size l.right.now) + 10
 
 abbrev pub decreases-sequence : goal.decreases-sequence
-decreases-sequence g l = 16 * the_size l.source.now + 9
+decreases-sequence g l = 32 * the_size l.source.now + 18
 
 abbrev pub decreases-simple : goal.decreases-simple
-decreases-simple g l = 16 * max (the_size l.source.now) (the_size l.body.now) + 11
+decreases-simple g l = 32 * max (the_size l.source.now) (the_size l.body.now) + 22
 
 abbrev pub decreases-given : goal.decreases-given
-decreases-given g l = 16 * max (the_size l.source.now) (the_size l.argument.now) + 10
+decreases-given g l = 32 * max (the_size l.source.now) (the_size l.argument.now) + 20
 
 abbrev pub decreases-through : goal.decreases-through
-decreases-through g l = 16 * max (the_size l.source.now) (the_size l.body.now) + 12
+decreases-through g l = 32 * max (the_size l.source.now) (the_size l.body.now) + 24
 
 abbrev pub decreases-expanded_item : goal.decreases-expanded_item
-decreases-expanded_item g l = 16 * max (the_size l.inner.now) (the_size l.body.now) + 9
+decreases-expanded_item g l = 32 * max (the_size l.inner.now) (the_size l.body.now) + 18
 
 abbrev pub decreases-expanded : goal.decreases-expanded
-decreases-expanded g l = 16 * max (the_size l.source.now) (max (the_size l.inner.now) (the_size l.body.now)) + 10
+decreases-expanded g l = 32 * max (the_size l.source.now) (max (the_size l.inner.now) (the_size l.body.now)) + 20
 
 abbrev pub decreases-select_many : goal.decreases-select_many
-decreases-select_many g l = 16 * max (the_size l.source.now) (max (the_size l.inner.now) (the_size l.body.now)) + 11
+decreases-select_many g l = 32 * max (the_size l.source.now) (max (the_size l.inner.now) (the_size l.body.now)) + 22
 
 abbrev pub decreases-keyed_item : goal.decreases-keyed_item
-decreases-keyed_item g l = 16 * max (the_size l.key.now) (the_size l.element.now) + 2
+decreases-keyed_item g l = 32 * max (the_size l.key.now) (the_size l.element.now) + 4
 
 abbrev pub decreases-next_keyed : goal.decreases-next_keyed
-decreases-next_keyed g l = 16 * max (the_size l.source.now) (max (the_size l.key.now) (the_size l.element.now)) + 8
+decreases-next_keyed g l = 32 * max (the_size l.source.now) (max (the_size l.key.now) (the_size l.element.now)) + 16
 
 abbrev pub decreases-next_with_key : goal.decreases-next_with_key
-decreases-next_with_key g l = 16 * max (the_size l.source.now) (the_size l.key.now) + 8
+decreases-next_with_key g l = 32 * max (the_size l.source.now) (the_size l.key.now) + 16
 
 abbrev pub decreases-keyed : goal.decreases-keyed
-decreases-keyed g l = 16 * max (the_size l.source.now) (max (the_size l.key.now) (the_size l.element.now)) + 9
+decreases-keyed g l = 32 * max (the_size l.source.now) (max (the_size l.key.now) (the_size l.element.now)) + 18
 
 abbrev pub decreases-with_key : goal.decreases-with_key
-decreases-with_key g l = 16 * the_size l.key.now + 2
+decreases-with_key g l = 32 * the_size l.key.now + 4
 
 abbrev pub decreases-with_keys : goal.decreases-with_keys
-decreases-with_keys g l = 16 * max (the_size l.source.now) (the_size l.key.now) + 9
+decreases-with_keys g l = 32 * max (the_size l.source.now) (the_size l.key.now) + 18
 
 abbrev pub decreases-matched_item : goal.decreases-matched_item
-decreases-matched_item g l = 16 * the_size l.body.now + 3
+decreases-matched_item g l = 32 * the_size l.body.now + 6
 
 abbrev pub decreases-joined_item : goal.decreases-joined_item
-decreases-joined_item g l = 16 * goal.size-joined_item g l + 4
+decreases-joined_item g l = 32 * goal.size-joined_item g l + 8
 
 abbrev pub decreases-joined : goal.decreases-joined
-decreases-joined g l = 16 * max (goal.size-joined g l) (the_size l.source.now) + 8
+decreases-joined g l = 32 * max (goal.size-joined g l) (the_size l.source.now) + 16
 
 abbrev pub decreases-join : goal.decreases-join
-decreases-join g l = 16 * max (goal.size-join g l) (the_size l.source.now) + 10
+decreases-join g l = 32 * max (goal.size-join g l) (the_size l.source.now) + 20
 
 abbrev pub decreases-group_by : goal.decreases-group_by
-decreases-group_by g l = 16 * max (the_size l.source.now) (max (the_size l.key.now) (the_size l.element.now)) + 10
+decreases-group_by g l = 32 * max (the_size l.source.now) (max (the_size l.key.now) (the_size l.element.now)) + 20
 
 abbrev pub decreases-key_of : goal.decreases-key_of
-decreases-key_of g l = 16 * the_size l.key.now + 2
+decreases-key_of g l = 32 * the_size l.key.now + 4
 
 abbrev pub decreases-keys_of : goal.decreases-keys_of
-decreases-keys_of g l = 16 * the_size l.key.now + 3
+decreases-keys_of g l = 32 * the_size l.key.now + 6
 
 abbrev pub decreases-columns : goal.decreases-columns
-decreases-columns g l = 16 * goal.size-columns g l + 4
+decreases-columns g l = 32 * goal.size-columns g l + 8
 
 abbrev pub decreases-sorted : goal.decreases-sorted
-decreases-sorted g l = 16 * goal.size-sorted g l + 5
+decreases-sorted g l = 32 * goal.size-sorted g l + 10
 
 abbrev pub decreases-arranged : goal.decreases-arranged
-decreases-arranged g l = 16 * goal.size-arranged g l + 6
+decreases-arranged g l = 32 * goal.size-arranged g l + 12
 
 abbrev pub decreases-order_by : goal.decreases-order_by
-decreases-order_by g l = 16 * max (goal.size-order_by g l) (the_size l.source.now) + 9
+decreases-order_by g l = 32 * max (goal.size-order_by g l) (the_size l.source.now) + 18
 
 abbrev pub decreases-method_opened : goal.decreases-method_opened
-decreases-method_opened g l = 16 * max (the_size l.source.now) (the_size l.body.now) + 13
+decreases-method_opened g l = 32 * max (the_size l.source.now) (the_size l.body.now) + 26
 
 abbrev pub decreases-open_method : goal.decreases-open_method
-decreases-open_method g l = 16 * max (the_size l.source.now) (the_size l.body.now) + 14
+decreases-open_method g l = 32 * max (the_size l.source.now) (the_size l.body.now) + 28
 
 abbrev pub decreases-pass_method : goal.decreases-pass_method
-decreases-pass_method g l = 16 * max (the_size l.source.now) (the_size l.body.now) + 7
+decreases-pass_method g l = 32 * max (the_size l.source.now) (the_size l.body.now) + 14
 
 abbrev pub decreases-opened : goal.decreases-opened
-decreases-opened g l = 16 * the_size l.form.now + 2
+decreases-opened g l = 32 * the_size l.form.now + 4
 
 abbrev pub decreases-open : goal.decreases-open
-decreases-open g l = 16 * the_size l.form.now + 3
+decreases-open g l = 32 * the_size l.form.now + 6
 
 abbrev pub decreases-pass : goal.decreases-pass
-decreases-pass g l = 16 * the_size l.form.now
+decreases-pass g l = 32 * the_size l.form.now
 
 abbrev pub decreases-made : goal.decreases-made
-decreases-made g l = 16 * the_size l.body.now + 2
+decreases-made g l = 32 * the_size l.body.now + 4
 
 abbrev pub decreases-kept : goal.decreases-kept
-decreases-kept g l = 16 * the_size l.condition.now + 4
+decreases-kept g l = 32 * the_size l.condition.now + 8
 
 abbrev pub decreases-at_stage : goal.decreases-at_stage
-decreases-at_stage g l = 16 * the_size l.body.now + 5
+decreases-at_stage g l = 32 * the_size l.body.now + 10
 
 abbrev pub decreases-pass_through : goal.decreases-pass_through
-decreases-pass_through g l = 16 * max (the_size l.source.now) (the_size l.body.now) + 6
+decreases-pass_through g l = 32 * max (the_size l.source.now) (the_size l.body.now) + 12
 
 abbrev pub decreases-next : goal.decreases-next
-decreases-next g l = 16 * max (the_size l.source.now) (the_size l.body.now) + 7
+decreases-next g l = 32 * max (the_size l.source.now) (the_size l.body.now) + 14
 
 abbrev pub decreases-drained : goal.decreases-drained
-decreases-drained g l = 16 * max (the_size l.source.now) (the_size l.body.now) + 8
+decreases-drained g l = 32 * max (the_size l.source.now) (the_size l.body.now) + 16
 
 abbrev pub decreases-taken : goal.decreases-taken
-decreases-taken g l = 16 * max (the_size l.source.now) (the_size l.body.now) + 8
+decreases-taken g l = 32 * max (the_size l.source.now) (the_size l.body.now) + 16
 
 abbrev pub decreases-tallied : goal.decreases-tallied
-decreases-tallied g l = 16 * max (the_size l.source.now) (the_size l.body.now) + 8
+decreases-tallied g l = 32 * max (the_size l.source.now) (the_size l.body.now) + 16
 
 abbrev pub decreases-read_items : goal.decreases-read_items
-decreases-read_items g l = 16 * max (the_size l.source.now) (the_size l.body.now) + 9
+decreases-read_items g l = 32 * max (the_size l.source.now) (the_size l.body.now) + 18
 
 abbrev pub decreases-needed_items : goal.decreases-needed_items
-decreases-needed_items g l = 16 * the_size l.source.now + 9
+decreases-needed_items g l = 32 * the_size l.source.now + 17
 
 abbrev pub decreases-listed : goal.decreases-listed
-decreases-listed g l = 16 * max (the_size l.source.now) (the_size l.body.now) + 10
+decreases-listed g l = 32 * max (the_size l.source.now) (the_size l.body.now) + 20
+
+abbrev pub decreases-at_last : goal.decreases-at_last
+decreases-at_last g l = 32 * the_size l.body.now + 5
+
+abbrev pub decreases-pass_planned : goal.decreases-pass_planned
+decreases-pass_planned g l = 32 * max (the_size l.source.now) (the_size l.body.now) + 13
+
+abbrev pub decreases-next_planned : goal.decreases-next_planned
+decreases-next_planned g l = 32 * max (the_size l.source.now) (the_size l.body.now) + 15
+
+abbrev pub decreases-has_item : goal.decreases-has_item
+decreases-has_item g l = 32 * the_size l.source.now + 16
+
+abbrev pub decreases-contains : goal.decreases-contains
+decreases-contains g l = 32 * the_size l.source.now + 17
+
+abbrev pub decreases-given_items : goal.decreases-given_items
+decreases-given_items g l = 32 * the_size l.source.now + 18
+
+abbrev pub decreases-given_value : goal.decreases-given_value
+decreases-given_value g l = 32 * the_size l.source.now + 19
 
 -- ---- loops
 
@@ -270,6 +292,14 @@ invariant-next-loop-item g l =
 abbrev pub decreases-next-loop-item : goal.decreases-next-loop-item
 decreases-next-loop-item g l = length (base_stream l.base).0
 
+abbrev pub invariant-next_planned-loop-row : goal.invariant-next_planned-loop-row
+invariant-next_planned-loop-row g l =
+    left (world_of g.R.TableRow.table_of g.R.RowRef.shown l.fn.self.tables.now) (values_in l.fn.slots) l.fn.stage l.fn.source l.fn.body l.base
+    ≡ left (world_of g.R.TableRow.table_of g.R.RowRef.shown l.fn.self.tables.now) (values_in l.fn.slots) l.fn.stage l.fn.source l.fn.body l.fn.base
+
+abbrev pub decreases-next_planned-loop-row : goal.decreases-next_planned-loop-row
+decreases-next_planned-loop-row g l = length (base_stream l.base).0
+
 -- the items so far, and those that are left
 abbrev pub invariant-drained-loop-made : goal.invariant-drained-loop-made
 invariant-drained-loop-made g l =
@@ -306,6 +336,19 @@ invariant-all-loop-base g l =
 
 abbrev pub decreases-all-loop-base : goal.decreases-all-loop-base
 decreases-all-loop-base g l = length (left (world_of g.R.TableRow.table_of g.R.RowRef.shown l.fn.self.tables.now) (values_in l.fn.slots) stage.Plain l.fn.source l.fn.source l.base).0
+
+-- what the items that are left answer is what all answer
+abbrev pub invariant-has_item-loop-base : goal.invariant-has_item-loop-base
+invariant-has_item-loop-base g l =
+    contains same_values l.fn.value
+    (left (world_of g.R.TableRow.table_of g.R.RowRef.shown l.fn.self.tables.now) (values_in l.fn.slots) stage.Plain l.fn.source l.fn.source l.base).0
+    (left (world_of g.R.TableRow.table_of g.R.RowRef.shown l.fn.self.tables.now) (values_in l.fn.slots) stage.Plain l.fn.source l.fn.source l.base).1
+    ≡ contains same_values l.fn.value (items_meant (world_of g.R.TableRow.table_of g.R.RowRef.shown l.fn.self.tables.now) l.fn.source l.fn.slots).0
+    (items_meant (world_of g.R.TableRow.table_of g.R.RowRef.shown l.fn.self.tables.now) l.fn.source l.fn.slots).1
+
+abbrev pub decreases-has_item-loop-base : goal.decreases-has_item-loop-base
+decreases-has_item-loop-base g l =
+    length (left (world_of g.R.TableRow.table_of g.R.RowRef.shown l.fn.self.tables.now) (values_in l.fn.slots) stage.Plain l.fn.source l.fn.source l.base).0
 
 abbrev pub invariant-expanded-loop-made : goal.invariant-expanded-loop-made
 invariant-expanded-loop-made g l =
