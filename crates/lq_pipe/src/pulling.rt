@@ -418,9 +418,46 @@ impl<'a, R: TableRow> Running<'a, R> {
         }
     }
 
-    /// The next item of a source after its last stage, for which there is a plan, or how they end.
+    /// The next item of a source after its last stage, by a plan that says something of rows, or how
+    /// they end.
     #[cycle(running)]
     #[inline(never)]
+    fn next_by_plan(
+        &self,
+        plan: &Plan,
+        stage: Stage,
+        source: &Form,
+        body: &Form,
+        base: &mut Base<'a, R>,
+        slots: &Slots<'_, R>,
+    ) -> Result<Step<R>, AllocError>
+        requires condition { DecidesStage R.table_of R.shown (world_of R.table_of R.shown self.now.tables.now)
+            (values_in slots.now) stage source.now body.now plan.now.table plan.now.condition }
+        requires place { IfSome plan.now.place (λ place.
+            IsCell R.table_of R.shown (world_of R.table_of R.shown self.now.tables.now)
+            (values_in slots.now) plan.now.table body.now place) }
+        ensures { IfOk result (λ step. Steps
+            (left (world_of R.table_of R.shown self.now.tables.now) (values_in slots.now)
+            stage source.now body.now base.old) step
+            (left (world_of R.table_of R.shown self.now.tables.now) (values_in slots.now)
+            stage source.now body.now base.new)) }
+    {
+        loop {
+            match base.next_row() {
+                Some(row) => match self.pass_planned(plan, stage, source, body, &row, slots)? {
+                    Passed::Item(item) => return Ok(Step::Item(item)),
+                    Passed::Dropped => {}
+                    Passed::Fault(met) => return Ok(Step::End(End::Fault(met))),
+                },
+                None => return self.next(stage, source, body, base, slots),
+            }
+        }
+    }
+
+    /// The next item of a source after its last stage, for which there is a plan, or how they end. It
+    /// has no frame of its own, so that a plan that says nothing costs nothing.
+    #[cycle(running)]
+    #[inline(always)]
     pub(crate) fn next_planned(
         &self,
         plan: &Plan,
@@ -444,16 +481,7 @@ impl<'a, R: TableRow> Running<'a, R> {
         if plan.is_silent() {
             return self.next(stage, source, body, base, slots);
         }
-        loop {
-            match base.next_row() {
-                Some(row) => match self.pass_planned(plan, stage, source, body, &row, slots)? {
-                    Passed::Item(item) => return Ok(Step::Item(item)),
-                    Passed::Dropped => {}
-                    Passed::Fault(met) => return Ok(Step::End(End::Fault(met))),
-                },
-                None => return self.next(stage, source, body, base, slots),
-            }
-        }
+        self.next_by_plan(plan, stage, source, body, base, slots)
     }
 
     /// All items of a source behind its last stage, and how they end.

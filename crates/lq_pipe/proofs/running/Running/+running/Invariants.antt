@@ -210,7 +210,7 @@ abbrev pub decreases-pass_through : goal.decreases-pass_through
 decreases-pass_through g l = 32 * max (the_size l.source.now) (the_size l.body.now) + 12
 
 abbrev pub decreases-next : goal.decreases-next
-decreases-next g l = 32 * max (the_size l.source.now) (the_size l.body.now) + 14
+decreases-next g l = 32 * max (the_size l.source.now) (the_size l.body.now) + 13
 
 abbrev pub decreases-drained : goal.decreases-drained
 decreases-drained g l = 32 * max (the_size l.source.now) (the_size l.body.now) + 16
@@ -235,6 +235,9 @@ decreases-at_last g l = 32 * the_size l.body.now + 5
 
 abbrev pub decreases-pass_planned : goal.decreases-pass_planned
 decreases-pass_planned g l = 32 * max (the_size l.source.now) (the_size l.body.now) + 13
+
+abbrev pub decreases-next_by_plan : goal.decreases-next_by_plan
+decreases-next_by_plan g l = 32 * max (the_size l.source.now) (the_size l.body.now) + 14
 
 abbrev pub decreases-next_planned : goal.decreases-next_planned
 decreases-next_planned g l = 32 * max (the_size l.source.now) (the_size l.body.now) + 15
@@ -292,13 +295,13 @@ invariant-next-loop-item g l =
 abbrev pub decreases-next-loop-item : goal.decreases-next-loop-item
 decreases-next-loop-item g l = length (base_stream l.base).0
 
-abbrev pub invariant-next_planned-loop-row : goal.invariant-next_planned-loop-row
-invariant-next_planned-loop-row g l =
+abbrev pub invariant-next_by_plan-loop-row : goal.invariant-next_by_plan-loop-row
+invariant-next_by_plan-loop-row g l =
     left (world_of g.R.TableRow.table_of g.R.RowRef.shown l.fn.self.tables.now) (values_in l.fn.slots) l.fn.stage l.fn.source l.fn.body l.base
     ≡ left (world_of g.R.TableRow.table_of g.R.RowRef.shown l.fn.self.tables.now) (values_in l.fn.slots) l.fn.stage l.fn.source l.fn.body l.fn.base
 
-abbrev pub decreases-next_planned-loop-row : goal.decreases-next_planned-loop-row
-decreases-next_planned-loop-row g l = length (base_stream l.base).0
+abbrev pub decreases-next_by_plan-loop-row : goal.decreases-next_by_plan-loop-row
+decreases-next_by_plan-loop-row g l = length (base_stream l.base).0
 
 -- the items so far, and those that are left
 abbrev pub invariant-drained-loop-made : goal.invariant-drained-loop-made
