@@ -1,5 +1,5 @@
 -- What a condition says, form by form.
-use Rattle.std.proofs.Common.{◌≡◌, if◌then◌else◌, List, ℕ, ℤ, Bool, true, false, Option, Some, None, ap, ◌∙◌, sym, slice_get}
+use Rattle.std.proofs.Common.{◌≡◌, List, ℕ, ℤ, Bool, true, Some, None, ap, ◌∙◌, sym, slice_get}
 use Rattle.lq_value.specs.declared.scalar.Scalar.{Scalar}
 use Rattle.lq_value.specs.declared.scalar.Scalar.TheVariants as scalar
 use Rattle.lq_grammar.specs.declared.syntax.Binary.{Binary}
