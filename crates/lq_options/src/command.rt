@@ -14,6 +14,8 @@ The tables are read, then each statement of the script is answered by a line of 
 output. A role is served those rows alone that the policies show it, and a statement that uses a
 table or a column without a right is denied.";
 
+const ROLE: &str = "The role that the script begins with, one of the policy file's";
+
 const MORE: &str = "\
 Example:
   people.csv is a table, and policy.toml lets the role dan use its columns and see two of its rows:
@@ -41,18 +43,20 @@ Statuses:
   4  the script could not be read, its replies could not be written, or it is too long or no UTF-8
   5  there was no memory for the tables or the script";
 
-fn role<'a>(alloc: Global) -> Arg<'a>
+/// The argument that names the role to begin with.
+pub(crate) fn role<'a>(alloc: Global, help: &'a str) -> Arg<'a>
     ensures rule { rule_of result ≡ role_rule }
     ensures local { result.global ≡ false }
 {
     Arg::new(alloc, "role")
         .long("role")
         .value_name("R")
-        .help("The role that the script begins with, one of the policy file's")
+        .help(help)
         .required(true)
 }
 
-fn policy<'a>(alloc: Global) -> Arg<'a>
+/// The argument that names the policy file.
+pub(crate) fn policy<'a>(alloc: Global) -> Arg<'a>
     ensures rule { rule_of result ≡ policy_rule }
     ensures local { result.global ≡ false }
 {
@@ -73,7 +77,8 @@ fn script<'a>(alloc: Global) -> Arg<'a>
         .help("The script, one statement a line [default: standard input]")
 }
 
-fn tables<'a>(alloc: Global) -> Arg<'a>
+/// The words that stand by themselves, which name the table files.
+pub(crate) fn tables<'a>(alloc: Global) -> Arg<'a>
     ensures rule { rule_of result ≡ tables_rule }
     ensures local { result.global ≡ false }
 {
@@ -92,7 +97,7 @@ fn command<'a>(alloc: Global) -> Result<Command<'a>, AllocError>
         .bin_name("lq")?
         .about(ABOUT)
         .after_help(MORE)
-        .arg(role(alloc))?
+        .arg(role(alloc, ROLE))?
         .arg(policy(alloc))?
         .arg(script(alloc))?
         .arg(tables(alloc))

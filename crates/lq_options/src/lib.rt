@@ -1,6 +1,7 @@
-//! The command line of the program `lq`, read by `clap`: its words are taken apart into the options that they name.
+//! The command lines of the programs `lq` and `desk`, read by `clap`: their words are taken apart into the options that they
+//! name.
 //!
-//! `options` gives exactly the values that `clap` defines for the words, or refuses them with `clap`'s
+//! `options` and `desk_options` give exactly the values that `clap` defines for the words, or refuse them with `clap`'s
 //! kind of fault.
 #![tactic(auto)]
 
@@ -8,14 +9,19 @@ ghost use Rattle.std.specs.Prelude.{◌≡◌, ◌≢◌, [], Some, IfOk, codes,
 ghost use Rattle.std.specs.String.{string_bytes};
 ghost use Rattle.clap.specs.Words.{FailsBy, all_of, fault_of, first_of};
 ghost use Rattle.lq_options.specs.CommandLine.{lq_app, lq_rows};
+ghost use Rattle.lq_options.specs.DeskCommandLine.{desk_app, desk_rows};
 
 mod asked;
 mod command;
+mod desk_asked;
+mod desk_command;
 mod values;
 
 pub use asked::Options;
 use clap::Error;
 use command::matches_of_words;
+pub use desk_asked::DeskOptions;
+use desk_command::desk_matches;
 use std::alloc::Global;
 use values::{given_text, given_texts, text_of};
 
@@ -45,5 +51,28 @@ pub fn options(alloc: Global, words: &[String]) -> Result<Options, Error>
         policy,
         script,
         tables,
+    })
+}
+
+/// The options of the desk that `words` name; the first word is the program's name, as in
+/// `std::env::args`. A refusal is `clap`'s, as that of `options` is.
+pub fn desk_options(alloc: Global, words: &[String]) -> Result<DeskOptions, Error>
+    ensures role { IfOk result (λ options.
+        first_of (codes "role") (desk_rows (map string_bytes words.entry.now))
+        ≡ Some (string_bytes options.role)) }
+    ensures policy { IfOk result (λ options.
+        first_of (codes "policy") (desk_rows (map string_bytes words.entry.now))
+        ≡ Some (string_bytes options.policy)) }
+    ensures tables { IfOk result (λ options.
+        all_of (codes "tables") (desk_rows (map string_bytes words.entry.now))
+        ≡ Some (map string_bytes options.tables.items)) }
+    ensures some_table { IfOk result (λ options. options.tables.items ≢ []) }
+    ensures refused { FailsBy (fault_of desk_app (map string_bytes words.entry.now)) result }
+{
+    let matches = desk_matches(alloc, words)?;
+    Ok(DeskOptions {
+        role: given_text(alloc, &matches, "role")?,
+        policy: given_text(alloc, &matches, "policy")?,
+        tables: given_texts(alloc, &matches, "tables")?,
     })
 }

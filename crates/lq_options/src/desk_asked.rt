@@ -1,0 +1,28 @@
+//! What the words of a command line of the program `desk` ask for.
+use crate::asked::Options;
+
+/// The options of the desk, each as it stands among the words.
+#[derive(Debug, Drop)]
+pub struct DeskOptions {
+    /// The role that the desk begins with.
+    pub role: String,
+    /// The file of roles and policies.
+    pub policy: String,
+    /// The table files, in the order of the words.
+    pub tables: Vec<String>,
+}
+
+impl From<DeskOptions> for Options {
+    ghost use Rattle.std.specs.Prelude.{◌≡◌, None};
+
+    ghost from_gives = { λ asked options. options ≡ record { role = asked.role; policy = asked.policy; script = None; tables = asked.tables } };
+
+    fn from(asked: DeskOptions) -> Options {
+        Options {
+            role: asked.role,
+            policy: asked.policy,
+            script: None,
+            tables: asked.tables,
+        }
+    }
+}
