@@ -4,7 +4,7 @@ use std::io::Read;
 
 /// A reader that can't be read.
 #[derive(Drop)]
-pub(crate) struct NoFile;
+pub struct NoFile;
 
 impl Read for NoFile {
     fn read(&mut self, _buf: &mut [u8]) -> io::Result<usize> {

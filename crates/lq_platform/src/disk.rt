@@ -1,4 +1,4 @@
-//! The files of the machine that the program runs on.
+//! The files of the machine that a program runs on.
 use lq_serve::{FileError, Files};
 use std::fs::File;
 use std::io;
@@ -6,12 +6,13 @@ use std::io::Read;
 
 /// The machine's files, by their paths.
 #[derive(Drop)]
-pub(crate) struct Disk<'a> {
+pub struct Disk<'a> {
     rt: &'a HostRuntime,
 }
 
 impl<'a> Disk<'a> {
-    pub(crate) fn new(rt: &'a HostRuntime) -> Disk<'a> {
+    /// The files that a program finds.
+    pub fn new(rt: &'a HostRuntime) -> Disk<'a> {
         Disk { rt }
     }
 

@@ -1,0 +1,58 @@
+//! The words of the command line, and the reports of what is wrong with them.
+ghost use Rattle.std.specs.Prelude.{◌≡◌};
+
+use clap::error::ErrorKind;
+use std::io::Write;
+use std::{env, io};
+
+/// The status where there was nothing to do but to print the help.
+const ENDED: u8 = 0;
+
+/// The status for a fault of the command line.
+const USAGE: u8 = 2;
+
+/// The status for want of memory.
+const NO_MEMORY: u8 = 5;
+
+/// The words of the command line, of which the first is the program's name.
+pub fn words(rt: &HostRuntime) -> io::Result<Vec<String>> {
+    let mut words = Vec::new(rt.alloc());
+    for word in env::args(rt)? {
+        words.push(word)?;
+    }
+    Ok(words)
+}
+
+/// Reports the want of memory, and answers the status for it. A failure to write is passed over: nobody is left to be told.
+pub fn report_memory(rt: &HostRuntime) -> u8
+    ensures { result ≡ 5 }
+{
+    let _ = rt.stderr().write_all(b"lq: memory\n");
+    NO_MEMORY
+}
+
+/// Reports why the words could not be read, and answers the status for it.
+pub fn report_words(rt: &HostRuntime, error: &io::Error) -> u8 {
+    if error.kind() == io::ErrorKind::OutOfMemory {
+        return report_memory(rt);
+    }
+    let _ = rt
+        .stderr()
+        .write_all(b"lq: a word of the command line is no text\n");
+    USAGE
+}
+
+/// Reports what is wrong with the words, or prints the help that they ask for, and answers the status for it.
+pub fn report_options(rt: &HostRuntime, error: &clap::Error) -> u8 {
+    match error.kind() {
+        ErrorKind::OutOfMemory => report_memory(rt),
+        ErrorKind::DisplayHelp => {
+            let _ = error.print(rt);
+            ENDED
+        }
+        _ => {
+            let _ = error.print(rt);
+            USAGE
+        }
+    }
+}
