@@ -1,0 +1,29 @@
+-- What is said of a line while it comes, and once it is there.
+use Rattle.std.specs.Prelude.{◌≡◌, ◌<◌, ◌≤◌, List, ℕ, Option, Some, None, length, string_bytes}
+use Rattle.std.specs.Str.{IsUtf8}
+use Rattle.lq_command.specs.declared.input.Draft.{Draft}
+use Rattle.lq_command.specs.declared.input.Fault.{Fault}
+use Rattle.lq_command.specs.declared.input.Fault.TheVariants as fault
+use Rattle.lq_command.specs.declared.input.Input.{Input}
+use Rattle.lq_command.specs.declared.input.Input.TheVariants as input
+
+-- the most bytes of a line
+abbrev pub line_limit : ℕ
+line_limit = 65536
+
+-- what a line of these bytes is given as; where memory was refused, nothing is known of it
+abbrev pub IsInput : List ℕ → Input → Type 0
+IsInput line (input.Line text) = (string_bytes text ≡ line) × (length line ≤ line_limit)
+IsInput line input.TooLong = line_limit < length line
+IsInput line input.NoText = (¬ IsUtf8 line) × (length line ≤ line_limit)
+IsInput line input.NoMemory = Unit {0}
+IsInput line input.End = ⊥
+
+-- these bytes of a line have come
+abbrev pub IsDraftBy : List ℕ → List ℕ → Option Fault → Type 0
+IsDraftBy line bytes None = (bytes ≡ line) × (length line ≤ line_limit)
+IsDraftBy line bytes (Some fault.TooLong) = line_limit < length line
+IsDraftBy line bytes (Some fault.Memory) = 0 < length line
+
+abbrev pub IsDraft : List ℕ → Draft → Type 0
+IsDraft line draft = IsDraftBy line draft.bytes.items draft.fault

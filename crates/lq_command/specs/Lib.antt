@@ -1,0 +1,5 @@
+pub mod Commands
+pub mod Inputs
+pub mod Readers
+pub mod Typing
+pub mod Words

@@ -1,0 +1,16 @@
+//! Lines whose bytes are there.
+ghost use Rattle.std.specs.Prelude.{◌≤◌, length};
+ghost use Rattle.lq_command.specs.Inputs.{IsInput, line_limit};
+
+use crate::input::Input;
+
+/// The line of these bytes, which are in size.
+pub(crate) fn text_line(bytes: Vec<u8>) -> Input
+    requires { length bytes.items ≤ line_limit }
+    ensures { IsInput bytes.items result }
+{
+    match String::from_utf8(bytes) {
+        Ok(line) => Input::Line(line),
+        Err(_) => Input::NoText,
+    }
+}

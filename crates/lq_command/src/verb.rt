@@ -1,0 +1,61 @@
+//! The names of the commands.
+ghost use Rattle.std.specs.Prelude.{◌≡◌};
+ghost use Rattle.lq_command.specs.Commands.{verb_of};
+
+/// What a command is about.
+#[derive(Clone, Copy, Debug, Drop, Eq, PartialEq)]
+pub enum Verb {
+    /// `.tables`
+    Tables,
+    /// `.roles`
+    Roles,
+    /// `.names`
+    Names,
+    /// `.rights`
+    Rights,
+    /// `.why`
+    Why,
+    /// `.rows`
+    Rows,
+    /// `.json`
+    Json,
+    /// `.time`
+    Time,
+    /// `.run`
+    Run,
+    /// `.help`
+    Help,
+    /// `.quit`
+    Quit,
+}
+
+/// The verb of this name.
+pub(crate) fn verb_of(name: &str) -> Option<Verb>
+    ensures { result ≡ verb_of name.now }
+{
+    if name == ".tables" {
+        Some(Verb::Tables)
+    } else if name == ".roles" {
+        Some(Verb::Roles)
+    } else if name == ".names" {
+        Some(Verb::Names)
+    } else if name == ".rights" {
+        Some(Verb::Rights)
+    } else if name == ".why" {
+        Some(Verb::Why)
+    } else if name == ".rows" {
+        Some(Verb::Rows)
+    } else if name == ".json" {
+        Some(Verb::Json)
+    } else if name == ".time" {
+        Some(Verb::Time)
+    } else if name == ".run" {
+        Some(Verb::Run)
+    } else if name == ".help" {
+        Some(Verb::Help)
+    } else if name == ".quit" {
+        Some(Verb::Quit)
+    } else {
+        None
+    }
+}
