@@ -1,0 +1,10 @@
+pub mod Answers
+pub mod Desks
+pub mod Grids
+pub mod Names
+pub mod Questions
+pub mod Reasons
+pub mod Rights
+pub mod Roles
+pub mod Sentences
+pub mod Tables
