@@ -1,0 +1,6 @@
+printf 'run "'
+head -c 65529 /dev/zero | tr '\0' 'b'
+printf '";\n'
+printf 'run "'
+head -c 65528 /dev/zero | tr '\0' 'b'
+printf '".Length'
