@@ -159,7 +159,7 @@ class Page:
         elif block.word == "json":
             if not any(it.kind == "fence" and it.word == "csharp" for it in self.before(block)):
                 raise self.failure(block.line, "no block of statements (`csharp`) stands before these replies")
-        elif block.word not in ("ebnf", "sh") and not (block.word == "text" and block.text in FORMS):
+        elif block.word not in ("ebnf", "sh", "console") and not (block.word == "text" and block.text in FORMS):
             raise self.failure(block.line, f"a block of the kind `{block.word}` is no example that can be run, and no form")
 
     def read_policies(self, block, before):

@@ -1,7 +1,7 @@
 //! Command lines, and what is read from them.
 use clap::Error;
 use clap::error::ErrorKind;
-use lq_options::{Options, options};
+use lq_options::{Options, desk_options, options};
 use std::alloc::{AllocError, Global};
 use std::test::Fail;
 
@@ -87,5 +87,21 @@ fn a_refusal_has_its_kind_and_status(rt: HostRuntime) -> Result<(), Fail> {
         assert!(rt; error.kind() == *kind, "{line}: {error}");
         assert!(rt; error.exit_code() == *status, "{line}");
     }
+    Ok(())
+}
+
+#[test]
+fn the_desk_has_no_script(rt: HostRuntime) -> Result<(), Fail> {
+    let alloc = rt.alloc();
+    let words = words_of(alloc, "desk --role dan --policy p.toml a.csv b.csv")?;
+    let options = desk_options(alloc, words.as_slice())?;
+    let text = format!(in alloc; "{options:?}")?;
+    let shown = r#"DeskOptions { role: "dan", policy: "p.toml", tables: ["a.csv", "b.csv"] }"#;
+    assert!(rt; text.as_str() == shown, "{text}");
+    let words = words_of(alloc, "desk --role dan --policy p.toml --script s a.csv")?;
+    let Err(error) = desk_options(alloc, words.as_slice()) else {
+        return Err(Fail::from("it was read"));
+    };
+    assert!(rt; error.kind() == ErrorKind::UnknownArgument, "{error}");
     Ok(())
 }
