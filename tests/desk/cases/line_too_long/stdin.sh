@@ -1,6 +1,4 @@
 head -c 65537 /dev/zero | tr '\0' 'a'
-printf '\nrun 1\nrun "'
-head -c 65530 /dev/zero | tr '\0' 'b'
-printf '".Length\n'
+printf '\nrun 1\n'
 head -c 200000 /dev/zero | tr '\0' 'c'
 printf '\nrun 2'

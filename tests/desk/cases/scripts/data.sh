@@ -1,4 +1,8 @@
 printf 'run 6\n\xff\nrun 7\n' >bytes.lq
-head -c 1048576 /dev/zero | tr '\0' '\n' >limit.lq
-head -c 1048577 /dev/zero | tr '\0' '\n' >long.lq
+# 16 lines of 65,536 bytes each are as many bytes as a script may have.
+for _ in {1..16}; do
+    head -c 65535 /dev/zero | tr '\0' ' '
+    echo
+done >limit.lq
+{ cat limit.lq && echo; } >long.lq
 mkdir folder
