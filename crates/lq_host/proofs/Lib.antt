@@ -1,0 +1,2 @@
+pub mod AcceptedSetLaws
+pub mod MadeClosureLaws

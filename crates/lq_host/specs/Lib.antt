@@ -1,0 +1,4 @@
+pub mod AcceptedSets
+pub mod Predicates
+pub mod Calls
+pub mod Hosts

@@ -1,0 +1,27 @@
+//! Host predicates: boxed closures that tell numbers of their range, and the log of their calls.
+//!
+//! A predicate answers by its accepted set, a finite set of numbers or of pairs of numbers in its range, which its maker proves of its
+//! closure. A closure is called by `Asks::ask` alone: on arguments in the range, with room for the call's entry in the log, which is
+//! then written. Each call gives exactly what the definitions say, or the named refusal exactly where it comes.
+#![tactic(auto)]
+
+mod asks;
+mod call;
+mod error;
+mod hosts;
+mod log;
+mod one;
+mod predicate;
+mod predicates;
+mod ranges;
+mod seen_row;
+mod two;
+
+pub use asks::Asks;
+pub use call::{Call, Pick, Pick2, Question};
+pub use error::HostError;
+pub use hosts::HostSet;
+pub use log::Log;
+pub use predicate::HostPredicate;
+pub use predicates::Predicates;
+pub use seen_row::{SeenRow, arguments_of};
