@@ -1,5 +1,5 @@
 -- What frames and variables stand for, layer by layer, and where a name is found among them.
-use Rattle.std.proofs.Common.{◌≡◌, ◌∷◌, ◌||◌, if◌then◌else◌, not, List, [], map, ℕ, Bool, true, false, Option, Some, None, ap, ◌∙◌, refl, sym, Bor, option_map, is_some}
+use Rattle.std.proofs.Common.{◌≡◌, ◌∷◌, ◌||◌, if◌then◌else◌, List, [], map, ℕ, Bool, true, false, Some, None, ap, ◌∙◌, refl, Bor, is_some}
 use Rattle.std.specs.Str.{bytes_eq}
 use Rattle.lq_value.specs.declared.ty.Ty.{Ty}
 use Rattle.lq_language.specs.Operators.{Pattern, One, With}
@@ -8,8 +8,7 @@ use Rattle.lq_tree.specs.Places.{Place, Places, place_of, places_of, with_item, 
 use Rattle.lq_tree.specs.SessionPlaces.{places_outside}
 use Rattle.lq_tree.specs.declared.tree.Form.{Form}
 use Rattle.lq_tree.specs.declared.tree.Form.TheVariants as form
-use Rattle.lq_tree.specs.declared.tree.Tree.{Tree}
-use Rattle.lq_bind.specs.Frames.{frame_step, is_among, is_fresh_in, pattern_in, pattern_step, places_in, tree_at}
+use Rattle.lq_bind.specs.Frames.{frame_step, is_among, pattern_in, pattern_step, places_in}
 use Rattle.lq_bind.specs.declared.frames.Frame.{Frame, fold_out-Frame, map-Frame, out-Frame}
 use Rattle.lq_bind.specs.declared.frames.Frame.TheVariants as frame
 use Rattle.lq_bind.specs.declared.frames.Frame.TheVariants.{outs-Item, outs-Name, outs-Top}

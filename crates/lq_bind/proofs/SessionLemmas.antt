@@ -40,12 +40,13 @@ module _ (schemas : List Schema) where
   placed name ds depth =
       ap (option_map (tree_of_place depth)) (place_named schemas name ds) ∙ at_number ds depth (first_named (λ (d : Definition). d.name) name ds)
 
-  pub name_missing : (name : List ℕ) (ds : List Definition) (depth : ℕ) → None ≡ defined_before name ds → None ≡ session_tree (session_places schemas ds) name depth
-  name_missing name ds depth e = ap (option_map (found_tree depth)) e ∙ sym (placed name ds depth)
+  pub name_missing : (name : List ℕ) (ds : List Definition) (depth : ℕ) → None ≡ defined_before name ds
+      → session_tree (session_places schemas ds) name depth ≡ None
+  name_missing name ds depth e = placed name ds depth ∙ sym (ap (option_map (found_tree depth)) e)
 
   pub name_placed : (name : List ℕ) (ds earlier : List Definition) (d : Definition) (depth : ℕ)
       → ◌≡◌ {A = Option (List Definition × Definition)} (Some (earlier, d)) (defined_before name ds)
-      → Some (defined_tree schemas (session_places schemas earlier) d.defined depth) ≡ session_tree (session_places schemas ds) name depth
-  name_placed name ds earlier d depth e = ap (option_map (found_tree depth)) e ∙ sym (placed name ds depth)
+      → session_tree (session_places schemas ds) name depth ≡ Some (defined_tree schemas (session_places schemas earlier) d.defined depth)
+  name_placed name ds earlier d depth e = placed name ds depth ∙ sym (ap (option_map (found_tree depth)) e)
 
 pub ruleset places = (name_missing, name_placed)

@@ -1,5 +1,5 @@
 -- What terms are bound to, layer by layer; the names of tables; and operands that are bound together.
-use Rattle.std.proofs.Common.{◌≡◌, ◌∷◌, if◌then◌else◌, List, [], map, ℕ, ◌+◌, Bool, true, false, Option, Some, None, ap, ◌∙◌, refl, sym, option_and_then, option_map}
+use Rattle.std.proofs.Common.{◌≡◌, ◌∷◌, if◌then◌else◌, List, [], ℕ, ◌+◌, Bool, true, false, Option, Some, None, ap, ◌∙◌, refl, sym, option_and_then, option_map}
 use Rattle.std.proofs.lemmas.Option.{none-some}
 use Rattle.std.specs.List.{position_from}
 use Rattle.std.specs.Str.{bytes_eq}
@@ -16,24 +16,24 @@ use Rattle.lq_language.specs.declared.calls.Term.TheVariants as term
 use Rattle.lq_grammar.specs.declared.syntax.Join.{Join}
 use Rattle.lq_grammar.specs.declared.syntax.Node.{Node}
 use Rattle.lq_store.specs.Rules.{name_of}
-use Rattle.lq_tree.specs.Binding.{Binds, Stage, call_items_tree, call_tree, global_tree, if_fresh, join_keys, join_stage, joined_stage, matched_type, name_tree, node_tree, query_tree, source_tree}
+use Rattle.lq_tree.specs.Binding.{Binds, Stage, call_items_tree, call_tree, global_tree, if_fresh, join_keys, join_stage, joined_stage, matched_type, name_tree, node_tree, query_tree, source_tree, term_tree}
 use Rattle.lq_tree.specs.Places.{Place, Places, with_item}
 use Rattle.lq_tree.specs.declared.tree.Form.{Form}
 use Rattle.lq_tree.specs.declared.tree.Tree.{Tree}
 use Rattle.lq_tree.proofs.TreePullLaws.{tree_of_call, tree_of_node}
-use Rattle.lq_bind.specs.Bound.{joined_type, matched_by, matched_in, matched_keys, rows_tree, session_tree, trees_in}
-use Rattle.lq_bind.specs.Frames.{tree_at}
-use Rattle.lq_bind.specs.declared.pairs.Matched.{Matched}
+use Rattle.lq_bind.specs.Bound.{inner_side, joined_type, rows_tree, session_tree, side_by_keys, side_in}
+use Rattle.lq_bind.specs.Frames.{place_tree}
+use Rattle.lq_bind.specs.declared.pairs.InnerSide.{InnerSide}
 
 -- ---- terms
 
-pub node_bound : (tables : List Table) (n : Node Term) (places : Places)
-    → trees_in tables (term.Node n) places ≡ node_tree (schemas_of tables) (trees_in tables) n places
-node_bound tables n places = λ i. tree_of_node (schemas_of tables) n i places
+pub node_bound : (schemas : List Schema) (n : Node Term) (places : Places)
+    → term_tree schemas (term.Node n) places ≡ node_tree schemas (term_tree schemas) n places
+node_bound schemas n places = λ i. tree_of_node schemas n i places
 
-pub call_bound : (tables : List Table) (c : Call Term) (places : Places)
-    → trees_in tables (term.Call c) places ≡ call_tree (schemas_of tables) (trees_in tables) c places
-call_bound tables c places = λ i. tree_of_call (schemas_of tables) c i places
+pub call_bound : (schemas : List Schema) (c : Call Term) (places : Places)
+    → term_tree schemas (term.Call c) places ≡ call_tree schemas (term_tree schemas) c places
+call_bound schemas c places = λ i. tree_of_call schemas c i places
 
 pub ruleset terms = (node_bound, call_bound)
 
@@ -56,23 +56,23 @@ table_found name tables = position_mapped name tables 0
 pub ruleset tables = (table_found)
 
 -- a local name hides all others
-pub name_found : (schemas : List Schema) (places : Places) (name : List ℕ) (place : Option Place) (found : Tree) → Some found ≡ option_map tree_at place
-    → Some found ≡ name_tree schemas places name place
-name_found schemas places name None found e = absurd (none-some found (sym e))
-name_found schemas places name (Some place) found e = e
+pub name_found : (schemas : List Schema) (places : Places) (name : List ℕ) (place : Option Place) (local : Tree) → Some local ≡ option_map place_tree place
+    → name_tree schemas places name place ≡ Some local
+name_found schemas places name None local e = absurd (none-some local (sym e))
+name_found schemas places name (Some place) local e = sym e
 
-pub name_missed : (schemas : List Schema) (places : Places) (name : List ℕ) (place : Option Place) → None ≡ option_map tree_at place
+pub name_missed : (schemas : List Schema) (places : Places) (name : List ℕ) (place : Option Place) → None ≡ option_map place_tree place
     → name_tree schemas places name place ≡ global_tree schemas places name (table_number name schemas)
 name_missed schemas places name None e = refl
-name_missed schemas places name (Some place) e = absurd (none-some (tree_at place) e)
+name_missed schemas places name (Some place) e = absurd (none-some (place_tree place) e)
 
 pub ruleset named = (name_found, name_missed)
 
 -- and a table those of the session
-pub rows_found : (schemas : List Schema) (places : Places) (name : List ℕ) (table : Option ℕ) (found : Tree) → Some found ≡ option_map rows_tree table
-    → Some found ≡ global_tree schemas places name table
-rows_found schemas places name None found e = absurd (none-some found (sym e))
-rows_found schemas places name (Some n) found e = e
+pub rows_found : (schemas : List Schema) (places : Places) (name : List ℕ) (table : Option ℕ) (rows : Tree) → Some rows ≡ option_map rows_tree table
+    → global_tree schemas places name table ≡ Some rows
+rows_found schemas places name None rows e = absurd (none-some rows (sym e))
+rows_found schemas places name (Some n) rows e = sym e
 
 pub rows_missed : (schemas : List Schema) (places : Places) (name : List ℕ) (table : Option ℕ) → None ≡ option_map rows_tree table
     → global_tree schemas places name table ≡ session_tree places.session name places.depth
@@ -93,19 +93,19 @@ pub ruleset calls = (call_query)
 -- ---- joins
 
 type_by : (made : Form → Form × Form → Ty → Option Stage) (inner : Tree) (keys : Form × Form) (t : Option Ty)
-    → option_and_then (made inner.form keys) t ≡ option_and_then (λ (m : Matched). made m.sides.inner m.sides.keys m.ty) (option_map (matched_by inner keys) t)
+    → option_and_then (made inner.form keys) t ≡ option_and_then (λ (side : InnerSide). made side.items side.keys side.ty) (option_map (inner_side inner keys) t)
 type_by made inner keys None = refl
 type_by made inner keys (Some t) = refl
 
 keys_by : (made : Form → Form × Form → Ty → Option Stage) (type : Ty → Option Ty) (inner : Tree) (keys : Option (Form × Form))
     → option_and_then (λ ks. option_and_then (made inner.form ks) (type inner.ty)) keys
-    ≡ option_and_then (λ (m : Matched). made m.sides.inner m.sides.keys m.ty) (option_and_then (λ ks. option_map (matched_by inner ks) (type inner.ty)) keys)
+    ≡ option_and_then (λ (side : InnerSide). made side.items side.keys side.ty) (option_and_then (λ ks. option_map (inner_side inner ks) (type inner.ty)) keys)
 keys_by made type inner None = refl
 keys_by made type inner (Some ks) = type_by made inner ks (type inner.ty)
 
 join_by : (made : Form → Form × Form → Ty → Option Stage) (keys : Ty → Option (Form × Form)) (type : Ty → Option Ty) (inner : Option Tree)
     → option_and_then (λ (x : Tree). option_and_then (λ ks. option_and_then (made x.form ks) (type x.ty)) (keys x.ty)) inner
-    ≡ option_and_then (λ (m : Matched). made m.sides.inner m.sides.keys m.ty) (option_and_then (matched_keys keys type) inner)
+    ≡ option_and_then (λ (side : InnerSide). made side.items side.keys side.ty) (option_and_then (side_by_keys keys type) inner)
 join_by made keys type None = refl
 join_by made keys type (Some x) = keys_by made type x (keys x.ty)
 
@@ -114,15 +114,15 @@ type_at : (schemas : List Schema) (tree : Term → Binds) (places : Places) (p :
 type_at schemas tree places p None t = refl
 type_at schemas tree places p (Some g) t = refl
 
--- a join is its inner side, and what is made of the pairs then
-pub join_matched : (schemas : List Schema) (tree : Term → Binds) (places : Places) (j : Join Term) (result : Paired Term) (stage : Stage)
+-- a join is its inner side, and what comes of the pairs then
+pub join_by_sides : (schemas : List Schema) (tree : Term → Binds) (places : Places) (j : Join Term) (result : Paired Term) (stage : Stage)
     → join_stage schemas tree places j result stage
-    ≡ option_and_then (λ (m : Matched). joined_stage schemas tree places j result stage m.sides.inner m.sides.keys m.ty) (matched_in schemas tree places stage.pattern j)
-join_matched schemas tree places j result stage =
+    ≡ option_and_then (λ (side : InnerSide). joined_stage schemas tree places j result stage side.items side.keys side.ty) (side_in schemas tree places stage.pattern j)
+join_by_sides schemas tree places j result stage =
     ap (λ (type : Ty → Option Ty). option_and_then (λ (x : Tree). option_and_then (λ ks. option_and_then (joined_stage schemas tree places j result stage x.form ks) (type x.ty))
     (join_keys schemas tree places stage.pattern j x.ty)) (if_fresh schemas tree places stage.pattern j.name (source_tree schemas tree j.source places)))
     (λ i t. type_at schemas tree places stage.pattern j.into t i)
     ∙ join_by (joined_stage schemas tree places j result stage) (join_keys schemas tree places stage.pattern j) (joined_type (with_item places stage.pattern) j.into)
     (if_fresh schemas tree places stage.pattern j.name (source_tree schemas tree j.source places))
 
-pub ruleset joins = (join_matched)
+pub ruleset joins = (join_by_sides)

@@ -1,22 +1,35 @@
--- The trees that the terms in a statement are bound to, over the tables of a store and the names of a session.
+-- What terms and their parts are bound to, over the tables of a store and the names of a session that a binder knows, and the local names of
+-- a frame.
 use Rattle.std.specs.Prelude.{List, ℕ, Option, Some, None, take, slice_get, option_and_then, option_map}
-use Rattle.lq_value.specs.Tables.{Table, first_named}
+use Rattle.lq_value.specs.Tables.{first_named}
 use Rattle.lq_value.specs.declared.scalar.Scalar.{Scalar}
 use Rattle.lq_value.specs.declared.table.Schema.{Schema}
 use Rattle.lq_value.specs.declared.ty.Ty.{Ty}
 use Rattle.lq_value.specs.declared.ty.Ty.TheVariants as ty
 use Rattle.lq_machine.specs.States.{schemas_of}
-use Rattle.lq_language.specs.Operators.{Pattern}
-use Rattle.lq_language.specs.Types.{when}
-use Rattle.lq_language.specs.declared.calls.Term.{Term}
 use Rattle.lq_machine.specs.declared.session.Defined.{Defined}
 use Rattle.lq_machine.specs.declared.session.Defined.TheVariants as of
 use Rattle.lq_machine.specs.declared.session.Definition.{Definition}
+use Rattle.lq_language.specs.EnumerableCalls.{EnumerableCall, enumerable_call}
+use Rattle.lq_language.specs.Members.{sole_argument}
+use Rattle.lq_language.specs.Names.{table_number}
+use Rattle.lq_language.specs.Operators.{Pattern}
+use Rattle.lq_language.specs.Types.{when}
+use Rattle.lq_language.specs.declared.calls.Call.{Call}
+use Rattle.lq_language.specs.declared.calls.Operator.{Operator}
+use Rattle.lq_language.specs.declared.calls.Paired.{Paired}
+use Rattle.lq_language.specs.declared.calls.Part.{Part}
+use Rattle.lq_language.specs.declared.calls.Term.{Term}
+use Rattle.lq_grammar.specs.declared.syntax.Argument.{Argument}
 use Rattle.lq_grammar.specs.declared.syntax.Expr.{Expr}
+use Rattle.lq_grammar.specs.declared.syntax.Field.{Field}
 use Rattle.lq_grammar.specs.declared.syntax.Join.{Join}
+use Rattle.lq_grammar.specs.declared.syntax.Node.{Node}
+use Rattle.lq_grammar.specs.declared.syntax.SortKey.{SortKey}
 use Rattle.lq_translate.specs.Translated.{translated}
-use Rattle.lq_tree.specs.Binding.{Binds, if_fresh, join_keys, source_tree, term_tree, tree_of}
-use Rattle.lq_tree.specs.Places.{Places, SessionPlace, session_place, with_item}
+use Rattle.lq_tree.specs.Binding.{Binds, Stage, tree_of}
+use Rattle.lq_tree.specs.Binding as binding
+use Rattle.lq_tree.specs.Places.{Places, SessionPlace, session_place, with_item, with_name}
 use Rattle.lq_tree.specs.SessionPlaces.{places_outside, session_places, tree_or_null}
 use Rattle.lq_tree.specs.declared.tree.Form.{Form}
 use Rattle.lq_tree.specs.declared.tree.Form.TheVariants as form
@@ -24,18 +37,7 @@ use Rattle.lq_tree.specs.declared.tree.Tree.{Tree}
 use Rattle.lq_bind.specs.Frames.{is_fresh_in, places_in, within}
 use Rattle.lq_bind.specs.declared.binder.Binder.{Binder}
 use Rattle.lq_bind.specs.declared.frames.Frame.{Frame}
-use Rattle.lq_bind.specs.declared.pairs.Matched.{Matched}
-
--- what a term is bound to
-abbrev pub trees_in : List Table → Term → Binds
-trees_in tables = term_tree (schemas_of tables)
-
--- the names of the session that a binder knows, and the places of a frame among them
-abbrev pub session_in : Binder → List SessionPlace
-session_in binder = session_places (schemas_of binder.store.now) binder.known.now
-
-abbrev pub places_at : Binder → Frame → Places
-places_at binder frame = within (session_in binder) (places_in frame)
+use Rattle.lq_bind.specs.declared.pairs.InnerSide.{InnerSide}
 
 -- a literal
 abbrev pub literal_tree : Ty → Scalar → Tree
@@ -45,23 +47,30 @@ literal_tree t s = tree_of t (form.Literal s)
 abbrev pub rows_tree : ℕ → Tree
 rows_tree n = tree_of (ty.Seq (ty.Row n)) (form.Table n)
 
+-- ---- names of the session
+
 -- what a name of the session stands for where so many slots are in use
 abbrev pub session_tree : List SessionPlace → List ℕ → ℕ → Option Tree
-session_tree session name depth = option_map (λ place. tree_of place.known.ty (place.form depth)) (session_place name session)
+session_tree session name depth =
+    option_map (λ place. tree_of place.known.ty (place.form depth)) (session_place name session)
 
 -- the definition of a name, and those before it
 abbrev pub defined_before : List ℕ → List Definition → Option (List Definition × Definition)
 defined_before name definitions =
-    option_and_then (λ i. option_map (λ d. (take i definitions, d)) (slice_get definitions i)) (first_named (λ d. d.name) name definitions)
+    option_and_then (λ i. option_map (λ d. (take i definitions, d)) (slice_get definitions i))
+    (first_named (λ d. d.name) name definitions)
 
 -- the tree of a named query's expression, which sees these names of the session and no local name
-abbrev pub opened_tree : List Schema → List SessionPlace → Expr → ℕ → Tree
-opened_tree schemas earlier e depth = tree_or_null (term_tree schemas (translated e) (places_outside earlier depth))
+abbrev pub query_tree : List Schema → List SessionPlace → Expr → ℕ → Tree
+query_tree schemas earlier e depth =
+    tree_or_null (binding.term_tree schemas (translated e) (places_outside earlier depth))
 
 -- what stands for a name that was defined where these were known: a variable's value, or a named query's tree
 abbrev pub defined_tree : List Schema → List SessionPlace → Defined → ℕ → Tree
 defined_tree schemas earlier (of.Variable t s) depth = literal_tree t s
-defined_tree schemas earlier (of.Query e opened) depth = opened_tree schemas earlier e depth
+defined_tree schemas earlier (of.Query e opened) depth = query_tree schemas earlier e depth
+
+-- ---- joins
 
 -- the type of the name that a join leaves behind, at the places of an outer item
 abbrev pub joined_type : Places → Option (List ℕ) → Ty → Option Ty
@@ -69,14 +78,152 @@ joined_type places None t = Some t
 joined_type places (Some g) t = when (is_fresh_in places g) (Some (ty.Seq t))
 
 -- the inner side of a join: its sequence, its keys and the type of the name that it leaves behind
-abbrev pub matched_by : Tree → Form × Form → Ty → Matched
-matched_by inner keys t = record { sides = record { inner = inner.form; keys = keys }; ty = t }
+abbrev pub inner_side : Tree → Form × Form → Ty → InnerSide
+inner_side inner keys t = record { items = inner.form; keys = keys; ty = t }
 
-abbrev pub matched_keys : (Ty → Option (Form × Form)) → (Ty → Option Ty) → Tree → Option Matched
-matched_keys keys type inner = option_and_then (λ ks. option_map (matched_by inner ks) (type inner.ty)) (keys inner.ty)
+abbrev pub side_by_keys : (Ty → Option (Form × Form)) → (Ty → Option Ty) → Tree → Option InnerSide
+side_by_keys keys type inner =
+    option_and_then (λ ks. option_map (inner_side inner ks) (type inner.ty)) (keys inner.ty)
 
 module _ (schemas : List Schema) (tree : Term → Binds) where
-  abbrev pub matched_in : Places → Pattern → Join Term → Option Matched
-  matched_in places p j =
-      option_and_then (matched_keys (join_keys schemas tree places p j) (joined_type (with_item places p) j.into))
-      (if_fresh schemas tree places p j.name (source_tree schemas tree j.source places))
+  abbrev pub side_in : Places → Pattern → Join Term → Option InnerSide
+  side_in places p j =
+      option_and_then
+      (side_by_keys (binding.join_keys schemas tree places p j) (joined_type (with_item places p) j.into))
+      (binding.if_fresh schemas tree places p j.name (binding.source_tree schemas tree j.source places))
+
+-- ---- what a binder knows
+
+abbrev pub schemas_in : Binder → List Schema
+schemas_in binder = schemas_of binder.store.now
+
+abbrev pub session_in : Binder → List SessionPlace
+session_in binder = session_places (schemas_in binder) binder.definitions.now
+
+-- all names in scope
+abbrev pub places_at : Binder → Frame → Places
+places_at binder frame = within (session_in binder) (places_in frame)
+
+module _ (binder : Binder) (frame : Frame) where
+  abbrev schemas : List Schema
+  schemas = schemas_in binder
+
+  abbrev tree : Term → Binds
+  tree = binding.term_tree schemas
+
+  abbrev places : Places
+  places = places_at binder frame
+
+  -- ---- terms
+
+  abbrev pub tree_at : Term → Option Tree
+  tree_at term = tree term places
+
+  -- in the scope of an item
+  abbrev pub item_tree_at : Pattern → Term → Option Tree
+  item_tree_at p term = tree term (with_item places p)
+
+  -- in that of a pair
+  abbrev pub pair_tree_at : Pattern → List ℕ → Ty → Term → Option Tree
+  pair_tree_at p name t term = tree term (with_name (with_item places p) name t)
+
+  abbrev pub node_at : Node Term → Option Tree
+  node_at node = binding.node_tree schemas tree node places
+
+  abbrev pub call_at : Call Term → Option Tree
+  call_at call = binding.call_tree schemas tree call places
+
+  -- ---- names
+
+  -- a name that is no local name
+  abbrev pub global_at : List ℕ → Option Tree
+  global_at name = binding.global_tree schemas places name (table_number name schemas)
+
+  -- and none of a table
+  abbrev pub session_at : List ℕ → Option Tree
+  session_at name = session_tree (session_in binder) name (places_in frame).depth
+
+  abbrev pub defined_at : Defined → Tree
+  defined_at defined = defined_tree schemas (session_in binder) defined (places_in frame).depth
+
+  abbrev pub query_at : Expr → Tree
+  query_at e = query_tree schemas (session_in binder) e (places_in frame).depth
+
+  -- ---- methods and records
+
+  abbrev pub method_at : List ℕ → List (Argument Term) → Tree → Option Tree
+  method_at name arguments source = binding.method_tree schemas tree name arguments source places
+
+  abbrev pub search_at : List ℕ → List (Argument Term) → Tree → Option Tree
+  search_at name arguments text = binding.search_tree schemas tree name arguments text places
+
+  abbrev pub argument_at : List (Argument Term) → Option Tree
+  argument_at arguments = option_and_then tree_at (sole_argument arguments)
+
+  abbrev pub called_at : List ℕ → List (Argument Term) → Tree → Option Tree
+  called_at name arguments source =
+      binding.called_tree schemas tree (enumerable_call name arguments) source places
+
+  abbrev pub enumerable_at : Form → Ty → EnumerableCall Term → Option Tree
+  enumerable_at source t call = binding.enumerable_tree schemas tree places source t call
+
+  abbrev pub lambda_at : Ty → List ℕ → Term → Option Tree
+  lambda_at t parameter body = binding.lambda_tree schemas tree places t parameter body
+
+  abbrev pub field_at : Field Term → Option (Field Tree)
+  field_at field = binding.field_tree schemas tree places field
+
+  abbrev pub sort_key_at : SortKey Term → Option (SortKey Form)
+  sort_key_at key = binding.key_tree schemas tree places key
+
+  -- ---- queries
+
+  abbrev pub source_at : Term → Option Tree
+  source_at source = binding.source_tree schemas tree source places
+
+  abbrev pub items_at : Call Term → Option Tree
+  items_at call = binding.call_items_tree schemas tree call places
+
+  abbrev pub part_at : Part Term → Tree → Option Tree
+  part_at part items = binding.part_tree schemas tree places part items
+
+  abbrev pub body_at : List ℕ → List (Operator Term) → Tree → Option Tree
+  body_at name operators items = binding.body_tree schemas tree places name operators items
+
+  abbrev pub operator_at : Operator Term → Stage → Option Stage
+  operator_at operator stage = binding.operator_stage schemas tree places operator stage
+
+  abbrev pub group_key_at : Pattern → Term → Option Tree
+  group_key_at p key = option_and_then binding.keyed_tree (item_tree_at p key)
+
+  abbrev pub element_at : Pattern → Option Term → Option Tree
+  element_at p element = binding.element_tree schemas tree places p element
+
+  abbrev pub groups_at : Option Term → Stage → Tree → Option Stage
+  groups_at element stage key = binding.grouped_stage schemas tree places element stage key
+
+  -- ---- pairs
+
+  -- the inner sequence of `SelectMany`, and that of a join
+  abbrev pub inner_at : Pattern → List ℕ → Term → Option Tree
+  inner_at p name source =
+      binding.if_fresh schemas tree places p name (binding.source_tree schemas tree source (with_item places p))
+
+  abbrev pub join_source_at : Pattern → Join Term → Option Tree
+  join_source_at p join = binding.if_fresh schemas tree places p join.name (source_at join.source)
+
+  abbrev pub pair_at : Pattern → List ℕ → Ty → Paired Term → Option Stage
+  pair_at p name t pair = binding.paired_stage schemas tree places p name t pair
+
+  abbrev pub expanded_at : List ℕ → Paired Term → Stage → Tree → Option Stage
+  expanded_at name pair stage inner = binding.expanded_stage schemas tree places name pair stage inner
+
+  abbrev pub join_keys_at : Pattern → Join Term → Ty → Option (Form × Form)
+  join_keys_at p join t = binding.join_keys schemas tree places p join t
+
+  abbrev pub inner_side_at : Pattern → Join Term → Option InnerSide
+  inner_side_at p join = side_in schemas tree places p join
+
+  abbrev pub joined_at : Join Term → Paired Term → Stage → InnerSide → Option Stage
+  joined_at join pair stage side =
+      binding.joined_stage schemas tree places join pair stage side.items side.keys side.ty

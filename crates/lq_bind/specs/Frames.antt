@@ -1,5 +1,5 @@
 -- The places that a frame stands for, and what the variables of an item stand for.
-use Rattle.std.specs.Prelude.{◌||◌, [], List, ℕ, Bool, Option, option_map}
+use Rattle.std.specs.Prelude.{◌||◌, [], List, ℕ, Bool, Option, Result, Ok, Err}
 use Rattle.std.specs.Str.{bytes_eq}
 use Rattle.lq_language.specs.Operators.{Pattern, One, With}
 use Rattle.lq_language.specs.Types.{is_fresh}
@@ -7,11 +7,13 @@ use Rattle.lq_tree.specs.Binding.{Stage, stage_of, tree_of}
 use Rattle.lq_tree.specs.Places.{Place, Places, SessionPlace, names_of_places, with_item, with_name}
 use Rattle.lq_tree.specs.SessionPlaces.{places_outside}
 use Rattle.lq_tree.specs.declared.tree.Tree.{Tree}
+use Rattle.lq_bind.specs.Outcomes.{Gives}
+use Rattle.lq_bind.specs.declared.error.TermError.{TermError}
 use Rattle.lq_bind.specs.declared.frames.Frame.{Frame, fold-Frame}
 use Rattle.lq_bind.specs.declared.frames.Frame.TheOpen.{Frame-F}
 use Rattle.lq_bind.specs.declared.variables.Variables.{Variables, fold-Variables}
 use Rattle.lq_bind.specs.declared.variables.Variables.TheOpen.{Variables-F}
-use Rattle.lq_bind.specs.declared.variables.Behind.{Behind}
+use Rattle.lq_bind.specs.declared.pipelines.Pipeline.{Pipeline}
 
 abbrev pub pattern_step : Variables-F Pattern → Pattern
 pattern_step (Variables-F.One n t) = One n t
@@ -39,17 +41,19 @@ places_in = fold-Frame Places frame_step
 abbrev pub within : List SessionPlace → Places → Places
 within session places = record { session = session; locals = places.locals; depth = places.depth }
 
--- what is known by a place
-abbrev pub tree_at : Place → Tree
-tree_at place = tree_of place.ty place.form
+-- the tree of a name with this place
+abbrev pub place_tree : Place → Tree
+place_tree place = tree_of place.ty place.form
 
 -- whether a name may be brought in there; tables hide no name
 abbrev pub is_fresh_in : Places → List ℕ → Bool
 is_fresh_in places name = is_fresh (names_of_places [] places) name
 
--- what stands behind a call
-abbrev pub stage_in : Behind → Stage
-stage_in behind = stage_of (pattern_in behind.variables) behind.form
+-- the stage that a query has come to
+abbrev pub stage_in : Pipeline → Stage
+stage_in pipeline = stage_of (pattern_in pipeline.variables) pipeline.form
 
-abbrev pub found_stage : Option Behind → Option Stage
-found_stage found = option_map stage_in found
+-- what `Gives` says, of the stage that a query comes to
+abbrev pub GivesStage : Option Stage → Result Pipeline TermError → Type 0
+GivesStage stage (Ok pipeline) = Gives stage (Ok (stage_in pipeline))
+GivesStage stage (Err e) = Gives stage (Err e)

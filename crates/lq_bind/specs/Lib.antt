@@ -1,4 +1,6 @@
 pub mod Bound
 pub mod Frames
 pub mod MethodNames
+pub mod Operators
 pub mod Outcomes
+pub mod Stages

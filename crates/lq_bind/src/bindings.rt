@@ -17,11 +17,11 @@ use lq_tree::Tree;
 use lq_value::{Txt, Ty};
 use std::alloc::Global;
 
-/// The most tokens of a statement, with those of all named queries that it opens.
-const MOST_TOKENS: u64 = 65_536;
+/// The most tokens that a statement may have, with those of all named queries that it opens.
+pub const MOST_TOKENS: u64 = 65_536;
 
-/// The most levels of named queries that open others.
-const MOST_RANK: u32 = 8;
+/// The most levels of named queries, each opened by the one above it, that a statement may open.
+pub const MOST_RANK: u32 = 8;
 
 /// What a statement is bound in.
 #[derive(Clone, Copy)]
@@ -31,9 +31,10 @@ pub struct Scope<'a> {
     /// The names of the session, the oldest first. Each is known wherever neither a local name nor a table
     /// hides it, and in the named queries that come after it.
     pub definitions: &'a [Definition],
-    /// How many tokens the statement has, with those of all named queries that it opens; at most 65,536.
+    /// How many tokens the statement has, with those of all named queries that it opens; at most
+    /// [`MOST_TOKENS`], which are 65,536.
     pub size: u64,
-    /// How many levels of named queries it opens; at most 8.
+    /// How many levels of named queries it opens; at most [`MOST_RANK`], which are 8.
     pub rank: u32,
 }
 
@@ -41,12 +42,12 @@ impl Scope<'_> {
     /// What binds the terms of the statement.
     fn binder(&self, alloc: Global) -> Binder<'_>
         ensures tables { result.store.now ≡ self.now.store.now }
-        ensures names { result.known.now ≡ self.now.definitions.now }
+        ensures names { result.definitions.now ≡ self.now.definitions.now }
     {
         Binder {
             alloc,
             store: self.store,
-            known: self.definitions,
+            definitions: self.definitions,
         }
     }
 
@@ -58,16 +59,6 @@ impl Scope<'_> {
     }
 }
 
-/// The tree that was found, or the refusal where there is none.
-fn typed(found: Option<Tree>) -> Result<Tree, BindError>
-    ensures { IsBound false found result }
-{
-    match found {
-        Some(tree) => Ok(tree),
-        None => Err(BindError::IllTyped),
-    }
-}
-
 /// The typed tree of the calls of a query: a variable of the session stands as the literal of its
 /// value, and a named query as the tree of its expression, bound anew where the name is opened with the
 /// names that were defined before it. Refuses with `TooDeep` where the statement is past the limits of
@@ -75,30 +66,30 @@ fn typed(found: Option<Tree>) -> Result<Tree, BindError>
 #[tactic(auto, using(crate::proofs::FrameLemmas::chains))]
 pub fn bind(alloc: Global, call: &Call<Term>, scope: &Scope<'_>) -> Result<Tree, BindError>
     ensures { IsBound (is_past scope.now.size scope.now.rank)
-        (call_tree (schemas_of scope.now.store.now) (term_tree (schemas_of scope.now.store.now)) call.now
+        (call_tree (schemas_of scope.now.store.now)
+        (term_tree (schemas_of scope.now.store.now)) call.now
         (statement_places (schemas_of scope.now.store.now) scope.now.definitions.now)) result }
 {
     if scope.is_past() {
         return Err(BindError::TooDeep);
     }
-    typed(scope.binder(alloc).call(call, &Frame::Top(0))?)
+    Ok(scope.binder(alloc).call(call, &Frame::Top(0))?)
 }
 
-/// The typed tree of a term, with the same refusals.
+/// The typed tree of a term in a statement that is within the limits of opening: refuses with `IllTyped`
+/// where the term has no type, and with `Memory`.
 #[tactic(auto, using(crate::proofs::FrameLemmas::chains))]
 pub fn bind_term(alloc: Global, term: &Term, scope: &Scope<'_>) -> Result<Tree, BindError>
-    ensures { IsBound (is_past scope.now.size scope.now.rank)
-        (term_tree (schemas_of scope.now.store.now) term.now (statement_places (schemas_of scope.now.store.now) scope.now.definitions.now)) result }
+    requires { is_past scope.now.size scope.now.rank ≡ false }
+    ensures { IsBound false (term_tree (schemas_of scope.now.store.now) term.now
+        (statement_places (schemas_of scope.now.store.now) scope.now.definitions.now)) result }
 {
-    if scope.is_past() {
-        return Err(BindError::TooDeep);
-    }
-    typed(scope.binder(alloc).term(term, &Frame::Top(0))?)
+    Ok(scope.binder(alloc).term(term, &Frame::Top(0))?)
 }
 
 /// The typed tree of a term in which `row` is a local name: that of a row of the table of this number,
 /// which stands in the first slot. The tree may be of any type, so that it is a condition on rows where
-/// its type is `bool`. The refusals are the same.
+/// its type is `bool`. The statement is within the limits, and the refusals are the same.
 #[tactic(auto, using(crate::proofs::FrameLemmas::chains))]
 pub fn bind_condition(
     alloc: Global,
@@ -107,15 +98,13 @@ pub fn bind_condition(
     table: u16,
     scope: &Scope<'_>,
 ) -> Result<Tree, BindError>
-    ensures { IsBound (is_past scope.now.size scope.now.rank)
-        (term_tree (schemas_of scope.now.store.now) term.now
-        (with_name (statement_places (schemas_of scope.now.store.now) scope.now.definitions.now) row.now (ty.Row table))) result }
+    requires { is_past scope.now.size scope.now.rank ≡ false }
+    ensures { IsBound false (term_tree (schemas_of scope.now.store.now) term.now (with_name
+        (statement_places (schemas_of scope.now.store.now) scope.now.definitions.now)
+        row.now (ty.Row table))) result }
 {
-    if scope.is_past() {
-        return Err(BindError::TooDeep);
-    }
     let ty = Ty::Row(table);
     let outside = Frame::Top(0);
     let frame = outside.with_name(row, &ty);
-    typed(scope.binder(alloc).term(term, &frame)?)
+    Ok(scope.binder(alloc).term(term, &frame)?)
 }

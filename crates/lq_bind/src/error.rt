@@ -18,12 +18,34 @@ pub enum BindError {
     TooDeep,
 }
 
-impl From<AllocError> for BindError {
-    ghost use Rattle.lq_bind.specs.declared.error.BindError.TheVariants.{Memory};
+/// Why a term has no tree in a statement that is within its limits.
+#[derive(Clone, Copy, Drop)]
+pub(crate) enum TermError {
+    /// There was no memory.
+    Memory,
+    /// The term has no type.
+    IllTyped,
+}
+
+impl From<AllocError> for TermError {
+    ghost use Rattle.lq_bind.specs.declared.error.TermError.TheVariants.{Memory};
 
     ghost from_gives = { λ _ e. e ≡ Memory };
 
-    fn from(_: AllocError) -> BindError {
-        BindError::Memory
+    fn from(_: AllocError) -> TermError {
+        TermError::Memory
+    }
+}
+
+impl From<TermError> for BindError {
+    ghost use Rattle.lq_bind.specs.Outcomes.{bind_error};
+
+    ghost from_gives = { λ error e. e ≡ bind_error error };
+
+    fn from(error: TermError) -> BindError {
+        match error {
+            TermError::Memory => BindError::Memory,
+            TermError::IllTyped => BindError::IllTyped,
+        }
     }
 }

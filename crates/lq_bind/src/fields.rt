@@ -70,7 +70,7 @@ fn forms_of(alloc: Global, fields: List<Field<Tree>>) -> Result<List<Field<Form>
 
 /// A record of members that have trees.
 pub(crate) fn record(alloc: Global, fields: List<Field<Tree>>) -> Result<Tree, AllocError>
-    ensures { IfOk result (λ made. made ≡ fields_tree fields) }
+    ensures { IfOk result (λ tree. tree ≡ fields_tree fields) }
 {
     let ty = Ty::Rec(types_of(alloc, fields.as_slice())?);
     let form = Held::new(alloc, Form::Record(forms_of(alloc, fields)?))?;

@@ -21,7 +21,7 @@ pub(crate) enum Frame<'a> {
 impl<'a> Frame<'a> {
     ghost use Rattle.std.specs.Prelude.{◌≡◌, IfOk, is_some, option_map};
     ghost use Rattle.lq_tree.specs.Places.{place_of, with_item, with_name};
-    ghost use Rattle.lq_bind.specs.Frames.{is_fresh_in, pattern_in, places_in, tree_at};
+    ghost use Rattle.lq_bind.specs.Frames.{is_fresh_in, pattern_in, place_tree, places_in};
 
     /// These names, and those of an item.
     #[tactic(auto, using(crate::proofs::FrameLemmas::chains))]
@@ -65,7 +65,7 @@ impl<'a> Frame<'a> {
         match self {
             Frame::Top(_) => false,
             Frame::Item(outer, variables) => variables.has(name) || outer.has(name),
-            Frame::Name(outer, known, _) => known.as_str() == name || outer.has(name),
+            Frame::Name(outer, local, _) => local.as_str() == name || outer.has(name),
         }
     }
 
@@ -80,7 +80,8 @@ impl<'a> Frame<'a> {
     /// What the name stands for, where it is a local name.
     #[tactic(auto, using(crate::proofs::FrameLemmas::chains, crate::proofs::FrameLemmas::known))]
     pub(crate) fn find(&self, alloc: Global, name: &str) -> Result<Option<Tree>, AllocError>
-        ensures { IfOk result (λ found. found ≡ option_map tree_at (place_of name.now (places_in self.now).locals)) }
+        ensures { IfOk result (λ tree. tree
+            ≡ option_map place_tree (place_of name.now (places_in self.now).locals)) }
     {
         match self {
             Frame::Top(_) => Ok(None),
@@ -91,8 +92,8 @@ impl<'a> Frame<'a> {
                 let slot = Form::Slot(outer.depth()?);
                 variables.find(alloc, name, Held::new(alloc, slot)?)
             }
-            Frame::Name(outer, known, ty) => {
-                if known.as_str() != name {
+            Frame::Name(outer, local, ty) => {
+                if local.as_str() != name {
                     return outer.find(alloc, name);
                 }
                 let ty = copy_ty(alloc, ty)?;

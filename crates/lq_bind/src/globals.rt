@@ -5,6 +5,7 @@ ghost use Rattle.lq_value.specs.Tables.{first_named};
 ghost use Rattle.lq_bind.specs.Bound.{defined_before};
 
 use crate::binder::Binder;
+use crate::error::TermError;
 use crate::frames::Frame;
 use crate::names;
 use lq_grammar::Expr;
@@ -14,53 +15,50 @@ use lq_tree::Tree;
 use std::alloc::AllocError;
 
 /// The number of the definition of this name.
-fn place_of(known: &[Definition], name: &str) -> Option<usize>
-    ensures { result ≡ first_named (λ definition. definition.name) name.now known.now }
+fn place_of(definitions: &[Definition], name: &str) -> Option<usize>
+    ensures { result ≡ first_named (λ definition. definition.name) name.now definitions.now }
 {
-    known
+    definitions
         .iter()
         .position(|definition| definition.name.as_str() == name)
 }
 
 /// The definitions before the one of this number.
-fn before(known: &[Definition], place: usize) -> &[Definition]
-    requires { place ≤ length known.now }
-    ensures { result.now ≡ take place known.now }
+fn before(definitions: &[Definition], place: usize) -> &[Definition]
+    requires { place ≤ length definitions.now }
+    ensures { result.now ≡ take place definitions.now }
 {
-    &known[..place]
+    &definitions[..place]
 }
 
 /// The definition of this name, and those before it.
 fn definition_of<'a>(
-    known: &'a [Definition],
+    definitions: &'a [Definition],
     name: &str,
 ) -> Option<(&'a [Definition], &'a Definition)>
-    ensures { option_map (λ found. (found.0.now, found.1.now)) result ≡ defined_before name.now known.now }
+    ensures { option_map (λ there. (there.0.now, there.1.now)) result
+        ≡ defined_before name.now definitions.now }
 {
-    let place = place_of(known, name)?;
-    let definition = known.get(place)?;
-    Some((before(known, place), definition))
+    let place = place_of(definitions, name)?;
+    let definition = definitions.get(place)?;
+    Some((before(definitions, place), definition))
 }
 
 impl Binder<'_> {
     ghost use Rattle.std.specs.Prelude.{◌≡◌, IfOk};
-    ghost use Rattle.lq_machine.specs.States.{schemas_of};
-    ghost use Rattle.lq_language.specs.Names.{table_number};
-    ghost use Rattle.lq_tree.specs.Binding.{global_tree, name_tree};
-    ghost use Rattle.lq_tree.specs.Places.{place_of};
-    ghost use Rattle.lq_bind.specs.Bound.{defined_tree, opened_tree, places_at, session_in, session_tree};
-    ghost use Rattle.lq_bind.specs.Frames.{places_in};
+    ghost use Rattle.lq_grammar.specs.declared.syntax.Node.TheVariants as expression;
+    ghost use Rattle.lq_bind.specs.Bound.{defined_at, global_at, node_at, query_at, session_at};
+    ghost use Rattle.lq_bind.specs.Outcomes.{Gives};
 
     /// What a name stands for: a local name, which hides all others of its spelling.
     #[cycle(binding)]
     #[inline(never)]
     #[tactic(auto, using(crate::proofs::TermLaws::named))]
-    pub(crate) fn name(&self, name: &str, frame: &Frame<'_>) -> Result<Option<Tree>, AllocError>
-        ensures { IfOk result (λ found. found ≡ name_tree (schemas_of self.now.store.now) (places_at self.now frame.now) name.now
-            (place_of name.now (places_in frame.now).locals)) }
+    pub(crate) fn name(&self, name: &str, frame: &Frame<'_>) -> Result<Tree, TermError>
+        ensures { Gives (node_at self.now frame.now (expression.Name name.now)) result }
     {
-        if let Some(found) = frame.find(self.alloc, name)? {
-            return Ok(Some(found));
+        if let Some(local) = frame.find(self.alloc, name)? {
+            return Ok(local);
         }
         self.global(name, frame)
     }
@@ -69,12 +67,11 @@ impl Binder<'_> {
     /// under it.
     #[cycle(binding)]
     #[tactic(auto, using(crate::proofs::TermLaws::globals))]
-    fn global(&self, name: &str, frame: &Frame<'_>) -> Result<Option<Tree>, AllocError>
-        ensures { IfOk result (λ found. found ≡ global_tree (schemas_of self.now.store.now) (places_at self.now frame.now) name.now
-            (table_number name.now (schemas_of self.now.store.now))) }
+    fn global(&self, name: &str, frame: &Frame<'_>) -> Result<Tree, TermError>
+        ensures { Gives (global_at self.now frame.now name.now) result }
     {
         if let Some(rows) = names::rows(self.alloc, self.store, name)? {
-            return Ok(Some(rows));
+            return Ok(rows);
         }
         self.session_name(name, frame)
     }
@@ -82,41 +79,45 @@ impl Binder<'_> {
     /// What a name of the session stands for.
     #[cycle(binding)]
     #[tactic(auto, using(crate::proofs::SessionLemmas::places, crate::proofs::Weights::weights))]
-    fn session_name(&self, name: &str, frame: &Frame<'_>) -> Result<Option<Tree>, AllocError>
-        ensures { IfOk result (λ found. found ≡ session_tree (session_in self.now) name.now (places_in frame.now).depth) }
+    fn session_name(&self, name: &str, frame: &Frame<'_>) -> Result<Tree, TermError>
+        ensures { Gives (session_at self.now frame.now name.now) result }
     {
-        let Some((known, definition)) = definition_of(self.known, name) else {
-            return Ok(None);
+        let Some((definitions, definition)) = definition_of(self.definitions, name) else {
+            return Err(TermError::IllTyped);
         };
         let earlier = Binder {
             alloc: self.alloc,
             store: self.store,
-            known,
+            definitions,
         };
-        Ok(Some(earlier.defined(&definition.defined, frame)?))
+        Ok(earlier.definition(&definition.defined, frame)?)
     }
 
-    /// What a name stands for that was defined where these were known.
+    /// What a name stands for that was defined where these names of the session were known.
     #[cycle(binding)]
-    fn defined(&self, defined: &Defined, frame: &Frame<'_>) -> Result<Tree, AllocError>
-        ensures { IfOk result (λ made. made ≡ defined_tree (schemas_of self.now.store.now) (session_in self.now) defined.now (places_in frame.now).depth) }
+    fn definition(&self, defined: &Defined, frame: &Frame<'_>) -> Result<Tree, AllocError>
+        ensures { IfOk result (λ tree. tree ≡ defined_at self.now frame.now defined.now) }
     {
         match defined {
             Defined::Variable(ty, value) => names::variable(self.alloc, ty, value),
-            Defined::Query(expression, _) => self.opened(expression, frame),
+            Defined::Query(query, _) => self.named_query(query, frame),
         }
     }
 
-    /// The tree of a named query's expression, which sees no local name of the place where it is opened.
+    /// The tree of a named query's expression, which sees no local name of the place where it is opened;
+    /// that of null, where it has no type there.
     #[cycle(binding)]
     #[inline(never)]
     #[tactic(auto, using(crate::proofs::FrameLemmas::chains))]
-    fn opened(&self, expression: &Expr, frame: &Frame<'_>) -> Result<Tree, AllocError>
-        ensures { IfOk result (λ made. made ≡ opened_tree (schemas_of self.now.store.now) (session_in self.now) expression.now (places_in frame.now).depth) }
+    fn named_query(&self, query: &Expr, frame: &Frame<'_>) -> Result<Tree, AllocError>
+        ensures { IfOk result (λ tree. tree ≡ query_at self.now frame.now query.now) }
     {
-        let term = translate_expression(self.alloc, expression)?;
+        let term = translate_expression(self.alloc, query)?;
         let outside = Frame::Top(frame.depth()?);
-        let found = self.term(&term, &outside)?;
-        names::tree_or_null(self.alloc, found)
+        match self.term(&term, &outside) {
+            Ok(tree) => Ok(tree),
+            Err(TermError::IllTyped) => names::null_tree(self.alloc),
+            Err(TermError::Memory) => Err(AllocError),
+        }
     }
 }

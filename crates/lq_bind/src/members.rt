@@ -7,10 +7,13 @@ ghost use Rattle.lq_value.specs.declared.ty.Ty.{out-Ty};
 ghost use Rattle.lq_value.specs.Tables.{first_named};
 ghost use Rattle.lq_machine.specs.States.{schemas_of};
 ghost use Rattle.lq_language.specs.Names.{type_of_column};
-ghost use Rattle.lq_tree.specs.Binding.{column_tree, group_key_tree, member_layer, member_tree, nullable_tree, record_member_tree, text_tree, tree_of};
+ghost use Rattle.lq_tree.specs.Binding.{column_tree, group_key_tree, member_layer, member_tree};
+ghost use Rattle.lq_tree.specs.Binding.{nullable_tree, record_member_tree, text_tree, tree_of};
 ghost use Rattle.lq_tree.specs.declared.tree.Form.TheVariants as form;
+ghost use Rattle.lq_bind.specs.Outcomes.{Gives};
 
-use crate::placed;
+use crate::error::TermError;
+use crate::type_checks;
 use lq_language::Op;
 use lq_store::Store;
 use lq_tree::{Form, Tree};
@@ -48,7 +51,8 @@ fn cell_at(
     number: usize,
     ty: ColumnType,
 ) -> Result<Tree, AllocError>
-    ensures { IfOk result (λ made. made ≡ tree_of (type_of_column ty) (form.Column row table number)) }
+    ensures { IfOk result (λ cell. cell
+        ≡ tree_of (type_of_column ty) (form.Column row table number)) }
 {
     let Ok(number) = u16::try_from(number) else {
         return Err(AllocError);
@@ -73,17 +77,13 @@ fn column(
     table: u16,
     row: Held<Form>,
     schema: &Schema,
-) -> Result<Option<Tree>, AllocError>
-    ensures { IfOk result (λ found. found ≡ column_tree name.now table row schema.now) }
+) -> Result<Tree, TermError>
+    ensures { Gives (column_tree name.now table row schema.now) result }
 {
     let columns = schema.columns.as_slice();
-    let Some(number) = column_named(columns, name) else {
-        return Ok(None);
-    };
-    match column_at(columns, number) {
-        Some(ty) => Ok(Some(cell_at(alloc, row, table, number, ty)?)),
-        None => Ok(None),
-    }
+    let number = column_named(columns, name).ok_or(TermError::IllTyped)?;
+    let ty = column_at(columns, number).ok_or(TermError::IllTyped)?;
+    Ok(cell_at(alloc, row, table, number, ty)?)
 }
 
 /// The place of a record's member of this name.
@@ -105,7 +105,7 @@ fn type_at(members: &[(Txt, Ty)], place: usize) -> Option<&Ty>
 
 /// The member of a record in this place, which has this type.
 fn member_at(alloc: Global, of: Held<Form>, place: usize, ty: &Ty) -> Result<Tree, AllocError>
-    ensures { IfOk result (λ made. made ≡ tree_of ty.now (form.Member of place)) }
+    ensures { IfOk result (λ member. member ≡ tree_of ty.now (form.Member of place)) }
 {
     let ty = copy_ty(alloc, ty)?;
     let form = Held::new(alloc, Form::Member(of, place))?;
@@ -118,74 +118,74 @@ fn record_member(
     name: &str,
     of: Held<Form>,
     members: &[(Txt, Ty)],
-) -> Result<Option<Tree>, AllocError>
-    ensures { IfOk result (λ found. found ≡ record_member_tree name.now of members.now) }
+) -> Result<Tree, TermError>
+    ensures { Gives (record_member_tree name.now of members.now) result }
 {
-    let Some(place) = member_named(members, name) else {
-        return Ok(None);
-    };
-    match type_at(members, place) {
-        Some(ty) => Ok(Some(member_at(alloc, of, place, ty)?)),
-        None => Ok(None),
-    }
+    let place = member_named(members, name).ok_or(TermError::IllTyped)?;
+    let ty = type_at(members, place).ok_or(TermError::IllTyped)?;
+    Ok(member_at(alloc, of, place, ty)?)
 }
 
 /// A member of an `int?`.
-fn nullable(alloc: Global, name: &str, number: Held<Form>) -> Result<Option<Tree>, AllocError>
-    ensures { IfOk result (λ found. found ≡ nullable_tree name.now number) }
+fn nullable(alloc: Global, name: &str, number: Held<Form>) -> Result<Tree, TermError>
+    ensures { Gives (nullable_tree name.now number) result }
 {
     if name == "HasValue" {
         let form = Held::new(alloc, Form::Unary(Op::HasValue, number))?;
-        return Ok(Some(Tree { ty: Ty::Bool, form }));
+        return Ok(Tree { ty: Ty::Bool, form });
     }
     if name == "Value" {
         let form = Held::new(alloc, Form::Unary(Op::Value, number))?;
-        return Ok(Some(Tree { ty: Ty::Int, form }));
+        return Ok(Tree { ty: Ty::Int, form });
     }
-    Ok(None)
+    Err(TermError::IllTyped)
 }
 
 /// A member of a text.
-fn text(alloc: Global, name: &str, text: Held<Form>) -> Result<Option<Tree>, AllocError>
-    ensures { IfOk result (λ found. found ≡ text_tree name.now text) }
+fn text(alloc: Global, name: &str, text: Held<Form>) -> Result<Tree, TermError>
+    ensures { Gives (text_tree name.now text) result }
 {
     if name != "Length" {
-        return Ok(None);
+        return Err(TermError::IllTyped);
     }
     let form = Held::new(alloc, Form::Unary(Op::Length, text))?;
-    Ok(Some(Tree { ty: Ty::Int, form }))
+    Ok(Tree { ty: Ty::Int, form })
 }
 
 /// The key of a group.
-fn group_key(
-    alloc: Global,
-    name: &str,
-    key: Ty,
-    group: Held<Form>,
-) -> Result<Option<Tree>, AllocError>
-    ensures { IfOk result (λ found. found ≡ group_key_tree name.now key group) }
+fn group_key(alloc: Global, name: &str, key: Ty, group: Held<Form>) -> Result<Tree, TermError>
+    ensures { Gives (group_key_tree name.now key group) result }
 {
     if name != "Key" {
-        return Ok(None);
+        return Err(TermError::IllTyped);
     }
     let form = Held::new(alloc, Form::Key(group))?;
-    Ok(Some(Tree { ty: key, form }))
+    Ok(Tree { ty: key, form })
 }
 
-/// The cell of a row of the table with this number.
+/// The schema of the table of this number.
+fn schema_at(store: &Store, table: u16) -> Option<&Schema>
+    ensures { option_copied result ≡ slice_get (schemas_of store.now) table }
+{
+    if (table as usize) >= store.len() {
+        return None;
+    }
+    Some(store.schema(table))
+}
+
+/// The cell of a row of the table of this number.
 fn cell(
     alloc: Global,
     store: &Store,
     name: &str,
     table: u16,
     row: Held<Form>,
-) -> Result<Option<Tree>, AllocError>
-    ensures { IfOk result (λ found. found ≡ option_and_then (column_tree name.now table row) (slice_get (schemas_of store.now) table)) }
+) -> Result<Tree, TermError>
+    ensures { Gives (option_and_then (column_tree name.now table row)
+        (slice_get (schemas_of store.now) table)) result }
 {
-    if (table as usize) >= store.len() {
-        return Ok(None);
-    }
-    column(alloc, name, table, row, store.schema(table))
+    let schema = schema_at(store, table).ok_or(TermError::IllTyped)?;
+    column(alloc, name, table, row, schema)
 }
 
 /// The member of what has this type.
@@ -196,8 +196,8 @@ fn member_of(
     name: &str,
     of: Held<Form>,
     ty: Ty,
-) -> Result<Option<Tree>, AllocError>
-    ensures { IfOk result (λ found. found ≡ member_layer (schemas_of store.now) name.now of (out-Ty ty)) }
+) -> Result<Tree, TermError>
+    ensures { Gives (member_layer (schemas_of store.now) name.now of (out-Ty ty)) result }
 {
     match ty {
         Ty::Row(table) => cell(alloc, store, name, table, of),
@@ -205,22 +205,15 @@ fn member_of(
         Ty::Group(key, _) => group_key(alloc, name, key.into_inner(), of),
         Ty::IntN => nullable(alloc, name, of),
         Ty::Str => text(alloc, name, of),
-        Ty::Int | Ty::Bool | Ty::Null | Ty::Seq(_) => Ok(None),
+        Ty::Int | Ty::Bool | Ty::Null | Ty::Seq(_) => Err(TermError::IllTyped),
     }
 }
 
 /// The member of this name of what a tree means, where its type has one.
-pub(crate) fn member(
-    alloc: Global,
-    store: &Store,
-    name: &str,
-    of: Tree,
-) -> Result<Option<Tree>, AllocError>
-    ensures { IfOk result (λ found. found ≡ member_tree (schemas_of store.now) name.now of) }
+pub(crate) fn member(alloc: Global, store: &Store, name: &str, of: Tree) -> Result<Tree, TermError>
+    ensures { Gives (member_tree (schemas_of store.now) name.now of) result }
 {
     let Tree { ty, form } = of;
-    let Some(found) = member_of(alloc, store, name, form, ty)? else {
-        return Ok(None);
-    };
-    Ok(Some(placed::settled(alloc, found)?))
+    let member = member_of(alloc, store, name, form, ty)?;
+    Ok(type_checks::settle(alloc, member)?)
 }

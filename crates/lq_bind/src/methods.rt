@@ -1,22 +1,21 @@
 //! The binding of methods (.NET, `Enumerable` and `String`).
 use crate::binder::Binder;
+use crate::error::TermError;
 use crate::frames::Frame;
 use crate::method_names::{method_with_lambda, method_with_value, search_named, simple_method};
-use crate::{operations, placed, sources};
+use crate::{method_trees, operations, type_checks};
 use lq_grammar::Argument;
-use lq_language::Term;
+use lq_language::{Given, Term, Through};
 use lq_tree::{Form, Tree};
 use lq_typing::is_text;
 use lq_value::{Held, Txt, Ty};
-use std::alloc::AllocError;
 
 impl Binder<'_> {
-    ghost use Rattle.std.specs.Prelude.{◌≡◌, IfOk, option_and_then, option_map};
-    ghost use Rattle.lq_language.specs.EnumerableCalls.{By, With, enumerable_call, method_with_lambda, method_with_value};
-    ghost use Rattle.lq_machine.specs.States.{schemas_of};
-    ghost use Rattle.lq_language.specs.Members.{sole_argument};
-    ghost use Rattle.lq_tree.specs.Binding.{called_tree, enumerable_tree, lambda_tree, method_tree, search_tree};
-    ghost use Rattle.lq_bind.specs.Bound.{places_at, trees_in};
+    ghost use Rattle.std.specs.Prelude.{option_and_then};
+    ghost use Rattle.lq_language.specs.EnumerableCalls.{By, With, enumerable_call};
+    ghost use Rattle.lq_bind.specs.Bound.{argument_at, called_at, enumerable_at, lambda_at};
+    ghost use Rattle.lq_bind.specs.Bound.{method_at, search_at};
+    ghost use Rattle.lq_bind.specs.Outcomes.{Gives};
 
     /// A method of this name of what has this tree.
     #[cycle(binding)]
@@ -27,17 +26,14 @@ impl Binder<'_> {
         name: &str,
         of: Tree,
         frame: &Frame<'_>,
-    ) -> Result<Option<Tree>, AllocError>
-        ensures { IfOk result (λ found. found
-            ≡ method_tree (schemas_of self.now.store.now) (trees_in self.now.store.now) name.now arguments.now of (places_at self.now frame.now)) }
+    ) -> Result<Tree, TermError>
+        ensures { Gives (method_at self.now frame.now name.now arguments.now of) result }
     {
         if is_text(&of.ty) {
             return self.search(arguments, name, of, frame);
         }
-        let Some(found) = self.called(arguments, name, of, frame)? else {
-            return Ok(None);
-        };
-        Ok(Some(placed::settled(self.alloc, found)?))
+        let tree = self.sequence_method(arguments, name, of, frame)?;
+        Ok(type_checks::settle(self.alloc, tree)?)
     }
 
     /// The one argument of a method that takes one and no lambda.
@@ -46,13 +42,12 @@ impl Binder<'_> {
         &self,
         arguments: &[Argument<Term>],
         frame: &Frame<'_>,
-    ) -> Result<Option<Tree>, AllocError>
-        ensures { IfOk result (λ found. found
-            ≡ option_and_then (λ x. trees_in self.now.store.now x (places_at self.now frame.now)) (sole_argument arguments.now)) }
+    ) -> Result<Tree, TermError>
+        ensures { Gives (argument_at self.now frame.now arguments.now) result }
     {
         match arguments {
             [Argument::Value(value)] => self.term(value, frame),
-            _ => Ok(None),
+            _ => Err(TermError::IllTyped),
         }
     }
 
@@ -64,114 +59,93 @@ impl Binder<'_> {
         name: &str,
         text: Tree,
         frame: &Frame<'_>,
-    ) -> Result<Option<Tree>, AllocError>
-        ensures { IfOk result (λ found. found
-            ≡ search_tree (schemas_of self.now.store.now) (trees_in self.now.store.now) name.now arguments.now text (places_at self.now frame.now)) }
+    ) -> Result<Tree, TermError>
+        ensures { Gives (search_at self.now frame.now name.now arguments.now text) result }
     {
-        let Some(op) = search_named(name) else {
-            return Ok(None);
-        };
-        let Some(sought) = self.sole_argument(arguments, frame)? else {
-            return Ok(None);
-        };
+        let op = search_named(name).ok_or(TermError::IllTyped)?;
+        let sought = self.sole_argument(arguments, frame)?;
         operations::search(self.alloc, op, text, sought)
     }
 
     /// A method of what is enumerated.
     #[cycle(binding)]
-    fn called(
+    fn sequence_method(
         &self,
         arguments: &[Argument<Term>],
         name: &str,
         of: Tree,
         frame: &Frame<'_>,
-    ) -> Result<Option<Tree>, AllocError>
-        ensures { IfOk result (λ found. found ≡ called_tree (schemas_of self.now.store.now) (trees_in self.now.store.now)
-            (enumerable_call name.now arguments.now) of (places_at self.now frame.now)) }
+    ) -> Result<Tree, TermError>
+        ensures { Gives (called_at self.now frame.now name.now arguments.now of) result }
     {
-        let Some(Tree { ty, form }) = placed::items(of) else {
-            return Ok(None);
-        };
-        let Some(found) = self.enumerable(arguments, name, form, ty, frame)? else {
-            return Ok(None);
-        };
-        Ok(placed::within(found))
+        let Tree { ty, form } = type_checks::items(of)?;
+        let tree = self.items_method(arguments, name, form, ty, frame)?;
+        type_checks::within_limit(tree)
     }
 
     /// A method on items of this type, which the form gives.
     #[cycle(binding)]
-    fn enumerable(
+    fn items_method(
         &self,
         arguments: &[Argument<Term>],
         name: &str,
         source: Held<Form>,
-        of: Ty,
+        item: Ty,
         frame: &Frame<'_>,
-    ) -> Result<Option<Tree>, AllocError>
-        ensures { IfOk result (λ found. found
-            ≡ option_and_then (enumerable_tree (schemas_of self.now.store.now) (trees_in self.now.store.now) (places_at self.now frame.now) source of)
-            (enumerable_call name.now arguments.now)) }
+    ) -> Result<Tree, TermError>
+        ensures { Gives (option_and_then (enumerable_at self.now frame.now source item)
+            (enumerable_call name.now arguments.now)) result }
     {
         match arguments {
             [] => {
-                let Some(method) = simple_method(name) else {
-                    return Ok(None);
-                };
-                sources::simple(self.alloc, method, source, of)
+                let method = simple_method(name).ok_or(TermError::IllTyped)?;
+                method_trees::plain(self.alloc, method, source, item)
             }
-            [Argument::Value(argument)] => self.given(argument, name, source, of, frame),
+            [Argument::Value(argument)] => {
+                let method = method_with_value(name).ok_or(TermError::IllTyped)?;
+                self.value_method(argument, method, source, item, frame)
+            }
             [Argument::Lambda(parameter, body)] => {
-                self.through(body, parameter, name, source, of, frame)
+                let method = method_with_lambda(name).ok_or(TermError::IllTyped)?;
+                self.lambda_method(body, parameter, method, source, item, frame)
             }
-            _ => Ok(None),
+            _ => Err(TermError::IllTyped),
         }
     }
 
     /// A method with an argument.
     #[cycle(binding)]
-    fn given(
+    fn value_method(
         &self,
         argument: &Term,
-        name: &str,
+        method: Given,
         source: Held<Form>,
-        of: Ty,
+        item: Ty,
         frame: &Frame<'_>,
-    ) -> Result<Option<Tree>, AllocError>
-        ensures { IfOk result (λ found. found
-            ≡ option_and_then (enumerable_tree (schemas_of self.now.store.now) (trees_in self.now.store.now) (places_at self.now frame.now) source of)
-            (option_map (λ method. With method argument.now) (method_with_value name.now))) }
+    ) -> Result<Tree, TermError>
+        ensures { Gives (enumerable_at self.now frame.now source item
+            (With method argument.now)) result }
     {
-        let Some(method) = method_with_value(name) else {
-            return Ok(None);
-        };
-        let Some(argument) = self.term(argument, frame)? else {
-            return Ok(None);
-        };
-        sources::given(self.alloc, method, source, &of, argument)
+        let argument = self.term(argument, frame)?;
+        method_trees::with_value(self.alloc, method, source, &item, argument)
     }
 
     /// A method with a lambda.
     #[cycle(binding)]
-    fn through(
+    fn lambda_method(
         &self,
         body: &Term,
         parameter: &Txt,
-        name: &str,
+        method: Through,
         source: Held<Form>,
-        of: Ty,
+        item: Ty,
         frame: &Frame<'_>,
-    ) -> Result<Option<Tree>, AllocError>
-        ensures { IfOk result (λ found. found
-            ≡ option_and_then (enumerable_tree (schemas_of self.now.store.now) (trees_in self.now.store.now) (places_at self.now frame.now) source of)
-            (option_map (λ method. By method parameter.now body.now) (method_with_lambda name.now))) }
+    ) -> Result<Tree, TermError>
+        ensures { Gives (enumerable_at self.now frame.now source item
+            (By method parameter.now body.now)) result }
     {
-        let Some(method) = method_with_lambda(name) else {
-            return Ok(None);
-        };
-        let Some(body) = self.lambda(body, parameter, &of, frame)? else {
-            return Ok(None);
-        };
-        sources::through(self.alloc, method, source, of, body)
+        let body = self.lambda(body, parameter, &item, frame)?;
+        method_trees::with_lambda(self.alloc, method, source, item, body)
     }
 
     /// The body of a lambda, whose parameter has this type and repeats no local name.
@@ -180,16 +154,15 @@ impl Binder<'_> {
         &self,
         body: &Term,
         parameter: &Txt,
-        of: &Ty,
+        item: &Ty,
         frame: &Frame<'_>,
-    ) -> Result<Option<Tree>, AllocError>
-        ensures { IfOk result (λ found. found
-            ≡ lambda_tree (schemas_of self.now.store.now) (trees_in self.now.store.now) (places_at self.now frame.now) of.now parameter.now body.now) }
+    ) -> Result<Tree, TermError>
+        ensures { Gives (lambda_at self.now frame.now item.now parameter.now body.now) result }
     {
         if !frame.is_fresh(parameter.as_str()) {
-            return Ok(None);
+            return Err(TermError::IllTyped);
         }
-        let inner = (&*frame).with_name(&*parameter, &*of);
+        let inner = (&*frame).with_name(&*parameter, &*item);
         self.term(body, &inner)
     }
 }

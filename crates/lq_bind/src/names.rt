@@ -4,9 +4,10 @@ ghost use Rattle.lq_value.specs.declared.scalar.Scalar.TheVariants as scalar;
 ghost use Rattle.lq_value.specs.declared.ty.Ty.TheVariants as ty;
 ghost use Rattle.lq_machine.specs.States.{schemas_of};
 ghost use Rattle.lq_language.specs.Names.{table_number};
-ghost use Rattle.lq_tree.specs.SessionPlaces.{tree_or_null};
 ghost use Rattle.lq_bind.specs.Bound.{literal_tree, rows_tree};
+ghost use Rattle.lq_bind.specs.Outcomes.{Gives};
 
+use crate::error::TermError;
 use lq_store::Store;
 use lq_tree::{Form, Tree};
 use lq_typing::copy_ty;
@@ -14,57 +15,58 @@ use lq_value::{Held, Scalar, Txt, Ty, copy_scalar};
 use std::alloc::{AllocError, Global};
 
 /// A literal of this type.
-fn literal_of(alloc: Global, ty: Ty, value: Scalar) -> Result<Tree, AllocError>
-    ensures { IfOk result (λ made. made ≡ literal_tree ty value) }
+fn literal(alloc: Global, ty: Ty, value: Scalar) -> Result<Tree, AllocError>
+    ensures { IfOk result (λ tree. tree ≡ literal_tree ty value) }
 {
     let form = Held::new(alloc, Form::Literal(value))?;
     Ok(Tree { ty, form })
 }
 
-/// The same, as what an expression is bound to.
-fn literal(alloc: Global, ty: Ty, value: Scalar) -> Result<Option<Tree>, AllocError>
-    ensures { IfOk result (λ found. found ≡ Some (literal_tree ty value)) }
-{
-    Ok(Some(literal_of(alloc, ty, value)?))
-}
-
 /// An integer.
 #[inline(never)]
-pub(crate) fn integer(alloc: Global, number: i32) -> Result<Option<Tree>, AllocError>
-    ensures { IfOk result (λ found. found ≡ Some (literal_tree ty.Int (scalar.Int number))) }
+pub(crate) fn integer(alloc: Global, number: i32) -> Result<Tree, TermError>
+    ensures { Gives (Some (literal_tree ty.Int (scalar.Int number))) result }
 {
-    literal(alloc, Ty::Int, Scalar::Int(number))
+    Ok(literal(alloc, Ty::Int, Scalar::Int(number))?)
 }
 
 /// A text.
 #[inline(never)]
-pub(crate) fn text(alloc: Global, text: &Txt) -> Result<Option<Tree>, AllocError>
-    ensures { IfOk result (λ found. found ≡ Some (literal_tree ty.Str (scalar.Text text.now))) }
+pub(crate) fn text(alloc: Global, text: &Txt) -> Result<Tree, TermError>
+    ensures { Gives (Some (literal_tree ty.Str (scalar.Text text.now))) result }
 {
     let text = Txt::from_str(alloc, text.as_str())?;
-    literal(alloc, Ty::Str, Scalar::Text(text))
+    Ok(literal(alloc, Ty::Str, Scalar::Text(text))?)
 }
 
 /// `true` or `false`.
 #[inline(never)]
-pub(crate) fn truth(alloc: Global, truth: bool) -> Result<Option<Tree>, AllocError>
-    ensures { IfOk result (λ found. found ≡ Some (literal_tree ty.Bool (scalar.Bool truth))) }
+pub(crate) fn truth(alloc: Global, truth: bool) -> Result<Tree, TermError>
+    ensures { Gives (Some (literal_tree ty.Bool (scalar.Bool truth))) result }
 {
-    literal(alloc, Ty::Bool, Scalar::Bool(truth))
+    Ok(literal(alloc, Ty::Bool, Scalar::Bool(truth))?)
+}
+
+/// The tree of null, which also stands for what has no type.
+pub(crate) fn null_tree(alloc: Global) -> Result<Tree, AllocError>
+    ensures { IfOk result (λ tree. tree ≡ literal_tree ty.Null scalar.Null) }
+{
+    literal(alloc, Ty::Null, Scalar::Null)
 }
 
 /// `null`
 #[inline(never)]
-pub(crate) fn null(alloc: Global) -> Result<Option<Tree>, AllocError>
-    ensures { IfOk result (λ found. found ≡ Some (literal_tree ty.Null scalar.Null)) }
+pub(crate) fn null(alloc: Global) -> Result<Tree, TermError>
+    ensures { Gives (Some (literal_tree ty.Null scalar.Null)) result }
 {
-    literal(alloc, Ty::Null, Scalar::Null)
+    Ok(null_tree(alloc)?)
 }
 
 /// The rows of the table of this name.
 #[tactic(auto, using(crate::proofs::TermLaws::tables))]
 pub(crate) fn rows(alloc: Global, store: &Store, name: &str) -> Result<Option<Tree>, AllocError>
-    ensures { IfOk result (λ found. found ≡ option_map rows_tree (table_number name.now (schemas_of store.now))) }
+    ensures { IfOk result (λ rows. rows
+        ≡ option_map rows_tree (table_number name.now (schemas_of store.now))) }
 {
     let Some(table) = store.find(name) else {
         return Ok(None);
@@ -76,18 +78,8 @@ pub(crate) fn rows(alloc: Global, store: &Store, name: &str) -> Result<Option<Tr
 
 /// A variable of the session, which is its value.
 pub(crate) fn variable(alloc: Global, ty: &Ty, value: &Scalar) -> Result<Tree, AllocError>
-    ensures { IfOk result (λ made. made ≡ literal_tree ty.now value.now) }
+    ensures { IfOk result (λ tree. tree ≡ literal_tree ty.now value.now) }
 {
     let ty = copy_ty(alloc, ty)?;
-    literal_of(alloc, ty, copy_scalar(alloc, value)?)
-}
-
-/// The tree; that of null, where there is none.
-pub(crate) fn tree_or_null(alloc: Global, found: Option<Tree>) -> Result<Tree, AllocError>
-    ensures { IfOk result (λ made. made ≡ tree_or_null found) }
-{
-    match found {
-        Some(tree) => Ok(tree),
-        None => literal_of(alloc, Ty::Null, Scalar::Null),
-    }
+    literal(alloc, ty, copy_scalar(alloc, value)?)
 }

@@ -3,19 +3,37 @@ ghost use Rattle.std.specs.Prelude.{◌≡◌, true, IfOk};
 ghost use Rattle.lq_value.specs.declared.ty.Ty.{out-Ty};
 ghost use Rattle.lq_language.specs.OperandMeaning.{told};
 ghost use Rattle.lq_language.specs.Operations.{operation_of};
-ghost use Rattle.lq_grammar.specs.declared.syntax.Unary.TheVariants as unary;
-ghost use Rattle.lq_tree.specs.Binding.{and_tree, binary_form, binary_tree, coalesce_tree, conditional_tree, equality_form, is_literal, is_object};
-ghost use Rattle.lq_tree.specs.Binding.{operation_at, or_tree, search_form, tested_first, tested_second, typed_tree, unary_tree};
 ghost use Rattle.lq_language.specs.Typing.{type_of_choice};
+ghost use Rattle.lq_grammar.specs.declared.syntax.Unary.TheVariants as unary;
+ghost use Rattle.lq_tree.specs.Binding.{and_tree, binary_form, binary_tree, coalesce_tree};
+ghost use Rattle.lq_tree.specs.Binding.{conditional_tree, equality_form, is_literal, is_object};
+ghost use Rattle.lq_tree.specs.Binding.{operation_at, or_tree, search_form, tested_first};
+ghost use Rattle.lq_tree.specs.Binding.{tested_second, typed_tree, unary_tree};
 ghost use Rattle.lq_tree.specs.declared.tree.Form.{out-Form};
 ghost use Rattle.lq_tree.specs.declared.tree.Form.TheVariants as form;
+ghost use Rattle.lq_bind.specs.Outcomes.{Gives};
+ghost use Rattle.lq_bind.specs.Operators.{operation_tree};
 
+use crate::error::TermError;
 use lq_grammar::{Binary, Unary};
 use lq_language::Op;
 use lq_tree::{Form, Tree};
 use lq_typing::{chosen, coalesced, is_bool, is_equality, is_number, is_text, operated_type};
 use lq_value::{Held, Ty};
 use std::alloc::{AllocError, Global};
+
+/// An operator between two operands.
+#[derive(Clone, Copy)]
+pub(crate) enum Infix {
+    /// One that evaluates both of them.
+    Sign(Binary),
+    /// `&&`
+    And,
+    /// `||`
+    Or,
+    /// `??`
+    Coalesce,
+}
 
 /// The form of a tree.
 pub(crate) fn into_form(tree: Tree) -> Held<Form>
@@ -71,8 +89,8 @@ fn is_literal(form: &Form) -> bool
     matches!(form, Form::Literal(_))
 }
 
-/// Whether `==` or `!=` is told of operands that are the same.
-fn told(sign: Binary) -> bool
+/// What `==` or `!=` says of operands that are the same.
+fn of_same(sign: Binary) -> bool
     ensures { result ≡ told sign true }
 {
     !matches!(sign, Binary::NotEqual)
@@ -80,7 +98,7 @@ fn told(sign: Binary) -> bool
 
 /// A pair of two forms, which are both evaluated.
 fn pair(alloc: Global, left: Held<Form>, right: Held<Form>) -> Result<Held<Form>, AllocError>
-    ensures { IfOk result (λ made. made ≡ form.Pair left right) }
+    ensures { IfOk result (λ f. f ≡ form.Pair left right) }
 {
     Held::new(alloc, Form::Pair(left, right))
 }
@@ -91,7 +109,7 @@ fn tested_first(
     left: Held<Form>,
     right: Held<Form>,
 ) -> Result<Held<Form>, AllocError>
-    ensures { IfOk result (λ made. made ≡ tested_first left right) }
+    ensures { IfOk result (λ f. f ≡ tested_first left right) }
 {
     if is_literal(right.get()) {
         return Ok(left);
@@ -106,7 +124,7 @@ fn tested_second(
     left: Held<Form>,
     right: Held<Form>,
 ) -> Result<Held<Form>, AllocError>
-    ensures { IfOk result (λ made. made ≡ tested_second left right) }
+    ensures { IfOk result (λ f. f ≡ tested_second left right) }
 {
     if is_literal(left.get()) {
         return Ok(right);
@@ -117,9 +135,9 @@ fn tested_second(
 
 /// Whether what a form means is null, or isn't.
 fn null_test(alloc: Global, sign: Binary, tested: Held<Form>) -> Result<Held<Form>, AllocError>
-    ensures { IfOk result (λ made. made ≡ form.IsNull (told sign true) tested) }
+    ensures { IfOk result (λ f. f ≡ form.IsNull (told sign true) tested) }
 {
-    Held::new(alloc, Form::IsNull(told(sign), tested))
+    Held::new(alloc, Form::IsNull(of_same(sign), tested))
 }
 
 /// An operation on two operands.
@@ -129,7 +147,7 @@ fn of_two(
     left: Held<Form>,
     right: Held<Form>,
 ) -> Result<Held<Form>, AllocError>
-    ensures { IfOk result (λ made. made ≡ form.Binary op left right) }
+    ensures { IfOk result (λ f. f ≡ form.Binary op left right) }
 {
     Held::new(alloc, Form::Binary(op, left, right))
 }
@@ -141,7 +159,7 @@ fn equality_form(
     left: Tree,
     right: Tree,
 ) -> Result<Held<Form>, AllocError>
-    ensures { IfOk result (λ made. made ≡ equality_form sign left right) }
+    ensures { IfOk result (λ f. f ≡ equality_form sign left right) }
 {
     if is_object(&left.ty) {
         let tested = tested_first(alloc, into_form(left), into_form(right))?;
@@ -161,7 +179,7 @@ fn binary_form(
     left: Tree,
     right: Tree,
 ) -> Result<Held<Form>, AllocError>
-    ensures { IfOk result (λ made. made ≡ binary_form sign left right) }
+    ensures { IfOk result (λ f. f ≡ binary_form sign left right) }
 {
     if is_equality(sign) {
         return equality_form(alloc, sign, left, right);
@@ -170,89 +188,49 @@ fn binary_form(
     of_two(alloc, op, into_form(left), into_form(right))
 }
 
-/// An operator that evaluates both of its operands.
-pub(crate) fn binary(
-    alloc: Global,
-    sign: Binary,
-    left: Tree,
-    right: Tree,
-) -> Result<Option<Tree>, AllocError>
-    ensures { IfOk result (λ found. found ≡ binary_tree sign left right) }
+/// A sign between two operands.
+fn binary(alloc: Global, sign: Binary, left: Tree, right: Tree) -> Result<Tree, TermError>
+    ensures { Gives (binary_tree sign left right) result }
 {
-    let Some(ty) = operated_type(sign, &left.ty, &right.ty) else {
-        return Ok(None);
-    };
+    let ty = operated_type(sign, &left.ty, &right.ty).ok_or(TermError::IllTyped)?;
     let form = binary_form(alloc, sign, left, right)?;
-    Ok(Some(Tree { ty, form }))
-}
-
-/// `-` before a number.
-fn minus(alloc: Global, operand: Tree) -> Result<Option<Tree>, AllocError>
-    ensures { IfOk result (λ found. found ≡ unary_tree unary.Minus operand) }
-{
-    if !is_number(&operand.ty) {
-        return Ok(None);
-    }
-    let Tree { ty, form } = operand;
-    let form = Held::new(alloc, Form::Unary(Op::Minus, form))?;
-    Ok(Some(Tree { ty, form }))
-}
-
-/// `!` before a truth value.
-fn not(alloc: Global, operand: Tree) -> Result<Option<Tree>, AllocError>
-    ensures { IfOk result (λ found. found ≡ unary_tree unary.Not operand) }
-{
-    if !is_bool(&operand.ty) {
-        return Ok(None);
-    }
-    let form = Held::new(alloc, Form::Unary(Op::Not, into_form(operand)))?;
-    Ok(Some(Tree { ty: Ty::Bool, form }))
-}
-
-/// An operator with one operand.
-pub(crate) fn unary(alloc: Global, sign: Unary, operand: Tree) -> Result<Option<Tree>, AllocError>
-    ensures { IfOk result (λ found. found ≡ unary_tree sign operand) }
-{
-    match sign {
-        Unary::Minus => minus(alloc, operand),
-        Unary::Not => not(alloc, operand),
-    }
+    Ok(Tree { ty, form })
 }
 
 /// The form of `&&`.
 fn and_form(alloc: Global, left: Held<Form>, right: Held<Form>) -> Result<Held<Form>, AllocError>
-    ensures { IfOk result (λ made. made ≡ form.And left right) }
+    ensures { IfOk result (λ f. f ≡ form.And left right) }
 {
     Held::new(alloc, Form::And(left, right))
 }
 
 /// `&&`
-pub(crate) fn and(alloc: Global, left: Tree, right: Tree) -> Result<Option<Tree>, AllocError>
-    ensures { IfOk result (λ found. found ≡ and_tree left right) }
+fn and(alloc: Global, left: Tree, right: Tree) -> Result<Tree, TermError>
+    ensures { Gives (and_tree left right) result }
 {
     if !is_bool(&left.ty) || !is_bool(&right.ty) {
-        return Ok(None);
+        return Err(TermError::IllTyped);
     }
     let form = and_form(alloc, into_form(left), into_form(right))?;
-    Ok(Some(Tree { ty: Ty::Bool, form }))
+    Ok(Tree { ty: Ty::Bool, form })
 }
 
 /// The form of `||`.
 fn or_form(alloc: Global, left: Held<Form>, right: Held<Form>) -> Result<Held<Form>, AllocError>
-    ensures { IfOk result (λ made. made ≡ form.Or left right) }
+    ensures { IfOk result (λ f. f ≡ form.Or left right) }
 {
     Held::new(alloc, Form::Or(left, right))
 }
 
 /// `||`
-pub(crate) fn or(alloc: Global, left: Tree, right: Tree) -> Result<Option<Tree>, AllocError>
-    ensures { IfOk result (λ found. found ≡ or_tree left right) }
+fn or(alloc: Global, left: Tree, right: Tree) -> Result<Tree, TermError>
+    ensures { Gives (or_tree left right) result }
 {
     if !is_bool(&left.ty) || !is_bool(&right.ty) {
-        return Ok(None);
+        return Err(TermError::IllTyped);
     }
     let form = or_form(alloc, into_form(left), into_form(right))?;
-    Ok(Some(Tree { ty: Ty::Bool, form }))
+    Ok(Tree { ty: Ty::Bool, form })
 }
 
 /// The form of `??`.
@@ -261,20 +239,69 @@ fn coalesce_form(
     left: Held<Form>,
     right: Held<Form>,
 ) -> Result<Held<Form>, AllocError>
-    ensures { IfOk result (λ made. made ≡ form.Coalesce left right) }
+    ensures { IfOk result (λ f. f ≡ form.Coalesce left right) }
 {
     Held::new(alloc, Form::Coalesce(left, right))
 }
 
 /// `??`
-pub(crate) fn coalesce(alloc: Global, left: Tree, right: Tree) -> Result<Option<Tree>, AllocError>
-    ensures { IfOk result (λ found. found ≡ coalesce_tree left right) }
+fn coalesce(alloc: Global, left: Tree, right: Tree) -> Result<Tree, TermError>
+    ensures { Gives (coalesce_tree left right) result }
 {
-    let Some(ty) = coalesced(&left.ty, &right.ty) else {
-        return Ok(None);
-    };
+    let ty = coalesced(&left.ty, &right.ty).ok_or(TermError::IllTyped)?;
     let form = coalesce_form(alloc, into_form(left), into_form(right))?;
-    Ok(Some(Tree { ty, form }))
+    Ok(Tree { ty, form })
+}
+
+/// An operator between two operands.
+#[inline(never)]
+pub(crate) fn operation(
+    alloc: Global,
+    op: Infix,
+    left: Tree,
+    right: Tree,
+) -> Result<Tree, TermError>
+    ensures { Gives (operation_tree op left right) result }
+{
+    match op {
+        Infix::Sign(sign) => binary(alloc, sign, left, right),
+        Infix::And => and(alloc, left, right),
+        Infix::Or => or(alloc, left, right),
+        Infix::Coalesce => coalesce(alloc, left, right),
+    }
+}
+
+/// `-` before a number.
+fn minus(alloc: Global, operand: Tree) -> Result<Tree, TermError>
+    ensures { Gives (unary_tree unary.Minus operand) result }
+{
+    if !is_number(&operand.ty) {
+        return Err(TermError::IllTyped);
+    }
+    let Tree { ty, form } = operand;
+    let form = Held::new(alloc, Form::Unary(Op::Minus, form))?;
+    Ok(Tree { ty, form })
+}
+
+/// `!` before a truth value.
+fn not(alloc: Global, operand: Tree) -> Result<Tree, TermError>
+    ensures { Gives (unary_tree unary.Not operand) result }
+{
+    if !is_bool(&operand.ty) {
+        return Err(TermError::IllTyped);
+    }
+    let form = Held::new(alloc, Form::Unary(Op::Not, into_form(operand)))?;
+    Ok(Tree { ty: Ty::Bool, form })
+}
+
+/// An operator with one operand.
+pub(crate) fn unary(alloc: Global, sign: Unary, operand: Tree) -> Result<Tree, TermError>
+    ensures { Gives (unary_tree sign operand) result }
+{
+    match sign {
+        Unary::Minus => minus(alloc, operand),
+        Unary::Not => not(alloc, operand),
+    }
 }
 
 /// The form of a conditional.
@@ -284,19 +311,15 @@ fn choice_form(
     left: Held<Form>,
     right: Held<Form>,
 ) -> Result<Held<Form>, AllocError>
-    ensures { IfOk result (λ made. made ≡ form.Conditional condition left right) }
+    ensures { IfOk result (λ f. f ≡ form.Conditional condition left right) }
 {
     Held::new(alloc, Form::Conditional(condition, left, right))
 }
 
 /// A choice between two operands.
-fn choice(
-    alloc: Global,
-    condition: Held<Form>,
-    left: Tree,
-    right: Tree,
-) -> Result<Option<Tree>, AllocError>
-    ensures { IfOk result (λ found. found ≡ typed_tree (type_of_choice (out-Ty left.ty) (out-Ty right.ty)) (form.Conditional condition left.form right.form)) }
+fn choice(alloc: Global, condition: Held<Form>, left: Tree, right: Tree) -> Result<Tree, TermError>
+    ensures { Gives (typed_tree (type_of_choice (out-Ty left.ty) (out-Ty right.ty))
+        (form.Conditional condition left.form right.form)) result }
 {
     let Tree {
         ty: left_type,
@@ -306,11 +329,9 @@ fn choice(
         ty: right_type,
         form: right,
     } = right;
-    let Some(ty) = chosen(left_type, right_type) else {
-        return Ok(None);
-    };
+    let ty = chosen(left_type, right_type).ok_or(TermError::IllTyped)?;
     let form = choice_form(alloc, condition, left, right)?;
-    Ok(Some(Tree { ty, form }))
+    Ok(Tree { ty, form })
 }
 
 /// `? :`, with its condition first.
@@ -319,27 +340,22 @@ pub(crate) fn conditional(
     condition: Tree,
     left: Tree,
     right: Tree,
-) -> Result<Option<Tree>, AllocError>
-    ensures { IfOk result (λ found. found ≡ conditional_tree condition left right) }
+) -> Result<Tree, TermError>
+    ensures { Gives (conditional_tree condition left right) result }
 {
     if !is_bool(&condition.ty) {
-        return Ok(None);
+        return Err(TermError::IllTyped);
     }
     choice(alloc, into_form(condition), left, right)
 }
 
 /// A search in a text.
-pub(crate) fn search(
-    alloc: Global,
-    op: Op,
-    text: Tree,
-    sought: Tree,
-) -> Result<Option<Tree>, AllocError>
-    ensures { IfOk result (λ found. found ≡ search_form op text sought) }
+pub(crate) fn search(alloc: Global, op: Op, text: Tree, sought: Tree) -> Result<Tree, TermError>
+    ensures { Gives (search_form op text sought) result }
 {
     if !is_text(&sought.ty) {
-        return Ok(None);
+        return Err(TermError::IllTyped);
     }
     let form = of_two(alloc, op, into_form(text), into_form(sought))?;
-    Ok(Some(Tree { ty: Ty::Bool, form }))
+    Ok(Tree { ty: Ty::Bool, form })
 }

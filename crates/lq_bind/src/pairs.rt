@@ -1,25 +1,29 @@
 //! The binding of calls that pair items: `SelectMany`, `Join` and `GroupJoin` (ECMA-334, from and join
 //! clauses).
-ghost use Rattle.std.specs.Prelude.{◌≡◌, IfOk, option_map};
+ghost use Rattle.std.specs.Prelude.{◌≡◌, option_map};
 ghost use Rattle.lq_language.specs.ClauseTyping.{joined_name};
-ghost use Rattle.lq_bind.specs.Bound.{joined_type};
+ghost use Rattle.lq_bind.specs.Bound.{inner_side, joined_type};
 ghost use Rattle.lq_bind.specs.Frames.{places_in};
+ghost use Rattle.lq_bind.specs.Outcomes.{Gives};
 
 use crate::binder::Binder;
+use crate::error::TermError;
 use crate::frames::Frame;
-use crate::stage_forms::{self, Sides};
-use crate::variables::{Behind, Variables};
+use crate::pipelines::{self, Pipeline, Sides};
+use crate::variables::Variables;
 use lq_grammar::Join;
 use lq_language::{Paired, Term};
 use lq_tree::{Form, Tree};
 use lq_value::{Held, Txt, Ty};
-use std::alloc::{AllocError, Global};
+use std::alloc::Global;
 
-/// What a join has found of its inner side.
+/// The inner side of a join.
 #[derive(Drop)]
-pub(crate) struct Matched {
-    /// The inner sequence and the keys.
-    pub(crate) sides: Sides,
+pub(crate) struct InnerSide {
+    /// The inner sequence.
+    pub(crate) items: Held<Form>,
+    /// The keys of an outer item and of an inner one.
+    pub(crate) keys: (Held<Form>, Held<Form>),
     /// The type of the name that the join leaves behind.
     pub(crate) ty: Ty,
 }
@@ -31,45 +35,34 @@ fn joined_type(
     into: &Option<Txt>,
     ty: Ty,
     scope: &Frame<'_>,
-) -> Result<Option<Ty>, AllocError>
-    ensures { IfOk result (λ found. found ≡ joined_type (places_in scope.now) into.now ty) }
+) -> Result<Ty, TermError>
+    ensures { Gives (joined_type (places_in scope.now) into.now ty) result }
 {
     match into {
         Some(name) => {
             if !scope.is_fresh(name.as_str()) {
-                return Ok(None);
+                return Err(TermError::IllTyped);
             }
-            Ok(Some(Ty::Seq(Held::new(alloc, ty)?)))
+            Ok(Ty::Seq(Held::new(alloc, ty)?))
         }
-        None => Ok(Some(ty)),
-    }
-}
-
-/// The inner side of a join, where the name that it leaves behind has a type.
-fn matched_if(sides: Sides, ty: Option<Ty>) -> Option<Matched>
-    ensures { result ≡ option_map (λ t. record { sides = sides; ty = t }) ty }
-{
-    match ty {
-        Some(ty) => Some(Matched { sides, ty }),
-        None => None,
+        None => Ok(ty),
     }
 }
 
 /// The inner side of a join of these items by these keys.
-fn matched_by(
+fn side_of(
     alloc: Global,
     into: &Option<Txt>,
     inner: Tree,
     keys: (Held<Form>, Held<Form>),
     scope: &Frame<'_>,
-) -> Result<Option<Matched>, AllocError>
-    ensures { IfOk result (λ found. found ≡ option_map (λ t. record { sides = record { inner = inner.form; keys = keys }; ty = t })
-        (joined_type (places_in scope.now) into.now inner.ty)) }
+) -> Result<InnerSide, TermError>
+    ensures { Gives (option_map (inner_side inner keys)
+        (joined_type (places_in scope.now) into.now inner.ty)) result }
 {
-    let Tree { ty, form: inner } = inner;
-    let sides = Sides { inner, keys };
+    let Tree { ty, form: items } = inner;
     let ty = joined_type(alloc, into, ty, scope)?;
-    Ok(matched_if(sides, ty))
+    Ok(InnerSide { items, keys, ty })
 }
 
 /// The name that a join leaves behind.
@@ -83,32 +76,28 @@ fn joined_name(join: &Join<Term>) -> &Txt
 }
 
 impl Binder<'_> {
-    ghost use Rattle.std.specs.Prelude.{◌≡◌, IfOk, is_some, option_and_then, option_map};
-    ghost use Rattle.lq_language.specs.ClauseTyping.{joined_name};
-    ghost use Rattle.lq_machine.specs.States.{schemas_of};
-    ghost use Rattle.lq_language.specs.Operators.{unnamed};
-    ghost use Rattle.lq_tree.specs.Binding.{expanded_stage, if_fresh, join_keys, joined_stage, paired_stage, placed_tree, select_many_stage, source_tree, stage_of};
-    ghost use Rattle.lq_tree.specs.Places.{with_item, with_name};
-    ghost use Rattle.lq_tree.specs.declared.tree.Form.TheVariants as form;
-    ghost use Rattle.lq_bind.specs.Bound.{matched_in, places_at, trees_in};
-    ghost use Rattle.lq_bind.specs.Frames.{found_stage, pattern_in, stage_in};
+    ghost use Rattle.lq_language.specs.declared.calls.Operator.TheVariants as query;
+    ghost use Rattle.lq_language.specs.declared.calls.Paired.TheVariants as paired;
+    ghost use Rattle.lq_bind.specs.Bound.{expanded_at, inner_at, inner_side_at, join_keys_at};
+    ghost use Rattle.lq_bind.specs.Bound.{join_source_at, joined_at, operator_at, pair_at};
+    ghost use Rattle.lq_bind.specs.Frames.{GivesStage, pattern_in, stage_in};
+    ghost use Rattle.lq_bind.specs.Outcomes.{Gives};
 
     /// The inner sequence of `SelectMany`, in the scope of an item; the name repeats none that is known.
     #[cycle(binding)]
-    pub(crate) fn inner(
+    fn inner_source(
         &self,
         source: &Term,
         name: &Txt,
         variables: &Variables,
         frame: &Frame<'_>,
-    ) -> Result<Option<Tree>, AllocError>
-        ensures { IfOk result (λ found. found ≡ if_fresh (schemas_of self.now.store.now) (trees_in self.now.store.now) (places_at self.now frame.now)
-            (pattern_in variables.now) name.now (source_tree (schemas_of self.now.store.now) (trees_in self.now.store.now) source.now
-            (with_item (places_at self.now frame.now) (pattern_in variables.now)))) }
+    ) -> Result<Tree, TermError>
+        ensures { Gives (inner_at self.now frame.now (pattern_in variables.now) name.now
+            source.now) result }
     {
         let inner = (&*frame).with(&*variables);
         if !inner.is_fresh(name.as_str()) {
-            return Ok(None);
+            return Err(TermError::IllTyped);
         }
         self.source(source, &inner)
     }
@@ -120,115 +109,93 @@ impl Binder<'_> {
         pair: &Paired<Term>,
         source: &Term,
         name: &Txt,
-        before: Behind,
+        pipeline: Pipeline,
         frame: &Frame<'_>,
-    ) -> Result<Option<Behind>, AllocError>
-        ensures { IfOk result (λ found. found_stage found ≡ select_many_stage (schemas_of self.now.store.now) (trees_in self.now.store.now) (places_at self.now frame.now)
-            name.now source.now pair.now (stage_in before)) }
+    ) -> Result<Pipeline, TermError>
+        ensures { GivesStage (operator_at self.now frame.now
+            (query.SelectMany name.now source.now pair.now) (stage_in pipeline)) result }
     {
-        let Some(inner) = self.inner(source, name, &before.variables, frame)? else {
-            return Ok(None);
-        };
-        self.expanded(pair, name, before, inner, frame)
+        let inner = self.inner_source(source, name, &pipeline.variables, frame)?;
+        self.expand(pair, name, pipeline, inner, frame)
     }
 
     /// `SelectMany` with this inner sequence.
     #[cycle(binding)]
-    pub(crate) fn expanded(
+    fn expand(
         &self,
         pair: &Paired<Term>,
         name: &Txt,
-        before: Behind,
+        pipeline: Pipeline,
         inner: Tree,
         frame: &Frame<'_>,
-    ) -> Result<Option<Behind>, AllocError>
-        ensures { IfOk result (λ found. found_stage found ≡ expanded_stage (schemas_of self.now.store.now) (trees_in self.now.store.now) (places_at self.now frame.now)
-            name.now pair.now (stage_in before) inner) }
+    ) -> Result<Pipeline, TermError>
+        ensures { GivesStage (expanded_at self.now frame.now name.now pair.now
+            (stage_in pipeline) inner) result }
     {
-        match pair {
-            Paired::Pair => stage_forms::expanded_pairs(self.alloc, before, name, inner, frame),
-            Paired::Value(value) => self.expanded_values(value, name, before, inner, frame),
-        }
+        let Pipeline {
+            variables,
+            form: source,
+        } = pipeline;
+        let Tree { ty, form: inner } = inner;
+        let item = self.pair(pair, name, ty, variables, frame)?;
+        Ok(pipelines::expand(self.alloc, source, inner, item)?)
     }
 
-    /// The same where a value comes of each pair.
+    /// What comes of a pair.
     #[cycle(binding)]
-    fn expanded_values(
-        &self,
-        value: &Term,
-        name: &Txt,
-        before: Behind,
-        inner: Tree,
-        frame: &Frame<'_>,
-    ) -> Result<Option<Behind>, AllocError>
-        ensures { IfOk result (λ found. found_stage found ≡ option_map (λ made. stage_of made.pattern (form.SelectMany before.form inner.form made.form))
-            (option_map (λ found. stage_of (unnamed found.ty) found.form) (option_and_then placed_tree
-            (trees_in self.now.store.now value.now (with_name (with_item (places_at self.now frame.now) (pattern_in before.variables)) name.now inner.ty))))) }
-    {
-        let Some(made) = self.paired_value(value, name, &inner.ty, &before.variables, frame)? else {
-            return Ok(None);
-        };
-        stage_forms::expanded(self.alloc, before, inner, made)
-    }
-
-    /// What a call that pairs items makes of a pair.
-    #[cycle(binding)]
-    fn paired(
+    fn pair(
         &self,
         pair: &Paired<Term>,
         name: &Txt,
         ty: Ty,
         variables: Variables,
         frame: &Frame<'_>,
-    ) -> Result<Option<Behind>, AllocError>
-        ensures { IfOk result (λ found. found_stage found ≡ paired_stage (schemas_of self.now.store.now) (trees_in self.now.store.now) (places_at self.now frame.now)
-            (pattern_in variables) name.now ty pair.now) }
+    ) -> Result<Pipeline, TermError>
+        ensures { GivesStage (pair_at self.now frame.now (pattern_in variables) name.now ty
+            pair.now) result }
     {
         match pair {
             Paired::Pair => {
                 let item = frame.depth()?;
-                Ok(Some(stage_forms::paired(self.alloc, variables, name, ty, item)?))
+                Ok(pipelines::slots(self.alloc, variables, name, ty, item)?)
             }
-            Paired::Value(value) => self.paired_value(value, name, &ty, &variables, frame),
+            Paired::Value(value) => self.pair_value(value, name, &ty, &variables, frame),
         }
     }
 
     /// The value that comes of a pair.
     #[cycle(binding)]
-    fn paired_value(
+    fn pair_value(
         &self,
         value: &Term,
         name: &Txt,
         ty: &Ty,
         variables: &Variables,
         frame: &Frame<'_>,
-    ) -> Result<Option<Behind>, AllocError>
-        ensures { IfOk result (λ found. found_stage found ≡ option_map (λ found. stage_of (unnamed found.ty) found.form) (option_and_then placed_tree
-            (trees_in self.now.store.now value.now (with_name (with_item (places_at self.now frame.now) (pattern_in variables.now)) name.now ty.now)))) }
+    ) -> Result<Pipeline, TermError>
+        ensures { GivesStage (pair_at self.now frame.now (pattern_in variables.now) name.now
+            ty.now (paired.Value value.now)) result }
     {
         let item = (&*frame).with(&*variables);
         let scope = (&item).with_name(&*name, &*ty);
-        let Some(value) = self.term(value, &scope)? else {
-            return Ok(None);
-        };
-        stage_forms::unnamed_items(self.alloc, value)
+        let value = self.term(value, &scope)?;
+        pipelines::value(self.alloc, value)
     }
 
     /// The inner sequence of a join, which sees none of the query's range variables; the name of its
     /// items repeats none that is known.
     #[cycle(binding)]
-    fn joined_source(
+    fn join_source(
         &self,
         join: &Join<Term>,
         variables: &Variables,
         frame: &Frame<'_>,
-    ) -> Result<Option<Tree>, AllocError>
-        ensures { IfOk result (λ found. found ≡ if_fresh (schemas_of self.now.store.now) (trees_in self.now.store.now) (places_at self.now frame.now)
-            (pattern_in variables.now) join.now.name (source_tree (schemas_of self.now.store.now) (trees_in self.now.store.now) join.now.source
-            (places_at self.now frame.now))) }
+    ) -> Result<Tree, TermError>
+        ensures { Gives (join_source_at self.now frame.now (pattern_in variables.now) join.now)
+            result }
     {
         if !(&*frame).with(&*variables).is_fresh(join.name.as_str()) {
-            return Ok(None);
+            return Err(TermError::IllTyped);
         }
         self.source(&join.source, frame)
     }
@@ -241,57 +208,54 @@ impl Binder<'_> {
         variables: &Variables,
         ty: &Ty,
         frame: &Frame<'_>,
-    ) -> Result<Option<(Held<Form>, Held<Form>)>, AllocError>
-        ensures { IfOk result (λ found. found ≡ join_keys (schemas_of self.now.store.now) (trees_in self.now.store.now) (places_at self.now frame.now)
-            (pattern_in variables.now) join.now ty.now) }
+    ) -> Result<(Held<Form>, Held<Form>), TermError>
+        ensures { Gives (join_keys_at self.now frame.now (pattern_in variables.now) join.now
+            ty.now) result }
     {
-        let Some(outer) = self.of_item(&join.outer_key, variables, frame)? else {
-            return Ok(None);
-        };
+        let outer = self.item_term(&join.outer_key, variables, frame)?;
         let scope = (&*frame).with_name(&join.name, &*ty);
-        let Some(inner) = self.term(&join.inner_key, &scope)? else {
-            return Ok(None);
-        };
-        Ok(stage_forms::keys(outer, inner))
+        let inner = self.term(&join.inner_key, &scope)?;
+        pipelines::keys(outer, inner)
     }
 
     /// The inner side of a join.
     #[cycle(binding)]
-    pub(crate) fn matched(
+    pub(crate) fn inner_side(
         &self,
         join: &Join<Term>,
         variables: &Variables,
         frame: &Frame<'_>,
-    ) -> Result<Option<Matched>, AllocError>
-        ensures { IfOk result (λ found. found ≡ matched_in (schemas_of self.now.store.now) (trees_in self.now.store.now) (places_at self.now frame.now)
-            (pattern_in variables.now) join.now) }
+    ) -> Result<InnerSide, TermError>
+        ensures { Gives (inner_side_at self.now frame.now (pattern_in variables.now) join.now)
+            result }
     {
-        let Some(inner) = self.joined_source(join, variables, frame)? else {
-            return Ok(None);
-        };
-        let Some(keys) = self.join_keys(join, variables, &inner.ty, frame)? else {
-            return Ok(None);
-        };
+        let inner = self.join_source(join, variables, frame)?;
+        let keys = self.join_keys(join, variables, &inner.ty, frame)?;
         let scope = (&*frame).with(&*variables);
-        matched_by(self.alloc, &join.into, inner, keys, &scope)
+        side_of(self.alloc, &join.into, inner, keys, &scope)
     }
 
     /// `Join` or `GroupJoin`, with this inner side.
     #[cycle(binding)]
-    pub(crate) fn joined(
+    pub(crate) fn join(
         &self,
         pair: &Paired<Term>,
         join: &Join<Term>,
-        before: Behind,
-        matched: Matched,
+        pipeline: Pipeline,
+        side: InnerSide,
         frame: &Frame<'_>,
-    ) -> Result<Option<Behind>, AllocError>
-        ensures { IfOk result (λ found. found_stage found ≡ joined_stage (schemas_of self.now.store.now) (trees_in self.now.store.now) (places_at self.now frame.now)
-            join.now pair.now (stage_in before) matched.sides.inner matched.sides.keys matched.ty) }
+    ) -> Result<Pipeline, TermError>
+        ensures { GivesStage (joined_at self.now frame.now join.now pair.now (stage_in pipeline)
+            side) result }
     {
-        let Matched { sides, ty } = matched;
-        let (variables, sources) = stage_forms::beside_source(before, sides);
-        let made = self.paired(pair, joined_name(join), ty, variables, frame)?;
-        stage_forms::joined_if(self.alloc, sources, join.into.is_some(), made)
+        let InnerSide { items, keys, ty } = side;
+        let Pipeline { variables, form } = pipeline;
+        let sides = Sides {
+            outer: form,
+            inner: items,
+            keys,
+        };
+        let item = self.pair(pair, joined_name(join), ty, variables, frame)?;
+        Ok(pipelines::join(self.alloc, sides, join.into.is_some(), item)?)
     }
 }

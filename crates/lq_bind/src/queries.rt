@@ -1,76 +1,56 @@
 //! The binding of the calls that queries stand for (ECMA-334, query expression translation).
 use crate::binder::Binder;
+use crate::error::TermError;
 use crate::frames::Frame;
-use crate::variables::{Behind, Variables};
-use crate::{placed, stage_forms};
+use crate::pipelines::Pipeline;
+use crate::variables::Variables;
+use crate::{pipelines, type_checks};
 use lq_grammar::SortKey;
 use lq_language::{Call, Operator, Part, Term};
 use lq_tree::Tree;
 use lq_value::Txt;
-use std::alloc::AllocError;
 
 impl Binder<'_> {
-    ghost use Rattle.std.specs.Prelude.{◌≡◌, IfOk, option_and_then, option_map};
-    ghost use Rattle.lq_machine.specs.States.{schemas_of};
-    ghost use Rattle.lq_tree.specs.Binding.{body_tree, call_items_tree, call_tree, grouped_stage, keyed_tree, let_stage, operator_stage, order_stage};
-    ghost use Rattle.lq_tree.specs.Binding.{part_tree, placed_tree, element_tree, select_stage, source_tree, walked, where_stage};
-    ghost use Rattle.lq_tree.specs.Places.{with_item};
-    ghost use Rattle.lq_bind.specs.Bound.{places_at, trees_in};
-    ghost use Rattle.lq_bind.specs.Frames.{found_stage, pattern_in, stage_in};
+    ghost use Rattle.lq_language.specs.declared.calls.Operator.TheVariants as query;
+    ghost use Rattle.lq_tree.specs.Binding.{walked};
+    ghost use Rattle.lq_bind.specs.Bound.{body_at, call_at, element_at, group_key_at, groups_at};
+    ghost use Rattle.lq_bind.specs.Bound.{item_tree_at, items_at, operator_at, part_at, source_at};
+    ghost use Rattle.lq_bind.specs.Frames.{GivesStage, pattern_in, stage_in};
+    ghost use Rattle.lq_bind.specs.Outcomes.{Gives};
 
     /// The calls of a query.
     #[cycle(binding)]
     #[inline(never)]
     #[tactic(auto, using(crate::proofs::TermLaws::calls))]
-    pub(crate) fn call(
-        &self,
-        call: &Call<Term>,
-        frame: &Frame<'_>,
-    ) -> Result<Option<Tree>, AllocError>
-        ensures { IfOk result (λ found. found
-            ≡ call_tree (schemas_of self.now.store.now) (trees_in self.now.store.now) call.now (places_at self.now frame.now)) }
+    pub(crate) fn call(&self, call: &Call<Term>, frame: &Frame<'_>) -> Result<Tree, TermError>
+        ensures { Gives (call_at self.now frame.now call.now) result }
     {
-        let Some(items) = self.items(call, frame)? else {
-            return Ok(None);
-        };
-        Ok(Some(stage_forms::query(self.alloc, items)?))
+        let items = self.items(call, frame)?;
+        Ok(pipelines::query(self.alloc, items)?)
     }
 
     /// The items of a query.
     #[cycle(binding)]
-    fn items(&self, call: &Call<Term>, frame: &Frame<'_>) -> Result<Option<Tree>, AllocError>
-        ensures { IfOk result (λ found. found
-            ≡ call_items_tree (schemas_of self.now.store.now) (trees_in self.now.store.now) call.now (places_at self.now frame.now)) }
+    fn items(&self, call: &Call<Term>, frame: &Frame<'_>) -> Result<Tree, TermError>
+        ensures { Gives (items_at self.now frame.now call.now) result }
     {
-        let Some(source) = self.source(&call.source, frame)? else {
-            return Ok(None);
-        };
-        let source = stage_forms::sequence(self.alloc, source)?;
-        let Some(items) = self.body(call.operators.as_slice(), &call.name, source, frame)? else {
-            return Ok(None);
-        };
+        let source = self.source(&call.source, frame)?;
+        let source = pipelines::sequence(self.alloc, source)?;
+        let items = self.body(call.operators.as_slice(), &call.name, source, frame)?;
         self.parts(call.rest.as_slice(), items, frame)
     }
 
     /// What follows by `into`.
     #[cycle(binding)]
-    fn parts(
-        &self,
-        parts: &[Part<Term>],
-        first: Tree,
-        frame: &Frame<'_>,
-    ) -> Result<Option<Tree>, AllocError>
-        ensures { IfOk result (λ found. found
-            ≡ walked (part_tree (schemas_of self.now.store.now) (trees_in self.now.store.now) (places_at self.now frame.now)) first parts.now) }
+    fn parts(&self, parts: &[Part<Term>], first: Tree, frame: &Frame<'_>) -> Result<Tree, TermError>
+        ensures { Gives (walked (part_at self.now frame.now) first parts.now) result }
     {
         let mut items = first;
         for part in parts {
-            let Some(next) = self.body(part.operators.as_slice(), &part.name, items, frame)? else {
-                return Ok(None);
-            };
+            let next = self.body(part.operators.as_slice(), &part.name, items, frame)?;
             items = next;
         }
-        Ok(Some(items))
+        Ok(items)
     }
 
     /// The calls of a body over its range variable, whose name repeats no local name.
@@ -81,85 +61,77 @@ impl Binder<'_> {
         name: &Txt,
         items: Tree,
         frame: &Frame<'_>,
-    ) -> Result<Option<Tree>, AllocError>
-        ensures { IfOk result (λ found. found
-            ≡ body_tree (schemas_of self.now.store.now) (trees_in self.now.store.now) (places_at self.now frame.now) name.now operators.now items) }
+    ) -> Result<Tree, TermError>
+        ensures { Gives (body_at self.now frame.now name.now operators.now items) result }
     {
         if !frame.is_fresh(name.as_str()) {
-            return Ok(None);
+            return Err(TermError::IllTyped);
         }
-        let first = stage_forms::first(self.alloc, name, items)?;
-        let Some(behind) = self.behind(operators, first, frame)? else {
-            return Ok(None);
-        };
-        stage_forms::items_behind(self.alloc, behind)
+        let first = pipelines::start(self.alloc, name, items)?;
+        let last = self.operators(operators, first, frame)?;
+        pipelines::into_items(self.alloc, last)
     }
 
-    /// What stands behind all calls.
+    /// The calls of a body, one behind the other.
     #[cycle(binding)]
-    fn behind(
+    fn operators(
         &self,
         operators: &[Operator<Term>],
-        first: Behind,
+        first: Pipeline,
         frame: &Frame<'_>,
-    ) -> Result<Option<Behind>, AllocError>
-        ensures { IfOk result (λ found. found_stage found
-            ≡ walked (operator_stage (schemas_of self.now.store.now) (trees_in self.now.store.now) (places_at self.now frame.now)) (stage_in first) operators.now) }
+    ) -> Result<Pipeline, TermError>
+        ensures { GivesStage (walked (operator_at self.now frame.now) (stage_in first)
+            operators.now) result }
     {
-        let mut behind = first;
+        let mut pipeline = first;
         for operator in operators {
-            let Some(next) = self.operator(operator, behind, frame)? else {
-                return Ok(None);
-            };
-            behind = next;
+            let next = self.operator(operator, pipeline, frame)?;
+            pipeline = next;
         }
-        Ok(Some(behind))
+        Ok(pipeline)
     }
 
-    /// What stands behind a call.
+    /// A call.
     #[cycle(binding)]
     #[tactic(auto, using(crate::proofs::TermLaws::joins))]
     fn operator(
         &self,
         operator: &Operator<Term>,
-        before: Behind,
+        pipeline: Pipeline,
         frame: &Frame<'_>,
-    ) -> Result<Option<Behind>, AllocError>
-        ensures { IfOk result (λ found. found_stage found
-            ≡ operator_stage (schemas_of self.now.store.now) (trees_in self.now.store.now) (places_at self.now frame.now) operator.now (stage_in before)) }
+    ) -> Result<Pipeline, TermError>
+        ensures { GivesStage (operator_at self.now frame.now operator.now (stage_in pipeline))
+            result }
     {
         match operator {
-            Operator::Where(condition) => self.filtered(condition, before, frame),
-            Operator::Select(value) => self.selected(value, before, frame),
-            Operator::Let(name, value) => self.named(value, name, before, frame),
-            Operator::SelectMany(name, source, result) => {
-                self.select_many(result, source, name, before, frame)
+            Operator::Where(condition) => self.filter(condition, pipeline, frame),
+            Operator::Select(value) => self.select(value, pipeline, frame),
+            Operator::Let(name, value) => self.widen(value, name, pipeline, frame),
+            Operator::SelectMany(name, source, pair) => {
+                self.select_many(pair, source, name, pipeline, frame)
             }
-            Operator::Join(join, result) => {
-                let Some(matched) = self.matched(join, &before.variables, frame)? else {
-                    return Ok(None);
-                };
-                self.joined(result, join, before, matched, frame)
+            Operator::Join(join, pair) => {
+                let side = self.inner_side(join, &pipeline.variables, frame)?;
+                self.join(pair, join, pipeline, side, frame)
             }
-            Operator::OrderBy(keys) => self.ordered(keys.as_slice(), before, frame),
+            Operator::OrderBy(keys) => self.order_by(keys.as_slice(), pipeline, frame),
             Operator::GroupBy(key, element) => {
-                let Some(key) = self.key(key, &before.variables, frame)? else {
-                    return Ok(None);
-                };
-                self.grouped(element, key, before, frame)
+                let key = self.group_key(key, &pipeline.variables, frame)?;
+                self.group_by(element, key, pipeline, frame)
             }
         }
     }
 
     /// A term in the scope of an item.
     #[cycle(binding)]
-    pub(crate) fn of_item(
+    pub(crate) fn item_term(
         &self,
         term: &Term,
         variables: &Variables,
         frame: &Frame<'_>,
-    ) -> Result<Option<Tree>, AllocError>
-        ensures { IfOk result (λ found. found ≡ trees_in self.now.store.now term.now (with_item (places_at self.now frame.now) (pattern_in variables.now))) }
+    ) -> Result<Tree, TermError>
+        ensures { Gives (item_tree_at self.now frame.now (pattern_in variables.now) term.now)
+            result }
     {
         let inner = (&*frame).with(&*variables);
         self.term(term, &inner)
@@ -167,110 +139,93 @@ impl Binder<'_> {
 
     /// The items of a source.
     #[cycle(binding)]
-    pub(crate) fn source(
-        &self,
-        source: &Term,
-        frame: &Frame<'_>,
-    ) -> Result<Option<Tree>, AllocError>
-        ensures { IfOk result (λ found. found
-            ≡ source_tree (schemas_of self.now.store.now) (trees_in self.now.store.now) source.now (places_at self.now frame.now)) }
+    pub(crate) fn source(&self, source: &Term, frame: &Frame<'_>) -> Result<Tree, TermError>
+        ensures { Gives (source_at self.now frame.now source.now) result }
     {
-        let Some(source) = self.term(source, frame)? else {
-            return Ok(None);
-        };
-        Ok(placed::items(source))
+        let source = self.term(source, frame)?;
+        type_checks::items(source)
     }
 
     /// `Where`
     #[cycle(binding)]
-    fn filtered(
+    fn filter(
         &self,
         condition: &Term,
-        before: Behind,
+        pipeline: Pipeline,
         frame: &Frame<'_>,
-    ) -> Result<Option<Behind>, AllocError>
-        ensures { IfOk result (λ found. found_stage found
-            ≡ where_stage (schemas_of self.now.store.now) (trees_in self.now.store.now) (places_at self.now frame.now) condition.now (stage_in before)) }
+    ) -> Result<Pipeline, TermError>
+        ensures { GivesStage (operator_at self.now frame.now (query.Where condition.now)
+            (stage_in pipeline)) result }
     {
-        let Some(condition) = self.of_item(condition, &before.variables, frame)? else {
-            return Ok(None);
-        };
-        stage_forms::filtered(self.alloc, before, condition)
+        let condition = self.item_term(condition, &pipeline.variables, frame)?;
+        pipelines::filter(self.alloc, pipeline, condition)
     }
 
     /// `Select`
     #[cycle(binding)]
-    fn selected(
+    fn select(
         &self,
         value: &Term,
-        before: Behind,
+        pipeline: Pipeline,
         frame: &Frame<'_>,
-    ) -> Result<Option<Behind>, AllocError>
-        ensures { IfOk result (λ found. found_stage found
-            ≡ select_stage (schemas_of self.now.store.now) (trees_in self.now.store.now) (places_at self.now frame.now) value.now (stage_in before)) }
+    ) -> Result<Pipeline, TermError>
+        ensures { GivesStage (operator_at self.now frame.now (query.Select value.now)
+            (stage_in pipeline)) result }
     {
-        let Some(value) = self.of_item(value, &before.variables, frame)? else {
-            return Ok(None);
-        };
-        let Behind { form, .. } = before;
-        stage_forms::selected(self.alloc, form, value)
+        let value = self.item_term(value, &pipeline.variables, frame)?;
+        let Pipeline { form, .. } = pipeline;
+        pipelines::select(self.alloc, form, value)
     }
 
-    /// `Select` of each item beside one more name's value; the name repeats none that is known.
+    /// `let`: `Select` of each item beside one more name's value; the name repeats none that is known.
     #[cycle(binding)]
-    fn named(
+    fn widen(
         &self,
         value: &Term,
         name: &Txt,
-        before: Behind,
+        pipeline: Pipeline,
         frame: &Frame<'_>,
-    ) -> Result<Option<Behind>, AllocError>
-        ensures { IfOk result (λ found. found_stage found
-            ≡ let_stage (schemas_of self.now.store.now) (trees_in self.now.store.now) (places_at self.now frame.now) name.now value.now (stage_in before)) }
+    ) -> Result<Pipeline, TermError>
+        ensures { GivesStage (operator_at self.now frame.now (query.Let name.now value.now)
+            (stage_in pipeline)) result }
     {
-        if !(&*frame).with(&before.variables).is_fresh(name.as_str()) {
-            return Ok(None);
+        if !(&*frame).with(&pipeline.variables).is_fresh(name.as_str()) {
+            return Err(TermError::IllTyped);
         }
         let item = frame.depth()?;
-        let Some(value) = self.of_item(value, &before.variables, frame)? else {
-            return Ok(None);
-        };
-        stage_forms::named(self.alloc, before, name, item, value)
+        let value = self.item_term(value, &pipeline.variables, frame)?;
+        pipelines::widen(self.alloc, pipeline, name, item, value)
     }
 
     /// `OrderBy`
     #[cycle(binding)]
-    fn ordered(
+    fn order_by(
         &self,
         keys: &[SortKey<Term>],
-        before: Behind,
+        pipeline: Pipeline,
         frame: &Frame<'_>,
-    ) -> Result<Option<Behind>, AllocError>
-        ensures { IfOk result (λ found. found_stage found
-            ≡ order_stage (schemas_of self.now.store.now) (trees_in self.now.store.now) (places_at self.now frame.now) keys.now (stage_in before)) }
+    ) -> Result<Pipeline, TermError>
+        ensures { GivesStage (operator_at self.now frame.now (query.OrderBy keys.now)
+            (stage_in pipeline)) result }
     {
-        let inner = (&*frame).with(&before.variables);
-        let Some(keys) = self.sort_keys(keys, &inner)? else {
-            return Ok(None);
-        };
-        Ok(Some(stage_forms::ordered(self.alloc, before, keys)?))
+        let inner = (&*frame).with(&pipeline.variables);
+        let keys = self.sort_keys(keys, &inner)?;
+        Ok(pipelines::order_by(self.alloc, pipeline, keys)?)
     }
 
     /// The key of `GroupBy`.
     #[cycle(binding)]
-    fn key(
+    fn group_key(
         &self,
         key: &Term,
         variables: &Variables,
         frame: &Frame<'_>,
-    ) -> Result<Option<Tree>, AllocError>
-        ensures { IfOk result (λ found. found ≡ option_and_then keyed_tree
-            (trees_in self.now.store.now key.now (with_item (places_at self.now frame.now) (pattern_in variables.now)))) }
+    ) -> Result<Tree, TermError>
+        ensures { Gives (group_key_at self.now frame.now (pattern_in variables.now) key.now)
+            result }
     {
-        let Some(key) = self.of_item(key, variables, frame)? else {
-            return Ok(None);
-        };
-        Ok(placed::keyed(key))
+        let key = self.item_term(key, variables, frame)?;
+        type_checks::key(key)
     }
 
     /// The element of `GroupBy`, which is the item where there is no other.
@@ -280,31 +235,30 @@ impl Binder<'_> {
         element: &Option<Term>,
         variables: &Variables,
         frame: &Frame<'_>,
-    ) -> Result<Option<Tree>, AllocError>
-        ensures { IfOk result (λ found. found ≡ element_tree (schemas_of self.now.store.now) (trees_in self.now.store.now) (places_at self.now frame.now)
-            (pattern_in variables.now) element.now) }
+    ) -> Result<Tree, TermError>
+        ensures { Gives (element_at self.now frame.now (pattern_in variables.now) element.now)
+            result }
     {
         match element {
-            Some(element) => self.of_item(element, variables, frame),
-            None => stage_forms::item(self.alloc, variables, frame.depth()?),
+            Some(element) => self.item_term(element, variables, frame),
+            None => Ok(pipelines::item(self.alloc, variables, frame.depth()?)?),
         }
     }
 
     /// `GroupBy` with this key.
     #[cycle(binding)]
-    fn grouped(
+    fn group_by(
         &self,
         element: &Option<Term>,
         key: Tree,
-        before: Behind,
+        pipeline: Pipeline,
         frame: &Frame<'_>,
-    ) -> Result<Option<Behind>, AllocError>
-        ensures { IfOk result (λ found. found_stage found ≡ grouped_stage (schemas_of self.now.store.now) (trees_in self.now.store.now) (places_at self.now frame.now)
-            element.now (stage_in before) key) }
+    ) -> Result<Pipeline, TermError>
+        ensures { GivesStage (groups_at self.now frame.now element.now (stage_in pipeline) key)
+            result }
     {
-        let Some(element) = self.element(element, &before.variables, frame)? else {
-            return Ok(None);
-        };
-        stage_forms::grouped(self.alloc, before, key, element)
+        let element = self.element(element, &pipeline.variables, frame)?;
+        let Pipeline { form, .. } = pipeline;
+        pipelines::group_by(self.alloc, form, key, element)
     }
 }

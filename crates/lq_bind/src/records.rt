@@ -1,19 +1,20 @@
 //! The binding of records and of the keys of `orderby` (ECMA-334, anonymous object creation
 //! expressions and orderby clauses).
 use crate::binder::Binder;
+use crate::error::TermError;
 use crate::frames::Frame;
-use crate::{fields, placed};
+use crate::operations::into_form;
+use crate::{fields, type_checks};
 use lq_grammar::{Field, SortKey};
 use lq_language::Term;
 use lq_tree::{Form, Tree};
 use lq_value::{List, Txt};
-use std::alloc::AllocError;
 
 impl Binder<'_> {
-    ghost use Rattle.std.specs.Prelude.{◌≡◌, IfOk};
-    ghost use Rattle.lq_machine.specs.States.{schemas_of};
-    ghost use Rattle.lq_tree.specs.Binding.{field_tree, gathered, key_tree, record_tree};
-    ghost use Rattle.lq_bind.specs.Bound.{places_at, trees_in};
+    ghost use Rattle.lq_grammar.specs.declared.syntax.Node.TheVariants as expression;
+    ghost use Rattle.lq_tree.specs.Binding.{gathered};
+    ghost use Rattle.lq_bind.specs.Bound.{field_at, node_at, sort_key_at};
+    ghost use Rattle.lq_bind.specs.Outcomes.{Gives};
 
     /// A record of members with different names.
     #[cycle(binding)]
@@ -22,17 +23,14 @@ impl Binder<'_> {
         &self,
         fields: &List<Field<Term>>,
         frame: &Frame<'_>,
-    ) -> Result<Option<Tree>, AllocError>
-        ensures { IfOk result (λ found. found
-            ≡ record_tree (schemas_of self.now.store.now) (trees_in self.now.store.now) fields.now (places_at self.now frame.now)) }
+    ) -> Result<Tree, TermError>
+        ensures { Gives (node_at self.now frame.now (expression.New fields.now)) result }
     {
         if !fields::are_distinct(fields.as_slice()) {
-            return Ok(None);
+            return Err(TermError::IllTyped);
         }
-        let Some(members) = self.fields(fields.as_slice(), frame)? else {
-            return Ok(None);
-        };
-        Ok(placed::within(fields::record(self.alloc, members)?))
+        let members = self.fields(fields.as_slice(), frame)?;
+        type_checks::within_limit(fields::record(self.alloc, members)?)
     }
 
     /// The members of a record.
@@ -41,38 +39,26 @@ impl Binder<'_> {
         &self,
         fields: &[Field<Term>],
         frame: &Frame<'_>,
-    ) -> Result<Option<List<Field<Tree>>>, AllocError>
-        ensures { IfOk result (λ found. found
-            ≡ gathered (field_tree (schemas_of self.now.store.now) (trees_in self.now.store.now) (places_at self.now frame.now)) fields.now) }
+    ) -> Result<List<Field<Tree>>, TermError>
+        ensures { Gives (gathered (field_at self.now frame.now) fields.now) result }
     {
         let mut members = List::new(self.alloc);
         for field in fields {
-            let Some(member) = self.field(field, frame)? else {
-                return Ok(None);
-            };
+            let member = self.field(field, frame)?;
             members.push(member)?;
         }
-        Ok(Some(members))
+        Ok(members)
     }
 
     /// A member of a record, which is not null by its type.
     #[cycle(binding)]
-    fn field(
-        &self,
-        field: &Field<Term>,
-        frame: &Frame<'_>,
-    ) -> Result<Option<Field<Tree>>, AllocError>
-        ensures { IfOk result (λ found. found
-            ≡ field_tree (schemas_of self.now.store.now) (trees_in self.now.store.now) (places_at self.now frame.now) field.now) }
+    fn field(&self, field: &Field<Term>, frame: &Frame<'_>) -> Result<Field<Tree>, TermError>
+        ensures { Gives (field_at self.now frame.now field.now) result }
     {
-        let Some(value) = self.term(&field.value, frame)? else {
-            return Ok(None);
-        };
-        let Some(value) = placed::placed(value) else {
-            return Ok(None);
-        };
+        let value = self.term(&field.value, frame)?;
+        let value = type_checks::not_null(value)?;
         let name = Txt::from_str(self.alloc, field.name.as_str())?;
-        Ok(Some(Field { name, value }))
+        Ok(Field { name, value })
     }
 
     /// The keys of `orderby`.
@@ -81,39 +67,27 @@ impl Binder<'_> {
         &self,
         keys: &[SortKey<Term>],
         frame: &Frame<'_>,
-    ) -> Result<Option<List<SortKey<Form>>>, AllocError>
-        ensures { IfOk result (λ found. found
-            ≡ gathered (key_tree (schemas_of self.now.store.now) (trees_in self.now.store.now) (places_at self.now frame.now)) keys.now) }
+    ) -> Result<List<SortKey<Form>>, TermError>
+        ensures { Gives (gathered (sort_key_at self.now frame.now) keys.now) result }
     {
-        let mut bound = List::new(self.alloc);
+        let mut forms = List::new(self.alloc);
         for key in keys {
-            let Some(found) = self.sort_key(key, frame)? else {
-                return Ok(None);
-            };
-            bound.push(found)?;
+            let form = self.sort_key(key, frame)?;
+            forms.push(form)?;
         }
-        Ok(Some(bound))
+        Ok(forms)
     }
 
     /// A key of `orderby`, which is of a type that it sorts by.
     #[cycle(binding)]
-    fn sort_key(
-        &self,
-        key: &SortKey<Term>,
-        frame: &Frame<'_>,
-    ) -> Result<Option<SortKey<Form>>, AllocError>
-        ensures { IfOk result (λ found. found
-            ≡ key_tree (schemas_of self.now.store.now) (trees_in self.now.store.now) (places_at self.now frame.now) key.now) }
+    fn sort_key(&self, key: &SortKey<Term>, frame: &Frame<'_>) -> Result<SortKey<Form>, TermError>
+        ensures { Gives (sort_key_at self.now frame.now key.now) result }
     {
-        let Some(value) = self.term(&key.value, frame)? else {
-            return Ok(None);
-        };
-        let Some(Tree { form, .. }) = placed::sortable(value) else {
-            return Ok(None);
-        };
-        Ok(Some(SortKey {
-            value: form.into_inner(),
+        let value = self.term(&key.value, frame)?;
+        let value = type_checks::sort_key(value)?;
+        Ok(SortKey {
+            value: into_form(value).into_inner(),
             descending: key.descending,
-        }))
+        })
     }
 }

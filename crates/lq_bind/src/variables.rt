@@ -2,7 +2,7 @@
 ghost use Rattle.std.specs.Prelude.{◌≡◌, [], IfOk, option_map};
 ghost use Rattle.lq_language.specs.Operators.{One, With, pair_type, pattern_type, unnamed};
 ghost use Rattle.lq_tree.specs.Places.{place_of, places_of};
-ghost use Rattle.lq_bind.specs.Frames.{is_among, pattern_in, tree_at};
+ghost use Rattle.lq_bind.specs.Frames.{is_among, pattern_in, place_tree};
 
 use lq_tree::{Form, Tree};
 use lq_typing::copy_ty;
@@ -19,16 +19,9 @@ pub(crate) enum Variables {
     With(Held<Variables>, Txt, Ty),
 }
 
-/// What stands behind a call: the form of a sequence, and what its items stand for.
-#[derive(Drop)]
-pub(crate) struct Behind {
-    pub(crate) variables: Variables,
-    pub(crate) form: Held<Form>,
-}
-
 /// The type of a pair.
 fn pair_type(alloc: Global, first: Ty, second: Ty) -> Result<Ty, AllocError>
-    ensures { IfOk result (λ made. made ≡ pair_type first second) }
+    ensures { IfOk result (λ ty. ty ≡ pair_type first second) }
 {
     let mut members = List::new(alloc);
     members.push((Txt::from_str(alloc, "")?, first))?;
@@ -39,7 +32,7 @@ fn pair_type(alloc: Global, first: Ty, second: Ty) -> Result<Ty, AllocError>
 /// The one variable of an item that no name stands for.
 #[tactic(auto, using(crate::proofs::FrameLemmas::patterns))]
 pub(crate) fn unnamed(alloc: Global, ty: Ty) -> Result<Variables, AllocError>
-    ensures { IfOk result (λ made. pattern_in made ≡ unnamed ty) }
+    ensures { IfOk result (λ variables. pattern_in variables ≡ unnamed ty) }
 {
     Ok(Variables::One(Txt::from_str(alloc, "")?, ty))
 }
@@ -51,9 +44,9 @@ impl Variables {
         ensures { result ≡ is_among name.now (pattern_in self.now) }
     {
         match self {
-            Variables::One(known, _) => known.as_str() == name,
-            Variables::With(before, known, _) => {
-                known.as_str() == name || before.get().has(name)
+            Variables::One(variable, _) => variable.as_str() == name,
+            Variables::With(others, variable, _) => {
+                variable.as_str() == name || others.get().has(name)
             }
         }
     }
@@ -66,20 +59,21 @@ impl Variables {
         name: &str,
         item: Held<Form>,
     ) -> Result<Option<Tree>, AllocError>
-        ensures { IfOk result (λ found. found ≡ option_map tree_at (place_of name.now (places_of (pattern_in self.now) item []))) }
+        ensures { IfOk result (λ tree. tree
+            ≡ option_map place_tree (place_of name.now (places_of (pattern_in self.now) item []))) }
     {
         match self {
-            Variables::One(known, ty) => {
-                if known.as_str() != name {
+            Variables::One(variable, ty) => {
+                if variable.as_str() != name {
                     return Ok(None);
                 }
                 let ty = copy_ty(alloc, ty)?;
                 Ok(Some(Tree { ty, form: item }))
             }
-            Variables::With(before, known, ty) => {
-                if known.as_str() != name {
+            Variables::With(others, variable, ty) => {
+                if variable.as_str() != name {
                     let first = Held::new(alloc, Form::First(item))?;
-                    return before.get().find(alloc, name, first);
+                    return others.get().find(alloc, name, first);
                 }
                 let ty = copy_ty(alloc, ty)?;
                 let form = Held::new(alloc, Form::Second(item))?;
@@ -91,13 +85,13 @@ impl Variables {
     /// The type of the item, copied.
     #[tactic(auto, using(crate::proofs::FrameLemmas::patterns))]
     pub(crate) fn item_type(&self, alloc: Global) -> Result<Ty, AllocError>
-        ensures { IfOk result (λ made. made ≡ pattern_type (pattern_in self.now)) }
+        ensures { IfOk result (λ ty. ty ≡ pattern_type (pattern_in self.now)) }
     {
         match self {
             Variables::One(_, ty) => copy_ty(alloc, ty),
-            Variables::With(before, _, ty) => {
-                let before = before.get().item_type(alloc)?;
-                pair_type(alloc, before, copy_ty(alloc, ty)?)
+            Variables::With(others, _, ty) => {
+                let others = others.get().item_type(alloc)?;
+                pair_type(alloc, others, copy_ty(alloc, ty)?)
             }
         }
     }
@@ -105,13 +99,13 @@ impl Variables {
     /// The type of the item.
     #[tactic(auto, using(crate::proofs::FrameLemmas::patterns))]
     pub(crate) fn into_type(self, alloc: Global) -> Result<Ty, AllocError>
-        ensures { IfOk result (λ made. made ≡ pattern_type (pattern_in self)) }
+        ensures { IfOk result (λ ty. ty ≡ pattern_type (pattern_in self)) }
     {
         match self {
             Variables::One(_, ty) => Ok(ty),
-            Variables::With(before, _, ty) => {
-                let before = before.into_inner().into_type(alloc)?;
-                pair_type(alloc, before, ty)
+            Variables::With(others, _, ty) => {
+                let others = others.into_inner().into_type(alloc)?;
+                pair_type(alloc, others, ty)
             }
         }
     }

@@ -133,8 +133,8 @@ fn answer_input<W: Write>(
         Input::End => return Ok(Next::Nothing),
         Input::TooLong =>
             "The line has more than 65,536 bytes, and was not read: write a shorter one.\n",
-        Input::NoText => "The line is no UTF-8 text, and was not read: write it in UTF-8.\n",
-        Input::NoMemory => "There is no memory for the line: write a shorter one.\n",
+        Input::NoText => "The line is not UTF-8, and was not read: write it in UTF-8.\n",
+        Input::NoMemory => "There was not enough memory for the line: write a shorter one.\n",
     };
     write_answer(writer, sentence.as_bytes())?;
     Ok(Next::Line)
@@ -160,7 +160,7 @@ fn answer_line<W: Write>(
         Ok(Answer::End) => return Ok(Next::Nothing),
         Err(AllocError) => write_answer(
             writer,
-            b"There is no memory for that: nothing was done.\n",
+            b"There was not enough memory for that, and nothing was done.\n",
         )?,
     }
     Ok(Next::Line)

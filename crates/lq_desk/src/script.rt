@@ -13,6 +13,6 @@ pub(crate) fn read_script(rt: &HostRuntime, file: &str) -> Result<Vec<u8>, &'sta
         }
         Ok(bytes) => Ok(bytes),
         Err(FileError::Read) => Err("There is no file of this name that can be read.\n"),
-        Err(FileError::Memory) => Err("There is no memory for the script.\n"),
+        Err(FileError::Memory) => Err("There was not enough memory for the script.\n"),
     }
 }

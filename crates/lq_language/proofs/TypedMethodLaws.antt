@@ -29,7 +29,7 @@ use Rattle.lq_language.specs.Operations.{of_member, on_ok, truth_of}
 use Rattle.lq_language.specs.Stream.{Stream, first_keys, select_by, where_by}
 use Rattle.lq_language.specs.Types.{element_type, if_placed, is_key, same_types, when}
 use Rattle.lq_language.specs.Names.{column_type}
-use Rattle.lq_language.specs.OperandTypes.{is_bool, is_number, row_table}
+use Rattle.lq_language.specs.OperandTypes.{is_bool, is_number}
 use Rattle.lq_language.specs.Meaning.{as_sequence, as_truth, default_of, given_meaning, has_members, is_sequence_layer, member_found, none_there, number_of, numbers, on_number, settled, simple_meaning, through_meaning, value_of_member}
 use Rattle.lq_language.specs.MeaningLaws.{by_sequence, by_scalar}
 use Rattle.lq_language.specs.Typing.{converts, given_type, has_default, if_same, is_int, member_of, simple_type, through_type}
@@ -38,7 +38,7 @@ use Rattle.lq_language.proofs.ItemLaws.{every_filter, every_none, first_of, othe
 use Rattle.lq_language.proofs.FindingLaws.{map_by, when_by}
 use Rattle.lq_language.proofs.ScalarResultLaws.{Gives, faults, gives}
 use Rattle.lq_language.proofs.SameTypeLaws.{same_type}
-use Rattle.lq_language.proofs.ValueLaws.{Gets, Is, RecordOrNull, RowOrNull, a_record, a_row, default_is, every_default, every_drop, every_reversed, every_taken, every_whole, gets_element, gets_err, gets_extreme, gets_first, gets_last, gets_ok, gets_sequence, gets_single, gets_sum, gets_truth, group_value, has_member, is_plain, no_record, no_row, plain_value, record_value, row_value, sequence_value}
+use Rattle.lq_language.proofs.ValueLaws.{Gets, Is, RecordOrNull, RowOrNull, a_record, a_row, default_is, every_default, every_drop, every_reversed, every_taken, every_whole, gets_element, gets_err, gets_extreme, gets_first, gets_last, gets_ok, gets_sequence, gets_single, gets_sum, gets_truth, group_value, has_member, is_plain, no_members, no_record, no_row, plain_value, record_value, row_value, sequence_value}
 
 module _ {R : Type 0} (world : World R) where
   -- ---- methods without an argument
@@ -296,11 +296,6 @@ module _ {R : Type 0} (world : World R) (f g : Fault) where
       (sym (outs-value-Group found.0 found.1)) (agree_ok (Is world k) found.0 found.3))
 
   -- a member of a scalar, null or not, is found by its name
-  no_members : (layer : Ty-F Ty) → is_plain layer ≡ true → (has_members layer ≡ false) × (row_table layer ≡ None)
-  no_members (Ty-F.Row n) h = absurd (true≢false (sym h))
-  no_members (Ty-F.Rec ms) h = absurd (true≢false (sym h))
-  no_members layer h = (refl, refl)
-
   of_scalar : (w : World R) (t : Ty) (m : List ℕ) (s : Scalar) → is_plain (out-Ty t) ≡ true → value_of_member w (Some t) m (Value-F.Scalar s) ≡ as_value (of_member w.unknown (member_named m) s)
   of_scalar w t m scalar.Null plain =
       let none = no_members (out-Ty t) plain in

@@ -26,7 +26,7 @@ use Rattle.lq_language.proofs.FindingLaws.{when_by}
 use Rattle.lq_language.proofs.ScalarResultLaws.{Decides, Widens, chosen_widens, coalesced_fits, comparable_same}
 use Rattle.lq_language.proofs.SameTypeLaws.{same_type}
 use Rattle.lq_language.proofs.TypingLaws.{is_of_layer, type_with}
-use Rattle.lq_language.proofs.ValueLaws.{Is, RecordOrNull, RowOrNull, a_record, a_row, group_value, is_plain, no_record, no_row, plain_value, record_value, row_value, truth_is}
+use Rattle.lq_language.proofs.ValueLaws.{Is, RecordOrNull, RowOrNull, a_record, a_row, group_value, is_plain, no_record, no_row, null_scalar, plain_value, record_value, row_value, truth_is}
 
 -- ---- what `==` compares
 
@@ -81,10 +81,6 @@ module _ {R : Type 0} (world : World R) where
   null_of : (t : Ty) (v : Value R) → out-Ty t ≡ Ty-F.Null → Is world t v → v ≡ value.Scalar scalar.Null
   null_of t v is fits =
       let found = plain_value world t v (ap is_plain is) fits in found.1 ∙ ap value.Scalar (null_scalar found.0 (subst (λ (u : Ty-F Ty). IsScalarOf u found.0) is found.2))
-    where
-      null_scalar : (s : Scalar) → IsScalarOf Ty-F.Null s → s ≡ scalar.Null
-      null_scalar scalar.Null fits = refl
-      null_scalar s fits = absurd fits
 
   two_nulls : (v w : Value R) → v ≡ value.Scalar scalar.Null → w ≡ value.Scalar scalar.Null → DecidesSame v w
   two_nulls v w v_is w_is = at_layers v w _ _ _ _ v_is w_is (outs-Scalar scalar.Null) (outs-Scalar scalar.Null) (true, λ unknown. refl)

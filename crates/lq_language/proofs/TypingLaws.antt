@@ -229,7 +229,7 @@ sound_null : IsSound (expr.Node node.Null)
 sound_null names t h = subst (HasRuleType names (expr.Node node.Null)) (same_Some ty.Null t (sym (type_null names) ∙ h)) (of_null names (expr.Node node.Null) refl)
 
 -- the same member by another name that is the same
-named : (a : Expr) (m n : List ℕ) → bytes_eq m n ≡ true → expr.Node (node.Member a m) ≡ expr.Node (node.Member a n)
+pub named : (a : Expr) (m n : List ℕ) → bytes_eq m n ≡ true → expr.Node (node.Member a m) ≡ expr.Node (node.Member a n)
 named a m n same = ap (λ (k : List ℕ). expr.Node (node.Member a k)) ((bytes_eq-Decides m n).0 same)
 
 module _ (names : Names) (a : Expr) (m : List ℕ) (t : Ty) where

@@ -2,7 +2,6 @@
 use Rattle.std.proofs.Common.{◌≡◌, ◌∷◌, ◌&&◌, ◌||◌, if◌then◌else◌, List, [], map, ℕ, Bool, true, false, Option, Some, None, codes, bytes_eq, ap, ap₂, ◌∙◌, sym, refl, subst, option_and_then, option_map, true≢false}
 use Rattle.std.proofs.lemmas.Bool.{and_parts}
 use Rattle.std.proofs.lemmas.Option.{none-some, option_and_then_some, same_Some}
-use Rattle.std.proofs.lemmas.Slice.Eq.{bytes_eq-Decides}
 use Rattle.lq_value.specs.declared.ty.Ty.{Ty, out-Ty}
 use Rattle.lq_value.specs.declared.ty.Ty.TheOpen.{Ty-F}
 use Rattle.lq_value.specs.declared.ty.Ty.TheVariants as ty
@@ -39,7 +38,7 @@ use Rattle.lq_language.proofs.ExpressionTypeLaws.{type_of_node, type_of_query}
 use Rattle.lq_language.proofs.FindingLaws.{fresh_none, if_by, map_by, operands_by, truth_by, when_by}
 use Rattle.lq_language.proofs.LayerLaws.{With as Beside, base, of_every}
 use Rattle.lq_language.proofs.MemberLaws.{search_given}
-use Rattle.lq_language.proofs.TypingLaws.{compares_not, is_of_layer, is_text_of, is_truth, type_with}
+use Rattle.lq_language.proofs.TypingLaws.{compares_not, is_of_layer, is_text_of, is_truth, named, type_with}
 
 abbrev Sound : Expr → Type 0
 Sound e = (names : Names) (t : Ty) → expression_type e names ≡ Some t → IsRight (Has names e t)
@@ -99,9 +98,6 @@ module _ (names : Names) (t : Ty) where
   name_sound : (x : List ℕ) (o : Option Ty) → local_type x names.locals ≡ o → type_of_name names x o ≡ Some t → HasIt (expr.Node (node.Name x))
   name_sound x (Some s) is h = rule.of_local names _ x t refl (is ∙ h)
   name_sound x None is h = global_sound x is (table_number x names.tables) refl h
-
-  named : (a : Expr) (m n : List ℕ) → bytes_eq m n ≡ true → expr.Node (node.Member a m) ≡ expr.Node (node.Member a n)
-  named a m n same = ap (λ (k : List ℕ). expr.Node (node.Member a k)) ((bytes_eq-Decides m n).0 same)
 
   value_sound : (a : Expr) (m : List ℕ) → Right a ty.IntN → (if bytes_eq m (codes "Value") then Some ty.Int else None) ≡ Some t → HasIt (expr.Node (node.Member a m))
   value_sound a m typed h =

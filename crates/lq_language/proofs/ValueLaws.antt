@@ -1,5 +1,5 @@
 -- Values of a type, as the operators, members and methods take them.
-use Rattle.std.proofs.Common.{◌≡◌, ◌∷◌, if◌then◌else◌, List, [], drop, reverse, ℕ, zero, suc, ℤ, pos, negsuc, ◌+ℤ◌, Bool, true, false, Some, Result, Ok, Err, ap, ◌∙◌, sym, refl, subst, bytes_eq, true≢false}
+use Rattle.std.proofs.Common.{◌≡◌, ◌∷◌, if◌then◌else◌, List, [], drop, reverse, ℕ, zero, suc, ℤ, pos, negsuc, ◌+ℤ◌, Bool, true, false, Some, None, Result, Ok, Err, ap, ◌∙◌, sym, refl, subst, bytes_eq, true≢false}
 use Rattle.std.proofs.lemmas.List.{reverse-append}
 use Rattle.std.proofs.lemmas.Option.{none-some, same_Some}
 use Rattle.lq_value.specs.declared.scalar.Scalar.{Scalar}
@@ -21,8 +21,8 @@ use Rattle.lq_language.specs.OperandMeaning.{as_value, truth_value}
 use Rattle.lq_language.specs.ValuesOfTypes.{Every, HasCells, IsScalarOf}
 use Rattle.lq_language.specs.Operations.{is_int as holds_int}
 use Rattle.lq_language.specs.Stream.{Stream, whole}
-use Rattle.lq_language.specs.OperandTypes.{are_joined, is_number, is_scalar}
-use Rattle.lq_language.specs.Meaning.{as_sequence, as_truth, default_layer, default_of, member_in, no_number}
+use Rattle.lq_language.specs.OperandTypes.{are_joined, is_number, is_scalar, row_table}
+use Rattle.lq_language.specs.Meaning.{as_sequence, as_truth, default_layer, default_of, has_members, member_in, no_number}
 use Rattle.lq_language.specs.MeaningLaws.{AreMembers, Fits, IsA, IsValueOf, ValueClaim, by_group, by_null_record, by_record, by_row, by_scalar, by_sequence, no_member, one_member}
 use Rattle.lq_language.specs.Typing.{has_default, is_int, member_of}
 use Rattle.lq_language.proofs.AlikeStreamLaws.{every_append}
@@ -55,6 +55,17 @@ joined_plain Ty-F.Str Ty-F.Str h = (refl, refl)
 joined_plain Ty-F.Str Ty-F.Null h = (refl, refl)
 joined_plain Ty-F.Null Ty-F.Str h = (refl, refl)
 joined_plain k l h = absurd (true≢false (sym h))
+
+-- a plain type has neither members of a record nor columns of a table
+pub no_members : (layer : Ty-F Ty) → is_plain layer ≡ true → (has_members layer ≡ false) × (row_table layer ≡ None)
+no_members (Ty-F.Row n) h = absurd (true≢false (sym h))
+no_members (Ty-F.Rec ms) h = absurd (true≢false (sym h))
+no_members layer h = (refl, refl)
+
+-- the one scalar of the type of null
+pub null_scalar : (s : Scalar) → IsScalarOf Ty-F.Null s → s ≡ scalar.Null
+null_scalar scalar.Null fits = refl
+null_scalar s fits = absurd fits
 
 module _ {R : Type 0} (world : World R) where
   abbrev pub Is : Ty → Value R → Type 0

@@ -2,6 +2,7 @@ pub mod DefinitionLaws
 pub mod KeptDefinitionLaws
 pub mod MachineMeaningLaws
 pub mod NestedFaultLemmas
+pub mod OpenedLaws
 pub mod OpeningLemmas
 pub mod OutputLaws
 pub mod SeenTableLaws

@@ -19,6 +19,7 @@ use Rattle.lq_grammar.specs.declared.token.Kind.{Kind}
 use Rattle.lq_grammar.specs.declared.token.Kind.TheVariants as k
 use Rattle.lq_grammar.specs.declared.token.Token.{Token}
 use Rattle.lq_security.proofs.MembershipLaws.{has_cases, has_first, has_later, none_in_nil}
+use Rattle.lq_machine.proofs.OpenedLaws.{size_more}
 
 -- ---- the first definition of a name
 
@@ -187,10 +188,6 @@ module _ (definitions : List Definition) (line : List ℕ) where
   size_is : (n : ℕ) (xs : List Opened) → size_with n xs ≡ n + size_with 0 xs
   size_is n [] = omega arith
   size_is n (x ∷ xs) = let here = size_is (n + x.size) xs in let there = size_is (0 + x.size) xs in omega (arith, here, there)
-
-  size_more : (n : ℕ) (xs ys : List Opened) → size_with n (xs ++ ys) ≡ size_with (size_with n xs) ys
-  size_more n [] ys = refl
-  size_more n (x ∷ xs) ys = size_more (n + x.size) xs ys
 
   -- what each token adds
   abbrev added_from : Kind → List Token → List ℕ

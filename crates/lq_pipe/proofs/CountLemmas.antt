@@ -19,8 +19,7 @@ use Rattle.lq_language.specs.declared.methods.Simple.{Simple}
 use Rattle.lq_language.specs.declared.methods.Simple.TheVariants as simple
 use Rattle.lq_operators.specs.Tallies.{begins, goes_on, tallied, told}
 use Rattle.lq_operators.specs.declared.numbers.Tally.{Tally}
-use Rattle.lq_operators.specs.declared.numbers.Tally.TheVariants as tally
-use Rattle.lq_operators.proofs.NumberLaws.{begun}
+use Rattle.lq_operators.proofs.NumberLaws.{begun, told_is}
 use Rattle.lq_pipe.specs.Counts.{needed, needed_by, read, up_to}
 use Rattle.lq_pipe.proofs.PullLemmas.{left_opened}
 
@@ -35,11 +34,6 @@ none_some {A} {x} is = subst (λ (o : Option A). is_none o) is tt where
   is_none : Option A → Type 0
   is_none None = Unit {0}
   is_none (Some y) = ⊥
-
-told_is : (R : Type 0) (t : Ty) (k : Tally) (e : End) → told t k e ≡ tallied {R = R} t k ([], e)
-told_is R t (tally.Count n) e = refl
-told_is R t (tally.Sum n) e = refl
-told_is R t (tally.Best which best) e = refl
 
 module _ {R : Type 0} where
   -- one item settles `First`, and two settle `Single`

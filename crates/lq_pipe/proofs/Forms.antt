@@ -11,12 +11,12 @@ use Rattle.lq_language.specs.Worlds.{World}
 use Rattle.lq_language.specs.OperandMeaning.{as_value, is_null, on_scalar, on_truth, sequence, scalar_of, stream_of, table_value, truth_value}
 use Rattle.lq_language.specs.ClauseMeaning.{as_group}
 use Rattle.lq_language.specs.Operations.{of_one, of_two, on_ok}
+use Rattle.lq_language.specs.Enumerable.{all}
 use Rattle.lq_language.specs.Operators.{first, pair, second}
 use Rattle.lq_language.specs.Stream.{Stream, expand_by, group_by}
-use Rattle.lq_language.specs.Meaning.{given_meaning, simple_meaning, through_meaning}
+use Rattle.lq_language.specs.Meaning.{as_truth, given_meaning, simple_meaning}
 use Rattle.lq_language.specs.declared.methods.Given.{Given}
 use Rattle.lq_language.specs.declared.methods.Simple.{Simple}
-use Rattle.lq_language.specs.declared.methods.Through.{Through}
 use Rattle.lq_language.specs.declared.operation.Op.{Op}
 use Rattle.lq_grammar.specs.declared.syntax.Field.{Field}
 use Rattle.lq_grammar.specs.declared.syntax.SortKey.{SortKey}
@@ -28,6 +28,7 @@ use Rattle.lq_tree.specs.declared.tree.Form.TheOpen.{Form-F}
 use Rattle.lq_tree.specs.declared.tree.Form.TheVariants as form
 use Rattle.lq_tree.specs.declared.tree.Joined.{Joined}
 use Rattle.lq_pipe.specs.Lists.{field_means, joined_means, key_means}
+use Rattle.lq_pipe.specs.Pulling.{through_select, through_where}
 
 module _ {R : Type 0} (world : World R) where
   abbrev layer_meaning : Form-F Form → Means R
@@ -136,11 +137,19 @@ module _ {R : Type 0} (world : World R) where
       ≡ given_meaning world method (form_meaning world b slots) (stream_of world (form_meaning world a slots))
   form_given method a b slots = at _ _ slots (form.outs-Given method a b)
 
-  pub form_through : (method : Through) (t u : Ty) (a f : Form) (slots : Slots R)
-      → form_meaning world (form.Through method t u a f) slots
-      ≡ through_meaning world method t u (λ v. is_true world (form_meaning world f) (with_item world slots v))
-      (λ v. form_meaning world f (with_item world slots v)) (stream_of world (form_meaning world a slots))
-  form_through method t u a f slots = at _ _ slots (form.outs-Through method t u a f)
+  pub form_where : (a f : Form) (slots : Slots R)
+      → form_meaning world (form.Where a f) slots ≡ Ok (sequence (through_where world slots f (stream_of world (form_meaning world a slots))))
+  form_where a f slots = at _ _ slots (form.outs-Where a f)
+
+  pub form_select : (a f : Form) (slots : Slots R)
+      → form_meaning world (form.Select a f) slots ≡ Ok (sequence (through_select world slots f (stream_of world (form_meaning world a slots))))
+  form_select a f slots = at _ _ slots (form.outs-Select a f)
+
+  pub form_all : (a f : Form) (slots : Slots R)
+      → form_meaning world (form.All a f) slots
+      ≡ as_truth (all (λ v. is_true world (form_meaning world f) (with_item world slots v)) (stream_of world (form_meaning world a slots)).0
+      (stream_of world (form_meaning world a slots)).1)
+  form_all a f slots = at _ _ slots (form.outs-All a f)
 
   pub form_select_many : (a inner result : Form) (slots : Slots R)
       → form_meaning world (form.SelectMany a inner result) slots
@@ -178,6 +187,17 @@ module _ {R : Type 0} (world : World R) where
       ∙ ap (λ m. on_ok m (λ w. Ok (truth_value (if wanted then is_null_value world (out-Value R w) else not (is_null_value world (out-Value R w)))))) is
       ∙ ap (λ w. Ok (truth_value (if wanted then is_null_value world (out-Value R w) else not (is_null_value world (out-Value R w))))) (sym same)
       ∙ ap (λ c. Ok (truth_value c)) (sym told)
+
+  pub all_answer : (g a f a' f' : Form) (slots : Slots R) (answer : Result (Value R) RunError) → g ≡ form.All a f → a' ≡ a → f' ≡ f
+      → IsAnswer
+      (as_truth
+      (all (λ v. is_true world (form_meaning world f') (with_item world slots v)) (stream_of world (form_meaning world a' slots)).0
+      (stream_of world (form_meaning world a' slots)).1))
+      answer
+      → IsAnswer (form_meaning world g slots) answer
+  all_answer g a f a' f' slots answer is source_is condition_is h =
+      subst (λ m. IsAnswer m answer)
+      (sym (form_all a' f' slots) ∙ ap (λ x. form_meaning world x slots) ((λ i. form.All (source_is i) (condition_is i)) ∙ sym is)) h
 
   pub given_answer : (method : Given) (a b : Form) (slots : Slots R) (argument : Result (Value R) Fault) (items : Stream (Value R)) (answer : Result (Value R) RunError)
       → argument ≡ form_meaning world b slots → items ≡ stream_of world (form_meaning world a slots)

@@ -13,8 +13,7 @@ use Rattle.lq_tree.specs.declared.tree.Form.{Form}
 use Rattle.lq_tree.specs.declared.tree.Joined.{Joined}
 use Rattle.lq_tree.specs.declared.tree.Form.TheVariants as form
 use Rattle.lq_pipe.specs.Items.{expanded_of, groups_in, joined_of, keyed_of, with_key_of}
-use Rattle.lq_pipe.specs.Pulling.{pulled}
-use Rattle.lq_pipe.specs.declared.stages.Stage.TheVariants as stage
+use Rattle.lq_pipe.specs.Pulling.{through_select}
 use Rattle.lq_pipe.proofs.Forms.{form_group_by, form_join, form_select_many}
 
 module _ {R : Type 0} (world : World R) (S : Slots R) (x : Value R) (D : Slots R) where
@@ -36,7 +35,7 @@ module _ {R : Type 0} (world : World R) (S : Slots R) (x : Value R) (D : Slots R
 
   -- and so are those that are pulled with the item in its slot
   pub expanded_pulled : (inner result : Form) (E : Type 0) (answer : Result (Stream (Value R)) E) → D ≡ S ++ x ∷ []
-      → IfOk answer (λ s. s ≡ pulled world D stage.Select inner result) → IfOk answer (λ s. s ≡ expanded_of world S inner result x)
+      → IfOk answer (λ s. s ≡ through_select world D result (stream_of world (form_meaning world inner D))) → IfOk answer (λ s. s ≡ expanded_of world S inner result x)
   expanded_pulled inner result E answer slots h =
       let all = stream_of world (form_meaning world inner D) in
       expanded_is inner result all.0 all.0 all.1 E answer slots refl refl h

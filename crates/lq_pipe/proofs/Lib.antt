@@ -9,5 +9,6 @@ pub mod PreparedLemmas
 pub mod PullLemmas
 pub mod RowLemmas
 pub mod SlotLemmas
+pub mod StageSizes
 pub mod StreamLemmas
 pub mod TruthLemmas

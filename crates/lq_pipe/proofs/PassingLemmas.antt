@@ -1,17 +1,14 @@
 -- What a plan says of a row is what comes of it.
-use Rattle.std.proofs.Common.{◌≡◌, ◌∷◌, if◌then◌else◌, List, [], ℕ, Bool, true, false, Option, Some, None, Result, Ok, IfSome, ap, ◌∙◌, sym, subst, slice_get}
+use Rattle.std.proofs.Common.{◌≡◌, ◌∷◌, List, [], ℕ, Bool, true, false, Option, Some, None, Result, Ok, IfSome, ap, ◌∙◌, sym, subst, slice_get, Bor}
 use Rattle.std.specs.Prelude.{option_and_then}
 use Rattle.std.proofs.lemmas.Option.{none-some}
 use Rattle.lq_value.specs.declared.scalar.Scalar.{Scalar}
-use Rattle.lq_value.specs.declared.ty.Ty.{Ty}
 use Rattle.lq_value.specs.declared.value.End.TheVariants as end
 use Rattle.lq_value.specs.declared.value.Fault.{Fault}
 use Rattle.lq_value.specs.declared.value.Value.{Value}
 use Rattle.lq_value.specs.declared.value.Value.TheVariants as value
 use Rattle.lq_language.specs.Stream.{Stream, kept, one, then_stream}
 use Rattle.lq_language.specs.Worlds.{World}
-use Rattle.lq_language.specs.declared.methods.Through.{Through}
-use Rattle.lq_language.specs.declared.methods.Through.TheVariants as through
 use Rattle.lq_condition.specs.Verdicts.{IsBoth, both_verdicts, verdict}
 use Rattle.lq_condition.specs.declared.condition.Condition.{Condition}
 use Rattle.lq_condition.specs.declared.condition.Condition.TheVariants as condition
@@ -19,19 +16,19 @@ use Rattle.lq_condition.proofs.ConditionLaws.{verdict_constant, verdict_silent}
 use Rattle.lq_tree.specs.FormMeaning.{Slots, form_meaning, with_item}
 use Rattle.lq_tree.specs.declared.tree.Form.{Form}
 use Rattle.lq_tree.specs.declared.tree.Form.TheVariants as form
-use Rattle.lq_pipe.specs.Prepared.{Decides, DecidesPassing, DecidesStage, IsCell, kept_if, last, last_if}
-use Rattle.lq_pipe.specs.Pulling.{passed_at, staged}
+use Rattle.lq_pipe.specs.Prepared.{Decides, DecidesPassing, DecidesStage, IsCell}
+use Rattle.lq_pipe.specs.Pulling.{item_at, item_if, last_if, through_select, through_stage, through_where}
 use Rattle.lq_pipe.specs.Running.{truth_in}
 use Rattle.lq_pipe.specs.declared.stages.Stage.{Stage}
 use Rattle.lq_pipe.specs.declared.stages.Stage.TheVariants as stage
 use Rattle.lq_pipe.proofs.PreparedLemmas.{met}
-use Rattle.lq_pipe.proofs.PullLemmas.{base_table, passed_sequence, passed_where}
+use Rattle.lq_pipe.proofs.PullLemmas.{sequence_item, table_item, where_item}
 
 module _ {R : Type 0} (table_of : R → ℕ) (shown : R → List Scalar) (slots : Slots R) (world : World R) where
   -- ---- rows that pass
 
   abbrev comes : Option Bool → R → Stream (Value R) → Type 0
-  comes t r s = IfSome t (λ b. s ≡ kept_if table_of shown world slots b (value.Row r))
+  comes t r s = IfSome t (λ b. s ≡ item_if b (value.Row r))
 
   come : (t t' : Option Bool) (r : R) (s : Stream (Value R)) → t' ≡ t → comes t r s → comes t' r s
   come t t' r s is h = subst (λ o. comes o r s) (sym is) h
@@ -40,96 +37,85 @@ module _ {R : Type 0} (table_of : R → ℕ) (shown : R → List Scalar) (slots 
   passing_silent table f = record { at = λ r is. come None (verdict condition.Silent (shown r)) r _ (verdict_silent (shown r)) tt }
 
   pub passing_table : (table n : ℕ) → DecidesPassing table_of shown world slots table (form.Table n) (condition.Constant true)
-  passing_table table n = record { at = λ r is. come (Some true) (verdict (condition.Constant true) (shown r)) r _ (verdict_constant (shown r) true) (base_table world slots n (value.Row r)) }
+  passing_table table n = record { at = λ r is. come (Some true) (verdict (condition.Constant true) (shown r)) r _ (verdict_constant (shown r) true) (table_item world slots n (value.Row r)) }
 
   pub passing_sequence : (table : ℕ) (a : Form) (c : Condition) → DecidesPassing table_of shown world slots table a c → DecidesPassing table_of shown world slots table (form.Sequence a) c
-  passing_sequence table a c passing = record { at = λ r is. subst (λ s. comes (verdict c (shown r)) r s) (sym (passed_sequence world slots a (value.Row r))) (passing.at r is) }
+  passing_sequence table a c passing = record { at = λ r is. subst (λ s. comes (verdict c (shown r)) r s) (sym (sequence_item world slots a (value.Row r))) (passing.at r is) }
 
   where_met : (ta tf : Option Bool) (f : Form) (r : R) (s : Stream (Value R)) → comes ta r s → met tf (truth_in world (form_meaning world f (with_item world slots (value.Row r))))
-      → comes (both_verdicts ta tf) r (staged world slots stage.Where f s)
+      → comes (both_verdicts ta tf) r (through_where world slots f s)
   where_met None tf f r s hs hf = tt
-  where_met (Some false) tf f r s hs hf = ap (λ (z : Stream (Value R)). staged world slots stage.Where f z) hs
+  where_met (Some false) tf f r s hs hf = ap (λ (z : Stream (Value R)). through_where world slots f z) hs
   where_met (Some true) None f r s hs hf = tt
   where_met (Some true) (Some true) f r s hs hf =
-      ap (λ (z : Stream (Value R)). staged world slots stage.Where f z) hs
+      ap (λ (z : Stream (Value R)). through_where world slots f z) hs
       ∙ ap (λ (t : Result Bool Fault). then_stream (kept t (value.Row r)) ([], end.Done)) hf
   where_met (Some true) (Some false) f r s hs hf =
-      ap (λ (z : Stream (Value R)). staged world slots stage.Where f z) hs
+      ap (λ (z : Stream (Value R)). through_where world slots f z) hs
       ∙ ap (λ (t : Result Bool Fault). then_stream (kept t (value.Row r)) ([], end.Done)) hf
 
   where_at : (a f : Form) (table : ℕ) (ca cf c : Condition) → DecidesPassing table_of shown world slots table a ca → Decides table_of shown world slots table f cf
       → IsBoth ca cf c
-      → (r : R) → table_of r ≡ table → comes (verdict c (shown r)) r (staged world slots stage.Where f (passed_at world slots a (value.Row r)))
+      → (r : R) → table_of r ≡ table → comes (verdict c (shown r)) r (through_where world slots f (item_at world slots a (value.Row r)))
   where_at a f table ca cf c passing decides both r here =
       come _ (verdict c (shown r)) r _ (both.at (shown r)) (where_met (verdict ca (shown r)) (verdict cf (shown r)) f r _ (passing.at r here) (decides.at r here))
 
-  pub passing_where : (t u : Ty) (a f : Form) (table : ℕ) (ca cf c : Condition) → DecidesPassing table_of shown world slots table a ca → Decides table_of shown world slots table f cf
+  pub passing_where : (a f : Form) (table : ℕ) (ca cf c : Condition) → DecidesPassing table_of shown world slots table a ca → Decides table_of shown world slots table f cf
       → IsBoth ca cf c
-      → DecidesPassing table_of shown world slots table (form.Through through.Where t u a f) c
-  passing_where t u a f table ca cf c passing decides both = record {
+      → DecidesPassing table_of shown world slots table (form.Where a f) c
+  passing_where a f table ca cf c passing decides both = record {
     at = λ r here.
-        subst (λ s. comes (verdict c (shown r)) r s) (sym (passed_where world slots t u a f (value.Row r))) (where_at a f table ca cf c passing decides both r here);
+        subst (λ s. comes (verdict c (shown r)) r s) (sym (where_item world slots a f (value.Row r))) (where_at a f table ca cf c passing decides both r here);
   }
-
-  pub passing_where_at : (g : Form) (m : Through) (t u : Ty) (a f : Form) (table : ℕ) (ca cf c : Condition) → g ≡ form.Through m t u a f → m ≡ through.Where
-      → DecidesPassing table_of shown world slots table a ca → Decides table_of shown world slots table f cf → IsBoth ca cf c
-      → DecidesPassing table_of shown world slots table g c
-  passing_where_at g m t u a f table ca cf c is same passing decides both =
-      subst (λ h. DecidesPassing table_of shown world slots table h c) (sym (is ∙ ap (λ n. form.Through n t u a f) same)) (passing_where t u a f table ca cf c passing decides both)
 
   -- ---- stages
 
-  last_met : (t : Option Bool) (r : R) (s : Stream (Value R)) (st : Stage) (body : Form)
-      → ((b : Bool) → s ≡ kept_if table_of shown world slots b (value.Row r) → staged world slots st body s ≡ last_if table_of shown world slots b st body (value.Row r))
-      → comes t r s → IfSome t (λ b. staged world slots st body s ≡ last_if table_of shown world slots b st body (value.Row r))
-  last_met None r s st body goes h = tt
-  last_met (Some b) r s st body goes h = goes b h
+  abbrev says : Option Bool → Stage → R → Stream (Value R) → Type 0
+  says t st r s = IfSome t (λ b. through_stage world slots st s ≡ last_if world slots b st (value.Row r))
 
-  pub stage_plain : (source body : Form) (table : ℕ) (c : Condition) → DecidesPassing table_of shown world slots table source c
-      → DecidesStage table_of shown world slots stage.Plain source body table c
-  stage_plain source body table c passing = record { at = λ r here. last_met (verdict c (shown r)) r _ stage.Plain body (same r) (passing.at r here) }
-    where
-      same : (r : R) (b : Bool) → passed_at world slots source (value.Row r) ≡ kept_if table_of shown world slots b (value.Row r)
-          → passed_at world slots source (value.Row r) ≡ last_if table_of shown world slots b stage.Plain body (value.Row r)
-      same r true h = h
-      same r false h = h
+  plain_met : (t : Option Bool) (r : R) (s : Stream (Value R)) → comes t r s → says t stage.Plain r s
+  plain_met None r s h = tt
+  plain_met (Some true) r s h = h
+  plain_met (Some false) r s h = h
 
-  pub stage_select : (source body : Form) (table : ℕ) (c : Condition) → DecidesPassing table_of shown world slots table source c
-      → DecidesStage table_of shown world slots stage.Select source body table c
-  stage_select source body table c passing = record { at = λ r here. last_met (verdict c (shown r)) r _ stage.Select body (same r) (passing.at r here) }
-    where
-      same : (r : R) (b : Bool) → passed_at world slots source (value.Row r) ≡ kept_if table_of shown world slots b (value.Row r)
-          → staged world slots stage.Select body (passed_at world slots source (value.Row r)) ≡ last_if table_of shown world slots b stage.Select body (value.Row r)
-      same r true h = ap (λ (z : Stream (Value R)). staged world slots stage.Select body z) h
-      same r false h = ap (λ (z : Stream (Value R)). staged world slots stage.Select body z) h
+  pub stage_plain : (source : Form) (table : ℕ) (c : Condition) → DecidesPassing table_of shown world slots table source c
+      → DecidesStage table_of shown world slots stage.Plain source table c
+  stage_plain source table c passing = record { at = λ r here. plain_met (verdict c (shown r)) r _ (passing.at r here) }
 
-  where_last : (t : Option Bool) (r : R) (s : Stream (Value R)) (body : Form) → comes t r s → IfSome t (λ b. s ≡ last_if table_of shown world slots b stage.Where body (value.Row r))
+  select_met : (t : Option Bool) (r : R) (s : Stream (Value R)) (body : Bor Form) → comes t r s → says t (stage.Select body) r s
+  select_met None r s body h = tt
+  select_met (Some true) r s body h = ap (λ (z : Stream (Value R)). through_select world slots body.now z) h
+  select_met (Some false) r s body h = ap (λ (z : Stream (Value R)). through_select world slots body.now z) h
+
+  pub stage_select : (body : Bor Form) (source : Form) (table : ℕ) (c : Condition) → DecidesPassing table_of shown world slots table source c
+      → DecidesStage table_of shown world slots (stage.Select body) source table c
+  stage_select body source table c passing = record { at = λ r here. select_met (verdict c (shown r)) r _ body (passing.at r here) }
+
+  where_last : (t : Option Bool) (r : R) (s : Stream (Value R)) (body : Bor Form) → comes t r (through_where world slots body.now s) → says t (stage.Where body) r s
   where_last None r s body h = tt
   where_last (Some true) r s body h = h
   where_last (Some false) r s body h = h
 
-  pub stage_where : (source body : Form) (table : ℕ) (ca cf c : Condition) → DecidesPassing table_of shown world slots table source ca → Decides table_of shown world slots table body cf
-      → IsBoth ca cf c
-      → DecidesStage table_of shown world slots stage.Where source body table c
-  stage_where source body table ca cf c passing decides both = record {
+  pub stage_where : (body : Bor Form) (source : Form) (table : ℕ) (ca cf c : Condition) → DecidesPassing table_of shown world slots table source ca
+      → Decides table_of shown world slots table body.now cf → IsBoth ca cf c
+      → DecidesStage table_of shown world slots (stage.Where body) source table c
+  stage_where body source table ca cf c passing decides both = record {
     at = λ r here.
-        where_last (verdict c (shown r)) r _ body (where_at source body table ca cf c passing decides both r here);
+        where_last (verdict c (shown r)) r _ body (where_at source body.now table ca cf c passing decides both r here);
   }
 
-  pub stage_silent : (st : Stage) (source body : Form) (table : ℕ) → DecidesStage table_of shown world slots st source body table condition.Silent
-  stage_silent st source body table = record {
-    at = λ r is.
-        subst (λ t. IfSome t (λ b. staged world slots st body (passed_at world slots source (value.Row r)) ≡ last_if table_of shown world slots b st body (value.Row r)))
-        (sym (verdict_silent (shown r))) tt;
+  pub stage_silent : (st : Stage) (source : Form) (table : ℕ) → DecidesStage table_of shown world slots st source table condition.Silent
+  stage_silent st source table = record {
+    at = λ r is. subst (λ t. says t st r (item_at world slots source (value.Row r))) (sym (verdict_silent (shown r))) tt;
   }
 
   -- ---- plans
 
-  pub plan_decides : (st : Stage) (source body : Form) (table : ℕ) (c : Condition) (r : R) (b : Bool) → DecidesStage table_of shown world slots st source body table c
+  pub plan_decides : (st : Stage) (source : Form) (table : ℕ) (c : Condition) (r : R) (b : Bool) → DecidesStage table_of shown world slots st source table c
       → table_of r ≡ table → verdict c (shown r) ≡ Some b
-      → last_if table_of shown world slots b st body (value.Row r) ≡ staged world slots st body (passed_at world slots source (value.Row r))
-  plan_decides st source body table c r b decides here is =
-      sym (subst (λ t. IfSome t (λ b. staged world slots st body (passed_at world slots source (value.Row r)) ≡ last_if table_of shown world slots b st body (value.Row r))) is (decides.at r here))
+      → last_if world slots b st (value.Row r) ≡ through_stage world slots st (item_at world slots source (value.Row r))
+  plan_decides st source table c r b decides here is =
+      sym (subst (λ t. says t st r (item_at world slots source (value.Row r))) is (decides.at r here))
 
   cell_meant : (place : Option ℕ) (table : ℕ) (body : Form) (r : R) (s : Scalar) → IfSome place (λ p. IsCell table_of shown world slots table body p) → table_of r ≡ table
       → option_and_then (slice_get (shown r)) place ≡ Some s → form_meaning world body (with_item world slots (value.Row r)) ≡ Ok (value.Scalar s)
@@ -138,11 +124,11 @@ module _ {R : Type 0} (table_of : R → ℕ) (shown : R → List Scalar) (slots 
       subst (λ o. IfSome o (λ s. form_meaning world body (with_item world slots (value.Row r)) ≡ Ok (value.Scalar s))) is (cell.at r here)
 
   pub selects_cell : (place : Option ℕ) (table : ℕ) (body : Form) (r : R) (s s' : Scalar) → IfSome place (λ p. IsCell table_of shown world slots table body p) → table_of r ≡ table
-      → option_and_then (slice_get (shown r)) place ≡ Some s → s' ≡ s → ◌≡◌ {A = Stream (Value R)} (value.Scalar s' ∷ [], end.Done) (last table_of shown world slots stage.Select body (value.Row r))
+      → option_and_then (slice_get (shown r)) place ≡ Some s → s' ≡ s → ◌≡◌ {A = Stream (Value R)} (value.Scalar s' ∷ [], end.Done) (through_select world slots body (value.Row r ∷ [], end.Done))
   selects_cell place table body r s s' cell here is same =
       ap (λ (x : Scalar). (value.Scalar x ∷ [], end.Done)) same
       ∙ ap (λ (m : Result (Value R) Fault). then_stream (one m) ([], end.Done)) (sym (cell_meant place table body r s cell here is))
 
-pub ruleset passings = (passing_table, passing_sequence, passing_where, passing_where_at, passing_silent)
+pub ruleset passings = (passing_table, passing_sequence, passing_where, passing_silent)
 
 pub ruleset stages = (stage_plain, stage_where, stage_select)

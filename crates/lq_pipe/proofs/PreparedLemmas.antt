@@ -25,7 +25,7 @@ use Rattle.lq_pipe.specs.Worlds.{HaveDistinctColumns, schemas_in, world_of}
 use Rattle.lq_pipe.specs.declared.tables.TableRows.{TableRows}
 use Rattle.lq_pipe.proofs.CellLemmas.{cell_found}
 use Rattle.lq_pipe.proofs.Forms.{form_column, form_literal, form_slot}
-use Rattle.lq_pipe.proofs.SlotLemmas.{found_before, found_last}
+use Rattle.lq_pipe.proofs.SlotLemmas.{found_before, found_next}
 use Rattle.lq_pipe.proofs.TruthLemmas.{truth_binary, truth_both, truth_either, truth_two}
 
 -- where something is said, it is what is meant
@@ -51,7 +51,7 @@ module _ {R : Type 0} (table_of : R → ℕ) (shown : R → List Scalar) (slots 
   cell_is : (world : World R) (s : Scalar) (found : Option Scalar) → found ≡ Some s → cell_value world found ≡ Ok (value.Scalar s)
   cell_is world s found is = ap (cell_value world) is
 
-  pub own_cell : (tables : List (TableRows R)) (n table c : ℕ) (name : List ℕ) → HaveDistinctColumns (schemas_in tables) → n ≡ length slots + 0
+  pub own_cell : (tables : List (TableRows R)) (n table c : ℕ) (name : List ℕ) → HaveDistinctColumns (schemas_in tables) → n ≡ length slots
       → Some name ≡ name_of_column (schemas_in tables) table c
       → IsCell table_of shown (world_of table_of shown tables) slots table (form.Column (form.Slot n) table c) c
   own_cell tables n table c name distinct next named = record { at = λ r is. of r is (slice_get (shown r) c) refl }
@@ -64,14 +64,14 @@ module _ {R : Type 0} (table_of : R → ℕ) (shown : R → List Scalar) (slots 
       of r is (Some s) there =
           form_column world (form.Slot n) table c (with_item world slots (value.Row r))
           ∙ ap (λ (found : Result (Value R) Fault). on_ok found (λ v. cell_in world table c (out-Value R v)))
-          (form_slot world n (with_item world slots (value.Row r)) ∙ ap (if_there world) (found_last slots (value.Row r) n next))
+          (form_slot world n (with_item world slots (value.Row r)) ∙ ap (if_there world) (found_next slots (value.Row r) n next))
           ∙ ap (cell_in world table c) (value.outs-Row r)
           ∙ ap (cell_value world)
           (ap (option_and_then (world.cell r)) (sym named)
           ∙ cell_found (schemas_in tables) table (table_of r) c name (shown r) distinct is (sym named) ∙ there)
 
   pub own_cell_at : (tables : List (TableRows R)) (f row : Form) (n number table c : ℕ) (name : List ℕ) → HaveDistinctColumns (schemas_in tables)
-      → f ≡ form.Column row number c → row ≡ form.Slot n → number ≡ table → n ≡ length slots + 0
+      → f ≡ form.Column row number c → row ≡ form.Slot n → number ≡ table → n ≡ length slots
       → Some name ≡ name_of_column (schemas_in tables) number c
       → IsCell table_of shown (world_of table_of shown tables) slots table f c
   own_cell_at tables f row n number table c name distinct is of same next named =

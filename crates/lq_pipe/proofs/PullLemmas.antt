@@ -1,5 +1,5 @@
 -- Items that are pulled one by one.
-use Rattle.std.proofs.Common.{◌≡◌, ◌∷◌, ◌++◌, ◌<◌, List, [], ℕ, zero, suc, Bool, Option, Some, None, Result, Ok, Err, ap, ◌∙◌, sym, refl, append_assoc, append-nil, length, map, reverse, slice_get, arith}
+use Rattle.std.proofs.Common.{◌≡◌, ◌∷◌, ◌++◌, ◌<◌, List, [], ℕ, zero, suc, Bool, Option, Some, None, Result, Ok, Err, ap, ◌∙◌, sym, refl, append_assoc, append-nil, length, map, reverse, slice_get, arith, true, true≢false}
 use Rattle.std.proofs.lemmas.List.{reverse-append, reverse-reverse}
 use Rattle.lq_value.specs.declared.value.End.{End}
 use Rattle.lq_value.specs.declared.value.End.TheVariants as end
@@ -9,28 +9,20 @@ use Rattle.lq_value.specs.declared.value.Value.{Value}
 use Rattle.lq_value.specs.declared.value.Value.TheVariants as value
 use Rattle.lq_language.specs.Enumerable.{in_front, take_first}
 use Rattle.lq_language.specs.Stream.{Stream, each, kept, one, select_by, then_ending, then_stream}
-use Rattle.lq_language.specs.declared.methods.Through.TheVariants as through
 use Rattle.lq_language.specs.Worlds.{World}
 use Rattle.lq_language.specs.OperandMeaning.{items_of, sequence, stream_of, table_value}
-use Rattle.lq_language.specs.declared.methods.Given.{Given}
-use Rattle.lq_language.specs.declared.methods.Simple.{Simple}
-use Rattle.lq_language.specs.declared.operation.Op.{Op}
-use Rattle.lq_grammar.specs.declared.syntax.Field.{Field}
-use Rattle.lq_grammar.specs.declared.syntax.SortKey.{SortKey}
-use Rattle.lq_value.specs.declared.scalar.Scalar.{Scalar}
-use Rattle.lq_value.specs.declared.ty.Ty.{Ty}
 use Rattle.lq_tree.specs.FormMeaning.{Slots, form_meaning, is_true, with_item}
 use Rattle.lq_tree.specs.declared.tree.Form.{Form, map-Form, out-Form, para-roll-Form, roll-Form}
 use Rattle.lq_tree.specs.declared.tree.Form.TheOpen.{Form-F}
 use Rattle.lq_tree.specs.declared.tree.Form.TheVariants as form
 use Rattle.lq_tree.specs.declared.tree.Form.TheViews.{roll-out-Form}
-use Rattle.lq_tree.specs.declared.tree.Joined.{Joined}
-use Rattle.lq_pipe.specs.Pulling.{At, base_stream, end_of, rows_or_none, left, passed_at, passed_step, pulled, staged}
+use Rattle.lq_pipe.specs.Pulling.{base_stream, end_of, item_at, item_step, items_at, pulled, remaining, rows_or_none, through_select, through_stage, through_where}
+use Rattle.lq_pipe.specs.Stages.{IsStageOver, is_base, is_base_step}
 use Rattle.lq_pipe.specs.declared.bases.Base.{Base}
 use Rattle.lq_pipe.specs.declared.stages.Stage.{Stage}
 use Rattle.lq_pipe.specs.declared.stages.Stage.TheVariants as stage
-use Rattle.lq_pipe.proofs.Forms.{form_sequence, form_table, form_through}
-use Rattle.lq_pipe.proofs.StreamLemmas.{then_assoc}
+use Rattle.lq_pipe.proofs.Forms.{form_select, form_sequence, form_table, form_where}
+use Rattle.lq_language.proofs.StreamLaws.{then_assoc}
 
 -- ---- bases
 
@@ -170,230 +162,97 @@ module _ {R : Type 0} (world : World R) (slots : Slots R) where
   abbrev Passes : Type 0
   Passes = Value R → Stream (Value R)
 
-  abbrev layer_passed : Form-F Form → Passes
-  layer_passed layer = passed_step world slots (map-Form Form (Form × Passes) (λ f. (f, passed_at world slots f)) layer)
+  abbrev layer_items : Form-F Form → Passes
+  layer_items layer = item_step world slots (map-Form Form (Form × Passes) (λ f. (f, item_at world slots f)) layer)
 
-  rolled : (layer : Form-F Form) (x : Value R) → passed_at world slots (roll-Form layer) x ≡ layer_passed layer x
-  unfolding passed_at
-  rolled layer x = ap (λ (m : Passes). m x) (para-roll-Form Passes (passed_step world slots) layer)
+  rolled : (layer : Form-F Form) (x : Value R) → item_at world slots (roll-Form layer) x ≡ layer_items layer x
+  unfolding item_at
+  rolled layer x = ap (λ (m : Passes). m x) (para-roll-Form Passes (item_step world slots) layer)
 
-  passed_out : (f : Form) (x : Value R) → passed_at world slots f x ≡ layer_passed (out-Form f) x
-  passed_out f x = ap (λ g. passed_at world slots g x) (sym (roll-out-Form f)) ∙ rolled (out-Form f) x
+  item_out : (f : Form) (x : Value R) → item_at world slots f x ≡ layer_items (out-Form f) x
+  item_out f x = ap (λ g. item_at world slots g x) (sym (roll-out-Form f)) ∙ rolled (out-Form f) x
 
-  at : (f : Form) (layer : Form-F Form) (x : Value R) → out-Form f ≡ layer → passed_at world slots f x ≡ layer_passed layer x
-  at f layer x h = passed_out f x ∙ ap (λ l. layer_passed l x) h
+  at : (f : Form) (layer : Form-F Form) (x : Value R) → out-Form f ≡ layer → item_at world slots f x ≡ layer_items layer x
+  at f layer x h = item_out f x ∙ ap (λ l. layer_items l x) h
 
   -- above a base an item is what it is
-  abbrev pub IsBase : Form → Type 0
-  IsBase f = (x : Value R) → passed_at world slots f x ≡ (x ∷ [], end.Done)
+  of_base_layer : (layer : Form-F Form) (x : Value R) → is_base_step layer ≡ true → layer_items layer x ≡ (x ∷ [], end.Done)
+  of_base_layer (Form-F.Where a f) x h = absurd (true≢false (sym h))
+  of_base_layer (Form-F.Select a f) x h = absurd (true≢false (sym h))
+  of_base_layer (Form-F.Sequence a) x h = absurd (true≢false (sym h))
+  of_base_layer layer x h = refl
 
-  pub base_literal : (s : Scalar) → IsBase (form.Literal s)
-  base_literal s = λ x. at _ _ x (form.outs-Literal s)
+  pub base_item : (f : Form) (x : Value R) → is_base f ≡ true → item_at world slots f x ≡ (x ∷ [], end.Done)
+  base_item f x h = item_out f x ∙ of_base_layer (out-Form f) x h
 
-  pub base_slot : (n : ℕ) → IsBase (form.Slot n)
-  base_slot n = λ x. at _ _ x (form.outs-Slot n)
+  pub table_item : (n : ℕ) (x : Value R) → item_at world slots (form.Table n) x ≡ (x ∷ [], end.Done)
+  table_item n x = at _ _ x (form.outs-Table n)
 
-  pub base_first : (a : Form) → IsBase (form.First a)
-  base_first a = λ x. at _ _ x (form.outs-First a)
+  -- and above a stage what comes of it there
+  pub sequence_item : (a : Form) (x : Value R) → item_at world slots (form.Sequence a) x ≡ item_at world slots a x
+  sequence_item a x = at _ _ x (form.outs-Sequence a)
 
-  pub base_second : (a : Form) → IsBase (form.Second a)
-  base_second a = λ x. at _ _ x (form.outs-Second a)
+  pub where_item : (a f : Form) (x : Value R) → item_at world slots (form.Where a f) x ≡ through_where world slots f (item_at world slots a x)
+  where_item a f x = at _ _ x (form.outs-Where a f)
 
-  pub base_table : (n : ℕ) → IsBase (form.Table n)
-  base_table n = λ x. at _ _ x (form.outs-Table n)
+  select_item : (a f : Form) (x : Value R) → item_at world slots (form.Select a f) x ≡ through_select world slots f (item_at world slots a x)
+  select_item a f x = at _ _ x (form.outs-Select a f)
 
-  pub base_column : (a : Form) (t c : ℕ) → IsBase (form.Column a t c)
-  base_column a t c = λ x. at _ _ x (form.outs-Column a t c)
+  pub stage_item : (st : Stage) (f a : Form) (x : Value R) → IsStageOver f st a
+      → item_at world slots f x ≡ through_stage world slots st (item_at world slots a x)
+  stage_item stage.Plain f a x is = ap (λ g. item_at world slots g x) is ∙ sequence_item a x
+  stage_item (stage.Where c) f a x is = ap (λ g. item_at world slots g x) is ∙ where_item a c.now x
+  stage_item (stage.Select c) f a x is = ap (λ g. item_at world slots g x) is ∙ select_item a c.now x
 
-  pub base_member : (a : Form) (place : ℕ) → IsBase (form.Member a place)
-  base_member a place = λ x. at _ _ x (form.outs-Member a place)
+  pub passes_base : (f : Form) (x : Value R) → is_base f ≡ true → ◌≡◌ {A = Stream (Value R)} (x ∷ [], end.Done) (item_at world slots f x)
+  passes_base f x base = sym (base_item f x base)
 
-  pub base_key : (a : Form) → IsBase (form.Key a)
-  base_key a = λ x. at _ _ x (form.outs-Key a)
+  pub passes_sequence : (f a : Form) (x : Value R) (o : Stream (Value R)) → f ≡ form.Sequence a → o ≡ item_at world slots a x → o ≡ item_at world slots f x
+  passes_sequence f a x o is h = h ∙ sym (stage_item stage.Plain f a x is)
 
-  pub base_unary : (o : Op) (a : Form) → IsBase (form.Unary o a)
-  base_unary o a = λ x. at _ _ x (form.outs-Unary o a)
+  pub passes_stage : (st : Stage) (f a : Form) (x : Value R) (o : Stream (Value R)) → IsStageOver f st a
+      → o ≡ through_stage world slots st (item_at world slots a x) → o ≡ item_at world slots f x
+  passes_stage st f a x o is h = h ∙ sym (stage_item st f a x is)
 
-  pub base_binary : (o : Op) (a b : Form) → IsBase (form.Binary o a b)
-  base_binary o a b = λ x. at _ _ x (form.outs-Binary o a b)
+  -- a sequence over a base is one too
+  pub base_below : (f a : Form) (x : Value R) → f ≡ form.Sequence a → is_base a ≡ true → item_at world slots f x ≡ (x ∷ [], end.Done)
+  base_below f a x is base = ap (λ g. item_at world slots g x) is ∙ sequence_item a x ∙ base_item a x base
 
-  pub base_and : (a b : Form) → IsBase (form.And a b)
-  base_and a b = λ x. at _ _ x (form.outs-And a b)
-
-  pub base_or : (a b : Form) → IsBase (form.Or a b)
-  base_or a b = λ x. at _ _ x (form.outs-Or a b)
-
-  pub base_coalesce : (a b : Form) → IsBase (form.Coalesce a b)
-  base_coalesce a b = λ x. at _ _ x (form.outs-Coalesce a b)
-
-  pub base_conditional : (c a b : Form) → IsBase (form.Conditional c a b)
-  base_conditional c a b = λ x. at _ _ x (form.outs-Conditional c a b)
-
-  pub base_is_null : (wanted : Bool) (a : Form) → IsBase (form.IsNull wanted a)
-  base_is_null wanted a = λ x. at _ _ x (form.outs-IsNull wanted a)
-
-  pub base_record : (fields : List (Field Form)) → IsBase (form.Record fields)
-  base_record fields = λ x. at _ _ x (form.outs-Record fields)
-
-  pub base_pair : (a b : Form) → IsBase (form.Pair a b)
-  base_pair a b = λ x. at _ _ x (form.outs-Pair a b)
-
-  pub passed_sequence : (a : Form) (x : Value R) → passed_at world slots (form.Sequence a) x ≡ passed_at world slots a x
-  passed_sequence a x = at _ _ x (form.outs-Sequence a)
-
-  pub base_simple : (method : Simple) (t : Ty) (a : Form) → IsBase (form.Simple method t a)
-  base_simple method t a = λ x. at _ _ x (form.outs-Simple method t a)
-
-  pub base_given : (method : Given) (a b : Form) → IsBase (form.Given method a b)
-  base_given method a b = λ x. at _ _ x (form.outs-Given method a b)
-
-  pub base_select_many : (a inner result : Form) → IsBase (form.SelectMany a inner result)
-  base_select_many a inner result = λ x. at _ _ x (form.outs-SelectMany a inner result)
-
-  pub base_join : (a : Form) (j : Joined Form) → IsBase (form.Join a j)
-  base_join a j = λ x. at _ _ x (form.outs-Join a j)
-
-  pub base_order_by : (a : Form) (ks : List (SortKey Form)) → IsBase (form.OrderBy a ks)
-  base_order_by a ks = λ x. at _ _ x (form.outs-OrderBy a ks)
-
-  pub base_group_by : (a key element : Form) → IsBase (form.GroupBy a key element)
-  base_group_by a key element = λ x. at _ _ x (form.outs-GroupBy a key element)
-
-  pub base_all : (t u : Ty) (a f : Form) → IsBase (form.Through through.All t u a f)
-  base_all t u a f = λ x. at _ _ x (form.outs-Through through.All t u a f)
-
-  pub base_those : (method : Simple) (t u : Ty) (a f : Form) → IsBase (form.Through (through.Those method) t u a f)
-  base_those method t u a f = λ x. at _ _ x (form.outs-Through (through.Those method) t u a f)
-
-  pub base_values : (method : Simple) (t u : Ty) (a f : Form) → IsBase (form.Through (through.Values method) t u a f)
-  base_values method t u a f = λ x. at _ _ x (form.outs-Through (through.Values method) t u a f)
-
-  pub passed_where : (t u : Ty) (a f : Form) (x : Value R)
-      → passed_at world slots (form.Through through.Where t u a f) x ≡ staged world slots stage.Where f (passed_at world slots a x)
-  passed_where t u a f x = at _ _ x (form.outs-Through through.Where t u a f)
-
-  pub passed_select : (t u : Ty) (a f : Form) (x : Value R)
-      → passed_at world slots (form.Through through.Select t u a f) x ≡ staged world slots stage.Select f (passed_at world slots a x)
-  passed_select t u a f x = at _ _ x (form.outs-Through through.Select t u a f)
-
-  -- ---- bases of forms
-
-  abbrev Kept : Form → Stream (Value R) → Stream (Value R)
-  Kept f s = staged world slots stage.Where f s
-
-  abbrev Made : Form → Stream (Value R) → Stream (Value R)
-  Made f s = staged world slots stage.Select f s
-
-  opens_base : (f : Form) (b : Stream (Value R)) → IsBase f → b ≡ stream_of world (form_meaning world f slots)
-      → At world slots f b ≡ stream_of world (form_meaning world f slots)
-  opens_base f b is same = each_one (passed_at world slots f) is b.0 b.1 ∙ same
-
-  pub opens_literal : (s : Scalar) (r : Base R) → base_stream r ≡ stream_of world (form_meaning world (form.Literal s) slots)
-      → At world slots (form.Literal s) (base_stream r) ≡ stream_of world (form_meaning world (form.Literal s) slots)
-  opens_literal s r h = opens_base (form.Literal s) (base_stream r) (base_literal s) h
-
-  pub opens_slot : (n : ℕ) (r : Base R) → base_stream r ≡ stream_of world (form_meaning world (form.Slot n) slots)
-      → At world slots (form.Slot n) (base_stream r) ≡ stream_of world (form_meaning world (form.Slot n) slots)
-  opens_slot n r h = opens_base (form.Slot n) (base_stream r) (base_slot n) h
-
-  pub opens_first : (a : Form) (r : Base R) → base_stream r ≡ stream_of world (form_meaning world (form.First a) slots)
-      → At world slots (form.First a) (base_stream r) ≡ stream_of world (form_meaning world (form.First a) slots)
-  opens_first a r h = opens_base (form.First a) (base_stream r) (base_first a) h
-
-  pub opens_second : (a : Form) (r : Base R) → base_stream r ≡ stream_of world (form_meaning world (form.Second a) slots)
-      → At world slots (form.Second a) (base_stream r) ≡ stream_of world (form_meaning world (form.Second a) slots)
-  opens_second a r h = opens_base (form.Second a) (base_stream r) (base_second a) h
-
-  pub opens_table : (n : ℕ) (r : Base R) → base_stream r ≡ stream_of world (form_meaning world (form.Table n) slots)
-      → At world slots (form.Table n) (base_stream r) ≡ stream_of world (form_meaning world (form.Table n) slots)
-  opens_table n r h = opens_base (form.Table n) (base_stream r) (base_table n) h
-
-  pub opens_column : (a : Form) (t c : ℕ) (r : Base R) → base_stream r ≡ stream_of world (form_meaning world (form.Column a t c) slots)
-      → At world slots (form.Column a t c) (base_stream r) ≡ stream_of world (form_meaning world (form.Column a t c) slots)
-  opens_column a t c r h = opens_base (form.Column a t c) (base_stream r) (base_column a t c) h
-
-  pub opens_member : (a : Form) (place : ℕ) (r : Base R) → base_stream r ≡ stream_of world (form_meaning world (form.Member a place) slots)
-      → At world slots (form.Member a place) (base_stream r) ≡ stream_of world (form_meaning world (form.Member a place) slots)
-  opens_member a place r h = opens_base (form.Member a place) (base_stream r) (base_member a place) h
-
-  pub opens_key : (a : Form) (r : Base R) → base_stream r ≡ stream_of world (form_meaning world (form.Key a) slots)
-      → At world slots (form.Key a) (base_stream r) ≡ stream_of world (form_meaning world (form.Key a) slots)
-  opens_key a r h = opens_base (form.Key a) (base_stream r) (base_key a) h
-
-  pub opens_unary : (o : Op) (a : Form) (r : Base R) → base_stream r ≡ stream_of world (form_meaning world (form.Unary o a) slots)
-      → At world slots (form.Unary o a) (base_stream r) ≡ stream_of world (form_meaning world (form.Unary o a) slots)
-  opens_unary o a r h = opens_base (form.Unary o a) (base_stream r) (base_unary o a) h
-
-  pub opens_binary : (o : Op) (a b : Form) (r : Base R) → base_stream r ≡ stream_of world (form_meaning world (form.Binary o a b) slots)
-      → At world slots (form.Binary o a b) (base_stream r) ≡ stream_of world (form_meaning world (form.Binary o a b) slots)
-  opens_binary o a b r h = opens_base (form.Binary o a b) (base_stream r) (base_binary o a b) h
-
-  pub opens_and : (a b : Form) (r : Base R) → base_stream r ≡ stream_of world (form_meaning world (form.And a b) slots)
-      → At world slots (form.And a b) (base_stream r) ≡ stream_of world (form_meaning world (form.And a b) slots)
-  opens_and a b r h = opens_base (form.And a b) (base_stream r) (base_and a b) h
-
-  pub opens_or : (a b : Form) (r : Base R) → base_stream r ≡ stream_of world (form_meaning world (form.Or a b) slots)
-      → At world slots (form.Or a b) (base_stream r) ≡ stream_of world (form_meaning world (form.Or a b) slots)
-  opens_or a b r h = opens_base (form.Or a b) (base_stream r) (base_or a b) h
-
-  pub opens_coalesce : (a b : Form) (r : Base R) → base_stream r ≡ stream_of world (form_meaning world (form.Coalesce a b) slots)
-      → At world slots (form.Coalesce a b) (base_stream r) ≡ stream_of world (form_meaning world (form.Coalesce a b) slots)
-  opens_coalesce a b r h = opens_base (form.Coalesce a b) (base_stream r) (base_coalesce a b) h
-
-  pub opens_conditional : (c a b : Form) (r : Base R) → base_stream r ≡ stream_of world (form_meaning world (form.Conditional c a b) slots)
-      → At world slots (form.Conditional c a b) (base_stream r) ≡ stream_of world (form_meaning world (form.Conditional c a b) slots)
-  opens_conditional c a b r h = opens_base (form.Conditional c a b) (base_stream r) (base_conditional c a b) h
-
-  pub opens_is_null : (wanted : Bool) (a : Form) (r : Base R) → base_stream r ≡ stream_of world (form_meaning world (form.IsNull wanted a) slots)
-      → At world slots (form.IsNull wanted a) (base_stream r) ≡ stream_of world (form_meaning world (form.IsNull wanted a) slots)
-  opens_is_null wanted a r h = opens_base (form.IsNull wanted a) (base_stream r) (base_is_null wanted a) h
-
-  pub opens_record : (fields : List (Field Form)) (r : Base R) → base_stream r ≡ stream_of world (form_meaning world (form.Record fields) slots)
-      → At world slots (form.Record fields) (base_stream r) ≡ stream_of world (form_meaning world (form.Record fields) slots)
-  opens_record fields r h = opens_base (form.Record fields) (base_stream r) (base_record fields) h
-
-  pub opens_pair : (a b : Form) (r : Base R) → base_stream r ≡ stream_of world (form_meaning world (form.Pair a b) slots)
-      → At world slots (form.Pair a b) (base_stream r) ≡ stream_of world (form_meaning world (form.Pair a b) slots)
-  opens_pair a b r h = opens_base (form.Pair a b) (base_stream r) (base_pair a b) h
-
-  pub opens_simple : (method : Simple) (t : Ty) (a : Form) (r : Base R) → base_stream r ≡ stream_of world (form_meaning world (form.Simple method t a) slots)
-      → At world slots (form.Simple method t a) (base_stream r) ≡ stream_of world (form_meaning world (form.Simple method t a) slots)
-  opens_simple method t a r h = opens_base (form.Simple method t a) (base_stream r) (base_simple method t a) h
-
-  pub opens_given : (method : Given) (a b : Form) (r : Base R) → base_stream r ≡ stream_of world (form_meaning world (form.Given method a b) slots)
-      → At world slots (form.Given method a b) (base_stream r) ≡ stream_of world (form_meaning world (form.Given method a b) slots)
-  opens_given method a b r h = opens_base (form.Given method a b) (base_stream r) (base_given method a b) h
-
-  pub opens_select_many : (a inner result : Form) (r : Base R) → base_stream r ≡ stream_of world (form_meaning world (form.SelectMany a inner result) slots)
-      → At world slots (form.SelectMany a inner result) (base_stream r) ≡ stream_of world (form_meaning world (form.SelectMany a inner result) slots)
-  opens_select_many a inner result r h = opens_base (form.SelectMany a inner result) (base_stream r) (base_select_many a inner result) h
-
-  pub opens_join : (a : Form) (j : Joined Form) (r : Base R) → base_stream r ≡ stream_of world (form_meaning world (form.Join a j) slots)
-      → At world slots (form.Join a j) (base_stream r) ≡ stream_of world (form_meaning world (form.Join a j) slots)
-  opens_join a j r h = opens_base (form.Join a j) (base_stream r) (base_join a j) h
-
-  pub opens_order_by : (a : Form) (ks : List (SortKey Form)) (r : Base R) → base_stream r ≡ stream_of world (form_meaning world (form.OrderBy a ks) slots)
-      → At world slots (form.OrderBy a ks) (base_stream r) ≡ stream_of world (form_meaning world (form.OrderBy a ks) slots)
-  opens_order_by a ks r h = opens_base (form.OrderBy a ks) (base_stream r) (base_order_by a ks) h
-
-  pub opens_group_by : (a key element : Form) (r : Base R) → base_stream r ≡ stream_of world (form_meaning world (form.GroupBy a key element) slots)
-      → At world slots (form.GroupBy a key element) (base_stream r) ≡ stream_of world (form_meaning world (form.GroupBy a key element) slots)
-  opens_group_by a key element r h = opens_base (form.GroupBy a key element) (base_stream r) (base_group_by a key element) h
-
-  pub opens_all : (t u : Ty) (a f : Form) (r : Base R) → base_stream r ≡ stream_of world (form_meaning world (form.Through through.All t u a f) slots)
-      → At world slots (form.Through through.All t u a f) (base_stream r) ≡ stream_of world (form_meaning world (form.Through through.All t u a f) slots)
-  opens_all t u a f r h = opens_base (form.Through through.All t u a f) (base_stream r) (base_all t u a f) h
-
-  pub opens_those : (method : Simple) (t u : Ty) (a f : Form) (r : Base R) → base_stream r ≡ stream_of world (form_meaning world (form.Through (through.Those method) t u a f) slots)
-      → At world slots (form.Through (through.Those method) t u a f) (base_stream r) ≡ stream_of world (form_meaning world (form.Through (through.Those method) t u a f) slots)
-  opens_those method t u a f r h = opens_base (form.Through (through.Those method) t u a f) (base_stream r) (base_those method t u a f) h
-
-  pub opens_values : (method : Simple) (t u : Ty) (a f : Form) (r : Base R) → base_stream r ≡ stream_of world (form_meaning world (form.Through (through.Values method) t u a f) slots)
-      → At world slots (form.Through (through.Values method) t u a f) (base_stream r) ≡ stream_of world (form_meaning world (form.Through (through.Values method) t u a f) slots)
-  opens_values method t u a f r h = opens_base (form.Through (through.Values method) t u a f) (base_stream r) (base_values method t u a f) h
+  -- ---- what comes of all items
 
   pub stream_sequence : (s : Stream (Value R)) → stream_of world (Ok (sequence s)) ≡ s
   stream_sequence s = ap (items_of world) (value.outs-Seq s.0 s.1)
+
+  abbrev items : Form → Stream (Value R)
+  items f = stream_of world (form_meaning world f slots)
+
+  -- the items of a form that is a stage are those that come of its source's
+  pub stage_items : (st : Stage) (f a : Form) → IsStageOver f st a → pulled world slots st a ≡ items f
+  stage_items stage.Plain f a is =
+      sym (ap items is ∙ ap (stream_of world) (form_sequence world a slots) ∙ stream_sequence (items a))
+  stage_items (stage.Where c) f a is =
+      sym (ap items is ∙ ap (stream_of world) (form_where world a c.now slots) ∙ stream_sequence (through_where world slots c.now (items a)))
+  stage_items (stage.Select c) f a is =
+      sym (ap items is ∙ ap (stream_of world) (form_select world a c.now slots) ∙ stream_sequence (through_select world slots c.now (items a)))
+
+  -- what comes of a base at a source and the stage behind it
+  through_each : (st : Stage) (a : Form) (s : Stream (Value R))
+      → each (λ x. through_stage world slots st (item_at world slots a x)) s.0 s.1 ≡ through_stage world slots st (items_at world slots a s)
+  through_each stage.Plain a s = refl
+  through_each (stage.Where c) a s =
+      sym (each_each (λ v. kept (is_true world (form_meaning world c.now) (with_item world slots v)) v) (item_at world slots a) s.0 s.1)
+  through_each (stage.Select c) a s = sym (each_each (λ v. one (form_meaning world c.now (with_item world slots v))) (item_at world slots a) s.0 s.1)
+
+  -- ---- bases of forms
+
+  pub opens_base : (f : Form) (b : Base R) → is_base f ≡ true → base_stream b ≡ items f → items_at world slots f (base_stream b) ≡ items f
+  opens_base f b base is = each_one (item_at world slots f) (λ x. base_item f x base) (base_stream b).0 (base_stream b).1 ∙ is
+
+  pub opens_stage : (st : Stage) (f a : Form) (b : Base R) → IsStageOver f st a → items_at world slots a (base_stream b) ≡ items a
+      → items_at world slots f (base_stream b) ≡ items f
+  opens_stage st f a b is opened =
+      (λ i. each (λ x. stage_item st f a x is i) (base_stream b).0 (base_stream b).1)
+      ∙ through_each st a (base_stream b) ∙ ap (through_stage world slots st) opened ∙ stage_items st f a is
 
   found_or_not : world.unknown ≡ fault.NullReference → (found : Option (List R))
       → ◌≡◌ {A = Stream (Value R)} (map value.Row (rows_or_none found), end_of found) (stream_of world (table_value world found))
@@ -408,42 +267,12 @@ module _ {R : Type 0} (world : World R) (slots : Slots R) where
   rows_found b rows e found known rows_are ends is =
       is ∙ (λ i. (map value.Row (rows_are i), ends i)) ∙ found_or_not known found
 
-  pub opens_sequence : (a : Form) (r : Base R) → At world slots a (base_stream r) ≡ stream_of world (form_meaning world a slots)
-      → At world slots (form.Sequence a) (base_stream r) ≡ stream_of world (form_meaning world (form.Sequence a) slots)
-  opens_sequence a r h =
-      (λ i. each (λ x. passed_sequence a x i) (base_stream r).0 (base_stream r).1)
-      ∙ h
-      ∙ sym (stream_sequence (stream_of world (form_meaning world a slots)))
-      ∙ ap (stream_of world) (sym (form_sequence world a slots))
-
-  pub opens_where : (t u : Ty) (a f : Form) (r : Base R) → At world slots a (base_stream r) ≡ stream_of world (form_meaning world a slots)
-      → At world slots (form.Through through.Where t u a f) (base_stream r) ≡ stream_of world (form_meaning world (form.Through through.Where t u a f) slots)
-  opens_where t u a f r h =
-      (λ i. each (λ x. passed_where t u a f x i) (base_stream r).0 (base_stream r).1)
-      ∙ sym (each_each (λ v. kept (is_true world (form_meaning world f) (with_item world slots v)) v) (passed_at world slots a) (base_stream r).0 (base_stream r).1)
-      ∙ ap (Kept f) h
-      ∙ sym (stream_sequence (Kept f (stream_of world (form_meaning world a slots))))
-      ∙ ap (stream_of world) (sym (form_through world through.Where t u a f slots))
-
-  pub opens_select : (t u : Ty) (a f : Form) (r : Base R) → At world slots a (base_stream r) ≡ stream_of world (form_meaning world a slots)
-      → At world slots (form.Through through.Select t u a f) (base_stream r) ≡ stream_of world (form_meaning world (form.Through through.Select t u a f) slots)
-  opens_select t u a f r h =
-      (λ i. each (λ x. passed_select t u a f x i) (base_stream r).0 (base_stream r).1)
-      ∙ sym (each_each (λ v. one (form_meaning world f (with_item world slots v))) (passed_at world slots a) (base_stream r).0 (base_stream r).1)
-      ∙ ap (Made f) h
-      ∙ sym (stream_sequence (Made f (stream_of world (form_meaning world a slots))))
-      ∙ ap (stream_of world) (sym (form_through world through.Select t u a f slots))
-
   -- ---- pulling
 
   -- what is left of an opened base is all that is pulled
-  pub left_opened : (st : Stage) (a f : Form) (b : Base R) → At world slots a (base_stream b) ≡ stream_of world (form_meaning world a slots)
-      → left world slots st a f b ≡ pulled world slots st a f
-  left_opened stage.Plain a f b h = h
-  left_opened stage.Where a f b h =
-      sym (each_each (λ v. kept (is_true world (form_meaning world f) (with_item world slots v)) v) (passed_at world slots a) (base_stream b).0 (base_stream b).1) ∙ ap (Kept f) h
-  left_opened stage.Select a f b h =
-      sym (each_each (λ v. one (form_meaning world f (with_item world slots v))) (passed_at world slots a) (base_stream b).0 (base_stream b).1) ∙ ap (Made f) h
+  pub left_opened : (st : Stage) (a : Form) (b : Base R) → items_at world slots a (base_stream b) ≡ items a
+      → remaining world slots st a b ≡ pulled world slots st a
+  left_opened st a b opened = through_each st a (base_stream b) ∙ ap (through_stage world slots st) opened
 
 -- ---- where a loop begins
 
@@ -456,13 +285,11 @@ module _ {A : Type 0} where
   begins_taken left all made n none is =
       ap (λ l. then_ending l end.Done (take_first n left.0 left.1)) none ∙ ap (λ (s : Stream A). take_first n s.0 s.1) is
 
-pub ruleset passes_methods = (passed_where, passed_select, base_all, base_those, base_values)
+pub ruleset base_items = (base_item, base_below)
 
-pub ruleset passes_forms = (base_literal, base_slot, base_first, base_second, base_table, base_column, base_member, base_key, base_unary, base_binary, base_and, base_or, base_coalesce, base_conditional, base_is_null, base_record, base_pair, passed_sequence, base_simple, base_given, base_select_many, base_join, base_order_by, base_group_by)
+pub ruleset passes = (passes_base, passes_sequence, passes_stage)
 
-pub ruleset opens_methods = (opens_where, opens_select, opens_all, opens_those, opens_values)
-
-pub ruleset opens_forms = (opens_literal, opens_slot, opens_first, opens_second, opens_table, opens_column, opens_member, opens_key, opens_unary, opens_binary, opens_and, opens_or, opens_coalesce, opens_conditional, opens_is_null, opens_record, opens_pair, opens_sequence, opens_simple, opens_given, opens_select_many, opens_join, opens_order_by, opens_group_by)
+pub ruleset opens = (opens_base, opens_stage)
 
 pub ruleset drains = (left_opened, begins, drained_on, drained_ended, fewer)
 

@@ -33,6 +33,13 @@ module _ {A : Type 0} where
   pub found_last : (xs : List A) (v : A) (n : ℕ) → n ≡ length xs + 0 → slice_get (xs ++ v ∷ []) n ≡ Some v
   found_last xs v n h = ap (slice_get (xs ++ v ∷ [])) (h ∙ (omega arith)) ∙ last_found xs v
 
+  -- the place of the next slot, and what stands there once it is filled
+  pub next_place : (xs : List A) (n : ℕ) → n ≡ length xs + 0 → n ≡ length xs
+  next_place xs n h = h ∙ (omega arith)
+
+  pub found_next : (xs : List A) (v : A) (n : ℕ) → n ≡ length xs → slice_get (xs ++ v ∷ []) n ≡ Some v
+  found_next xs v n h = ap (slice_get (xs ++ v ∷ [])) h ∙ last_found xs v
+
   pub one_more : (xs : List A) (v : A) (n k : ℕ) → 1 ≤ k → n ≡ length xs + k → n ≡ length (xs ++ v ∷ []) + (k - 1)
   one_more xs v n k below h = grind (arith, length-append, below, h)
 

@@ -1,16 +1,11 @@
 -- Streams item by item.
-use Rattle.std.proofs.Common.{◌≡◌, ◌∷◌, ◌++◌, ◌+◌, ◌<◌, ◌≤◌, List, [], ℕ, suc, Result, Ok, Err, ap, ◌∙◌, sym, refl, subst, append_assoc, append-nil, drop, drop-cons, get_or, length, arith}
+use Rattle.std.proofs.Common.{◌≡◌, ◌∷◌, ◌++◌, ◌+◌, ◌<◌, ◌≤◌, List, [], ℕ, suc, Result, Ok, Err, ap, ◌∙◌, sym, subst, append-nil, drop, drop-cons, get_or, length, arith}
 use Rattle.std.proofs.lemmas.List.{drop_all}
 use Rattle.lq_value.specs.declared.value.End.{End}
 use Rattle.lq_value.specs.declared.value.End.TheVariants as end
 use Rattle.lq_value.specs.declared.value.Fault.{Fault}
 use Rattle.lq_language.specs.Stream.{Stream, each, one, then_ending, then_stream}
-
--- one stream behind another, behind a third
-pub then_assoc : {A : Type 0} (xs : List A) (d : End) (ys : List A) (e : End) (c : Stream A) → then_ending xs d (then_ending ys e c) ≡ then_stream (then_ending xs d (ys, e)) c
-then_assoc xs end.Done ys end.Done c = ap (λ l. (l, c.1)) (sym (append_assoc xs ys c.0))
-then_assoc xs end.Done ys (end.Fault f) c = refl
-then_assoc xs (end.Fault f) ys e c = refl
+use Rattle.lq_language.proofs.StreamLaws.{then_assoc}
 
 -- what was made of the items before, with what comes of those that are left
 module _ {A B : Type 0} (f : A → Stream B) (items : List A) (e : End) (all : Stream B) where

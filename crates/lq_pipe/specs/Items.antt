@@ -7,7 +7,7 @@ use Rattle.lq_value.specs.declared.value.Value.{Value}
 use Rattle.lq_language.specs.Worlds.{World}
 use Rattle.lq_language.specs.OperandMeaning.{stream_of}
 use Rattle.lq_language.specs.ClauseMeaning.{as_group}
-use Rattle.lq_language.specs.Stream.{Stream, both, groups_of, made, on_value}
+use Rattle.lq_language.specs.Stream.{Stream, both, each, groups_of, made, on_value, select_by}
 use Rattle.lq_tree.specs.FormMeaning.{Slots, form_meaning, matched, with_item, with_items}
 use Rattle.lq_tree.specs.declared.tree.Form.{Form}
 use Rattle.lq_tree.specs.declared.tree.Joined.{Joined}
@@ -31,6 +31,23 @@ module _ {R : Type 0} (world : World R) (slots : Slots R) where
   joined_of j qs x =
       on_value (form_meaning world j.outer_key (with_item world slots x))
       (λ k. made (λ w. form_meaning world j.result (with_items world slots x w)) (matched world j.grouped k qs, end.Done))
+
+  -- what comes of the items of a stream
+  abbrev pub expanded_items : Form → Form → Stream (Value R) → Stream (Value R)
+  expanded_items inner result s = each (expanded_of inner result) s.0 s.1
+
+  abbrev pub keyed_items : Form → Form → Stream (Value R) → Stream (Value R × Value R)
+  keyed_items key element s = select_by (keyed_of key element) s.0 s.1
+
+  abbrev pub items_with_keys : Form → Stream (Value R) → Stream (Value R × Value R)
+  items_with_keys key s = select_by (with_key_of key) s.0 s.1
+
+  abbrev pub joined_items : Joined Form → List (Value R × Value R) → Stream (Value R) → Stream (Value R)
+  joined_items j qs s = each (joined_of j qs) s.0 s.1
+
+  -- what comes of an item and of each of what it matches
+  abbrev pub matched_items : Form → Value R → List (Value R) → Stream (Value R)
+  matched_items result x found = made (λ w. form_meaning world result (with_items world slots x w)) (found, end.Done)
 
 module _ {R : Type 0} where
   abbrev pub groups_in : List (Value R × Value R) → Stream (Value R)

@@ -6,5 +6,7 @@ pub mod Lists
 pub mod Prepared
 pub mod Pulling
 pub mod Running
+pub mod Runs
 pub mod Slots
+pub mod Stages
 pub mod Worlds

@@ -1,5 +1,5 @@
 -- How items are pulled: one by one from a base, each through the conditions and lambdas that stand between the base and a form.
-use Rattle.std.specs.Prelude.{◌≡◌, ◌∷◌, ◌++◌, List, [], Option, Result, Some, None, Ok, Err, map, reverse}
+use Rattle.std.specs.Prelude.{◌≡◌, ◌∷◌, ◌++◌, if◌then◌else◌, List, [], Bool, Option, Result, Some, None, Ok, Err, map, reverse}
 use Rattle.lq_value.specs.declared.value.End.{End}
 use Rattle.lq_value.specs.declared.value.End.TheVariants as end
 use Rattle.lq_value.specs.declared.value.Fault.TheVariants as fault
@@ -9,13 +9,12 @@ use Rattle.lq_language.specs.Enumerable.{in_front}
 use Rattle.lq_language.specs.Worlds.{World}
 use Rattle.lq_language.specs.OperandMeaning.{stream_of}
 use Rattle.lq_language.specs.Stream.{Stream, each, select_by, where_by}
-use Rattle.lq_language.specs.declared.methods.Through.TheVariants as through
 use Rattle.lq_tree.specs.FormMeaning.{Slots, form_meaning, is_true, with_item}
 use Rattle.lq_tree.specs.declared.tree.Form.{Form, para-Form}
 use Rattle.lq_tree.specs.declared.tree.Form.TheOpen.{Form-F}
 use Rattle.lq_pipe.specs.declared.bases.Base.{Base}
-use Rattle.lq_pipe.specs.declared.stages.Passed.{Passed}
-use Rattle.lq_pipe.specs.declared.stages.Passed.TheVariants as passed
+use Rattle.lq_pipe.specs.declared.stages.Outcome.{Outcome}
+use Rattle.lq_pipe.specs.declared.stages.Outcome.TheVariants as outcome
 use Rattle.lq_pipe.specs.declared.stages.Stage.{Stage}
 use Rattle.lq_pipe.specs.declared.stages.Stage.TheVariants as stage
 use Rattle.lq_pipe.specs.declared.stages.Step.{Step}
@@ -46,36 +45,56 @@ module _ {R : Type 0} where
   Steps s (step.End e) t = s ≡ ([], e)
 
   -- what an item has become, as a stream of at most one
-  abbrev pub passed_on : Passed R → Stream (Value R)
-  passed_on (passed.Item x) = (x ∷ [], end.Done)
-  passed_on passed.Dropped = ([], end.Done)
-  passed_on (passed.Fault f) = ([], end.Fault f)
+  abbrev pub outcome_stream : Outcome R → Stream (Value R)
+  outcome_stream (outcome.Item x) = (x ∷ [], end.Done)
+  outcome_stream outcome.Dropped = ([], end.Done)
+  outcome_stream (outcome.Fault f) = ([], end.Fault f)
+
+  -- an item that is let through, or dropped
+  abbrev pub item_if : Bool → Value R → Stream (Value R)
+  item_if b x = if b then (x ∷ [], end.Done) else ([], end.Done)
 
 module _ {R : Type 0} (world : World R) (slots : Slots R) where
-  -- what a condition or a lambda lets through
-  abbrev pub staged : Stage → Form → Stream (Value R) → Stream (Value R)
-  staged stage.Plain body s = s
-  staged stage.Where body s = where_by (λ v. is_true world (form_meaning world body) (with_item world slots v)) s.0 s.1
-  staged stage.Select body s = select_by (λ v. form_meaning world body (with_item world slots v)) s.0 s.1
+  -- the items of which a condition is true, and what a lambda gives of each
+  abbrev pub through_where : Form → Stream (Value R) → Stream (Value R)
+  through_where f s = where_by (λ v. is_true world (form_meaning world f) (with_item world slots v)) s.0 s.1
+
+  abbrev pub through_select : Form → Stream (Value R) → Stream (Value R)
+  through_select f s = select_by (λ v. form_meaning world f (with_item world slots v)) s.0 s.1
+
+  -- what comes of items at a stage
+  abbrev pub through_stage : Stage → Stream (Value R) → Stream (Value R)
+  through_stage stage.Plain s = s
+  through_stage (stage.Where f) s = through_where f.now s
+  through_stage (stage.Select f) s = through_select f.now s
 
   -- what an item of the base becomes at a form: it goes through each `Where` and `Select` above the base, and past what makes a sequence
-  abbrev pub passed_step : Form-F (Form × (Value R → Stream (Value R))) → Value R → Stream (Value R)
-  passed_step (Form-F.Through through.Where t u a f) x = staged stage.Where f.0 (a.1 x)
-  passed_step (Form-F.Through through.Select t u a f) x = staged stage.Select f.0 (a.1 x)
-  passed_step (Form-F.Sequence a) x = a.1 x
-  passed_step layer x = (x ∷ [], end.Done)
+  abbrev pub item_step : Form-F (Form × (Value R → Stream (Value R))) → Value R → Stream (Value R)
+  item_step (Form-F.Where a f) x = through_where f.0 (a.1 x)
+  item_step (Form-F.Select a f) x = through_select f.0 (a.1 x)
+  item_step (Form-F.Sequence a) x = a.1 x
+  item_step layer x = (x ∷ [], end.Done)
 
-  unfoldable pub passed_at : Form → Value R → Stream (Value R)
-  passed_at = para-Form (Value R → Stream (Value R)) passed_step
+  unfoldable pub item_at : Form → Value R → Stream (Value R)
+  item_at = para-Form (Value R → Stream (Value R)) item_step
 
   -- what comes of the items of a base at a form
-  abbrev pub At : Form → Stream (Value R) → Stream (Value R)
-  At form items = each (passed_at form) items.0 items.1
+  abbrev pub items_at : Form → Stream (Value R) → Stream (Value R)
+  items_at f items = each (item_at f) items.0 items.1
 
   -- the items that are still to come of a source behind its last stage
-  abbrev pub left : Stage → Form → Form → Base R → Stream (Value R)
-  left stage source body b = each (λ x. staged stage body (passed_at source x)) (base_stream b).0 (base_stream b).1
+  abbrev pub remaining : Stage → Form → Base R → Stream (Value R)
+  remaining st source b = each (λ x. through_stage st (item_at source x)) (base_stream b).0 (base_stream b).1
 
   -- and all of them
-  abbrev pub pulled : Stage → Form → Form → Stream (Value R)
-  pulled stage source body = staged stage body (stream_of world (form_meaning world source slots))
+  abbrev pub pulled : Stage → Form → Stream (Value R)
+  pulled st source = through_stage st (stream_of world (form_meaning world source slots))
+
+  -- what comes of an item at a stage whose condition is true of it, and of one that is dropped there or before
+  abbrev pub last : Stage → Value R → Stream (Value R)
+  last stage.Plain x = (x ∷ [], end.Done)
+  last (stage.Where f) x = (x ∷ [], end.Done)
+  last (stage.Select f) x = through_select f.now (x ∷ [], end.Done)
+
+  abbrev pub last_if : Bool → Stage → Value R → Stream (Value R)
+  last_if b st x = if b then last st x else ([], end.Done)

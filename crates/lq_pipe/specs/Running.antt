@@ -12,8 +12,8 @@ use Rattle.lq_operators.specs.declared.error.RunError.TheVariants as error
 use Rattle.lq_tree.specs.FormMeaning.{form_meaning, is_true, with_item}
 use Rattle.lq_tree.specs.declared.tree.Form.{Form}
 use Rattle.lq_pipe.specs.Slots.{values_in}
-use Rattle.lq_pipe.specs.declared.reached.Reached.{Reached}
-use Rattle.lq_pipe.specs.declared.reached.Reached.TheVariants as reached
+use Rattle.lq_pipe.specs.declared.value_refs.ValueRef.{ValueRef}
+use Rattle.lq_pipe.specs.declared.value_refs.ValueRef.TheVariants as reference
 use Rattle.lq_pipe.specs.declared.slots.Slots.{Slots}
 
 -- The answer is what is meant, or memory was refused.
@@ -24,14 +24,14 @@ Answers meant (Err error.Memory) = Unit {0}
 
 module _ {R : Type 0} where
   -- the value that is reached
-  abbrev pub reached_value : Reached R → Value R
-  reached_value (reached.There v) = v.now
-  reached_value (reached.Made v) = v
+  abbrev pub value_behind : ValueRef R → Value R
+  value_behind (reference.Borrowed v) = v.now
+  value_behind (reference.Owned v) = v
 
-  abbrev pub IsReached : Result (Value R) Fault → Result (Reached R) RunError → Type 0
-  IsReached meant (Ok r) = meant ≡ Ok (reached_value r)
-  IsReached meant (Err (error.Fault f)) = meant ≡ Err f
-  IsReached meant (Err error.Memory) = Unit {0}
+  abbrev pub IsValueRef : Result (Value R) Fault → Result (ValueRef R) RunError → Type 0
+  IsValueRef meant (Ok r) = meant ≡ Ok (value_behind r)
+  IsValueRef meant (Err (error.Fault f)) = meant ≡ Err f
+  IsValueRef meant (Err error.Memory) = Unit {0}
 
 module _ {R : Type 0} (world : World R) where
   -- the value of a form, or its first fault

@@ -13,21 +13,19 @@ use std::alloc::AllocError;
 
 impl<'a, R: TableRow> Running<'a, R> {
     ghost use Rattle.std.specs.Prelude.{◌≡◌, IfOk, Ok};
-    ghost use Rattle.lq_language.specs.Stream.{each, made, select_by, whole};
+    ghost use Rattle.lq_language.specs.Stream.{whole};
     ghost use Rattle.lq_language.specs.Arrangement.{all_of};
     ghost use Rattle.lq_language.specs.OperandMeaning.{sequence};
-    ghost use Rattle.lq_pipe.specs.Items.{expanded_of, joined_of, keyed_of, with_key_of};
+    ghost use Rattle.lq_pipe.specs.Items.{expanded_items, expanded_of, items_with_keys, joined_items, joined_of, keyed_items, keyed_of, matched_items, with_key_of};
     ghost use Rattle.lq_operators.specs.Matching.{pairs_of};
-    ghost use Rattle.lq_value.specs.declared.value.End.TheVariants as end;
     ghost use Rattle.lq_operators.specs.Answers.{IsAnswer};
-    ghost use Rattle.lq_tree.specs.FormMeaning.{form_meaning, with_items};
     ghost use Rattle.lq_tree.specs.declared.tree.Form.TheVariants as form;
     ghost use Rattle.lq_pipe.specs.Arrangements.{columns_of, key_at, sorted_by};
     ghost use Rattle.lq_pipe.specs.Running.{Answers, items_meant, meant};
-    ghost use Rattle.lq_pipe.specs.Pulling.{StepsTo, left};
+    ghost use Rattle.lq_pipe.specs.Pulling.{StepsTo, remaining};
+    ghost use Rattle.lq_pipe.specs.Runs.{world};
     ghost use Rattle.lq_pipe.specs.Slots.{values_in};
     ghost use Rattle.lq_pipe.specs.declared.stages.Stage.TheVariants as stage;
-    ghost use Rattle.lq_pipe.specs.Worlds.{world_of};
 
     /// What comes of each item and of each item of what it leads to.
     #[cycle(running)]
@@ -39,46 +37,50 @@ impl<'a, R: TableRow> Running<'a, R> {
         body: &Form,
         slots: &Slots<'_, R>,
     ) -> Result<Value<R>, RunError>
-        ensures { IsAnswer (meant (world_of R.table_of R.shown self.now.tables.now) (form.SelectMany source.now inner.now body.now) slots.now) result }
+        ensures { IsAnswer
+            (meant (world self.now) (form.SelectMany source.now inner.now body.now) slots.now)
+            result }
     {
-        let (values, end) = self.expanded(source, inner, body, slots)?;
+        let (values, end) = self.expand(source, inner, body, slots)?;
         Ok(Value::Seq(values, end))
     }
 
     /// What comes of an item and of each item of what it leads to.
     #[cycle(running)]
-    fn expanded_item(
+    fn expand_item(
         &self,
         inner: &Form,
         body: &Form,
         item: &Value<R>,
         slots: &Slots<'_, R>,
     ) -> Result<(List<Value<R>>, End), AllocError>
-        ensures { IfOk result (λ s. s ≡ expanded_of (world_of R.table_of R.shown self.now.tables.now) (values_in slots.now) inner.now body.now item.now) }
+        ensures { IfOk result (λ s. s ≡ expanded_of (world self.now)
+            (values_in slots.now) inner.now body.now item.now) }
     {
         let deeper = (&*slots).with(&*item);
-        self.drained(Stage::Select, inner, body, &deeper)
+        self.drain(&Stage::Select(body), inner, &deeper)
     }
 
     /// The same of each item of a source, up to the first fault.
     #[cycle(running)]
-    fn expanded(
+    fn expand(
         &self,
         source: &Form,
         inner: &Form,
         body: &Form,
         slots: &Slots<'_, R>,
     ) -> Result<(List<Value<R>>, End), AllocError>
-        ensures { IfOk result (λ s. s ≡ each (expanded_of (world_of R.table_of R.shown self.now.tables.now) (values_in slots.now) inner.now body.now)
-            (items_meant (world_of R.table_of R.shown self.now.tables.now) source.now slots.now).0 (items_meant (world_of R.table_of R.shown self.now.tables.now) source.now slots.now).1) }
+        ensures { IfOk result (λ items.
+            items ≡ expanded_items (world self.now) (values_in slots.now) inner.now body.now
+            (items_meant (world self.now) source.now slots.now)) }
     {
         let mut base = self.open(source, slots)?;
         let mut made = List::new(self.alloc);
         loop {
-            match self.next(Stage::Plain, source, source, &mut base, slots)? {
+            match self.next(&Stage::Plain, source, &mut base, slots)? {
                 Step::Item(item) => {
-                    let (values, ending) = self.expanded_item(inner, body, &item, slots)?;
-                    made = sequences::joined(made, values)?;
+                    let (values, ending) = self.expand_item(inner, body, &item, slots)?;
+                    made = sequences::append(made, values)?;
                     if let End::Fault(fault) = ending {
                         return Ok((made, End::Fault(fault)));
                     }
@@ -98,22 +100,25 @@ impl<'a, R: TableRow> Running<'a, R> {
         element: &Form,
         slots: &Slots<'_, R>,
     ) -> Result<Value<R>, RunError>
-        ensures { IsAnswer (meant (world_of R.table_of R.shown self.now.tables.now) (form.GroupBy source.now key.now element.now) slots.now) result }
+        ensures { IsAnswer
+            (meant (world self.now) (form.GroupBy source.now key.now element.now) slots.now)
+            result }
     {
-        let (pairs, end) = self.keyed(source, key, element, slots)?;
+        let (pairs, end) = self.key_pairs(source, key, element, slots)?;
         Ok(sequences::groups(self.alloc, pairs, end)?)
     }
 
     /// The key of an item, and then its element.
     #[cycle(running)]
-    fn keyed_item(
+    fn key_pair(
         &self,
         key: &Form,
         element: &Form,
         item: &Value<R>,
         slots: &Slots<'_, R>,
     ) -> Result<Result<(Value<R>, Value<R>), Fault>, AllocError>
-        ensures { IfOk result (λ found. found ≡ keyed_of (world_of R.table_of R.shown self.now.tables.now) (values_in slots.now) key.now element.now item.now) }
+        ensures { IfOk result (λ found. found ≡ keyed_of (world self.now)
+            (values_in slots.now) key.now element.now item.now) }
     {
         match self.of_item(key, item, slots)? {
             Ok(key) => match self.of_item(element, item, slots)? {
@@ -127,7 +132,7 @@ impl<'a, R: TableRow> Running<'a, R> {
     /// The key of the next item of a source, and its element; or how they end.
     #[cycle(running)]
     #[tactic(auto, using(crate::proofs::PullLemmas::selects))]
-    fn next_keyed(
+    fn next_key_pair(
         &self,
         source: &Form,
         key: &Form,
@@ -135,12 +140,14 @@ impl<'a, R: TableRow> Running<'a, R> {
         base: &mut Base<'a, R>,
         slots: &Slots<'_, R>,
     ) -> Result<Result<(Value<R>, Value<R>), End>, AllocError>
-        ensures { IfOk result (λ found. StepsTo
-            (select_by (keyed_of (world_of R.table_of R.shown self.now.tables.now) (values_in slots.now) key.now element.now) (left (world_of R.table_of R.shown self.now.tables.now) (values_in slots.now) stage.Plain source.now source.now base.old).0 (left (world_of R.table_of R.shown self.now.tables.now) (values_in slots.now) stage.Plain source.now source.now base.old).1) found
-            (select_by (keyed_of (world_of R.table_of R.shown self.now.tables.now) (values_in slots.now) key.now element.now) (left (world_of R.table_of R.shown self.now.tables.now) (values_in slots.now) stage.Plain source.now source.now base.new).0 (left (world_of R.table_of R.shown self.now.tables.now) (values_in slots.now) stage.Plain source.now source.now base.new).1)) }
+        ensures { IfOk result (λ pair. StepsTo
+            (keyed_items (world self.now) (values_in slots.now) key.now element.now
+            (remaining (world self.now) (values_in slots.now) stage.Plain source.now base.old)) pair
+            (keyed_items (world self.now) (values_in slots.now) key.now element.now
+            (remaining (world self.now) (values_in slots.now) stage.Plain source.now base.new))) }
     {
-        match self.next(Stage::Plain, source, source, base, slots)? {
-            Step::Item(item) => match self.keyed_item(key, element, &item, slots)? {
+        match self.next(&Stage::Plain, source, base, slots)? {
+            Step::Item(item) => match self.key_pair(key, element, &item, slots)? {
                 Ok(pair) => Ok(Ok(pair)),
                 Err(fault) => Ok(Err(End::Fault(fault))),
             },
@@ -151,20 +158,21 @@ impl<'a, R: TableRow> Running<'a, R> {
     /// The keys of the items of a source with their elements, up to the first fault.
     #[cycle(running)]
     #[tactic(auto, using(crate::proofs::PullLemmas::keeps))]
-    fn keyed(
+    fn key_pairs(
         &self,
         source: &Form,
         key: &Form,
         element: &Form,
         slots: &Slots<'_, R>,
     ) -> Result<(List<(Value<R>, Value<R>)>, End), AllocError>
-        ensures { IfOk result (λ s. s ≡ select_by (keyed_of (world_of R.table_of R.shown self.now.tables.now) (values_in slots.now) key.now element.now)
-            (items_meant (world_of R.table_of R.shown self.now.tables.now) source.now slots.now).0 (items_meant (world_of R.table_of R.shown self.now.tables.now) source.now slots.now).1) }
+        ensures { IfOk result (λ pairs.
+            pairs ≡ keyed_items (world self.now) (values_in slots.now) key.now element.now
+            (items_meant (world self.now) source.now slots.now)) }
     {
         let mut base = self.open(source, slots)?;
         let mut made = List::new(self.alloc);
         loop {
-            match self.next_keyed(source, key, element, &mut base, slots)? {
+            match self.next_key_pair(source, key, element, &mut base, slots)? {
                 Ok(pair) => made.push(pair)?,
                 Err(end) => return Ok((made, end)),
             }
@@ -180,28 +188,30 @@ impl<'a, R: TableRow> Running<'a, R> {
         source: &Form,
         slots: &Slots<'_, R>,
     ) -> Result<Value<R>, RunError>
-        ensures { IsAnswer (meant (world_of R.table_of R.shown self.now.tables.now) (form.Join source.now joined.now) slots.now) result }
+        ensures { IsAnswer
+            (meant (world self.now) (form.Join source.now joined.now) slots.now) result }
     {
-        let (pairs, pairs_end) = self.with_keys(&joined.inner, &joined.inner_key, slots)?;
+        let (pairs, pairs_end) = self.inner_pairs(&joined.inner, &joined.inner_key, slots)?;
         match pairs_end {
             End::Done => {
                 let matches = Matches::build(self.alloc, pairs)?;
-                let (values, end) = self.joined(joined, &matches, source, slots)?;
+                let (values, end) = self.join_outer(joined, &matches, source, slots)?;
                 Ok(Value::Seq(values, end))
             }
-            End::Fault(fault) => Ok(sequences::stopped(self.alloc, fault)),
+            End::Fault(fault) => Ok(sequences::fault_sequence(self.alloc, fault)),
         }
     }
 
     /// An inner item with its key.
     #[cycle(running)]
-    fn with_key(
+    fn inner_pair(
         &self,
         key: &Form,
         item: Value<R>,
         slots: &Slots<'_, R>,
     ) -> Result<Result<(Value<R>, Value<R>), Fault>, AllocError>
-        ensures { IfOk result (λ found. found ≡ with_key_of (world_of R.table_of R.shown self.now.tables.now) (values_in slots.now) key.now item) }
+        ensures { IfOk result (λ found. found ≡ with_key_of (world self.now)
+            (values_in slots.now) key.now item) }
     {
         match self.of_item(key, &item, slots)? {
             Ok(key) => Ok(Ok((key, item))),
@@ -212,19 +222,21 @@ impl<'a, R: TableRow> Running<'a, R> {
     /// The next item of an inner source with its key, or how they end.
     #[cycle(running)]
     #[tactic(auto, using(crate::proofs::PullLemmas::selects))]
-    fn next_with_key(
+    fn next_inner_pair(
         &self,
         source: &Form,
         key: &Form,
         base: &mut Base<'a, R>,
         slots: &Slots<'_, R>,
     ) -> Result<Result<(Value<R>, Value<R>), End>, AllocError>
-        ensures { IfOk result (λ found. StepsTo
-            (select_by (with_key_of (world_of R.table_of R.shown self.now.tables.now) (values_in slots.now) key.now) (left (world_of R.table_of R.shown self.now.tables.now) (values_in slots.now) stage.Plain source.now source.now base.old).0 (left (world_of R.table_of R.shown self.now.tables.now) (values_in slots.now) stage.Plain source.now source.now base.old).1) found
-            (select_by (with_key_of (world_of R.table_of R.shown self.now.tables.now) (values_in slots.now) key.now) (left (world_of R.table_of R.shown self.now.tables.now) (values_in slots.now) stage.Plain source.now source.now base.new).0 (left (world_of R.table_of R.shown self.now.tables.now) (values_in slots.now) stage.Plain source.now source.now base.new).1)) }
+        ensures { IfOk result (λ pair. StepsTo
+            (items_with_keys (world self.now) (values_in slots.now) key.now
+            (remaining (world self.now) (values_in slots.now) stage.Plain source.now base.old)) pair
+            (items_with_keys (world self.now) (values_in slots.now) key.now
+            (remaining (world self.now) (values_in slots.now) stage.Plain source.now base.new))) }
     {
-        match self.next(Stage::Plain, source, source, base, slots)? {
-            Step::Item(item) => match self.with_key(key, item, slots)? {
+        match self.next(&Stage::Plain, source, base, slots)? {
+            Step::Item(item) => match self.inner_pair(key, item, slots)? {
                 Ok(pair) => Ok(Ok(pair)),
                 Err(fault) => Ok(Err(End::Fault(fault))),
             },
@@ -235,19 +247,20 @@ impl<'a, R: TableRow> Running<'a, R> {
     /// The items of an inner source with their keys, up to the first fault.
     #[cycle(running)]
     #[tactic(auto, using(crate::proofs::PullLemmas::keeps))]
-    fn with_keys(
+    fn inner_pairs(
         &self,
         source: &Form,
         key: &Form,
         slots: &Slots<'_, R>,
     ) -> Result<(List<(Value<R>, Value<R>)>, End), AllocError>
-        ensures { IfOk result (λ s. s ≡ select_by (with_key_of (world_of R.table_of R.shown self.now.tables.now) (values_in slots.now) key.now)
-            (items_meant (world_of R.table_of R.shown self.now.tables.now) source.now slots.now).0 (items_meant (world_of R.table_of R.shown self.now.tables.now) source.now slots.now).1) }
+        ensures { IfOk result (λ pairs.
+            pairs ≡ items_with_keys (world self.now) (values_in slots.now) key.now
+            (items_meant (world self.now) source.now slots.now)) }
     {
         let mut base = self.open(source, slots)?;
         let mut made = List::new(self.alloc);
         loop {
-            match self.next_with_key(source, key, &mut base, slots)? {
+            match self.next_inner_pair(source, key, &mut base, slots)? {
                 Ok(pair) => made.push(pair)?,
                 Err(end) => return Ok((made, end)),
             }
@@ -256,19 +269,20 @@ impl<'a, R: TableRow> Running<'a, R> {
 
     /// What comes of an outer item and of each inner one that its key matches, or of all of them.
     #[cycle(running)]
-    fn joined_item(
+    fn join_item(
         &self,
         joined: &Joined<Form>,
         matches: &Matches<R>,
         item: &Value<R>,
         slots: &Slots<'_, R>,
     ) -> Result<(List<Value<R>>, End), AllocError>
-        ensures { IfOk result (λ s. s ≡ joined_of (world_of R.table_of R.shown self.now.tables.now) (values_in slots.now) joined.now (pairs_of matches.now) item.now) }
+        ensures { IfOk result (λ s. s ≡ joined_of (world self.now) (values_in slots.now) joined.now
+            (pairs_of matches.now) item.now) }
     {
         match self.of_item(&joined.outer_key, item, slots)? {
             Ok(key) => {
-                let found = sequences::matched(self.alloc, joined.grouped, &key, matches)?;
-                self.matched_item(&joined.result, found.as_slice(), item, slots)
+                let found = sequences::match_items(self.alloc, joined.grouped, &key, matches)?;
+                self.match_item(&joined.result, found.as_slice(), item, slots)
             }
             Err(fault) => Ok((List::new(self.alloc), End::Fault(fault))),
         }
@@ -276,38 +290,41 @@ impl<'a, R: TableRow> Running<'a, R> {
 
     /// What comes of an item and of each of what it matches.
     #[cycle(running)]
-    fn matched_item(
+    fn match_item(
         &self,
         body: &Form,
         found: &[Value<R>],
         item: &Value<R>,
         slots: &Slots<'_, R>,
     ) -> Result<(List<Value<R>>, End), AllocError>
-        ensures { IfOk result (λ s. s ≡ made (λ w. form_meaning (world_of R.table_of R.shown self.now.tables.now) body.now (with_items (world_of R.table_of R.shown self.now.tables.now) (values_in slots.now) item.now w)) (found.now, end.Done)) }
+        ensures { IfOk result (λ items. items
+            ≡ matched_items (world self.now) (values_in slots.now) body.now item.now found.now) }
     {
         let deeper = (&*slots).with(&*item);
-        self.selected(body, found, End::Done, &deeper)
+        self.select_all(body, found, End::Done, &deeper)
     }
 
     /// What comes of each item of an outer source, up to the first fault.
     #[cycle(running)]
-    fn joined(
+    fn join_outer(
         &self,
         joined: &Joined<Form>,
         matches: &Matches<R>,
         source: &Form,
         slots: &Slots<'_, R>,
     ) -> Result<(List<Value<R>>, End), AllocError>
-        ensures { IfOk result (λ s. s ≡ each (joined_of (world_of R.table_of R.shown self.now.tables.now) (values_in slots.now) joined.now (pairs_of matches.now))
-            (items_meant (world_of R.table_of R.shown self.now.tables.now) source.now slots.now).0 (items_meant (world_of R.table_of R.shown self.now.tables.now) source.now slots.now).1) }
+        ensures { IfOk result (λ items.
+            items ≡ joined_items (world self.now) (values_in slots.now) joined.now
+            (pairs_of matches.now)
+            (items_meant (world self.now) source.now slots.now)) }
     {
         let mut base = self.open(source, slots)?;
         let mut made = List::new(self.alloc);
         loop {
-            match self.next(Stage::Plain, source, source, &mut base, slots)? {
+            match self.next(&Stage::Plain, source, &mut base, slots)? {
                 Step::Item(item) => {
-                    let (values, ending) = self.joined_item(joined, matches, &item, slots)?;
-                    made = sequences::joined(made, values)?;
+                    let (values, ending) = self.join_item(joined, matches, &item, slots)?;
+                    made = sequences::append(made, values)?;
                     if let End::Fault(fault) = ending {
                         return Ok((made, End::Fault(fault)));
                     }
@@ -326,56 +343,60 @@ impl<'a, R: TableRow> Running<'a, R> {
         source: &Form,
         slots: &Slots<'_, R>,
     ) -> Result<Value<R>, RunError>
-        ensures { IsAnswer (meant (world_of R.table_of R.shown self.now.tables.now) (form.OrderBy source.now keys.now) slots.now) result }
+        ensures { IsAnswer
+            (meant (world self.now) (form.OrderBy source.now keys.now) slots.now) result }
     {
-        let (items, end) = self.drained(Stage::Plain, source, source, slots)?;
-        Ok(self.arranged(keys, items, end, slots)?)
+        let (items, end) = self.drain(&Stage::Plain, source, slots)?;
+        Ok(self.arrange(keys, items, end, slots)?)
     }
 
     /// The items sorted by keys; where their stream ended in a fault, nothing but that fault.
     #[cycle(running)]
-    fn arranged(
+    fn arrange(
         &self,
         keys: &List<SortKey<Form>>,
         items: List<Value<R>>,
         end: End,
         slots: &Slots<'_, R>,
     ) -> Result<Value<R>, AllocError>
-        ensures { IfOk result (λ v. v ≡ sequence (whole items end (sorted_by (world_of R.table_of R.shown self.now.tables.now) (values_in slots.now) keys.now))) }
+        ensures { IfOk result (λ v. v ≡ sequence (whole items end
+            (sorted_by (world self.now) (values_in slots.now) keys.now))) }
     {
         match end {
-            End::Done => self.sorted(keys, items, slots),
-            End::Fault(fault) => Ok(sequences::stopped(self.alloc, fault)),
+            End::Done => self.sort(keys, items, slots),
+            End::Fault(fault) => Ok(sequences::fault_sequence(self.alloc, fault)),
         }
     }
 
     /// The items sorted by keys, or the first fault that is met in a key.
     #[cycle(running)]
-    fn sorted(
+    fn sort(
         &self,
         keys: &List<SortKey<Form>>,
         items: List<Value<R>>,
         slots: &Slots<'_, R>,
     ) -> Result<Value<R>, AllocError>
-        ensures { IfOk result (λ v. v ≡ sequence (sorted_by (world_of R.table_of R.shown self.now.tables.now) (values_in slots.now) keys.now items)) }
+        ensures { IfOk result (λ v. v ≡ sequence (sorted_by (world self.now)
+            (values_in slots.now) keys.now items)) }
     {
-        let columns = self.columns(keys, items.as_slice(), slots);
-        arrangements::sorted_by(self.alloc, keys.as_slice(), columns, items)
+        let columns = self.key_columns(keys, items.as_slice(), slots);
+        arrangements::sort_by(self.alloc, keys.as_slice(), columns, items)
     }
 
     /// The first key of all items, then the next of all, up to the first fault.
     #[cycle(running)]
-    fn columns(
+    fn key_columns(
         &self,
         keys: &List<SortKey<Form>>,
         items: &[Value<R>],
         slots: &Slots<'_, R>,
     ) -> Result<List<List<Scalar>>, RunError>
-        ensures { Answers (columns_of (world_of R.table_of R.shown self.now.tables.now) (values_in slots.now) keys.now items.now) result }
+        ensures { Answers
+            (columns_of (world self.now) (values_in slots.now) keys.now items.now) result }
     {
         let mut made = List::new(self.alloc);
         for key in keys.as_slice() {
-            let column = self.keys_of(&key.value, items, slots)?;
+            let column = self.key_column(&key.value, items, slots)?;
             made.push(column)?;
         }
         Ok(made)
@@ -383,17 +404,18 @@ impl<'a, R: TableRow> Running<'a, R> {
 
     /// A key of each item, up to the first fault.
     #[cycle(running)]
-    fn keys_of(
+    fn key_column(
         &self,
         key: &Form,
         items: &[Value<R>],
         slots: &Slots<'_, R>,
     ) -> Result<List<Scalar>, RunError>
-        ensures { Answers (all_of (key_at (world_of R.table_of R.shown self.now.tables.now) (values_in slots.now) key.now) items.now) result }
+        ensures { Answers
+            (all_of (key_at (world self.now) (values_in slots.now) key.now) items.now) result }
     {
         let mut made = List::new(self.alloc);
         for item in items {
-            let found = self.key_of(key, item, slots)?;
+            let found = self.sort_key(key, item, slots)?;
             made.push(found)?;
         }
         Ok(made)
@@ -401,8 +423,13 @@ impl<'a, R: TableRow> Running<'a, R> {
 
     /// A key of an item.
     #[cycle(running)]
-    fn key_of(&self, key: &Form, item: &Value<R>, slots: &Slots<'_, R>) -> Result<Scalar, RunError>
-        ensures { Answers (key_at (world_of R.table_of R.shown self.now.tables.now) (values_in slots.now) key.now item.now) result }
+    fn sort_key(
+        &self,
+        key: &Form,
+        item: &Value<R>,
+        slots: &Slots<'_, R>,
+    ) -> Result<Scalar, RunError>
+        ensures { Answers (key_at (world self.now) (values_in slots.now) key.now item.now) result }
     {
         self.scalar(key, &(&*slots).with(&*item))
     }

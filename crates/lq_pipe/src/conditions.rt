@@ -11,13 +11,14 @@ impl<'a, R: TableRow> Running<'a, R> {
     ghost use Rattle.std.specs.Prelude.{IfSome};
     ghost use Rattle.lq_tree.specs.declared.tree.Form.TheVariants as form;
     ghost use Rattle.lq_pipe.specs.Running.{Answers, meant, truth_in};
-    ghost use Rattle.lq_pipe.specs.Worlds.{world_of};
+    ghost use Rattle.lq_pipe.specs.Runs.{world};
 
     /// The truth value that a form means.
     #[cycle(running)]
     #[inline(never)]
     pub(crate) fn truth(&self, form: &Form, slots: &Slots<'_, R>) -> Result<bool, RunError>
-        ensures { Answers (truth_in (world_of R.table_of R.shown self.now.tables.now) (meant (world_of R.table_of R.shown self.now.tables.now) form.now slots.now)) result }
+        ensures { Answers (truth_in (world self.now)
+            (meant (world self.now) form.now slots.now)) result }
     {
         match form {
             Form::And(left, right) => self.truth_of_both(left.get(), right.get(), slots),
@@ -39,7 +40,8 @@ impl<'a, R: TableRow> Running<'a, R> {
         right: &Form,
         slots: &Slots<'_, R>,
     ) -> Result<bool, RunError>
-        ensures { Answers (truth_in (world_of R.table_of R.shown self.now.tables.now) (meant (world_of R.table_of R.shown self.now.tables.now) (form.And left.now right.now) slots.now)) result }
+        ensures { Answers (truth_in (world self.now)
+            (meant (world self.now) (form.And left.now right.now) slots.now)) result }
     {
         match self.truth(left, slots)? {
             true => self.truth(right, slots),
@@ -57,7 +59,8 @@ impl<'a, R: TableRow> Running<'a, R> {
         right: &Form,
         slots: &Slots<'_, R>,
     ) -> Result<bool, RunError>
-        ensures { Answers (truth_in (world_of R.table_of R.shown self.now.tables.now) (meant (world_of R.table_of R.shown self.now.tables.now) (form.Or left.now right.now) slots.now)) result }
+        ensures { Answers (truth_in (world self.now)
+            (meant (world self.now) (form.Or left.now right.now) slots.now)) result }
     {
         match self.truth(left, slots)? {
             true => Ok(true),
@@ -67,19 +70,19 @@ impl<'a, R: TableRow> Running<'a, R> {
 
     /// The truth value that an operator gives to two operands, if both stand where they are read.
     #[tactic(auto, using(crate::proofs::TruthLemmas::truth_binary))]
-    fn truth_there(
+    fn truth_of_refs(
         &self,
         op: Op,
         left: &Form,
         right: &Form,
         slots: &Slots<'_, R>,
     ) -> Option<Result<bool, RunError>>
-        ensures { IfSome result (λ found. Answers (truth_in (world_of R.table_of R.shown self.now.tables.now)
-            (meant (world_of R.table_of R.shown self.now.tables.now) (form.Binary op left.now right.now) slots.now)) found) }
+        ensures { IfSome result (λ found. Answers (truth_in (world self.now)
+            (meant (world self.now) (form.Binary op left.now right.now) slots.now)) found) }
     {
         let sign = scalars::sign_of(op)?;
-        let left = self.there(left, slots)?;
-        let right = self.there(right, slots)?;
+        let left = self.scalar_ref(left, slots)?;
+        let right = self.scalar_ref(right, slots)?;
         Some(scalars::truth_of_sign(sign, left, right))
     }
 
@@ -93,9 +96,10 @@ impl<'a, R: TableRow> Running<'a, R> {
         right: &Form,
         slots: &Slots<'_, R>,
     ) -> Result<bool, RunError>
-        ensures { Answers (truth_in (world_of R.table_of R.shown self.now.tables.now) (meant (world_of R.table_of R.shown self.now.tables.now) (form.Binary op left.now right.now) slots.now)) result }
+        ensures { Answers (truth_in (world self.now)
+            (meant (world self.now) (form.Binary op left.now right.now) slots.now)) result }
     {
-        match (&*self).truth_there(op, &*left, &*right, &*slots) {
+        match (&*self).truth_of_refs(op, &*left, &*right, &*slots) {
             Some(found) => found,
             None => scalars::truth_in(self.binary(op, left, right, slots)?),
         }

@@ -2,10 +2,10 @@
 use crate::counts::{needed, read};
 use crate::running::Running;
 use crate::slots::Slots;
-use crate::stages::{Stage, Step};
+use crate::stages::{Stage, Step, stage_of};
 use crate::tables::TableRow;
 use crate::{parts, scalars, sequences};
-use lq_language::{Given, Simple, Through};
+use lq_language::{Given, Simple};
 use lq_operators::{RunError, Tally, given, simple};
 use lq_tree::Form;
 use lq_value::{End, Fault, List, Ty, Value, same};
@@ -15,7 +15,7 @@ impl<'a, R: TableRow> Running<'a, R> {
     ghost use Rattle.std.specs.Prelude.{◌≡◌, IfOk, Ok};
     ghost use Rattle.lq_value.specs.SameAndOrder.{same_values};
     ghost use Rattle.lq_value.specs.declared.ty.Ty.{Ty};
-    ghost use Rattle.lq_language.specs.OperandMeaning.{as_value, stream_of};
+    ghost use Rattle.lq_language.specs.OperandMeaning.{as_value};
     ghost use Rattle.lq_language.specs.Enumerable.{all, contains};
     ghost use Rattle.lq_language.specs.Stream.{select_by};
     ghost use Rattle.lq_language.specs.declared.methods.Given.TheVariants as given;
@@ -25,55 +25,108 @@ impl<'a, R: TableRow> Running<'a, R> {
     ghost use Rattle.lq_tree.specs.declared.tree.Form.TheVariants as form;
     ghost use Rattle.lq_pipe.specs.Pulling.{pulled};
     ghost use Rattle.lq_pipe.specs.Running.{holds_of, items_meant, meant, of_item};
+    ghost use Rattle.lq_pipe.specs.Runs.{world};
     ghost use Rattle.lq_pipe.specs.Slots.{values_in};
-    ghost use Rattle.lq_pipe.specs.Worlds.{world_of};
 
     /// A sequence, of which a fault that is met in making it is the ending.
     #[cycle(running)]
     #[inline(never)]
     #[tactic(auto, using(crate::proofs::Forms::form_sequence))]
     pub(crate) fn sequence(&self, source: &Form, slots: &Slots<'_, R>) -> Result<Value<R>, RunError>
-        ensures { IsAnswer (meant (world_of R.table_of R.shown self.now.tables.now) (form.Sequence source.now) slots.now) result }
+        ensures { IsAnswer (meant (world self.now) (form.Sequence source.now) slots.now) result }
     {
-        let (items, end) = self.drained(Stage::Plain, source, source, slots)?;
+        let (items, end) = self.drain(&Stage::Plain, source, slots)?;
         Ok(Value::Seq(items, end))
     }
 
-    /// A method without an argument, on the items of a source behind its last stage.
+    /// The items of a source on which a condition is true.
     #[cycle(running)]
     #[inline(never)]
-    #[tactic(auto, using(crate::proofs::CountLemmas::tally_answers))]
-    pub(crate) fn simple(
+    #[tactic(auto, using(crate::proofs::Forms::form_where))]
+    pub(crate) fn filter(
         &self,
-        method: Simple,
-        of: &Ty,
-        stage: Stage,
+        source: &Form,
+        condition: &Form,
+        slots: &Slots<'_, R>,
+    ) -> Result<Value<R>, RunError>
+        ensures { IsAnswer
+            (meant (world self.now) (form.Where source.now condition.now) slots.now) result }
+    {
+        let (items, end) = self.drain(&Stage::Where(condition), source, slots)?;
+        Ok(Value::Seq(items, end))
+    }
+
+    /// What a lambda gives of each item of a source.
+    #[cycle(running)]
+    #[inline(never)]
+    #[tactic(auto, using(crate::proofs::Forms::form_select))]
+    pub(crate) fn select(
+        &self,
         source: &Form,
         body: &Form,
         slots: &Slots<'_, R>,
     ) -> Result<Value<R>, RunError>
-        ensures { IsAnswer (simple_meaning method of.now (pulled (world_of R.table_of R.shown self.now.tables.now) (values_in slots.now) stage source.now body.now)) result }
+        ensures { IsAnswer
+            (meant (world self.now) (form.Select source.now body.now) slots.now) result }
+    {
+        let (items, end) = self.drain(&Stage::Select(body), source, slots)?;
+        Ok(Value::Seq(items, end))
+    }
+
+    /// A method without an argument. Where its source is a stage, the items go through it as they are
+    /// pulled.
+    #[cycle(running)]
+    #[inline(never)]
+    pub(crate) fn simple(
+        &self,
+        method: Simple,
+        of: &Ty,
+        source: &Form,
+        slots: &Slots<'_, R>,
+    ) -> Result<Value<R>, RunError>
+        ensures { IsAnswer (simple_meaning method of.now
+            (items_meant (world self.now) source.now slots.now)) result }
+    {
+        match stage_of(source) {
+            Some((stage, source)) => self.simple_behind(method, of, &stage, source, slots),
+            None => self.simple_behind(method, of, &Stage::Plain, source, slots),
+        }
+    }
+
+    /// The same on the items of a source behind its last stage.
+    #[cycle(running)]
+    #[tactic(auto, using(crate::proofs::CountLemmas::tally_answers))]
+    fn simple_behind(
+        &self,
+        method: Simple,
+        of: &Ty,
+        stage: &Stage<'_>,
+        source: &Form,
+        slots: &Slots<'_, R>,
+    ) -> Result<Value<R>, RunError>
+        ensures { IsAnswer (simple_meaning method of.now
+            (pulled (world self.now) (values_in slots.now) stage.now source.now)) result }
     {
         match Tally::of(method) {
-            Some(tally) => self.tallied(tally, of, stage, source, body, slots),
-            None => self.listed(method, of, stage, source, body, slots),
+            Some(tally) => self.tally(tally, of, stage, source, slots),
+            None => self.simple_items(method, of, stage, source, slots),
         }
     }
 
     /// The same of a method that makes no number: only the items that it reads are pulled.
     #[cycle(running)]
-    fn listed(
+    fn simple_items(
         &self,
         method: Simple,
         of: &Ty,
-        stage: Stage,
+        stage: &Stage<'_>,
         source: &Form,
-        body: &Form,
         slots: &Slots<'_, R>,
     ) -> Result<Value<R>, RunError>
-        ensures { IsAnswer (simple_meaning method of.now (pulled (world_of R.table_of R.shown self.now.tables.now) (values_in slots.now) stage source.now body.now)) result }
+        ensures { IsAnswer (simple_meaning method of.now
+            (pulled (world self.now) (values_in slots.now) stage.now source.now)) result }
     {
-        let (items, end) = self.read_items(method, stage, source, body, slots)?;
+        let (items, end) = self.read_items(method, stage, source, slots)?;
         simple(self.alloc, method, of, items, end)
     }
 
@@ -83,21 +136,21 @@ impl<'a, R: TableRow> Running<'a, R> {
     fn read_items(
         &self,
         method: Simple,
-        stage: Stage,
+        stage: &Stage<'_>,
         source: &Form,
-        body: &Form,
         slots: &Slots<'_, R>,
     ) -> Result<(List<Value<R>>, End), AllocError>
-        ensures { IfOk result (λ s. (t : Ty) → simple_meaning method t s
-            ≡ simple_meaning method t (pulled (world_of R.table_of R.shown self.now.tables.now) (values_in slots.now) stage source.now body.now)) }
+        ensures { IfOk result (λ items. (t : Ty) → simple_meaning method t items
+            ≡ simple_meaning method t
+            (pulled (world self.now) (values_in slots.now) stage.now source.now)) }
     {
         match read(method) {
             Some(count) => {
-                let items = self.taken(count, stage, source, body, slots)?;
+                let items = self.take(count, stage, source, slots)?;
                 Ok(items)
             }
             None => {
-                let items = self.drained(stage, source, body, slots)?;
+                let items = self.drain(stage, source, slots)?;
                 Ok(items)
             }
         }
@@ -107,22 +160,22 @@ impl<'a, R: TableRow> Running<'a, R> {
     #[cycle(running)]
     #[inline(never)]
     #[tactic(auto, using(crate::proofs::CountLemmas::tallies))]
-    fn tallied(
+    fn tally(
         &self,
         tally: Tally,
         of: &Ty,
-        stage: Stage,
+        stage: &Stage<'_>,
         source: &Form,
-        body: &Form,
         slots: &Slots<'_, R>,
     ) -> Result<Value<R>, RunError>
-        ensures { IsAnswer (as_value (tallied of.now tally (pulled (world_of R.table_of R.shown self.now.tables.now) (values_in slots.now) stage source.now body.now))) result }
+        ensures { IsAnswer (as_value (tallied of.now tally
+            (pulled (world self.now) (values_in slots.now) stage.now source.now))) result }
     {
-        let plan = self.plan(stage, source, body, slots)?;
+        let plan = self.plan(stage, source, slots)?;
         let mut base = self.open(source, slots)?;
         let mut tally = tally;
         loop {
-            match self.next_planned(&plan, stage, source, body, &mut base, slots)? {
+            match self.next_planned(&plan, stage, source, &mut base, slots)? {
                 Step::Item(item) => tally = tally.with(&item)?,
                 Step::End(end) => return Ok(Value::Scalar(tally.told(of, end)?)),
             }
@@ -140,9 +193,10 @@ impl<'a, R: TableRow> Running<'a, R> {
         argument: &Form,
         slots: &Slots<'_, R>,
     ) -> Result<Value<R>, RunError>
-        ensures { IsAnswer (meant (world_of R.table_of R.shown self.now.tables.now) (form.Given method source.now argument.now) slots.now) result }
+        ensures { IsAnswer
+            (meant (world self.now) (form.Given method source.now argument.now) slots.now) result }
     {
-        let argument = sequences::settled(self.evaluate(argument, slots))?;
+        let argument = sequences::value_or_fault(self.evaluate(argument, slots))?;
         self.given_value(method, argument, source, slots)
     }
 
@@ -155,8 +209,8 @@ impl<'a, R: TableRow> Running<'a, R> {
         source: &Form,
         slots: &Slots<'_, R>,
     ) -> Result<Value<R>, RunError>
-        ensures { IsAnswer (given_meaning (world_of R.table_of R.shown self.now.tables.now) method argument
-            (items_meant (world_of R.table_of R.shown self.now.tables.now) source.now slots.now)) result }
+        ensures { IsAnswer (given_meaning (world self.now) method argument
+            (items_meant (world self.now) source.now slots.now)) result }
     {
         match method {
             Given::Contains => self.contains(argument, source, slots),
@@ -173,8 +227,8 @@ impl<'a, R: TableRow> Running<'a, R> {
         source: &Form,
         slots: &Slots<'_, R>,
     ) -> Result<Value<R>, RunError>
-        ensures { IsAnswer (given_meaning (world_of R.table_of R.shown self.now.tables.now) method argument
-            (items_meant (world_of R.table_of R.shown self.now.tables.now) source.now slots.now)) result }
+        ensures { IsAnswer (given_meaning (world self.now) method argument
+            (items_meant (world self.now) source.now slots.now)) result }
     {
         let (items, end) = self.needed_items(method, &argument, source, slots)?;
         given(self.alloc, method, argument, items, end)
@@ -188,9 +242,8 @@ impl<'a, R: TableRow> Running<'a, R> {
         source: &Form,
         slots: &Slots<'_, R>,
     ) -> Result<Value<R>, RunError>
-        ensures { IsAnswer (given_meaning (world_of R.table_of R.shown self.now.tables.now)
-            given.Contains value
-            (items_meant (world_of R.table_of R.shown self.now.tables.now) source.now slots.now)) result }
+        ensures { IsAnswer (given_meaning (world self.now) given.Contains value
+            (items_meant (world self.now) source.now slots.now)) result }
     {
         match value {
             Ok(value) => self.has_item(&value, source, slots),
@@ -208,13 +261,13 @@ impl<'a, R: TableRow> Running<'a, R> {
         slots: &Slots<'_, R>,
     ) -> Result<Value<R>, RunError>
         ensures { IsAnswer (as_truth (contains same_values value.now
-            (items_meant (world_of R.table_of R.shown self.now.tables.now) source.now slots.now).0
-            (items_meant (world_of R.table_of R.shown self.now.tables.now) source.now slots.now).1)) result }
+            (items_meant (world self.now) source.now slots.now).0
+            (items_meant (world self.now) source.now slots.now).1)) result }
     {
-        let plan = self.plan(Stage::Plain, source, source, slots)?;
+        let plan = self.plan(&Stage::Plain, source, slots)?;
         let mut base = self.open(source, slots)?;
         loop {
-            match self.next_planned(&plan, Stage::Plain, source, source, &mut base, slots)? {
+            match self.next_planned(&plan, &Stage::Plain, source, &mut base, slots)? {
                 Step::Item(item) => {
                     if same(value, &item) {
                         return Ok(parts::truth(true));
@@ -235,64 +288,38 @@ impl<'a, R: TableRow> Running<'a, R> {
         source: &Form,
         slots: &Slots<'_, R>,
     ) -> Result<(List<Value<R>>, End), AllocError>
-        ensures { IfOk result (λ s. given_meaning (world_of R.table_of R.shown self.now.tables.now) method argument.now s
-            ≡ given_meaning (world_of R.table_of R.shown self.now.tables.now) method argument.now (items_meant (world_of R.table_of R.shown self.now.tables.now) source.now slots.now)) }
+        ensures { IfOk result (λ items. given_meaning (world self.now) method argument.now items
+            ≡ given_meaning (world self.now) method argument.now
+            (items_meant (world self.now) source.now slots.now)) }
     {
         match needed(method, argument) {
             Some(count) => {
-                let items = self.taken(count, Stage::Plain, source, source, slots)?;
+                let items = self.take(count, &Stage::Plain, source, slots)?;
                 Ok(items)
             }
             None => {
-                let items = self.drained(Stage::Plain, source, source, slots)?;
+                let items = self.drain(&Stage::Plain, source, slots)?;
                 Ok(items)
             }
-        }
-    }
-
-    /// A method with a lambda.
-    #[cycle(running)]
-    #[inline(never)]
-    #[tactic(auto, using(crate::proofs::Forms::form_through))]
-    pub(crate) fn through(
-        &self,
-        method: Through,
-        of: &Ty,
-        to: &Ty,
-        source: &Form,
-        body: &Form,
-        slots: &Slots<'_, R>,
-    ) -> Result<Value<R>, RunError>
-        ensures { IsAnswer (meant (world_of R.table_of R.shown self.now.tables.now) (form.Through method of.now to.now source.now body.now) slots.now) result }
-    {
-        match method {
-            Through::Where => {
-                let (items, end) = self.drained(Stage::Where, source, body, slots)?;
-                Ok(Value::Seq(items, end))
-            }
-            Through::Select => {
-                let (items, end) = self.drained(Stage::Select, source, body, slots)?;
-                Ok(Value::Seq(items, end))
-            }
-            Through::All => self.all(source, body, slots),
-            Through::Those(method) => self.simple(method, of, Stage::Where, source, body, slots),
-            Through::Values(method) => self.simple(method, to, Stage::Select, source, body, slots),
         }
     }
 
     /// Whether a condition is true of all items, up to the first of which it isn't.
     #[cycle(running)]
-    fn all(
+    #[inline(never)]
+    pub(crate) fn all(
         &self,
         source: &Form,
         condition: &Form,
         slots: &Slots<'_, R>,
     ) -> Result<Value<R>, RunError>
-        ensures { IsAnswer (as_truth (all (holds_of (world_of R.table_of R.shown self.now.tables.now) condition.now slots.now) (stream_of (world_of R.table_of R.shown self.now.tables.now) (meant (world_of R.table_of R.shown self.now.tables.now) source.now slots.now)).0 (stream_of (world_of R.table_of R.shown self.now.tables.now) (meant (world_of R.table_of R.shown self.now.tables.now) source.now slots.now)).1)) result }
+        ensures { IsAnswer (as_truth (all (holds_of (world self.now) condition.now slots.now)
+            (items_meant (world self.now) source.now slots.now).0
+            (items_meant (world self.now) source.now slots.now).1)) result }
     {
         let mut base = self.open(source, slots)?;
         loop {
-            match self.next(Stage::Plain, source, source, &mut base, slots)? {
+            match self.next(&Stage::Plain, source, &mut base, slots)? {
                 Step::Item(item) => match self.holds(condition, &item, slots)? {
                     Ok(true) => {}
                     Ok(false) => return Ok(parts::truth(false)),
@@ -311,9 +338,10 @@ impl<'a, R: TableRow> Running<'a, R> {
         item: &Value<R>,
         slots: &Slots<'_, R>,
     ) -> Result<Result<bool, Fault>, AllocError>
-        ensures { IfOk result (λ found. found ≡ holds_of (world_of R.table_of R.shown self.now.tables.now) condition.now slots.now item.now) }
+        ensures { IfOk result (λ truth.
+            truth ≡ holds_of (world self.now) condition.now slots.now item.now) }
     {
-        scalars::told(self.truth(condition, &(&*slots).with(&*item)))
+        scalars::truth_or_fault(self.truth(condition, &(&*slots).with(&*item)))
     }
 
     /// What a form gives of an item.
@@ -324,21 +352,23 @@ impl<'a, R: TableRow> Running<'a, R> {
         item: &Value<R>,
         slots: &Slots<'_, R>,
     ) -> Result<Result<Value<R>, Fault>, AllocError>
-        ensures { IfOk result (λ found. found ≡ of_item (world_of R.table_of R.shown self.now.tables.now) body.now slots.now item.now) }
+        ensures { IfOk result (λ value.
+            value ≡ of_item (world self.now) body.now slots.now item.now) }
     {
-        sequences::settled(self.evaluate(body, &(&*slots).with(&*item)))
+        sequences::value_or_fault(self.evaluate(body, &(&*slots).with(&*item)))
     }
 
     /// What a form gives of each item, up to the first fault.
     #[cycle(running)]
-    pub(crate) fn selected(
+    pub(crate) fn select_all(
         &self,
         body: &Form,
         items: &[Value<R>],
         end: End,
         slots: &Slots<'_, R>,
     ) -> Result<(List<Value<R>>, End), AllocError>
-        ensures { IfOk result (λ s. s ≡ select_by (of_item (world_of R.table_of R.shown self.now.tables.now) body.now slots.now) items.now end) }
+        ensures { IfOk result (λ values.
+            values ≡ select_by (of_item (world self.now) body.now slots.now) items.now end) }
     {
         let mut made = List::new(self.alloc);
         for item in items {

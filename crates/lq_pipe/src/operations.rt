@@ -19,8 +19,8 @@ impl<'a, R: TableRow> Running<'a, R> {
     ghost use Rattle.lq_pipe.specs.Lists.{field_means};
     ghost use Rattle.lq_tree.specs.declared.tree.Form.TheVariants as form;
     ghost use Rattle.lq_pipe.specs.Running.{Answers, meant};
+    ghost use Rattle.lq_pipe.specs.Runs.{world};
     ghost use Rattle.lq_pipe.specs.Slots.{values_in};
-    ghost use Rattle.lq_pipe.specs.Worlds.{world_of};
 
     /// What an operator gives to one operand.
     #[cycle(running)]
@@ -32,7 +32,7 @@ impl<'a, R: TableRow> Running<'a, R> {
         operand: &Form,
         slots: &Slots<'_, R>,
     ) -> Result<Value<R>, RunError>
-        ensures { IsAnswer (meant (world_of R.table_of R.shown self.now.tables.now) (form.Unary op operand.now) slots.now) result }
+        ensures { IsAnswer (meant (world self.now) (form.Unary op operand.now) slots.now) result }
     {
         let operand = self.scalar(operand, slots)?;
         scalars::of_one(self.alloc, op, operand)
@@ -41,17 +41,18 @@ impl<'a, R: TableRow> Running<'a, R> {
     /// What an operator gives to two operands, if both stand where they are read.
     #[inline(never)]
     #[tactic(auto, using(crate::proofs::Forms::binary_of))]
-    fn binary_there(
+    fn binary_of_refs(
         &self,
         op: Op,
         left: &Form,
         right: &Form,
         slots: &Slots<'_, R>,
     ) -> Option<Result<Value<R>, RunError>>
-        ensures { IfSome result (λ found. IsAnswer (meant (world_of R.table_of R.shown self.now.tables.now) (form.Binary op left.now right.now) slots.now) found) }
+        ensures { IfSome result (λ found. IsAnswer (meant (world self.now)
+            (form.Binary op left.now right.now) slots.now) found) }
     {
-        let left = self.there(left, slots)?;
-        let right = self.there(right, slots)?;
+        let left = self.scalar_ref(left, slots)?;
+        let right = self.scalar_ref(right, slots)?;
         Some(scalars::of_two(self.alloc, op, left, right))
     }
 
@@ -66,27 +67,28 @@ impl<'a, R: TableRow> Running<'a, R> {
         right: &Form,
         slots: &Slots<'_, R>,
     ) -> Result<Value<R>, RunError>
-        ensures { IsAnswer (meant (world_of R.table_of R.shown self.now.tables.now) (form.Binary op left.now right.now) slots.now) result }
+        ensures { IsAnswer
+            (meant (world self.now) (form.Binary op left.now right.now) slots.now) result }
     {
-        if let Some(found) = (&*self).binary_there(op, &*left, &*right, &*slots) {
+        if let Some(found) = (&*self).binary_of_refs(op, &*left, &*right, &*slots) {
             return found;
         }
         let left = self.scalar(left, slots)?;
-        self.binary_beside(op, left, right, slots)
+        self.binary_right(op, left, right, slots)
     }
 
     /// The same beside the left operand: a function of its own, so that operators that stand one below the
     /// other on their left take little of the stack.
     #[cycle(running)]
     #[inline(never)]
-    fn binary_beside(
+    fn binary_right(
         &self,
         op: Op,
         left: Scalar,
         right: &Form,
         slots: &Slots<'_, R>,
     ) -> Result<Value<R>, RunError>
-        ensures { IsAnswer (on_scalar (world_of R.table_of R.shown self.now.tables.now) (meant (world_of R.table_of R.shown self.now.tables.now) right.now slots.now)
+        ensures { IsAnswer (on_scalar (world self.now) (meant (world self.now) right.now slots.now)
             (λ t. as_value (of_two fault.NullReference op left t))) result }
     {
         let right = self.scalar(right, slots)?;
@@ -103,7 +105,8 @@ impl<'a, R: TableRow> Running<'a, R> {
         right: &Form,
         slots: &Slots<'_, R>,
     ) -> Result<Value<R>, RunError>
-        ensures { IsAnswer (meant (world_of R.table_of R.shown self.now.tables.now) (form.And left.now right.now) slots.now) result }
+        ensures { IsAnswer
+            (meant (world self.now) (form.And left.now right.now) slots.now) result }
     {
         match self.truth(left, slots)? {
             true => self.evaluate(right, slots),
@@ -121,7 +124,7 @@ impl<'a, R: TableRow> Running<'a, R> {
         right: &Form,
         slots: &Slots<'_, R>,
     ) -> Result<Value<R>, RunError>
-        ensures { IsAnswer (meant (world_of R.table_of R.shown self.now.tables.now) (form.Or left.now right.now) slots.now) result }
+        ensures { IsAnswer (meant (world self.now) (form.Or left.now right.now) slots.now) result }
     {
         match self.truth(left, slots)? {
             true => Ok(Value::Scalar(Scalar::Bool(true))),
@@ -133,13 +136,14 @@ impl<'a, R: TableRow> Running<'a, R> {
     #[cycle(running)]
     #[inline(never)]
     #[tactic(auto, using(crate::proofs::Forms::form_coalesce))]
-    pub(crate) fn coalesced(
+    pub(crate) fn coalesce(
         &self,
         left: &Form,
         right: &Form,
         slots: &Slots<'_, R>,
     ) -> Result<Value<R>, RunError>
-        ensures { IsAnswer (meant (world_of R.table_of R.shown self.now.tables.now) (form.Coalesce left.now right.now) slots.now) result }
+        ensures { IsAnswer
+            (meant (world self.now) (form.Coalesce left.now right.now) slots.now) result }
     {
         let left = self.scalar(left, slots)?;
         match scalars::is_null(&left) {
@@ -152,14 +156,16 @@ impl<'a, R: TableRow> Running<'a, R> {
     #[cycle(running)]
     #[inline(never)]
     #[tactic(auto, using(crate::proofs::Forms::form_choice))]
-    pub(crate) fn chosen(
+    pub(crate) fn choose(
         &self,
         condition: &Form,
         left: &Form,
         right: &Form,
         slots: &Slots<'_, R>,
     ) -> Result<Value<R>, RunError>
-        ensures { IsAnswer (meant (world_of R.table_of R.shown self.now.tables.now) (form.Conditional condition.now left.now right.now) slots.now) result }
+        ensures { IsAnswer
+            (meant (world self.now) (form.Conditional condition.now left.now right.now) slots.now)
+            result }
     {
         match self.truth(condition, slots)? {
             true => self.evaluate(left, slots),
@@ -176,7 +182,7 @@ impl<'a, R: TableRow> Running<'a, R> {
         fields: &List<Field<Form>>,
         slots: &Slots<'_, R>,
     ) -> Result<Value<R>, RunError>
-        ensures { IsAnswer (meant (world_of R.table_of R.shown self.now.tables.now) (form.Record fields.now) slots.now) result }
+        ensures { IsAnswer (meant (world self.now) (form.Record fields.now) slots.now) result }
     {
         Ok(Value::Rec(self.members(fields, slots)?))
     }
@@ -188,7 +194,8 @@ impl<'a, R: TableRow> Running<'a, R> {
         fields: &List<Field<Form>>,
         slots: &Slots<'_, R>,
     ) -> Result<List<(Txt, Value<R>)>, RunError>
-        ensures { Answers (members_of (world_of R.table_of R.shown self.now.tables.now) (map (field_means (world_of R.table_of R.shown self.now.tables.now)) fields.now) (values_in slots.now)) result }
+        ensures { Answers (members_of (world self.now)
+            (map (field_means (world self.now)) fields.now) (values_in slots.now)) result }
     {
         let mut made = List::new(self.alloc);
         for field in fields.as_slice() {
@@ -208,7 +215,8 @@ impl<'a, R: TableRow> Running<'a, R> {
         right: &Form,
         slots: &Slots<'_, R>,
     ) -> Result<Value<R>, RunError>
-        ensures { IsAnswer (meant (world_of R.table_of R.shown self.now.tables.now) (form.Pair left.now right.now) slots.now) result }
+        ensures { IsAnswer
+            (meant (world self.now) (form.Pair left.now right.now) slots.now) result }
     {
         let left = self.evaluate(left, slots)?;
         let right = self.evaluate(right, slots)?;

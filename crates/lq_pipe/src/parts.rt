@@ -70,15 +70,17 @@ pub(crate) fn is_null<R: RowRef>(value: &Value<R>) -> bool
 
 /// The value of the member at a place, if there is one.
 pub(crate) fn member<R: RowRef>(members: &[(Txt, Value<R>)], place: usize) -> Option<&Value<R>>
-    ensures { option_copied result ≡ option_map (λ member. member.1) (slice_get members.now place) }
+    ensures { option_copied result ≡ option_map (λ member. member.1)
+        (slice_get members.now place) }
 {
     let (_, value) = members.get(place)?;
     Some(value)
 }
 
 /// Whether a value is null, where that is wanted, and else whether it isn't.
-pub(crate) fn told_null<R: RowRef>(value: &Value<R>, wanted: bool) -> bool
-    ensures { (world : World R) → result ≡ (if wanted then is_null_value world (out-Value R value.now) else not (is_null_value world (out-Value R value.now))) }
+pub(crate) fn is_null_as<R: RowRef>(value: &Value<R>, wanted: bool) -> bool
+    ensures { (world : World R) → result ≡ (if wanted then is_null_value world
+        (out-Value R value.now) else not (is_null_value world (out-Value R value.now))) }
 {
     let null = is_null(value);
     if wanted { null } else { !null }

@@ -26,7 +26,8 @@ impl Plan {
 
     /// Whether a row passes, where the plan says so.
     pub(crate) fn verdict<R: TableRow>(&self, row: &R) -> Option<bool>
-        ensures verdict { IfSome result (λ b. verdict self.now.condition (R.shown row.now) ≡ Some b) }
+        ensures verdict { IfSome result (λ b. verdict self.now.condition (R.shown row.now)
+            ≡ Some b) }
         ensures table { IfSome result (λ b. R.table_of row.now ≡ self.now.table) }
     {
         if row.table() != self.table {

@@ -12,16 +12,14 @@ use lq_value::{End, Fault, Value};
 use std::alloc::{AllocError, Global};
 
 impl<'a, R: TableRow> Running<'a, R> {
-    ghost use Rattle.std.specs.Prelude.{◌≡◌, [], IfOk};
+    ghost use Rattle.std.specs.Prelude.{◌≡◌, IfOk};
     ghost use Rattle.lq_pipe.specs.Conditions.{holds_on, rows_true};
-    ghost use Rattle.lq_pipe.specs.Prepared.{Decides};
-    ghost use Rattle.lq_pipe.specs.Worlds.{world_of};
+    ghost use Rattle.lq_pipe.specs.Runs.{DecidesRows, world};
 
     /// What a condition says of the rows, found out once.
     fn row_plan(&self, condition: &Form, rows: &[R]) -> Result<Plan, AllocError>
         ensures { IfOk result (λ plan.
-            Decides R.table_of R.shown (world_of R.table_of R.shown self.now.tables.now) []
-            plan.table condition.now plan.condition) }
+            DecidesRows self.now plan.table condition.now plan.condition) }
     {
         let table = match rows.first() {
             Some(row) => row.table(),
@@ -36,8 +34,8 @@ impl<'a, R: TableRow> Running<'a, R> {
     }
 
     /// Whether any condition is true on a row, which stands in its first slot.
-    fn asked_on(&self, condition: &Form, row: &R) -> Result<Result<bool, Fault>, AllocError>
-        ensures { IfOk result (λ found. found ≡ holds_on (world_of R.table_of R.shown self.now.tables.now) condition.now row.now) }
+    fn evaluate_on(&self, condition: &Form, row: &R) -> Result<Result<bool, Fault>, AllocError>
+        ensures { IfOk result (λ found. found ≡ holds_on (world self.now) condition.now row.now) }
     {
         self.holds(condition, &Value::Row(*row), &Slots::Empty)
     }
@@ -50,21 +48,20 @@ impl<'a, R: TableRow> Running<'a, R> {
         condition: &Form,
         row: &R,
     ) -> Result<Result<bool, Fault>, AllocError>
-        requires { Decides R.table_of R.shown (world_of R.table_of R.shown self.now.tables.now) []
-            plan.now.table condition.now plan.now.condition }
-        ensures { IfOk result (λ found. found ≡ holds_on (world_of R.table_of R.shown self.now.tables.now) condition.now row.now) }
+        requires { DecidesRows self.now plan.now.table condition.now plan.now.condition }
+        ensures { IfOk result (λ found. found ≡ holds_on (world self.now) condition.now row.now) }
     {
         match plan.verdict(row) {
             Some(truth) => Ok(Ok(truth)),
-            None => self.asked_on(condition, row),
+            None => self.evaluate_on(condition, row),
         }
     }
 
     /// Those of the rows on which a condition is true, up to its first fault.
     #[tactic(auto, using(crate::proofs::RowLemmas::keeps_rows))]
-    fn kept_rows(&self, condition: &Form, rows: &[R]) -> Result<(Vec<R>, End), AllocError>
+    fn filter_rows(&self, condition: &Form, rows: &[R]) -> Result<(Vec<R>, End), AllocError>
         ensures { IfOk result (λ found. (found.0.items, found.1)
-            ≡ rows_true (world_of R.table_of R.shown self.now.tables.now) condition.now rows.now) }
+            ≡ rows_true (world self.now) condition.now rows.now) }
     {
         let plan = self.row_plan(condition, rows)?;
         let mut found = Vec::new(self.alloc);
@@ -94,5 +91,5 @@ pub fn rows_where<'a, R: TableRow>(
         ≡ rows_true (world_of R.table_of R.shown tables.now) condition.now.form rows.now) }
 {
     let running = Running { alloc, tables };
-    running.kept_rows(condition.form.get(), rows)
+    running.filter_rows(condition.form.get(), rows)
 }

@@ -3,12 +3,11 @@ ghost use Rattle.std.specs.Prelude.{◌≡◌, IfSome, Ok};
 ghost use Rattle.lq_language.specs.Worlds.{World};
 ghost use Rattle.lq_value.specs.declared.value.Value.TheVariants as value;
 ghost use Rattle.lq_pipe.specs.Running.{meant};
-ghost use Rattle.lq_pipe.specs.Worlds.{HaveDistinctColumns, schemas_in};
+ghost use Rattle.lq_pipe.specs.Worlds.{HaveDistinctColumns, world_of};
 
-use crate::reached::Reached;
 use crate::slots::Slots;
-use crate::stages::Stage;
 use crate::tables::{TableRow, TableRows, cell};
+use crate::value_refs::ValueRef;
 use crate::{parts, scalars, sequences};
 use lq_operators::RunError;
 use lq_tree::Form;
@@ -17,22 +16,23 @@ use std::alloc::{AllocError, Global};
 
 /// What a form means, where it is a part of what stands in a slot.
 #[tactic(auto, using(crate::proofs::Forms::form_slot, crate::proofs::Forms::form_first, crate::proofs::Forms::form_second, crate::proofs::Forms::form_member))]
-fn borrowed<'s, R: RowRef>(form: &Form, slots: &'s Slots<'_, R>) -> Option<&'s Value<R>>
-    ensures { (world : World R) → IfSome result (λ value. meant world form.now slots.now ≡ Ok value.now) }
+fn part_ref<'s, R: RowRef>(form: &Form, slots: &'s Slots<'_, R>) -> Option<&'s Value<R>>
+    ensures { (world : World R) → IfSome result (λ value. meant world form.now slots.now
+        ≡ Ok value.now) }
 {
     match form {
         Form::Slot(number) => slots.get(*number),
-        Form::First(pair) => Some(parts::first(borrowed(pair.get(), slots)?)),
-        Form::Second(pair) => Some(parts::second(borrowed(pair.get(), slots)?)),
+        Form::First(pair) => Some(parts::first(part_ref(pair.get(), slots)?)),
+        Form::Second(pair) => Some(parts::second(part_ref(pair.get(), slots)?)),
         _ => None,
     }
 }
 
 /// The scalar that a value is, if it is one.
-fn scalar_there<R: RowRef>(stands: &Value<R>) -> Option<&Scalar>
-    ensures { IfSome result (λ scalar. stands.now ≡ value.Scalar scalar.now) }
+fn scalar_in_value<R: RowRef>(operand: &Value<R>) -> Option<&Scalar>
+    ensures { IfSome result (λ scalar. operand.now ≡ value.Scalar scalar.now) }
 {
-    match stands {
+    match operand {
         Value::Scalar(scalar) => Some(scalar),
         Value::Row(_) | Value::Rec(_) | Value::Group(_, _) | Value::Seq(_, _) => None,
     }
@@ -40,22 +40,22 @@ fn scalar_there<R: RowRef>(stands: &Value<R>) -> Option<&Scalar>
 
 /// What a form is run over: the tables that it may read, and what gives memory.
 #[derive(Drop)]
-pub(crate) struct Running<'a, R> {
+pub(crate) struct Running<'a, R: TableRow> {
     pub(crate) alloc: Global,
     pub(crate) tables: &'a [TableRows<'a, R>],
-    ghost distinct: { HaveDistinctColumns (schemas_in tables.now) },
+    ghost distinct: { HaveDistinctColumns (world_of R.table_of R.shown tables.now).schemas },
 }
 
 impl<'a, R: TableRow> Running<'a, R> {
     ghost use Rattle.std.specs.Prelude.{◌≡◌, IfOk, Ok, slice_get};
     ghost use Rattle.lq_value.specs.declared.value.Value.{out-Value};
-    ghost use Rattle.lq_language.specs.OperandMeaning.{stream_of, table_value};
+    ghost use Rattle.lq_language.specs.OperandMeaning.{table_value};
     ghost use Rattle.lq_operators.specs.Answers.{IsAnswer};
     ghost use Rattle.lq_tree.specs.FormMeaning.{cell_in, if_there, key_in, member_at};
     ghost use Rattle.lq_tree.specs.declared.tree.Form.TheVariants as form;
-    ghost use Rattle.lq_pipe.specs.Running.{Answers, IsReached, meant, scalar_in, truth_in};
+    ghost use Rattle.lq_pipe.specs.Running.{Answers, IsValueRef, items_meant, meant, scalar_in};
+    ghost use Rattle.lq_pipe.specs.Runs.{world};
     ghost use Rattle.lq_pipe.specs.Slots.{values_in};
-    ghost use Rattle.lq_pipe.specs.Worlds.{world_of};
 
     /// A literal.
     #[inline(never)]
@@ -68,7 +68,8 @@ impl<'a, R: TableRow> Running<'a, R> {
     /// What a slot holds.
     #[inline(never)]
     fn slot(&self, number: usize, slots: &Slots<'_, R>) -> Result<Value<R>, RunError>
-        ensures { IsAnswer (if_there (world_of R.table_of R.shown self.now.tables.now) (slice_get (values_in slots.now) number)) result }
+        ensures { IsAnswer
+            (if_there (world self.now) (slice_get (values_in slots.now) number)) result }
     {
         match slots.get(number) {
             Some(value) => Ok(copy(self.alloc, value)?),
@@ -80,7 +81,8 @@ impl<'a, R: TableRow> Running<'a, R> {
     #[inline(never)]
     #[tactic(auto, using(crate::proofs::PartLemmas::places))]
     fn table(&self, number: u16) -> Result<Value<R>, RunError>
-        ensures { IsAnswer (table_value (world_of R.table_of R.shown self.now.tables.now) (slice_get (world_of R.table_of R.shown self.now.tables.now).rows number)) result }
+        ensures { IsAnswer
+            (table_value (world self.now) (slice_get (world self.now).rows number)) result }
     {
         let Some(table) = self.tables.get(number as usize) else {
             return Err(RunError::Fault(Fault::NullReference));
@@ -95,7 +97,7 @@ impl<'a, R: TableRow> Running<'a, R> {
     /// The cell of a row, by the number of its column.
     #[tactic(auto, using(crate::proofs::PartLemmas::layers))]
     fn cell_in(&self, row: &Value<R>, table: u16, column: u16) -> Result<Value<R>, RunError>
-        ensures { IsAnswer (cell_in (world_of R.table_of R.shown self.now.tables.now) table column (out-Value R row.now)) result }
+        ensures { IsAnswer (cell_in (world self.now) table column (out-Value R row.now)) result }
     {
         match row {
             Value::Row(row) => match cell(self.tables, row, table, column) {
@@ -109,13 +111,15 @@ impl<'a, R: TableRow> Running<'a, R> {
     }
 
     /// The cell of what is a row, by the number of its column.
-    pub(crate) fn cell_there<'s>(
+    pub(crate) fn cell_ref<'s>(
         &'s self,
         row: &'s Value<R>,
         table: u16,
         column: u16,
     ) -> Option<&'s Scalar>
-        ensures { IfSome result (λ scalar. cell_in (world_of R.table_of R.shown self.now.tables.now) table column (out-Value R row.now) ≡ Ok (value.Scalar scalar.now)) }
+        ensures { IfSome result (λ scalar. cell_in (world self.now) table column
+            (out-Value R row.now)
+            ≡ Ok (value.Scalar scalar.now)) }
     {
         match row {
             Value::Row(row) => cell(self.tables, row, table, column),
@@ -127,22 +131,27 @@ impl<'a, R: TableRow> Running<'a, R> {
     /// that stands in one: it stays there.
     #[inline(never)]
     #[tactic(auto, using(crate::proofs::Forms::form_literal, crate::proofs::Forms::form_column))]
-    pub(crate) fn there<'s>(&'s self, form: &'s Form, slots: &'s Slots<'_, R>) -> Option<&'s Scalar>
-        ensures { IfSome result (λ scalar. meant (world_of R.table_of R.shown self.now.tables.now) form.now slots.now ≡ Ok (value.Scalar scalar.now)) }
+    pub(crate) fn scalar_ref<'s>(
+        &'s self,
+        form: &'s Form,
+        slots: &'s Slots<'_, R>,
+    ) -> Option<&'s Scalar>
+        ensures { IfSome result (λ scalar.
+            meant (world self.now) form.now slots.now ≡ Ok (value.Scalar scalar.now)) }
     {
         match form {
             Form::Literal(scalar) => Some(scalar),
             Form::Column(row, table, column) => {
-                self.cell_there(borrowed(row.get(), slots)?, *table, *column)
+                self.cell_ref(part_ref(row.get(), slots)?, *table, *column)
             }
-            _ => scalar_there(borrowed(form, slots)?),
+            _ => scalar_in_value(part_ref(form, slots)?),
         }
     }
 
     /// A member of a record, by its place.
     #[tactic(auto, using(crate::proofs::PartLemmas::layers))]
     fn member_at(&self, value: &Value<R>, place: usize) -> Result<Value<R>, RunError>
-        ensures { IsAnswer (member_at (world_of R.table_of R.shown self.now.tables.now) place (out-Value R value.now)) result }
+        ensures { IsAnswer (member_at (world self.now) place (out-Value R value.now)) result }
     {
         match value {
             Value::Rec(members) => match parts::member(members.as_slice(), place) {
@@ -158,7 +167,7 @@ impl<'a, R: TableRow> Running<'a, R> {
     /// The key of a group.
     #[tactic(auto, using(crate::proofs::PartLemmas::layers))]
     fn key_in(&self, group: &Value<R>) -> Result<Value<R>, RunError>
-        ensures { IsAnswer (key_in (world_of R.table_of R.shown self.now.tables.now) (out-Value R group.now)) result }
+        ensures { IsAnswer (key_in (world self.now) (out-Value R group.now)) result }
     {
         match group {
             Value::Group(key, _) => Ok(copy(self.alloc, key.get())?),
@@ -170,9 +179,9 @@ impl<'a, R: TableRow> Running<'a, R> {
 
     /// What a form means, or its first fault.
     #[cycle(running)]
-    #[tactic(auto, using(crate::proofs::Forms::form_literal, crate::proofs::Forms::form_slot, crate::proofs::Forms::form_table, crate::proofs::Forms::form_simple))]
+    #[tactic(auto, using(crate::proofs::Forms::form_literal, crate::proofs::Forms::form_slot, crate::proofs::Forms::form_table, crate::proofs::Forms::form_simple, crate::proofs::Forms::form_all))]
     pub(crate) fn evaluate(&self, form: &Form, slots: &Slots<'_, R>) -> Result<Value<R>, RunError>
-        ensures { IsAnswer (meant (world_of R.table_of R.shown self.now.tables.now) form.now slots.now) result }
+        ensures { IsAnswer (meant (world self.now) form.now slots.now) result }
     {
         match form {
             Form::Literal(scalar) => self.literal(scalar),
@@ -187,24 +196,21 @@ impl<'a, R: TableRow> Running<'a, R> {
             Form::Binary(op, left, right) => self.binary(*op, left.get(), right.get(), slots),
             Form::And(left, right) => self.both(left.get(), right.get(), slots),
             Form::Or(left, right) => self.either(left.get(), right.get(), slots),
-            Form::Coalesce(left, right) => self.coalesced(left.get(), right.get(), slots),
+            Form::Coalesce(left, right) => self.coalesce(left.get(), right.get(), slots),
             Form::Conditional(condition, left, right) => {
-                self.chosen(condition.get(), left.get(), right.get(), slots)
+                self.choose(condition.get(), left.get(), right.get(), slots)
             }
             Form::IsNull(wanted, operand) => self.is_null(*wanted, operand.get(), slots),
             Form::Record(fields) => self.record(fields, slots),
             Form::Pair(left, right) => self.pair(left.get(), right.get(), slots),
             Form::Sequence(source) => self.sequence(source.get(), slots),
-            Form::Simple(method, of, source) => {
-                let source = source.get();
-                self.simple(*method, of, Stage::Plain, source, source, slots)
-            }
+            Form::Simple(method, of, source) => self.simple(*method, of, source.get(), slots),
             Form::Given(method, source, argument) => {
                 self.given(*method, source.get(), argument.get(), slots)
             }
-            Form::Through(method, of, to, source, body) => {
-                self.through(*method, of.get(), to.get(), source.get(), body.get(), slots)
-            }
+            Form::Where(source, condition) => self.filter(source.get(), condition.get(), slots),
+            Form::Select(source, body) => self.select(source.get(), body.get(), slots),
+            Form::All(source, condition) => self.all(source.get(), condition.get(), slots),
             Form::SelectMany(source, inner, body) => {
                 self.select_many(source.get(), inner.get(), body.get(), slots)
             }
@@ -224,7 +230,7 @@ impl<'a, R: TableRow> Running<'a, R> {
         form: &Form,
         slots: &Slots<'_, R>,
     ) -> Result<(List<Value<R>>, End), AllocError>
-        ensures { IfOk result (λ s. s ≡ stream_of (world_of R.table_of R.shown self.now.tables.now) (meant (world_of R.table_of R.shown self.now.tables.now) form.now slots.now)) }
+        ensures { IfOk result (λ items. items ≡ items_meant (world self.now) form.now slots.now) }
     {
         sequences::stream(self.alloc, self.evaluate(form, slots))
     }
@@ -233,9 +239,10 @@ impl<'a, R: TableRow> Running<'a, R> {
     #[cycle(running)]
     #[inline(always)]
     pub(crate) fn scalar(&self, form: &Form, slots: &Slots<'_, R>) -> Result<Scalar, RunError>
-        ensures { Answers (scalar_in (world_of R.table_of R.shown self.now.tables.now) (meant (world_of R.table_of R.shown self.now.tables.now) form.now slots.now)) result }
+        ensures { Answers
+            (scalar_in (world self.now) (meant (world self.now) form.now slots.now)) result }
     {
-        match (&*self).there(&*form, &*slots) {
+        match (&*self).scalar_ref(&*form, &*slots) {
             Some(scalar) => Ok(copy_scalar(self.alloc, scalar)?),
             None => scalars::scalar(self.evaluate(form, slots)?),
         }
@@ -243,12 +250,16 @@ impl<'a, R: TableRow> Running<'a, R> {
 
     /// What a form means, borrowed where it is a part of what stands in a slot.
     #[cycle(running)]
-    fn reach<'s>(&self, form: &Form, slots: &'s Slots<'_, R>) -> Result<Reached<'s, R>, RunError>
-        ensures { IsReached (meant (world_of R.table_of R.shown self.now.tables.now) form.now slots.now) result }
+    fn value_ref<'s>(
+        &self,
+        form: &Form,
+        slots: &'s Slots<'_, R>,
+    ) -> Result<ValueRef<'s, R>, RunError>
+        ensures { IsValueRef (meant (world self.now) form.now slots.now) result }
     {
-        match borrowed(form, slots) {
-            Some(value) => Ok(Reached::There(value)),
-            None => Ok(Reached::Made(self.evaluate(form, slots)?)),
+        match part_ref(form, slots) {
+            Some(value) => Ok(ValueRef::Borrowed(value)),
+            None => Ok(ValueRef::Owned(self.evaluate(form, slots)?)),
         }
     }
 
@@ -257,9 +268,9 @@ impl<'a, R: TableRow> Running<'a, R> {
     #[inline(never)]
     #[tactic(auto, using(crate::proofs::Forms::form_first))]
     fn first(&self, pair: &Form, slots: &Slots<'_, R>) -> Result<Value<R>, RunError>
-        ensures { IsAnswer (meant (world_of R.table_of R.shown self.now.tables.now) (form.First pair.now) slots.now) result }
+        ensures { IsAnswer (meant (world self.now) (form.First pair.now) slots.now) result }
     {
-        let pair = self.reach(pair, slots)?;
+        let pair = self.value_ref(pair, slots)?;
         Ok(copy(self.alloc, parts::first(pair.get()))?)
     }
 
@@ -268,9 +279,9 @@ impl<'a, R: TableRow> Running<'a, R> {
     #[inline(never)]
     #[tactic(auto, using(crate::proofs::Forms::form_second))]
     fn second(&self, pair: &Form, slots: &Slots<'_, R>) -> Result<Value<R>, RunError>
-        ensures { IsAnswer (meant (world_of R.table_of R.shown self.now.tables.now) (form.Second pair.now) slots.now) result }
+        ensures { IsAnswer (meant (world self.now) (form.Second pair.now) slots.now) result }
     {
-        let pair = self.reach(pair, slots)?;
+        let pair = self.value_ref(pair, slots)?;
         Ok(copy(self.alloc, parts::second(pair.get()))?)
     }
 
@@ -285,9 +296,10 @@ impl<'a, R: TableRow> Running<'a, R> {
         column: u16,
         slots: &Slots<'_, R>,
     ) -> Result<Value<R>, RunError>
-        ensures { IsAnswer (meant (world_of R.table_of R.shown self.now.tables.now) (form.Column row.now table column) slots.now) result }
+        ensures { IsAnswer
+            (meant (world self.now) (form.Column row.now table column) slots.now) result }
     {
-        let row = self.reach(row, slots)?;
+        let row = self.value_ref(row, slots)?;
         self.cell_in(row.get(), table, column)
     }
 
@@ -296,9 +308,10 @@ impl<'a, R: TableRow> Running<'a, R> {
     #[inline(never)]
     #[tactic(auto, using(crate::proofs::Forms::form_member))]
     fn member(&self, value: &Form, place: usize, slots: &Slots<'_, R>) -> Result<Value<R>, RunError>
-        ensures { IsAnswer (meant (world_of R.table_of R.shown self.now.tables.now) (form.Member value.now place) slots.now) result }
+        ensures { IsAnswer
+            (meant (world self.now) (form.Member value.now place) slots.now) result }
     {
-        let value = self.reach(value, slots)?;
+        let value = self.value_ref(value, slots)?;
         self.member_at(value.get(), place)
     }
 
@@ -307,9 +320,9 @@ impl<'a, R: TableRow> Running<'a, R> {
     #[inline(never)]
     #[tactic(auto, using(crate::proofs::Forms::form_key))]
     fn key(&self, group: &Form, slots: &Slots<'_, R>) -> Result<Value<R>, RunError>
-        ensures { IsAnswer (meant (world_of R.table_of R.shown self.now.tables.now) (form.Key group.now) slots.now) result }
+        ensures { IsAnswer (meant (world self.now) (form.Key group.now) slots.now) result }
     {
-        let group = self.reach(group, slots)?;
+        let group = self.value_ref(group, slots)?;
         self.key_in(group.get())
     }
 
@@ -323,10 +336,11 @@ impl<'a, R: TableRow> Running<'a, R> {
         operand: &Form,
         slots: &Slots<'_, R>,
     ) -> Result<Value<R>, RunError>
-        ensures { IsAnswer (meant (world_of R.table_of R.shown self.now.tables.now) (form.IsNull wanted operand.now) slots.now) result }
+        ensures { IsAnswer
+            (meant (world self.now) (form.IsNull wanted operand.now) slots.now) result }
     {
-        let operand = self.reach(operand, slots)?;
-        let told = parts::told_null(operand.get(), wanted);
-        Ok(Value::Scalar(Scalar::Bool(told)))
+        let operand = self.value_ref(operand, slots)?;
+        let truth = parts::is_null_as(operand.get(), wanted);
+        Ok(Value::Scalar(Scalar::Bool(truth)))
     }
 }

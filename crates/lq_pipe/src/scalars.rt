@@ -22,7 +22,8 @@ use std::alloc::{AllocError, Global};
 /// The scalar that a value is. No typed tree has another value where a scalar is asked for.
 #[tactic(auto, using(crate::proofs::PartLemmas::layers))]
 pub(crate) fn scalar<R: RowRef>(value: Value<R>) -> Result<Scalar, RunError>
-    ensures { (world : World R) → world.unknown ≡ fault.NullReference → Answers (scalar_of world (out-Value R value)) result }
+    ensures { (world : World R) → world.unknown ≡ fault.NullReference
+        → Answers (scalar_of world (out-Value R value)) result }
 {
     match value {
         Value::Scalar(scalar) => Ok(scalar),
@@ -45,7 +46,7 @@ pub(crate) fn truth(scalar: &Scalar) -> Result<bool, RunError>
 }
 
 /// The same of a scalar that is borrowed.
-fn truth_there(scalar: ScalarRef<'_>) -> Result<bool, RunError>
+fn truth_of_ref(scalar: ScalarRef<'_>) -> Result<bool, RunError>
     ensures { Answers (truth_of fault.NullReference (shown_scalar scalar.entry)) result }
 {
     match scalar {
@@ -57,8 +58,9 @@ fn truth_there(scalar: ScalarRef<'_>) -> Result<bool, RunError>
 }
 
 /// What a sign compares two numbers as, if it compares.
-fn compared_numbers(sign: Binary, m: i32, n: i32) -> Option<bool>
-    ensures { IfSome result (λ truth. of_two fault.NullReference (operation_of sign) (scalar.Int m) (scalar.Int n) ≡ Ok (scalar.Bool truth)) }
+fn compare_numbers(sign: Binary, m: i32, n: i32) -> Option<bool>
+    ensures { IfSome result (λ truth. of_two fault.NullReference (operation_of sign) (scalar.Int m)
+        (scalar.Int n) ≡ Ok (scalar.Bool truth)) }
 {
     match sign {
         Binary::Less => Some(m < n),
@@ -73,24 +75,26 @@ fn compared_numbers(sign: Binary, m: i32, n: i32) -> Option<bool>
 }
 
 /// The same of two scalars, if both are numbers.
-fn compared_there(sign: Binary, left: &Scalar, right: &Scalar) -> Option<bool>
-    ensures { IfSome result (λ truth. of_two fault.NullReference (operation_of sign) left.now right.now ≡ Ok (scalar.Bool truth)) }
+fn compare_scalars(sign: Binary, left: &Scalar, right: &Scalar) -> Option<bool>
+    ensures { IfSome result (λ truth. of_two fault.NullReference
+        (operation_of sign) left.now right.now ≡ Ok (scalar.Bool truth)) }
 {
     match (left, right) {
-        (Scalar::Int(m), Scalar::Int(n)) => compared_numbers(sign, *m, *n),
+        (Scalar::Int(m), Scalar::Int(n)) => compare_numbers(sign, *m, *n),
         _ => None,
     }
 }
 
 /// The truth value that a sign between two scalars gives. Two numbers are compared without a scalar in between.
 pub(crate) fn truth_of_sign(sign: Binary, left: &Scalar, right: &Scalar) -> Result<bool, RunError>
-    ensures { Answers (on_ok (of_two fault.NullReference (operation_of sign) left.now right.now) (truth_of fault.NullReference)) result }
+    ensures { Answers (on_ok (of_two fault.NullReference (operation_of sign) left.now right.now)
+        (truth_of fault.NullReference)) result }
 {
-    if let Some(truth) = compared_there(sign, left, right) {
+    if let Some(truth) = compare_scalars(sign, left, right) {
         return Ok(truth);
     }
     match operate(sign, ScalarRef::of(left), ScalarRef::of(right)) {
-        Ok(scalar) => truth_there(scalar),
+        Ok(scalar) => truth_of_ref(scalar),
         Err(fault) => Err(RunError::Fault(fault)),
     }
 }
@@ -99,7 +103,8 @@ pub(crate) fn truth_of_sign(sign: Binary, left: &Scalar, right: &Scalar) -> Resu
 #[tactic(auto, using(crate::proofs::PartLemmas::layers))]
 pub(crate) fn truth_in<R: RowRef>(value: Value<R>) -> Result<bool, RunError>
     ensures { (world : World R) → world.unknown ≡ fault.NullReference
-        → Answers (on_ok (scalar_of world (out-Value R value)) (truth_of fault.NullReference)) result }
+        → Answers (on_ok (scalar_of world (out-Value R value)) (truth_of fault.NullReference))
+        result }
 {
     match value {
         Value::Scalar(scalar) => truth(&scalar),
@@ -110,8 +115,11 @@ pub(crate) fn truth_in<R: RowRef>(value: Value<R>) -> Result<bool, RunError>
 }
 
 /// The truth value or the fault that was found, where memory wasn't refused.
-pub(crate) fn told(found: Result<bool, RunError>) -> Result<Result<bool, Fault>, AllocError>
-    ensures { (meant : Result Bool Fault) → Answers meant found → IfOk result (λ told. told ≡ meant) }
+pub(crate) fn truth_or_fault(
+    found: Result<bool, RunError>,
+) -> Result<Result<bool, Fault>, AllocError>
+    ensures { (meant : Result Bool Fault) → Answers meant found
+        → IfOk result (λ told. told ≡ meant) }
 {
     match found {
         Ok(truth) => Ok(Ok(truth)),
@@ -132,7 +140,8 @@ pub(crate) fn is_null(scalar: &Scalar) -> bool
 
 /// A scalar as a value, or why there is none.
 fn as_value<R: RowRef>(found: Result<Scalar, ScalarError>) -> Result<Value<R>, RunError>
-    ensures { (meant : Result Scalar Fault) → IsScalar meant found → IsAnswer (as_value meant) result }
+    ensures { (meant : Result Scalar Fault) → IsScalar meant found
+        → IsAnswer (as_value meant) result }
 {
     match found {
         Ok(scalar) => Ok(Value::Scalar(scalar)),
@@ -180,7 +189,8 @@ fn of_sign<R: RowRef>(
     left: &Scalar,
     right: &Scalar,
 ) -> Result<Value<R>, RunError>
-    ensures { IsAnswer (as_value (of_two fault.NullReference (operation_of sign) left.now right.now)) result }
+    ensures { IsAnswer (as_value (of_two fault.NullReference
+        (operation_of sign) left.now right.now)) result }
 {
     match operate(sign, ScalarRef::of(left), ScalarRef::of(right)) {
         Ok(scalar) => Ok(Value::Scalar(scalar.copied(alloc)?)),
@@ -190,7 +200,8 @@ fn of_sign<R: RowRef>(
 
 /// Whether a text has the other where the operator looks for it.
 fn of_search<R: RowRef>(op: Op, text: &Scalar, needle: &Scalar) -> Result<Value<R>, RunError>
-    ensures { IsAnswer (as_value (of_truth fault.NullReference (searched fault.NullReference op text.now needle.now))) result }
+    ensures { IsAnswer (as_value (of_truth fault.NullReference
+        (searched fault.NullReference op text.now needle.now))) result }
 {
     match searched(op, ScalarRef::of(text), ScalarRef::of(needle)) {
         Ok(found) => Ok(Value::Scalar(Scalar::Bool(found))),

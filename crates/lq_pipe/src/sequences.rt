@@ -20,7 +20,8 @@ use std::alloc::{AllocError, Global};
 /// none, and no typed tree has it where a sequence is asked for.
 #[tactic(auto, using(crate::proofs::PartLemmas::layers))]
 fn items<R: RowRef>(alloc: Global, value: Value<R>) -> (List<Value<R>>, End)
-    ensures { (world : World R) → world.unknown ≡ fault.NullReference → result ≡ items_of world (out-Value R value) }
+    ensures { (world : World R) → world.unknown ≡ fault.NullReference → result
+        ≡ items_of world (out-Value R value) }
 {
     match value {
         Value::Seq(items, end) => (items, end),
@@ -36,7 +37,8 @@ pub(crate) fn stream<R: RowRef>(
     alloc: Global,
     found: Result<Value<R>, RunError>,
 ) -> Result<(List<Value<R>>, End), AllocError>
-    ensures { (world : World R) (meant : Result (Value R) Fault) → world.unknown ≡ fault.NullReference → IsAnswer meant found
+    ensures { (world : World R) (meant : Result (Value R) Fault) → world.unknown
+        ≡ fault.NullReference → IsAnswer meant found
         → IfOk result (λ s. s ≡ stream_of world meant) }
 {
     match found {
@@ -47,10 +49,11 @@ pub(crate) fn stream<R: RowRef>(
 }
 
 /// The value or the fault that was found, where memory wasn't refused.
-pub(crate) fn settled<R: RowRef>(
+pub(crate) fn value_or_fault<R: RowRef>(
     found: Result<Value<R>, RunError>,
 ) -> Result<Result<Value<R>, Fault>, AllocError>
-    ensures { (meant : Result (Value R) Fault) → IsAnswer meant found → IfOk result (λ settled. settled ≡ meant) }
+    ensures { (meant : Result (Value R) Fault) → IsAnswer meant found
+        → IfOk result (λ settled. settled ≡ meant) }
 {
     match found {
         Ok(value) => Ok(Ok(value)),
@@ -60,7 +63,7 @@ pub(crate) fn settled<R: RowRef>(
 }
 
 /// What is read whole and ends in a fault: no item, and that fault.
-pub(crate) fn stopped<R: RowRef>(alloc: Global, fault: Fault) -> Value<R>
+pub(crate) fn fault_sequence<R: RowRef>(alloc: Global, fault: Fault) -> Value<R>
     ensures { result ≡ sequence ([], end.Fault fault) }
 {
     Value::Seq(List::new(alloc), End::Fault(fault))
@@ -76,18 +79,19 @@ pub(crate) fn groups<R: RowRef>(
 {
     match end {
         End::Done => Ok(Value::Seq(grouped(alloc, pairs)?, End::Done)),
-        End::Fault(fault) => Ok(stopped(alloc, fault)),
+        End::Fault(fault) => Ok(fault_sequence(alloc, fault)),
     }
 }
 
 /// What a key matches: the items one by one, or all of them as one sequence.
-pub(crate) fn matched<R: RowRef>(
+pub(crate) fn match_items<R: RowRef>(
     alloc: Global,
     grouped: bool,
     key: &Value<R>,
     matches: &Matches<R>,
 ) -> Result<List<Value<R>>, AllocError>
-    ensures { (world : World R) → IfOk result (λ found. found ≡ matched world grouped key.now (pairs_of matches.now)) }
+    ensures { (world : World R) → IfOk result (λ found. found
+        ≡ matched world grouped key.now (pairs_of matches.now)) }
 {
     let found = matches.find(alloc, key)?;
     if !grouped {
@@ -99,7 +103,7 @@ pub(crate) fn matched<R: RowRef>(
 }
 
 /// Items, and further ones behind them.
-pub(crate) fn joined<R: RowRef>(
+pub(crate) fn append<R: RowRef>(
     items: List<Value<R>>,
     further: List<Value<R>>,
 ) -> Result<List<Value<R>>, AllocError>

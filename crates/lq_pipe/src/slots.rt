@@ -43,8 +43,9 @@ impl<'a, R: RowRef> Slots<'a, R> {
     }
 
     /// Whether the slot of this number would be the next one.
+    #[tactic(auto, using(crate::proofs::SlotLemmas::next_place))]
     pub(crate) fn is_next(&self, number: usize) -> bool
-        ensures { result ≡ true → number ≡ length (values_in self.now) + 0 }
+        ensures { result ≡ true → number ≡ length (values_in self.now) }
     {
         matches!(self.find(number), Err(0))
     }

@@ -32,7 +32,8 @@ pub struct TableRows<'a, R> {
 
 /// The columns of the table with this number, or none.
 fn columns<'a, R: TableRow>(tables: &[TableRows<'a, R>], table: u16) -> &'a [Column]
-    ensures { map (λ column. column.name) result.now ≡ columns_in (slice_get (schemas_in tables.now) table) }
+    ensures { map (λ column. column.name) result.now ≡ columns_in
+        (slice_get (schemas_in tables.now) table) }
 {
     match tables.get(table as usize) {
         Some(found) => found.schema.columns.as_slice(),
@@ -46,7 +47,8 @@ pub(crate) fn column_name<'a, R: TableRow>(
     table: u16,
     column: u16,
 ) -> Option<&'a str>
-    ensures { option_map (λ name. name.now) result ≡ name_of_column (schemas_in tables.now) table column }
+    ensures { option_map (λ name. name.now) result ≡ name_of_column
+        (schemas_in tables.now) table column }
 {
     let found = tables.get(table as usize)?;
     let column = found.schema.columns.as_slice().get(column as usize)?;
@@ -70,7 +72,8 @@ pub(crate) fn cell<'r, R: TableRow>(
 ) -> Option<&'r Scalar>
     requires { HaveDistinctColumns (schemas_in tables.now) }
     ensures { option_copied result
-        ≡ option_and_then ((world_of R.table_of R.shown tables.now).cell row.now) (name_of_column (schemas_in tables.now) table column) }
+        ≡ option_and_then ((world_of R.table_of R.shown tables.now).cell row.now)
+        (name_of_column (schemas_in tables.now) table column) }
 {
     let name = column_name(tables, table, column)?;
     if row.table() == table {

@@ -23,7 +23,8 @@ pub fn value<'a, R: TableRow>(
     tables: &'a [TableRows<'a, R>],
 ) -> Result<Value<R>, RunError>
     requires { HaveDistinctColumns (schemas_in tables.now) }
-    ensures { IsAnswer (form_meaning (world_of R.table_of R.shown tables.now) tree.now.form []) result }
+    ensures { IsAnswer
+        (form_meaning (world_of R.table_of R.shown tables.now) tree.now.form []) result }
 {
     let running = Running { alloc, tables };
     running.evaluate(tree.form.get(), &Slots::Empty)
@@ -38,7 +39,8 @@ pub fn run<'a, R: TableRow>(
 ) -> Result<(List<Value<R>>, End), AllocError>
     requires { HaveDistinctColumns (schemas_in tables.now) }
     ensures { IfOk result (λ s. s
-        ≡ stream_of (world_of R.table_of R.shown tables.now) (form_meaning (world_of R.table_of R.shown tables.now) tree.now.form [])) }
+        ≡ stream_of (world_of R.table_of R.shown tables.now)
+        (form_meaning (world_of R.table_of R.shown tables.now) tree.now.form [])) }
 {
     sequences::stream(alloc, value(alloc, tree, tables))
 }

@@ -1,5 +1,9 @@
 //! The words of the command line, and the reports of what is wrong with them.
-ghost use Rattle.std.specs.Prelude.{◌≡◌};
+ghost use Rattle.std.specs.Prelude.{◌≡◌, ◌≢◌};
+ghost use Rattle.std.specs.IoError.{error_kind};
+ghost use Rattle.std.specs.declared.io.ErrorKind.TheVariants as fault;
+ghost use Rattle.clap.specs.Values.{kind_of};
+ghost use Rattle.clap.specs.declared.error.ErrorKind.TheVariants as usage;
 
 use clap::error::ErrorKind;
 use std::io::Write;
@@ -14,7 +18,8 @@ const USAGE: u8 = 2;
 /// The status for want of memory.
 const NO_MEMORY: u8 = 5;
 
-/// The words of the command line, of which the first is the program's name.
+/// The words of the command line, of which the first is the program's name. What they are is not promised: the standard library says
+/// nothing of those that it finds.
 pub fn words(rt: &HostRuntime) -> io::Result<Vec<String>> {
     let mut words = Vec::new(rt.alloc());
     for word in env::args(rt)? {
@@ -32,7 +37,10 @@ pub fn report_memory(rt: &HostRuntime) -> u8
 }
 
 /// Reports why the words could not be read, and answers the status for it.
-pub fn report_words(rt: &HostRuntime, error: &io::Error) -> u8 {
+pub fn report_words(rt: &HostRuntime, error: &io::Error) -> u8
+    ensures memory { error_kind error.now ≡ fault.OutOfMemory → result ≡ 5 }
+    ensures usage { error_kind error.now ≢ fault.OutOfMemory → result ≡ 2 }
+{
     if error.kind() == io::ErrorKind::OutOfMemory {
         return report_memory(rt);
     }
@@ -43,16 +51,19 @@ pub fn report_words(rt: &HostRuntime, error: &io::Error) -> u8 {
 }
 
 /// Reports what is wrong with the words, or prints the help that they ask for, and answers the status for it.
-pub fn report_options(rt: &HostRuntime, error: &clap::Error) -> u8 {
-    match error.kind() {
-        ErrorKind::OutOfMemory => report_memory(rt),
-        ErrorKind::DisplayHelp => {
-            let _ = error.print(rt);
-            ENDED
-        }
-        _ => {
-            let _ = error.print(rt);
-            USAGE
-        }
+pub fn report_options(rt: &HostRuntime, error: &clap::Error) -> u8
+    ensures memory { kind_of error.now ≡ usage.OutOfMemory → result ≡ 5 }
+    ensures help { kind_of error.now ≡ usage.DisplayHelp → result ≡ 0 }
+    ensures usage { kind_of error.now ≢ usage.OutOfMemory → kind_of error.now ≢ usage.DisplayHelp → result ≡ 2 }
+{
+    let kind = error.kind();
+    if kind == ErrorKind::OutOfMemory {
+        return report_memory(rt);
+    }
+    let _ = error.print(rt);
+    if kind == ErrorKind::DisplayHelp {
+        ENDED
+    } else {
+        USAGE
     }
 }

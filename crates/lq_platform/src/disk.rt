@@ -1,4 +1,9 @@
 //! The files of the machine that a program runs on.
+ghost use Rattle.std.specs.Prelude.{◌≡◌, ◌≢◌};
+ghost use Rattle.std.specs.IoError.{error_kind};
+ghost use Rattle.std.specs.declared.io.ErrorKind.TheVariants as fault;
+ghost use Rattle.lq_serve.specs.declared.files.FileError.TheVariants.{Memory, Read};
+
 use lq_serve::{FileError, Files};
 use std::fs::File;
 use std::io;
@@ -10,9 +15,23 @@ pub struct Disk<'a> {
     rt: &'a HostRuntime,
 }
 
+/// Why a file was not read, of this fault.
+fn file_error(error: &io::Error) -> FileError
+    ensures memory { error_kind error.now ≡ fault.OutOfMemory → result ≡ Memory }
+    ensures read { error_kind error.now ≢ fault.OutOfMemory → result ≡ Read }
+{
+    if error.kind() == io::ErrorKind::OutOfMemory {
+        FileError::Memory
+    } else {
+        FileError::Read
+    }
+}
+
 impl<'a> Disk<'a> {
-    /// The files that a program finds.
-    pub fn new(rt: &'a HostRuntime) -> Disk<'a> {
+    /// The files that a program finds on the machine of this runtime.
+    pub fn new(rt: &'a HostRuntime) -> Disk<'a>
+        ensures { result.rt ≡ rt.entry }
+    {
         Disk { rt }
     }
 
@@ -36,8 +55,7 @@ impl Files for Disk<'_> {
     fn read(&mut self, name: &str, limit: u64) -> Result<Vec<u8>, FileError> {
         match self.first_bytes(name, limit) {
             Ok(bytes) => Ok(bytes),
-            Err(error) if error.kind() == io::ErrorKind::OutOfMemory => Err(FileError::Memory),
-            Err(_) => Err(FileError::Read),
+            Err(error) => Err(file_error(&error)),
         }
     }
 }

@@ -49,13 +49,19 @@ verdict q is_allowed reason =
     joined (codes "By the policies, " ∷ q.role ∷ may_text is_allowed ∷ verb q.act ∷ codes " row " ∷ decimal q.number ∷ codes " of "
     ∷ q.table ∷ codes ": " ∷ reason ∷ codes ".\n" ∷ [])
 
+-- what the policies ask of a row; whoever deletes one has to be able to read it, too
+abbrev pub condition_text : Action → List ℕ
+condition_text action.Delete =
+    codes "at least one permissive policy for reading and one for deleting must be true of it, and every restrictive one"
+condition_text act = codes "at least one permissive policy must be true of it, and every restrictive one"
+
 abbrev pub explained : Question → Explanation → List ℕ
 explained q explanation.NoTable = verdict q false (codes "they don't know the table")
 explained q explanation.NoRole = verdict q false (codes "they don't know the role")
 explained q explanation.RowSecurityOff = verdict q true (codes "the table has no row security")
 explained q explanation.Bypass = verdict q true (codes "the role bypasses row security")
 explained q (explanation.Policies policies is_allowed refused_by) =
-    verdict q is_allowed (codes "some permissive policy has to be true of it, and each restrictive one") ++ policies_text policies
+    verdict q is_allowed (condition_text q.act) ++ policies_text policies
 
 -- where nothing may be disclosed, a row that is hidden and one that isn't there are answered alike
 abbrev pub secret_text : Question → List ℕ

@@ -15,4 +15,4 @@ role_row present role = word role.name ∷ yes (bytes_eq role.name present) ∷ 
 
 abbrev pub roles_text : State → List ℕ
 roles_text s =
-    grid 0 (codes "role" ∷ codes "present" ∷ codes "bypasses row security" ∷ []) (map (role_row (present_role s)) s.policies.roles)
+    grid 0 (codes "role" ∷ codes "current" ∷ codes "bypasses row security" ∷ []) (map (role_row (present_role s)) s.policies.roles)

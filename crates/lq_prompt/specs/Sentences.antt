@@ -28,7 +28,7 @@ misuse_text (misuse.Arguments v) = usage v
 
 -- how replies are shown from now on
 abbrev pub rows_text : ℕ → List ℕ
-rows_text most = joined (codes "The most rows of a reply that are shown: " ∷ decimal most ∷ codes ".\n" ∷ [])
+rows_text most = joined (codes "Rows shown per reply: at most " ∷ decimal most ∷ codes ".\n" ∷ [])
 
 abbrev pub json_text : Bool → List ℕ
 json_text is_json = if is_json then codes "Replies are shown as lines of JSON.\n" else codes "Replies are shown as tables.\n"

@@ -5,11 +5,11 @@ pub(crate) const HELP: &str = "\
 A statement, whose `;` may be left out:
   run E   var N = E   N = E   insert T (C, ..)   delete T X => E   as R
 A command:
-  .tables               the tables, their columns, and how many of their rows the present role sees
-  .roles                the roles, which one is present, and which bypass row security
+  .tables               the tables, their columns, and how many of their rows the current role sees
+  .roles                the roles, which one is current, and which bypass row security
   .names                the variables and named queries, with their types
-  .rights               what the present role may use, and which rule withholds the rest
-  .why T NUMBER         which policies let the present role see the row of this number, or hide it
+  .rights               what the current role may use, and which rule withholds the rest
+  .why T NUMBER         which policies let the current role see the row of this number, or hide it
   .why T NUMBER delete  the same of deleting it; with `insert`, of inserting a row like it
   .rows N               at most N rows of a reply are shown
   .json on|off          replies are shown as lines of JSON, or as tables

@@ -65,5 +65,5 @@ pub(crate) fn names_text(alloc: Global, session: &Session) -> Result<String, All
     ensures { IfOk result (λ text. string_bytes text ≡ names_text (state_of session.now)) }
 {
     let grid = names_rows(alloc, session, session.state().definitions())?;
-    table_text(alloc, &["name", "stands for", "type"], &grid)
+    table_text(alloc, &["name", "kind", "type"], &grid)
 }

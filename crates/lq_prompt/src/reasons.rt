@@ -1,7 +1,7 @@
 //! Why a row is seen or hidden, as people read it.
-ghost use Rattle.std.specs.Prelude.{◌≡◌, ◌++◌, IfOk, codes, map, string_bytes};
+ghost use Rattle.std.specs.Prelude.{◌≡◌, ◌++◌, IfOk, map, string_bytes};
 ghost use Rattle.lq_prompt.specs.Questions.{asked_in};
-ghost use Rattle.lq_prompt.specs.Reasons.{explained, kind_text, may_text, no_table_text, policies_text, policy_row, secret_text, truth_text, verb, verdict, why_text};
+ghost use Rattle.lq_prompt.specs.Reasons.{condition_text, explained, kind_text, may_text, no_table_text, policies_text, policy_row, secret_text, truth_text, verb, verdict, why_text};
 
 use crate::grids::{joined, number_text, row, table_text, word};
 use crate::question::Question;
@@ -111,6 +111,20 @@ fn verdict(
     )
 }
 
+/// What the policies ask of a row. Whoever deletes one has to be able to read it, too.
+fn condition_text<'a>(action: Action) -> &'a str
+    ensures { result.now ≡ condition_text action }
+{
+    match action {
+        Action::Delete => {
+            "at least one permissive policy for reading and one for deleting must be true of it, and every restrictive one"
+        }
+        Action::Select | Action::Insert => {
+            "at least one permissive policy must be true of it, and every restrictive one"
+        }
+    }
+}
+
 /// The decision of the policies, and those that have a say in it.
 fn decided(
     alloc: Global,
@@ -119,11 +133,11 @@ fn decided(
     policies: &[ExplainedPolicy],
 ) -> Result<String, AllocError>
     ensures { IfOk result (λ text. string_bytes text
-        ≡ verdict (asked_in question.entry) is_allowed (codes "some permissive policy has to be true of it, and each restrictive one")
+        ≡ verdict (asked_in question.entry) is_allowed (condition_text question.entry.action)
         ++ policies_text policies.now) }
 {
-    let reason = "some permissive policy has to be true of it, and each restrictive one";
-    let mut text = verdict(alloc, question, is_allowed, reason)?;
+    let condition = condition_text(question.action);
+    let mut text = verdict(alloc, question, is_allowed, condition)?;
     text.push_str(&policies_text(alloc, policies)?)?;
     Ok(text)
 }

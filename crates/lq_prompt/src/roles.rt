@@ -1,4 +1,4 @@
-//! The roles: which one is present, and which bypass row security.
+//! The roles: which one is current, and which bypass row security.
 ghost use Rattle.std.specs.Prelude.{◌≡◌, IfOk, map, string_bytes};
 ghost use Rattle.lq_prompt.specs.Roles.{present_role, role_row, roles_text};
 
@@ -45,5 +45,5 @@ pub(crate) fn roles_text(alloc: Global, state: &State) -> Result<String, AllocEr
     ensures { IfOk result (λ text. string_bytes text ≡ roles_text state.now) }
 {
     let grid = roles_rows(alloc, present_role(state), state.policies().roles())?;
-    table_text(alloc, &["role", "present", "bypasses row security"], &grid)
+    table_text(alloc, &["role", "current", "bypasses row security"], &grid)
 }

@@ -44,10 +44,7 @@ pub(crate) fn rows_text(alloc: Global, most_rows: usize) -> Result<String, Alloc
     ensures { IfOk result (λ text. string_bytes text ≡ rows_text most_rows) }
 {
     let most = number_text(alloc, most_rows as u64)?;
-    joined(
-        alloc,
-        &["The most rows of a reply that are shown: ", &most, ".\n"],
-    )
+    joined(alloc, &["Rows shown per reply: at most ", &most, ".\n"])
 }
 
 /// The sentence about how replies are shown.

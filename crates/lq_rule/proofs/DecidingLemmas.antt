@@ -3,24 +3,17 @@ use Rattle.std.proofs.Common.{◌≡◌, List, ℕ, true, Result, Ok, Err, ap, �
 use Rattle.lq_value.specs.declared.scalar.Scalar.{Scalar}
 use Rattle.lq_value.specs.declared.value.Fault.{Fault}
 use Rattle.lq_value.specs.declared.value.Fault.TheVariants as fault
-use Rattle.lq_language.specs.RuleMeaning.{meaning, truth_at}
 use Rattle.lq_language.specs.Operations.{on_ok, truth_of}
 use Rattle.lq_security.specs.Totality.{is_total}
-use Rattle.lq_security.specs.Visible.{is_true, rule_scope, rule_world}
+use Rattle.lq_security.specs.Visible.{is_true}
 use Rattle.lq_grammar.specs.declared.syntax.Expr.{Expr}
 use Rattle.lq_scalar.specs.Named.{Shape}
-use Rattle.lq_scalar.specs.Shapes.{faulting, scalar_shape, shape_of, truth_in, truth_of_expression}
-use Rattle.lq_scalar.proofs.ShapeLaws.{truth_viewed}
+use Rattle.lq_scalar.specs.Shapes.{scalar_shape, truth_in}
+use Rattle.lq_scalar.proofs.ShapeLaws.{rule_is}
 use Rattle.lq_rule.specs.Deciding.{DecidesAs, decides}
 use Rattle.lq_rule.specs.Reading.{read}
 use Rattle.lq_rule.specs.Standing.{StandsFor}
 use Rattle.lq_rule.specs.declared.prepared.Prepared.{Prepared}
-
--- the truth value that a rule is, by what it is evaluated to
-rule_is : (columns : List (List ℕ)) (cells : List Scalar) (user : List ℕ) (rule : Expr)
-    → truth_at (rule_world columns) rule (rule_scope cells user) ≡ truth_of_expression (rule_world columns) (rule_scope cells user) rule
-unfolding shape_of
-rule_is columns cells user rule = truth_viewed (rule_world columns) (meaning (faulting (rule_world columns)) rule (rule_scope cells user))
 
 truth_shown : (r : Result Scalar Fault) → on_ok (scalar_shape {R = List Scalar} r) truth_in ≡ on_ok r (truth_of fault.NullReference)
 truth_shown (Ok s) = refl

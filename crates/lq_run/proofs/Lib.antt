@@ -5,6 +5,8 @@ pub mod ReplyLemmas
 pub mod RowLemmas
 pub mod ScalarLemmas
 pub mod SeenLemmas
+pub mod StopLaws
 pub mod StoredLaws
 pub mod TableLemmas
+pub mod TreeLemmas
 pub mod WorldLemmas

@@ -1,5 +1,5 @@
 -- The reply that a tree gives is the machine's for each expression that is bound to it; and the reply of one without a tree is a refusal.
-use Rattle.std.proofs.Common.{◌≡◌, ◌∙◌, ◌++◌, List, [], ℕ, Bool, true, false, Option, Some, None, Result, ap, sym, refl, codes, option_map, option_and_then}
+use Rattle.std.proofs.Common.{◌≡◌, ◌∙◌, ◌++◌, List, [], ℕ, Bool, true, false, Option, Some, None, Result, Err, ap, sym, refl, codes, option_map, option_and_then}
 use Rattle.lq_value.specs.declared.table.Schema.{Schema}
 use Rattle.lq_value.specs.declared.ty.Ty.{Ty, out-Ty}
 use Rattle.lq_value.specs.declared.ty.Ty.TheOpen.{Ty-F}
@@ -10,7 +10,7 @@ use Rattle.lq_machine.specs.DefinitionLaws.{AreDefined}
 use Rattle.lq_language.specs.Worlds.{World}
 use Rattle.lq_security.specs.Rights.{Denied, denial}
 use Rattle.lq_machine.specs.Served.{error_data, line_of}
-use Rattle.lq_machine.specs.Serving.{run_denial, run_reply, served, served_as, served_type, unless_denied, used_by}
+use Rattle.lq_machine.specs.Serving.{run_denial, run_in, run_reply, served, served_as, served_type, unless_denied, used_by}
 use Rattle.lq_machine.specs.States.{State, cells_of, names_in, schemas_of, world_in}
 use Rattle.lq_language.specs.Types.{has_place, if_placed, when}
 use Rattle.lq_language.specs.Uses.{shown_columns}
@@ -23,11 +23,14 @@ use Rattle.lq_tree.specs.UsesOfForms.{form_uses}
 use Rattle.lq_tree.specs.declared.tree.Tree.{Tree}
 use Rattle.lq_tree.proofs.SessionPlaceLaws.{types_of_statements, uses_of_statements}
 use Rattle.lq_pipe.specs.declared.tables.TableRows.{TableRows}
-use Rattle.lq_run.specs.Replies.{AnswersTree, IsTreeOf, ServesTree, run_line}
+use Rattle.lq_run.specs.Replies.{IsTreeOf, ServesTree}
 use Rattle.lq_run.specs.SeenRows.{AreSeen, cells_in, shown_row}
-use Rattle.lq_run.specs.Statements.{TellsDenial, tree_in}
+use Rattle.lq_run.specs.Statements.{FindsTree, HasRights, tree_in}
+use Rattle.lq_run.specs.Stops.{StopsWith}
 use Rattle.lq_run.specs.TreeReply.{data_by, tree_data}
 use Rattle.lq_run.specs.declared.seen.SeenRow.{SeenRow}
+use Rattle.lq_run.specs.declared.stop.Stop.{Stop}
+use Rattle.lq_run.specs.declared.stop.Stop.TheVariants as stop
 use Rattle.lq_run.proofs.RowLemmas.{same_reply}
 use Rattle.lq_run.proofs.WorldLemmas.{is_world, over, read, tree_means, world}
 
@@ -54,22 +57,24 @@ module _ (s : State) where
   type_served e tree is = sym (ap if_placed (ap (option_map (λ t. t.ty)) (sym is) ∙ tree_type e))
 
   -- nothing is denied of what has no place, and nothing of it is served
-  pub null_refused : (tree : Tree) (line : List ℕ) → has_place (out-Ty tree.ty) ≡ false → line ≡ line_of (error_data (codes "type")) → AnswersTree s tree line
+  pub null_refused : (e : Expr) (tree : Tree) → IsTreeOf s e tree → has_place (out-Ty tree.ty) ≡ false → error_data (codes "type") ≡ run_in s e
   unfolding run_denial run_reply
-  null_refused tree line null so e is =
-      so
-      ∙ ap (λ (o : Option Ty). line_of (unless_denied schemas (option_and_then (λ t. denial s.policies s.role (used_by (names_in s) e t)) o)
-      (served (world_in s) o (expression_meaning (world_in s) e []))))
+  null_refused e tree is null =
+      ap (λ (o : Option Ty). unless_denied schemas (option_and_then (λ t. denial s.policies s.role (used_by (names_in s) e t)) o)
+      (served (world_in s) o (expression_meaning (world_in s) e [])))
       (sym (type_served e tree is ∙ ap (λ b. when b (Some tree.ty)) null))
 
-  -- the refusal of an expression that has no tree
-  pub no_tree : (e : Expr) (line : List ℕ) → tree_in s e ≡ None → line ≡ line_of (error_data (codes "type")) → line ≡ run_line s e
+  -- an expression that has no tree is refused
+  no_tree : (e : Expr) → tree_in s e ≡ None → error_data (codes "type") ≡ run_in s e
   unfolding run_denial run_reply
-  no_tree e line none so =
-      so
-      ∙ ap (λ (o : Option Ty). line_of (unless_denied schemas (option_and_then (λ t. denial s.policies s.role (used_by (names_in s) e t)) (if_placed o))
-      (served (world_in s) (if_placed o) (expression_meaning (world_in s) e []))))
+  no_tree e none =
+      ap (λ (o : Option Ty). unless_denied schemas (option_and_then (λ t. denial s.policies s.role (used_by (names_in s) e t)) (if_placed o))
+      (served (world_in s) (if_placed o) (expression_meaning (world_in s) e [])))
       (ap (option_map (λ t. t.ty)) (sym none) ∙ tree_type e)
+
+  pub untyped_refused : (e : Expr) (why : Stop) → FindsTree (tree_in s e) (Err why) → StopsWith (run_in s e) why
+  untyped_refused e (stop.Answer line) refuses = refuses.1 ∙ ap line_of (no_tree e refuses.0)
+  untyped_refused e stop.Memory refuses = tt
 
   module _ (defined : AreDefined schemas s.definitions) (tree : Tree) (placed : has_place (out-Ty tree.ty) ≡ true) where
     -- what a tree uses, and what it shows
@@ -88,21 +93,20 @@ module _ (s : State) where
         ap (denial s.policies s.role) (used_same e is)
         ∙ sym (ap (option_and_then (λ t. denial s.policies s.role (used_by (names_in s) e t))) (type_served e tree is ∙ ap (λ b. when b (Some tree.ty)) placed))
 
-    -- a tree of which nothing is denied is served
-    pub allowed_served : (used : List Use) (line : List ℕ) → used ≡ form_uses tree.form ++ shown_columns schemas tree.ty → TellsDenial s used None
-        → ServesTree s tree line → AnswersTree s tree line
-    allowed_served used line uses none serves e is =
-        serves e is
-        ∙ ap (λ (d : Option Denied). line_of (unless_denied schemas d (run_reply (names_in s) (world_in s) e)))
-        (sym none ∙ ap (denial s.policies s.role) uses ∙ denied_same e is)
+    module _ (used : List Use) (uses : used ≡ form_uses tree.form ++ shown_columns schemas tree.ty) (e : Expr) (is : IsTreeOf s e tree) where
+      answer_by : (o : Option Denied) → denial s.policies s.role used ≡ o → unless_denied schemas o (run_reply (names_in s) (world_in s) e) ≡ run_in s e
+      answer_by o found =
+          ap (λ (d : Option Denied). unless_denied schemas d (run_reply (names_in s) (world_in s) e))
+          (sym found ∙ ap (denial s.policies s.role) uses ∙ denied_same e is)
 
-    -- and the first denial of another is told
-    pub denied_told : (used : List Use) (line : List ℕ) → used ≡ form_uses tree.form ++ shown_columns schemas tree.ty → TellsDenial s used (Some line)
-        → AnswersTree s tree line
-    denied_told used line uses told e is =
-        told.2
-        ∙ ap (λ (o : Option Denied). line_of (unless_denied schemas o (run_reply (names_in s) (world_in s) e)))
-        (sym told.1 ∙ ap (denial s.policies s.role) uses ∙ denied_same e is)
+      -- a tree of which nothing is denied is served
+      pub allowed_served : (line : List ℕ) → denial s.policies s.role used ≡ None → ServesTree s tree line → line ≡ line_of (run_in s e)
+      allowed_served line none serves = serves e is ∙ ap line_of (answer_by None none)
+
+      -- and the first denial of another is the answer
+      pub denied_answered : (why : Stop) → HasRights s used (Err why) → StopsWith (run_in s e) why
+      denied_answered (stop.Answer line) denied = denied.2 ∙ ap line_of (answer_by (Some denied.0) denied.1)
+      denied_answered stop.Memory denied = tt
 
   module _ (tables : List (TableRows SeenRow)) (seen : AreSeen s tables) where
     -- the reply of the tree is the machine's

@@ -1,5 +1,5 @@
 -- The scalar that a tree gives is what the machine evaluates each expression to that is bound to the tree; and so are its faults.
-use Rattle.std.proofs.Common.{◌≡◌, ◌∙◌, ◌++◌, List, [], ℕ, true, Option, Some, None, Result, Ok, Err, ap, sym, refl, subst, codes, true≢false}
+use Rattle.std.proofs.Common.{◌≡◌, ◌∙◌, ◌++◌, List, [], true, Option, Some, None, Result, Ok, Err, ap, sym, refl, subst, codes, true≢false}
 use Rattle.std.proofs.lemmas.Option.{none-some, same_Some}
 use Rattle.lq_value.specs.declared.scalar.Scalar.{Scalar}
 use Rattle.lq_value.specs.declared.ty.Ty.{Ty, out-Ty}
@@ -11,9 +11,9 @@ use Rattle.lq_value.specs.declared.value.Value.TheVariants.{outs-Scalar}
 use Rattle.lq_machine.specs.DefinitionLaws.{AreDefined}
 use Rattle.lq_language.specs.ValuesOfTypes.{IsScalarOf}
 use Rattle.lq_security.specs.Rights.{Denied, denial}
-use Rattle.lq_machine.specs.Served.{denied_data, error_data, fault_data, line_of}
+use Rattle.lq_machine.specs.Served.{error_data, fault_data}
 use Rattle.lq_machine.specs.States.{State, names_in, schemas_of, world_in}
-use Rattle.lq_machine.specs.Statements.{Outcome, allowed_by, refused, with_scalar, with_value}
+use Rattle.lq_machine.specs.Statements.{Outcome, allowed_by, evaluated, refused, with_scalar, with_value}
 use Rattle.lq_language.specs.Uses.{expression_uses}
 use Rattle.lq_language.specs.TableRows.{TableRow}
 use Rattle.lq_language.specs.Meaning.{expression_meaning}
@@ -30,10 +30,11 @@ use Rattle.lq_tree.proofs.ScopeLaws.{append_none}
 use Rattle.lq_tree.proofs.SessionPlaceLaws.{uses_of_statements}
 use Rattle.lq_pipe.specs.declared.tables.TableRows.{TableRows}
 use Rattle.lq_run.specs.SeenRows.{AreSeen, shown_row}
-use Rattle.lq_run.specs.Statements.{EvaluatesTree, IsEvaluated, TellsDenial, Yields, YieldsTree, is_of_scalars, scalar_in, tree_in}
-use Rattle.lq_run.specs.declared.scalars.Evaluated.{Evaluated}
-use Rattle.lq_run.specs.declared.scalars.Evaluated.TheVariants as answer
+use Rattle.lq_run.specs.Statements.{EvaluatesTree, HasRights, IsEvaluated, Yields, YieldsTree, is_of_scalars, scalar_in, tree_in}
+use Rattle.lq_run.specs.Stops.{Stops, StopsWith}
 use Rattle.lq_run.specs.declared.seen.SeenRow.{SeenRow}
+use Rattle.lq_run.specs.declared.stop.Stop.{Stop}
+use Rattle.lq_run.proofs.StopLaws.{same_stop, stops_denied, stops_with}
 use Rattle.lq_run.proofs.WorldLemmas.{over, read, tree_means, tree_values, world}
 
 -- these types have no other values
@@ -68,21 +69,22 @@ module _ (s : State) where
         sym (tree_means s seen.kept seen.defined e tree is) ∙ means_alike shown_row (read s tables seen) (world s) (over s tables seen) tree.form []
         ∙ ap (result_map (mapped shown_row)) found
 
-    pub yields_fault : (f : Fault) (line : List ℕ) → form_meaning (read s tables seen) tree.form [] ≡ Err f → line ≡ line_of (fault_data f)
-        → YieldsTree s tree (answer.Told line)
-    yields_fault f line found so e is = (fault_data f, λ next. ap (with_value s next) (expression_means e is (Err f) found), so)
+    pub yields_fault : (f : Fault) (why : Stop) → form_meaning (read s tables seen) tree.form [] ≡ Err f → StopsWith (fault_data f) why
+        → YieldsTree s tree (Err why)
+    yields_fault f why found so e is next =
+        stops_with s (fault_data f) (with_value s next (expression_meaning (world_in s) e [])) why
+        (ap (with_value s next) (expression_means e is (Err f) found)) so
 
-    pub yields_other : (v : Value SeenRow) (line : List ℕ) → form_meaning (read s tables seen) tree.form [] ≡ Ok v → None ≡ scalar_in (out-Value SeenRow v)
-        → line ≡ line_of (error_data (codes "type")) → YieldsTree s tree (answer.Told line)
-    yields_other v line found none so e is = (
-      error_data (codes "type"),
-      λ next. ap (with_value s next) (expression_means e is (Ok v) found) ∙ ap (with_scalar s next) (mapped_out shown_row v)
-          ∙ other_layer next (out-Value SeenRow v) none,
-      so,
-    )
+    pub yields_other : (v : Value SeenRow) (why : Stop) → form_meaning (read s tables seen) tree.form [] ≡ Ok v → None ≡ scalar_in (out-Value SeenRow v)
+        → StopsWith (error_data (codes "type")) why → YieldsTree s tree (Err why)
+    yields_other v why found none so e is next =
+        stops_with s (error_data (codes "type")) (with_value s next (expression_meaning (world_in s) e [])) why
+        (ap (with_value s next) (expression_means e is (Ok v) found) ∙ ap (with_scalar s next) (mapped_out shown_row v)
+        ∙ other_layer next (out-Value SeenRow v) none)
+        so
 
     pub yields_scalar : is_of_scalars (out-Ty tree.ty) ≡ true → (v : Value SeenRow) (scalar : Scalar) → form_meaning (read s tables seen) tree.form [] ≡ Ok v
-        → Some scalar ≡ scalar_in (out-Value SeenRow v) → YieldsTree s tree (answer.Value scalar)
+        → Some scalar ≡ scalar_in (out-Value SeenRow v) → YieldsTree s tree (Ok scalar)
     yields_scalar typed v scalar found there e is =
         let layer : out-Value TableRow (mapped shown_row v) ≡ Value-F.Scalar scalar =
         mapped_out shown_row v ∙ ap (mapped_layer shown_row) (scalar_layer (out-Value SeenRow v) scalar there) in
@@ -102,24 +104,20 @@ module _ (s : State) where
     denied_same e is =
         ap (denial s.policies s.role) (uses ∙ append_none (form_uses tree.form) ∙ uses_of_statements (schemas_of s.tables) s.definitions defined e tree is)
 
-    pub denied_evaluated : (line : List ℕ) → TellsDenial s used (Some line) → EvaluatesTree s tree (answer.Told line)
-    denied_evaluated line told e is = (
-      denied_data (schemas_of s.tables) told.0.rule told.0.used,
-      λ next. ap (λ (o : Option Denied). allowed_by s o (with_value s next (expression_meaning (world_in s) e []))) (sym (denied_same e is) ∙ told.1),
-      told.2,
-    )
+    pub denied_evaluated : (why : Stop) → HasRights s used (Err why) → EvaluatesTree s tree (Err why)
+    denied_evaluated why denied e is next =
+        subst (λ (o : Option Denied). Stops s (allowed_by s o (with_value s next (expression_meaning (world_in s) e []))) why) (denied_same e is)
+        (stops_denied s used why (with_value s next (expression_meaning (world_in s) e [])) denied)
 
-    allowed : (e : Expr) (t : Ty) (found : Evaluated) → denial s.policies s.role (expression_uses e (names_in s)) ≡ None
+    allowed : (e : Expr) (t : Ty) (found : Result Scalar Stop) → denial s.policies s.role (expression_uses e (names_in s)) ≡ None
         → Yields s (expression_meaning (world_in s) e []) t found → IsEvaluated s e t found
-    allowed e t (answer.Value v) none yields = (
+    allowed e t (Ok v) none yields = (
       λ next. ap (λ (o : Option Denied). allowed_by s o (with_value s next (expression_meaning (world_in s) e []))) none ∙ yields.0 next,
       yields.1,
     )
-    allowed e t (answer.Told line) none yields = (
-      yields.0,
-      λ next. ap (λ (o : Option Denied). allowed_by s o (with_value s next (expression_meaning (world_in s) e []))) none ∙ yields.1 next,
-      yields.2,
-    )
+    allowed e t (Err why) none yields =
+        λ next. same_stop s (evaluated s e next) (with_value s next (expression_meaning (world_in s) e [])) why
+        (ap (λ (o : Option Denied). allowed_by s o (with_value s next (expression_meaning (world_in s) e []))) none) (yields next)
 
-    pub allowed_evaluated : (found : Evaluated) → TellsDenial s used None → YieldsTree s tree found → EvaluatesTree s tree found
+    pub allowed_evaluated : (found : Result Scalar Stop) → denial s.policies s.role used ≡ None → YieldsTree s tree found → EvaluatesTree s tree found
     allowed_evaluated found none yields e is = allowed e tree.ty found (sym (denied_same e is) ∙ none) (yields e is)

@@ -3,4 +3,5 @@ pub mod Replies
 pub mod SeenRows
 pub mod States
 pub mod Statements
+pub mod Stops
 pub mod TreeReply

@@ -1,8 +1,6 @@
--- What is told of the parts of statements in a state: the trees of their expressions, denials, scalars, and the rows that are removed.
-use Rattle.std.specs.Prelude.{◌≡◌, List, [], map, ℕ, Bool, true, false, Option, Some, None, Result, IfOk, Vec, slice_get}
-use Rattle.std.specs.declared.alloc.AllocError.{AllocError}
+-- What the parts of statements come to in a state: the trees of their expressions, rights, scalars, and the rows that are removed.
+use Rattle.std.specs.Prelude.{◌≡◌, List, [], map, ℕ, Bool, true, false, Option, Some, None, Result, Ok, Err, Vec, codes, slice_get}
 use Rattle.std.specs.declared.alloc.Global.{Global}
-use Rattle.serde_json.specs.Data.{Data}
 use Rattle.lq_value.specs.Tables.{Table}
 use Rattle.lq_value.specs.declared.scalar.Scalar.{Scalar}
 use Rattle.lq_value.specs.declared.ty.Ty.{Ty, out-Ty}
@@ -29,8 +27,9 @@ use Rattle.lq_tree.specs.Binding.{term_tree}
 use Rattle.lq_tree.specs.Places.{with_name}
 use Rattle.lq_tree.specs.SessionPlaces.{statement_places}
 use Rattle.lq_tree.specs.declared.tree.Tree.{Tree}
-use Rattle.lq_run.specs.declared.scalars.Evaluated.{Evaluated}
-use Rattle.lq_run.specs.declared.scalars.Evaluated.TheVariants as answer
+use Rattle.lq_run.specs.Stops.{Refuses, Stops}
+use Rattle.lq_run.specs.declared.stop.Stop.{Stop}
+use Rattle.lq_run.specs.declared.stop.Stop.TheVariants as stop
 
 -- the tree of an expression of a statement
 abbrev pub tree_in : State → Expr → Option Tree
@@ -40,15 +39,21 @@ tree_in s e = term_tree (schemas_of s.tables) (translated e) (statement_places (
 abbrev pub condition_in : State → List ℕ → ℕ → Expr → Option Tree
 condition_in s x n e = term_tree (schemas_of s.tables) (translated e) (with_name (statement_places (schemas_of s.tables) s.definitions) x (ty.Row n))
 
--- what was bound, memory aside: a tree, or none where there is no type
-abbrev pub FindsTree : Result Tree BindError → Result (Option Tree) AllocError → Type 0
-FindsTree bound found = (tree : Option Tree) → IsBound false tree bound → IfOk found (λ o. o ≡ tree)
+-- the tree that there is; where there is none the statement is refused
+abbrev pub FindsTree : Option Tree → Result Tree Stop → Type 0
+FindsTree tree (Ok found) = tree ≡ Some found
+FindsTree tree (Err why) = Refuses (codes "type") (tree ≡ None) why
 
--- the line of the first of some uses that is denied, if one is
-abbrev pub TellsDenial : State → List Use → Option (List ℕ) → Type 0
-TellsDenial s uses None = denial s.policies s.role uses ≡ None
-TellsDenial s uses (Some line) =
+-- and so of what was bound, within the limits of opening
+abbrev pub IsTyped : Result Tree BindError → Result Tree Stop → Type 0
+IsTyped bound found = (tree : Option Tree) → IsBound false tree bound → FindsTree tree found
+
+-- the role has a right to each of these uses; or the first that is denied is
+abbrev pub HasRights : State → List Use → Result (Unit {0}) Stop → Type 0
+HasRights s uses (Ok all) = denial s.policies s.role uses ≡ None
+HasRights s uses (Err (stop.Answer line)) =
     (d : Denied) × (denial s.policies s.role uses ≡ Some d) × (line ≡ line_of (denied_data (schemas_of s.tables) d.rule d.used))
+HasRights s uses (Err stop.Memory) = Unit {0}
 
 -- types of scalars alone, and that of null
 abbrev pub is_of_scalars : Ty-F Ty → Bool
@@ -59,18 +64,18 @@ is_of_scalars Ty-F.Str = true
 is_of_scalars Ty-F.Null = true
 is_of_scalars layer = false
 
--- an expression of this type is evaluated to a scalar of it, with which whatever is done with it goes on; or this line is told in its place
-abbrev pub IsEvaluated : State → Expr → Ty → Evaluated → Type 0
-IsEvaluated s e t (answer.Value v) = ((next : Scalar → Outcome) → evaluated s e next ≡ next v) × IsScalarOf (out-Ty t) v
-IsEvaluated s e t (answer.Told line) = (d : Data) × ((next : Scalar → Outcome) → evaluated s e next ≡ (d, s)) × (line ≡ line_of d)
+-- an expression of this type is evaluated to a scalar of it, with which whatever is done with it goes on; or the statement stops
+abbrev pub IsEvaluated : State → Expr → Ty → Result Scalar Stop → Type 0
+IsEvaluated s e t (Ok v) = ((next : Scalar → Outcome) → evaluated s e next ≡ next v) × IsScalarOf (out-Ty t) v
+IsEvaluated s e t (Err why) = (next : Scalar → Outcome) → Stops s (evaluated s e next) why
 
 -- what is done with what an expression means that isn't denied: the scalar that it is, of this type, or the line of a fault
-abbrev pub Yields : State → Result (Value TableRow) Fault → Ty → Evaluated → Type 0
-Yields s meant t (answer.Value v) = ((next : Scalar → Outcome) → with_value s next meant ≡ next v) × IsScalarOf (out-Ty t) v
-Yields s meant t (answer.Told line) = (d : Data) × ((next : Scalar → Outcome) → with_value s next meant ≡ (d, s)) × (line ≡ line_of d)
+abbrev pub Yields : State → Result (Value TableRow) Fault → Ty → Result Scalar Stop → Type 0
+Yields s meant t (Ok v) = ((next : Scalar → Outcome) → with_value s next meant ≡ next v) × IsScalarOf (out-Ty t) v
+Yields s meant t (Err why) = (next : Scalar → Outcome) → Stops s (with_value s next meant) why
 
 -- and so for each expression of this tree
-abbrev pub YieldsTree : State → Tree → Evaluated → Type 0
+abbrev pub YieldsTree : State → Tree → Result Scalar Stop → Type 0
 YieldsTree s tree found = (e : Expr) → tree_in s e ≡ Some tree → Yields s (expression_meaning (world_in s) e []) tree.ty found
 
 -- the scalar that a value is
@@ -79,7 +84,7 @@ scalar_in (Value-F.Scalar s) = Some s
 scalar_in layer = None
 
 -- each expression of this tree is evaluated so
-abbrev pub EvaluatesTree : State → Tree → Evaluated → Type 0
+abbrev pub EvaluatesTree : State → Tree → Result Scalar Stop → Type 0
 EvaluatesTree s tree found = (e : Expr) → tree_in s e ≡ Some tree → IsEvaluated s e tree.ty found
 
 -- these are the numbers of the rows on which a condition of this tree is true, up to its first fault

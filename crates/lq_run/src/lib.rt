@@ -1,9 +1,10 @@
-//! What statements read of a session: its state, the trees of their expressions, denials, what is served of a tree, scalars, and the rows that
+//! What statements read of a session: its state, the trees of their expressions, rights, what is served of a tree, scalars, and the rows that
 //! a `delete` removes.
 //!
-//! `State::run_line` gives exactly the session machine's reply to a `run`: the refusal, the denial, or what
+//! `run_line` gives exactly the session machine's reply to a `run`: the refusal, the denial, or what
 //! the expression means over the tables as the role sees them. The other calls give what `var`, an
-//! assignment, `insert` and `delete` need of it, as exactly.
+//! assignment, `insert` and `delete` need of it, as exactly. Where a statement comes to its end before it has done anything,
+//! they say why by a `Stop`, whose line is the machine's answer.
 #![tactic(auto)]
 
 mod definitions;
@@ -14,13 +15,14 @@ mod run;
 mod scalars;
 mod seen;
 mod state;
+mod stop;
 mod tables;
 mod trees;
 
-pub use denials::denied;
+pub use denials::check_rights;
 pub use removals::chosen_rows;
-pub use reply::refusal;
 pub use run::run_line;
-pub use scalars::{Evaluated, evaluate};
+pub use scalars::evaluate;
 pub use state::State;
+pub use stop::{Stop, denial, fault, refusal};
 pub use trees::{condition_of, tree_of};

@@ -16,7 +16,7 @@ use lq_value::{RowRef, Ty};
 use std::alloc::{AllocError, Global};
 
 /// The line of a refusal.
-pub fn refusal(alloc: Global, word: &str) -> Result<Line, AllocError>
+fn refusal_line(alloc: Global, word: &str) -> Result<Line, AllocError>
     ensures { IfOk result (λ line. line ≡ line_of (error_data word.now)) }
 {
     let reply: Reply<'_, SeenRow<'_>> = Reply::Error(word);
@@ -84,7 +84,7 @@ pub(crate) fn tree_line<R: TableRow>(
     ensures { IfOk result (λ line. line ≡ line_of (tree_data R.shown (schemas_of store.now) (world_of R.table_of R.shown tables.now) tree.now)) }
 {
     match ty(tree) {
-        Ty::Null => refusal(alloc, "type"),
+        Ty::Null => refusal_line(alloc, "type"),
         Ty::Seq(item) => items_line(alloc, store, item.get(), tree, tables),
         _ => value_line(alloc, store, tree, tables),
     }

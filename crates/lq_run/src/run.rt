@@ -1,14 +1,15 @@
 //! The answer to `run`.
 ghost use Rattle.std.specs.Prelude.{◌≡◌, false, IfOk};
 ghost use Rattle.lq_machine.specs.Opening.{is_past_opening};
-ghost use Rattle.lq_machine.specs.Served.{line_of};
 ghost use Rattle.lq_machine.specs.Serving.{run_in};
-ghost use Rattle.lq_run.specs.Replies.{AnswersTree, ServesTree};
+ghost use Rattle.lq_run.specs.Replies.{ServesTree};
+ghost use Rattle.lq_run.specs.Stops.{IsAnswered};
 
-use crate::denials::denied;
-use crate::reply::{refusal, tree_line};
+use crate::denials::check_rights;
+use crate::reply::tree_line;
 use crate::seen::seen_tables;
 use crate::state::State;
+use crate::stop::{Stop, refusal};
 use crate::tables::with_rows;
 use crate::trees::tree_of;
 use lq_grammar::Expr;
@@ -28,35 +29,18 @@ fn seen_line(alloc: Global, tree: &Tree, state: &State) -> Result<Line, AllocErr
     tree_line(alloc, state.store(), tree, tables.as_slice())
 }
 
-/// The line of a tree's reply: over the rows that the role sees where it has a right to all that
-/// the tree uses, and else of the first denial. A tree that is null by its type is refused before.
-fn answer_line(alloc: Global, tree: &Tree, state: &State) -> Result<Line, AllocError>
-    ensures { IfOk result (AnswersTree state.now tree.now) }
-{
-    if !has_place(ty(tree)) {
-        return refusal(alloc, "type");
-    }
-    let used = uses(alloc, tree, state.store(), true)?;
-    match denied(alloc, used.as_slice(), state)? {
-        Some(line) => Ok(line),
-        None => seen_line(alloc, tree, state),
-    }
-}
-
 /// The line that `run` of an expression is answered, where what the statement opens is within the limits of opening: the
-/// expression's value over the rows that the role sees, or its first fault; or a refusal where it has no type, or that of null
-/// alone; or the denial of the first table or column that it uses and to which the role has no right.
-pub fn run_line(
-    alloc: Global,
-    expr: &Expr,
-    opened: Opened,
-    state: &State,
-) -> Result<Line, AllocError>
+/// expression's value over the rows that the role sees, or its first fault. Stops with a refusal where it has no type, or that of null
+/// alone; else with the denial of the first table or column that it uses and to which the role has no right.
+pub fn run_line(alloc: Global, expr: &Expr, opened: Opened, state: &State) -> Result<Line, Stop>
     requires { is_past_opening opened ≡ false }
-    ensures { IfOk result (λ line. line ≡ line_of (run_in state.now expr.now)) }
+    ensures { IsAnswered (run_in state.now expr.now) result }
 {
-    match tree_of(alloc, expr, opened, state)? {
-        Some(tree) => answer_line(alloc, &tree, state),
-        None => refusal(alloc, "type"),
+    let tree = tree_of(alloc, expr, opened, state)?;
+    if !has_place(ty(&tree)) {
+        return Err(refusal(alloc, "type"));
     }
+    let used = uses(alloc, &tree, state.store(), true)?;
+    check_rights(alloc, used.as_slice(), state)?;
+    Ok(seen_line(alloc, &tree, state)?)
 }

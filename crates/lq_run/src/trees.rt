@@ -1,16 +1,17 @@
 //! The trees of expressions, where a statement stands.
-ghost use Rattle.std.specs.Prelude.{◌≡◌, false, IfOk};
+ghost use Rattle.std.specs.Prelude.{◌≡◌, false};
 ghost use Rattle.lq_machine.specs.Opening.{is_past_opening};
-ghost use Rattle.lq_run.specs.Statements.{FindsTree, condition_in, tree_in};
+ghost use Rattle.lq_run.specs.Statements.{FindsTree, IsTyped, condition_in, tree_in};
 
 use crate::state::State;
+use crate::stop::{Stop, refusal};
 use lq_bind::{BindError, Scope, bind_condition, bind_term};
 use lq_grammar::Expr;
 use lq_machine::Opened;
 use lq_translate::translate_expression;
 use lq_tree::Tree;
 use lq_value::Txt;
-use std::alloc::{AllocError, Global};
+use std::alloc::Global;
 
 /// What a statement is bound in: the tables of a state and its definitions.
 fn scope_in(state: &State, opened: Opened) -> Scope<'_>
@@ -26,32 +27,27 @@ fn scope_in(state: &State, opened: Opened) -> Scope<'_>
     }
 }
 
-/// The tree that was bound; none where there is no type. Within the limits of opening nothing is too deep.
-fn found(bound: Result<Tree, BindError>) -> Result<Option<Tree>, AllocError>
-    ensures { FindsTree bound result }
+/// The tree that was bound, or the refusal of what has no type. Within the limits of opening nothing is too deep.
+fn typed(alloc: Global, bound: Result<Tree, BindError>) -> Result<Tree, Stop>
+    ensures { IsTyped bound result }
 {
     match bound {
-        Ok(tree) => Ok(Some(tree)),
-        Err(BindError::IllTyped | BindError::TooDeep) => Ok(None),
-        Err(BindError::Memory) => Err(AllocError),
+        Ok(tree) => Ok(tree),
+        Err(BindError::IllTyped | BindError::TooDeep) => Err(refusal(alloc, "type")),
+        Err(BindError::Memory) => Err(Stop::Memory),
     }
 }
 
-/// The tree of an expression; none where it has no type. The statement is within the limits of opening.
-pub fn tree_of(
-    alloc: Global,
-    expr: &Expr,
-    opened: Opened,
-    state: &State,
-) -> Result<Option<Tree>, AllocError>
+/// The tree of an expression; refused as `type` where it has no type. The statement is within the limits of opening.
+pub fn tree_of(alloc: Global, expr: &Expr, opened: Opened, state: &State) -> Result<Tree, Stop>
     requires { is_past_opening opened ≡ false }
-    ensures { IfOk result (λ found. found ≡ tree_in state.now expr.now) }
+    ensures { FindsTree (tree_in state.now expr.now) result }
 {
     let term = translate_expression(alloc, expr)?;
-    found(bind_term(alloc, &term, &scope_in(state, opened)))
+    typed(alloc, bind_term(alloc, &term, &scope_in(state, opened)))
 }
 
-/// The tree of a condition on a row of this table, under the row's name; none where it has no type.
+/// The tree of a condition on a row of this table, under the row's name; refused as `type` where it has no type.
 pub fn condition_of(
     alloc: Global,
     expr: &Expr,
@@ -59,11 +55,11 @@ pub fn condition_of(
     table: u16,
     opened: Opened,
     state: &State,
-) -> Result<Option<Tree>, AllocError>
+) -> Result<Tree, Stop>
     requires { is_past_opening opened ≡ false }
-    ensures { IfOk result (λ found. found ≡ condition_in state.now row.now table expr.now) }
+    ensures { FindsTree (condition_in state.now row.now table expr.now) result }
 {
     let term = translate_expression(alloc, expr)?;
     let scope = scope_in(state, opened);
-    found(bind_condition(alloc, &term, row, table, &scope))
+    typed(alloc, bind_condition(alloc, &term, row, table, &scope))
 }

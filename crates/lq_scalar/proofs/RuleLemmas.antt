@@ -4,24 +4,18 @@ use Rattle.std.proofs.lemmas.List.{map-id}
 use Rattle.std.specs.Result.{result_unwrap_or}
 use Rattle.lq_value.specs.declared.scalar.Scalar.{Scalar}
 use Rattle.lq_value.specs.declared.value.Value.TheVariants.{outs-Row, outs-Scalar}
-use Rattle.lq_language.specs.RuleMeaning.{meaning, truth_at}
 use Rattle.lq_security.specs.Totality.{is_total}
 use Rattle.lq_security.specs.Visible.{is_true, rule_holds, rule_scope, rule_world}
 use Rattle.lq_grammar.specs.declared.syntax.Expr.{Expr}
 use Rattle.lq_security.proofs.TotalityLaws.{tells_total}
-use Rattle.lq_scalar.specs.Shapes.{IsSparing, IsTruth, faulting, shape_of, truth_of_expression}
+use Rattle.lq_scalar.specs.Shapes.{IsSparing, IsTruth, truth_of_expression}
 use Rattle.lq_scalar.specs.Sums.{sums_in}
 use Rattle.lq_scalar.specs.declared.error.ScalarError.{ScalarError}
 use Rattle.lq_scalar.specs.declared.error.ScalarError.TheVariants as error
-use Rattle.lq_scalar.proofs.ShapeLaws.{truth_viewed}
+use Rattle.lq_scalar.proofs.ShapeLaws.{rule_is}
 use Rattle.lq_scalar.proofs.SumLemmas.{total_has_no_sum}
 
 pub ruleset values = (outs-Row, outs-Scalar)
-
-rule_is : (columns : List (List ℕ)) (cells : List Scalar) (user : List ℕ) (rule : Expr)
-    → truth_at (rule_world columns) rule (rule_scope cells user) ≡ truth_of_expression (rule_world columns) (rule_scope cells user) rule
-unfolding shape_of
-rule_is columns cells user rule = truth_viewed (rule_world columns) (meaning (faulting (rule_world columns)) rule (rule_scope cells user))
 
 -- what a total rule is found to be is whether it holds
 pub rule_decides : (columns : List (List ℕ)) (cells : List Scalar) (user : List ℕ) (rule : Expr) → is_total rule ≡ true → (found : Result Bool ScalarError)

@@ -12,12 +12,13 @@ use Rattle.lq_value.specs.declared.value.Value.TheVariants.{outs-Scalar, outs-Se
 use Rattle.lq_value.specs.declared.value.Value.TheVariants as value
 use Rattle.lq_language.specs.Worlds.{Binding, Scope, World, binding_of, names_at}
 use Rattle.lq_language.specs.OperandMeaning.{as_value, cell_value, comparand, is_null, member_value, name_value, on_comparand, on_scalar, on_truth, same_values, scalar_of, table_value, told, truth_value}
-use Rattle.lq_language.specs.RuleMeaning.{compared_meaning, meaning, operated_meaning}
+use Rattle.lq_language.specs.RuleMeaning.{compared_meaning, meaning, operated_meaning, truth_at}
 use Rattle.lq_language.specs.Members.{search_named, sole_argument}
 use Rattle.lq_language.specs.Operations.{negated, of_search, on_ok, truth_of}
 use Rattle.lq_language.specs.Names.{Names, table_number}
 use Rattle.lq_language.specs.OperandTypes.{is_equality}
 use Rattle.lq_language.specs.RuleTyping.{type_of}
+use Rattle.lq_security.specs.Visible.{rule_scope, rule_world}
 use Rattle.lq_grammar.specs.declared.syntax.Argument.{Argument}
 use Rattle.lq_grammar.specs.declared.syntax.Binary.{Binary}
 use Rattle.lq_grammar.specs.declared.syntax.Expr.{Expr}
@@ -30,7 +31,7 @@ use Rattle.lq_language.proofs.FormLaws.{argument_meaning, meaning_binary, meanin
 use Rattle.lq_scalar.specs.declared.operand.Operand.{Operand}
 use Rattle.lq_scalar.specs.declared.operand.Operand.TheVariants as operand
 use Rattle.lq_scalar.specs.Named.{Shape, TheRow, TheScalar, shape_at, shape_in}
-use Rattle.lq_scalar.specs.Shapes.{faulting, member_of_null, member_shape, named_member, operand_part, operand_scalar, operated_scalars, same_parts, scalar_part, shown_operand, scalar_in, scalar_or_fault, scalar_shape, shape_of, shape_of_argument, told_shapes, truth_in, truth_shape}
+use Rattle.lq_scalar.specs.Shapes.{faulting, member_of_null, member_shape, named_member, operand_part, operand_scalar, operated_scalars, same_parts, scalar_part, shown_operand, scalar_in, scalar_or_fault, scalar_shape, shape_of, shape_of_argument, told_shapes, truth_in, truth_of_expression, truth_shape}
 
 -- the row or scalar that a value is, or the fault in its place
 abbrev pub viewed : {R : Type 0} → Result (Value R) Fault → Result (Shape R) Fault
@@ -294,3 +295,9 @@ scalar_shown scope (operand.Made t) = refl
 pub ruleset shapes = (shape_integer, shape_text, shape_truth, shape_null, shape_name, shape_member, shape_method, shape_binary, shape_minus, shape_not, shape_both, shape_either, shape_coalesce, shape_choice, shape_host, shape_record, shape_query, part_shown, scalar_shown)
 
 pub ruleset operands = (part_shown, scalar_shown)
+
+-- the truth value that a rule is, by what it is evaluated to
+pub rule_is : (columns : List (List ℕ)) (cells : List Scalar) (user : List ℕ) (rule : Expr)
+    → truth_at (rule_world columns) rule (rule_scope cells user) ≡ truth_of_expression (rule_world columns) (rule_scope cells user) rule
+unfolding shape_of
+rule_is columns cells user rule = truth_viewed (rule_world columns) (meaning (faulting (rule_world columns)) rule (rule_scope cells user))

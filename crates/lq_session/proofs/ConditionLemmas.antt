@@ -1,5 +1,5 @@
 -- Conditions on the rows of a table: the tree of one has its type, and uses what it uses.
-use Rattle.std.proofs.Common.{◌≡◌, ◌∙◌, ◌∷◌, ◌++◌, List, [], ℕ, Bool, false, Option, Some, None, ap, option_map, subst, sym}
+use Rattle.std.proofs.Common.{◌≡◌, ◌∙◌, ◌∷◌, ◌++◌, List, [], ℕ, Bool, false, Some, None, ap, option_map, sym}
 use Rattle.lq_value.specs.declared.ty.Ty.{Ty, out-Ty}
 use Rattle.lq_value.specs.declared.ty.Ty.TheVariants as ty
 use Rattle.lq_language.specs.ClauseTyping.{expression_type}
@@ -23,7 +23,7 @@ use Rattle.lq_tree.proofs.ScopeLaws.{append_none}
 use Rattle.lq_tree.proofs.SessionPlaceLaws.{places_use, statement_names}
 use Rattle.lq_tree.proofs.TermTypeLaws.{types_same}
 use Rattle.lq_tree.proofs.TermUseLaws.{expression_uses_same}
-use Rattle.lq_run.specs.Statements.{TellsDenial, condition_in}
+use Rattle.lq_run.specs.Statements.{condition_in}
 
 module _ (s : State) (x : List ℕ) (n : ℕ) (e : Expr) where
   abbrev outside : Places
@@ -55,11 +55,9 @@ module _ (s : State) (x : List ℕ) (n : ℕ) (e : Expr) where
   pub no_condition_type : condition_in s x n e ≡ None → is_bool_type (expression_type e (with_local (names_in s) x (ty.Row n))) ≡ false
   no_condition_type none = ap is_bool_type (sym condition_type ∙ ap (option_map (λ (found : Tree). found.ty)) none)
 
--- what is denied of the removal and of what the tree uses is what is denied of the statement
-pub tells_same : (s : State) → AreDefined (schemas_of s.tables) s.definitions → (n : ℕ) (tree : Tree) (uses : List Use)
-    → uses ≡ used.Delete n ∷ (form_uses tree.form ++ []) → (told : Option (List ℕ)) → TellsDenial s uses told
-    → (x : List ℕ) (e : Expr) → condition_in s x n e ≡ Some tree
-    → TellsDenial s (used.Delete n ∷ expression_uses e (with_local (names_in s) x (ty.Row n))) told
-tells_same s defined n tree uses are told tells x e is =
-    subst (λ (us : List Use). TellsDenial s us told)
-    (are ∙ ap (λ (us : List Use). used.Delete n ∷ us) (append_none (form_uses tree.form) ∙ condition_uses s x n e defined tree is)) tells
+-- the removal and what the tree uses are what the statement uses
+pub uses_same : (s : State) → AreDefined (schemas_of s.tables) s.definitions → (n : ℕ) (tree : Tree) (uses : List Use)
+    → uses ≡ used.Delete n ∷ (form_uses tree.form ++ []) → (x : List ℕ) (e : Expr) → condition_in s x n e ≡ Some tree
+    → uses ≡ used.Delete n ∷ expression_uses e (with_local (names_in s) x (ty.Row n))
+uses_same s defined n tree uses are x e is =
+    are ∙ ap (λ (us : List Use). used.Delete n ∷ us) (append_none (form_uses tree.form) ∙ condition_uses s x n e defined tree is)

@@ -1,7 +1,7 @@
 pub mod ConditionLemmas
 pub mod DeletionLemmas
 pub mod InsertLemmas
-pub mod LengthLemmas
+pub mod LineLemmas
 pub mod OpeningLemmas
 pub mod Outcomes
 pub mod ServingLemmas

@@ -10,17 +10,8 @@ use Rattle.lq_grammar.specs.declared.token.Kind.{Kind}
 use Rattle.lq_grammar.specs.declared.token.Kind.TheVariants as k
 use Rattle.lq_grammar.specs.declared.token.Token.{Token}
 use Rattle.lq_machine.specs.declared.session.Opened.{Opened}
+use Rattle.lq_machine.proofs.OpenedLaws.{rank_more, size_more}
 use Rattle.lq_session.specs.Openings.{opened_with, within_limits}
-
--- ---- more tokens
-
-size_more : (n : ℕ) (xs ys : List Opened) → size_with n (xs ++ ys) ≡ size_with (size_with n xs) ys
-size_more n [] ys = refl
-size_more n (x ∷ xs) ys = size_more (n + x.size) xs ys
-
-rank_more : (n : ℕ) (xs ys : List Opened) → rank_with n (xs ++ ys) ≡ rank_with (rank_with n xs) ys
-rank_more n [] ys = refl
-rank_more n (x ∷ xs) ys = rank_more (if nat_lt n (x.rank + 1) then x.rank + 1 else n) xs ys
 
 -- what some queries and others open
 pub opened_more : (opened : Opened) (xs ys : List Opened) → opened_with opened (xs ++ ys) ≡ opened_with (opened_with opened xs) ys
@@ -61,14 +52,14 @@ rank_grows n (x ∷ xs) = omega (arith, next_rank n (x.rank + 1), rank_grows (if
 past_stays : (opened : Opened) (xs : List Opened) → is_past_opening opened ≡ true → is_past_opening (opened_with opened xs) ≡ true
 past_stays opened xs h = grind (arith, nat_tests, size_grows opened.size xs, rank_grows opened.rank xs)
 
-past_from : (opened : Opened) (past : Bool) → None ≡ (if past then None else Some opened) → past ≡ true
+pub past_from : (opened : Opened) (past : Bool) → None ≡ (if past then None else Some opened) → past ≡ true
 past_from opened true h = refl
 past_from opened false h = cc
 
 stays_past : (opened : Opened) (xs : List Opened) → None ≡ within_limits opened → None ≡ within_limits (opened_with opened xs)
 stays_past opened xs h = rw (past_stays opened xs (past_from opened (is_past_opening opened) h)) refl
 
-kept_from : (next opened : Opened) (past : Bool) → Some next ≡ (if past then None else Some opened) → (past ≡ false) × (next ≡ opened)
+pub kept_from : (next opened : Opened) (past : Bool) → Some next ≡ (if past then None else Some opened) → (past ≡ false) × (next ≡ opened)
 kept_from next opened true h = cc
 kept_from next opened false h = (refl, cc)
 

@@ -1,21 +1,15 @@
--- From what is told of the outcome of a statement to what is performed.
-use Rattle.std.proofs.Common.{◌≡◌, List, ℕ, Result, Ok, Err, IfOk, sym, refl, subst}
-use Rattle.std.specs.declared.alloc.AllocError.{AllocError}
-use Rattle.lq_machine.specs.Served.{error_data, line_of}
+-- From what the machine answers to what is performed.
+use Rattle.std.proofs.Common.{List, ℕ, Result, Ok, Err, refl}
+use Rattle.lq_machine.specs.Serving.{run_in}
 use Rattle.lq_machine.specs.States.{State}
-use Rattle.lq_machine.specs.Statements.{Outcome, refused}
+use Rattle.lq_grammar.specs.declared.syntax.Expr.{Expr}
+use Rattle.lq_run.specs.Stops.{IsAnswered}
+use Rattle.lq_run.specs.declared.stop.Stop.{Stop}
+use Rattle.lq_run.specs.declared.stop.Stop.TheVariants as stop
 use Rattle.lq_session.specs.Performed.{Performs}
 
--- a line that is told of an outcome that leaves the state; memory that is refused leaves it, too
-pub told : (s : State) (o : Outcome) (result : Result (List ℕ) AllocError) → IfOk result (λ line. line ≡ line_of o.0) → s ≡ o.1 → Performs o s result s
-told s o (Ok line) so stays = (so, stays)
-told s o (Err denied) so stays = refl
-
--- the same outcome in other words
-pub performs_same : (s new : State) (x y : Outcome) (result : Result (List ℕ) AllocError) → x ≡ y → Performs x s result new → Performs y s result new
-performs_same s new x y result same performs = subst (λ (o : Outcome). Performs o s result new) same performs
-
--- the line of a refusal
-pub refuses : (s : State) (o : Outcome) (word : List ℕ) (result : Result (List ℕ) AllocError) → o ≡ refused s word
-    → IfOk result (λ line. line ≡ line_of (error_data word)) → Performs o s result s
-refuses s o word result is so = performs_same s s (refused s word) o result (sym is) (told s (refused s word) result so refl)
+-- the reply to a `run` leaves the state
+pub performs_run : (s : State) (e : Expr) (result : Result (List ℕ) Stop) → IsAnswered (run_in s e) result → Performs (run_in s e, s) s result s
+performs_run s e (Ok line) so = (so, refl)
+performs_run s e (Err (stop.Answer line)) so = ((so, refl), refl)
+performs_run s e (Err stop.Memory) so = (tt, refl)

@@ -1,9 +1,10 @@
 -- From what a statement's calls give to the machine's step.
-use Rattle.std.proofs.Common.{◌≡◌, ◌∷◌, List, [], ℕ, Bool, true, false, if◌then◌else◌, Option, Some, None, IsSome, Ok, ap, ap₂, ◌∙◌, sym, refl, codes}
-use Rattle.lq_machine.specs.Machine.{Reply, perform_opened, step, step_by}
-use Rattle.lq_machine.specs.Opening.{opening_of}
+use Rattle.std.proofs.Common.{◌≡◌, ◌∷◌, List, [], ℕ, Bool, true, false, if◌then◌else◌, Option, Some, None, IsSome, Ok, Err, ap, ap₂, ◌∙◌, sym, refl, codes}
+use Rattle.std.proofs.lemmas.Option.{none-some, same_Some}
+use Rattle.lq_machine.specs.Machine.{Reply, perform, replied, step, step_by}
+use Rattle.lq_machine.specs.Opening.{is_past_opening, opening_of}
 use Rattle.lq_machine.specs.Output.{Answers, as_machine}
-use Rattle.lq_machine.specs.Served.{error_data, line_of}
+use Rattle.lq_machine.specs.Statements.{refused}
 use Rattle.lq_machine.specs.States.{State}
 use Rattle.lq_grammar.specs.Depth.{is_deep}
 use Rattle.lq_grammar.specs.Reading.{Reading, IsNoSyntax, IsTooDeep, Nothing, Says, reading_of, reading_of_tokens, says_or_not}
@@ -12,6 +13,9 @@ use Rattle.lq_grammar.specs.Tokens.{tokens_of}
 use Rattle.lq_machine.specs.declared.session.Opened.{Opened}
 use Rattle.lq_grammar.specs.declared.syntax.Statement.{Statement}
 use Rattle.lq_grammar.specs.declared.token.Token.{Token}
+use Rattle.lq_run.specs.declared.stop.Stop.{Stop}
+use Rattle.lq_run.specs.declared.stop.Stop.TheVariants as stop
+use Rattle.lq_session.specs.Lines.{OpensWithin, RefusesLine, word_of}
 use Rattle.lq_session.specs.Performed.{Performs, Steps}
 
 -- ---- lines with and without a statement
@@ -48,20 +52,47 @@ module _ (old : State) (line : List ℕ) where
   as_read r h = ap (λ (x : Reading Statement). step_by old (opening_of old.definitions line) x) (sym h)
 
   pub says_nothing : reading_of line ≡ Nothing → Steps (step old line) old (Ok None) old
-  says_nothing h = (ap (λ (x : Option (List ℕ) × State). x.0) (as_read Nothing h), ap (λ (x : Option (List ℕ) × State). x.1) (as_read Nothing h))
+  says_nothing h = (ap (λ (x : Reply × State). x.0) (as_read Nothing h), ap (λ (x : Reply × State). x.1) (as_read Nothing h))
 
-  pub says_statement : (s : Statement) (reply : List ℕ) (new : State) → reading_of line ≡ Says s
-      → Performs (perform_opened old (opening_of old.definitions line) s) old (Ok reply) new → Steps (step old line) old (Ok (Some reply)) new
-  says_statement s reply new h performs =
-      (ap Some performs.0 ∙ ap (λ (x : Option (List ℕ) × State). x.0) (as_read (Says s) h), performs.1 ∙ ap (λ (x : Option (List ℕ) × State). x.1) (as_read (Says s) h))
+  -- a line that says no statement
+  refused_by : (r : Reading Statement) (word : List ℕ) → word_of r ≡ Some word → step_by old (opening_of old.definitions line) r ≡ replied (refused old word)
+  refused_by Nothing word is = absurd (none-some word is)
+  refused_by (Says s) word is = absurd (none-some word is)
+  refused_by IsNoSyntax word is = ap (λ (w : List ℕ). replied (refused old w)) (same_Some (codes "syntax") word is)
+  refused_by IsTooDeep word is = ap (λ (w : List ℕ). replied (refused old w)) (same_Some (codes "too-deep") word is)
 
-  pub says_no_syntax : (reply : List ℕ) → reading_of line ≡ IsNoSyntax → reply ≡ line_of (error_data (codes "syntax")) → Steps (step old line) old (Ok (Some reply)) old
-  says_no_syntax reply h is =
-      (ap Some is ∙ ap (λ (x : Option (List ℕ) × State). x.0) (as_read IsNoSyntax h), ap (λ (x : Option (List ℕ) × State). x.1) (as_read IsNoSyntax h))
+  pub stops_unread : (why : Stop) → RefusesLine line why → Steps (step old line) old (Err why) old
+  stops_unread (stop.Answer reply) refuses =
+      let same = sym (as_read (reading_of line) refl) ∙ refused_by (reading_of line) refuses.0 refuses.1 in
+      (ap Some refuses.2 ∙ ap (λ (x : Reply × State). x.0) (sym same), ap (λ (x : Reply × State). x.1) (sym same), refl)
+  stops_unread stop.Memory refuses = refl
 
-  pub says_too_deep : (reply : List ℕ) → reading_of line ≡ IsTooDeep → reply ≡ line_of (error_data (codes "too-deep")) → Steps (step old line) old (Ok (Some reply)) old
-  says_too_deep reply h is =
-      (ap Some is ∙ ap (λ (x : Option (List ℕ) × State). x.0) (as_read IsTooDeep h), ap (λ (x : Option (List ℕ) × State). x.1) (as_read IsTooDeep h))
+  module _ (s : Statement) (says : reading_of line ≡ Says s) where
+    -- one that opens too much
+    pub stops_past : (why : Stop) → OpensWithin (opening_of old.definitions line) (Err why) → Steps (step old line) old (Err why) old
+    stops_past (stop.Answer reply) past =
+        let same : replied (refused old (codes "too-deep")) ≡ step old line =
+        ap (λ (b : Bool). replied (if b then refused old (codes "too-deep") else perform old (opening_of old.definitions line) s)) (sym past.0) ∙ as_read (Says s) says in
+        (ap Some past.1 ∙ ap (λ (x : Reply × State). x.0) same, ap (λ (x : Reply × State). x.1) same, refl)
+    stops_past stop.Memory past = refl
+
+    module _ (opened : Opened) (opens : OpensWithin (opening_of old.definitions line) (Ok opened)) where
+      performed_as : replied (perform old opened s) ≡ step old line
+      performed_as =
+          ap (λ (o : Opened). replied (perform old o s)) opens.0
+          ∙ ap (λ (b : Bool). replied (if b then refused old (codes "too-deep") else perform old (opening_of old.definitions line) s))
+          (sym opens.1 ∙ ap is_past_opening opens.0)
+          ∙ as_read (Says s) says
+
+      -- and one that is performed, to its end or not
+      pub steps_performed : (reply : List ℕ) (new : State) → Performs (perform old opened s) old (Ok reply) new → Steps (step old line) old (Ok (Some reply)) new
+      steps_performed reply new performs =
+          (ap Some performs.0 ∙ ap (λ (x : Reply × State). x.0) performed_as, performs.1 ∙ ap (λ (x : Reply × State). x.1) performed_as)
+
+      pub stops_performed : (why : Stop) (new : State) → Performs (perform old opened s) old (Err why) new → Steps (step old line) old (Err why) new
+      stops_performed (stop.Answer reply) new performs =
+          (ap Some performs.0.0 ∙ ap (λ (x : Reply × State). x.0) performed_as, performs.0.1 ∙ ap (λ (x : Reply × State). x.1) performed_as, performs.1)
+      stops_performed stop.Memory new performs = performs.1
 
   -- ---- steps that the session answers
 
@@ -70,3 +101,6 @@ module _ (old : State) (line : List ℕ) where
 
   pub answers_stepped : (new : State) (reply : Reply) → Steps (step old line) old (Ok reply) new → Answers old line reply [] new
   answers_stepped new reply h = as_machine (ap₂ (λ (r : Reply) (s : State). (r, s)) h.0 h.1) refl
+
+  pub answers_stopped : (new : State) (reply : List ℕ) → Steps (step old line) old (Err (stop.Answer reply)) new → Answers old line (Some reply) [] new
+  answers_stopped new reply h = as_machine (ap₂ (λ (r : Reply) (s : State). (r, s)) h.0 (h.2 ∙ h.1)) refl

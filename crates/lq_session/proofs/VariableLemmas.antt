@@ -1,19 +1,20 @@
 -- Names that statements define, and variables that they assign to.
-use Rattle.std.proofs.Common.{◌≡◌, ◌∙◌, ◌∷◌, ◌||◌, List, [], ℕ, Bool, true, false, Option, Some, None, Result, ap, sym, refl, is_some, option_and_then, option_map, bytes_eq, if◌then◌else◌, codes, true≢false}
-use Rattle.std.specs.declared.alloc.AllocError.{AllocError}
+use Rattle.std.proofs.Common.{◌≡◌, ◌∙◌, ◌∷◌, ◌||◌, List, [], ℕ, Bool, true, false, Option, Some, None, Ok, Err, ap, sym, refl, is_some, option_and_then, option_map, bytes_eq, if◌then◌else◌, codes, true≢false}
 use Rattle.std.proofs.lemmas.Slice.Eq.{bytes_eq-Decides}
 use Rattle.std.proofs.lemmas.Option.{none-some, same_Some}
 use Rattle.lq_value.specs.declared.scalar.Scalar.{Scalar}
 use Rattle.lq_value.specs.declared.ty.Ty.{Ty, out-Ty}
 use Rattle.lq_value.specs.declared.ty.Ty.TheOpen.{Ty-F}
+use Rattle.lq_value.specs.declared.ty.Ty.TheVariants as ty
+use Rattle.lq_value.specs.declared.ty.Ty.TheVariants.{outs-Seq}
 use Rattle.lq_language.specs.ClauseTyping.{expression_type}
 use Rattle.lq_machine.specs.DefinitionLaws.{IsNew}
 use Rattle.lq_machine.specs.Definitions.{definition_of, known_after, known_names}
-use Rattle.lq_machine.specs.Served.{assigned_data, line_of}
+use Rattle.lq_machine.specs.Served.{assigned_data, defined_data, error_data, line_of}
 use Rattle.lq_machine.specs.States.{State, names_in, schemas_of}
-use Rattle.lq_machine.specs.Statements.{Outcome, assigned, assigning, defined, defined_as, defined_by, evaluated, is_taken, refused}
+use Rattle.lq_machine.specs.Statements.{Outcome, assigned, assigning, defined, defined_as, defined_by, defining_also, evaluated, is_taken, refused}
 use Rattle.lq_language.specs.Names.{table_number}
-use Rattle.lq_language.specs.OperandTypes.{is_scalar}
+use Rattle.lq_language.specs.OperandTypes.{is_scalar, item_of}
 use Rattle.lq_language.specs.Typing.{converts}
 use Rattle.lq_machine.specs.declared.session.Defined.{Defined}
 use Rattle.lq_machine.specs.declared.session.Defined.TheVariants as of
@@ -21,16 +22,17 @@ use Rattle.lq_machine.specs.declared.session.Definition.{Definition}
 use Rattle.lq_machine.specs.declared.session.Opened.{Opened}
 use Rattle.lq_grammar.specs.declared.syntax.Expr.{Expr}
 use Rattle.lq_machine.proofs.KeptDefinitionLaws.{converted, unknown_name}
-use Rattle.lq_machine.proofs.StatementLaws.{assigned_other, assigned_query, assigned_unknown, assigned_untyped, assigns}
+use Rattle.lq_machine.proofs.StatementLaws.{assigned_other, assigned_query, assigned_unknown, assigned_untyped, assigns, defined_taken, defined_untyped}
 use Rattle.lq_language.proofs.ValueLaws.{is_plain}
 use Rattle.lq_tree.specs.declared.tree.Tree.{Tree}
 use Rattle.lq_tree.proofs.SessionPlaceLaws.{types_of_statements}
-use Rattle.lq_run.specs.States.{IsValueFor}
-use Rattle.lq_run.specs.Statements.{IsEvaluated, is_of_scalars, tree_in}
-use Rattle.lq_run.specs.declared.scalars.Evaluated.TheVariants as answer
+use Rattle.lq_run.specs.States.{Assigns, IsValueFor}
+use Rattle.lq_run.specs.Statements.{EvaluatesTree, FindsTree, is_of_scalars, tree_in}
+use Rattle.lq_run.specs.Stops.{Stops, StopsWith}
+use Rattle.lq_run.specs.declared.stop.Stop.{Stop}
+use Rattle.lq_run.proofs.StopLaws.{same_stop, stops_refused, stops_with}
 use Rattle.lq_session.specs.Performed.{Performs}
-use Rattle.lq_session.specs.Variables.{AssignsValue, FindsAssigned, MayBeAssigned, converted_tree, type_if_variable, variable_type}
-use Rattle.lq_session.proofs.Outcomes.{performs_same}
+use Rattle.lq_session.specs.Variables.{DefinesBy, type_if_variable, variable_type}
 
 -- ---- names
 
@@ -76,13 +78,74 @@ there_too f (Some x) = refl
 -- ---- definitions
 
 module _ (s : State) (name : List ℕ) (opened : Opened) (e : Expr) where
-  pub defined_of : (tree : Tree) → is_taken s name ≡ false → tree_in s e ≡ Some tree → defined_as s name opened e tree.ty (out-Ty tree.ty) ≡ defined s name opened e
-  unfolding defined
-  defined_of tree free is =
-      sym (ap (λ (b : Bool). if b then refused s (codes "type") else defined_by s name opened e (expression_type e (names_in s))) free
-      ∙ ap (defined_by s name opened e) (type_of s e tree is))
+  pub taken : (why : Stop) → is_taken s name ≡ true → StopsWith (error_data (codes "type")) why → Stops s (defined s name opened e) why
+  taken why is so = stops_with s (error_data (codes "type")) (defined s name opened e) why (defined_taken s name opened e is) so
+
+  module _ (free : is_taken s name ≡ false) where
+    pub untyped : (why : Stop) → FindsTree (tree_in s e) (Err why) → Stops s (defined s name opened e) why
+    untyped why refuses =
+        stops_refused s (codes "type") (tree_in s e ≡ None) (defined s name opened e) why (λ none. defined_untyped s name opened e free (no_type s e none)) refuses
+
+    module _ (tree : Tree) (is : tree_in s e ≡ Some tree) where
+      defined_of : defined s name opened e ≡ defined_as s name opened e tree.ty (out-Ty tree.ty)
+      unfolding defined
+      defined_of =
+          ap (λ (b : Bool). if b then refused s (codes "type") else defined_by s name opened e (expression_type e (names_in s))) free
+          ∙ ap (defined_by s name opened e) (type_of s e tree is)
+
+      pub undefined : (why : Stop) → DefinesBy s opened e tree (Err why) → Stops s (defined s name opened e) why
+      undefined why stops = same_stop s (defined s name opened e) (defined_as s name opened e tree.ty (out-Ty tree.ty)) why defined_of (stops name)
+
+      pub defines : (line : List ℕ) (new : State) (given : Defined) → DefinesBy s opened e tree (Ok given) → line ≡ line_of (defined_data name)
+          → new ≡ defining_also s name given → Performs (defined s name opened e) s (Ok line) new
+      defines line new given by so is =
+          let same = sym (defined_of ∙ by.1 name) in (so ∙ ap (λ (o : Outcome). line_of o.0) same, is ∙ ap (λ (o : Outcome). o.1) same)
+
+-- what an expression is defined as that has this tree
+module _ (s : State) (opened : Opened) (e : Expr) (tree : Tree) (is : tree_in s e ≡ Some tree) where
+  pub defines_query : (item : Ty) → tree.ty ≡ ty.Seq item → DefinesBy s opened e tree (Ok (of.Query e opened))
+  defines_query item at = (
+    (item, type_of s e tree is ∙ ap Some at),
+    λ name. ap (λ (layer : Ty-F Ty). defined_as s name opened e tree.ty layer) (ap out-Ty at ∙ outs-Seq item),
+  )
+
+  scalar_as : (name : List ℕ) (layer : Ty-F Ty) → is_scalar layer ≡ true
+      → defined_as s name opened e tree.ty layer ≡ evaluated s e (λ v. (defined_data name, defining_also s name (of.Variable tree.ty v)))
+  scalar_as name (Ty-F.Seq item) so = absurd (true≢false (sym so))
+  scalar_as name layer so =
+      ap (λ (b : Bool). if b then evaluated s e (λ v. (defined_data name, defining_also s name (of.Variable tree.ty v))) else refused s (codes "type")) so
+
+  module _ (scalar : is_scalar (out-Ty tree.ty) ≡ true) where
+    pub defines_variable : (v : Scalar) → EvaluatesTree s tree (Ok v) → DefinesBy s opened e tree (Ok (of.Variable tree.ty v))
+    defines_variable v evaluates = (
+      (scalar, (evaluates e is).1),
+      λ name. scalar_as name (out-Ty tree.ty) scalar ∙ (evaluates e is).0 (λ w. (defined_data name, defining_also s name (of.Variable tree.ty w))),
+    )
+
+    pub unevaluated : (why : Stop) → EvaluatesTree s tree (Err why) → DefinesBy s opened e tree (Err why)
+    unevaluated why evaluates name =
+        same_stop s (defined_as s name opened e tree.ty (out-Ty tree.ty)) (evaluated s e (λ v. (defined_data name, defining_also s name (of.Variable tree.ty v)))) why
+        (scalar_as name (out-Ty tree.ty) scalar) (evaluates e is (λ v. (defined_data name, defining_also s name (of.Variable tree.ty v))))
+
+  other_as : (name : List ℕ) (layer : Ty-F Ty) → item_of layer ≡ None → is_scalar layer ≡ false → defined_as s name opened e tree.ty layer ≡ refused s (codes "type")
+  other_as name (Ty-F.Seq item) none other = absurd (none-some item (sym none))
+  other_as name layer none other =
+      ap (λ (b : Bool). if b then evaluated s e (λ v. (defined_data name, defining_also s name (of.Variable tree.ty v))) else refused s (codes "type")) other
+
+  pub defines_nothing : (why : Stop) → item_of (out-Ty tree.ty) ≡ None → is_scalar (out-Ty tree.ty) ≡ false → StopsWith (error_data (codes "type")) why
+      → DefinesBy s opened e tree (Err why)
+  defines_nothing why none other so name =
+      stops_with s (error_data (codes "type")) (defined_as s name opened e tree.ty (out-Ty tree.ty)) why (other_as name (out-Ty tree.ty) none other) so
 
 -- ---- the variable of a name
+
+plain_scalars : (layer : Ty-F Ty) → is_plain layer ≡ true → is_of_scalars layer ≡ true
+plain_scalars Ty-F.Int h = refl
+plain_scalars Ty-F.IntN h = refl
+plain_scalars Ty-F.Bool h = refl
+plain_scalars Ty-F.Str h = refl
+plain_scalars Ty-F.Null h = refl
+plain_scalars layer h = absurd (true≢false (sym h))
 
 definition_named : (name : List ℕ) (ds : List Definition) (d : Definition) → definition_of name ds ≡ Some d → d.name ≡ name
 definition_named name [] d is = absurd (none-some d is)
@@ -117,56 +180,52 @@ module _ (s : State) (name : List ℕ) where
       by (of.Variable u before) at h = absurd (none-some u (sym h))
       by (of.Query query opened) at h = assigned_query s name e d found query opened at
 
-    -- what is assigned where no variable has the name
-    pub unassigned : variable_type s name ≡ None → FindsAssigned s name e None
-    unassigned is = unassigned_by (definition_of name s.definitions) refl is
+    -- no variable has the name
+    pub unassigned : (why : Stop) → variable_type s name ≡ None → StopsWith (error_data (codes "type")) why → Stops s (assigned s name e) why
+    unassigned why is so =
+        stops_with s (error_data (codes "type")) (assigned s name e) why (unassigned_by (definition_of name s.definitions) refl is) so
 
     module _ (t : Ty) (is : variable_type s name ≡ Some t) where
       abbrev variable : Definition
       variable = record { name = name; defined = of.Variable t (variable_found t is).0 }
 
-      -- and where one has
-      pub finds : is_scalar (out-Ty t) ≡ true → (found : Option Tree) → found ≡ tree_in s e → FindsAssigned s name e (converted_tree t found)
-      finds scalar None bound = assigned_untyped s name e variable (variable_found t is).1 t (variable_found t is).0 refl (no_type s e (sym bound))
-      finds scalar (Some tree) bound = by (converts tree.ty t) refl where
-        by : (b : Bool) → converts tree.ty t ≡ b → FindsAssigned s name e (if b then Some tree else None)
-        by true place = (sym bound, (t, is, scalar, place))
-        by false other =
-            assigned_other s name e variable (variable_found t is).1 t (variable_found t is).0 refl tree.ty (type_of s e tree (sym bound)) other
+      -- and where one has, the expression may have no type
+      pub untyped_value : (why : Stop) → FindsTree (tree_in s e) (Err why) → Stops s (assigned s name e) why
+      untyped_value why refuses =
+          stops_refused s (codes "type") (tree_in s e ≡ None) (assigned s name e) why
+          (λ none. assigned_untyped s name e variable (variable_found t is).1 t (variable_found t is).0 refl (no_type s e none)) refuses
 
-      -- the expression is evaluated, and the variable has its value
-      pub assigned_of : (tree : Tree) → tree_in s e ≡ Some tree → converts tree.ty t ≡ true
-          → assigned s name e ≡ evaluated s e (λ v. (assigned_data name, assigning s name t v))
-      assigned_of tree bound place =
-          assigns s name e variable (variable_found t is).1 t (variable_found t is).0 refl tree.ty (type_of s e tree bound) place
+      module _ (tree : Tree) (bound : tree_in s e ≡ Some tree) where
+        -- or one that doesn't convert
+        pub other_value : (why : Stop) → converts tree.ty t ≡ false → StopsWith (error_data (codes "type")) why → Stops s (assigned s name e) why
+        other_value why other so =
+            stops_with s (error_data (codes "type")) (assigned s name e) why
+            (assigned_other s name e variable (variable_found t is).1 t (variable_found t is).0 refl tree.ty (type_of s e tree bound) other) so
 
-plain_scalars : (layer : Ty-F Ty) → is_plain layer ≡ true → is_of_scalars layer ≡ true
-plain_scalars Ty-F.Int h = refl
-plain_scalars Ty-F.IntN h = refl
-plain_scalars Ty-F.Bool h = refl
-plain_scalars Ty-F.Str h = refl
-plain_scalars Ty-F.Null h = refl
-plain_scalars layer h = absurd (true≢false (sym h))
+        module _ (place : converts tree.ty t ≡ true) where
+          -- the expression is evaluated, and the variable has its value
+          assigned_of : assigned s name e ≡ evaluated s e (λ v. (assigned_data name, assigning s name t v))
+          assigned_of = assigns s name e variable (variable_found t is).1 t (variable_found t is).0 refl tree.ty (type_of s e tree bound) place
 
-module _ (s : State) (name : List ℕ) (tree : Tree) (may : MayBeAssigned s name tree) where
-  -- it is a scalar that is assigned
-  pub assigns_scalar : is_of_scalars (out-Ty tree.ty) ≡ true
-  assigns_scalar = plain_scalars (out-Ty tree.ty) (converted tree.ty may.0 may.2 may.3).plain
+          pub no_value : (why : Stop) → EvaluatesTree s tree (Err why) → Stops s (assigned s name e) why
+          no_value why evaluates =
+              same_stop s (assigned s name e) (evaluated s e (λ v. (assigned_data name, assigning s name t v))) why assigned_of
+              (evaluates e bound (λ v. (assigned_data name, assigning s name t v)))
 
-  module _ (e : Expr) (bound : tree_in s e ≡ Some tree) where
-    -- and one of the variable's type
-    pub value_for : (v : Scalar) → IsEvaluated s e tree.ty (answer.Value v) → IsValueFor s.definitions name v
-    value_for v evaluates =
-        let there = variable_found s name may.0 may.1 in
-        (may.0, there.0, there.1, (converted tree.ty may.0 may.2 may.3).fits v evaluates.1)
+          module _ (scalar : is_scalar (out-Ty t) ≡ true) where
+            -- it is a scalar that is assigned
+            pub assigns_scalar : is_of_scalars (out-Ty tree.ty) ≡ true
+            assigns_scalar = plain_scalars (out-Ty tree.ty) (converted tree.ty t scalar place).plain
 
-    pub value_assigned : (v : Scalar) (result : Result (List ℕ) AllocError) (new : State) → IsEvaluated s e tree.ty (answer.Value v) → AssignsValue s name v result new
-        → Performs (assigned s name e) s result new
-    value_assigned v result new evaluates done =
-        performs_same s new (assigned_data name, assigning s name may.0 v) (assigned s name e) result
-        (sym (assigned_of s name e may.0 may.1 tree bound may.3 ∙ evaluates.0 (λ w. (assigned_data name, assigning s name may.0 w)))) (done may.0 may.1)
+            module _ (v : Scalar) (evaluates : EvaluatesTree s tree (Ok v)) where
+              -- and one of the variable's type
+              pub value_for : IsValueFor s.definitions name v
+              value_for = (t, (variable_found t is).0, (variable_found t is).1, (converted tree.ty t scalar place).fits v (evaluates e bound).1)
 
-    pub told_assigned : (line : List ℕ) → IsEvaluated s e tree.ty (answer.Told line) → (line ≡ line_of (assigned s name e).0) × (s ≡ (assigned s name e).1)
-    told_assigned line evaluates =
-        let same = assigned_of s name e may.0 may.1 tree bound may.3 ∙ evaluates.1 (λ w. (assigned_data name, assigning s name may.0 w)) in
-        (evaluates.2 ∙ ap (λ (o : Outcome). line_of o.0) (sym same), ap (λ (o : Outcome). o.1) (sym same))
+              pub assigns_value : (line : List ℕ) (new : State) → line ≡ line_of (assigned_data name) → Assigns s name v new
+                  → Performs (assigned s name e) s (Ok line) new
+              assigns_value line new so gives =
+                  let same = sym (assigned_of ∙ (evaluates e bound).0 (λ w. (assigned_data name, assigning s name t w))) in (
+                    so ∙ ap (λ (o : Outcome). line_of o.0) same,
+                    gives t (variable_found t is).0 (variable_found t is).1 ∙ ap (λ (o : Outcome). o.1) same,
+                  )

@@ -1,3 +1,4 @@
+pub mod Lines
 pub mod Openings
 pub mod Performed
 pub mod Rows

@@ -1,5 +1,5 @@
 -- The type by which what a line says is served.
-use Rattle.std.specs.Prelude.{if◌then◌else◌, List, ℕ, Option, None}
+use Rattle.std.specs.Prelude.{◌≡◌, if◌then◌else◌, List, ℕ, Option, None, Result, Ok, Err}
 use Rattle.lq_value.specs.declared.ty.Ty.{Ty}
 use Rattle.lq_grammar.specs.Reading.{Reading, Says, reading_of}
 use Rattle.lq_grammar.specs.declared.syntax.Statement.{Statement}
@@ -8,6 +8,8 @@ use Rattle.lq_machine.specs.Opening.{is_past_opening, opening_of}
 use Rattle.lq_machine.specs.Serving.{served_type}
 use Rattle.lq_machine.specs.States.{State, names_in}
 use Rattle.lq_machine.specs.declared.session.Opened.{Opened}
+use Rattle.lq_run.specs.declared.stop.Stop.{Stop}
+use Rattle.lq_run.specs.declared.stop.Stop.TheVariants as stop
 
 -- a `run` serves its expression by the expression's type; no other statement serves a value
 abbrev pub statement_type : State → Statement → Option Ty
@@ -26,3 +28,9 @@ type_read s opened other = None
 -- the type by which the value is served that a line asks for in this state; none where it asks for none, or is refused
 unfoldable pub line_type : State → List ℕ → Option Ty
 line_type s line = type_read s (opening_of s.definitions line) (reading_of line)
+
+-- this is that type; where its statement stops before there is none
+abbrev pub ServesLine : State → List ℕ → Result (Option Ty) Stop → Type 0
+ServesLine s line (Ok found) = found ≡ line_type s line
+ServesLine s line (Err (stop.Answer reply)) = None ≡ line_type s line
+ServesLine s line (Err stop.Memory) = Unit {0}

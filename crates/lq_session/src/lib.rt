@@ -4,6 +4,7 @@
 //! where memory was refused, the memory line with the state unchanged.
 #![tactic(auto)]
 
+mod lines;
 pub mod meaning_laws;
 mod opening;
 mod replies;

@@ -1,22 +1,15 @@
 //! What a statement opens: the named queries whose names stand among its tokens.
-ghost use Rattle.std.specs.Prelude.{◌≡◌, ◌∷◌, [], IfOk, false, length, option_to_list};
+ghost use Rattle.std.specs.Prelude.{◌≡◌, ◌∷◌, [], false, length, option_to_list};
 ghost use Rattle.std.specs.Option.{option_copied};
 ghost use Rattle.lq_machine.specs.Definitions.{definition_of};
-ghost use Rattle.lq_machine.specs.Opening.{is_past_opening, opened_as, opened_behind, opened_named, opening, opening_of};
+ghost use Rattle.lq_machine.specs.Opening.{is_past_opening, opened_as, opened_behind, opened_named, opening};
 ghost use Rattle.lq_grammar.specs.Tokens.{text_of};
-ghost use Rattle.lq_session.specs.Openings.{OpensFor, keeps_opened, opened_with, within_limits};
+ghost use Rattle.lq_session.specs.Openings.{opened_with, within_limits};
 
-use lq_grammar::{Kind, Statement, Token};
-use lq_lex::{LexError, tokens};
+use lq_bind::{MOST_RANK, MOST_TOKENS};
+use lq_grammar::{Kind, Token};
 use lq_machine::{Defined, Definition, Opened};
 use lq_syntax::bytes_of;
-use std::alloc::{AllocError, Global};
-
-/// The most tokens that a statement may have together with those of all that it opens.
-const SIZE_LIMIT: u64 = 65_536;
-
-/// The most named queries that may stand one in the other.
-const RANK_LIMIT: u32 = 8;
 
 /// The definition of this name.
 pub(crate) fn definition_of<'a>(
@@ -74,7 +67,7 @@ fn with_query(opened: Opened, query: Opened) -> Option<Opened>
     requires { is_past_opening opened ≡ false }
     ensures { result ≡ within_limits (opened_with opened (query ∷ [])) }
 {
-    if query.size > SIZE_LIMIT.saturating_sub(opened.size) || query.rank >= RANK_LIMIT {
+    if query.size > MOST_TOKENS.saturating_sub(opened.size) || query.rank >= MOST_RANK {
         return None;
     }
     Some(Opened {
@@ -106,11 +99,17 @@ fn unopened(tokens: &[Token]) -> Option<Opened>
     ensures { result ≡ within_limits (record { size = length tokens.now; rank = 0 }) }
 {
     let size = tokens.len() as u64;
-    (size <= SIZE_LIMIT).then_some(Opened { size, rank: 0 })
+    (size <= MOST_TOKENS).then_some(Opened { size, rank: 0 })
 }
 
-/// What a statement of these tokens opens; none where that is past a limit.
-fn opening_of_tokens(line: &[u8], definitions: &[Definition], tokens: &[Token]) -> Option<Opened>
+/// What a statement of these tokens opens: each named query among these definitions whose name stands among them, but not behind
+/// a `.`. None where the tokens are more than 65,536 together with those of all that it opens, or more than 8 named queries
+/// stand one in the other.
+pub(crate) fn opening_of_tokens(
+    line: &[u8],
+    definitions: &[Definition],
+    tokens: &[Token],
+) -> Option<Opened>
     ensures { result ≡ within_limits (opening definitions.now line.now tokens.now) }
 {
     let mut opened = unopened(tokens)?;
@@ -120,47 +119,4 @@ fn opening_of_tokens(line: &[u8], definitions: &[Definition], tokens: &[Token]) 
         before = token.kind;
     }
     Some(opened)
-}
-
-/// What the statement on a line opens: each named query among these definitions whose name stands
-/// among the line's tokens, but not behind a `.`. None where its tokens are more than 65,536
-/// together with those of all that it opens, or more than 8 named queries stand one in the other.
-#[tactic(auto, unfolding(lq_machine::specs::Opening::opening_of, lq_grammar::specs::Tokens::tokens_of))]
-fn opening(
-    alloc: Global,
-    line: &str,
-    definitions: &[Definition],
-) -> Result<Option<Opened>, AllocError>
-    ensures { IfOk result (λ opened. opened ≡ within_limits (opening_of definitions.now line.now)) }
-{
-    match tokens(alloc, line) {
-        Ok(tokens) => Ok(opening_of_tokens(line.as_bytes(), definitions, &tokens)),
-        Err(LexError::Lexical | LexError::TooLong) => Ok(Some(Opened { size: 0, rank: 0 })),
-        Err(LexError::Memory) => Err(AllocError),
-    }
-}
-
-/// Whether a statement keeps what it opens, for those that name it later.
-fn keeps_opened(statement: &Statement) -> bool
-    ensures { result ≡ keeps_opened statement.now }
-{
-    matches!(statement, Statement::Define(_, _))
-}
-
-/// What this statement on a line opens, as far as the statement tells it from another that is within the limits. None where that
-/// is past a limit.
-pub(crate) fn opening_for(
-    alloc: Global,
-    statement: &Statement,
-    line: &str,
-    definitions: &[Definition],
-) -> Result<Option<Opened>, AllocError>
-    ensures { IfOk result (OpensFor definitions.now line.now statement.now) }
-{
-    // Where nothing is defined a statement opens nothing, and a line has no more tokens than a statement may have. So they are
-    // counted only for one that is kept.
-    if definitions.is_empty() && !keeps_opened(statement) {
-        return Ok(Some(Opened { size: 0, rank: 0 }));
-    }
-    opening(alloc, line, definitions)
 }

@@ -1,17 +1,12 @@
 //! The types by which the values are served that lines ask for.
-ghost use Rattle.std.specs.Prelude.{◌≡◌, Some, false, IfOk};
+ghost use Rattle.std.specs.Prelude.{◌≡◌, Some, IfOk};
 ghost use Rattle.lq_value.specs.declared.ty.Ty.{out-Ty};
 ghost use Rattle.lq_language.specs.Types.{has_place, when};
-ghost use Rattle.lq_machine.specs.Opening.{is_past_opening, opening_of};
-ghost use Rattle.lq_machine.specs.Serving.{served_type};
-ghost use Rattle.lq_machine.specs.States.{names_in};
-ghost use Rattle.lq_session.specs.ServedTypes.{line_type, type_within};
+ghost use Rattle.lq_session.specs.ServedTypes.{ServesLine, line_type};
 
-use crate::opening::opening_for;
-use lq_grammar::{Expr, Statement};
-use lq_machine::Opened;
-use lq_run::{State, tree_of};
-use lq_syntax::{SyntaxError, parse_statement};
+use crate::lines::{opening_of, statement_of, tokens_of};
+use lq_grammar::Statement;
+use lq_run::{State, Stop, tree_of};
 use lq_tree::ty;
 use lq_typing::{copy_ty, has_place};
 use lq_value::Ty;
@@ -29,39 +24,20 @@ fn placed_type(alloc: Global, given: &Ty) -> Result<Option<Ty>, AllocError>
     }
 }
 
-/// The type that an expression is served by, in a statement within the limits of opening.
-fn type_of_expression(
-    alloc: Global,
-    expr: &Expr,
-    opened: Opened,
-    state: &State,
-) -> Result<Option<Ty>, AllocError>
-    requires { is_past_opening opened ≡ false }
-    ensures { IfOk result (λ found. found ≡ served_type (names_in state.now) expr.now) }
+/// The type that a line is served by, where nothing stops its statement before it is served.
+fn type_of_run(alloc: Global, line: &str, state: &State) -> Result<Option<Ty>, Stop>
+    ensures { ServesLine state.now line.now result }
 {
-    match tree_of(alloc, expr, opened, state)? {
-        Some(tree) => placed_type(alloc, ty(&tree)),
-        None => Ok(None),
-    }
-}
-
-/// The type that the statement on a line is served by.
-fn type_of_statement(
-    alloc: Global,
-    statement: &Statement,
-    line: &str,
-    state: &State,
-) -> Result<Option<Ty>, AllocError>
-    ensures { IfOk result (λ found. found
-        ≡ type_within state.now (opening_of state.now.definitions line.now) statement.now) }
-{
+    let tokens = tokens_of(alloc, line)?;
+    let Some(statement) = statement_of(alloc, line, &tokens)? else {
+        return Ok(None);
+    };
     let Statement::Run(expr) = statement else {
         return Ok(None);
     };
-    match opening_for(alloc, statement, line, state.definitions())? {
-        Some(opened) => type_of_expression(alloc, expr, opened, state),
-        None => Ok(None),
-    }
+    let opened = opening_of(alloc, line, &tokens, state)?;
+    let tree = tree_of(alloc, &expr, opened, state)?;
+    Ok(placed_type(alloc, ty(&tree))?)
 }
 
 /// The type that a line is served by in this state: that of the expression of its `run`. None where the
@@ -74,11 +50,9 @@ pub(crate) fn type_of_line(
 ) -> Result<Option<Ty>, AllocError>
     ensures { IfOk result (λ found. found ≡ line_type state.now line.now) }
 {
-    match parse_statement(alloc, line) {
-        Ok(Some(statement)) => type_of_statement(alloc, &statement, line, state),
-        Ok(None) => Ok(None),
-        Err(SyntaxError::Syntax) => Ok(None),
-        Err(SyntaxError::TooDeep) => Ok(None),
-        Err(SyntaxError::Memory) => Err(AllocError),
+    match type_of_run(alloc, line, state) {
+        Ok(found) => Ok(found),
+        Err(Stop::Answer(_)) => Ok(None),
+        Err(Stop::Memory) => Err(AllocError),
     }
 }

@@ -1,16 +1,14 @@
 //! The session and its step.
 ghost use Rattle.lq_policy.specs.Roles.{number_of};
 
-use crate::opening::opening_for;
+use crate::lines::{opening_of, statement_of, tokens_of};
 use crate::serving::type_of_line;
 use crate::statements::perform;
-use lq_grammar::Statement;
 use lq_json::Line;
 use lq_lex::is_blank;
 use lq_policy::{Policies, RoleId};
-use lq_run::{State, refusal};
+use lq_run::{State, Stop};
 use lq_store::Store;
-use lq_syntax::{SyntaxError, parse_statement};
 use lq_value::Ty;
 use std::alloc::{AllocError, Global};
 
@@ -24,11 +22,9 @@ pub struct Session {
 
 impl Session {
     ghost use Rattle.std.specs.Prelude.{◌≡◌, [], IfOk};
-    ghost use Rattle.lq_machine.specs.Machine.{perform_opened, step};
-    ghost use Rattle.lq_machine.specs.Opening.{opening_of};
+    ghost use Rattle.lq_machine.specs.Machine.{step};
     ghost use Rattle.lq_machine.specs.Output.{Answers};
-    ghost use Rattle.lq_machine.specs.Served.{error_data, line_of};
-    ghost use Rattle.lq_session.specs.Performed.{Performs, Steps};
+    ghost use Rattle.lq_session.specs.Performed.{Steps};
     ghost use Rattle.lq_session.specs.ServedTypes.{line_type};
     ghost use Rattle.lq_session.specs.States.{state_of};
 
@@ -78,40 +74,21 @@ impl Session {
         }
         match self.answer(line) {
             Ok(reply) => reply,
-            Err(AllocError) => Some(Line::memory()),
+            Err(Stop::Answer(reply)) => Some(reply),
+            Err(Stop::Memory) => Some(Line::memory()),
         }
     }
 
-    /// The reply to a line, where there is memory for it.
-    fn answer(&mut self, line: &str) -> Result<Option<Line>, AllocError>
+    /// The reply to a line, or why its statement stops: the line is cut into tokens, which are read as a statement; what this
+    /// opens is counted, and it is performed.
+    fn answer(&mut self, line: &str) -> Result<Option<Line>, Stop>
         ensures { Steps (step (state_of self.old) line.now) (state_of self.old) result (state_of self.new) }
     {
-        match parse_statement(self.alloc, line) {
-            Ok(None) => Ok(None),
-            Ok(Some(statement)) => Ok(Some(self.perform(statement, line)?)),
-            Err(SyntaxError::Syntax) => Ok(Some(self.refusal("syntax")?)),
-            Err(SyntaxError::TooDeep) => Ok(Some(self.refusal("too-deep")?)),
-            Err(SyntaxError::Memory) => Err(AllocError),
-        }
-    }
-
-    /// Performs the statement that a line says, and answers its line. What opens more than it may is
-    /// refused, whatever it is.
-    #[tactic(auto, using(crate::proofs::LengthLemmas::performs_for, crate::proofs::LengthLemmas::performs_past))]
-    fn perform(&mut self, statement: Statement, line: &str) -> Result<Line, AllocError>
-        ensures { Performs (perform_opened (state_of self.old) (opening_of (state_of self.old).definitions line.now) statement)
-            (state_of self.old) result (state_of self.new) }
-    {
-        match opening_for(self.alloc, &statement, line, self.state.definitions())? {
-            Some(opened) => perform(self.alloc, statement, opened, &mut self.state),
-            None => self.refusal("too-deep"),
-        }
-    }
-
-    /// The line of a refusal.
-    fn refusal(&self, word: &str) -> Result<Line, AllocError>
-        ensures { IfOk result (λ line. line ≡ line_of (error_data word.now)) }
-    {
-        refusal(self.alloc, word)
+        let tokens = tokens_of(self.alloc, line)?;
+        let Some(statement) = statement_of(self.alloc, line, &tokens)? else {
+            return Ok(None);
+        };
+        let opened = opening_of(self.alloc, line, &tokens, &self.state)?;
+        Ok(Some(perform(self.alloc, statement, opened, &mut self.state)?))
     }
 }

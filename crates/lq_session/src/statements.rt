@@ -11,17 +11,17 @@ use crate::variables::{assign, define};
 use lq_grammar::Statement;
 use lq_json::{Line, Reply};
 use lq_machine::Opened;
-use lq_run::{State, refusal, run_line};
-use std::alloc::{AllocError, Global};
+use lq_run::{State, Stop, refusal, run_line};
+use std::alloc::Global;
 
-/// Performs a statement that opens no more than it may, and answers its line. Where memory is refused,
-/// or a right to something, the state is as it was.
+/// Performs a statement that opens no more than it may, and answers its line. Where it stops before its end,
+/// the state is as it was.
 pub(crate) fn perform(
     alloc: Global,
     statement: Statement,
     opened: Opened,
     state: &mut State,
-) -> Result<Line, AllocError>
+) -> Result<Line, Stop>
     requires { is_past_opening opened ≡ false }
     ensures { Performs (perform state.old opened statement) state.old result state.new }
 {
@@ -39,11 +39,11 @@ pub(crate) fn perform(
 
 /// The session goes by the role of this name from now on; refused as `role` where there is none.
 #[tactic(auto, using(lq_machine::proofs::StatementLaws::of_roles))]
-fn take_role(alloc: Global, name: &str, state: &mut State) -> Result<Line, AllocError>
+fn take_role(alloc: Global, name: &str, state: &mut State) -> Result<Line, Stop>
     ensures { Performs (taking_role state.old name.now) state.old result state.new }
 {
     let Some(role) = state.policies().role(name) else {
-        return refusal(alloc, "role");
+        return Err(refusal(alloc, "role"));
     };
     let line = reply(alloc, Reply::Role(name))?;
     state.take_role(alloc, role)?;

@@ -1,5 +1,5 @@
 -- What the reading of a line or a rule says in the words of the grammar.
-use Rattle.std.proofs.Common.{◌≡◌, ◌↔◌, ◌∷◌, if◌then◌else◌, List, [], ℕ, Bool, true, false, Option, Some, None, Result, Ok, Err, IfOk, IfSome, IsNone, refl, ap, ◌∙◌, sym}
+use Rattle.std.proofs.Common.{◌≡◌, ◌↔◌, ◌∷◌, if◌then◌else◌, List, [], ℕ, Bool, true, false, Option, Some, None, Result, Ok, Err, IfOk, IfSome, IsNone, refl, ap, ◌∙◌, subst, sym}
 use Rattle.std.proofs.lemmas.Option.{same_Some}
 use Rattle.lq_grammar.specs.Depth.{is_deep}
 use Rattle.lq_grammar.specs.Grammar as part
@@ -74,6 +74,12 @@ weighed_says false None h = cc
 weighed_says false (Some x) h = cc
 
 -- ---- lines
+
+-- what a line's tokens say is what the line says
+pub reads_of : (line : List ℕ) (tokens : List Token) (r : Result (Option Statement) SyntaxError) → tokens_of line ≡ Some tokens
+    → ReadsLine (reading_of_tokens line (Some tokens)) r → ReadsLine (reading_of line) r
+unfolding reading_of
+reads_of line tokens r are reads = subst (λ (o : Option (List Token)). ReadsLine (reading_of_tokens line o) r) (sym are) reads
 
 line_spelled : (line : List ℕ) (o : Option (List Token)) (tree : Statement) → tokens_of line ≡ o → reading_of_tokens line o ≡ Says tree → IsSpelled line (part.Line tree)
 line_spelled line None tree is h = absurd (cc)

@@ -24,4 +24,4 @@ mod texts;
 
 pub use error::SyntaxError;
 pub use literals::bytes_of;
-pub use texts::{parse_rule, parse_statement};
+pub use texts::{parse_rule, parse_statement, parse_tokens};

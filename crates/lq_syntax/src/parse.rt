@@ -1,5 +1,4 @@
 //! Reads the tokens of a line or of a rule.
-ghost use Rattle.std.specs.Prelude.{◌≡◌, ◌<◌, length};
 ghost use Rattle.lq_grammar.specs.Parsing as parsing;
 ghost use Rattle.lq_syntax.specs.Outcome.{Gives, Reads};
 
@@ -31,7 +30,6 @@ fn first_statement(
 /// The statement that all of the tokens of a line spell.
 #[tactic(auto, unfolding(lq_grammar::specs::Parsing::statement_of, lq_grammar::specs::Parsing::to_the_end))]
 pub fn statement(alloc: Global, line: &str, tokens: &[Token]) -> Result<Statement, SyntaxError>
-    requires { length tokens.now < usize.MAX }
     ensures { Gives (parsing.statement_of line.now tokens.now) result }
 {
     let mut rest = Tokens::new(tokens);
@@ -46,7 +44,6 @@ pub fn statement(alloc: Global, line: &str, tokens: &[Token]) -> Result<Statemen
 /// The condition that all of the tokens of a rule spell.
 #[tactic(auto, unfolding(lq_grammar::specs::Parsing::rule_of, lq_grammar::specs::Parsing::to_the_end))]
 pub fn rule(alloc: Global, text: &str, tokens: &[Token]) -> Result<Expr, SyntaxError>
-    requires { length tokens.now < usize.MAX }
     ensures { Gives (parsing.rule_of text.now tokens.now) result }
 {
     let mut rest = Tokens::new(tokens);

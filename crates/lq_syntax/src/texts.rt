@@ -1,5 +1,5 @@
 //! Reads the text of a line, and the text of a rule.
-ghost use Rattle.std.specs.Prelude.{◌≡◌, ◌<◌, ◌↔◌, [], length, IfOk, IfSome, IsNone};
+ghost use Rattle.std.specs.Prelude.{◌≡◌, ◌↔◌, [], IfOk, IfSome, IsNone};
 ghost use Rattle.lq_grammar.specs.Grammar as part;
 ghost use Rattle.lq_grammar.specs.Reading.{IsPastDepth, IsSpelled, reading_of, reading_of_tokens, rule_in_tokens, rule_reading_of};
 ghost use Rattle.lq_grammar.specs.Tokens.{tokens_of};
@@ -18,7 +18,6 @@ fn read_tokens(
     line: &str,
     tokens: &[Token],
 ) -> Result<Option<Statement>, SyntaxError>
-    requires { length tokens.now < usize.MAX }
     ensures { ReadsLine (reading_of_tokens line.now (Some tokens.now)) result }
 {
     if tokens.is_empty() {
@@ -32,25 +31,12 @@ fn read_tokens(
 
 /// What the tokens of a rule say.
 fn read_rule_tokens(alloc: Global, text: &str, tokens: &[Token]) -> Result<Expr, SyntaxError>
-    requires { length tokens.now < usize.MAX }
     ensures { ReadsRule (rule_in_tokens text.now (Some tokens.now)) result }
 {
     if is_deep(tokens) {
         return Err(SyntaxError::TooDeep);
     }
     rule(alloc, text, tokens)
-}
-
-/// What a line says.
-#[tactic(auto, unfolding(lq_grammar::specs::Reading::reading_of, lq_grammar::specs::Tokens::tokens_of))]
-fn read_line(alloc: Global, line: &str) -> Result<Option<Statement>, SyntaxError>
-    ensures { ReadsLine (reading_of line.now) result }
-{
-    match tokens(alloc, line) {
-        Ok(tokens) => read_tokens(alloc, line, &tokens),
-        Err(LexError::Memory) => Err(SyntaxError::Memory),
-        Err(LexError::Lexical | LexError::TooLong) => Err(SyntaxError::Syntax),
-    }
 }
 
 /// What the text of a rule says.
@@ -60,6 +46,38 @@ fn read_rule(alloc: Global, text: &str) -> Result<Expr, SyntaxError>
 {
     match tokens(alloc, text) {
         Ok(tokens) => read_rule_tokens(alloc, text, &tokens),
+        Err(LexError::Memory) => Err(SyntaxError::Memory),
+        Err(LexError::Lexical | LexError::TooLong) => Err(SyntaxError::Syntax),
+    }
+}
+
+/// Reads one line of a script from its tokens: `None` where it has none, else the statement that they spell.
+///
+/// Refuses as `parse_statement` does, which cuts the line first.
+pub fn parse_tokens(
+    alloc: Global,
+    line: &str,
+    tokens: &[Token],
+) -> Result<Option<Statement>, SyntaxError>
+    requires { tokens_of line.now ≡ Some tokens.now }
+    ensures read { ReadsLine (reading_of line.now) result }
+    // The tokens of the line spell the tree that is given, within the limits of depth.
+    ensures tree { IfOk result (λ read. IfSome read (λ tree. IsSpelled line.now (part.Line tree))) }
+    ensures none { IfOk result (λ read. IsNone read ↔ (tokens_of line.now ≡ Some [])) }
+    ensures too_deep { result ≡ Err SyntaxError.TooDeep → IsPastDepth line.now }
+    // Where the line is refused for its syntax, its tokens spell none.
+    ensures no_tree { result ≡ Err SyntaxError.Syntax → (tree : Statement) → ¬ (IsSpelled line.now (part.Line tree)) }
+{
+    read_tokens(alloc, line, tokens)
+}
+
+/// What a line says.
+#[tactic(auto, unfolding(lq_grammar::specs::Reading::reading_of, lq_grammar::specs::Tokens::tokens_of))]
+fn read_line(alloc: Global, line: &str) -> Result<Option<Statement>, SyntaxError>
+    ensures { ReadsLine (reading_of line.now) result }
+{
+    match tokens(alloc, line) {
+        Ok(tokens) => parse_tokens(alloc, line, &tokens),
         Err(LexError::Memory) => Err(SyntaxError::Memory),
         Err(LexError::Lexical | LexError::TooLong) => Err(SyntaxError::Syntax),
     }

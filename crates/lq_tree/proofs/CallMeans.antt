@@ -14,12 +14,11 @@ use Rattle.lq_value.specs.declared.value.End.TheVariants as end
 use Rattle.lq_value.specs.declared.value.Fault.{Fault}
 use Rattle.lq_value.specs.declared.value.Value.{Value, out-Value}
 use Rattle.lq_value.specs.declared.value.Value.TheVariants as value
-use Rattle.lq_value.specs.declared.value.Value.TheVariants.{outs-Seq}
 use Rattle.lq_language.specs.Arrangement.{Keyed, all_of, arranged, keyed, order_by, with_key}
 use Rattle.lq_language.specs.ClauseTyping.{element_type, has_place, is_fresh, is_key, is_within, joined_name, when}
 use Rattle.lq_language.specs.Maps.{map_key}
 use Rattle.lq_language.specs.Worlds.{Meaning, Scope, World, bound, names_at, or_null}
-use Rattle.lq_language.specs.OperandMeaning.{items_of, on_scalar, sequence, stream_of}
+use Rattle.lq_language.specs.OperandMeaning.{on_scalar, sequence, stream_of}
 use Rattle.lq_language.specs.ClauseMeaning.{as_group, condition_at, inner_items, is_null_layer, item_type_at, joined_type, joined_values, matches, sort_key_at}
 use Rattle.lq_language.specs.ValuesOfTypes.{Every, HoldsRows}
 use Rattle.lq_language.specs.Operations.{on_ok}
@@ -35,7 +34,6 @@ use Rattle.lq_language.specs.declared.calls.Operator.TheVariants as operator
 use Rattle.lq_language.specs.declared.calls.Paired.{Paired}
 use Rattle.lq_language.specs.declared.calls.Paired.TheVariants as paired
 use Rattle.lq_language.specs.declared.calls.Part.{Part}
-use Rattle.lq_language.specs.declared.methods.Through.TheVariants as through
 use Rattle.lq_grammar.specs.declared.syntax.Join.{Join}
 use Rattle.lq_grammar.specs.declared.syntax.SortKey.{SortKey}
 use Rattle.lq_language.proofs.AlikeStreamLaws.{Agree, Alike, KeysAlike, Pair, agree_ok, both_agree, every_element, expand_alike, group_alike, join_alike, on_ok_agree, order_alike, select_alike, where_alike}
@@ -51,7 +49,7 @@ use Rattle.lq_tree.specs.declared.tree.Form.{Form}
 use Rattle.lq_tree.specs.declared.tree.Form.TheVariants as form
 use Rattle.lq_tree.specs.declared.tree.Tree.{Tree}
 use Rattle.lq_tree.proofs.CallTypes.{at_item, body_found, operator_found, pattern_found}
-use Rattle.lq_tree.proofs.FormSteps.{meaning_at}
+use Rattle.lq_tree.proofs.FormSteps.{meaning_at, stream_sequence}
 use Rattle.lq_tree.proofs.MeansMembers.{same_agree}
 use Rattle.lq_tree.proofs.Patterns.{behind_after}
 use Rattle.lq_tree.proofs.ScopeLaws.{IsItem, Stands, append_behind, item_stands, item_value, slot_means, slot_reached, types_at}
@@ -89,12 +87,9 @@ module _ {R : Type 0} (world : World R) (holds : HoldsRows world) {X : Type 0} (
   abbrev Gives : Stage → Stream (Value R) → Type 0
   Gives stage s = (mean stage.form ≡ Ok (sequence s)) × Every (Item stage.pattern) s.0
 
-  back : (s : Stream (Value R)) → stream_of world (Ok (sequence s)) ≡ s
-  back s = ap (items_of world) (outs-Seq s.0 s.1)
-
   stream_back : (stage : Stage) (s : Stream (Value R)) → Gives stage s → Alike (Item stage.pattern) (stream_of world (mean stage.form)) s
   stream_back stage s gives =
-      let same = ap (stream_of world) gives.0 ∙ back s in (same, subst (λ (z : Stream (Value R)). Every (Item stage.pattern) z.0) (sym same) gives.1)
+      let same = ap (stream_of world) gives.0 ∙ stream_sequence world s in (same, subst (λ (z : Stream (Value R)). Every (Item stage.pattern) z.0) (sym same) gives.1)
 
   gives_by : (p : Pattern) (f : Form) (z s : Stream (Value R)) → mean f ≡ as_sequence z → Alike (Item p) z s → Gives (stage_of p f) s
   gives_by p f z s is all = (is ∙ ap as_sequence all.0, subst (λ (y : Stream (Value R)). Every (Item p) y.0) all.0 all.1)
@@ -111,8 +106,7 @@ module _ {R : Type 0} (world : World R) (holds : HoldsRows world) {X : Type 0} (
       (λ x found is. option_and_then_some condition_tree _ x found
       (λ y bound truth. when_by _ (Some y) x truth
       (λ bool same. to_stage _ next _ is
-      (gives_by stage.pattern (form.Through through.Where ty.Null ty.Null stage.form x.form) _ _
-      (meaning_at world slots _ (form.outs-Through through.Where ty.Null ty.Null stage.form x.form))
+      (gives_by stage.pattern (form.Where stage.form x.form) _ _ (meaning_at world slots _ (form.outs-Where stage.form x.form))
       (where_alike (Item stage.pattern) (λ v. is_true world (form_meaning world x.form) (slots ++ v ∷ [])) (λ v. condition_at world typed meant c
       (bind stage.pattern scope v))
       (λ v item. truth_same world world.unknown world.unknown (mean_at x.form v) (meant c (bind stage.pattern scope v))
@@ -126,8 +120,7 @@ module _ {R : Type 0} (world : World R) (holds : HoldsRows world) {X : Type 0} (
   select_means x stage next s h gives =
       map_by _ _ next h
       (λ r found is. to_stage _ next _ is
-      (gives_by (unnamed r.ty) (form.Through through.Select ty.Null ty.Null stage.form r.form) _ _
-      (meaning_at world slots _ (form.outs-Through through.Select ty.Null ty.Null stage.form r.form))
+      (gives_by (unnamed r.ty) (form.Select stage.form r.form) _ _ (meaning_at world slots _ (form.outs-Select stage.form r.form))
       (select_alike (Item stage.pattern) (Val r.ty) (mean_at r.form) (λ v. meant x (bind stage.pattern scope v)) (λ v item. in_item x stage.pattern r
       (placed_same _ r found) v item)
       (stream_of world (mean stage.form)) s (stream_back stage s gives))))
@@ -149,8 +142,8 @@ module _ {R : Type 0} (world : World R) (holds : HoldsRows world) {X : Type 0} (
       map_by _ _ next h
       (λ r found is. when_by _ _ r found
       (λ fresh placed. to_stage _ next _ is
-      (gives_by (With stage.pattern n r.ty) (form.Through through.Select ty.Null ty.Null stage.form (form.Pair (form.Slot places.depth) r.form)) _ _
-      (meaning_at world slots _ (form.outs-Through through.Select ty.Null ty.Null stage.form (form.Pair (form.Slot places.depth) r.form)))
+      (gives_by (With stage.pattern n r.ty) (form.Select stage.form (form.Pair (form.Slot places.depth) r.form)) _ _
+      (meaning_at world slots _ (form.outs-Select stage.form (form.Pair (form.Slot places.depth) r.form)))
       (select_alike (Item stage.pattern) (Item (With stage.pattern n r.ty)) (mean_at (form.Pair (form.Slot places.depth) r.form))
       (λ v. on_ok (meant x (bind stage.pattern scope v)) (λ w. Ok (pair v w)))
       (λ v item. pair_item stage.pattern n x r (placed_same _ r placed) v item) (stream_of world (mean stage.form)) s (stream_back stage s gives)))))

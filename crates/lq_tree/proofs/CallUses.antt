@@ -17,7 +17,6 @@ use Rattle.lq_language.specs.declared.calls.Operator.TheVariants as operator
 use Rattle.lq_language.specs.declared.calls.Paired.{Paired}
 use Rattle.lq_language.specs.declared.calls.Paired.TheVariants as paired
 use Rattle.lq_language.specs.declared.calls.Part.{Part}
-use Rattle.lq_language.specs.declared.methods.Through.TheVariants as through
 use Rattle.lq_language.specs.declared.rights.Use.{Use}
 use Rattle.lq_grammar.specs.declared.syntax.Join.{Join}
 use Rattle.lq_grammar.specs.declared.syntax.SortKey.{SortKey}
@@ -30,7 +29,7 @@ use Rattle.lq_tree.specs.declared.tree.Form.{Form}
 use Rattle.lq_tree.specs.declared.tree.Form.TheVariants as form
 use Rattle.lq_tree.specs.declared.tree.Tree.{Tree}
 use Rattle.lq_tree.proofs.CallTypes.{body_found, fresh_found, matched_found, names_alike, operator_found, pattern_found, source_at_item, source_found}
-use Rattle.lq_tree.proofs.FormUseLaws.{of_group, of_join, of_order, of_pair, of_select_many, of_sequence, of_slot, of_through}
+use Rattle.lq_tree.proofs.FormUseLaws.{of_group, of_join, of_order, of_pair, of_select, of_select_many, of_sequence, of_slot, of_where}
 use Rattle.lq_tree.proofs.NodeUseLaws.{item_unused}
 use Rattle.lq_tree.proofs.ScopeLaws.{append_behind, append_none}
 use Rattle.lq_tree.proofs.TypeLaws.{type_found}
@@ -192,18 +191,18 @@ module _ (schemas : List Schema) {X : Type 0} (tree : X → Binds) (typed : X �
   operator_used (operator.Where c) stage next h =
       map_by _ (option_and_then _ (tree c (with_item places stage.pattern))) next h
       (λ found there is. subst (Behind (uses c (names_of names stage.pattern)) stage) is
-      (of_through through.Where ty.Null ty.Null stage.form found.form
+      (of_where stage.form found.form
       ∙ ap (λ us. form_uses stage.form ++ us) (at_item stage.pattern c found (kept_by (λ x. is_bool (out-Ty x.ty)) _ found there))))
   operator_used (operator.Select v) stage next h =
       map_by _ (option_and_then placed_tree (tree v (with_item places stage.pattern))) next h
       (λ found there is. subst (Behind (uses v (names_of names stage.pattern)) stage) is
-      (of_through through.Select ty.Null ty.Null stage.form found.form
+      (of_select stage.form found.form
       ∙ ap (λ us. form_uses stage.form ++ us) (at_item stage.pattern v found (kept_by (λ x. has_place (out-Ty x.ty)) _ found there))))
   operator_used (operator.Let n f) stage next h =
       map_by _ (if_fresh schemas tree places stage.pattern n (option_and_then placed_tree (tree f (with_item places stage.pattern)))) next h
       (λ found fresh_there is. when_by _ _ found fresh_there
       (λ fresh there. subst (Behind (uses f (names_of names stage.pattern)) stage) is
-      (of_through through.Select ty.Null ty.Null stage.form (form.Pair (form.Slot places.depth) found.form)
+      (of_select stage.form (form.Pair (form.Slot places.depth) found.form)
       ∙ ap (λ us. form_uses stage.form ++ us)
       (of_pair (form.Slot places.depth) found.form ∙ ap (λ us. us ++ form_uses found.form) (of_slot places.depth)
       ∙ at_item stage.pattern f found (kept_by (λ x. has_place (out-Ty x.ty)) _ found there)))))

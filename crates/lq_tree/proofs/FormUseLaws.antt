@@ -5,7 +5,6 @@ use Rattle.lq_value.specs.declared.ty.Ty.{Ty}
 use Rattle.lq_language.specs.Maps.{map_field, map_key}
 use Rattle.lq_language.specs.declared.methods.Given.{Given}
 use Rattle.lq_language.specs.declared.methods.Simple.{Simple}
-use Rattle.lq_language.specs.declared.methods.Through.{Through}
 use Rattle.lq_language.specs.declared.operation.Op.{Op}
 use Rattle.lq_language.specs.declared.rights.Use.{Use}
 use Rattle.lq_grammar.specs.declared.syntax.Field.{Field}
@@ -87,8 +86,14 @@ of_simple method t a = uses_at _ (form.outs-Simple method t a)
 pub of_given : (method : Given) (a b : Form) → used (form.Given method a b) ≡ step (Form-F.Given method (used a) (used b))
 of_given method a b = uses_at _ (form.outs-Given method a b)
 
-pub of_through : (method : Through) (t u : Ty) (a f : Form) → used (form.Through method t u a f) ≡ step (Form-F.Through method t u (used a) (used f))
-of_through method t u a f = uses_at _ (form.outs-Through method t u a f)
+pub of_where : (a f : Form) → used (form.Where a f) ≡ step (Form-F.Where (used a) (used f))
+of_where a f = uses_at _ (form.outs-Where a f)
+
+pub of_select : (a f : Form) → used (form.Select a f) ≡ step (Form-F.Select (used a) (used f))
+of_select a f = uses_at _ (form.outs-Select a f)
+
+pub of_all : (a f : Form) → used (form.All a f) ≡ step (Form-F.All (used a) (used f))
+of_all a f = uses_at _ (form.outs-All a f)
 
 pub of_select_many : (a inner result : Form) → used (form.SelectMany a inner result) ≡ step (Form-F.SelectMany (used a) (used inner) (used result))
 of_select_many a inner result = uses_at _ (form.outs-SelectMany a inner result)

@@ -4,7 +4,6 @@ use Rattle.std.proofs.Common.{◌≡◌, ◌∷◌, ◌++◌, ◌&&◌, if◌the
 use Rattle.lq_value.specs.SameAndOrder.{same_values as same_keys}
 use Rattle.lq_value.specs.declared.scalar.Scalar.{Scalar}
 use Rattle.lq_value.specs.declared.scalar.Scalar.TheVariants as scalar
-use Rattle.lq_value.specs.declared.ty.Ty.{Ty}
 use Rattle.lq_value.specs.declared.value.End.{End}
 use Rattle.lq_value.specs.declared.value.End.TheVariants as end
 use Rattle.lq_value.specs.declared.value.Fault.{Fault}
@@ -21,18 +20,16 @@ use Rattle.lq_language.specs.ClauseMeaning.{as_group}
 use Rattle.lq_language.specs.ValuesOfTypes.{assuming}
 use Rattle.lq_language.specs.Operations.{of_one, of_two, on_ok, truth_of}
 use Rattle.lq_language.specs.Operators.{first, pair, second}
-use Rattle.lq_language.specs.Stream.{Stream, both, each, expand_by, group_by, groups_of, join_by, kept, made, on_value, one, whole, with_keys}
-use Rattle.lq_language.specs.Meaning.{as_sequence, as_truth, given_meaning, number_of, on_number, simple_meaning, through_meaning}
+use Rattle.lq_language.specs.Stream.{Stream, both, each, expand_by, group_by, groups_of, join_by, kept, made, on_value, one, select_by, where_by, whole, with_keys}
+use Rattle.lq_language.specs.Meaning.{as_sequence, as_truth, given_meaning, number_of, on_number, simple_meaning}
 use Rattle.lq_language.specs.declared.methods.Given.{Given}
 use Rattle.lq_language.specs.declared.methods.Given.TheVariants as given
-use Rattle.lq_language.specs.declared.methods.Through.{Through}
-use Rattle.lq_language.specs.declared.methods.Through.TheVariants as through
 use Rattle.lq_language.specs.declared.operation.Op.{Op}
 use Rattle.lq_language.specs.declared.operation.Op.TheVariants as op
 use Rattle.lq_grammar.specs.declared.syntax.SortKey.{SortKey}
 use Rattle.lq_language.proofs.ItemLaws.{each_same}
 use Rattle.lq_tree.specs.FormMeaning.{Means, Slots, cell_in, form_meaning, form_step, if_there, is_null_value, is_true, joined_stream, key_in, matched, member_at, members_of, name_of_column, sort_key}
-use Rattle.lq_tree.specs.OperandKinds.{Among, Finds, HasCell, HasMember, IsEnumerable, IsGroup, IsScalar, IsScalarThat, MeetsKinds, Run, Runs, RunsFields, RunsKeys, TakesArgument, TakesMade, is_count, is_number, is_text, is_truth, items_in, takes_one, takes_two}
+use Rattle.lq_tree.specs.OperandKinds.{Among, Finds, HasCell, HasMember, IsEnumerable, IsGroup, IsScalar, IsScalarThat, MeetsKinds, Run, Runs, RunsFields, RunsKeys, TakesArgument, is_count, is_number, is_text, is_truth, items_in, takes_one, takes_two}
 use Rattle.lq_tree.specs.OperandKinds as kind
 use Rattle.lq_tree.specs.TypedFormLaws.{KindsSuffice}
 use Rattle.lq_tree.specs.declared.tree.Form.{Form, map-Form, out-Form}
@@ -252,18 +249,12 @@ module _ {R : Type 0} (world : World R) (unknown : Fault) where
   given_same given.ElementAt m n s is kinds = count_after m n is kinds (λ k. element_at k s.0 s.1)
   given_same given.Contains m n s is kinds = ap (λ (o : Result (Value R) Fault). on_ok o (λ v. as_truth (contains same_keys v s.0 s.1))) is
 
-  -- a method with a lambda, whose body means the same on each item
-  through_same : (method : Through) (t u : Ty) (c d : Value R → Result (Value R) Fault) (s : Stream (Value R)) → ((v : Value R) → In s.0 v → c v ≡ d v)
-      → ((v : Value R) → In s.0 v → (w : Value R) → d v ≡ Ok w → TakesMade method w)
-      → through_meaning other method t u (λ v. on_scalar other (c v) (truth_of unknown)) c s ≡ through_meaning world method t u (λ v. on_scalar world (d v) (truth_of world.unknown)) d s
-  through_same through.Where t u c d s same kinds =
-      ap as_sequence (each_in _ _ s.0 s.1 (λ v there. ap (λ (o : Result Bool Fault). kept o v) (truth_after (c v) (d v) (same v there) (kinds v there))))
-  through_same through.Select t u c d s same kinds = ap as_sequence (each_in _ _ s.0 s.1 (λ v there. ap one (same v there)))
-  through_same through.All t u c d s same kinds = ap as_truth (all_in _ _ s.0 s.1 (λ v there. truth_after (c v) (d v) (same v there) (kinds v there)))
-  through_same (through.Those method) t u c d s same kinds =
-      ap (simple_meaning method t)
-      (each_in _ _ s.0 s.1 (λ v there. ap (λ (o : Result Bool Fault). kept o v) (truth_after (c v) (d v) (same v there) (kinds v there))))
-  through_same (through.Values method) t u c d s same kinds = ap (simple_meaning method u) (each_in _ _ s.0 s.1 (λ v there. ap one (same v there)))
+  -- the items on which a condition is true, where it means the same on each item
+  where_same : (c d : Value R → Result (Value R) Fault) (s : Stream (Value R)) → ((v : Value R) → In s.0 v → c v ≡ d v)
+      → ((v : Value R) → In s.0 v → (w : Value R) → d v ≡ Ok w → IsScalarThat is_truth w)
+      → where_by (λ v. on_scalar other (c v) (truth_of unknown)) s.0 s.1 ≡ where_by (λ v. on_scalar world (d v) (truth_of world.unknown)) s.0 s.1
+  where_same c d s same kinds =
+      each_in _ _ s.0 s.1 (λ v there. ap (λ (o : Result Bool Fault). kept o v) (truth_after (c v) (d v) (same v there) (kinds v there)))
 
   -- ---- parts of values
 
@@ -425,12 +416,24 @@ module _ {R : Type 0} (world : World R) (unknown : Fault) where
       by_layer slots _ (form.outs-Given method a b)
       (ap (given_meaning other method (mean' b slots)) (stream_same (mean' a slots) (mean a slots) (same h) kinds)
       ∙ given_same method (mean' b slots) (mean b slots) (stream_of world (mean a slots)) (same k) arguments)
-  same (kind.at_through method t u a f slots h kinds takes bodies makes suited sources pairs) =
-      by_layer slots _ (form.outs-Through method t u a f)
-      (ap (through_meaning other method t u (λ v. is_true other (mean' f) (slots ++ v ∷ [])) (λ v. mean' f (slots ++ v ∷ [])))
+  same (kind.at_where a f slots h kinds bodies truths) =
+      by_layer slots _ (form.outs-Where a f)
+      (ap as_sequence
+      (ap (λ (s : Stream (Value R)). where_by (λ v. is_true other (mean' f) (slots ++ v ∷ [])) s.0 s.1)
       (stream_same (mean' a slots) (mean a slots) (same h) kinds)
-      ∙ through_same method t u (λ v. mean' f (slots ++ v ∷ [])) (λ v. mean f (slots ++ v ∷ [])) (stream_of world (mean a slots))
-      (λ v there. same (bodies v there)) (λ v there. makes v there))
+      ∙ where_same (λ v. mean' f (slots ++ v ∷ [])) (λ v. mean f (slots ++ v ∷ [])) (stream_of world (mean a slots)) (λ v there. same (bodies v there)) truths))
+  same (kind.at_select a f slots h kinds bodies) =
+      by_layer slots _ (form.outs-Select a f)
+      (ap as_sequence
+      (ap (λ (s : Stream (Value R)). select_by (λ v. mean' f (slots ++ v ∷ [])) s.0 s.1) (stream_same (mean' a slots) (mean a slots) (same h) kinds)
+      ∙ each_in _ _ (items a slots) (stream_of world (mean a slots)).1 (λ v there. ap one (same (bodies v there)))))
+  same (kind.at_all a f slots h kinds bodies truths) =
+      by_layer slots _ (form.outs-All a f)
+      (ap as_truth
+      (ap (λ (s : Stream (Value R)). all (λ v. is_true other (mean' f) (slots ++ v ∷ [])) s.0 s.1)
+      (stream_same (mean' a slots) (mean a slots) (same h) kinds)
+      ∙ all_in _ _ (items a slots) (stream_of world (mean a slots)).1
+      (λ v there. truth_after (mean' f (slots ++ v ∷ [])) (mean f (slots ++ v ∷ [])) (same (bodies v there)) (truths v there))))
   same (kind.at_expansion a inner result slots h kinds bodies inners results) =
       by_layer slots _ (form.outs-SelectMany a inner result)
       (ap as_sequence

@@ -13,6 +13,7 @@ pub mod MeansMembers
 pub mod MeansOperators
 pub mod MeetsOperands
 pub mod MemberTrees
+pub mod MethodForms
 pub mod NodeMeans
 pub mod NodeTypes
 pub mod NodeUseLaws

@@ -1,5 +1,5 @@
 -- Members by their numbers: what a column, a record's member, a group's key or a member of a scalar is, is what the name's meaning is.
-use Rattle.std.proofs.Common.{◌≡◌, ◌∷◌, ◌+◌, if◌then◌else◌, List, [], map, ℕ, Bool, true, false, Option, Some, None, Result, Ok, Err, ap, ap₂, ◌∙◌, sym, refl, subst, bytes_eq, true≢false, option_and_then, option_map}
+use Rattle.std.proofs.Common.{◌≡◌, ◌∷◌, ◌+◌, if◌then◌else◌, List, [], map, ℕ, Bool, true, false, Option, Some, None, Result, Ok, Err, ap, ap₂, ◌∙◌, sym, refl, subst, bytes_eq, option_and_then, option_map}
 use Rattle.std.specs.List.{position_from}
 use Rattle.std.specs.Prelude.{is_some}
 use Rattle.lq_value.specs.declared.scalar.Scalar.{Scalar}
@@ -19,7 +19,6 @@ use Rattle.lq_language.specs.ValuesOfTypes.{IsScalarOf}
 use Rattle.lq_language.specs.Members.{member_named}
 use Rattle.lq_language.specs.Operations.{of_member, of_one, on_ok}
 use Rattle.lq_language.specs.Names.{column_type, type_of_column}
-use Rattle.lq_language.specs.OperandTypes.{row_table}
 use Rattle.lq_language.specs.Meaning.{as_sequence, has_members, is_sequence_layer, settled, member_found, member_in, value_of_member}
 use Rattle.lq_language.specs.MeaningLaws.{AreMembers, Fits, IsValueOf, no_member, one_member}
 use Rattle.lq_language.specs.Typing.{member_of}
@@ -30,7 +29,7 @@ use Rattle.lq_language.proofs.FindingLaws.{map_by}
 use Rattle.lq_language.proofs.ScalarResultLaws.{Gives, given_of, has_value_given, length_given, value_given}
 use Rattle.lq_language.proofs.TypedMethodLaws.{column_agrees, key_agrees, member_agrees, scalar_member_agrees, settled_agree}
 use Rattle.lq_language.proofs.TypingLaws.{is_of_layer, type_with}
-use Rattle.lq_language.proofs.ValueLaws.{RecordOrNull, RowOrNull, a_record, a_row, group_value, is_plain, no_record, no_row, plain_value, record_value, row_value}
+use Rattle.lq_language.proofs.ValueLaws.{RecordOrNull, RowOrNull, a_record, a_row, group_value, is_plain, no_members, no_record, no_row, plain_value, record_value, row_value}
 use Rattle.lq_tree.specs.Binding.{member_layer, member_tree, settled_form, settled_tree, tree_of}
 use Rattle.lq_tree.specs.FormMeaning.{Slots, cell_in, form_meaning, if_there, key_in, member_at, name_of_column}
 use Rattle.lq_tree.specs.declared.tree.Form.{Form}
@@ -155,11 +154,6 @@ module _ {R : Type 0} (world : World R) (slots : Slots R) where
       (key_agrees world world.unknown world.unknown k t m v fits)
 
   -- ---- members of scalars
-
-  no_members : (layer : Ty-F Ty) → is_plain layer ≡ true → (has_members layer ≡ false) × (row_table layer ≡ None)
-  no_members (Ty-F.Row n) h = absurd (true≢false (sym h))
-  no_members (Ty-F.Rec ms) h = absurd (true≢false (sym h))
-  no_members layer h = (refl, refl)
 
   of_scalar : (t : Ty) (m : List ℕ) (s : Scalar) → is_plain (out-Ty t) ≡ true
       → value_of_member world (Some t) m (Value-F.Scalar s) ≡ as_value (of_member world.unknown (member_named m) s)

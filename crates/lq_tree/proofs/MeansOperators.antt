@@ -34,7 +34,7 @@ use Rattle.lq_language.proofs.ScalarResultLaws.{Gives, arithmetic_of, coalesced_
 use Rattle.lq_language.proofs.TypedMethodLaws.{given_agree, scalar_after, truth_after}
 use Rattle.lq_language.proofs.TypedOperatorLaws.{Keeps, choice_keeps, coalesced_plain, decides, plain_keeps}
 use Rattle.lq_language.proofs.TypingLaws.{compares_not, is_truth}
-use Rattle.lq_language.proofs.ValueLaws.{is_plain, number_plain, plain_value, truth_is}
+use Rattle.lq_language.proofs.ValueLaws.{is_plain, joined_plain, null_scalar, number_plain, plain_value, truth_is}
 use Rattle.lq_tree.specs.Binding.{and_tree, binary_form, binary_tree, coalesce_tree, conditional_tree, equality_form, is_literal, is_object, operation_at, or_tree, tested_first, tested_second, tree_of, unary_tree}
 use Rattle.lq_tree.specs.FormMeaning.{Slots, form_meaning, is_null_value}
 use Rattle.lq_tree.specs.OperandKinds as kind
@@ -65,12 +65,6 @@ numbers_signed binary.Add s t h k x y x_fits y_fits =
     added s t x y (ap₂ (λ (a b : Bool). a || b) (number_no_text (out-Ty s) h) (number_no_text (out-Ty t) k))
     (number_scalar (out-Ty s) (number_numeric (out-Ty s) h) x x_fits) (number_scalar (out-Ty t) (number_numeric (out-Ty t) k) y y_fits)
 numbers_signed sign s t h k x y x_fits y_fits = refl
-
-joined_plain : (k l : Ty-F Ty) → are_joined k l ≡ true → (is_plain k ≡ true) × (is_plain l ≡ true)
-joined_plain Ty-F.Str Ty-F.Str h = (refl, refl)
-joined_plain Ty-F.Str Ty-F.Null h = (refl, refl)
-joined_plain Ty-F.Null Ty-F.Str h = (refl, refl)
-joined_plain k l h = absurd (true≢false (sym h))
 
 texts_signed : (s t : Ty) (x y : Scalar) → (is_text (out-Ty s) || is_text (out-Ty t)) ≡ true → kind.is_text x ≡ true
     → kind.is_text y ≡ true
@@ -216,10 +210,6 @@ module _ {R : Type 0} (world : World R) (slots : Slots R) where
   null_before k (Ty-F.Rec ms) h object = absurd (true≢false (sym h))
   null_before k (Ty-F.Group l t) h object = absurd (true≢false (sym h))
   null_before k l h object = absurd (true≢false (sym object))
-
-  null_scalar : (s : Scalar) → IsScalarOf Ty-F.Null s → s ≡ scalar.Null
-  null_scalar scalar.Null fits = refl
-  null_scalar s fits = absurd fits
 
   null_of : (t : Ty) (v : Value R) → out-Ty t ≡ Ty-F.Null → Val t v → v ≡ value.Scalar scalar.Null
   null_of t v is fits =

@@ -10,7 +10,6 @@ use Rattle.lq_language.specs.ValuesOfTypes.{HoldsRows}
 use Rattle.lq_language.specs.Names.{column_type}
 use Rattle.lq_language.specs.OperandTypes.{is_number, is_text}
 use Rattle.lq_language.specs.MeaningLaws.{IsValueOf}
-use Rattle.lq_language.specs.declared.methods.Through.TheVariants as through
 use Rattle.lq_language.specs.declared.operation.Op.TheVariants as op
 use Rattle.lq_language.proofs.AlikeStreamLaws.{Pair, agree_ok, both_agree, select_alike}
 use Rattle.lq_language.proofs.TypedOperatorLaws.{coalesced_plain}
@@ -22,7 +21,7 @@ use Rattle.lq_tree.specs.TypedForms.{Both, FormClaim, Gives, Has, IsTyped, Many,
 use Rattle.lq_tree.specs.TypedForms as rule
 use Rattle.lq_tree.specs.TypedFormLaws.{AreOfShapes, MeetsOperands, StatementsMeetOperands}
 use Rattle.lq_tree.specs.declared.tree.Form.{Form}
-use Rattle.lq_tree.proofs.OperandLemmas.{alike_values, argument_taken, beside_taken, both_so, join_kind, pairs_taken, same_kind, sources_taken, two_made_taken, two_taken, enumerable_value, item_taken, items_taken, join_keys, key_value, made_taken, number_value, object_value, scalar_value, search_taken, second_items, sign_taken, source_taken, suited, suited_through, text_value, truth_value}
+use Rattle.lq_tree.proofs.OperandLemmas.{alike_values, argument_taken, beside_taken, both_so, join_kind, pairs_taken, same_kind, two_taken, enumerable_value, item_taken, items_taken, join_keys, key_value, number_value, object_value, scalar_value, search_taken, second_items, sign_taken, suited, text_value, truth_value}
 use Rattle.lq_tree.proofs.TypedMeanings.{found_fit, keeps, one_more, placed, slot_there, two_more}
 use Rattle.lq_tree.proofs.TypedStatements.{typed_statements}
 
@@ -149,31 +148,22 @@ module _ {R : Type 0} (world : World R) (holds : HoldsRows world) where
       (λ v there. second_items world method t u r typed (form_meaning world b slots) (keeps world holds k slots fit) there.0 v there.1)
       (λ w is v there. beside_taken world method t u r typed w v (keeps world holds k slots fit w is) (keeps world holds h slots fit there.0 v there.1))
       (pairs_taken world method t u r typed (form_meaning world b slots) (keeps world holds k slots fit) (stream_of world (form_meaning world a slots)).0 (keeps world holds h slots fit))
-  meets (rule.of_through shapes method t u r a f h k typed) =
+  meets (rule.of_where shapes c a f s h k bool) =
       λ slots fit. let source = meets h slots fit in
-      kind.at_through method t u a f slots source.0 source.1 (λ v there. source_taken world method t u r typed v (keeps world holds h slots fit there.0 v there.1))
-      (λ v there. meets k (slots ++ v ∷ []) (one_more world holds shapes slots (Of t) v fit (keeps world holds h slots fit there.0 v there.1)))
-      (λ v there w is. made_taken world method t u r typed w
-      (keeps world holds k (slots ++ v ∷ []) (one_more world holds shapes slots (Of t) v fit (keeps world holds h slots fit there.0 v there.1)) w is))
-      (suited_through method t u r typed)
-      (λ v w there w_there. sources_taken world method t u r typed v w (keeps world holds h slots fit there.0 v there.1)
-      (keeps world holds h slots fit w_there.0 w w_there.1))
-      (λ v w there w_there x x_is y y_is. two_made_taken world method t u r typed x y
-      (keeps world holds k (slots ++ v ∷ []) (one_more world holds shapes slots (Of t) v fit (keeps world holds h slots fit there.0 v there.1)) x x_is)
-      (keeps world holds k (slots ++ w ∷ []) (one_more world holds shapes slots (Of t) w fit (keeps world holds h slots fit w_there.0 w w_there.1)) y y_is))
-  meets (rule.of_where shapes t u c a f s h k bool) =
-      λ slots fit. let source = meets h slots fit in
-      kind.at_through through.Where t u a f slots source.0 source.1 (λ v there. tt)
+      kind.at_where a f slots source.0 source.1
       (λ v there. meets k (slots ++ v ∷ []) (one_more world holds shapes slots s v fit (keeps world holds h slots fit there.0 v there.1)))
       (λ v there w is. truth_value world c w bool
-      (keeps world holds k (slots ++ v ∷ []) (one_more world holds shapes slots s v fit (keeps world holds h slots fit there.0 v there.1)) w is)) refl
-      (λ v w there w_there. tt) (λ v w there w_there x x_is y y_is. tt)
-  meets (rule.of_select shapes t u a f s r h k) =
+      (keeps world holds k (slots ++ v ∷ []) (one_more world holds shapes slots s v fit (keeps world holds h slots fit there.0 v there.1)) w is))
+  meets (rule.of_select shapes a f s r h k) =
       λ slots fit. let source = meets h slots fit in
-      kind.at_through through.Select t u a f slots source.0 source.1 (λ v there. tt)
+      kind.at_select a f slots source.0 source.1
       (λ v there. meets k (slots ++ v ∷ []) (one_more world holds shapes slots s v fit (keeps world holds h slots fit there.0 v there.1)))
-      (λ v there w is. tt) refl
-      (λ v w there w_there. tt) (λ v w there w_there x x_is y y_is. tt)
+  meets (rule.of_all shapes c a f s h k bool) =
+      λ slots fit. let source = meets h slots fit in
+      kind.at_all a f slots source.0 source.1
+      (λ v there. meets k (slots ++ v ∷ []) (one_more world holds shapes slots s v fit (keeps world holds h slots fit there.0 v there.1)))
+      (λ v there w is. truth_value world c w bool
+      (keeps world holds k (slots ++ v ∷ []) (one_more world holds shapes slots s v fit (keeps world holds h slots fit there.0 v there.1)) w is))
   meets (rule.of_select_many shapes a inner result s u r h k l) =
       λ slots fit. let source = meets h slots fit in
       kind.at_expansion a inner result slots source.0 source.1

@@ -52,6 +52,7 @@ use Rattle.lq_tree.specs.declared.tree.Tree.{Tree}
 use Rattle.lq_tree.proofs.FormSteps.{meaning_at}
 use Rattle.lq_tree.proofs.MeansMembers.{member_means, same_agree, settled_goal}
 use Rattle.lq_tree.proofs.MeansOperators.{and_means, binary_means, coalesce_means, conditional_means, minus_means, not_means, or_means}
+use Rattle.lq_tree.proofs.MethodForms.{method_form_means}
 use Rattle.lq_tree.proofs.NodeTypes.{method_by, node_found, sole_by}
 use Rattle.lq_tree.proofs.OperandLemmas.{text_plain}
 use Rattle.lq_tree.proofs.ScopeLaws.{Found, Stands, append_none, item_stands, name_there, types_at}
@@ -234,7 +235,7 @@ module _ {R : Type 0} (world : World R) (holds : HoldsRows world) (fits : IsSess
         (λ fresh body_bound. subst (As _) is
         (subst (λ (o : Result (Value R) Fault). Agree (Val u) o (through_meaning world method t
         (or_null (typed body (with_local (names_at world scope) n t))) (in_truth n body) (in_body n body) (stream_of world k)))
-        (sym (meaning_at world slots _ (form.outs-Through method t f.ty a.form f.form)))
+        (sym (method_form_means world slots method t f.ty a.form f.form))
         (subst (λ (w : Ty). Agree (Val u)
         (through_meaning world method t f.ty (λ v. is_true world (form_meaning world f.form) (slots ++ v ∷ [])) (λ v. form_meaning world f.form
         (slots ++ v ∷ [])) (stream_of world (mean a.form)))

@@ -39,8 +39,9 @@ use Rattle.lq_tree.specs.declared.tree.Form.{Form, out-Form}
 use Rattle.lq_tree.specs.declared.tree.Form.TheOpen.{Form-F}
 use Rattle.lq_tree.specs.declared.tree.Form.TheVariants as form
 use Rattle.lq_tree.specs.declared.tree.Tree.{Tree}
-use Rattle.lq_tree.proofs.FormUseLaws.{of_and, of_binary, of_coalesce, of_column, of_conditional, of_first, of_given, of_is_null, of_key, of_literal, of_member, of_or, of_pair, of_record, of_second, of_sequence, of_simple, of_slot, of_table, of_through, of_unary, uses_at}
+use Rattle.lq_tree.proofs.FormUseLaws.{of_and, of_binary, of_coalesce, of_column, of_conditional, of_first, of_given, of_is_null, of_key, of_literal, of_member, of_or, of_pair, of_record, of_second, of_sequence, of_simple, of_slot, of_table, of_unary, uses_at}
 use Rattle.lq_tree.proofs.MemberTrees.{Member, a_column, a_key, a_member, has_value, its_length, its_value, member_by}
+use Rattle.lq_tree.proofs.MethodForms.{method_form_uses}
 use Rattle.lq_tree.proofs.ScopeLaws.{append_none}
 use Rattle.lq_tree.proofs.TypeLaws.{local_place, place_holds, place_known, session_place_holds, type_found}
 use Rattle.lq_tree.proofs.WalkLaws.{gathered_all, traversed}
@@ -279,7 +280,7 @@ module _ (schemas : List Schema) where
         (λ f bound made. map_by _ (through_type method t (Some f.ty)) r made
         (λ u gives is. when_by (is_fresh names n) (tree body (with_name places n t)) f bound
         (λ fresh there. subst (Uses (form_uses a ++ uses body (with_local names n t))) is
-        (of_through method t f.ty a f.form ∙ ap (λ us. form_uses a ++ us) (used body (with_name places n t) (item_unused places (One n t) nothing) f there)))))
+        (method_form_uses method t f.ty a f.form ∙ ap (λ us. form_uses a ++ us) (used body (with_name places n t) (item_unused places (One n t) nothing) f there)))))
 
     -- the arguments of a method of what is enumerated
     arguments_used : (m : List ℕ) (arguments : List (Argument X)) (t : Ty) (call : EnumerableCall X) → enumerable_call m arguments ≡ Some call

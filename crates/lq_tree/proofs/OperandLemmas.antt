@@ -20,13 +20,11 @@ use Rattle.lq_language.specs.Members.{search_named}
 use Rattle.lq_language.specs.Types.{all_members, are_join_keys, are_widened, element_type, is_key, key_step, same_types}
 use Rattle.lq_language.specs.OperandTypes.{are_comparable, are_joined, is_bool, is_equality, is_number, is_scalar, is_text, joined_type, result_type, truth_type}
 use Rattle.lq_language.specs.MeaningLaws.{AreMembers, Fits, IsA, IsValueOf, ValueClaim, by_group, by_null_record, by_record, by_row, by_scalar, by_sequence, no_member, one_member}
-use Rattle.lq_language.specs.Typing.{are_null_tests, converts, given_type, has_default, if_same, is_int, simple_type, takes_null, through_type, type_of_operation, widens}
+use Rattle.lq_language.specs.Typing.{are_null_tests, converts, given_type, has_default, if_same, is_int, simple_type, takes_null, type_of_operation, widens}
 use Rattle.lq_language.specs.declared.methods.Given.{Given}
 use Rattle.lq_language.specs.declared.methods.Given.TheVariants as given
 use Rattle.lq_language.specs.declared.methods.Simple.{Simple}
 use Rattle.lq_language.specs.declared.methods.Simple.TheVariants as simple
-use Rattle.lq_language.specs.declared.methods.Through.{Through}
-use Rattle.lq_language.specs.declared.methods.Through.TheVariants as through
 use Rattle.lq_language.specs.declared.operation.Op.{Op}
 use Rattle.lq_language.specs.declared.operation.Op.TheVariants as op
 use Rattle.lq_grammar.specs.declared.syntax.Binary.{Binary}
@@ -38,7 +36,7 @@ use Rattle.lq_language.proofs.SameTypeLaws.{same_type}
 use Rattle.lq_language.proofs.TypedMethodLaws.{stream_alike}
 use Rattle.lq_language.proofs.ValueLaws.{Gets, RecordOrNull, RowOrNull, a_record, a_row, group_value, is_plain, no_record, no_row, number_plain, plain_value, record_value, row_value, scalar_is, scalar_plain, sequence_value}
 use Rattle.lq_tree.specs.Binding.{is_object, operation_at}
-use Rattle.lq_tree.specs.OperandKinds.{IsEnumerable, IsScalar, IsScalarThat, Takes, TakesArgument, TakesItem, TakesMade, TakesSource, a_group, a_sequence, is_count, is_truth, suits, suits_through, takes_two}
+use Rattle.lq_tree.specs.OperandKinds.{IsEnumerable, IsScalar, IsScalarThat, Takes, TakesArgument, TakesItem, a_group, a_sequence, is_count, is_truth, suits, takes_two}
 use Rattle.lq_tree.specs.OperandKinds as kind
 
 -- ---- scalars, by the layers of their types
@@ -300,11 +298,6 @@ suited simple.SingleOrDefault t r h = when_by (has_default (out-Ty t)) _ r h (λ
 suited simple.Min t r h = when_by (is_number (out-Ty t)) _ r h (λ number is. number)
 suited simple.Max t r h = when_by (is_number (out-Ty t)) _ r h (λ number is. number)
 suited method t r h = refl
-
-pub suited_through : (method : Through) (t u r : Ty) → through_type method t (Some u) ≡ Some r → suits_through method (out-Ty t) (out-Ty u) ≡ true
-suited_through (through.Those method) t u r h = when_by (is_bool (out-Ty u)) _ r h (λ truth found. suited method t r found)
-suited_through (through.Values method) t u r h = suited method u r h
-suited_through method t u r h = refl
 
 -- ---- keys
 
@@ -658,28 +651,3 @@ module _ {R : Type 0} (world : World R) where
   pairs_taken given.Except t u r h m gets xs ps v w v_in w_in =
       when_by (is_key t) _ r h (λ key found. pairs_of t u r key found m gets xs ps v w v_in w_in)
   pairs_taken method t u r h m gets xs ps v w v_in w_in = tt
-
-  pub sources_taken : (method : Through) (t u r : Ty) → through_type method t (Some u) ≡ Some r → (v w : Value R) → Val t v → Val t w
-      → kind.TakesTwoSources method v w
-  sources_taken (through.Those method) t u r h v w v_fits w_fits =
-      when_by (is_bool (out-Ty u)) _ r h (λ truth found. two_taken method t r found v w v_fits w_fits)
-  sources_taken method t u r h v w v_fits w_fits = tt
-
-  pub two_made_taken : (method : Through) (t u r : Ty) → through_type method t (Some u) ≡ Some r → (v w : Value R) → Val u v → Val u w
-      → kind.TakesTwoMade method v w
-  two_made_taken (through.Values method) t u r h v w v_fits w_fits = two_taken method u r h v w v_fits w_fits
-  two_made_taken method t u r h v w v_fits w_fits = tt
-
-  pub source_taken : (method : Through) (t u r : Ty) → through_type method t (Some u) ≡ Some r → (v : Value R) → Val t v → TakesSource method v
-  source_taken (through.Those method) t u r h v fits = when_by (is_bool (out-Ty u)) _ r h (λ truth found. items_taken method t r found v fits)
-  source_taken through.Where t u r h v fits = tt
-  source_taken through.Select t u r h v fits = tt
-  source_taken through.All t u r h v fits = tt
-  source_taken (through.Values method) t u r h v fits = tt
-
-  pub made_taken : (method : Through) (t u r : Ty) → through_type method t (Some u) ≡ Some r → (v : Value R) → Val u v → TakesMade method v
-  made_taken through.Select t u r h v fits = tt
-  made_taken (through.Values method) t u r h v fits = items_taken method u r h v fits
-  made_taken through.Where t u r h v fits = when_by (is_bool (out-Ty u)) _ r h (λ truth is. truth_value u v truth fits)
-  made_taken through.All t u r h v fits = when_by (is_bool (out-Ty u)) _ r h (λ truth is. truth_value u v truth fits)
-  made_taken (through.Those method) t u r h v fits = when_by (is_bool (out-Ty u)) _ r h (λ truth is. truth_value u v truth fits)

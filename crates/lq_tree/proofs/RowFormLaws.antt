@@ -21,7 +21,7 @@ use Rattle.lq_language.proofs.StreamLaws.{order_keys}
 use Rattle.lq_tree.proofs.FormSteps.{meaning_at}
 use Rattle.lq_tree.proofs.MappedStreamLaws.{arranged_natural, ok_by}
 use Rattle.lq_tree.proofs.MappedValueLaws.{mapped_Rec, mapped_member}
-use Rattle.lq_tree.proofs.RowMeaningLaws.{Like, and_like, binary_like, coalesce_like, column_like, conditional_like, first_like, given_like, group_like, join_like, key_like, many_like, member_like, null_like, or_like, over, pair_like, scalar_follows, second_like, sequence_follows, sequence_like, simple_like, slot_like, sorted_like, stream_follows, table_follows, through_like, unary_like}
+use Rattle.lq_tree.proofs.RowMeaningLaws.{Like, all_like, and_like, binary_like, coalesce_like, column_like, conditional_like, first_like, given_like, group_like, join_like, key_like, many_like, member_like, null_like, or_like, over, pair_like, scalar_follows, second_like, select_like, sequence_follows, sequence_like, simple_like, slot_like, sorted_like, stream_follows, table_follows, unary_like, where_like}
 
 -- ---- layers
 
@@ -141,7 +141,9 @@ module _ {R S : Type 0} (f : R → S) (world : World R) (session : List (Session
   steps (Form-F.Sequence x) = sequence_like f world session cell same_cells (a x.0) (b x.0) x.1
   steps (Form-F.Simple method t x) = simple_like f world session cell same_cells method t (a x.0) (b x.0) x.1
   steps (Form-F.Given method x z) = given_like f world session cell same_cells method (a x.0) (a z.0) (b x.0) (b z.0) x.1 z.1
-  steps (Form-F.Through method t u x z) = through_like f world session cell same_cells method t u (a x.0) (a z.0) (b x.0) (b z.0) x.1 z.1
+  steps (Form-F.Where x z) = where_like f world session cell same_cells (a x.0) (a z.0) (b x.0) (b z.0) x.1 z.1
+  steps (Form-F.Select x z) = select_like f world session cell same_cells (a x.0) (a z.0) (b x.0) (b z.0) x.1 z.1
+  steps (Form-F.All x z) = all_like f world session cell same_cells (a x.0) (a z.0) (b x.0) (b z.0) x.1 z.1
   steps (Form-F.SelectMany x inner result) =
       many_like f world session cell same_cells (a x.0) (a inner.0) (a result.0) (b x.0) (b inner.0) (b result.0) x.1 inner.1 result.1
   steps (Form-F.Join x j) =

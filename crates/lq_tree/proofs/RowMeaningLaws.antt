@@ -19,12 +19,10 @@ use Rattle.lq_language.specs.ClauseMeaning.{as_group, matches}
 use Rattle.lq_language.specs.Operations.{of_one, of_two, on_ok, truth_of}
 use Rattle.lq_language.specs.Operators.{first, pair, second}
 use Rattle.lq_language.specs.Stream.{Stream, expand_by, group_by, join_by, select_by, where_by, with_keys}
-use Rattle.lq_language.specs.Meaning.{as_sequence, as_truth, given_meaning, number_of, on_number, simple_meaning, through_meaning}
+use Rattle.lq_language.specs.Meaning.{as_sequence, as_truth, given_meaning, number_of, on_number, simple_meaning}
 use Rattle.lq_language.specs.declared.methods.Given.{Given}
 use Rattle.lq_language.specs.declared.methods.Given.TheVariants as given
 use Rattle.lq_language.specs.declared.methods.Simple.{Simple}
-use Rattle.lq_language.specs.declared.methods.Through.{Through}
-use Rattle.lq_language.specs.declared.methods.Through.TheVariants as through
 use Rattle.lq_language.specs.declared.operation.Op.{Op}
 use Rattle.lq_tree.specs.FormMeaning.{Means, Slots, cell_in, form_step, if_there, is_null_value, is_true, joined_stream, key_in, matched, member_at, name_of_column, with_item, with_items}
 use Rattle.lq_tree.specs.Rows.{mapped, result_map, stream_map}
@@ -255,17 +253,6 @@ module _ {R S : Type 0} (f : R → S) (world : World R) (session : List (Session
       ok_follows (λ v. as_truth (contains same_keys v s.0 s.1)) (λ v. as_truth (contains same_keys v (map m s.0) s.1))
       (λ v. ap as_truth (contains_natural m same_keys same_keys (same_kept f) v s.0 s.1) ∙ answer_kept f (contains same_keys v s.0 s.1)) o p is
 
-  pub through_follows : (method : Through) (t u : Ty) (c : Value R → Result Bool Fault) (d : Value S → Result Bool Fault) → ((v : Value R) → d (m v) ≡ c v)
-      → (x : Value R → Result (Value R) Fault) (y : Value S → Result (Value S) Fault) → ((v : Value R) → Follows (x v) (y (m v))) → (s : Stream (Value R))
-      → Follows (through_meaning a method t u c x s) (through_meaning b method t u d y (stream_map m s))
-  through_follows through.Where t u c d hc x y hx s = ap as_sequence (where_natural m c d hc s.0 s.1) ∙ items_kept f (where_by c s.0 s.1)
-  through_follows through.Select t u c d hc x y hx s = ap as_sequence (select_natural m m x y hx s.0 s.1) ∙ items_kept f (select_by x s.0 s.1)
-  through_follows through.All t u c d hc x y hx s = ap as_truth (all_natural m c d hc s.0 s.1) ∙ answer_kept f (all c s.0 s.1)
-  through_follows (through.Those method) t u c d hc x y hx s =
-      ap (simple_meaning method t) (where_natural m c d hc s.0 s.1) ∙ simple_natural f method t (where_by c s.0 s.1)
-  through_follows (through.Values method) t u c d hc x y hx s =
-      ap (simple_meaning method u) (select_natural m m x y hx s.0 s.1) ∙ simple_natural f method u (select_by x s.0 s.1)
-
   -- ---- matches
 
   pub matched_kept : (grouped : Bool) (key : Value R) (qs : List (Value R × Value R))
@@ -363,20 +350,32 @@ module _ {R S : Type 0} (f : R → S) (world : World R) (session : List (Session
       ap (given_meaning b method (w (map m slots))) (stream_follows (x slots) (y (map m slots)) (h slots))
       ∙ given_follows method (stream_of a (x slots)) (z slots) (w (map m slots)) (k slots)
 
-  pub through_like : (method : Through) (t u : Ty) (x z : Means R) (y w : Means S) → Like x y → Like z w
-      → Like (form_step a (Form-F.Through method t u x z)) (form_step b (Form-F.Through method t u y w))
-  through_like method t u x z y w h k slots =
-      ap (through_meaning b method t u (λ v. is_true b w (with_item b (map m slots) v)) (λ v. w (with_item b (map m slots) v)))
-      (stream_follows (x slots) (y (map m slots)) (h slots))
-      ∙ through_follows method t u (λ v. is_true a z (with_item a slots v)) (λ v. is_true b w (with_item b (map m slots) v)) (condition_like z w k slots)
-      (λ v. z (with_item a slots v)) (λ v. w (with_item b (map m slots) v)) (item_like z w k slots) (stream_of a (x slots))
-
   -- an operator on the stream of what stands first
   streamed : (next : Stream (Value R) → Stream (Value R)) (more : Stream (Value S) → Stream (Value S))
       → ((s : Stream (Value R)) → more (stream_map m s) ≡ stream_map m (next s))
       → (o : Result (Value R) Fault) (p : Result (Value S) Fault) → Follows o p
       → Follows (Ok (sequence (next (stream_of a o)))) (Ok (sequence (more (stream_of b p))))
   streamed next more h o p is = sequence_follows (next (stream_of a o)) (more (stream_of b p)) (ap more (stream_follows o p is) ∙ h (stream_of a o))
+
+  pub where_like : (x z : Means R) (y w : Means S) → Like x y → Like z w → Like (form_step a (Form-F.Where x z)) (form_step b (Form-F.Where y w))
+  where_like x z y w h k slots =
+      streamed (λ s. where_by (λ v. is_true a z (with_item a slots v)) s.0 s.1) (λ s. where_by (λ v. is_true b w (with_item b (map m slots) v)) s.0 s.1)
+      (λ s. where_natural m (λ v. is_true a z (with_item a slots v)) (λ v. is_true b w (with_item b (map m slots) v)) (condition_like z w k slots) s.0 s.1)
+      (x slots) (y (map m slots)) (h slots)
+
+  pub select_like : (x z : Means R) (y w : Means S) → Like x y → Like z w → Like (form_step a (Form-F.Select x z)) (form_step b (Form-F.Select y w))
+  select_like x z y w h k slots =
+      streamed (λ s. select_by (λ v. z (with_item a slots v)) s.0 s.1) (λ s. select_by (λ v. w (with_item b (map m slots) v)) s.0 s.1)
+      (λ s. select_natural m m (λ v. z (with_item a slots v)) (λ v. w (with_item b (map m slots) v)) (item_like z w k slots) s.0 s.1)
+      (x slots) (y (map m slots)) (h slots)
+
+  pub all_like : (x z : Means R) (y w : Means S) → Like x y → Like z w → Like (form_step a (Form-F.All x z)) (form_step b (Form-F.All y w))
+  all_like x z y w h k slots =
+      let items = stream_of a (x slots) in
+      ap (λ (s : Stream (Value S)). as_truth (all (λ v. is_true b w (with_item b (map m slots) v)) s.0 s.1)) (stream_follows (x slots) (y (map m slots)) (h slots))
+      ∙ ap as_truth
+      (all_natural m (λ v. is_true a z (with_item a slots v)) (λ v. is_true b w (with_item b (map m slots) v)) (condition_like z w k slots) items.0 items.1)
+      ∙ answer_kept f (all (λ v. is_true a z (with_item a slots v)) items.0 items.1)
 
   pub many_like : (x inner result : Means R) (y other found : Means S) → Like x y → Like inner other → Like result found
       → Like (form_step a (Form-F.SelectMany x inner result)) (form_step b (Form-F.SelectMany y other found))

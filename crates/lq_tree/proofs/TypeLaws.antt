@@ -24,7 +24,7 @@ use Rattle.lq_language.specs.declared.operation.Op.TheVariants as op
 use Rattle.lq_grammar.specs.declared.syntax.Argument.{Argument}
 use Rattle.lq_grammar.specs.declared.syntax.Field.{Field}
 use Rattle.lq_language.proofs.ItemLaws.{first_of, others_of}
-use Rattle.lq_tree.specs.Binding.{Binds, called_tree, column_tree, conditional_tree, enumerable_tree, field_tree, fields_tree, gathered, lambda_tree, member_layer, member_tree, method_tree, name_tree, of_three_trees, of_two_trees, placed_tree, record_member_tree, record_tree, search_form, search_tree, settled_tree, tree_of, type_of_field, typed_tree, within_tree, global_tree}
+use Rattle.lq_tree.specs.Binding.{Binds, called_tree, column_tree, conditional_tree, enumerable_tree, field_tree, fields_tree, gathered, lambda_tree, member_layer, member_tree, method_form, method_tree, name_tree, of_three_trees, of_two_trees, placed_tree, record_member_tree, record_tree, search_form, search_tree, settled_tree, tree_of, type_of_field, typed_tree, within_tree, global_tree}
 use Rattle.lq_tree.specs.Places.{Place, Places, names_of_places, place_of, with_name, SessionPlace, session_place}
 use Rattle.lq_tree.specs.declared.tree.Form.{Form}
 use Rattle.lq_tree.specs.declared.tree.Form.TheVariants as form
@@ -323,10 +323,10 @@ module _ (schemas : List Schema) where
     given_by method t source (Some b) = typed_found (given_type method t (Some b.ty)) (form.Given method source b.form)
 
     through_by : (method : Through) (t : Ty) (source : Form) (o : Option Tree)
-        → type_found (option_and_then (λ f. typed_tree (through_type method t (Some f.ty)) (form.Through method t f.ty source f.form)) o)
+        → type_found (option_and_then (λ f. typed_tree (through_type method t (Some f.ty)) (method_form method t f.ty source f.form)) o)
         ≡ through_type method t (type_found o)
     through_by method t source None = sym (through_none method t)
-    through_by method t source (Some f) = typed_found (through_type method t (Some f.ty)) (form.Through method t f.ty source f.form)
+    through_by method t source (Some f) = typed_found (through_type method t (Some f.ty)) (method_form method t f.ty source f.form)
 
     enumerable_found : (places : Places) (source : Form) (t : Ty) (call : EnumerableCall X)
         → type_found (enumerable_tree schemas tree places source t call) ≡ enumerable_type typed (names places) t call

@@ -196,20 +196,20 @@ module _ (schemas : List Schema) {X : Type 0} (tree : X → Binds)
       (λ found there is. passed_by (λ x. is_bool (out-Ty x.ty)) (tree c (with_item places stage.pattern)) found there
       (λ bound truth. from _ next is
       (stands_by stage.pattern _
-      (rule.of_where shapes ty.Null ty.Null found.ty stage.form found.form (shape_of stage.pattern) stands.0 (at_item stage.pattern c found bound) truth))))
+      (rule.of_where shapes found.ty stage.form found.form (shape_of stage.pattern) stands.0 (at_item stage.pattern c found bound) truth))))
   operator_typed (operator.Select v) stage next h stands =
       map_by _ (option_and_then placed_tree (tree v (with_item places stage.pattern))) next h
       (λ found there is. passed_by (λ x. has_place (out-Ty x.ty)) (tree v (with_item places stage.pattern)) found there
       (λ bound placed. from _ next is
       (stands_by (One [] found.ty) _
-      (rule.of_select shapes ty.Null ty.Null stage.form found.form (shape_of stage.pattern) (Of found.ty) stands.0 (at_item stage.pattern v found bound)))))
+      (rule.of_select shapes stage.form found.form (shape_of stage.pattern) (Of found.ty) stands.0 (at_item stage.pattern v found bound)))))
   operator_typed (operator.Let n f) stage next h stands =
       map_by _ (if_fresh schemas tree places stage.pattern n (option_and_then placed_tree (tree f (with_item places stage.pattern)))) next h
       (λ found fresh_there is. when_by _ _ found fresh_there
       (λ fresh there. passed_by (λ x. has_place (out-Ty x.ty)) (tree f (with_item places stage.pattern)) found there
       (λ bound placed. from _ next is
       (stands_by (With stage.pattern n found.ty) _
-      (rule.of_select shapes ty.Null ty.Null stage.form (form.Pair (form.Slot places.depth) found.form) (shape_of stage.pattern)
+      (rule.of_select shapes stage.form (form.Pair (form.Slot places.depth) found.form) (shape_of stage.pattern)
       (Both (shape_of stage.pattern) (Of found.ty)) stands.0
       (rule.of_pair (with_slot shapes (shape_of stage.pattern)) (form.Slot places.depth) found.form (shape_of stage.pattern) (Of found.ty)
       (subst (λ (s : List Shape). Is s (form.Slot places.depth) (shape_of stage.pattern)) (append_none (with_slot shapes (shape_of stage.pattern)))

@@ -25,7 +25,6 @@ use Rattle.lq_language.specs.Operators.{first, pair, pair_type, second}
 use Rattle.lq_language.specs.Stream.{Stream, elements_of}
 use Rattle.lq_language.specs.Types.{when}
 use Rattle.lq_language.specs.MeaningLaws.{AreMembers, Fits, IsA, IsValueOf, ValueClaim, by_group, by_null_record, by_record, by_row, by_scalar, by_sequence, no_member, one_member}
-use Rattle.lq_language.specs.declared.methods.Through.TheVariants as through
 use Rattle.lq_language.specs.declared.operation.Op.{Op}
 use Rattle.lq_language.specs.declared.operation.Op.TheVariants as op
 use Rattle.lq_grammar.specs.declared.syntax.Binary.{Binary}
@@ -34,9 +33,9 @@ use Rattle.lq_grammar.specs.declared.syntax.SortKey.{SortKey}
 use Rattle.lq_language.proofs.AlikeStreamLaws.{Agree, KeysAlike, Pair, agree_err, both_agree, agree_ok, every_element, expand_alike, group_alike, join_alike, order_alike, select_alike, where_alike}
 use Rattle.lq_language.proofs.ItemLaws.{every_map, every_more, every_none}
 use Rattle.lq_language.proofs.ScalarResultLaws.{Gives as Given_as, given_of, has_value_given, length_given, value_given}
-use Rattle.lq_language.proofs.TypedMethodLaws.{given_agree, given_typed, scalar_after, simple_typed, stream_alike, through_typed}
+use Rattle.lq_language.proofs.TypedMethodLaws.{given_agree, given_typed, scalar_after, simple_typed, stream_alike}
 use Rattle.lq_language.proofs.TypingLaws.{is_of_layer, type_with}
-use Rattle.lq_language.proofs.ValueLaws.{RecordOrNull, a_record, is_plain, no_record, record_value, truth_is}
+use Rattle.lq_language.proofs.ValueLaws.{RecordOrNull, a_record, gets_truth as answer_typed, is_plain, no_record, record_value, truth_is}
 use Rattle.lq_tree.specs.Binding.{binary_form, is_object, operation_at, tested_first, tested_second, tree_of}
 use Rattle.lq_tree.specs.FormMeaning.{Means, Slots, cell_in, form_meaning, if_there, is_true, key_in, matched, member_at, members_of, sort_key}
 use Rattle.lq_tree.specs.TypedForms.{Both, FormClaim, Gives, Has, IsTyped, IsTypedForm, Many, Members, Of, Shape, Sorts, matched_items, type_of_shape, with_slot, with_slots}
@@ -330,22 +329,19 @@ module _ {R : Type 0} (world : World R) (holds : HoldsRows world) where
       gets_as (Of r) _ _ (meaning_at world slots _ (form.outs-Given method a b))
       (given_typed world world.unknown world.unknown method t u r (stream_of world (mean a slots)) typed (keeps h slots fit) (mean b slots) (mean b slots)
       (refl, keeps k slots fit)).1
-  keeps (rule.of_through shapes method t u r a f h k typed) = λ slots fit.
-      gets_as (Of r) _ _ (meaning_at world slots _ (form.outs-Through method t u a f))
-      (through_typed world world.unknown world.unknown method t u r _ _ _ _ typed (λ truth v fits. refl)
-      (λ v fits. (refl, keeps k (slots ++ v ∷ []) (one_more shapes slots (Of t) v fit fits))) (stream_of world (mean a slots)) (stream_of world (mean a slots))
-      (refl, keeps h slots fit)).1
-  keeps (rule.of_where shapes t u c a f s h k bool) = λ slots fit.
-      gets_as (Many s) _ _ (meaning_at world slots _ (form.outs-Through through.Where t u a f))
+  keeps (rule.of_where shapes c a f s h k bool) = λ slots fit.
+      gets_as (Many s) _ _ (meaning_at world slots _ (form.outs-Where a f))
       (gets_sequence s _
       (where_alike (Fit s) (λ v. is_true world (mean f) (slots ++ v ∷ [])) (λ v. is_true world (mean f) (slots ++ v ∷ [])) (λ v p. refl)
       (stream_of world (mean a slots)) (stream_of world (mean a slots)) (refl, keeps h slots fit)).1)
-  keeps (rule.of_select shapes t u a f s r h k) = λ slots fit.
-      gets_as (Many r) _ _ (meaning_at world slots _ (form.outs-Through through.Select t u a f))
+  keeps (rule.of_select shapes a f s r h k) = λ slots fit.
+      gets_as (Many r) _ _ (meaning_at world slots _ (form.outs-Select a f))
       (gets_sequence r _
       (select_alike (Fit s) (Fit r) (λ v. mean f (slots ++ v ∷ [])) (λ v. mean f (slots ++ v ∷ []))
       (λ v p. (refl, keeps k (slots ++ v ∷ []) (one_more shapes slots s v fit p))) (stream_of world (mean a slots)) (stream_of world (mean a slots))
       (refl, keeps h slots fit)).1)
+  keeps (rule.of_all shapes c a f s h k bool) = λ slots fit.
+      gets_as (Of ty.Bool) _ _ (meaning_at world slots _ (form.outs-All a f)) (answer_typed world _)
   keeps (rule.of_select_many shapes a inner result s u r h k l) = λ slots fit.
       gets_as (Many r) _ _ (meaning_at world slots _ (form.outs-SelectMany a inner result))
       (gets_sequence r _

@@ -41,6 +41,7 @@ use Rattle.lq_tree.specs.declared.tree.Form.{Form, out-Form}
 use Rattle.lq_tree.specs.declared.tree.Form.TheVariants as form
 use Rattle.lq_tree.specs.declared.tree.Tree.{Tree}
 use Rattle.lq_tree.proofs.MemberTrees.{Member, a_column, a_key, a_member, column_known, has_value, its_length, its_value, member_by}
+use Rattle.lq_tree.proofs.MethodForms.{method_form_typed}
 use Rattle.lq_tree.proofs.OperandLemmas.{computed_plain, type_of_computed, type_of_equality}
 use Rattle.lq_tree.proofs.ScopeLaws.{append_behind, append_none, at_end, length_one_more}
 use Rattle.lq_tree.proofs.TypeLaws.{place_holds, session_place_holds}
@@ -296,7 +297,7 @@ module _ (schemas : List Schema) where
         (λ f bound made. map_by _ (through_type method t (Some f.ty)) r made
         (λ u gives is. when_by (is_fresh (names_of_places schemas places) n) (tree body (with_name places n t)) f bound
         (λ fresh there. subst (IsTypedTree shapes) is
-        (rule.of_through shapes method t f.ty u a f.form items
+        (method_form_typed schemas shapes method t f.ty u a f.form items
         (typed body (with_name places n t) (with_slot shapes (Of t)) (item_typed shapes places (One n t) known) f there) gives))))
 
     called_typed : (call : Option (EnumerableCall X)) (a r : Tree) → IsTypedTree shapes a

@@ -29,6 +29,7 @@ use Rattle.lq_language.specs.declared.calls.Paired.TheVariants as paired
 use Rattle.lq_language.specs.declared.calls.Part.{Part}
 use Rattle.lq_language.specs.declared.calls.Term.{Term, fold-Term}
 use Rattle.lq_language.specs.declared.calls.Term.TheOpen.{Term-F}
+use Rattle.lq_language.specs.declared.methods.Through.{Through}
 use Rattle.lq_language.specs.declared.methods.Through.TheVariants as through
 use Rattle.lq_language.specs.declared.operation.Op.{Op}
 use Rattle.lq_language.specs.declared.operation.Op.TheVariants as op
@@ -195,6 +196,17 @@ keyed_tree found = when (is_key found.ty) (Some found)
 abbrev pub items_of_tree : Tree → Option Tree
 items_of_tree source = option_map (λ t. tree_of t source.form) (element_type (out-Ty source.ty))
 
+-- ---- methods with a lambda
+
+-- A method on items of the first type, whose lambda makes the second of each: `Where`, `Select` and `All` themselves, and any other as the
+-- method without a lambda over one of these.
+abbrev pub method_form : Through → Ty → Ty → Form → Form → Form
+method_form through.Where t u source body = form.Where source body
+method_form through.Select t u source body = form.Select source body
+method_form through.All t u source body = form.All source body
+method_form (through.Those method) t u source body = form.Simple method t (form.Where source body)
+method_form (through.Values method) t u source body = form.Simple method u (form.Select source body)
+
 -- ---- records
 
 abbrev pub type_of_field : Field Tree → List ℕ × Ty
@@ -259,7 +271,7 @@ module _ (schemas : List Schema) where
     enumerable_tree places source t (With method x) =
         option_and_then (λ b. typed_tree (given_type method t (Some b.ty)) (form.Given method source b.form)) (tree x places)
     enumerable_tree places source t (By method n body) =
-        option_and_then (λ f. typed_tree (through_type method t (Some f.ty)) (form.Through method t f.ty source f.form)) (lambda_tree places t n body)
+        option_and_then (λ f. typed_tree (through_type method t (Some f.ty)) (method_form method t f.ty source f.form)) (lambda_tree places t n body)
 
     -- a method of what is enumerated
     abbrev pub called_tree : Option (EnumerableCall X) → Tree → Places → Option Tree
@@ -324,13 +336,13 @@ module _ (schemas : List Schema) where
     -- `Where`
     abbrev pub where_stage : Places → X → Stage → Option Stage
     where_stage places c stage =
-        option_map (λ found. stage_of stage.pattern (form.Through through.Where ty.Null ty.Null stage.form found.form))
+        option_map (λ found. stage_of stage.pattern (form.Where stage.form found.form))
         (option_and_then condition_tree (tree c (with_item places stage.pattern)))
 
     -- `Select`
     abbrev pub select_stage : Places → X → Stage → Option Stage
     select_stage places v stage =
-        option_map (λ found. stage_of (unnamed found.ty) (form.Through through.Select ty.Null ty.Null stage.form found.form))
+        option_map (λ found. stage_of (unnamed found.ty) (form.Select stage.form found.form))
         (option_and_then placed_tree (tree v (with_item places stage.pattern)))
 
     -- `Select` of each item beside one more name's value
@@ -338,7 +350,7 @@ module _ (schemas : List Schema) where
     let_stage places n f stage =
         option_map
         (λ found. stage_of (of.With stage.pattern n found.ty)
-        (form.Through through.Select ty.Null ty.Null stage.form (form.Pair (form.Slot places.depth) found.form)))
+        (form.Select stage.form (form.Pair (form.Slot places.depth) found.form)))
         (if_fresh places stage.pattern n (option_and_then placed_tree (tree f (with_item places stage.pattern))))
 
     -- `SelectMany`

@@ -14,10 +14,11 @@ use Rattle.lq_language.specs.Arrangement.{order_by}
 use Rattle.lq_language.specs.Worlds.{World}
 use Rattle.lq_language.specs.OperandMeaning.{as_value, cell_value, is_null, on_scalar, on_truth, sequence, stream_of, table_value, truth_value}
 use Rattle.lq_language.specs.ClauseMeaning.{as_group, matches}
+use Rattle.lq_language.specs.Enumerable.{all}
 use Rattle.lq_language.specs.Operations.{of_one, of_two, on_ok, truth_of}
 use Rattle.lq_language.specs.Operators.{first, pair, second}
-use Rattle.lq_language.specs.Stream.{Stream, expand_by, group_by, join_by, with_keys}
-use Rattle.lq_language.specs.Meaning.{given_meaning, simple_meaning, through_meaning}
+use Rattle.lq_language.specs.Stream.{Stream, expand_by, group_by, join_by, select_by, where_by, with_keys}
+use Rattle.lq_language.specs.Meaning.{as_sequence, as_truth, given_meaning, simple_meaning}
 use Rattle.lq_grammar.specs.declared.syntax.Field.{Field}
 use Rattle.lq_grammar.specs.declared.syntax.SortKey.{SortKey}
 use Rattle.lq_tree.specs.declared.tree.Joined.{Joined}
@@ -118,8 +119,9 @@ module _ {R : Type 0} (world : World R) where
   -- operators, each on the stream of what stands first
   form_step (Form-F.Simple method t a) slots = simple_meaning method t (stream_of world (a slots))
   form_step (Form-F.Given method a b) slots = given_meaning world method (b slots) (stream_of world (a slots))
-  form_step (Form-F.Through method t u a f) slots =
-      through_meaning world method t u (λ v. is_true f (with_item slots v)) (λ v. f (with_item slots v)) (stream_of world (a slots))
+  form_step (Form-F.Where a f) slots = let items = stream_of world (a slots) in as_sequence (where_by (λ v. is_true f (with_item slots v)) items.0 items.1)
+  form_step (Form-F.Select a f) slots = let items = stream_of world (a slots) in as_sequence (select_by (λ v. f (with_item slots v)) items.0 items.1)
+  form_step (Form-F.All a f) slots = let items = stream_of world (a slots) in as_truth (all (λ v. is_true f (with_item slots v)) items.0 items.1)
   form_step (Form-F.SelectMany a inner result) slots =
       let items = stream_of world (a slots) in
       Ok (sequence (expand_by (λ v. stream_of world (inner (with_item slots v))) (λ v w. result (with_items slots v w)) items.0 items.1))

@@ -20,8 +20,6 @@ use Rattle.lq_language.specs.declared.methods.Given.{Given}
 use Rattle.lq_language.specs.declared.methods.Given.TheVariants as given
 use Rattle.lq_language.specs.declared.methods.Simple.{Simple}
 use Rattle.lq_language.specs.declared.methods.Simple.TheVariants as simple
-use Rattle.lq_language.specs.declared.methods.Through.{Through}
-use Rattle.lq_language.specs.declared.methods.Through.TheVariants as through
 use Rattle.lq_language.specs.declared.operation.Op.{Op}
 use Rattle.lq_language.specs.declared.operation.Op.TheVariants as op
 use Rattle.lq_grammar.specs.declared.syntax.Field.{Field}
@@ -91,12 +89,6 @@ suits simple.Min layer = is_number_type layer
 suits simple.Max layer = is_number_type layer
 suits method layer = true
 
--- and with a lambda, where the second type is that of what it makes
-abbrev pub suits_through : Through → Ty-F Ty → Ty-F Ty → Bool
-suits_through (through.Those method) items makes = suits method items
-suits_through (through.Values method) items makes = suits method makes
-suits_through method items makes = true
-
 module _ {R : Type 0} where
   -- ---- values
 
@@ -163,15 +155,6 @@ module _ {R : Type 0} where
   TakesBeside given.Contains w v = MayBeSame w v
   TakesBeside method w v = Unit {0}
 
-  -- of two items where it has a lambda, and of two that the lambda makes
-  abbrev pub TakesTwoSources : Through → Value R → Value R → Type 0
-  TakesTwoSources (through.Those method) v w = TakesTwo method v w
-  TakesTwoSources method v w = Unit {0}
-
-  abbrev pub TakesTwoMade : Through → Value R → Value R → Type 0
-  TakesTwoMade (through.Values method) v w = TakesTwo method v w
-  TakesTwoMade method v w = Unit {0}
-
   -- of two items of either sequence
   abbrev pub TakesTwoItems : Given → Value R → Value R → Type 0
   TakesTwoItems given.Union v w = MayBeSame v w
@@ -193,16 +176,6 @@ module _ {R : Type 0} where
   TakesArgument given.ElementAt v = IsScalarThat is_count v
   TakesArgument given.Contains v = IsKey v
   TakesArgument method v = IsEnumerable v
-
-  -- of each item, where it has a lambda, and of what the lambda makes of one
-  abbrev pub TakesSource : Through → Value R → Type 0
-  TakesSource (through.Those method) v = Takes method v
-  TakesSource method v = Unit {0}
-
-  abbrev pub TakesMade : Through → Value R → Type 0
-  TakesMade through.Select v = Unit {0}
-  TakesMade (through.Values method) v = Takes method v
-  TakesMade method v = IsScalarThat is_truth v
 
 -- ---- forms
 
@@ -288,13 +261,15 @@ module _ {R : Type 0} (world : World R) where
         → Finds b slots (λ w. (v : Value R) → Among (items_in a slots) v → TakesBeside method w v)
         → ((v w : Value R) → Among (items_in a slots ++ items_in b slots) v → Among (items_in a slots ++ items_in b slots) w → TakesTwoItems method v w)
         → MeetsKinds (Runs (form.Given method a b) slots)
-    at_through : (method : Through) (t u : Ty) (a f : Form) (slots : Slots R) → MeetsKinds (Runs a slots) → Finds a slots IsEnumerable
-        → Each (items_in a slots) (TakesSource method) → ((v : Value R) → Among (items_in a slots) v → MeetsKinds (Runs f (slots ++ v ∷ [])))
-        → Each (items_in a slots) (λ v. Finds f (slots ++ v ∷ []) (TakesMade method)) → suits_through method (out-Ty t) (out-Ty u) ≡ true
-        → ((v w : Value R) → Among (items_in a slots) v → Among (items_in a slots) w → TakesTwoSources method v w)
-        → ((v w : Value R) → Among (items_in a slots) v → Among (items_in a slots) w
-        → Finds f (slots ++ v ∷ []) (λ x. Finds f (slots ++ w ∷ []) (TakesTwoMade method x)))
-        → MeetsKinds (Runs (form.Through method t u a f) slots)
+    -- conditions are truth values
+    at_where : (a f : Form) (slots : Slots R) → MeetsKinds (Runs a slots) → Finds a slots IsEnumerable
+        → ((v : Value R) → Among (items_in a slots) v → MeetsKinds (Runs f (slots ++ v ∷ [])))
+        → Each (items_in a slots) (λ v. Finds f (slots ++ v ∷ []) (IsScalarThat is_truth)) → MeetsKinds (Runs (form.Where a f) slots)
+    at_select : (a f : Form) (slots : Slots R) → MeetsKinds (Runs a slots) → Finds a slots IsEnumerable
+        → ((v : Value R) → Among (items_in a slots) v → MeetsKinds (Runs f (slots ++ v ∷ []))) → MeetsKinds (Runs (form.Select a f) slots)
+    at_all : (a f : Form) (slots : Slots R) → MeetsKinds (Runs a slots) → Finds a slots IsEnumerable
+        → ((v : Value R) → Among (items_in a slots) v → MeetsKinds (Runs f (slots ++ v ∷ [])))
+        → Each (items_in a slots) (λ v. Finds f (slots ++ v ∷ []) (IsScalarThat is_truth)) → MeetsKinds (Runs (form.All a f) slots)
     at_expansion : (a inner result : Form) (slots : Slots R) → MeetsKinds (Runs a slots) → Finds a slots IsEnumerable
         → ((v : Value R) → Among (items_in a slots) v → MeetsKinds (Runs inner (slots ++ v ∷ []))) → Each (items_in a slots) (λ v. Finds inner (slots ++ v ∷ []) IsEnumerable)
         → ((v w : Value R) → Among (items_in a slots) v → Among (items_in inner (slots ++ v ∷ [])) w → MeetsKinds (Runs result (slots ++ v ∷ w ∷ [])))

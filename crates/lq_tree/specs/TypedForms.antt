@@ -12,11 +12,9 @@ use Rattle.lq_language.specs.Operators.{Pattern, One, With, pair_type}
 use Rattle.lq_language.specs.Types.{are_join_keys, element_type, is_key, is_sort_key}
 use Rattle.lq_language.specs.Names.{column_type}
 use Rattle.lq_language.specs.OperandTypes.{coalesced, is_bool, is_number, is_text}
-use Rattle.lq_language.specs.Typing.{given_type, simple_type, through_type, type_of_choice, type_of_operation}
+use Rattle.lq_language.specs.Typing.{given_type, simple_type, type_of_choice, type_of_operation}
 use Rattle.lq_language.specs.declared.methods.Given.{Given}
 use Rattle.lq_language.specs.declared.methods.Simple.{Simple}
-use Rattle.lq_language.specs.declared.methods.Through.{Through}
-use Rattle.lq_language.specs.declared.methods.Through.TheVariants as through
 use Rattle.lq_language.specs.declared.operation.Op.{Op}
 use Rattle.lq_language.specs.declared.operation.Op.TheVariants as op
 use Rattle.lq_grammar.specs.declared.syntax.Binary.{Binary}
@@ -128,14 +126,13 @@ module _ (schemas : List Schema) where
         → IsTyped (Has slots (form.Simple method t a) (Of r))
     of_given : (slots : List Shape) (method : Given) (t u r : Ty) (a b : Form) → IsTyped (Gives slots a (Of t)) → IsTyped (Has slots b (Of u))
         → given_type method t (Some u) ≡ Some r → IsTyped (Has slots (form.Given method a b) (Of r))
-    of_through : (slots : List Shape) (method : Through) (t u r : Ty) (a f : Form) → IsTyped (Gives slots a (Of t))
-        → IsTyped (Has (with_slot slots (Of t)) f (Of u)) → through_type method t (Some u) ≡ Some r
-        → IsTyped (Has slots (form.Through method t u a f) (Of r))
     -- calls between which items may be pairs; their conditions are truth values, and their keys such as may be compared
-    of_where : (slots : List Shape) (t u c : Ty) (a f : Form) (s : Shape) → IsTyped (Gives slots a s) → IsTyped (Has (with_slot slots s) f (Of c))
-        → is_bool (out-Ty c) ≡ true → IsTyped (Has slots (form.Through through.Where t u a f) (Many s))
-    of_select : (slots : List Shape) (t u : Ty) (a f : Form) (s r : Shape) → IsTyped (Gives slots a s) → IsTyped (Has (with_slot slots s) f r)
-        → IsTyped (Has slots (form.Through through.Select t u a f) (Many r))
+    of_where : (slots : List Shape) (c : Ty) (a f : Form) (s : Shape) → IsTyped (Gives slots a s) → IsTyped (Has (with_slot slots s) f (Of c))
+        → is_bool (out-Ty c) ≡ true → IsTyped (Has slots (form.Where a f) (Many s))
+    of_select : (slots : List Shape) (a f : Form) (s r : Shape) → IsTyped (Gives slots a s) → IsTyped (Has (with_slot slots s) f r)
+        → IsTyped (Has slots (form.Select a f) (Many r))
+    of_all : (slots : List Shape) (c : Ty) (a f : Form) (s : Shape) → IsTyped (Gives slots a s) → IsTyped (Has (with_slot slots s) f (Of c))
+        → is_bool (out-Ty c) ≡ true → IsTyped (Has slots (form.All a f) (Of ty.Bool))
     of_select_many : (slots : List Shape) (a inner result : Form) (s u r : Shape) → IsTyped (Gives slots a s) → IsTyped (Gives (with_slot slots s) inner u)
         → IsTyped (Has (with_slots slots s u) result r) → IsTyped (Has slots (form.SelectMany a inner result) (Many r))
     of_join : (slots : List Shape) (a : Form) (j : Joined Form) (s r : Shape) (u k l : Ty) → IsTyped (Gives slots a s) → IsTyped (Gives slots j.inner (Of u))

@@ -3,7 +3,7 @@
 ghost use Rattle.std.specs.Prelude.{◌≡◌};
 
 use lq_grammar::{Field, SortKey};
-use lq_language::{Given, Op, Simple, Through};
+use lq_language::{Given, Op, Simple};
 use lq_value::{Held, List, Scalar, Ty};
 
 /// The parts of a join, whose outer sequence stands beside it (.NET, `Enumerable.Join` and
@@ -65,9 +65,12 @@ pub enum Form {
     Simple(Simple, Ty, Held<Form>),
     /// A method on what stands first, with its argument.
     Given(Given, Held<Form>, Held<Form>),
-    /// A method with a lambda, in one slot more, on items of the first type; the second is that of
-    /// what the lambda gives.
-    Through(Through, Held<Ty>, Held<Ty>, Held<Form>, Held<Form>),
+    /// The items on which a condition is true, which has one slot more.
+    Where(Held<Form>, Held<Form>),
+    /// What comes of each item, in one slot more.
+    Select(Held<Form>, Held<Form>),
+    /// Whether a condition is true on every item, in one slot more.
+    All(Held<Form>, Held<Form>),
     /// What comes of each item, in one slot more, and of each item of the sequence that it leads to,
     /// in two.
     SelectMany(Held<Form>, Held<Form>, Held<Form>),

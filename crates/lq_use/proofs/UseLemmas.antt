@@ -23,7 +23,7 @@ use Rattle.lq_tree.specs.declared.tree.Form.{Form}
 use Rattle.lq_tree.specs.declared.tree.Form.TheVariants as form
 use Rattle.lq_tree.specs.declared.tree.Joined.{Joined}
 use Rattle.lq_use.specs.Served.{join_uses}
-use Rattle.lq_tree.proofs.FormUseLaws.{of_and, of_binary, of_coalesce, of_column, of_conditional, of_first, of_given, of_group, of_is_null, of_join, of_key, of_literal, of_member, of_or, of_order, of_pair, of_record, of_second, of_select_many, of_sequence, of_simple, of_slot, of_table, of_through, of_unary}
+use Rattle.lq_tree.proofs.FormUseLaws.{of_all, of_and, of_binary, of_coalesce, of_column, of_conditional, of_first, of_given, of_group, of_is_null, of_join, of_key, of_literal, of_member, of_or, of_order, of_pair, of_record, of_second, of_select, of_select_many, of_sequence, of_simple, of_slot, of_table, of_unary, of_where}
 
 pub type_out : (schemas : List Schema) (t : Ty) → shown_columns schemas t ≡ shown_step schemas (map-Ty Ty (List Use) (shown_columns schemas) (out-Ty t))
 unfolding shown_columns
@@ -131,4 +131,4 @@ module _ (old mid new : List Use) (f a : Form) where
 
 pub ruleset types = (record_shows, group_shows, sequence_shows, row_shows, type_out, of_ty.the_lemmas, append_none)
 
-pub ruleset forms = (of_and, of_binary, of_coalesce, of_column, of_conditional, of_first, of_given, of_group, of_is_null, of_key, of_literal, of_member, of_or, of_pair, of_second, of_select_many, of_sequence, of_simple, of_slot, of_table, of_through, of_unary, record_uses, sorted_uses, joined_uses, sorted_behind, joined_behind, append_none)
+pub ruleset forms = (of_all, of_and, of_binary, of_coalesce, of_column, of_conditional, of_first, of_given, of_group, of_is_null, of_key, of_literal, of_member, of_or, of_pair, of_second, of_select, of_select_many, of_sequence, of_simple, of_slot, of_table, of_unary, of_where, record_uses, sorted_uses, joined_uses, sorted_behind, joined_behind, append_none)

@@ -39,7 +39,9 @@ fn add_form(form: &Form, uses: &mut Vec<Use>) -> Result<(), AllocError>
         Form::Sequence(source) => add_form(source.get(), uses),
         Form::Simple(_, _, source) => add_form(source.get(), uses),
         Form::Given(_, source, argument) => add_two(source.get(), argument.get(), uses),
-        Form::Through(_, _, _, source, body) => add_two(source.get(), body.get(), uses),
+        Form::Where(source, condition) => add_two(source.get(), condition.get(), uses),
+        Form::Select(source, body) => add_two(source.get(), body.get(), uses),
+        Form::All(source, condition) => add_two(source.get(), condition.get(), uses),
         Form::SelectMany(a, inner, body) => add_three(a.get(), inner.get(), body.get(), uses),
         Form::Join(source, joined) => {
             add_form(source.get(), uses)?;

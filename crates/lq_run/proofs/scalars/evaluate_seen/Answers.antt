@@ -14,12 +14,11 @@ returns-in-Some c =
 pub returns-in-Ok : goal.returns-in-Ok
 returns-in-Ok c =
     let seen = subst (λ (ts : List (TableRows SeenRow)). AreSeen c.args.state.now ts) (sym c.as_slice-2.ensures.value) c.in_ok-tables.ensures.seen in
-    yields_other c.args.state.now c.as_slice-2.result.now seen c.args.tree.now c.in-Ok.found c.in_ok-refusal-in-None.field-0 c.in-Ok.ensures c.in-None.ensures
-    c.in_ok-refusal-in-None.ensures
+    yields_other c.args.state.now c.as_slice-2.result.now seen c.args.tree.now c.in-Ok.found c.refusal.result c.in-Ok.ensures c.in-None.ensures
+    c.refusal.ensures
 
 pub returns-in-Err-Fault : goal.returns-in-Err-Fault
 returns-in-Err-Fault c =
     let seen = subst (λ (ts : List (TableRows SeenRow)). AreSeen c.args.state.now ts) (sym c.as_slice-2.ensures.value) c.in_ok-tables.ensures.seen in
     let found = rw c.in-Err-Fault.field-0-is at c.in-Err-Fault.ensures in
-    yields_fault c.args.state.now c.as_slice-2.result.now seen c.args.tree.now c.in-Err-Fault.fault c.in_ok-fault_line-in-Err-Fault.field-0 found
-    c.in_ok-fault_line-in-Err-Fault.ensures
+    yields_fault c.args.state.now c.as_slice-2.result.now seen c.args.tree.now c.in-Err-Fault.met c.fault.result found c.fault.ensures

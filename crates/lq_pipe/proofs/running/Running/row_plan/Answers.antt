@@ -1,10 +1,10 @@
 use Rattle.std.proofs.Common.{IfOk, subst}
 use Rattle.lq_pipe.specs.Prepared.{Decides}
-use Rattle.lq_pipe.specs.Worlds.{world_of}
+use Rattle.lq_pipe.specs.Runs.{world}
 use Rattle.lq_pipe.proofs.SlotLemmas.{no_values}
 use Rattle.lq_pipe.proofs.running.Running.row_plan.Goals as goal
 
 pub returns : goal.returns
 returns g c =
-    let world = world_of g.R.TableRow.table_of g.R.RowRef.shown c.args.self.now.tables.now in
-    subst (λ vs. Decides g.R.TableRow.table_of g.R.RowRef.shown world vs c.match-first.table c.args.condition.now c.in_ok-condition.condition) no_values c.in_ok-condition.ensures
+    let w = world c.args.self.now in
+    subst (λ vs. Decides g.R.TableRow.table_of g.R.RowRef.shown w vs c.match-first.table c.args.condition.now c.in_ok-condition.condition) no_values c.in_ok-condition.ensures

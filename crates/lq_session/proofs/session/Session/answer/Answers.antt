@@ -1,26 +1,39 @@
--- The reply to what was read is the reply to the line.
-use Rattle.std.proofs.Common.{◌≡◌, rules}
-use Rattle.lq_grammar.specs.Reading.{IsNoSyntax, IsTooDeep, Nothing, Says, reading_of}
+-- Each step of an answer is the machine's, or stops with its reply.
+use Rattle.std.proofs.Common.{◌≡◌, Err, rules}
+use Rattle.lq_grammar.specs.Reading.{Says, Nothing, reading_of}
 use Rattle.lq_session.specs.States.{state_of}
-use Rattle.lq_session.proofs.StepLemmas.{says_no_syntax, says_nothing, says_statement, says_too_deep}
+use Rattle.lq_session.proofs.StepLemmas.{says_nothing, steps_performed, stops_past, stops_performed, stops_unread}
 use Rattle.lq_session.proofs.session.Session.answer.Goals as goal
 
-pub returns-in-Ok-None : goal.returns-in-Ok-None
-returns-in-Ok-None c =
+pub returns-in_err-tokens : goal.returns-in_err-tokens
+returns-in_err-tokens c =
+    let same : c.from_residual.result ≡ Err c.in_err-tokens.field-0.0 = search rules in
+    rw same (stops_unread (state_of c.args.self.now) c.args.line.now c.in_err-tokens.field-0.0 c.in_err-tokens.ensures)
+
+pub returns-in_err-statement : goal.returns-in_err-statement
+returns-in_err-statement c =
+    let same : c.from_residual-in_err-statement.result ≡ Err c.in_err-statement.field-0.0 = search rules in
+    rw same (stops_unread (state_of c.args.self.now) c.args.line.now c.in_err-statement.field-0.0 c.in_err-statement.ensures)
+
+pub returns-in_default : goal.returns-in_default
+returns-in_default c =
     let read : reading_of c.args.line.now ≡ Nothing = search rules in says_nothing (state_of c.args.self.now) c.args.line.now read
 
-pub returns-in_ok-perform-in-Ok-Some : goal.returns-in_ok-perform-in-Ok-Some
-returns-in_ok-perform-in-Ok-Some c =
-    let read : reading_of c.args.line.now ≡ Says c.in-Ok-Some.statement = search rules in
-    says_statement (state_of c.args.self.now) c.args.line.now c.in-Ok-Some.statement c.in_ok-perform-in-Ok-Some.field-0 (state_of c.perform.new.self) read
-    c.in_ok-perform-in-Ok-Some.ensures
+pub returns-in_err-opened : goal.returns-in_err-opened
+returns-in_err-opened c =
+    let read : reading_of c.args.line.now ≡ Says c.in-Some.statement = search rules in
+    let same : c.from_residual-in_err-opened.result ≡ Err c.in_err-opened.field-0.0 = search rules in
+    rw same (stops_past (state_of c.args.self.now) c.args.line.now c.in-Some.statement read c.in_err-opened.field-0.0 c.in_err-opened.ensures)
 
-pub returns-in_ok-refusal-in-Err-Syntax : goal.returns-in_ok-refusal-in-Err-Syntax
-returns-in_ok-refusal-in-Err-Syntax c =
-    let read : reading_of c.args.line.now ≡ IsNoSyntax = search rules in
-    says_no_syntax (state_of c.args.self.now) c.args.line.now c.in_ok-refusal-in-Err-Syntax.field-0 read c.in_ok-refusal-in-Err-Syntax.ensures
+pub returns-in_err-perform : goal.returns-in_err-perform
+returns-in_err-perform c =
+    let read : reading_of c.args.line.now ≡ Says c.in-Some.statement = search rules in
+    let same : c.from_residual-in_err-perform.result ≡ Err c.in_err-perform.field-0.0 = search rules in
+    rw same (stops_performed (state_of c.args.self.now) c.args.line.now c.in-Some.statement read c.in_ok-opened.opened c.in_ok-opened.ensures
+    c.in_err-perform.field-0.0 c.perform.new.state c.in_err-perform.ensures)
 
-pub returns-in_ok-refusal-in-Err-TooDeep : goal.returns-in_ok-refusal-in-Err-TooDeep
-returns-in_ok-refusal-in-Err-TooDeep c =
-    let read : reading_of c.args.line.now ≡ IsTooDeep = search rules in
-    says_too_deep (state_of c.args.self.now) c.args.line.now c.in_ok-refusal-in-Err-TooDeep.field-0 read c.in_ok-refusal-in-Err-TooDeep.ensures
+pub returns : goal.returns
+returns c =
+    let read : reading_of c.args.line.now ≡ Says c.in-Some.statement = search rules in
+    steps_performed (state_of c.args.self.now) c.args.line.now c.in-Some.statement read c.in_ok-opened.opened c.in_ok-opened.ensures
+    c.in_ok-perform.field-0 c.perform.new.state c.in_ok-perform.ensures

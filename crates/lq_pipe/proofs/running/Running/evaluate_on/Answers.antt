@@ -1,0 +1,11 @@
+use Rattle.std.proofs.Common.{◌≡◌, IfOk, subst}
+use Rattle.lq_value.specs.declared.value.Value.TheVariants as value
+use Rattle.lq_tree.specs.FormMeaning.{form_meaning, is_true, with_item}
+use Rattle.lq_pipe.specs.Runs.{world}
+use Rattle.lq_pipe.proofs.SlotLemmas.{no_values}
+use Rattle.lq_pipe.proofs.running.Running.evaluate_on.Goals as goal
+
+pub returns : goal.returns
+returns g c =
+    let w = world c.args.self.now in
+    subst (λ vs. IfOk c.holds.result (λ found. found ≡ is_true w (form_meaning w c.args.condition.now) (with_item w vs (value.Row c.args.row.now)))) no_values c.holds.ensures
