@@ -12,7 +12,6 @@ ROOT = Path(__file__).resolve().parent.parent.parent
 # What a page shows and isn't run here, each with the reason.
 NOT_RUN = {
     "bash tests/run\n": "this test is a part of it",
-    "bench/run crates/lq/out/lq\n": "it takes minutes, and prints times",
     "run from x in whole select x.c;": "tests/performance runs it, over a table of 16 MB",
     '{"error":"memory"}': "only a refused growth of memory gives it, as in tests/growths",
     '{"error":"full"}': "no script is long enough to use up the numbers of rows",
