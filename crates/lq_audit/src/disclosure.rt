@@ -9,7 +9,7 @@ use crate::answers::Why;
 use lq_policy::{Action, Explanation, RoleId};
 use lq_run::State;
 use lq_store::Store;
-use lq_value::Row;
+use lq_value::{Row, TableNumber};
 use std::alloc::{AllocError, Global};
 
 /// The row of this number among some rows, if there is one.
@@ -21,7 +21,7 @@ fn numbered(rows: &[Row], number: u64) -> Option<&Row>
 
 /// The row of the table that has this number, if there is one.
 #[tactic(auto, using(crate::proofs::RowLemmas::row_there))]
-fn row_of(store: &Store, table: u16, number: u64) -> Option<&Row>
+fn row_of(store: &Store, table: TableNumber, number: u64) -> Option<&Row>
     ensures { option_copied result ≡ row_numbered store.now table number }
 {
     if table as usize >= store.len() {
@@ -31,7 +31,7 @@ fn row_of(store: &Store, table: u16, number: u64) -> Option<&Row>
 }
 
 /// Whether whoever asks may know of the row of this table.
-fn may_know(state: &State, starting: RoleId, table: u16, row: &Row) -> bool
+fn may_know(state: &State, starting: RoleId, table: TableNumber, row: &Row) -> bool
     ensures { result ≡ may_know state.now (number_of starting) table row.now }
 {
     let policies = state.policies();
@@ -44,7 +44,7 @@ fn explanation(
     alloc: Global,
     state: &State,
     action: Action,
-    table: u16,
+    table: TableNumber,
     row: &Row,
 ) -> Result<Explanation, AllocError>
     ensures { IfOk result (λ found. found
@@ -57,7 +57,7 @@ fn explanation(
 }
 
 /// The row of the table that has this number, if there is one of which whoever asks may know.
-fn known_row(state: &State, starting: RoleId, table: u16, number: u64) -> Option<&Row>
+fn known_row(state: &State, starting: RoleId, table: TableNumber, number: u64) -> Option<&Row>
     ensures { FindsKnown state.now (number_of starting) table number (option_copied result) }
 {
     let row = row_of(state.store(), table, number)?;
@@ -79,7 +79,7 @@ pub fn why(
     state: &State,
     starting: RoleId,
     action: Action,
-    table: u16,
+    table: TableNumber,
     number: u64,
 ) -> Result<Why, AllocError>
     ensures { IfOk result (Discloses state.now (number_of starting) action table number) }

@@ -14,7 +14,7 @@ use lq_language::{Call, Term};
 use lq_machine::Definition;
 use lq_store::Store;
 use lq_tree::Tree;
-use lq_value::{Txt, Ty};
+use lq_value::{TableNumber, Txt, Ty};
 use std::alloc::Global;
 
 /// The most tokens that a statement may have, with those of all named queries that it opens.
@@ -95,7 +95,7 @@ pub fn bind_condition(
     alloc: Global,
     term: &Term,
     row: &Txt,
-    table: u16,
+    table: TableNumber,
     scope: &Scope<'_>,
 ) -> Result<Tree, BindError>
     requires { is_past scope.now.size scope.now.rank ≡ false }

@@ -18,7 +18,7 @@ use lq_language::Op;
 use lq_store::Store;
 use lq_tree::{Form, Tree};
 use lq_typing::copy_ty;
-use lq_value::{Column, ColumnType, Held, List, Schema, Txt, Ty};
+use lq_value::{Column, ColumnType, Held, List, Schema, TableNumber, Txt, Ty};
 use std::alloc::{AllocError, Global};
 
 /// The type of a column's cells.
@@ -47,7 +47,7 @@ fn column_named(columns: &[Column], name: &str) -> Option<usize>
 fn cell_at(
     alloc: Global,
     row: Held<Form>,
-    table: u16,
+    table: TableNumber,
     number: usize,
     ty: ColumnType,
 ) -> Result<Tree, AllocError>
@@ -74,7 +74,7 @@ fn column_at(columns: &[Column], number: usize) -> Option<ColumnType>
 fn column(
     alloc: Global,
     name: &str,
-    table: u16,
+    table: TableNumber,
     row: Held<Form>,
     schema: &Schema,
 ) -> Result<Tree, TermError>
@@ -164,7 +164,7 @@ fn group_key(alloc: Global, name: &str, key: Ty, group: Held<Form>) -> Result<Tr
 }
 
 /// The schema of the table of this number.
-fn schema_at(store: &Store, table: u16) -> Option<&Schema>
+fn schema_at(store: &Store, table: TableNumber) -> Option<&Schema>
     ensures { option_copied result ≡ slice_get (schemas_of store.now) table }
 {
     if (table as usize) >= store.len() {
@@ -178,7 +178,7 @@ fn cell(
     alloc: Global,
     store: &Store,
     name: &str,
-    table: u16,
+    table: TableNumber,
     row: Held<Form>,
 ) -> Result<Tree, TermError>
     ensures { Gives (option_and_then (column_tree name.now table row)

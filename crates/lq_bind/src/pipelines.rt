@@ -214,7 +214,8 @@ fn join_form(
     grouped: bool,
     item: Held<Form>,
 ) -> Result<Held<Form>, AllocError>
-    ensures { IfOk result (λ f. f ≡ stages.join_form sides.outer sides.inner sides.keys grouped item) }
+    ensures { IfOk result
+        (λ f. f ≡ stages.join_form sides.outer sides.inner sides.keys grouped item) }
 {
     let Sides { outer, inner, keys } = sides;
     let (outer_key, inner_key) = keys;

@@ -29,7 +29,8 @@ impl<R: Read> LineReader<R> {
 
     /// The next byte; none at the end.
     fn next_byte(&mut self) -> io::Result<Option<u8>>
-        ensures { IfOk result (GivesByte (R.remaining (reader_of self.old)) (R.remaining (reader_of self.new))
+        ensures { IfOk result (GivesByte (R.remaining (reader_of self.old))
+            (R.remaining (reader_of self.new))
             (is_ended self.old) (is_ended self.new)) }
     {
         if self.is_ended {
@@ -46,7 +47,8 @@ impl<R: Read> LineReader<R> {
     /// The next line: one of at most 65,536 bytes that is UTF-8, or what is wrong with it, once it is read to its end. It refuses
     /// where a read answers an error, or a line has 2^64 bytes.
     pub fn next_line(&mut self, alloc: Global) -> io::Result<Input>
-        ensures { IfOk result (Takes (R.remaining (reader_of self.old)) (R.remaining (reader_of self.new))
+        ensures { IfOk result (Takes (R.remaining (reader_of self.old))
+            (R.remaining (reader_of self.new))
             (is_ended self.old) (is_ended self.new)) }
     {
         let mut draft = Draft::new(alloc);

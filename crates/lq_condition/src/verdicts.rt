@@ -22,7 +22,8 @@ pub(crate) fn cell_at(cells: &[Scalar], place: usize) -> Option<&Scalar>
 /// What a sign compares two numbers as, if it compares.
 fn comparison(sign: Binary, m: i32, n: i32) -> Option<bool>
     ensures { IfSome result (λ truth.
-        of_two fault.NullReference (operation_of sign) (scalar.Int m) (scalar.Int n) ≡ Ok (scalar.Bool truth)) }
+        of_two fault.NullReference (operation_of sign) (scalar.Int m) (scalar.Int n)
+        ≡ Ok (scalar.Bool truth)) }
 {
     match sign {
         Binary::Less => Some(m < n),
@@ -40,7 +41,8 @@ fn comparison(sign: Binary, m: i32, n: i32) -> Option<bool>
 /// What a sign compares a cell and a number as, if it compares and both are numbers.
 fn comparison_with(sign: Binary, cell: &Scalar, number: i32) -> Option<bool>
     ensures { IfSome result (λ truth.
-        of_two fault.NullReference (operation_of sign) cell.now (scalar.Int number) ≡ Ok (scalar.Bool truth)) }
+        of_two fault.NullReference (operation_of sign) cell.now (scalar.Int number)
+        ≡ Ok (scalar.Bool truth)) }
 {
     match cell {
         Scalar::Int(found) => comparison(sign, *found, number),

@@ -16,5 +16,6 @@ pub trait Asks {
     /// Asks, and puts the call behind those of `log`. Refuses with `Range` exactly where there is no answer, and with `Memory` where there
     /// is no room for the entry; in both no call was made, and the log is as it was.
     fn ask(&self, question: Question, log: &mut Log) -> Result<bool, HostError>
-        ensures { LogsCall (answer_of self.now question.predicate question.arguments) question log.old result log.new };
+        ensures { LogsCall (answer_of self.now question.predicate question.arguments) question
+            log.old result log.new };
 }

@@ -1,12 +1,16 @@
 //! Host calls, and the entries that they leave in a log.
+use lq_value::{ColumnNumber, TableNumber};
+
+/// A host predicate, by its number in its set: the predicates that were added before it.
+pub type PredicateNumber = u16;
 
 /// Columns of a table by their numbers: as many as a predicate has arguments.
 #[derive(Clone, Copy, Debug, Eq, PartialEq)]
 pub enum Pick {
     /// The column of one argument.
-    One(u16),
+    One(ColumnNumber),
     /// The columns of two arguments.
-    Two(u16, u16),
+    Two(ColumnNumber, ColumnNumber),
 }
 
 /// The arguments of a predicate.
@@ -22,9 +26,9 @@ pub enum Pick2 {
 #[derive(Clone, Copy, Debug, Eq, PartialEq)]
 pub struct Question {
     /// The number of the predicate.
-    pub predicate: u16,
+    pub predicate: PredicateNumber,
     /// The number of the row's table.
-    pub table: u16,
+    pub table: TableNumber,
     /// The number of the row.
     pub row: u64,
     /// The columns of the arguments.
@@ -37,9 +41,9 @@ pub struct Question {
 #[derive(Clone, Copy, Debug, Eq, PartialEq)]
 pub struct Call {
     /// The number of the predicate.
-    pub predicate: u16,
+    pub predicate: PredicateNumber,
     /// The number of the row's table.
-    pub table: u16,
+    pub table: TableNumber,
     /// The number of the row.
     pub row: u64,
     /// The columns of the arguments.

@@ -1,11 +1,12 @@
 //! The set of host predicates, with the log of their calls.
 use crate::asks::Asks;
-use crate::call::{Call, Pick, Question};
+use crate::call::{Call, Pick, PredicateNumber, Question};
 use crate::error::HostError;
 use crate::log::Log;
 use crate::predicate::HostPredicate;
 use crate::predicates::Predicates;
 use crate::seen_row::{SeenRow, arguments_of};
+use lq_value::TableNumber;
 use std::alloc::Global;
 
 /// Host predicates, and the log of their calls. What runs a query borrows the predicates and, beside them, the log to write to.
@@ -36,7 +37,7 @@ impl HostSet {
     }
 
     /// The number of the predicate of this name.
-    pub fn find(&self, name: &str) -> Option<u16>
+    pub fn find(&self, name: &str) -> Option<PredicateNumber>
         ensures value { result ≡ first_named name_of name.now (hosts_of self.now).predicates }
         ensures bound { IfSome result (λ id. id < length (hosts_of self.now).predicates) }
     {
@@ -44,15 +45,16 @@ impl HostSet {
     }
 
     /// The name of a predicate.
-    pub fn name(&self, id: u16) -> &str
+    pub fn name(&self, id: PredicateNumber) -> &str
         requires { id < length (hosts_of self.now).predicates }
-        ensures { option_map name_of (slice_get (hosts_of self.now).predicates id) ≡ Some result.now }
+        ensures { option_map name_of (slice_get (hosts_of self.now).predicates id)
+            ≡ Some result.now }
     {
         self.predicates.name(id)
     }
 
     /// The range of a predicate's first argument, and that of the second where it has two.
-    pub fn range(&self, id: u16) -> ((i32, i32), Option<(i32, i32)>)
+    pub fn range(&self, id: PredicateNumber) -> ((i32, i32), Option<(i32, i32)>)
         requires { id < length (hosts_of self.now).predicates }
         ensures { option_map (λ p. ranges_of p.domain) (slice_get (hosts_of self.now).predicates id)
             ≡ Some result }
@@ -69,7 +71,10 @@ impl HostSet {
 
     /// Puts `predicate` behind the others and answers its number. Refuses with `DuplicateName`, `TooMany` (there are 64) or `Memory`,
     /// checked in this order; the predicates are then as they were, and the new one is handed back. The log stays in any case.
-    pub fn add(&mut self, predicate: HostPredicate) -> Result<u16, (HostError, HostPredicate)>
+    pub fn add(
+        &mut self,
+        predicate: HostPredicate,
+    ) -> Result<PredicateNumber, (HostError, HostPredicate)>
         ensures predicates { Adds (hosts_of self.old).predicates (predicate_of predicate)
             (shown_added result) (hosts_of self.new).predicates }
         ensures calls { (hosts_of self.new).calls ≡ (hosts_of self.old).calls }
@@ -83,12 +88,13 @@ impl HostSet {
     /// made, and the log is as it was.
     pub fn ask<R: SeenRow>(
         &mut self,
-        id: u16,
-        t: u16,
+        id: PredicateNumber,
+        t: TableNumber,
         row: &R,
         columns: Pick,
     ) -> Result<bool, HostError>
-        requires columns { option_map (λ p. arity_of p.domain) (slice_get (hosts_of self.old).predicates id)
+        requires columns { option_map (λ p. arity_of p.domain)
+            (slice_get (hosts_of self.old).predicates id)
             ≡ Some (count_of columns) }
         requires integers { IsSome (arguments_at (R.cells_of row.now) columns) }
         ensures asked { IfSome (arguments_at (R.cells_of row.now) columns) (λ xs.

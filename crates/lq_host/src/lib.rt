@@ -18,7 +18,7 @@ mod seen_row;
 mod two;
 
 pub use asks::Asks;
-pub use call::{Call, Pick, Pick2, Question};
+pub use call::{Call, Pick, Pick2, PredicateNumber, Question};
 pub use error::HostError;
 pub use hosts::HostSet;
 pub use log::Log;

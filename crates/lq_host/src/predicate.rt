@@ -98,7 +98,8 @@ impl HostPredicate {
         f: Box<dyn Fn(i32, i32) -> bool>,
     ) -> Result<HostPredicate, HostError>
         requires callable { (x y : ℤ) → is_within_both (first, second) (x, y) ≡ true → pre f x y }
-        requires accepted { Accepted pair_cmp (is_within_both (first, second)) (λ p answer. post f p.0 p.1 answer) }
+        requires accepted { Accepted pair_cmp (is_within_both (first, second))
+            (λ p answer. post f p.0 p.1 answer) }
         ensures { (set : Pairs)
             → AnswersBy (is_within_both (first, second)) (λ p answer. post f p.0 p.1 answer) set
             → shown_made result ≡ made_of (string_bytes name) (OfTwo (first, second) set) }

@@ -2,7 +2,7 @@
 ghost use Rattle.std.specs.Prelude.{◌≤◌, vec_len};
 
 use crate::asks::Asks;
-use crate::call::Question;
+use crate::call::{PredicateNumber, Question};
 use crate::error::HostError;
 use crate::log::{Log, append, make_room};
 use crate::predicate::HostPredicate;
@@ -37,7 +37,7 @@ impl Predicates {
     }
 
     /// The number of the predicate of this name.
-    pub fn find(&self, name: &str) -> Option<u16>
+    pub fn find(&self, name: &str) -> Option<PredicateNumber>
         ensures value { result ≡ first_named name_of name.now (predicates_of self.now) }
         ensures bound { IfSome result (λ id. id < length (predicates_of self.now)) }
     {
@@ -50,7 +50,7 @@ impl Predicates {
     }
 
     /// The name of a predicate.
-    pub fn name(&self, id: u16) -> &str
+    pub fn name(&self, id: PredicateNumber) -> &str
         requires { id < length (predicates_of self.now) }
         ensures { option_map name_of (slice_get (predicates_of self.now) id) ≡ Some result.now }
     {
@@ -58,7 +58,7 @@ impl Predicates {
     }
 
     /// The range of a predicate's first argument, and that of the second where it has two.
-    pub fn range(&self, id: u16) -> ((i32, i32), Option<(i32, i32)>)
+    pub fn range(&self, id: PredicateNumber) -> ((i32, i32), Option<(i32, i32)>)
         requires { id < length (predicates_of self.now) }
         ensures { option_map (λ p. ranges_of p.domain) (slice_get (predicates_of self.now) id)
             ≡ Some result }
@@ -68,7 +68,10 @@ impl Predicates {
 
     /// Puts `predicate` behind the others and answers its number. Refuses with `DuplicateName`, `TooMany` (there are 64) or `Memory`,
     /// checked in this order; the predicates are then as they were, and the new one is handed back.
-    pub fn add(&mut self, predicate: HostPredicate) -> Result<u16, (HostError, HostPredicate)>
+    pub fn add(
+        &mut self,
+        predicate: HostPredicate,
+    ) -> Result<PredicateNumber, (HostError, HostPredicate)>
         ensures { Adds (predicates_of self.old) (predicate_of predicate)
             (shown_added result) (predicates_of self.new) }
     {
@@ -86,7 +89,7 @@ impl Predicates {
     }
 
     /// The predicate of a number.
-    fn at(&self, id: u16) -> &HostPredicate
+    fn at(&self, id: PredicateNumber) -> &HostPredicate
         requires { id < length (predicates_of self.now) }
         ensures { slice_get (predicates_of self.now) id ≡ Some (predicate_of result.now) }
     {

@@ -3,7 +3,7 @@ ghost use Rattle.std.specs.Prelude.{◌≡◌};
 ghost use Rattle.lq_host.specs.Calls.{arguments_at, number_at};
 
 use crate::call::{Pick, Pick2};
-use lq_value::Scalar;
+use lq_value::{ColumnNumber, Scalar};
 
 /// A row of a table that may be shown to a host: its number, and its cells by their columns.
 pub trait SeenRow {
@@ -20,7 +20,7 @@ pub trait SeenRow {
         ensures { result ≡ number_of self.now };
 
     /// The cell in a column; none where the row has no such column.
-    fn cell(&self, column: u16) -> Option<&Scalar>
+    fn cell(&self, column: ColumnNumber) -> Option<&Scalar>
         ensures { option_copied result ≡ slice_get (cells_of self.now) column };
 }
 
@@ -38,7 +38,7 @@ pub fn arguments_of<R: SeenRow>(row: &R, columns: Pick) -> Option<Pick2>
 }
 
 /// The integer that a row has in a column; none where there is none.
-fn number_in<R: SeenRow>(row: &R, column: u16) -> Option<i32>
+fn number_in<R: SeenRow>(row: &R, column: ColumnNumber) -> Option<i32>
     ensures { result ≡ number_at (R.cells_of row.now) column }
 {
     match row.cell(column) {

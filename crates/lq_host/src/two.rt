@@ -25,7 +25,8 @@ impl TwoTest {
         test: Box<dyn Fn(i32, i32) -> bool>,
     ) -> TwoTest
         requires callable { (x y : ℤ) → is_within_both ranges (x, y) ≡ true → pre test x y }
-        requires accepted { Accepted pair_cmp (is_within_both ranges) (λ p answer. post test p.0 p.1 answer) }
+        requires accepted { Accepted pair_cmp (is_within_both ranges)
+            (λ p answer. post test p.0 p.1 answer) }
         ensures ranges { result.ranges ≡ ranges }
         ensures accepted { (set : Pairs)
             → AnswersBy (is_within_both ranges) (λ p answer. post test p.0 p.1 answer) set

@@ -6,11 +6,12 @@ ghost use Rattle.lq_machine.specs.Served.{columns_in, denied_data, line_of, name
 use crate::line::Line;
 use lq_language::Use;
 use lq_store::Store;
+use lq_value::{ColumnNumber, TableNumber};
 use serde_json::Map;
 use std::alloc::{AllocError, Global};
 
 /// The name of a table; empty where there is no such table.
-fn table_name(store: &Store, table: u16) -> &str
+fn table_name(store: &Store, table: TableNumber) -> &str
     ensures { result.now ≡ name_of_table (slice_get (schemas_of store.now) table) }
 {
     if table as usize >= store.len() {
@@ -20,8 +21,9 @@ fn table_name(store: &Store, table: u16) -> &str
 }
 
 /// The name of a column; empty where there is no such column.
-fn column_name(store: &Store, table: u16, column: u16) -> &str
-    ensures { result.now ≡ name_at (slice_get (columns_in (slice_get (schemas_of store.now) table)) column) }
+fn column_name(store: &Store, table: TableNumber, column: ColumnNumber) -> &str
+    ensures { result.now
+        ≡ name_at (slice_get (columns_in (slice_get (schemas_of store.now) table)) column) }
 {
     if table as usize >= store.len() {
         return "";
@@ -60,7 +62,8 @@ pub(crate) fn denied_line(
     rule: &str,
     used: Use,
 ) -> Result<Line, AllocError>
-    ensures { IfOk result (λ line. line ≡ line_of (denied_data (schemas_of store.now) rule.now used)) }
+    ensures { IfOk result (λ line. line
+        ≡ line_of (denied_data (schemas_of store.now) rule.now used)) }
 {
     let name = use_name(alloc, store, used)?;
     let name = serde_json::Value::try_from_str(alloc, name.as_str())?;

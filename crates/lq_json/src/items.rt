@@ -67,7 +67,8 @@ fn faulted(alloc: Global, fault: Fault, text: &[u8]) -> Result<Vec<u8>, AllocErr
 
 /// Ends the items and the reply.
 fn close(out: &mut Writer) -> Result<(), AllocError>
-    ensures tokens { OnOk result (out.new.tokens ≡ out.old.tokens ++ end_array ∷ (end_object ∷ [])) }
+    ensures tokens { OnOk result (out.new.tokens
+        ≡ out.old.tokens ++ end_array ∷ (end_object ∷ [])) }
     ensures before { out.new.before ≡ out.old.before }
 {
     out.end_array()?;
@@ -128,7 +129,8 @@ impl ItemsLine {
 
     /// The line's text, where the items end well.
     fn text(self) -> Result<Vec<u8>, AllocError>
-        ensures { IfOk result (λ text. (ds : List Data) → Holds self ds → text.items ≡ compact_text (object (stream_members ds end.Done))) }
+        ensures { IfOk result (λ text. (ds : List Data) → Holds self ds
+            → text.items ≡ compact_text (object (stream_members ds end.Done))) }
     {
         let ItemsLine { mut out, .. } = self;
         close(&mut out)?;
@@ -137,7 +139,8 @@ impl ItemsLine {
 
     /// The whole line, of the items written and how they end.
     pub fn finish(self, end: End) -> Result<Line, AllocError>
-        ensures { IfOk result (λ line. (ds : List Data) → Holds self ds → line ≡ line_of (object (stream_members ds end))) }
+        ensures { IfOk result (λ line. (ds : List Data) → Holds self ds
+            → line ≡ line_of (object (stream_members ds end))) }
     {
         let alloc = self.alloc;
         let text = self.text()?;

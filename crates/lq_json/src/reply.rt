@@ -92,7 +92,8 @@ fn push_all<R: RowRef>(
     end: End,
     line: &mut ItemsLine,
 ) -> Result<End, AllocError>
-    ensures { IfOk result (λ ended. ServesAll R.shown form.now items.now end line.old line.new ended) }
+    ensures { IfOk result
+        (λ ended. ServesAll R.shown form.now items.now end line.old line.new ended) }
 {
     for item in items {
         if let Some(fault) = nested_fault(item) {
@@ -110,7 +111,8 @@ fn formed_items_line<R: RowRef>(
     items: &[Value<R>],
     end: End,
 ) -> Result<Line, AllocError>
-    ensures { IfOk result (λ line. line ≡ line_of (stream_reply (served_by R.shown form.now (items.now, end)))) }
+    ensures { IfOk result (λ line. line
+        ≡ line_of (stream_reply (served_by R.shown form.now (items.now, end)))) }
 {
     let mut line = ItemsLine::new(alloc)?;
     let end = push_all(form, items, end, &mut line)?;
@@ -125,7 +127,8 @@ fn items_line<R: RowRef>(
     items: &[Value<R>],
     end: End,
 ) -> Result<Line, AllocError>
-    ensures { IfOk result (λ line. line ≡ line_of (stream_data (schemas_of store.now) R.shown ty.now (items.now, end))) }
+    ensures { IfOk result (λ line. line
+        ≡ line_of (stream_data (schemas_of store.now) R.shown ty.now (items.now, end))) }
 {
     let form = form_of(alloc, store, ty)?;
     formed_items_line(alloc, &form, items, end)
@@ -133,7 +136,10 @@ fn items_line<R: RowRef>(
 
 /// Writes a reply with a value of a form.
 fn write_value<R: RowRef>(form: &Form, value: &Value<R>, out: &mut Writer) -> Result<(), AllocError>
-    ensures tokens { OnOk result (out.new.tokens ≡ out.old.tokens ++ tokens_of (object (put (codes "value") (data_by R.shown form.now value.now) no_members))) }
+    ensures tokens { OnOk result (out.new.tokens
+        ≡ out.old.tokens
+        ++ tokens_of
+        (object (put (codes "value") (data_by R.shown form.now value.now) no_members))) }
     ensures before { out.new.before ≡ out.old.before }
 {
     out.begin_object()?;
@@ -148,7 +154,9 @@ fn value_text<R: RowRef>(
     form: &Form,
     value: &Value<R>,
 ) -> Result<Vec<u8>, AllocError>
-    ensures { IfOk result (λ text. text.items ≡ compact_text (object (put (codes "value") (data_by R.shown form.now value.now) no_members))) }
+    ensures { IfOk result (λ text. text.items
+        ≡ compact_text
+        (object (put (codes "value") (data_by R.shown form.now value.now) no_members))) }
 {
     let mut out = Writer::new(Vec::new(alloc));
     write_value(form, value, &mut out)?;
@@ -161,7 +169,8 @@ fn formed_value_line<R: RowRef>(
     form: &Form,
     value: &Value<R>,
 ) -> Result<Line, AllocError>
-    ensures { IfOk result (λ line. line ≡ line_of (object (put (codes "value") (data_by R.shown form.now value.now) no_members))) }
+    ensures { IfOk result (λ line. line
+        ≡ line_of (object (put (codes "value") (data_by R.shown form.now value.now) no_members))) }
 {
     let mut line = value_text(alloc, form, value)?;
     line.push(b'\n')?;
@@ -175,7 +184,8 @@ fn value_line<R: RowRef>(
     ty: &Ty,
     value: &Value<R>,
 ) -> Result<Line, AllocError>
-    ensures { IfOk result (λ line. line ≡ line_of (value_data (schemas_of store.now) R.shown ty.now (Ok value.now))) }
+    ensures { IfOk result (λ line. line
+        ≡ line_of (value_data (schemas_of store.now) R.shown ty.now (Ok value.now))) }
 {
     if let Some(fault) = nested_fault(value) {
         return word_line(alloc, "fault", fault_name(fault));

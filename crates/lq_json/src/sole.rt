@@ -31,7 +31,8 @@ pub(crate) fn word_line(alloc: Global, name: &str, word: &str) -> Result<Line, A
 
 /// The line of a reply with one member, a number of rows.
 pub(crate) fn count_line(alloc: Global, name: &str, count: u64) -> Result<Line, AllocError>
-    ensures { IfOk result (λ line. line ≡ line_of (sole_member name.now (number (of_integer (pos count))))) }
+    ensures { IfOk result (λ line. line
+        ≡ line_of (sole_member name.now (number (of_integer (pos count))))) }
 {
     sole_line(alloc, name, Value::from(count))
 }

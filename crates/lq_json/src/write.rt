@@ -13,7 +13,8 @@ use std::alloc::AllocError;
 
 #[tactic(auto, using(crate::proofs::Tokens::integer_text))]
 pub(crate) fn write_scalar(scalar: &Scalar, out: &mut Writer) -> Result<(), AllocError>
-    ensures tokens { OnOk result (out.new.tokens ≡ out.old.tokens ++ tokens_of (scalar_data scalar.now)) }
+    ensures tokens { OnOk result (out.new.tokens
+        ≡ out.old.tokens ++ tokens_of (scalar_data scalar.now)) }
     ensures before { out.new.before ≡ out.old.before }
 {
     match scalar {
@@ -26,7 +27,8 @@ pub(crate) fn write_scalar(scalar: &Scalar, out: &mut Writer) -> Result<(), Allo
 
 /// A cell of a row; null where it has none there.
 fn write_cell(cells: &[Scalar], place: usize, out: &mut Writer) -> Result<(), AllocError>
-    ensures tokens { OnOk result (out.new.tokens ≡ out.old.tokens ++ tokens_of (cell_data (slice_get cells.now place))) }
+    ensures tokens { OnOk result (out.new.tokens
+        ≡ out.old.tokens ++ tokens_of (cell_data (slice_get cells.now place))) }
     ensures before { out.new.before ≡ out.old.before }
 {
     match cells.get(place) {
@@ -37,7 +39,8 @@ fn write_cell(cells: &[Scalar], place: usize, out: &mut Writer) -> Result<(), Al
 
 /// A row with these columns.
 fn write_row(columns: &[(Txt, usize)], cells: &[Scalar], out: &mut Writer) -> Result<(), AllocError>
-    ensures tokens { OnOk result (out.new.tokens ≡ out.old.tokens ++ tokens_of (object (cells_in columns.now cells.now))) }
+    ensures tokens { OnOk result (out.new.tokens
+        ≡ out.old.tokens ++ tokens_of (object (cells_in columns.now cells.now))) }
     ensures before { out.new.before ≡ out.old.before }
 {
     out.begin_object()?;
@@ -56,7 +59,8 @@ pub(crate) fn write<R: RowRef>(
     value: &Value<R>,
     out: &mut Writer,
 ) -> Result<(), AllocError>
-    ensures tokens { OnOk result (out.new.tokens ≡ out.old.tokens ++ tokens_of (data_by R.shown form.now value.now)) }
+    ensures tokens { OnOk result (out.new.tokens
+        ≡ out.old.tokens ++ tokens_of (data_by R.shown form.now value.now)) }
     ensures before { out.new.before ≡ out.old.before }
 {
     match (form, value) {
@@ -88,7 +92,9 @@ fn write_items<R: RowRef>(
     items: &[Value<R>],
     out: &mut Writer,
 ) -> Result<(), AllocError>
-    ensures tokens { OnOk result (out.new.tokens ≡ out.old.tokens ++ tokens_of (array (items_of (map (data_by R.shown form.now) items.now)))) }
+    ensures tokens { OnOk result (out.new.tokens
+        ≡ out.old.tokens
+        ++ tokens_of (array (items_of (map (data_by R.shown form.now) items.now)))) }
     ensures before { out.new.before ≡ out.old.before }
 {
     out.begin_array()?;
@@ -107,7 +113,9 @@ fn write_member<R: RowRef>(
     place: usize,
     out: &mut Writer,
 ) -> Result<(), AllocError>
-    ensures tokens { OnOk result (out.new.tokens ≡ out.old.tokens ++ tokens_of (member_data (data_by R.shown form.now) (slice_get members.now place))) }
+    ensures tokens { OnOk result (out.new.tokens
+        ≡ out.old.tokens
+        ++ tokens_of (member_data (data_by R.shown form.now) (slice_get members.now place))) }
     ensures before { out.new.before ≡ out.old.before }
 {
     match members.get(place) {
@@ -124,7 +132,9 @@ fn write_record<R: RowRef>(
     members: &[(Txt, Value<R>)],
     out: &mut Writer,
 ) -> Result<(), AllocError>
-    ensures tokens { OnOk result (out.new.tokens ≡ out.old.tokens ++ tokens_of (object (fields_by (data_by R.shown) fields.now members.now))) }
+    ensures tokens { OnOk result (out.new.tokens
+        ≡ out.old.tokens
+        ++ tokens_of (object (fields_by (data_by R.shown) fields.now members.now))) }
     ensures before { out.new.before ≡ out.old.before }
 {
     out.begin_object()?;

@@ -1,17 +1,17 @@
 //! Rights as plain data: what a statement uses, and the rules that grant or withhold it.
-use lq_value::{List, Txt};
+use lq_value::{ColumnNumber, List, TableNumber, Txt};
 
 /// What a statement uses of the tables, and what a right is for.
 #[derive(Clone, Copy, Debug, Drop, Eq, Hash, PartialEq)]
 pub enum Use {
     /// The table with this number.
-    Table(u16),
+    Table(TableNumber),
     /// A column, by the numbers of its table and of its place there.
-    Column(u16, u16),
+    Column(TableNumber, ColumnNumber),
     /// A new row of the table with this number.
-    Insert(u16),
+    Insert(TableNumber),
     /// The removal of rows of the table with this number.
-    Delete(u16),
+    Delete(TableNumber),
 }
 
 /// A rule that grants rights, or one that withholds them.

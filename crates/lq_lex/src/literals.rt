@@ -27,7 +27,8 @@ pub fn is_small(digits: &[char]) -> bool
 
 /// The `int` that decimal digits spell, `None` where there is none so great.
 pub fn int_value(digits: &[u8]) -> Option<i32>
-    ensures { result ≡ (if nat_lt (decimal_value digits.now) 2147483648 then Some (pos (decimal_value digits.now)) else None) }
+    ensures { result ≡ (if nat_lt (decimal_value digits.now) 2147483648
+        then Some (pos (decimal_value digits.now)) else None) }
 {
     let mut value: u64 = 0;
     for digit in digits {
@@ -73,7 +74,8 @@ fn unit(value: u32) -> Option<char>
 
 /// The character whose number four hexadecimal digits spell: the values of three, and the last.
 fn unit_of(a: u8, b: u8, c: u8, last: char) -> Option<char>
-    ensures { result ≡ option_and_then (λ d. literal.unit (a * 4096 + b * 256 + c * 16 + d)) (literal.hexadecimal last) }
+    ensures { result ≡ option_and_then (λ d. literal.unit (a * 4096 + b * 256 + c * 16 + d))
+        (literal.hexadecimal last) }
 {
     let d = hexadecimal(last)?;
     unit(u32::from(a) * 4096 + u32::from(b) * 256 + u32::from(c) * 16 + u32::from(d))

@@ -70,7 +70,8 @@ fn colon_of(cell: &[u8]) -> Option<usize>
 // The name that these bytes are. Bytes that are no text are none.
 #[tactic(auto, using(crate::proofs::NameFacts::other_bytes))]
 fn name_of(bytes: &[u8]) -> Option<&str>
-    ensures { option_map (λ name. name.now) result ≡ (if is_name bytes.now then Some bytes.now else None) }
+    ensures { option_map (λ name. name.now) result
+        ≡ (if is_name bytes.now then Some bytes.now else None) }
 {
     std::str::from_utf8(bytes).ok().filter(|name| is_name(name))
 }

@@ -87,7 +87,8 @@ fn push_records(
     requires first { table.old.next ≡ 1 }
     requires room { length (records_left reader.old) < 2 ^ 63 }
     ensures ok { OnOk result (with_records (records_left reader.old) table.old ≡ Ok table.new) }
-    ensures err { IfErr result (λ e. UnlessMemory e (with_records (records_left reader.old) table.old ≡ Err e)) }
+    ensures err { IfErr result
+        (λ e. UnlessMemory e (with_records (records_left reader.old) table.old ≡ Err e)) }
 {
     // The header is record 1, so that row 1 is record 2.
     let mut place = 2;
@@ -107,7 +108,8 @@ fn push_record(
 ) -> Result<(), LoadError>
     requires place { place ≡ table.old.next + 1 }
     ensures ok { OnOk result (with_record table.old (fields_of row.now) ≡ Ok table.new) }
-    ensures err { IfErr result (λ e. UnlessMemory e (with_record table.old (fields_of row.now) ≡ Err e)) }
+    ensures err { IfErr result
+        (λ e. UnlessMemory e (with_record table.old (fields_of row.now) ≡ Err e)) }
     ensures next { OnOk result (table.new.next ≡ table.old.next + 1) }
 {
     let columns = table.schema().columns.as_slice();

@@ -33,7 +33,8 @@ impl Lookup {
     /// The lookup of `keys`. Under `Nulls::Skip` a key that is itself null is found nowhere; a record
     /// with null members is a key as any other.
     pub fn build(alloc: Global, keys: &[Key], nulls: Nulls) -> Result<Lookup, AllocError>
-        ensures { IfOk result (λ lookup. (q : KeyValue) → found lookup q ≡ matches nulls keys.now q) }
+        ensures { IfOk result (λ lookup. (q : KeyValue)
+            → found lookup q ≡ matches nulls keys.now q) }
     {
         let rows = Rows::build(alloc, keys)?;
         Ok(Lookup { nulls, rows })

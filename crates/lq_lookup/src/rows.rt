@@ -39,7 +39,8 @@ impl Rows {
     // The keys of `keys`, each with its places.
     pub(crate) fn build(alloc: Global, keys: &[Key]) -> Result<Rows, AllocError>
         ensures groups { IfOk result (λ rows. rows ≡ grouped key_is keys.now) }
-        ensures finds { IfOk result (λ rows. (q : KeyValue) → find_in key_is rows q ≡ places (key_is q) keys.now) }
+        ensures finds { IfOk result (λ rows. (q : KeyValue)
+            → find_in key_is rows q ≡ places (key_is q) keys.now) }
     {
         let (firsts, numbers) = numbered(alloc, keys)?;
         let (bounds, places) = spread(alloc, numbers.as_slice(), firsts.len())?;

@@ -28,7 +28,8 @@ pub fn given<R: RowRef>(
     items: List<Value<R>>,
     end: End,
 ) -> Result<Value<R>, RunError>
-    ensures { (world : World R) → world.unknown ≡ fault.NullReference → IsAnswer (given_meaning world method argument (items, end)) result }
+    ensures { (world : World R) → world.unknown ≡ fault.NullReference
+        → IsAnswer (given_meaning world method argument (items, end)) result }
 {
     answered(alloc, method, argument, (items, end))
 }

@@ -30,7 +30,8 @@ fn grouped_by<R: RowRef>(
     keys: &[Value<R>],
     elements: &[Value<R>],
 ) -> Result<List<Value<R>>, AllocError>
-    ensures { IfOk result (λ made. made ≡ map (group_at keys.now elements.now) (first_keys same_values keys.now)) }
+    ensures { IfOk result (λ made. made
+        ≡ map (group_at keys.now elements.now) (first_keys same_values keys.now)) }
 {
     let lookup = lookup_of(alloc, keys)?;
     let firsts = copied_firsts(alloc, keys, &lookup)?;

@@ -77,7 +77,8 @@ pub(crate) fn is_among_before<R: RowRef>(
     lookup: &Lookup,
 ) -> Result<bool, AllocError>
     requires { FindsKeys lookup.now (map key_value values.now) }
-    ensures { IfOk result (λ found. found ≡ list_any (λ other. same_values other value.now) (take bound values.now)) }
+    ensures { IfOk result (λ found. found
+        ≡ list_any (λ other. same_values other value.now) (take bound values.now)) }
 {
     let key = key_of(alloc, value)?;
     Ok(is_same_before(value, values, bound, lookup.find(&key)))
@@ -90,7 +91,8 @@ fn is_same_before<R: RowRef>(
     bound: usize,
     places: &[usize],
 ) -> bool
-    ensures { result ≡ list_any (passes_before (λ other. same_values other value.now) values.now bound) places.now }
+    ensures { result ≡ list_any (passes_before
+        (λ other. same_values other value.now) values.now bound) places.now }
 {
     for place in places {
         if *place < bound && is_other_same(value, values, *place) {

@@ -101,7 +101,8 @@ impl Tally {
     /// that item.
     #[tactic(auto, using(crate::proofs::NumberLaws::steps))]
     pub fn with<R: RowRef>(self, item: &Value<R>) -> Result<Tally, Fault>
-        ensures { (t : Ty) (s : Stream (Value R)) → tallied t self (in_front item.now s) ≡ goes_on t result s }
+        ensures { (t : Ty) (s : Stream (Value R))
+            → tallied t self (in_front item.now s) ≡ goes_on t result s }
     {
         match self {
             Tally::Count(count) => Ok(Tally::Count(sum_more(count, 1)?)),

@@ -17,7 +17,8 @@ pub(crate) fn split<K: Drop, V: Drop>(
     alloc: Global,
     pairs: List<(K, V)>,
 ) -> Result<(List<K>, List<V>), AllocError>
-    ensures { IfOk result (λ made. (made.0 ≡ map (λ p. p.0) pairs) × (made.1 ≡ map (λ p. p.1) pairs)) }
+    ensures { IfOk result (λ made. (made.0 ≡ map (λ p. p.0) pairs)
+        × (made.1 ≡ map (λ p. p.1) pairs)) }
 {
     let mut firsts = List::new(alloc);
     let mut seconds = List::new(alloc);
@@ -37,7 +38,8 @@ pub(crate) fn elements_of<R: RowRef>(
     lookup: &Lookup,
 ) -> Result<List<Value<R>>, AllocError>
     requires { FindsKeys lookup.now (map key_value keys.now) }
-    ensures { IfOk result (λ made. made ≡ elements_of same_values key.now (zip keys.now values.now)) }
+    ensures { IfOk result (λ made. made
+        ≡ elements_of same_values key.now (zip keys.now values.now)) }
 {
     let hashed = key_of(alloc, key)?;
     picked(alloc, key, keys, values, lookup.find(&hashed))
@@ -51,7 +53,8 @@ fn picked<R: RowRef>(
     values: &[Value<R>],
     places: &[usize],
 ) -> Result<List<Value<R>>, AllocError>
-    ensures { IfOk result (λ made. made ≡ picked (same_values key.now) keys.now values.now places.now) }
+    ensures { IfOk result (λ made. made
+        ≡ picked (same_values key.now) keys.now values.now places.now) }
 {
     let mut made = List::new(alloc);
     for place in places {

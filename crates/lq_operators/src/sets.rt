@@ -94,7 +94,8 @@ fn chosen<R: RowRef>(
     others: &[Value<R>],
     wanted: bool,
 ) -> Result<List<Value<R>>, AllocError>
-    ensures { IfOk result (λ made. made ≡ filter (λ item. kept_by wanted (is_among same_values item others.now)) items) }
+    ensures { IfOk result (λ made. made
+        ≡ filter (λ item. kept_by wanted (is_among same_values item others.now)) items) }
 {
     let lookup = lookup_of(alloc, others)?;
     chosen_by(alloc, items, others, &lookup, wanted)
@@ -108,7 +109,8 @@ fn chosen_by<R: RowRef>(
     wanted: bool,
 ) -> Result<List<Value<R>>, AllocError>
     requires { FindsKeys lookup.now (map key_value others.now) }
-    ensures { IfOk result (λ made. made ≡ filter (λ item. kept_by wanted (is_among same_values item others.now)) items) }
+    ensures { IfOk result (λ made. made
+        ≡ filter (λ item. kept_by wanted (is_among same_values item others.now)) items) }
 {
     let mut kept = List::new(alloc);
     for item in items.into_vec() {

@@ -108,7 +108,8 @@ pub(crate) fn matches_of_words<'a>(
     alloc: Global,
     words: &'a [String],
 ) -> Result<ArgMatches<'a>, Error>
-    ensures rows { IfOk result (λ matches. rows_of (found_of matches) ≡ lq_rows (map string_bytes words.entry.now)) }
+    ensures rows { IfOk result (λ matches. rows_of (found_of matches)
+        ≡ lq_rows (map string_bytes words.entry.now)) }
     ensures refused { FailsBy (fault_of lq_app (map string_bytes words.entry.now)) result }
 {
     command(alloc)?.try_get_matches_from(words)

@@ -54,7 +54,8 @@ fn desk_command<'a>(alloc: Global) -> Result<Command<'a>, AllocError>
 
 /// What `clap` finds among the words of the command line.
 pub(crate) fn desk_matches<'a>(alloc: Global, words: &'a [String]) -> Result<ArgMatches<'a>, Error>
-    ensures rows { IfOk result (λ matches. rows_of (found_of matches) ≡ desk_rows (map string_bytes words.entry.now)) }
+    ensures rows { IfOk result (λ matches. rows_of (found_of matches)
+        ≡ desk_rows (map string_bytes words.entry.now)) }
     ensures refused { FailsBy (fault_of desk_app (map string_bytes words.entry.now)) result }
 {
     desk_command(alloc)?.try_get_matches_from(words)

@@ -30,13 +30,17 @@ use values::{given_text, given_texts, text_of};
 /// A refusal is `clap`'s: a mistake in the words, a wish for help, or want of memory. Its `print` writes help to
 /// standard output and anything else to standard error, and its `exit_code` is 0 after help and 2 else.
 pub fn options(alloc: Global, words: &[String]) -> Result<Options, Error>
-    ensures role { IfOk result (λ options. first_of (codes "role") (lq_rows (map string_bytes words.entry.now))
+    ensures role { IfOk result (λ options.
+        first_of (codes "role") (lq_rows (map string_bytes words.entry.now))
         ≡ Some (string_bytes options.role)) }
-    ensures policy { IfOk result (λ options. first_of (codes "policy") (lq_rows (map string_bytes words.entry.now))
+    ensures policy { IfOk result (λ options.
+        first_of (codes "policy") (lq_rows (map string_bytes words.entry.now))
         ≡ Some (string_bytes options.policy)) }
-    ensures script { IfOk result (λ options. first_of (codes "script") (lq_rows (map string_bytes words.entry.now))
+    ensures script { IfOk result (λ options.
+        first_of (codes "script") (lq_rows (map string_bytes words.entry.now))
         ≡ option_map string_bytes options.script) }
-    ensures tables { IfOk result (λ options. all_of (codes "tables") (lq_rows (map string_bytes words.entry.now))
+    ensures tables { IfOk result (λ options.
+        all_of (codes "tables") (lq_rows (map string_bytes words.entry.now))
         ≡ Some (map string_bytes options.tables.items)) }
     ensures some_table { IfOk result (λ options. options.tables.items ≢ []) }
     ensures refused { FailsBy (fault_of lq_app (map string_bytes words.entry.now)) result }

@@ -8,7 +8,8 @@ use std::alloc::{AllocError, Global};
 
 // The first value of an argument.
 fn first_text<'a>(matches: &ArgMatches<'a>, id: &str) -> Option<&'a str>
-    ensures { option_map (λ text. text.now) result ≡ first_of id.now (rows_of (found_of matches.now)) }
+    ensures { option_map (λ text. text.now) result
+        ≡ first_of id.now (rows_of (found_of matches.now)) }
 {
     matches.get_str(id)
 }
@@ -23,7 +24,8 @@ fn all_texts<'m, 'a>(matches: &'m ArgMatches<'a>, id: &str) -> Option<&'m [&'a s
 
 // A copy of each text.
 fn copies(alloc: Global, texts: &[&str]) -> Result<Vec<String>, AllocError>
-    ensures { IfOk result (λ copies. map string_bytes copies.items ≡ map (λ text. text.now) texts.now) }
+    ensures { IfOk result (λ copies. map string_bytes copies.items
+        ≡ map (λ text. text.now) texts.now) }
 {
     let mut copies = Vec::new(alloc);
     for text in texts {

@@ -13,12 +13,12 @@ use crate::tables::{TableRow, column_name};
 use lq_condition::Condition;
 use lq_language::Op;
 use lq_tree::Form;
-use lq_value::Scalar;
+use lq_value::{ColumnNumber, Scalar, TableNumber};
 use std::alloc::AllocError;
 
 /// The number of the table below conditions and what makes a sequence. Any answer is right: a plan
 /// asks each row for its table.
-fn table_below(form: &Form) -> Option<u16> {
+fn table_below(form: &Form) -> Option<TableNumber> {
     match form {
         Form::Table(number) => Some(*number),
         Form::Sequence(source) => table_below(source.get()),
@@ -49,7 +49,7 @@ impl<'a, R: TableRow> Running<'a, R> {
 
     /// The place of the cell that a form is of a row in the next slot, where it is one.
     #[tactic(auto, using(crate::proofs::PreparedLemmas::own_cell_at))]
-    fn cell_place(&self, of: &Form, table: u16, slots: &Slots<'_, R>) -> Option<usize>
+    fn cell_place(&self, of: &Form, table: TableNumber, slots: &Slots<'_, R>) -> Option<usize>
         ensures { IfSome result (λ place.
             IsCell self.now slots.now table of.now place) }
     {
@@ -74,8 +74,8 @@ impl<'a, R: TableRow> Running<'a, R> {
     fn outer_cell<'s>(
         &'s self,
         row: &Form,
-        table: u16,
-        column: u16,
+        table: TableNumber,
+        column: ColumnNumber,
         slots: &'s Slots<'_, R>,
     ) -> Option<&'s Scalar>
         ensures { IfSome result (λ s.
@@ -113,7 +113,7 @@ impl<'a, R: TableRow> Running<'a, R> {
         op: Op,
         left: &Form,
         right: &Form,
-        table: u16,
+        table: TableNumber,
         slots: &Slots<'_, R>,
     ) -> Result<Condition, AllocError>
         ensures { IfOk result (λ c.
@@ -141,7 +141,7 @@ impl<'a, R: TableRow> Running<'a, R> {
     pub(crate) fn condition(
         &self,
         form: &Form,
-        table: u16,
+        table: TableNumber,
         slots: &Slots<'_, R>,
     ) -> Result<Condition, AllocError>
         ensures { IfOk result (λ c.
@@ -165,7 +165,7 @@ impl<'a, R: TableRow> Running<'a, R> {
         &self,
         left: &Form,
         right: &Form,
-        table: u16,
+        table: TableNumber,
         slots: &Slots<'_, R>,
     ) -> Result<Condition, AllocError>
         ensures { IfOk result (λ c.
@@ -183,7 +183,7 @@ impl<'a, R: TableRow> Running<'a, R> {
         &self,
         left: &Form,
         right: &Form,
-        table: u16,
+        table: TableNumber,
         slots: &Slots<'_, R>,
     ) -> Result<Condition, AllocError>
         ensures { IfOk result (λ c.
@@ -198,7 +198,7 @@ impl<'a, R: TableRow> Running<'a, R> {
     fn passing_condition(
         &self,
         source: &Form,
-        table: u16,
+        table: TableNumber,
         slots: &Slots<'_, R>,
     ) -> Result<Condition, AllocError>
         ensures { IfOk result (λ c.
@@ -222,7 +222,7 @@ impl<'a, R: TableRow> Running<'a, R> {
         &self,
         stage: &Stage<'_>,
         source: &Form,
-        table: u16,
+        table: TableNumber,
         slots: &Slots<'_, R>,
     ) -> Result<Condition, AllocError>
         ensures { IfOk result (λ c. DecidesStage self.now slots.now stage.now source.now table c) }
@@ -240,7 +240,12 @@ impl<'a, R: TableRow> Running<'a, R> {
 
     /// The place of the cell that a stage gives of a row in the next slot, where it is a lambda that
     /// gives one.
-    fn stage_cell(&self, stage: &Stage<'_>, table: u16, slots: &Slots<'_, R>) -> Option<usize>
+    fn stage_cell(
+        &self,
+        stage: &Stage<'_>,
+        table: TableNumber,
+        slots: &Slots<'_, R>,
+    ) -> Option<usize>
         ensures { IfSome result (λ place. SelectsCell self.now slots.now stage.now table place) }
     {
         match stage {

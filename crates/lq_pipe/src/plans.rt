@@ -1,14 +1,14 @@
 //! Plans: what is found out once about the rows of a table, for the conditions and the lambda above it.
 use crate::tables::TableRow;
 use lq_condition::Condition;
-use lq_value::Scalar;
+use lq_value::{Scalar, TableNumber};
 
 /// What is found out once about the rows of a table. Where a plan says nothing of a row, the row
 /// goes the general way.
 #[derive(Drop)]
 pub(crate) struct Plan {
     /// The number of the table.
-    pub(crate) table: u16,
+    pub(crate) table: TableNumber,
     /// Whether a row passes the conditions above the table.
     pub(crate) condition: Condition,
     /// The place of the cell that the last lambda gives of a row, where it gives a cell.

@@ -6,7 +6,7 @@ use crate::slots::Slots;
 use crate::stages::{Outcome, Stage, Step, stage_of};
 use crate::tables::TableRow;
 use lq_tree::Form;
-use lq_value::{End, Fault, List, Value, copy_scalar};
+use lq_value::{End, Fault, List, TableNumber, Value, copy_scalar};
 use std::alloc::AllocError;
 
 impl<'a, R: TableRow> Running<'a, R> {
@@ -24,7 +24,7 @@ impl<'a, R: TableRow> Running<'a, R> {
 
     /// The rows of a table; none of a table that isn't there.
     #[tactic(auto, using(crate::proofs::PartLemmas::places))]
-    fn rows_at(&self, number: u16) -> &'a [R]
+    fn rows_at(&self, number: TableNumber) -> &'a [R]
         ensures { result.now ≡ rows_or_none (slice_get (rows_in self.now.tables.now) number) }
     {
         match self.tables.get(number as usize) {
@@ -35,7 +35,7 @@ impl<'a, R: TableRow> Running<'a, R> {
 
     /// How the rows of a table end: with a fault where it isn't there.
     #[tactic(auto, using(crate::proofs::PartLemmas::places))]
-    fn end_at(&self, number: u16) -> End
+    fn end_at(&self, number: TableNumber) -> End
         ensures { result ≡ end_of (slice_get (rows_in self.now.tables.now) number) }
     {
         match self.tables.get(number as usize) {
@@ -46,7 +46,7 @@ impl<'a, R: TableRow> Running<'a, R> {
 
     /// The rows of a table, where they stand; or the fault of a table that isn't there.
     #[tactic(auto, using(crate::proofs::PullLemmas::rows_found))]
-    fn rows_of(&self, number: u16) -> Base<'a, R>
+    fn rows_of(&self, number: TableNumber) -> Base<'a, R>
         ensures { base_stream result ≡ stream_of (world self.now)
             (table_value (world self.now) (slice_get (world self.now).rows number)) }
     {

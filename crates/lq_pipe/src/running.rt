@@ -11,7 +11,9 @@ use crate::value_refs::ValueRef;
 use crate::{parts, scalars, sequences};
 use lq_operators::RunError;
 use lq_tree::Form;
-use lq_value::{End, Fault, List, RowRef, Scalar, Value, copy, copy_scalar};
+use lq_value::{
+    ColumnNumber, End, Fault, List, RowRef, Scalar, TableNumber, Value, copy, copy_scalar,
+};
 use std::alloc::{AllocError, Global};
 
 /// What a form means, where it is a part of what stands in a slot.
@@ -80,7 +82,7 @@ impl<'a, R: TableRow> Running<'a, R> {
     /// The rows of a table.
     #[inline(never)]
     #[tactic(auto, using(crate::proofs::PartLemmas::places))]
-    fn table(&self, number: u16) -> Result<Value<R>, RunError>
+    fn table(&self, number: TableNumber) -> Result<Value<R>, RunError>
         ensures { IsAnswer
             (table_value (world self.now) (slice_get (world self.now).rows number)) result }
     {
@@ -96,7 +98,12 @@ impl<'a, R: TableRow> Running<'a, R> {
 
     /// The cell of a row, by the number of its column.
     #[tactic(auto, using(crate::proofs::PartLemmas::layers))]
-    fn cell_in(&self, row: &Value<R>, table: u16, column: u16) -> Result<Value<R>, RunError>
+    fn cell_in(
+        &self,
+        row: &Value<R>,
+        table: TableNumber,
+        column: ColumnNumber,
+    ) -> Result<Value<R>, RunError>
         ensures { IsAnswer (cell_in (world self.now) table column (out-Value R row.now)) result }
     {
         match row {
@@ -114,8 +121,8 @@ impl<'a, R: TableRow> Running<'a, R> {
     pub(crate) fn cell_ref<'s>(
         &'s self,
         row: &'s Value<R>,
-        table: u16,
-        column: u16,
+        table: TableNumber,
+        column: ColumnNumber,
     ) -> Option<&'s Scalar>
         ensures { IfSome result (λ scalar. cell_in (world self.now) table column
             (out-Value R row.now)
@@ -292,8 +299,8 @@ impl<'a, R: TableRow> Running<'a, R> {
     fn column(
         &self,
         row: &Form,
-        table: u16,
-        column: u16,
+        table: TableNumber,
+        column: ColumnNumber,
         slots: &Slots<'_, R>,
     ) -> Result<Value<R>, RunError>
         ensures { IsAnswer

@@ -7,7 +7,7 @@ ghost use Rattle.lq_tree.specs.FormMeaning.{name_of_column};
 ghost use Rattle.lq_pipe.specs.Worlds.{HaveDistinctColumns, schemas_in, world_of};
 
 use lq_scalar::cell_named;
-use lq_value::{Column, RowRef, Scalar, Schema};
+use lq_value::{Column, ColumnNumber, RowRef, Scalar, Schema, TableNumber};
 
 /// A row that knows its table.
 pub trait TableRow: RowRef {
@@ -17,7 +17,7 @@ pub trait TableRow: RowRef {
 
     /// The number of the row's table.
     #[inline(never)]
-    fn table(&self) -> u16
+    fn table(&self) -> TableNumber
         ensures { result ≡ table_of self.now };
 }
 
@@ -31,7 +31,7 @@ pub struct TableRows<'a, R> {
 }
 
 /// The columns of the table with this number, or none.
-fn columns<'a, R: TableRow>(tables: &[TableRows<'a, R>], table: u16) -> &'a [Column]
+fn columns<'a, R: TableRow>(tables: &[TableRows<'a, R>], table: TableNumber) -> &'a [Column]
     ensures { map (λ column. column.name) result.now ≡ columns_in
         (slice_get (schemas_in tables.now) table) }
 {
@@ -44,8 +44,8 @@ fn columns<'a, R: TableRow>(tables: &[TableRows<'a, R>], table: u16) -> &'a [Col
 /// The name of a column, by its number.
 pub(crate) fn column_name<'a, R: TableRow>(
     tables: &[TableRows<'a, R>],
-    table: u16,
-    column: u16,
+    table: TableNumber,
+    column: ColumnNumber,
 ) -> Option<&'a str>
     ensures { option_map (λ name. name.now) result ≡ name_of_column
         (schemas_in tables.now) table column }
@@ -56,7 +56,7 @@ pub(crate) fn column_name<'a, R: TableRow>(
 }
 
 /// The cell at a place.
-fn cell_at(cells: &[Scalar], place: u16) -> Option<&Scalar>
+fn cell_at(cells: &[Scalar], place: ColumnNumber) -> Option<&Scalar>
     ensures { option_copied result ≡ slice_get cells.now place }
 {
     cells.get(place as usize)
@@ -67,8 +67,8 @@ fn cell_at(cells: &[Scalar], place: u16) -> Option<&Scalar>
 pub(crate) fn cell<'r, R: TableRow>(
     tables: &[TableRows<'_, R>],
     row: &'r R,
-    table: u16,
-    column: u16,
+    table: TableNumber,
+    column: ColumnNumber,
 ) -> Option<&'r Scalar>
     requires { HaveDistinctColumns (schemas_in tables.now) }
     ensures { option_copied result

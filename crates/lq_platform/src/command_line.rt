@@ -54,7 +54,8 @@ pub fn report_words(rt: &HostRuntime, error: &io::Error) -> u8
 pub fn report_options(rt: &HostRuntime, error: &clap::Error) -> u8
     ensures memory { kind_of error.now ≡ usage.OutOfMemory → result ≡ 5 }
     ensures help { kind_of error.now ≡ usage.DisplayHelp → result ≡ 0 }
-    ensures usage { kind_of error.now ≢ usage.OutOfMemory → kind_of error.now ≢ usage.DisplayHelp → result ≡ 2 }
+    ensures usage { kind_of error.now ≢ usage.OutOfMemory → kind_of error.now ≢ usage.DisplayHelp
+        → result ≡ 2 }
 {
     let kind = error.kind();
     if kind == ErrorKind::OutOfMemory {

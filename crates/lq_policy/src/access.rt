@@ -1,5 +1,6 @@
 //! Who does what with the rows of which table.
 use lq_security::Action;
+use lq_value::TableNumber;
 
 /// A role, by its number among the roles of its policies.
 #[derive(Clone, Copy, Debug, Drop, Eq, PartialEq)]
@@ -12,7 +13,7 @@ pub struct RoleId {
 pub(crate) struct Access {
     pub(crate) role: RoleId,
     pub(crate) action: Action,
-    pub(crate) table: u16,
+    pub(crate) table: TableNumber,
 }
 
 impl Access {

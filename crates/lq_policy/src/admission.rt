@@ -20,8 +20,10 @@ impl<'a> Admission<'a> {
 
     /// No rules. Takes no memory.
     pub(crate) fn new(alloc: Global) -> Admission<'a>
-        ensures permitted { (cells : List Scalar) (user : List ℕ) → permitted_by cells user result ≡ false }
-        ensures allowed { (cells : List Scalar) (user : List ℕ) → allowed_by cells user result ≡ true }
+        ensures permitted { (cells : List Scalar) (user : List ℕ)
+            → permitted_by cells user result ≡ false }
+        ensures allowed { (cells : List Scalar) (user : List ℕ)
+            → allowed_by cells user result ≡ true }
     {
         Admission {
             permissive: Vec::new(alloc),
@@ -35,10 +37,14 @@ impl<'a> Admission<'a> {
         restrictive: bool,
         rule: Option<&'a PreparedRule>,
     ) -> Result<(), AllocError>
-        ensures permitted { IfOk result (λ _. (cells : List Scalar) (user : List ℕ) → permitted_by cells user self.new
-            ≡ permitted_by cells user self.old || (not restrictive && decides_on cells user (option_copied rule.entry))) }
-        ensures allowed { IfOk result (λ _. (cells : List Scalar) (user : List ℕ) → allowed_by cells user self.new
-            ≡ allowed_by cells user self.old && (not restrictive || decides_on cells user (option_copied rule.entry))) }
+        ensures permitted { IfOk result (λ _. (cells : List Scalar) (user : List ℕ)
+            → permitted_by cells user self.new
+            ≡ permitted_by cells user self.old || (not restrictive
+            && decides_on cells user (option_copied rule.entry))) }
+        ensures allowed { IfOk result (λ _. (cells : List Scalar) (user : List ℕ)
+            → allowed_by cells user self.new
+            ≡ allowed_by cells user self.old && (not restrictive
+            || decides_on cells user (option_copied rule.entry))) }
     {
         if restrictive {
             self.restrictive.push(rule)?;

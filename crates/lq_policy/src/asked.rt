@@ -17,7 +17,8 @@ impl Asked<'_> {
 
     /// Whether there is a rule, and it is true on the row.
     pub(crate) fn satisfies(self, rule: Option<&PreparedRule>) -> bool
-        ensures { result ≡ decides_on self.entry.cells.now self.entry.user.now (option_copied rule.entry) }
+        ensures { result ≡ decides_on self.entry.cells.now self.entry.user.now
+            (option_copied rule.entry) }
     {
         match rule {
             Some(rule) => rule.holds(self.cells, self.user),
@@ -27,7 +28,8 @@ impl Asked<'_> {
 
     /// Whether one of the rules is true on the row.
     pub(crate) fn satisfies_any(self, rules: &[Option<&PreparedRule>]) -> bool
-        ensures { result ≡ list_any (decides_on self.entry.cells.now self.entry.user.now) (rules_of rules.now) }
+        ensures { result ≡ list_any (decides_on self.entry.cells.now self.entry.user.now)
+            (rules_of rules.now) }
     {
         let mut left = rules;
         while let [rule, others @ ..] = left {
@@ -41,7 +43,8 @@ impl Asked<'_> {
 
     /// Whether each of the rules is true on the row.
     pub(crate) fn satisfies_all(self, rules: &[Option<&PreparedRule>]) -> bool
-        ensures { result ≡ list_all (decides_on self.entry.cells.now self.entry.user.now) (rules_of rules.now) }
+        ensures { result ≡ list_all (decides_on self.entry.cells.now self.entry.user.now)
+            (rules_of rules.now) }
     {
         let mut left = rules;
         while let [rule, others @ ..] = left {

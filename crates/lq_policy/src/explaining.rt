@@ -3,7 +3,7 @@ use crate::access::{Access, RoleId};
 use crate::asked::Asked;
 use crate::policies::{Policies, is_same_action};
 use lq_security::{Action, Policy};
-use lq_value::{List, Scalar, Txt};
+use lq_value::{List, Scalar, TableNumber, Txt};
 use std::alloc::{AllocError, Global};
 
 /// What is reported of a policy that has a say in an action on a row.
@@ -54,7 +54,8 @@ impl Policies {
     /// Whether the policy applies to the access, or to the reading that a deletion needs.
     fn has_a_say(&self, access: Access, policy: &Policy) -> bool
         ensures { result
-            ≡ has_a_say self.now.roles (number_of access.role) access.action access.table policy.now }
+            ≡ has_a_say self.now.roles (number_of access.role) access.action access.table
+            policy.now }
     {
         match access.action {
             Action::Delete => {
@@ -212,7 +213,7 @@ impl Policies {
         alloc: Global,
         role: RoleId,
         action: Action,
-        table: u16,
+        table: TableNumber,
         cells: &[Scalar],
     ) -> Result<Explanation, AllocError>
         ensures { IfOk result (λ found. found

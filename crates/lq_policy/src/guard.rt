@@ -8,7 +8,7 @@ ghost use Rattle.lq_policy.specs.Rules.{rule_is_total, rules_are_total};
 use lq_grammar::Expr;
 use lq_rule::PreparedRule;
 use lq_security::{Action, Policy, TablePart};
-use lq_value::Txt;
+use lq_value::{TableNumber, Txt};
 use std::alloc::{AllocError, Global};
 
 /// The prepared rules of a policy.
@@ -63,7 +63,7 @@ fn prepared(
 }
 
 /// The names of the columns of a table; none, where it isn't there.
-fn columns_at(tables: &[TablePart], table: u16) -> &[Txt]
+fn columns_at(tables: &[TablePart], table: TableNumber) -> &[Txt]
     ensures { result.now ≡ columns_at tables.now table }
 {
     match tables.get(table as usize) {

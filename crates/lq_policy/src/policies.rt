@@ -18,7 +18,7 @@ use lq_grammar::Expr;
 use lq_rule::PreparedRule;
 use lq_scalar::is_total;
 use lq_security::{Action, Policy, PolicyParts};
-use lq_value::{Scalar, Txt};
+use lq_value::{Scalar, TableNumber, Txt};
 use std::alloc::{AllocError, Global};
 use std::marker::Model;
 
@@ -99,8 +99,10 @@ pub(crate) fn is_same_action(a: Action, b: Action) -> bool
 /// What is worked out once: the roles that each role goes by, and the rules of each policy.
 fn prepared(alloc: Global, parts: &PolicyParts) -> Result<(Vec<RoleSet>, Vec<Guard>), AllocError>
     requires { rules_are_total parts.now.policies ≡ true }
-    ensures groups { IfOk result (λ made. TellMemberships (memberships_after [] parts.now.roles) made.0.items) }
-    ensures guards { IfOk result (λ made. AllZip (IsGuarded parts.now.tables) parts.now.policies made.1.items) }
+    ensures groups { IfOk result (λ made.
+        TellMemberships (memberships_after [] parts.now.roles) made.0.items) }
+    ensures guards { IfOk result (λ made.
+        AllZip (IsGuarded parts.now.tables) parts.now.policies made.1.items) }
 {
     let groups = memberships(alloc, parts.roles.as_slice())?;
     let guards = guards(alloc, parts.tables.as_slice(), parts.policies.as_slice())?;
@@ -186,7 +188,8 @@ impl Policies {
 
     /// The prepared rule for an action of the policy of this number, if it has one.
     pub(crate) fn rule_of(&self, number: usize, action: Action) -> Option<&PreparedRule>
-        ensures { IsRuleOf self.now.tables action (slice_get self.now.policies number) (option_copied result) }
+        ensures { IsRuleOf self.now.tables action (slice_get self.now.policies number)
+            (option_copied result) }
     {
         rule_at(self.guards.as_slice(), number, action)
     }
@@ -195,7 +198,8 @@ impl Policies {
     fn satisfies(&self, access: Access, number: usize, policy: &Policy, asked: Asked<'_>) -> bool
         requires numbered { slice_get self.now.policies number ≡ Some policy.now }
         requires applies { bears_on self.now.roles access policy.now ≡ true }
-        ensures { result ≡ holds_on (asked_of self.now access asked.entry) (rule_for access.action policy.now) }
+        ensures { result ≡ holds_on (asked_of self.now access asked.entry)
+            (rule_for access.action policy.now) }
     {
         asked.satisfies(self.rule_of(number, access.action))
     }
@@ -284,7 +288,8 @@ impl Policies {
 
     /// Whether the row of a table with row security is visible to the role.
     fn is_admitted(&self, access: Access, cells: &[Scalar]) -> bool
-        ensures { result ≡ admitted_to self.now (number_of access.role) access.action access.table (columns_at self.now.tables access.table)
+        ensures { result ≡ admitted_to self.now (number_of access.role) access.action access.table
+            (columns_at self.now.tables access.table)
             cells.now (slice_get self.now.roles (number_of access.role)) }
     {
         let Some(asking) = self.parts.roles.as_slice().get(access.role.number) else {
@@ -302,7 +307,13 @@ impl Policies {
     /// Where the table's row security is on, a role that these policies don't have may do nothing
     /// with it. With a table that they don't know nobody may do anything. Takes no memory.
     #[tactic(auto, unfolding(lq_security::specs::Visible::visible_to))]
-    pub fn visible(&self, role: RoleId, action: Action, table: u16, cells: &[Scalar]) -> bool
+    pub fn visible(
+        &self,
+        role: RoleId,
+        action: Action,
+        table: TableNumber,
+        cells: &[Scalar],
+    ) -> bool
         ensures { result ≡ visible_to self.now (number_of role) action table cells.now }
     {
         let access = Access {
@@ -339,7 +350,8 @@ impl Policies {
     /// The name of what refuses the row among the policies that apply.
     fn refuser_among(&self, access: Access, asked: Asked<'_>) -> Option<&str>
         requires { access.action ≡ Action.Insert }
-        ensures { option_copied result ≡ refuser_among (applying self.now (number_of access.role) access.action access.table)
+        ensures { option_copied result ≡ refuser_among
+            (applying self.now (number_of access.role) access.action access.table)
             (asked_of self.now access asked.entry) }
     {
         let policies = self.parts.policies.as_slice();
@@ -353,7 +365,8 @@ impl Policies {
     /// The name of what refuses the row of a table with row security to the role.
     fn refuser_for(&self, access: Access, cells: &[Scalar]) -> Option<&str>
         requires { access.action ≡ Action.Insert }
-        ensures { option_copied result ≡ refuser_for self.now (number_of access.role) access.table (columns_at self.now.tables access.table)
+        ensures { option_copied result ≡ refuser_for self.now (number_of access.role) access.table
+            (columns_at self.now.tables access.table)
             cells.now (slice_get self.now.roles (number_of access.role)) }
     {
         let Some(asking) = self.parts.roles.as_slice().get(access.role.number) else {
@@ -371,7 +384,7 @@ impl Policies {
 
     /// The name of what refuses a new row of the table.
     #[tactic(auto, unfolding(lq_security::specs::Visible::refuser_of))]
-    fn refuser(&self, role: RoleId, table: u16, cells: &[Scalar]) -> Option<&str>
+    fn refuser(&self, role: RoleId, table: TableNumber, cells: &[Scalar]) -> Option<&str>
         ensures { option_copied result ≡ refuser_of self.now (number_of role) table cells.now }
     {
         let access = Access {
@@ -394,7 +407,7 @@ impl Policies {
     /// A row is refused under a name: `default-deny` where no permissive policy that applies is
     /// true on it, or where these policies don't have the role or the table; else that of the
     /// first restrictive policy that applies and isn't.
-    pub fn check(&self, role: RoleId, table: u16, cells: &[Scalar]) -> Result<(), &str>
+    pub fn check(&self, role: RoleId, table: TableNumber, cells: &[Scalar]) -> Result<(), &str>
         ensures { refused_under result ≡ refuser_of self.now (number_of role) table cells.now }
     {
         match self.refuser(role, table, cells) {
@@ -412,12 +425,18 @@ impl Policies {
         policy: &Policy,
     ) -> Result<(), AllocError>
         requires { slice_get self.now.policies number ≡ Some policy.now }
-        ensures permitted { IfOk result (λ _. (cells : List Scalar) (user : List ℕ) → permitted_by cells user rules.new
+        ensures permitted { IfOk result (λ _. (cells : List Scalar) (user : List ℕ)
+            → permitted_by cells user rules.new
             ≡ permitted_by cells user rules.old
-            || (bears_on self.now.roles access policy.now && permits access.action (asked_at self.now.tables access.table cells user) policy.now)) }
-        ensures allowed { IfOk result (λ _. (cells : List Scalar) (user : List ℕ) → allowed_by cells user rules.new
+            || (bears_on self.now.roles access policy.now
+            && permits access.action (asked_at self.now.tables access.table cells user)
+            policy.now)) }
+        ensures allowed { IfOk result (λ _. (cells : List Scalar) (user : List ℕ)
+            → allowed_by cells user rules.new
             ≡ allowed_by cells user rules.old
-            && (not (bears_on self.now.roles access policy.now) || allows access.action (asked_at self.now.tables access.table cells user) policy.now)) }
+            && (not (bears_on self.now.roles access policy.now)
+            || allows access.action (asked_at self.now.tables access.table cells user)
+            policy.now)) }
     {
         if self.applies(access, policy) {
             rules.push(policy.restrictive, self.rule_of(number, access.action))?;
@@ -433,8 +452,10 @@ impl Policies {
         policies: &[Policy],
     ) -> Result<Admission<'_>, AllocError>
         requires { policies.now ≡ self.now.policies }
-        ensures { IfOk result (λ rules. (cells : List Scalar) (user : List ℕ) → admits_by cells user rules
-            ≡ admit access.action (filter (bears_on self.now.roles access) policies.now) (asked_at self.now.tables access.table cells user)) }
+        ensures { IfOk result (λ rules. (cells : List Scalar) (user : List ℕ)
+            → admits_by cells user rules
+            ≡ admit access.action (filter (bears_on self.now.roles access) policies.now)
+            (asked_at self.now.tables access.table cells user)) }
     {
         let mut rules = Admission::new(alloc);
         for (number, policy) in policies.iter().enumerate() {
@@ -445,16 +466,20 @@ impl Policies {
 
     /// The rules of the policies that apply.
     fn admission(&self, alloc: Global, access: Access) -> Result<Admission<'_>, AllocError>
-        ensures { IfOk result (λ rules. (cells : List Scalar) (user : List ℕ) → admits_by cells user rules
-            ≡ admitted_by self.now (number_of access.role) access.table (asked_at self.now.tables access.table cells user) access.action) }
+        ensures { IfOk result (λ rules. (cells : List Scalar) (user : List ℕ)
+            → admits_by cells user rules
+            ≡ admitted_by self.now (number_of access.role) access.table
+            (asked_at self.now.tables access.table cells user) access.action) }
     {
         self.rules_among(alloc, access, self.parts.policies.as_slice())
     }
 
     /// The rules that have to admit a row, for a role that doesn't bypass them.
     fn admissions(&self, alloc: Global, access: Access) -> Result<Vec<Admission<'_>>, AllocError>
-        ensures { IfOk result (λ admissions. (cells : List Scalar) (user : List ℕ) → list_all (admits_by cells user) admissions.items
-            ≡ admitted_for self.now (number_of access.role) access.action access.table (asked_at self.now.tables access.table cells user)) }
+        ensures { IfOk result (λ admissions. (cells : List Scalar) (user : List ℕ)
+            → list_all (admits_by cells user) admissions.items
+            ≡ admitted_for self.now (number_of access.role) access.action access.table
+            (asked_at self.now.tables access.table cells user)) }
     {
         let mut admissions = Vec::new(alloc);
         if is_same_action(access.action, Action::Delete) {
@@ -467,7 +492,8 @@ impl Policies {
     /// What bears on the role's action on a table with row security.
     fn verdict(&self, alloc: Global, access: Access) -> Result<Verdict<'_>, AllocError>
         ensures { IfOk result (λ verdict. (cells : List Scalar) → admits_under verdict cells
-            ≡ admitted_to self.now (number_of access.role) access.action access.table (columns_at self.now.tables access.table) cells
+            ≡ admitted_to self.now (number_of access.role) access.action access.table
+            (columns_at self.now.tables access.table) cells
             (slice_get self.now.roles (number_of access.role))) }
     {
         let Some(asking) = self.parts.roles.as_slice().get(access.role.number) else {
@@ -491,9 +517,10 @@ impl Policies {
         alloc: Global,
         role: RoleId,
         action: Action,
-        table: u16,
+        table: TableNumber,
     ) -> Result<RowRules<'_>, AllocError>
-        ensures { IfOk result (λ rules. (cells : List Scalar) → admits rules cells ≡ visible_to self.now (number_of role) action table cells) }
+        ensures { IfOk result (λ rules. (cells : List Scalar)
+            → admits rules cells ≡ visible_to self.now (number_of role) action table cells) }
     {
         let access = Access {
             role,

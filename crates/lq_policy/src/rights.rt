@@ -8,6 +8,7 @@ use crate::policies::Policies;
 use crate::role_rights::{RoleRights, add_open, add_rights};
 use crate::use_set::UseSet;
 use lq_language::{RightRule, Use};
+use lq_value::TableNumber;
 use std::alloc::{AllocError, Global};
 
 /// The name under which a use is denied that no withhold bears on.
@@ -21,7 +22,7 @@ fn is_same_use(a: Use, b: Use) -> bool
 }
 
 /// Whether a use is that of a column of this table.
-fn is_column_of(table: u16, used: Use) -> bool
+fn is_column_of(table: TableNumber, used: Use) -> bool
     ensures { result ≡ is_column_of table used }
 {
     match used {
@@ -39,7 +40,7 @@ fn covers(used: Use, rule: &RightRule) -> bool
 }
 
 /// Whether a rule has a column of this table among its rights.
-fn has_column(table: u16, rule: &RightRule) -> bool
+fn has_column(table: TableNumber, rule: &RightRule) -> bool
     ensures { result ≡ list_any (is_column_of table) rule.now.rights }
 {
     let rights = rule.rights.as_slice();
@@ -62,7 +63,8 @@ impl Policies {
         role: RoleId,
         rules: &[RightRule],
     ) -> Result<UseSet, AllocError>
-        ensures { IfOk result (λ set. (used : Use) → is_among set used ≡ list_any (bears self.now.roles (number_of role) used) rules.now) }
+        ensures { IfOk result (λ set. (used : Use)
+            → is_among set used ≡ list_any (bears self.now.roles (number_of role) used) rules.now) }
     {
         let mut set = UseSet::new(alloc);
         for rule in rules {
@@ -81,7 +83,9 @@ impl Policies {
         grants: &[RightRule],
         withheld: &UseSet,
     ) -> Result<UseSet, AllocError>
-        ensures { IfOk result (λ set. (used : Use) → is_among set used ≡ list_any (grants_by self.now.roles (number_of role) withheld.now used) grants.now) }
+        ensures { IfOk result (λ set. (used : Use)
+            → is_among set used
+            ≡ list_any (grants_by self.now.roles (number_of role) withheld.now used) grants.now) }
     {
         let mut set = UseSet::new(alloc);
         for grant in grants {
@@ -143,15 +147,17 @@ impl Policies {
     }
 
     /// Whether a right is to a column of the table that isn't withheld.
-    fn is_open_column(&self, role: RoleId, table: u16, right: Use) -> bool
-        ensures { result ≡ is_column_of table right && not (is_withheld self.now (number_of role) right) }
+    fn is_open_column(&self, role: RoleId, table: TableNumber, right: Use) -> bool
+        ensures { result ≡ is_column_of table right
+            && not (is_withheld self.now (number_of role) right) }
     {
         is_column_of(table, right) && !self.is_withheld(role, right)
     }
 
     /// Whether one of these rights is.
-    fn has_open_column(&self, role: RoleId, table: u16, rights: &[Use]) -> bool
-        ensures { result ≡ list_any (λ right. is_column_of table right && not (is_withheld self.now (number_of role) right)) rights.now }
+    fn has_open_column(&self, role: RoleId, table: TableNumber, rights: &[Use]) -> bool
+        ensures { result ≡ list_any (λ right. is_column_of table right
+            && not (is_withheld self.now (number_of role) right)) rights.now }
     {
         rights
             .iter()
@@ -159,7 +165,7 @@ impl Policies {
     }
 
     /// Whether a grant applies and covers a column of the table that isn't withheld.
-    fn opens(&self, role: RoleId, table: u16, rule: &RightRule) -> bool
+    fn opens(&self, role: RoleId, table: TableNumber, rule: &RightRule) -> bool
         ensures { result ≡ opens self.now (number_of role) table rule.now }
     {
         self.is_listed(role, rule.to.as_slice())
@@ -167,7 +173,7 @@ impl Policies {
     }
 
     /// Whether the role has a right to a column of the table.
-    fn has_open_grant(&self, role: RoleId, table: u16, grants: &[RightRule]) -> bool
+    fn has_open_grant(&self, role: RoleId, table: TableNumber, grants: &[RightRule]) -> bool
         ensures { result ≡ list_any (opens self.now (number_of role) table) grants.now }
     {
         grants.iter().any(|rule| self.opens(role, table, rule))

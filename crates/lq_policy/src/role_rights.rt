@@ -32,7 +32,9 @@ impl RoleRights {
 
 /// Puts rights into a set.
 pub(crate) fn add_rights(set: &mut UseSet, rights: &[Use]) -> Result<(), AllocError>
-    ensures { IfOk result (λ _. (other : Use) → is_among set.new other ≡ list_any (is_same_use other) rights.now || is_among set.old other) }
+    ensures { IfOk result (λ _. (other : Use)
+        → is_among set.new other ≡ list_any (is_same_use other) rights.now
+        || is_among set.old other) }
 {
     for right in rights {
         set.add(*right)?;
@@ -42,7 +44,8 @@ pub(crate) fn add_rights(set: &mut UseSet, rights: &[Use]) -> Result<(), AllocEr
 
 /// Puts into a set what a right gives: itself, and a column's table.
 fn add_given(set: &mut UseSet, right: Use) -> Result<(), AllocError>
-    ensures { IfOk result (λ _. (other : Use) → is_among set.new other ≡ gives other right || is_among set.old other) }
+    ensures { IfOk result (λ _. (other : Use)
+        → is_among set.new other ≡ gives other right || is_among set.old other) }
 {
     match right {
         Use::Table(_) => Ok(()),
@@ -72,7 +75,8 @@ pub(crate) fn add_open(
     withheld: &UseSet,
 ) -> Result<(), AllocError>
     ensures { IfOk result (λ _. (other : Use) → is_among set.new other
-        ≡ list_any (λ right. gives other right && not (is_among withheld.now right)) rights.now || is_among set.old other) }
+        ≡ list_any (λ right. gives other right && not (is_among withheld.now right)) rights.now
+        || is_among set.old other) }
 {
     for right in rights {
         add_unwithheld(set, *right, withheld)?;

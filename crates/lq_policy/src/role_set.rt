@@ -56,7 +56,8 @@ impl RoleSet {
 
     /// Puts a role into the set.
     fn insert(&mut self, number: usize) -> Result<(), AllocError>
-        ensures { IfOk result (λ _. (n : ℕ) → is_marked self.new n ≡ (number == n) || is_marked self.old n) }
+        ensures { IfOk result (λ _. (n : ℕ)
+            → is_marked self.new n ≡ (number == n) || is_marked self.old n) }
     {
         self.lengthen(number / 64 + 1)?;
         self.words[number / 64] |= 1 << (number % 64);
@@ -65,7 +66,8 @@ impl RoleSet {
 
     /// Puts all roles of another set into this one.
     fn insert_all(&mut self, others: &RoleSet) -> Result<(), AllocError>
-        ensures { IfOk result (λ _. (n : ℕ) → is_marked self.new n ≡ is_marked others.now n || is_marked self.old n) }
+        ensures { IfOk result (λ _. (n : ℕ)
+            → is_marked self.new n ≡ is_marked others.now n || is_marked self.old n) }
     {
         self.lengthen(others.words.len())?;
         for (place, word) in others.words.iter().enumerate() {
@@ -76,7 +78,8 @@ impl RoleSet {
 
     /// Whether a role in the set has this name.
     fn has_named(&self, roles: &[Role], name: &str) -> bool
-        ensures { IsAnyNumber (λ n. is_marked self.now n && is_named name.now (slice_get roles.now n)) result }
+        ensures { IsAnyNumber (λ n. is_marked self.now n
+            && is_named name.now (slice_get roles.now n)) result }
     {
         for (number, role) in roles.iter().enumerate() {
             if self.contains(number) && is_named(Some(role), name) {
@@ -89,7 +92,9 @@ impl RoleSet {
     /// Puts the role of this number into the set, and all that it goes by, as the sets of the
     /// roles tell them. Nothing, where there is no such role.
     fn insert_group(&mut self, number: usize, sets: &[RoleSet]) -> Result<(), AllocError>
-        ensures { IfOk result (λ _. (n : ℕ) → is_marked self.new n ≡ goes_by_marks number (slice_get sets.now number) n || is_marked self.old n) }
+        ensures { IfOk result (λ _. (n : ℕ)
+            → is_marked self.new n ≡ goes_by_marks number (slice_get sets.now number) n
+            || is_marked self.old n) }
     {
         if let Some(set) = sets.get(number) {
             self.insert_all(set)?;
@@ -111,7 +116,9 @@ fn is_named(role: Option<&Role>, name: &str) -> bool
 
 /// The roles that a member of these goes by beside itself.
 fn groups_of(alloc: Global, member_of: &[usize], sets: &[RoleSet]) -> Result<RoleSet, AllocError>
-    ensures { IfOk result (λ set. (n : ℕ) → is_marked set n ≡ list_any (λ other. goes_by_marks other (slice_get sets.now other) n) member_of.now) }
+    ensures { IfOk result (λ set. (n : ℕ)
+        → is_marked set n ≡ list_any (λ other. goes_by_marks other (slice_get sets.now other) n)
+        member_of.now) }
 {
     let mut groups = RoleSet::new(alloc);
     for number in member_of {

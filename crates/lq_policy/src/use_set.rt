@@ -34,7 +34,8 @@ impl UseSet {
 
     /// Puts a use into the set.
     pub(crate) fn add(&mut self, used: Use) -> Result<(), AllocError>
-        ensures { IfOk result (λ _. (other : Use) → is_among self.new other ≡ is_same_use other used || is_among self.old other) }
+        ensures { IfOk result (λ _. (other : Use)
+            → is_among self.new other ≡ is_same_use other used || is_among self.old other) }
     {
         self.uses.insert(used)?;
         Ok(())

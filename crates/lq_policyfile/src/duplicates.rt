@@ -13,7 +13,8 @@ use std::alloc::{AllocError, Global};
 #[tactic(auto, using(crate::proofs::NameLemmas::are_new_step))]
 fn add_new<'a, T: Named>(earlier: &mut NameSet<'a>, entries: &'a [T]) -> Result<bool, AllocError>
     ensures new { IfOk result (λ new. new ≡ are_new earlier.old (map T.name entries.now)) }
-    ensures names { IfOk result (λ new. new ≡ true → earlier.new ≡ earlier.old ++ map T.name entries.now) }
+    ensures names { IfOk result (λ new. new ≡ true
+        → earlier.new ≡ earlier.old ++ map T.name entries.now) }
 {
     let mut left = entries;
     while let [entry, others @ ..] = left {

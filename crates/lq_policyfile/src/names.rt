@@ -17,7 +17,8 @@ use std::alloc::{AllocError, Global};
 
 /// Whether a role is a member of earlier roles alone; it is one of them from now on.
 fn is_known<'a>(earlier: &mut NameSet<'a>, role: &'a RoleEntry) -> Result<bool, AllocError>
-    ensures known { IfOk result (λ known. known ≡ list_all (is_among earlier.old) role.now.member_of) }
+    ensures known { IfOk result (λ known. known
+        ≡ list_all (is_among earlier.old) role.now.member_of) }
     ensures names { OnOk result (earlier.new ≡ with_name earlier.old role.now.name) }
 {
     let known = earlier.has_all(role.member_of.as_slice());

@@ -12,7 +12,7 @@ use crate::name_set::NameSet;
 use crate::right_uses::right_rules;
 use lq_security::{Action, Policy, PolicyParts, Role, TablePart};
 use lq_store::{Column, Schema, Store};
-use lq_value::{List, Txt};
+use lq_value::{List, TableNumber, Txt};
 use std::alloc::{AllocError, Global};
 
 // ---- roles
@@ -122,7 +122,8 @@ fn tables_of(
     store: &Store,
     entries: &[TableEntry],
 ) -> Result<List<TablePart>, AllocError>
-    ensures { IfOk result (λ parts. parts ≡ map (λ table. table_part entries.now table.schema) store.now) }
+    ensures { IfOk result (λ parts. parts
+        ≡ map (λ table. table_part entries.now table.schema) store.now) }
 {
     let mut parts = List::new(alloc);
     for number in 0..store.len() {
@@ -157,7 +158,7 @@ fn action_of(actions: Actions) -> Action
 }
 
 /// The number of the table of this name, which is there.
-pub(crate) fn table_number(store: &Store, name: &str) -> u16
+pub(crate) fn table_number(store: &Store, name: &str) -> TableNumber
     ensures { result ≡ table_number store.now name.now }
 {
     store.find(name).unwrap_or(0)

@@ -9,7 +9,7 @@ use crate::names::columns_of;
 use crate::parts::table_number;
 use lq_language::{RightRule, Use};
 use lq_store::{Column, Store};
-use lq_value::List;
+use lq_value::{ColumnNumber, List, TableNumber};
 use std::alloc::{AllocError, Global};
 
 /// The place of the column of this name.
@@ -23,7 +23,7 @@ fn column_place(columns: &[Column], name: &str) -> Option<usize>
 }
 
 /// The number of the column of this name, which is there.
-fn column_number(columns: &[Column], name: &str) -> u16
+fn column_number(columns: &[Column], name: &str) -> ColumnNumber
     requires few { length columns.now ≤ 100 }
     ensures { result ≡ column_number columns.now name.now }
 {
@@ -34,7 +34,11 @@ fn column_number(columns: &[Column], name: &str) -> u16
 }
 
 /// Adds each column of a table with this number.
-fn add_columns(uses: &mut List<Use>, table: u16, columns: &[Column]) -> Result<(), AllocError>
+fn add_columns(
+    uses: &mut List<Use>,
+    table: TableNumber,
+    columns: &[Column],
+) -> Result<(), AllocError>
     requires few { length columns.now ≤ 100 }
     ensures { OnOk result (uses.new ≡ uses.old ++ columns_from table 0 columns.now) }
 {

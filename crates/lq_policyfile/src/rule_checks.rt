@@ -10,11 +10,12 @@ use crate::names::columns_of;
 use lq_grammar::Expr;
 use lq_scalar::{ExprType, Named, Names, ScalarRef, is_total, type_of};
 use lq_store::{Column, ColumnType, Store};
-use lq_value::Scalar;
+use lq_value::{Scalar, TableNumber};
 
 /// The type of the column of this name.
 fn type_of_named(columns: &[Column], name: &str) -> Option<ColumnType>
-    ensures { option_map type_of_column result ≡ option_map (λ column. type_of_column column.ty) (column_named name.now columns.now) }
+    ensures { option_map type_of_column result
+        ≡ option_map (λ column. type_of_column column.ty) (column_named name.now columns.now) }
 {
     let mut left = columns;
     while let [column, others @ ..] = left {
@@ -53,7 +54,7 @@ impl Names for RuleNames<'_> {
     }
 
     /// The type of a column of the one table.
-    fn column_type(&self, table: u16, column: &str) -> Option<ExprType> {
+    fn column_type(&self, table: TableNumber, column: &str) -> Option<ExprType> {
         if table != 0 {
             return None;
         }

@@ -42,7 +42,8 @@ impl Desk {
     pub fn new(alloc: Global, session: Session) -> Desk
         ensures state { state_in result ≡ state_of session }
         ensures starting { starting_of result ≡ (state_of session).role }
-        ensures settings { settings_of result ≡ record { most_rows = 20; is_json = false; is_timed = false } }
+        ensures settings { settings_of result
+            ≡ record { most_rows = 20; is_json = false; is_timed = false } }
     {
         let starting = session.state().role();
         Desk {
@@ -117,7 +118,8 @@ impl Desk {
         spelled: Result<Command, Misuse>,
         object: &str,
     ) -> Result<Answer, AllocError>
-        ensures { IfOk result (Tells (state_in self.now) (starting_of self.now) spelled object.now) }
+        ensures { IfOk result (Tells (state_in self.now) (starting_of self.now) spelled
+            object.now) }
     {
         match spelled {
             Ok(Command::Run) => Ok(Answer::Script(String::from_str(self.alloc, object)?)),
@@ -131,7 +133,9 @@ impl Desk {
     fn text_to(&self, command: Command, object: &str) -> Result<String, AllocError>
         requires run { command ≢ Command.Run }
         requires quit { command ≢ Command.Quit }
-        ensures { IfOk result (λ text. TellsText (state_in self.now) (starting_of self.now) (Ok command) object.now (string_bytes text)) }
+        ensures { IfOk result
+            (λ text. TellsText (state_in self.now) (starting_of self.now) (Ok command) object.now
+            (string_bytes text)) }
     {
         let state = self.session.state();
         match command {
@@ -149,7 +153,9 @@ impl Desk {
 
     /// Why the present role may or may not do something with a row of the table of this name.
     fn why(&self, table: &str, number: u64, action: Action) -> Result<String, AllocError>
-        ensures { IfOk result (λ text. ExplainsIn (state_in self.now) (starting_of self.now) action table.now number (string_bytes text)
+        ensures { IfOk result
+            (λ text. ExplainsIn (state_in self.now) (starting_of self.now) action table.now number
+            (string_bytes text)
             (first_named name_of table.now (state_in self.now).tables)) }
     {
         let state = self.session.state();

@@ -83,7 +83,8 @@ pub(crate) fn table_text(
     names: &[&str],
     rows: &List<List<Cell>>,
 ) -> Result<String, AllocError>
-    ensures { IfOk result (λ text. string_bytes text ≡ grid 0 (map (λ name. name.now) names.now) rows.now) }
+    ensures { IfOk result (λ text. string_bytes text
+        ≡ grid 0 (map (λ name. name.now) names.now) rows.now) }
 {
     let header = header(alloc, names)?;
     grid_text(alloc, &header, rows.as_slice())

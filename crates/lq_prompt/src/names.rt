@@ -22,7 +22,8 @@ fn stands_for(defined: &Defined) -> &'static str
 
 /// The type by which a name would be served.
 fn type_of_name(alloc: Global, session: &Session, name: &str) -> Result<String, AllocError>
-    ensures { IfOk result (λ text. string_bytes text ≡ type_of_name (state_of session.now) name.now) }
+    ensures { IfOk result (λ text. string_bytes text
+        ≡ type_of_name (state_of session.now) name.now) }
 {
     let line = joined(alloc, &["run ", name, ";"])?;
     match session.served_type(&line)? {

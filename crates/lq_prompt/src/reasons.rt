@@ -88,7 +88,8 @@ fn verdict(
     is_allowed: bool,
     reason: &str,
 ) -> Result<String, AllocError>
-    ensures { IfOk result (λ text. string_bytes text ≡ verdict (asked_in question.entry) is_allowed reason.now) }
+    ensures { IfOk result (λ text. string_bytes text
+        ≡ verdict (asked_in question.entry) is_allowed reason.now) }
 {
     let number = number_text(alloc, question.number)?;
     let (may, verb) = (may_text(is_allowed), verb(question.action));
@@ -148,7 +149,8 @@ fn explained(
     question: Question<'_>,
     explanation: &Explanation,
 ) -> Result<String, AllocError>
-    ensures { IfOk result (λ text. string_bytes text ≡ explained (asked_in question.entry) explanation.now) }
+    ensures { IfOk result (λ text. string_bytes text
+        ≡ explained (asked_in question.entry) explanation.now) }
 {
     match explanation {
         Explanation::NoTable => verdict(alloc, question, false, "they don't know the table"),

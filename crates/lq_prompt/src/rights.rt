@@ -6,7 +6,7 @@ use crate::grids::{row, table_text, word};
 use lq_policy::Use;
 use lq_render::Cell;
 use lq_run::State;
-use lq_value::{List, Schema};
+use lq_value::{List, Schema, TableNumber};
 use std::alloc::{AllocError, Global};
 
 /// The row of a use of a table, under the name that it has there.
@@ -30,12 +30,13 @@ fn right_row(
 fn add_columns(
     alloc: Global,
     state: &State,
-    table: u16,
+    table: TableNumber,
     schema: &Schema,
     grid: &mut List<List<Cell>>,
 ) -> Result<(), AllocError>
     requires { length schema.now.columns ≤ 100 }
-    ensures { OnOk result (grid.new ≡ grid.old ++ column_rows state.now schema.now.name table 0 schema.now.columns) }
+    ensures { OnOk result (grid.new ≡ grid.old
+        ++ column_rows state.now schema.now.name table 0 schema.now.columns) }
 {
     let name = schema.name.as_str();
     let columns = schema.columns.as_slice();
@@ -50,7 +51,7 @@ fn add_columns(
 fn add_table(
     alloc: Global,
     state: &State,
-    table: u16,
+    table: TableNumber,
     schema: &Schema,
     grid: &mut List<List<Cell>>,
 ) -> Result<(), AllocError>

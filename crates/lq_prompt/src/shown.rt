@@ -18,7 +18,9 @@ fn text_of(
     ty: Option<&Ty>,
     line: &Line,
 ) -> Result<String, AllocError>
-    ensures { IfOk result (λ text. IsTextOf settings state.now (option_map (λ t. t.now) ty.entry) line.now (string_bytes text)) }
+    ensures { IfOk result
+        (λ text. IsTextOf settings state.now (option_map (λ t. t.now) ty.entry) line.now
+        (string_bytes text)) }
 {
     let layout = Layout {
         ty,

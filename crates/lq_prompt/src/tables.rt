@@ -6,7 +6,7 @@ use crate::grids::{count, joined, moved, row, table_text, word};
 use lq_policy::{Action, Use};
 use lq_render::Cell;
 use lq_run::State;
-use lq_value::{Column, ColumnType, List, Row, Schema};
+use lq_value::{Column, ColumnType, List, Row, Schema, TableNumber};
 use std::alloc::{AllocError, Global};
 
 /// The type `int` with its range.
@@ -33,7 +33,7 @@ fn type_text(alloc: Global, column: &Column) -> Result<String, AllocError>
 }
 
 /// How many of these rows of a table the present role sees.
-fn count_seen(state: &State, table: u16, rows: &[Row]) -> usize
+fn count_seen(state: &State, table: TableNumber, rows: &[Row]) -> usize
     ensures { result ≡ count_seen state.now table rows.now }
 {
     let mut count = 0;
@@ -50,7 +50,7 @@ fn count_seen(state: &State, table: u16, rows: &[Row]) -> usize
 }
 
 /// How many of the rows of a table the present role sees; or, where it has no right to the table, the rule that denies it.
-fn seen(alloc: Global, state: &State, table: u16, rows: &[Row]) -> Result<Cell, AllocError>
+fn seen(alloc: Global, state: &State, table: TableNumber, rows: &[Row]) -> Result<Cell, AllocError>
     ensures { IfOk result (λ cell. cell ≡ seen state.now table rows.now) }
 {
     match state.policies().right(state.role(), Use::Table(table)) {
@@ -86,7 +86,7 @@ fn add_columns(
 fn add_table(
     alloc: Global,
     state: &State,
-    table: u16,
+    table: TableNumber,
     schema: &Schema,
     rows: &[Row],
     grid: &mut List<List<Cell>>,

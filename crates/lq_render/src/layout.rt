@@ -4,7 +4,7 @@ ghost use Rattle.lq_value.specs.declared.ty.Ty.{out-Ty};
 ghost use Rattle.lq_render.specs.Types.{column_names, member_names, schemas_of, shape_in, shape_of};
 
 use lq_store::Store;
-use lq_value::{Column, List, Txt, Ty};
+use lq_value::{Column, List, TableNumber, Txt, Ty};
 use std::alloc::{AllocError, Global};
 
 /// What a reply is shown by.
@@ -41,7 +41,7 @@ fn names_of_columns(alloc: Global, columns: &[Column]) -> Result<List<Txt>, Allo
 }
 
 /// The names of the columns of a table; none where there is no such table.
-fn column_names(alloc: Global, store: &Store, table: u16) -> Result<List<Txt>, AllocError>
+fn column_names(alloc: Global, store: &Store, table: TableNumber) -> Result<List<Txt>, AllocError>
     ensures { IfOk result (λ names. names
         ≡ column_names (slice_get (schemas_of store.now) table)) }
 {

@@ -3,11 +3,11 @@ ghost use Rattle.std.specs.Prelude.{◌≡◌, ◌++◌, OnOk, IfOk, false, true
 ghost use Rattle.lq_render.specs.Types.{closing, fields_text, opening, schemas_of, separator, table_name, type_part, type_text};
 
 use lq_store::Store;
-use lq_value::{Txt, Ty};
+use lq_value::{TableNumber, Txt, Ty};
 use std::alloc::{AllocError, Global};
 
 /// The name of a table; empty where there is no such table.
-fn table_name(store: &Store, table: u16) -> &str
+fn table_name(store: &Store, table: TableNumber) -> &str
     ensures { result.now ≡ table_name (slice_get (schemas_of store.now) table) }
 {
     if table as usize >= store.len() {

@@ -86,7 +86,8 @@ fn operation(
     left: Prepared,
     right: Prepared,
 ) -> Result<Prepared, AllocError>
-    ensures { IfOk result (λ made. (cells : List Scalar) (user : List ℕ) → read made cells user ≡ read (prepared.Binary sign left right) cells user) }
+    ensures { IfOk result (λ made. (cells : List Scalar) (user : List ℕ)
+        → read made cells user ≡ read (prepared.Binary sign left right) cells user) }
 {
     match (left, right) {
         (Prepared::Cell(place), Prepared::Literal(literal)) => {
@@ -134,7 +135,8 @@ fn prepared_method(
     receiver: &Expr,
     method: &str,
 ) -> Result<Prepared, AllocError>
-    ensures { IfOk result (StandsFor columns.now (expr.Node (node.Method receiver.now method.now arguments.now))) }
+    ensures { IfOk result (StandsFor columns.now
+        (expr.Node (node.Method receiver.now method.now arguments.now))) }
 {
     let text = held(alloc, columns, receiver)?;
     let needle = argument(alloc, columns, arguments)?;
@@ -148,7 +150,8 @@ fn argument(
     columns: &[Txt],
     arguments: &List<Argument<Expr>>,
 ) -> Result<Held<Prepared>, AllocError>
-    ensures { IfOk result (λ tree. IfSome (sole_argument arguments.now) (λ e. StandsFor columns.now e tree)) }
+    ensures { IfOk result (λ tree. IfSome (sole_argument arguments.now)
+        (λ e. StandsFor columns.now e tree)) }
 {
     match arguments.as_slice() {
         [Argument::Value(argument)] => held(alloc, columns, argument),
@@ -183,7 +186,8 @@ fn held(alloc: Global, columns: &[Txt], operand: &Expr) -> Result<Held<Prepared>
 /// The cell under the first column of this name.
 #[tactic(auto, using(crate::proofs::CellLemmas::cell_there, crate::proofs::CellLemmas::no_cell))]
 fn cell_named(columns: &[Txt], name: &str) -> Prepared
-    ensures { (cells : List Scalar) (user : List ℕ) → read result cells user ≡ scalar_or_fault (cell_named columns.now cells name.now) }
+    ensures { (cells : List Scalar) (user : List ℕ)
+        → read result cells user ≡ scalar_or_fault (cell_named columns.now cells name.now) }
 {
     match place_of(columns, name) {
         Some(place) => Prepared::Cell(place),
@@ -201,7 +205,8 @@ fn place_of(columns: &[Txt], name: &str) -> Option<usize>
 /// The number with the other sign. A total rule has a minus sign before literals alone.
 #[tactic(auto, using(crate::proofs::FormLemmas::stands_negative, crate::proofs::FormLemmas::stands_no_negative))]
 fn negative(operand: &Expr) -> Prepared
-    ensures { (columns : List (List ℕ)) → StandsFor columns (expr.Node (node.Unary unary.Minus operand.now)) result }
+    ensures { (columns : List (List ℕ))
+        → StandsFor columns (expr.Node (node.Unary unary.Minus operand.now)) result }
 {
     match integer_in(operand) {
         Some(number) => negative_of(number),

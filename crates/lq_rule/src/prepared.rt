@@ -67,7 +67,9 @@ fn truth(scalar: ScalarRef<'_>) -> Result<bool, Fault>
 /// What a sign between two scalars gives, as a truth value. Integers, which most rules compare, are
 /// compared in place.
 fn decided(sign: Binary, left: ScalarRef<'_>, right: ScalarRef<'_>) -> Result<bool, Fault>
-    ensures { result ≡ on_ok (of_two fault.NullReference (operation_of sign) (shown_scalar left.entry) (shown_scalar right.entry)) (truth_of fault.NullReference) }
+    ensures { result
+        ≡ on_ok (of_two fault.NullReference (operation_of sign) (shown_scalar left.entry)
+        (shown_scalar right.entry)) (truth_of fault.NullReference) }
 {
     match (sign, left, right) {
         (Binary::Less, ScalarRef::Int(left), ScalarRef::Int(right)) => Ok(left < right),
@@ -82,21 +84,25 @@ fn decided(sign: Binary, left: ScalarRef<'_>, right: ScalarRef<'_>) -> Result<bo
 
 /// The other truth value.
 fn other_truth<'a>(operand: ScalarRef<'_>) -> Result<ScalarRef<'a>, Fault>
-    ensures { shown_scalars result ≡ on_ok (truth_of fault.NullReference (shown_scalar operand.entry)) (λ b. Ok (scalar.Bool (not b))) }
+    ensures { shown_scalars result ≡ on_ok
+        (truth_of fault.NullReference (shown_scalar operand.entry))
+        (λ b. Ok (scalar.Bool (not b))) }
 {
     Ok(ScalarRef::Bool(!truth(operand)?))
 }
 
 /// Whether an `int?` has a value.
 fn has_value_in<'a>(scalar: ScalarRef<'_>) -> Result<ScalarRef<'a>, Fault>
-    ensures { shown_scalars result ≡ truth fault.NullReference (has_value fault.NullReference (shown_scalar scalar.entry)) }
+    ensures { shown_scalars result ≡ truth fault.NullReference
+        (has_value fault.NullReference (shown_scalar scalar.entry)) }
 {
     Ok(ScalarRef::Bool(has_value(scalar)?))
 }
 
 /// Whether a text has another in it.
 fn found<'a>(op: Op, text: ScalarRef<'_>, needle: ScalarRef<'_>) -> Result<ScalarRef<'a>, Fault>
-    ensures { shown_scalars result ≡ truth fault.NullReference (searched fault.NullReference op (shown_scalar text.entry) (shown_scalar needle.entry)) }
+    ensures { shown_scalars result ≡ truth fault.NullReference
+        (searched fault.NullReference op (shown_scalar text.entry) (shown_scalar needle.entry)) }
 {
     Ok(ScalarRef::Bool(searched(op, text, needle)?))
 }
@@ -186,7 +192,8 @@ impl Prepared {
 
     /// Whether it is true there. A fault isn't.
     pub(crate) fn is_true(&self, cells: &[Scalar], user: &str) -> bool
-        ensures { result ≡ is_true (on_ok (read self.now cells.now user.now) (truth_of fault.NullReference)) }
+        ensures { result
+            ≡ is_true (on_ok (read self.now cells.now user.now) (truth_of fault.NullReference)) }
     {
         matches!(self.decide(cells, user), Ok(true))
     }

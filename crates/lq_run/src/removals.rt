@@ -8,7 +8,7 @@ use crate::tables::with_rows;
 use lq_pipe::{TableRows, rows_where};
 use lq_policy::{Action, RowRules};
 use lq_tree::Tree;
-use lq_value::{End, Row};
+use lq_value::{End, Row, TableNumber};
 use std::alloc::{AllocError, Global};
 
 /// How many rows are asked for at a time, so that what is held of them meanwhile is small.
@@ -19,14 +19,15 @@ const AT_A_TIME: usize = 1024;
 struct Choice<'a, 'b> {
     alloc: Global,
     state: &'a State,
-    table: u16,
+    table: TableNumber,
     rules: RowRules<'a>,
     condition: &'b Tree,
 }
 
 /// Puts the numbers of rows behind others, in their order.
 fn add_numbers(numbers: &mut Vec<u64>, rows: &[SeenRow<'_>]) -> Result<(), AllocError>
-    ensures { IfOk result (λ _. numbers.new.items ≡ numbers.old.items ++ map (λ r. r.row.now.number) rows.now) }
+    ensures { IfOk result (λ _. numbers.new.items
+        ≡ numbers.old.items ++ map (λ r. r.row.now.number) rows.now) }
 {
     for row in rows {
         numbers.push(row.row.number)?;
@@ -52,7 +53,8 @@ impl<'a> Choice<'a, '_> {
         requires seen { AreSeen self.now.state.now tables.now }
         requires columns { HaveDistinctColumns (schemas_in tables.now) }
         ensures { IfOk result (λ end. (numbers.new.items, end)
-            ≡ numbers_then numbers.old.items (rows_chosen (world_in self.now.state.now) self.now.condition.now.form self.now.rules self.now.table rows.now)) }
+            ≡ numbers_then numbers.old.items (rows_chosen (world_in self.now.state.now)
+            self.now.condition.now.form self.now.rules self.now.table rows.now)) }
     {
         let removable = admitted(self.alloc, &self.rules, self.table, rows)?;
         let (found, end) = rows_where(self.alloc, self.condition, removable.as_slice(), tables)?;
@@ -70,7 +72,8 @@ impl<'a> Choice<'a, '_> {
         requires seen { AreSeen self.now.state.now tables.now }
         requires columns { HaveDistinctColumns (schemas_in tables.now) }
         ensures { IfOk result (λ found. (found.0.items, found.1)
-            ≡ numbers_then [] (rows_chosen (world_in self.now.state.now) self.now.condition.now.form self.now.rules self.now.table rows.now)) }
+            ≡ numbers_then [] (rows_chosen (world_in self.now.state.now)
+            self.now.condition.now.form self.now.rules self.now.table rows.now)) }
     {
         let mut numbers = Vec::new(self.alloc);
         let mut left = rows;
@@ -89,7 +92,7 @@ impl<'a> Choice<'a, '_> {
 /// that the condition meets; and how that ends. The queries in the condition read the rows that the role sees.
 pub fn chosen_rows(
     alloc: Global,
-    table: u16,
+    table: TableNumber,
     condition: &Tree,
     state: &State,
 ) -> Result<(Vec<u64>, End), AllocError>

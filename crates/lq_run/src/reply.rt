@@ -32,8 +32,10 @@ fn items_line<R: TableRow>(
     tables: &[TableRows<'_, R>],
 ) -> Result<Line, AllocError>
     requires { HaveDistinctColumns (schemas_in tables.now) }
-    ensures { IfOk result (λ line. line ≡ line_of (stream_data (schemas_of store.now) R.shown item.now
-        (stream_of (world_of R.table_of R.shown tables.now) (form_meaning (world_of R.table_of R.shown tables.now) tree.now.form [])))) }
+    ensures { IfOk result (λ line. line
+        ≡ line_of (stream_data (schemas_of store.now) R.shown item.now
+        (stream_of (world_of R.table_of R.shown tables.now)
+        (form_meaning (world_of R.table_of R.shown tables.now) tree.now.form [])))) }
 {
     let (items, end) = run(alloc, tree, tables)?;
     let reply = Reply::Items {
@@ -53,7 +55,8 @@ fn value_line<R: TableRow>(
     tables: &[TableRows<'_, R>],
 ) -> Result<Line, AllocError>
     requires { HaveDistinctColumns (schemas_in tables.now) }
-    ensures { IfOk result (λ line. line ≡ line_of (value_data (schemas_of store.now) R.shown tree.now.ty
+    ensures { IfOk result (λ line. line
+        ≡ line_of (value_data (schemas_of store.now) R.shown tree.now.ty
         (form_meaning (world_of R.table_of R.shown tables.now) tree.now.form []))) }
 {
     match value(alloc, tree, tables) {
@@ -81,7 +84,9 @@ pub(crate) fn tree_line<R: TableRow>(
     tables: &[TableRows<'_, R>],
 ) -> Result<Line, AllocError>
     requires { HaveDistinctColumns (schemas_in tables.now) }
-    ensures { IfOk result (λ line. line ≡ line_of (tree_data R.shown (schemas_of store.now) (world_of R.table_of R.shown tables.now) tree.now)) }
+    ensures { IfOk result (λ line. line
+        ≡ line_of (tree_data R.shown (schemas_of store.now)
+        (world_of R.table_of R.shown tables.now) tree.now)) }
 {
     match ty(tree) {
         Ty::Null => refusal_line(alloc, "type"),

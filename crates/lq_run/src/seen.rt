@@ -6,14 +6,14 @@ ghost use Rattle.lq_run.specs.SeenRows.{admitted_rows, shown_row, shown_rows, vi
 use crate::state::State;
 use lq_pipe::TableRow;
 use lq_policy::{Action, RowRules};
-use lq_value::{Row, RowRef, Scalar};
+use lq_value::{Row, RowRef, Scalar, TableNumber};
 use std::alloc::{AllocError, Global};
 
 /// A row that a role sees, with the number of its table.
 #[derive(Clone, Copy, Drop)]
 pub(crate) struct SeenRow<'a> {
     /// The number of its table.
-    pub(crate) table: u16,
+    pub(crate) table: TableNumber,
     /// The row.
     pub(crate) row: &'a Row,
 }
@@ -31,7 +31,7 @@ impl RowRef for SeenRow<'_> {
 impl TableRow for SeenRow<'_> {
     ghost table_of = { λ r. r.table };
 
-    fn table(&self) -> u16 {
+    fn table(&self) -> TableNumber {
         self.table
     }
 }
@@ -40,10 +40,11 @@ impl TableRow for SeenRow<'_> {
 pub(crate) fn admitted<'a>(
     alloc: Global,
     rules: &RowRules<'_>,
-    table: u16,
+    table: TableNumber,
     rows: &'a [Row],
 ) -> Result<Vec<SeenRow<'a>>, AllocError>
-    ensures { IfOk result (λ seen. map shown_row seen.items ≡ admitted_rows rules.now table rows.now) }
+    ensures { IfOk result (λ seen. map shown_row seen.items
+        ≡ admitted_rows rules.now table rows.now) }
 {
     let mut seen = Vec::with_capacity(alloc, rows.len())?;
     for row in rows {
@@ -59,11 +60,12 @@ pub(crate) fn rows_for<'a>(
     alloc: Global,
     state: &'a State,
     action: Action,
-    table: u16,
+    table: TableNumber,
 ) -> Result<Vec<SeenRow<'a>>, AllocError>
     requires { table < length state.now.tables }
     ensures { IfOk result (λ rows. Some (map shown_row rows.items)
-        ≡ option_map (λ t. visible_rows state.now action table t.rows) (slice_get state.now.tables table)) }
+        ≡ option_map (λ t. visible_rows state.now action table t.rows)
+        (slice_get state.now.tables table)) }
 {
     let rules = state
         .policies()

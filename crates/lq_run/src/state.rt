@@ -3,7 +3,7 @@ use crate::definitions::{place_of, renew};
 use lq_machine::{Defined, Definition};
 use lq_policy::{Policies, RoleId};
 use lq_store::{Store, StoreError};
-use lq_value::{Scalar, Txt};
+use lq_value::{Scalar, TableNumber, Txt};
 use std::alloc::{AllocError, Global};
 use std::marker::Model;
 
@@ -47,7 +47,12 @@ impl State {
 
     /// The first state of a session: no name is defined. Takes no memory.
     pub fn new(alloc: Global, store: Store, policies: Policies, role: RoleId) -> State
-        ensures { result ≡ record { tables = store; policies = policies; role = number_of role; definitions = [] } }
+        ensures { result ≡ record {
+          tables = store;
+          policies = policies;
+          role = number_of role;
+          definitions = [];
+        } }
     {
         State {
             store,
@@ -89,8 +94,10 @@ impl State {
 
     /// Defines a name that neither a table nor another definition has, behind the others. Where memory is refused the state stays.
     pub fn define(&mut self, name: Txt, defined: Defined) -> Result<(), AllocError>
-        requires new { IsNew (schemas_of self.old.tables) (known_names (schemas_of self.old.tables) self.old.definitions) name }
-        requires typed { IsDefined (schemas_of self.old.tables) (known_names (schemas_of self.old.tables) self.old.definitions) defined }
+        requires new { IsNew (schemas_of self.old.tables)
+            (known_names (schemas_of self.old.tables) self.old.definitions) name }
+        requires typed { IsDefined (schemas_of self.old.tables)
+            (known_names (schemas_of self.old.tables) self.old.definitions) defined }
         ensures ok { OnOk result (self.new ≡ defining_also self.old name defined) }
         ensures err { IfErr result (λ _. self.new ≡ self.old) }
     {
@@ -121,20 +128,24 @@ impl State {
     /// Puts a row into a table, as `Store::insert` does, with its refusals.
     pub fn insert(
         &mut self,
-        table: u16,
+        table: TableNumber,
         cells: Vec<Scalar>,
     ) -> Result<u64, (StoreError, Vec<Scalar>)>
-        ensures tables { Inserts self.old.tables table cells.items (shown_pushed result) self.new.tables }
+        ensures tables { Inserts self.old.tables table cells.items (shown_pushed result)
+            self.new.tables }
         ensures rest { self.new ≡ record self.old { tables = self.new.tables } }
     {
         self.store.insert(table, cells)
     }
 
     /// Removes the rows of a table that have these numbers, and answers how many they were. Takes no memory.
-    pub fn delete_rows(&mut self, table: u16, numbers: &[u64]) -> u64
+    pub fn delete_rows(&mut self, table: TableNumber, numbers: &[u64]) -> u64
         requires { table < length self.old.tables }
-        ensures { IfSome (slice_get self.old.tables table) (λ t. (result ≡ count_listed t numbers.now)
-            × (self.new ≡ record self.old { tables = set self.old.tables table (without_rows t numbers.now) })) }
+        ensures { IfSome (slice_get self.old.tables table)
+            (λ t. (result ≡ count_listed t numbers.now)
+            × (self.new ≡ record self.old {
+              tables = set self.old.tables table (without_rows t numbers.now);
+            })) }
     {
         self.store.delete_rows(table, numbers)
     }

@@ -10,7 +10,7 @@ use lq_grammar::Expr;
 use lq_machine::Opened;
 use lq_translate::translate_expression;
 use lq_tree::Tree;
-use lq_value::Txt;
+use lq_value::{TableNumber, Txt};
 use std::alloc::Global;
 
 /// What a statement is bound in: the tables of a state and its definitions.
@@ -52,7 +52,7 @@ pub fn condition_of(
     alloc: Global,
     expr: &Expr,
     row: &Txt,
-    table: u16,
+    table: TableNumber,
     opened: Opened,
     state: &State,
 ) -> Result<Tree, Stop>

@@ -14,7 +14,8 @@ pub(crate) fn arithmetic(
     left: ScalarRef<'_>,
     right: ScalarRef<'_>,
 ) -> Result<Option<i32>, Fault>
-    ensures { numbers_in result ≡ arithmetic fault.NullReference op (shown_scalar left.entry) (shown_scalar right.entry) }
+    ensures { numbers_in result ≡ arithmetic fault.NullReference op (shown_scalar left.entry)
+        (shown_scalar right.entry) }
 {
     match (left, right) {
         (ScalarRef::Int(left), ScalarRef::Int(right)) => Ok(Some(computed(op, left, right)?)),

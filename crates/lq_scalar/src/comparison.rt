@@ -32,7 +32,8 @@ pub(crate) fn compared(
     left: ScalarRef<'_>,
     right: ScalarRef<'_>,
 ) -> Result<bool, Fault>
-    ensures { result ≡ compared fault.NullReference operator (shown_scalar left.entry) (shown_scalar right.entry) }
+    ensures { result ≡ compared fault.NullReference operator (shown_scalar left.entry)
+        (shown_scalar right.entry) }
 {
     match operator {
         Binary::Less => is_less(left, right),
@@ -50,7 +51,8 @@ pub(crate) fn compared(
 
 /// Whether the first int is less than the second; nothing is less than null or more.
 fn is_less(left: ScalarRef<'_>, right: ScalarRef<'_>) -> Result<bool, Fault>
-    ensures { result ≡ ordered_by fault.NullReference int_lt (shown_scalar left.entry) (shown_scalar right.entry) }
+    ensures { result ≡ ordered_by fault.NullReference int_lt (shown_scalar left.entry)
+        (shown_scalar right.entry) }
 {
     match (left, right) {
         (ScalarRef::Int(m), ScalarRef::Int(n)) => Ok(m < n),
@@ -61,7 +63,8 @@ fn is_less(left: ScalarRef<'_>, right: ScalarRef<'_>) -> Result<bool, Fault>
 
 /// Whether the first int is at most the second; nothing is at most null, and null is at most nothing.
 fn is_at_most(left: ScalarRef<'_>, right: ScalarRef<'_>) -> Result<bool, Fault>
-    ensures { result ≡ ordered_by fault.NullReference int_le (shown_scalar left.entry) (shown_scalar right.entry) }
+    ensures { result ≡ ordered_by fault.NullReference int_le (shown_scalar left.entry)
+        (shown_scalar right.entry) }
 {
     match (left, right) {
         (ScalarRef::Int(m), ScalarRef::Int(n)) => Ok(m <= n),
@@ -72,7 +75,8 @@ fn is_at_most(left: ScalarRef<'_>, right: ScalarRef<'_>) -> Result<bool, Fault>
 
 /// Whether both are null or have the same content.
 fn is_same(left: ScalarRef<'_>, right: ScalarRef<'_>) -> Result<bool, Fault>
-    ensures { result ≡ same_content fault.NullReference (shown_scalar left.entry) (shown_scalar right.entry) }
+    ensures { result ≡ same_content fault.NullReference (shown_scalar left.entry)
+        (shown_scalar right.entry) }
 {
     match (left, right) {
         (ScalarRef::Null, ScalarRef::Null) => Ok(true),

@@ -47,7 +47,8 @@ pub fn evaluate<'a, N: Names>(
     names: &'a N,
     expression: &'a Expr,
 ) -> Result<Found<'a>, ScalarError>
-    ensures meant { IsFound (scalar_of_expression (N.world names.now) (N.scope names.now) expression.now) result }
+    ensures meant { IsFound (scalar_of_expression (N.world names.now) (N.scope names.now) expression.now)
+        result }
     ensures sparing { IsSparing (sums_in expression.now) result }
 {
     let evaluation = Evaluation {
@@ -64,7 +65,8 @@ pub fn evaluate<'a, N: Names>(
 /// The truth value that a condition means where these names stand, or its first fault. Takes memory
 /// for texts that `+` makes and for nothing else.
 pub fn truth<N: Names>(alloc: Global, names: &N, condition: &Expr) -> Result<bool, ScalarError>
-    ensures meant { IsTruth (truth_of_expression (N.world names.now) (N.scope names.now) condition.now) result }
+    ensures meant { IsTruth (truth_of_expression (N.world names.now) (N.scope names.now) condition.now)
+        result }
     ensures sparing { IsSparing (sums_in condition.now) result }
 {
     let evaluation = Evaluation {
@@ -77,7 +79,8 @@ pub fn truth<N: Names>(alloc: Global, names: &N, condition: &Expr) -> Result<boo
 /// The scalar that an expression means where these names stand, as a value of its own, or its first
 /// fault. Takes memory for a text.
 pub fn eval<N: Names>(alloc: Global, expression: &Expr, names: &N) -> Result<Scalar, ScalarError>
-    ensures { IsAnswer (scalar_of_expression (N.world names.now) (N.scope names.now) expression.now) result }
+    ensures { IsAnswer (scalar_of_expression (N.world names.now) (N.scope names.now)
+        expression.now) result }
 {
     let evaluation = Evaluation {
         names,

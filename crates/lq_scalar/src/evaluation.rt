@@ -33,7 +33,8 @@ fn told_parts(
     right: Option<ScalarRef<'_>>,
 ) -> Result<bool, Fault>
     requires { is_equality sign ≡ true }
-    ensures { result ≡ told_parts sign (option_map shown_scalar left.entry) (option_map shown_scalar right.entry) }
+    ensures { result ≡ told_parts sign (option_map shown_scalar left.entry)
+        (option_map shown_scalar right.entry) }
 {
     match (left, right) {
         (Some(left), Some(right)) => compared(sign, left, right),
@@ -50,7 +51,8 @@ fn told_parts(
 #[inline(never)]
 fn told<'a>(sign: Binary, left: Operand<'_>, right: Operand<'_>) -> Result<ScalarRef<'a>, Fault>
     requires { is_equality sign ≡ true }
-    ensures { shown_scalars result ≡ truth fault.NullReference (told_parts sign (operand_part left.entry) (operand_part right.entry)) }
+    ensures { shown_scalars result ≡ truth fault.NullReference
+        (told_parts sign (operand_part left.entry) (operand_part right.entry)) }
 {
     let told = told_parts(sign, left.part(), right.part())?;
     Ok(ScalarRef::Bool(told))
@@ -58,7 +60,8 @@ fn told<'a>(sign: Binary, left: Operand<'_>, right: Operand<'_>) -> Result<Scala
 
 /// The number with the other sign.
 fn minus<'a>(operand: Operand<'_>) -> Result<ScalarRef<'a>, Fault>
-    ensures { shown_scalars result ≡ on_ok (operand_scalar operand.entry) (negated fault.NullReference) }
+    ensures { shown_scalars result ≡ on_ok (operand_scalar operand.entry)
+        (negated fault.NullReference) }
 {
     negate(operand.scalar()?)
 }
@@ -70,7 +73,9 @@ fn searched<'a>(
     needle: Operand<'_>,
 ) -> Result<ScalarRef<'a>, Fault>
     ensures { shown_scalars result
-        ≡ on_ok (operand_scalar text.entry) (λ s. on_ok (operand_scalar needle.entry) (λ t. of_search fault.NullReference (search_named method.now) s t)) }
+        ≡ on_ok (operand_scalar text.entry)
+        (λ s. on_ok (operand_scalar needle.entry)
+        (λ t. of_search fault.NullReference (search_named method.now) s t)) }
 {
     search(method, text.scalar()?, needle.scalar()?)
 }
@@ -102,7 +107,8 @@ impl<'a, N: Names, T: Joins> Evaluation<'a, N, T> {
 
     /// What a name stands for.
     fn named(&self, name: &'a str) -> Result<Operand<'a>, Fault>
-        ensures { shown_operands (N.scope self.now.names.now) result ≡ shape_at (binding_of name.now (N.scope self.now.names.now)) }
+        ensures { shown_operands (N.scope self.now.names.now) result
+            ≡ shape_at (binding_of name.now (N.scope self.now.names.now)) }
     {
         match self.names.named(name) {
             Some(Named::Row) => Ok(Operand::Row(name)),
@@ -113,7 +119,9 @@ impl<'a, N: Names, T: Joins> Evaluation<'a, N, T> {
 
     /// The column of the row that a name stands for.
     fn cell(&self, row: &str, column: &str) -> Result<ScalarRef<'a>, Fault>
-        ensures { shown_scalars result ≡ scalar_or_fault (cell_in (N.world self.now.names.now) column.now (row_at (binding_of row.now (N.scope self.now.names.now)))) }
+        ensures { shown_scalars result ≡ scalar_or_fault
+            (cell_in (N.world self.now.names.now) column.now
+            (row_at (binding_of row.now (N.scope self.now.names.now)))) }
     {
         match self.names.cell(row, column) {
             Some(cell) => Ok(ScalarRef::of(cell)),
@@ -123,7 +131,9 @@ impl<'a, N: Names, T: Joins> Evaluation<'a, N, T> {
 
     /// A member of null, by the type of what is null: a row has none.
     fn member_of_null(&self, operand: &Expr, member: &str) -> Result<ScalarRef<'a>, Fault>
-        ensures { shown_scalars result ≡ member_of_null (type_of operand.now (names_at (N.world self.now.names.now) (N.scope self.now.names.now))) member.now }
+        ensures { shown_scalars result ≡ member_of_null
+            (type_of operand.now (names_at (N.world self.now.names.now)
+            (N.scope self.now.names.now))) member.now }
     {
         if is_row(type_of(self.names, operand)) {
             return Err(Fault::NullReference);
@@ -139,7 +149,9 @@ impl<'a, N: Names, T: Joins> Evaluation<'a, N, T> {
         member: &str,
     ) -> Result<ScalarRef<'a>, Fault>
         ensures { scalar_shape (shown_scalars result)
-            ≡ member_shape (N.world self.now.names.now) (type_of operand.now (names_at (N.world self.now.names.now) (N.scope self.now.names.now))) member.now
+            ≡ member_shape (N.world self.now.names.now)
+            (type_of operand.now (names_at (N.world self.now.names.now)
+            (N.scope self.now.names.now))) member.now
             (shown_operand (N.scope self.now.names.now) value.entry) }
     {
         match value {
@@ -152,7 +164,9 @@ impl<'a, N: Names, T: Joins> Evaluation<'a, N, T> {
 
     /// Whether the expression has the type of texts.
     fn is_text(&self, expression: &Expr) -> bool
-        ensures { result ≡ is_text_type (type_of expression.now (names_at (N.world self.now.names.now) (N.scope self.now.names.now))) }
+        ensures { result
+            ≡ is_text_type (type_of expression.now
+            (names_at (N.world self.now.names.now) (N.scope self.now.names.now))) }
     {
         is_text(type_of(self.names, expression))
     }
@@ -160,8 +174,10 @@ impl<'a, N: Names, T: Joins> Evaluation<'a, N, T> {
     /// The sum of two nulls: the empty text where one has the type of texts, and else null.
     fn sum_of_nulls(&self, left: &Expr, right: &Expr) -> Result<Operand<'a>, ScalarError>
         ensures { IsOperand (N.scope self.now.names.now) 1
-            (scalar_shape (operated_scalars binary.Add (type_of left.now (names_at (N.world self.now.names.now) (N.scope self.now.names.now)))
-            (type_of right.now (names_at (N.world self.now.names.now) (N.scope self.now.names.now))) scalar.Null scalar.Null)) result }
+            (scalar_shape (operated_scalars binary.Add
+            (type_of left.now (names_at (N.world self.now.names.now) (N.scope self.now.names.now)))
+            (type_of right.now (names_at (N.world self.now.names.now)
+            (N.scope self.now.names.now))) scalar.Null scalar.Null)) result }
     {
         if self.is_text(left) || self.is_text(right) {
             Ok(Operand::Made(joined(self.texts, ScalarRef::Null, ScalarRef::Null)?))
@@ -180,8 +196,10 @@ impl<'a, N: Names, T: Joins> Evaluation<'a, N, T> {
         y: ScalarRef<'_>,
     ) -> Result<Operand<'a>, ScalarError>
         ensures { IsOperand (N.scope self.now.names.now) (sum_sign sign)
-            (scalar_shape (operated_scalars sign (type_of left.now (names_at (N.world self.now.names.now) (N.scope self.now.names.now)))
-            (type_of right.now (names_at (N.world self.now.names.now) (N.scope self.now.names.now))) (shown_scalar x.entry) (shown_scalar y.entry))) result }
+            (scalar_shape (operated_scalars sign
+            (type_of left.now (names_at (N.world self.now.names.now) (N.scope self.now.names.now)))
+            (type_of right.now (names_at (N.world self.now.names.now)
+            (N.scope self.now.names.now))) (shown_scalar x.entry) (shown_scalar y.entry))) result }
     {
         match (sign, x, y) {
             (Binary::Add, ScalarRef::Text(_), _) | (Binary::Add, _, ScalarRef::Text(_)) => {
@@ -204,8 +222,10 @@ impl<'a, N: Names, T: Joins> Evaluation<'a, N, T> {
     ) -> Result<Operand<'a>, ScalarError>
         ensures { IsOperand (N.scope self.now.names.now) (sum_sign sign)
             (on_ok (operand_scalar x.entry) (λ s. on_ok (operand_scalar y.entry)
-            (λ t. scalar_shape (operated_scalars sign (type_of left.now (names_at (N.world self.now.names.now) (N.scope self.now.names.now)))
-            (type_of right.now (names_at (N.world self.now.names.now) (N.scope self.now.names.now))) s t)))) result }
+            (λ t. scalar_shape (operated_scalars sign
+            (type_of left.now (names_at (N.world self.now.names.now) (N.scope self.now.names.now)))
+            (type_of right.now (names_at (N.world self.now.names.now)
+            (N.scope self.now.names.now))) s t)))) result }
     {
         self.operated_scalars(sign, left, right, x.scalar()?, y.scalar()?)
     }
@@ -214,7 +234,8 @@ impl<'a, N: Names, T: Joins> Evaluation<'a, N, T> {
     #[cycle(operands)]
     #[tactic(auto, using(crate::proofs::ShapeLaws::shapes, crate::proofs::SumLemmas::sums))]
     pub(crate) fn operand(&self, expression: &'a Expr) -> Result<Operand<'a>, ScalarError>
-        ensures { IsEvaluated (N.world self.now.names.now) (N.scope self.now.names.now) expression.now result }
+        ensures { IsEvaluated (N.world self.now.names.now) (N.scope self.now.names.now)
+            expression.now result }
     {
         match expression {
             Expr::Node(node) => self.node(node),
@@ -227,7 +248,8 @@ impl<'a, N: Names, T: Joins> Evaluation<'a, N, T> {
     #[cycle(operands)]
     #[tactic(auto, using(crate::proofs::ShapeLaws::shapes, crate::proofs::SumLemmas::sums))]
     fn node(&self, node: &'a Node<Expr>) -> Result<Operand<'a>, ScalarError>
-        ensures { IsEvaluated (N.world self.now.names.now) (N.scope self.now.names.now) (expr.Node node.now) result }
+        ensures { IsEvaluated (N.world self.now.names.now) (N.scope self.now.names.now)
+            (expr.Node node.now) result }
     {
         match node {
             Node::Integer(number) => Ok(Operand::Scalar(ScalarRef::Int(*number))),
@@ -257,7 +279,8 @@ impl<'a, N: Names, T: Joins> Evaluation<'a, N, T> {
     #[inline(never)]
     #[tactic(auto, using(crate::proofs::ShapeLaws::operands, crate::proofs::ShapeLaws::shape_member, crate::proofs::SumLemmas::sums_member))]
     fn member(&self, operand: &'a Expr, member: &str) -> Result<Operand<'a>, ScalarError>
-        ensures { IsEvaluated (N.world self.now.names.now) (N.scope self.now.names.now) (expr.Node (node.Member operand.now member.now)) result }
+        ensures { IsEvaluated (N.world self.now.names.now) (N.scope self.now.names.now)
+            (expr.Node (node.Member operand.now member.now)) result }
     {
         let value = self.operand(operand)?;
         Ok(Operand::Scalar(self.member_of(operand, value, member)?))
@@ -273,7 +296,8 @@ impl<'a, N: Names, T: Joins> Evaluation<'a, N, T> {
         receiver: &'a Expr,
         method: &str,
     ) -> Result<Operand<'a>, ScalarError>
-        ensures { IsEvaluated (N.world self.now.names.now) (N.scope self.now.names.now) (expr.Node (node.Method receiver.now method.now arguments.now)) result }
+        ensures { IsEvaluated (N.world self.now.names.now) (N.scope self.now.names.now)
+            (expr.Node (node.Method receiver.now method.now arguments.now)) result }
     {
         let text = self.operand(receiver)?;
         text.scalar()?;
@@ -286,7 +310,8 @@ impl<'a, N: Names, T: Joins> Evaluation<'a, N, T> {
     #[inline(never)]
     #[tactic(auto, using(crate::proofs::ShapeLaws::operands, crate::proofs::ShapeLaws::shape_minus, crate::proofs::SumLemmas::sums_unary))]
     fn minus(&self, operand: &'a Expr) -> Result<Operand<'a>, ScalarError>
-        ensures { IsEvaluated (N.world self.now.names.now) (N.scope self.now.names.now) (expr.Node (node.Unary unary.Minus operand.now)) result }
+        ensures { IsEvaluated (N.world self.now.names.now) (N.scope self.now.names.now)
+            (expr.Node (node.Unary unary.Minus operand.now)) result }
     {
         Ok(Operand::Scalar(minus(self.operand(operand)?)?))
     }
@@ -296,7 +321,8 @@ impl<'a, N: Names, T: Joins> Evaluation<'a, N, T> {
     #[inline(never)]
     #[tactic(auto, using(crate::proofs::ShapeLaws::operands, crate::proofs::ShapeLaws::shape_not, crate::proofs::SumLemmas::sums_unary))]
     fn not(&self, operand: &'a Expr) -> Result<Operand<'a>, ScalarError>
-        ensures { IsEvaluated (N.world self.now.names.now) (N.scope self.now.names.now) (expr.Node (node.Unary unary.Not operand.now)) result }
+        ensures { IsEvaluated (N.world self.now.names.now) (N.scope self.now.names.now)
+            (expr.Node (node.Unary unary.Not operand.now)) result }
     {
         let truth = self.operand(operand)?.truth()?;
         Ok(Operand::Scalar(ScalarRef::Bool(!truth)))
@@ -312,7 +338,8 @@ impl<'a, N: Names, T: Joins> Evaluation<'a, N, T> {
         left: &'a Expr,
         right: &'a Expr,
     ) -> Result<Operand<'a>, ScalarError>
-        ensures { IsEvaluated (N.world self.now.names.now) (N.scope self.now.names.now) (expr.Node (node.Binary sign left.now right.now)) result }
+        ensures { IsEvaluated (N.world self.now.names.now) (N.scope self.now.names.now)
+            (expr.Node (node.Binary sign left.now right.now)) result }
     {
         let x = self.operand(left)?;
         if is_equality(sign) {
@@ -329,7 +356,8 @@ impl<'a, N: Names, T: Joins> Evaluation<'a, N, T> {
     #[inline(never)]
     #[tactic(auto, using(crate::proofs::ShapeLaws::operands, crate::proofs::ShapeLaws::shape_both, crate::proofs::SumLemmas::sums_both))]
     fn both(&self, left: &'a Expr, right: &'a Expr) -> Result<Operand<'a>, ScalarError>
-        ensures { IsEvaluated (N.world self.now.names.now) (N.scope self.now.names.now) (expr.Node (node.And left.now right.now)) result }
+        ensures { IsEvaluated (N.world self.now.names.now) (N.scope self.now.names.now)
+            (expr.Node (node.And left.now right.now)) result }
     {
         match self.operand(left)?.truth()? {
             true => self.operand(right),
@@ -342,7 +370,8 @@ impl<'a, N: Names, T: Joins> Evaluation<'a, N, T> {
     #[inline(never)]
     #[tactic(auto, using(crate::proofs::ShapeLaws::operands, crate::proofs::ShapeLaws::shape_either, crate::proofs::SumLemmas::sums_either))]
     fn either(&self, left: &'a Expr, right: &'a Expr) -> Result<Operand<'a>, ScalarError>
-        ensures { IsEvaluated (N.world self.now.names.now) (N.scope self.now.names.now) (expr.Node (node.Or left.now right.now)) result }
+        ensures { IsEvaluated (N.world self.now.names.now) (N.scope self.now.names.now)
+            (expr.Node (node.Or left.now right.now)) result }
     {
         match self.operand(left)?.truth()? {
             true => Ok(Operand::Scalar(ScalarRef::Bool(true))),
@@ -355,7 +384,8 @@ impl<'a, N: Names, T: Joins> Evaluation<'a, N, T> {
     #[inline(never)]
     #[tactic(auto, using(crate::proofs::ShapeLaws::operands, crate::proofs::ShapeLaws::shape_coalesce, crate::proofs::SumLemmas::sums_coalesce))]
     fn coalesced(&self, left: &'a Expr, right: &'a Expr) -> Result<Operand<'a>, ScalarError>
-        ensures { IsEvaluated (N.world self.now.names.now) (N.scope self.now.names.now) (expr.Node (node.Coalesce left.now right.now)) result }
+        ensures { IsEvaluated (N.world self.now.names.now) (N.scope self.now.names.now)
+            (expr.Node (node.Coalesce left.now right.now)) result }
     {
         let value = self.operand(left)?;
         match value.is_null()? {
@@ -374,7 +404,8 @@ impl<'a, N: Names, T: Joins> Evaluation<'a, N, T> {
         left: &'a Expr,
         right: &'a Expr,
     ) -> Result<Operand<'a>, ScalarError>
-        ensures { IsEvaluated (N.world self.now.names.now) (N.scope self.now.names.now) (expr.Node (node.Conditional condition.now left.now right.now)) result }
+        ensures { IsEvaluated (N.world self.now.names.now) (N.scope self.now.names.now)
+            (expr.Node (node.Conditional condition.now left.now right.now)) result }
     {
         match self.operand(condition)?.truth()? {
             true => self.operand(left),
@@ -387,8 +418,10 @@ impl<'a, N: Names, T: Joins> Evaluation<'a, N, T> {
     #[cycle(operands)]
     #[tactic(auto, using(crate::proofs::ShapeLaws::operands))]
     fn argument(&self, arguments: &'a List<Argument<Expr>>) -> Result<Operand<'a>, ScalarError>
-        ensures { IsOperand (N.scope self.now.names.now) (sums_of_argument (sole_argument arguments.now))
-            (shape_of_argument (N.world self.now.names.now) (N.scope self.now.names.now) (sole_argument arguments.now)) result }
+        ensures { IsOperand (N.scope self.now.names.now)
+            (sums_of_argument (sole_argument arguments.now))
+            (shape_of_argument (N.world self.now.names.now) (N.scope self.now.names.now)
+            (sole_argument arguments.now)) result }
     {
         match arguments.as_slice() {
             [Argument::Value(argument)] => self.operand(argument),
@@ -399,7 +432,8 @@ impl<'a, N: Names, T: Joins> Evaluation<'a, N, T> {
     /// The truth value that a condition is, or its first fault.
     #[tactic(auto, using(crate::proofs::ShapeLaws::operands))]
     pub(crate) fn truth(&self, condition: &'a Expr) -> Result<bool, ScalarError>
-        ensures meant { IsTruth (truth_of_expression (N.world self.now.names.now) (N.scope self.now.names.now) condition.now) result }
+        ensures meant { IsTruth (truth_of_expression (N.world self.now.names.now)
+            (N.scope self.now.names.now) condition.now) result }
         ensures sparing { IsSparing (sums_in condition.now) result }
     {
         let value = self.operand(condition)?;

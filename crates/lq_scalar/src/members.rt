@@ -57,7 +57,8 @@ pub(crate) fn search<'a>(
     text: ScalarRef<'_>,
     needle: ScalarRef<'_>,
 ) -> Result<ScalarRef<'a>, Fault>
-    ensures { shown_scalars result ≡ of_search fault.NullReference (search_named method.now) (shown_scalar text.entry) (shown_scalar needle.entry) }
+    ensures { shown_scalars result ≡ of_search fault.NullReference (search_named method.now)
+        (shown_scalar text.entry) (shown_scalar needle.entry) }
 {
     let Some(op) = search_named(method) else {
         return Err(Fault::NullReference);

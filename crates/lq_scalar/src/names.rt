@@ -5,7 +5,7 @@ ghost use Rattle.lq_language.specs.OperandTypes.{is_scalar};
 ghost use Rattle.lq_scalar.specs.Named.{layer_of, shown_type};
 
 use crate::scalar_ref::ScalarRef;
-use lq_value::{ColumnType, Scalar};
+use lq_value::{ColumnType, Scalar, TableNumber};
 
 /// The type of an expression that is evaluated to a row or a scalar, or of a table (ECMA-334, types).
 #[derive(Clone, Copy, Debug, Drop, Eq, PartialEq)]
@@ -21,9 +21,9 @@ pub enum ExprType {
     /// That of `null` alone.
     Null,
     /// A row of the table with this number.
-    Row(u16),
+    Row(TableNumber),
     /// The sequence of the rows of the table with this number.
-    Rows(u16),
+    Rows(TableNumber),
 }
 
 impl ExprType {
@@ -81,17 +81,21 @@ pub trait Names {
     /// The type of a name: that of the local name, else of the table.
     fn name_type(&self, name: &str) -> Option<ExprType>
         ensures { option_map shown_type result
-            ≡ name_type (names_at (world self.now) (scope self.now)) name.now (local_type name.now (names_at (world self.now) (scope self.now)).locals) };
+            ≡ name_type (names_at (world self.now) (scope self.now)) name.now
+            (local_type name.now (names_at (world self.now) (scope self.now)).locals) };
 
     /// The type of a column of the table with this number.
-    fn column_type(&self, table: u16, column: &str) -> Option<ExprType>
-        ensures { option_map shown_type result ≡ column_type (world self.now).schemas table column.now };
+    fn column_type(&self, table: TableNumber, column: &str) -> Option<ExprType>
+        ensures { option_map shown_type result
+            ≡ column_type (world self.now).schemas table column.now };
 
     /// The row or scalar that a local name stands for.
     fn named(&self, name: &str) -> Option<Named<'_>>
-        ensures { shown_named (row_at (binding_of name.now (scope self.now))) result ≡ shape_at (binding_of name.now (scope self.now)) };
+        ensures { shown_named (row_at (binding_of name.now (scope self.now))) result
+            ≡ shape_at (binding_of name.now (scope self.now)) };
 
     /// The cell of the row that a local name stands for, under the column of this name.
     fn cell(&self, row: &str, column: &str) -> Option<&Scalar>
-        ensures { option_copied result ≡ cell_in (world self.now) column.now (row_at (binding_of row.now (scope self.now))) };
+        ensures { option_copied result ≡ cell_in (world self.now) column.now
+            (row_at (binding_of row.now (scope self.now))) };
 }

@@ -79,7 +79,8 @@ fn number(number: Option<i32>) -> Scalar
 }
 
 fn compared_as(operator: Binary, left: &Scalar, right: &Scalar) -> Result<Scalar, Fault>
-    ensures { result ≡ truth fault.NullReference (compared fault.NullReference operator left.now right.now) }
+    ensures { result ≡ truth fault.NullReference
+        (compared fault.NullReference operator left.now right.now) }
 {
     let truth = compared(operator, ScalarRef::of(left), ScalarRef::of(right))?;
     Ok(Scalar::Bool(truth))

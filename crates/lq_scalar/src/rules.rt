@@ -10,7 +10,7 @@ use crate::names::{ExprType, Named, Names};
 use crate::scalar_ref::ScalarRef;
 use crate::texts::NoTexts;
 use lq_grammar::Expr;
-use lq_value::{Scalar, Txt};
+use lq_value::{Scalar, TableNumber, Txt};
 
 /// A row as a rule reads it: its cells, in the order of its columns' names.
 #[derive(Clone, Copy, Drop)]
@@ -51,7 +51,7 @@ impl Names for RuleNames<'_> {
         None
     }
 
-    fn column_type(&self, _table: u16, _column: &str) -> Option<ExprType> {
+    fn column_type(&self, _table: TableNumber, _column: &str) -> Option<ExprType> {
         None
     }
 

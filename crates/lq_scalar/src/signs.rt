@@ -20,7 +20,8 @@ pub fn operate<'a>(
     left: ScalarRef<'_>,
     right: ScalarRef<'_>,
 ) -> Result<ScalarRef<'a>, Fault>
-    ensures { shown_scalars result ≡ of_two fault.NullReference (operation_of operator) (shown_scalar left.entry) (shown_scalar right.entry) }
+    ensures { shown_scalars result ≡ of_two fault.NullReference (operation_of operator)
+        (shown_scalar left.entry) (shown_scalar right.entry) }
 {
     match operator {
         Binary::Multiply => Ok(number(arithmetic(Op::Multiply, left, right)?)),

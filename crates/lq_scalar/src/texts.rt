@@ -46,7 +46,8 @@ pub(crate) fn joined<T: Joins>(
     left: ScalarRef<'_>,
     right: ScalarRef<'_>,
 ) -> Result<Txt, ScalarError>
-    ensures { IsText (joined fault.NullReference (shown_scalar left.entry) (shown_scalar right.entry)) result }
+    ensures { IsText (joined fault.NullReference (shown_scalar left.entry)
+        (shown_scalar right.entry)) result }
 {
     match (left, right) {
         (ScalarRef::Text(left), ScalarRef::Text(right)) => { Ok(texts.concatenated(left, right)?) }
@@ -85,7 +86,8 @@ fn utf16_units(text: &str) -> Option<i32>
 /// `String.StartsWith` and the like, by the bytes of UTF-8). Takes no memory. NullReference where one of
 /// them is no text, and for any other operator.
 pub fn searched(op: Op, text: ScalarRef<'_>, needle: ScalarRef<'_>) -> Result<bool, Fault>
-    ensures { result ≡ searched fault.NullReference op (shown_scalar text.entry) (shown_scalar needle.entry) }
+    ensures { result ≡ searched fault.NullReference op (shown_scalar text.entry)
+        (shown_scalar needle.entry) }
 {
     let (ScalarRef::Text(text), ScalarRef::Text(needle)) = (text, needle) else {
         return Err(Fault::NullReference);

@@ -75,7 +75,8 @@ fn chosen(condition: Strength, left: Strength, right: Strength) -> Strength
 /// Of an operator that evaluates both of its operands, and whether any int can be divided by the
 /// right one.
 fn computed(operator: Binary, left: Strength, right: Strength, right_divides: bool) -> Strength
-    ensures total { result.total ≡ (if is_comparison operator then left.total && right.total else is_division operator && left.total && right_divides) }
+    ensures total { result.total ≡ (if is_comparison operator then left.total && right.total
+        else is_division operator && left.total && right_divides) }
     ensures sure { result.sure ≡ false }
 {
     if is_comparison(operator) {

@@ -11,6 +11,7 @@ ghost use Rattle.lq_scalar.specs.declared.names.ExprType.TheVariants as kind;
 use crate::names::{ExprType, Names};
 use crate::totality::is_search;
 use lq_grammar::{Argument, Binary, Expr, Node, Unary};
+use lq_value::TableNumber;
 
 /// Whether values of the type are numbers or, where it is `int?`, null.
 fn is_number(known: ExprType) -> bool
@@ -52,7 +53,9 @@ fn truth_type(are_fit: bool) -> Option<ExprType>
 
 /// The type of a search for one text in another.
 fn search_type(text: Option<ExprType>, part: Option<ExprType>) -> Option<ExprType>
-    ensures { option_map shown_type result ≡ truth_type (is_text_type (option_map shown_type text) && is_text_type (option_map shown_type part)) }
+    ensures { option_map shown_type result
+        ≡ truth_type (is_text_type (option_map shown_type text)
+        && is_text_type (option_map shown_type part)) }
 {
     truth_type(is_text(text) && is_text(part))
 }
@@ -123,7 +126,8 @@ fn joined_type(operator: Binary, left: ExprType, right: ExprType) -> Option<Expr
 
 /// The type of what an operator gives to operands of these types; None where it takes no such.
 fn result_type(operator: Binary, left: ExprType, right: ExprType) -> Option<ExprType>
-    ensures { option_map shown_type result ≡ operated_type operator (layer_of left) (layer_of right) }
+    ensures { option_map shown_type result
+        ≡ operated_type operator (layer_of left) (layer_of right) }
 {
     if matches!(operator, Binary::Equal | Binary::NotEqual) {
         truth_type(are_comparable(left, right))
@@ -149,8 +153,9 @@ fn coalesced(left: ExprType, right: ExprType) -> Option<ExprType>
 }
 
 /// The type of a choice between two rows, of one table.
-fn chosen_row(left: u16, right: u16) -> Option<ExprType>
-    ensures { option_map shown_type result ≡ chosen (layer_of (kind.Row left)) (layer_of (kind.Row right)) }
+fn chosen_row(left: TableNumber, right: TableNumber) -> Option<ExprType>
+    ensures { option_map shown_type result
+        ≡ chosen (layer_of (kind.Row left)) (layer_of (kind.Row right)) }
 {
     (left == right).then_some(ExprType::Row(left))
 }
@@ -175,7 +180,9 @@ fn chosen(left: ExprType, right: ExprType) -> Option<ExprType>
 
 /// The type of a member: a column of a row, or a member of an `int?` or of a text.
 fn member_type<N: Names>(names: &N, member: &str, operand: ExprType) -> Option<ExprType>
-    ensures { option_map shown_type result ≡ member_type (names_at (N.world names.now) (N.scope names.now)) member.now (layer_of operand) }
+    ensures { option_map shown_type result
+        ≡ member_type (names_at (N.world names.now) (N.scope names.now)) member.now
+        (layer_of operand) }
 {
     match operand {
         ExprType::Row(table) => names.column_type(table, member),
@@ -190,7 +197,8 @@ fn member_type<N: Names>(names: &N, member: &str, operand: ExprType) -> Option<E
 #[cycle(types)]
 #[tactic(auto, using(crate::proofs::TypeLaws::types))]
 pub fn type_of<N: Names>(names: &N, expression: &Expr) -> Option<ExprType>
-    ensures { option_map shown_type result ≡ type_of expression.now (names_at (N.world names.now) (N.scope names.now)) }
+    ensures { option_map shown_type result
+        ≡ type_of expression.now (names_at (N.world names.now) (N.scope names.now)) }
 {
     match expression {
         Expr::Node(node) => type_of_node(names, node),
@@ -202,7 +210,8 @@ pub fn type_of<N: Names>(names: &N, expression: &Expr) -> Option<ExprType>
 #[cycle(types)]
 #[tactic(auto, using(crate::proofs::TypeLaws::types))]
 fn type_of_node<N: Names>(names: &N, node: &Node<Expr>) -> Option<ExprType>
-    ensures { option_map shown_type result ≡ type_of (expr.Node node.now) (names_at (N.world names.now) (N.scope names.now)) }
+    ensures { option_map shown_type result
+        ≡ type_of (expr.Node node.now) (names_at (N.world names.now) (N.scope names.now)) }
 {
     match node {
         Node::Integer(_) => Some(ExprType::Int),

@@ -1,7 +1,7 @@
 //! Roles and row policies as plain data (PostgreSQL, CREATE POLICY and role membership).
 use lq_grammar::Expr;
 use lq_language::RightRule;
-use lq_value::{List, Txt};
+use lq_value::{List, TableNumber, Txt};
 
 /// A role that statements run under.
 #[derive(Drop)]
@@ -40,7 +40,7 @@ pub struct Policy {
     /// Its name.
     pub name: Txt,
     /// The number of the table that it guards.
-    pub table: u16,
+    pub table: TableNumber,
     /// Whether it is restrictive; else it is permissive.
     pub restrictive: bool,
     /// Whether it is for every action.

@@ -71,7 +71,8 @@ impl<R: Read> Device<R> {
     /// read gives bytes again: std's readers may be read on, and reads that come so late are counted.
     pub fn read(&mut self, buffer: &mut [u8]) -> Result<usize, ReadFailed>
         ensures bound { ReadsAtMost result buffer.new }
-        ensures bytes { ReadConsumes (R.remaining (inner_of self.old)) (R.remaining (inner_of self.new)) result buffer.new }
+        ensures bytes { ReadConsumes (R.remaining (inner_of self.old))
+            (R.remaining (inner_of self.new)) result buffer.new }
         ensures counted { read_count self.new ≡ one_more (read_count self.old) }
         ensures late { late_count self.new ≡ late_count_next self.old }
         ensures writes { write_count self.new ≡ write_count self.old }
@@ -106,7 +107,8 @@ impl<W: Write> Device<W> {
     /// answers an error, or takes none of some bytes, fails and marks the device.
     pub fn write(&mut self, bytes: &[u8]) -> Result<usize, WriteFailed>
         ensures bound { WritesAtMost result bytes.now }
-        ensures bytes { WriteAppends (W.contents (inner_of self.old)) (W.contents (inner_of self.new)) result bytes.now }
+        ensures bytes { WriteAppends (W.contents (inner_of self.old))
+            (W.contents (inner_of self.new)) result bytes.now }
         ensures some { IfOk result (λ n. 0 < length bytes.now → 0 < n) }
         ensures counted { write_count self.new ≡ one_more (write_count self.old) }
         ensures marked { is_failed self.old ≡ false → (IsErr result ↔ (is_failed self.new ≡ true)) }
@@ -126,8 +128,10 @@ impl<W: Write> Device<W> {
     /// Writes all the bytes, by at most as many writes as there are bytes. It ends at the first write that
     /// fails: a front of the bytes is then written.
     pub fn write_all(&mut self, bytes: &[u8]) -> Result<(), WriteFailed>
-        ensures ok { OnOk result (Appends (W.contents (inner_of self.old)) (W.contents (inner_of self.new)) bytes.now) }
-        ensures err { OnErr result (AppendsFront (W.contents (inner_of self.old)) (W.contents (inner_of self.new)) bytes.now) }
+        ensures ok { OnOk result (Appends (W.contents (inner_of self.old))
+            (W.contents (inner_of self.new)) bytes.now) }
+        ensures err { OnErr result (AppendsFront (W.contents (inner_of self.old))
+            (W.contents (inner_of self.new)) bytes.now) }
         ensures few { write_count self.new ≤ write_count self.old + length bytes.now }
         ensures marked { is_failed self.old ≡ false → (IsErr result ↔ (is_failed self.new ≡ true)) }
         ensures stays { is_failed self.old ≡ true → is_failed self.new ≡ true }

@@ -37,10 +37,12 @@ pub fn finish<R: Read, W: Write, E: Write>(
     requires reader { is_failed reader.old ≡ false }
     requires writer { is_failed writer.old ≡ false }
     requires errors { is_failed errors.old ≡ false }
-    ensures { Finished (R.remaining (inner_of reader.old)) (state_of session.old) (state_of session.new)
+    ensures { Finished (R.remaining (inner_of reader.old)) (state_of session.old)
+        (state_of session.new)
         (W.contents (inner_of writer.old)) (W.contents (inner_of writer.new))
         (is_failed reader.new) (is_ended reader.new) (is_failed writer.new)
-        (E.contents (inner_of errors.old)) (E.contents (inner_of errors.new)) (is_failed errors.new) result }
+        (E.contents (inner_of errors.old)) (E.contents (inner_of errors.new))
+        (is_failed errors.new) result }
 {
     match serve(alloc, reader, writer, session) {
         Ok(_) => 0,
@@ -73,7 +75,8 @@ pub fn finish<R: Read, W: Write, E: Write>(
 /// The line is written whole, unless `errors` fails: it is then marked, and holds a front of the line.
 pub fn refuse<E: Write>(error: &StartError, errors: &mut Device<E>) -> u8
     requires { is_failed errors.old ≡ false }
-    ensures line { Writes (is_failed errors.new) (E.contents (inner_of errors.old)) (E.contents (inner_of errors.new)) (told_of error.now) }
+    ensures line { Writes (is_failed errors.new) (E.contents (inner_of errors.old))
+        (E.contents (inner_of errors.new)) (told_of error.now) }
     ensures status { result ≡ status_of error.now }
 {
     match error {
@@ -91,7 +94,8 @@ pub fn refuse<E: Write>(error: &StartError, errors: &mut Device<E>) -> u8
 // Writes the line and its line feed, as far as they can be written.
 fn tell_line<E: Write>(errors: &mut Device<E>, line: &[u8])
     requires { is_failed errors.old ≡ false }
-    ensures { Writes (is_failed errors.new) (E.contents (inner_of errors.old)) (E.contents (inner_of errors.new)) (as_line line.now) }
+    ensures { Writes (is_failed errors.new) (E.contents (inner_of errors.old))
+        (E.contents (inner_of errors.new)) (as_line line.now) }
 {
     tell(errors, line);
     if !errors.failed() {
@@ -102,7 +106,8 @@ fn tell_line<E: Write>(errors: &mut Device<E>, line: &[u8])
 // Writes as much of the line as can be written: nobody is left to be told of a failure here.
 fn tell<E: Write>(errors: &mut Device<E>, line: &[u8])
     requires { is_failed errors.old ≡ false }
-    ensures { Writes (is_failed errors.new) (E.contents (inner_of errors.old)) (E.contents (inner_of errors.new)) line.now }
+    ensures { Writes (is_failed errors.new) (E.contents (inner_of errors.old))
+        (E.contents (inner_of errors.new)) line.now }
 {
     let _ = errors.write_all(line);
 }

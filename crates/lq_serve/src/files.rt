@@ -53,6 +53,7 @@ pub trait Files {
     /// where they find no room, and with `Read` where the file can't be read.
     fn read(&mut self, name: &str, limit: u64) -> Result<Vec<u8>, FileError>
         ensures known { IfSome (holds self.old name.now) (λ there. IsAnswer there limit result) }
-        ensures answer { Adds (answered self.old) (answered self.new) (readings_by name.now limit result) }
+        ensures answer { Adds (answered self.old) (answered self.new)
+            (readings_by name.now limit result) }
         ensures keeps { (n : List ℕ) → holds self.new n ≡ holds self.old n };
 }

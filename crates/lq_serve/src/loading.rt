@@ -28,8 +28,12 @@ pub(crate) fn load_tables<F: Files>(
     names: &[String],
     files: &mut F,
 ) -> Result<Store, StartError>
-    ensures ok { IfOk result (λ store. Loaded (F.holds files.old) (F.answered files.old) (F.answered files.new) (map string_bytes names.now) store) }
-    ensures err { IfErr result (λ error. RefusedBy (F.holds files.old) (F.answered files.old) (F.answered files.new) (map string_bytes names.now) error) }
+    ensures ok { IfOk result
+        (λ store. Loaded (F.holds files.old) (F.answered files.old) (F.answered files.new)
+        (map string_bytes names.now) store) }
+    ensures err { IfErr result (λ error.
+        RefusedBy (F.holds files.old) (F.answered files.old) (F.answered files.new)
+        (map string_bytes names.now) error) }
     ensures keeps { (n : List ℕ) → F.holds files.new n ≡ F.holds files.old n }
 {
     let mut store = Store::new(alloc);
@@ -48,9 +52,12 @@ fn add_file<F: Files>(
     files: &mut F,
     store: &mut Store,
 ) -> Result<(), FileFault>
-    ensures added { (gave : Option (List ℕ)) × Agrees (F.holds files.old) (record { file = file.now; gave = gave })
-        × Answered result (F.answered files.old) (F.answered files.new) (readings_of_one (record { file = file.now; gave = gave }))
-        × LeavesTables (with_table store.old (table_in (record { file = file.now; gave = gave }))) result store.new }
+    ensures added { (gave : Option (List ℕ))
+        × Agrees (F.holds files.old) (record { file = file.now; gave = gave })
+        × Answered result (F.answered files.old) (F.answered files.new)
+        (readings_of_one (record { file = file.now; gave = gave }))
+        × LeavesTables (with_table store.old (table_in (record { file = file.now; gave = gave })))
+        result store.new }
     ensures keeps { (n : List ℕ) → F.holds files.new n ≡ F.holds files.old n }
 {
     let table = read_table(alloc, file, files)?;
@@ -62,8 +69,10 @@ fn add_file<F: Files>(
 
 // The table of the file of this name.
 fn read_table<F: Files>(alloc: Global, file: &str, files: &mut F) -> Result<Table, FileFault>
-    ensures table { (gave : Option (List ℕ)) × Agrees (F.holds files.old) (record { file = file.now; gave = gave })
-        × Answered result (F.answered files.old) (F.answered files.new) (readings_of_one (record { file = file.now; gave = gave }))
+    ensures table { (gave : Option (List ℕ))
+        × Agrees (F.holds files.old) (record { file = file.now; gave = gave })
+        × Answered result (F.answered files.old) (F.answered files.new)
+        (readings_of_one (record { file = file.now; gave = gave }))
         × GivesTable (table_in (record { file = file.now; gave = gave })) result }
     ensures keeps { (n : List ℕ) → F.holds files.new n ≡ F.holds files.old n }
 {

@@ -43,7 +43,8 @@ impl<'a> MemoryFiles<'a> {
         limit: u64,
         gave: Option<List<u8>>,
     ) -> Result<(), AllocError>
-        ensures added { OnOk result (readings_in self.new ≡ readings_in self.old ++ record { file = name.now; limit = limit; gave = gave } ∷ []) }
+        ensures added { OnOk result (readings_in self.new
+            ≡ readings_in self.old ++ record { file = name.now; limit = limit; gave = gave } ∷ []) }
         ensures unread { OnErr result (readings_in self.new ≡ readings_in self.old) }
         ensures files { files_in self.new ≡ files_in self.old }
     {

@@ -12,8 +12,10 @@ pub(crate) fn read_file<F: Files>(
     limit: u64,
     files: &mut F,
 ) -> Result<Vec<u8>, FileFault>
-    ensures given { (gave : Option (List ℕ)) × IfSome (F.holds files.old file.now) (λ there. gave ≡ first_bytes limit there)
-        × Answered result (F.answered files.old) (F.answered files.new) (record { file = file.now; limit = limit; gave = gave } ∷ [])
+    ensures given { (gave : Option (List ℕ))
+        × IfSome (F.holds files.old file.now) (λ there. gave ≡ first_bytes limit there)
+        × Answered result (F.answered files.old) (F.answered files.new)
+        (record { file = file.now; limit = limit; gave = gave } ∷ [])
         × GivesBytes gave result }
     ensures keeps { (n : List ℕ) → F.holds files.new n ≡ F.holds files.old n }
 {

@@ -27,13 +27,16 @@ pub(crate) fn read_script<R: Read>(
     requires limit { limit ≤ script_limit }
     requires unmarked { is_failed reader.old ≡ false }
     ensures in_size { IfOk result (λ bytes. vec_len bytes ≤ limit) }
-    ensures whole { IfOk result (λ bytes. IfSome (R.remaining (inner_of reader.old)) (λ all. bytes.items ≡ all)) }
-    ensures too_long { result ≡ Err ServeError.TooLong → IfSome (R.remaining (inner_of reader.old)) (λ all. limit < length all) }
+    ensures whole { IfOk result (λ bytes. IfSome (R.remaining (inner_of reader.old))
+        (λ all. bytes.items ≡ all)) }
+    ensures too_long { result ≡ Err ServeError.TooLong
+        → IfSome (R.remaining (inner_of reader.old)) (λ all. limit < length all) }
     ensures memory { result ≡ Err ServeError.Memory → is_ended reader.new ≡ false }
     ensures marked { (result ≡ Err ServeError.Read) ↔ (is_failed reader.new ≡ true) }
     ensures few { read_count reader.new ≤ read_count reader.old + (limit + 1) }
     ensures in_time { late_count reader.new ≤ late_count_next reader.old }
-    ensures taken { TakesAtMost (limit + 1) (R.remaining (inner_of reader.old)) (R.remaining (inner_of reader.new)) }
+    ensures taken { TakesAtMost (limit + 1) (R.remaining (inner_of reader.old))
+        (R.remaining (inner_of reader.new)) }
     ensures refusals { IfErr result (λ e. (e ≢ ServeError.Write) × (e ≢ ServeError.Utf8)) }
 {
     let mut bytes = Vec::new(alloc);

@@ -42,16 +42,22 @@ pub fn serve<R: Read, W: Write>(
     requires writer { is_failed writer.old ≡ false }
 
     // What is written is the output of the machine over the script's lines.
-    ensures ok { IfOk result (λ summary. ServedWhole (R.remaining (inner_of reader.old)) (state_of session.old) (state_of session.new)
+    ensures ok { IfOk result (λ summary.
+        ServedWhole (R.remaining (inner_of reader.old)) (state_of session.old)
+        (state_of session.new)
         (W.contents (inner_of writer.old)) (W.contents (inner_of writer.new)) summary) }
 
     // After a failed write the first lines were stepped, and what was written is a front of their output.
-    ensures write { result ≡ Err ServeError.Write → ServedInPart (R.remaining (inner_of reader.old)) (state_of session.old) (state_of session.new)
+    ensures write { result ≡ Err ServeError.Write
+        → ServedInPart (R.remaining (inner_of reader.old)) (state_of session.old)
+        (state_of session.new)
         (W.contents (inner_of writer.old)) (W.contents (inner_of writer.new)) }
 
     // After each other error nothing was stepped and nothing written.
-    ensures untouched { IfErr result (λ e. e ≢ ServeError.Write → (session.new ≡ session.old) × (writer.new ≡ writer.old)) }
-    ensures too_long { result ≡ Err ServeError.TooLong → IsTooLong (R.remaining (inner_of reader.old)) }
+    ensures untouched { IfErr result (λ e. e ≢ ServeError.Write
+        → (session.new ≡ session.old) × (writer.new ≡ writer.old)) }
+    ensures too_long { result ≡ Err ServeError.TooLong
+        → IsTooLong (R.remaining (inner_of reader.old)) }
     ensures utf8 { result ≡ Err ServeError.Utf8 → IsNoText (R.remaining (inner_of reader.old)) }
 
     // Memory is wanting for bytes that a read gave, before the end.
@@ -63,7 +69,8 @@ pub fn serve<R: Read, W: Write>(
 
     // One byte more than a script has is read at most, and as many reads are made, none after an error or
     // the end: only the first may come late, where the reader had ended before.
-    ensures taken { TakesAtMost (script_limit + 1) (R.remaining (inner_of reader.old)) (R.remaining (inner_of reader.new)) }
+    ensures taken { TakesAtMost (script_limit + 1) (R.remaining (inner_of reader.old))
+        (R.remaining (inner_of reader.new)) }
     ensures reads { read_count reader.new ≤ read_count reader.old + (script_limit + 1) }
     ensures in_time { late_count reader.new ≤ late_count_next reader.old }
 {
@@ -85,9 +92,11 @@ fn serve_text<W: Write>(
 ) -> Result<Summary, WriteFailed>
     requires small { length text.now ≤ script_limit }
     requires writer { is_failed writer.old ≡ false }
-    ensures ok { IfOk result (λ summary. Served (lines_of text.now) (state_of session.old) (state_of session.new)
+    ensures ok { IfOk result (λ summary.
+        Served (lines_of text.now) (state_of session.old) (state_of session.new)
         (W.contents (inner_of writer.old)) (W.contents (inner_of writer.new)) summary) }
-    ensures err { OnErr result (Stopped (lines_of text.now) (state_of session.old) (state_of session.new)
+    ensures err { OnErr result (Stopped (lines_of text.now) (state_of session.old)
+        (state_of session.new)
         (W.contents (inner_of writer.old)) (W.contents (inner_of writer.new))) }
     ensures unmarked { OnOk result (is_failed writer.new ≡ false) }
     ensures marked { OnErr result (is_failed writer.new ≡ true) }

@@ -38,8 +38,12 @@ pub fn load<F: Files>(
     options: &Options,
     files: &mut F,
 ) -> Result<Session, StartError>
-    ensures ok { IfOk result (λ it. Started (F.holds files.old) (F.answered files.old) (F.answered files.new) (asked_by options.now) (state_of it)) }
-    ensures err { IfErr result (λ error. NotStarted (F.holds files.old) (F.answered files.old) (F.answered files.new) (asked_by options.now) error) }
+    ensures ok { IfOk result
+        (λ it. Started (F.holds files.old) (F.answered files.old) (F.answered files.new)
+        (asked_by options.now) (state_of it)) }
+    ensures err { IfErr result (λ error.
+        NotStarted (F.holds files.old) (F.answered files.old) (F.answered files.new)
+        (asked_by options.now) error) }
 {
     let store = load_tables(alloc, options.tables.as_slice(), files)?;
     let policies = match load_policies(alloc, options.policy.as_str(), files, &store) {
@@ -59,7 +63,8 @@ fn prepared(
     mut policies: Policies,
     role: RoleId,
 ) -> Result<Session, StartError>
-    ensures ok { IfOk result (λ it. state_of it ≡ record { tables = store; policies = policies; role = number_of role; definitions = [] }) }
+    ensures ok { IfOk result (λ it. state_of it
+        ≡ record { tables = store; policies = policies; role = number_of role; definitions = [] }) }
     ensures err { IfErr result (λ error. error ≡ StartError.Memory) }
 {
     match policies.prepare(alloc, role) {
@@ -75,8 +80,10 @@ fn load_policies<F: Files>(
     files: &mut F,
     store: &Store,
 ) -> Result<Policies, FileFault>
-    ensures given { (gave : Option (List ℕ)) × IfSome (F.holds files.old file.now) (λ there. gave ≡ first_bytes policy_read_limit there)
-        × Answered result (F.answered files.old) (F.answered files.new) (record { file = file.now; limit = policy_read_limit; gave = gave } ∷ [])
+    ensures given { (gave : Option (List ℕ))
+        × IfSome (F.holds files.old file.now) (λ there. gave ≡ first_bytes policy_read_limit there)
+        × Answered result (F.answered files.old) (F.answered files.new)
+        (record { file = file.now; limit = policy_read_limit; gave = gave } ∷ [])
         × GivesPolicies (policies_read store.now gave) result }
 {
     let bytes = read_file(file, READ_LIMIT, files)?;

@@ -38,7 +38,8 @@ fn opened_as(definition: &Definition) -> Option<Opened>
 
 /// What a token opens that doesn't stand behind a `.`.
 fn opened_named(definitions: &[Definition], line: &[u8], token: Token) -> Option<Opened>
-    ensures { option_to_list result ≡ opened_named definitions.now token.kind (text_of line.now token) }
+    ensures { option_to_list result ≡ opened_named definitions.now token.kind
+        (text_of line.now token) }
 {
     match token.kind {
         Kind::Name => opened_as(definition_of(definitions, bytes_of(line, token))?),
@@ -53,7 +54,8 @@ fn opened_behind(
     line: &[u8],
     token: Token,
 ) -> Option<Opened>
-    ensures { option_to_list result ≡ opened_behind definitions.now before token.kind (text_of line.now token) }
+    ensures { option_to_list result ≡ opened_behind definitions.now before token.kind
+        (text_of line.now token) }
 {
     match before {
         Kind::Dot => None,
@@ -85,7 +87,9 @@ fn with_token(
     token: Token,
 ) -> Option<Opened>
     requires { is_past_opening opened ≡ false }
-    ensures { result ≡ within_limits (opened_with opened (opened_behind definitions.now before token.kind (text_of line.now token))) }
+    ensures { result
+        ≡ within_limits (opened_with opened
+        (opened_behind definitions.now before token.kind (text_of line.now token))) }
 {
     match opened_behind(definitions, before, line, token) {
         Some(query) => with_query(opened, query),

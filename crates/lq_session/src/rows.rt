@@ -15,11 +15,11 @@ use lq_store::StoreError;
 use lq_tree::ty;
 use lq_typing::is_bool;
 use lq_use::uses;
-use lq_value::{End, Scalar, Txt};
+use lq_value::{End, Scalar, TableNumber, Txt};
 use std::alloc::Global;
 
 /// `Ok` exactly where no policy keeps a new row from the session's role; else stops with the denial by the rule that does.
-fn check_row(alloc: Global, table: u16, cells: &[Scalar], state: &State) -> Result<(), Stop>
+fn check_row(alloc: Global, table: TableNumber, cells: &[Scalar], state: &State) -> Result<(), Stop>
     ensures { ChecksRow state.now table cells.now result }
 {
     match state.policies().check(state.role(), table, cells) {
@@ -98,7 +98,8 @@ pub(crate) fn delete(
     state: &mut State,
 ) -> Result<Line, Stop>
     requires { is_past_opening opened ≡ false }
-    ensures { Performs (deleted state.old name.now row.now condition.now) state.old result state.new }
+    ensures { Performs (deleted state.old name.now row.now condition.now) state.old result
+        state.new }
 {
     let Some(table) = state.store().find(name) else {
         return Err(refusal(alloc, "type"));

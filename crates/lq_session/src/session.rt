@@ -31,7 +31,12 @@ impl Session {
     /// The first state of a session over these tables, with these policies, under this role. No name is
     /// defined. Takes no memory.
     pub fn new(alloc: Global, store: Store, policies: Policies, role: RoleId) -> Session
-        ensures { state_of result ≡ record { tables = store; policies = policies; role = number_of role; definitions = [] } }
+        ensures { state_of result ≡ record {
+          tables = store;
+          policies = policies;
+          role = number_of role;
+          definitions = [];
+        } }
     {
         Session {
             alloc,
@@ -82,7 +87,8 @@ impl Session {
     /// The reply to a line, or why its statement stops: the line is cut into tokens, which are read as a statement; what this
     /// opens is counted, and it is performed.
     fn answer(&mut self, line: &str) -> Result<Option<Line>, Stop>
-        ensures { Steps (step (state_of self.old) line.now) (state_of self.old) result (state_of self.new) }
+        ensures { Steps (step (state_of self.old) line.now) (state_of self.old) result
+            (state_of self.new) }
     {
         let tokens = tokens_of(self.alloc, line)?;
         let Some(statement) = statement_of(self.alloc, line, &tokens)? else {

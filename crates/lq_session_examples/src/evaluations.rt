@@ -4,7 +4,7 @@ use crate::tables::cells;
 use crate::values::spelled;
 use lq_scalar::{Cells, ExprType, Named, Names, Op, ScalarError, apply, eval, holds, is_total};
 use lq_syntax::parse_rule;
-use lq_value::{Fault, Scalar, Txt};
+use lq_value::{Fault, Scalar, TableNumber, Txt};
 use std::alloc::{AllocError, Global};
 use std::test::Fail;
 
@@ -90,7 +90,7 @@ impl Names for NoNames {
         None
     }
 
-    fn column_type(&self, _table: u16, _column: &str) -> Option<ExprType> {
+    fn column_type(&self, _table: TableNumber, _column: &str) -> Option<ExprType> {
         None
     }
 

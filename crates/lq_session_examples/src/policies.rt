@@ -7,7 +7,7 @@ use lq_policyfile::policies_from_toml;
 use lq_security::{Policy, PolicyParts, Role, TablePart};
 use lq_store::{Row, Store};
 use lq_syntax::parse_rule;
-use lq_value::{List, Scalar, Txt};
+use lq_value::{List, Scalar, TableNumber, Txt};
 use std::alloc::{AllocError, Global};
 use std::test::Fail;
 
@@ -62,7 +62,7 @@ fn sees(
     roles: &Policies,
     name: &str,
     policies: &Policies,
-    asked: (Action, u16),
+    asked: (Action, TableNumber),
     cells: &[Scalar],
 ) -> Result<Option<bool>, AllocError> {
     let (action, table) = asked;

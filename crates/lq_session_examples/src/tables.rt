@@ -4,7 +4,7 @@ ghost use Rattle.lq_store.specs.Rules.{keeps_rules};
 
 use crate::values::spelled;
 use lq_store::{Column, ColumnType, Row, Schema, Store, StoreError, Table};
-use lq_value::{List, Scalar, Txt};
+use lq_value::{List, Scalar, TableNumber, Txt};
 use std::alloc::{AllocError, Global};
 use std::process::Abort;
 use std::test::Fail;
@@ -82,7 +82,11 @@ fn cells_are_checked_in_order(rt: HostRuntime) -> Result<(), Fail> {
 }
 
 // The number that a store gives to a table, or the refusal, if that table is handed back.
-fn added(alloc: Global, store: &mut Store, name: &str) -> Result<Result<u16, StoreError>, Fail> {
+fn added(
+    alloc: Global,
+    store: &mut Store,
+    name: &str,
+) -> Result<Result<TableNumber, StoreError>, Fail> {
     match store.add(table(alloc, name, 1)?) {
         Ok(number) => Ok(Ok(number)),
         Err((error, back)) if back.schema().name.as_str() == name => Ok(Err(error)),
@@ -122,13 +126,13 @@ fn two_tables(alloc: Global) -> Result<Store, Fail> {
 }
 
 // The rows of a table that a store has.
-pub(crate) fn rows_of<'s>(rt: &impl Abort, store: &'s Store, t: u16) -> &'s [Row] {
+pub(crate) fn rows_of<'s>(rt: &impl Abort, store: &'s Store, t: TableNumber) -> &'s [Row] {
     assert!(rt; (t as usize) < store.len());
     store.rows(t)
 }
 
 // To whom a row is put in turn, its cells, and what is answered.
-const INSERTS: [(u16, &str, Answer); 6] = [
+const INSERTS: [(TableNumber, &str, Answer); 6] = [
     (2, "1", Err((StoreError::UnknownTable, 1))),
     (0, "", Err((StoreError::Arity, 0))),
     (0, "true", Err((StoreError::CellType, 1))),

@@ -3,7 +3,7 @@ ghost use Rattle.std.specs.Prelude.{◌≡◌};
 
 use crate::error::StoreError;
 use crate::table::Table;
-use lq_value::{Row, Scalar, Schema};
+use lq_value::{Row, Scalar, Schema, TableNumber};
 use std::alloc::Global;
 use std::marker::Model;
 
@@ -59,7 +59,7 @@ impl Store {
     }
 
     /// The number of the table of this name.
-    pub fn find(&self, name: &str) -> Option<u16>
+    pub fn find(&self, name: &str) -> Option<TableNumber>
         ensures value { result ≡ first_named name_of name.now self.now }
         ensures bound { IfSome result (λ t. t < length self.now) }
     {
@@ -72,16 +72,17 @@ impl Store {
     }
 
     /// The name and the columns of table `t`.
-    pub fn schema(&self, t: u16) -> &Schema
+    pub fn schema(&self, t: TableNumber) -> &Schema
         requires { t < length self.now }
-        ensures value { option_map (λ table. table.schema) (slice_get self.now t) ≡ Some result.now }
+        ensures value { option_map (λ table. table.schema) (slice_get self.now t)
+            ≡ Some result.now }
         ensures table { IfSome (slice_get self.now t) IsTable }
     {
         self.tables[t as usize].schema()
     }
 
     /// The rows of table `t`, in the order of their numbers.
-    pub fn rows(&self, t: u16) -> &[Row]
+    pub fn rows(&self, t: TableNumber) -> &[Row]
         requires { t < length self.now }
         ensures value { option_map (λ table. table.rows) (slice_get self.now t) ≡ Some result.now }
         ensures table { IfSome (slice_get self.now t) IsTable }
@@ -92,7 +93,7 @@ impl Store {
     /// Puts `table` behind the others and answers its number. Refuses with `DuplicateTable`,
     /// `TooMany` (there are 64) or `Memory`, checked in this order; the store is then as it
     /// was, and the table is handed back.
-    pub fn add(&mut self, table: Table) -> Result<u16, (StoreError, Table)>
+    pub fn add(&mut self, table: Table) -> Result<TableNumber, (StoreError, Table)>
         ensures { Adds self.old table result self.new }
     {
         if self.find(table.schema().name.as_str()).is_some() {
@@ -112,7 +113,11 @@ impl Store {
     /// the last one given there. Refuses with `UnknownTable`, `Arity`, `CellType`, `CellRange`,
     /// `Full` or `Memory`, checked in this order; the store is then as it was, and the cells are
     /// handed back.
-    pub fn insert(&mut self, t: u16, cells: Vec<Scalar>) -> Result<u64, (StoreError, Vec<Scalar>)>
+    pub fn insert(
+        &mut self,
+        t: TableNumber,
+        cells: Vec<Scalar>,
+    ) -> Result<u64, (StoreError, Vec<Scalar>)>
         ensures { Inserts self.old t cells.items (shown_pushed result) self.new }
     {
         let place = t as usize;
@@ -124,7 +129,7 @@ impl Store {
 
     /// Why table `t` would not take a row of `cells`, memory aside: `UnknownTable`, `Arity`, `CellType`,
     /// `CellRange` or `Full`, the first of them in this order. Takes no memory.
-    pub fn refusal(&self, t: u16, cells: &[Scalar]) -> Option<StoreError>
+    pub fn refusal(&self, t: TableNumber, cells: &[Scalar]) -> Option<StoreError>
         ensures { result ≡ insertion_refusal_of self.now t cells.now }
     {
         match self.tables.as_slice().get(t as usize) {
@@ -136,10 +141,11 @@ impl Store {
     /// Removes the rows of table `t` that have these numbers, in any order, and answers how many they
     /// were. Takes no memory. Numbers that rise are passed through once, beside the rows; each row is
     /// compared with each one where they don't.
-    pub fn delete_rows(&mut self, t: u16, numbers: &[u64]) -> u64
+    pub fn delete_rows(&mut self, t: TableNumber, numbers: &[u64]) -> u64
         requires { t < length self.old }
         ensures { IfSome (slice_get self.old t)
-            (λ table. (result ≡ count_listed table numbers.now) × (self.new ≡ set self.old t (without_rows table numbers.now))) }
+            (λ table. (result ≡ count_listed table numbers.now)
+            × (self.new ≡ set self.old t (without_rows table numbers.now))) }
     {
         self.tables[t as usize].delete_rows(numbers)
     }

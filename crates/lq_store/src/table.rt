@@ -120,7 +120,8 @@ impl Table {
 /// Removes the rows of these numbers, in any order. Rows stand in the order of their numbers.
 fn retain_unlisted(rows: &mut Vec<Row>, numbers: &[u64])
     requires { Rise rows.old.items }
-    ensures { rows.new.items ≡ filter (λ row. not (is_listed numbers.now row.number)) rows.old.items }
+    ensures { rows.new.items ≡ filter (λ row. not (is_listed numbers.now row.number))
+        rows.old.items }
 {
     if numbers.is_sorted() {
         retain_behind(rows, numbers);
@@ -133,7 +134,8 @@ fn retain_unlisted(rows: &mut Vec<Row>, numbers: &[u64])
 fn retain_behind(rows: &mut Vec<Row>, numbers: &[u64])
     requires rows { Rise rows.old.items }
     requires numbers { IsNonDecreasing numbers.now }
-    ensures { rows.new.items ≡ filter (λ row. not (is_listed numbers.now row.number)) rows.old.items }
+    ensures { rows.new.items ≡ filter (λ row. not (is_listed numbers.now row.number))
+        rows.old.items }
 {
     let mut left = numbers;
     rows.retain(|row| {

@@ -21,7 +21,8 @@ impl<'a, F: Fn(Global, &[u8], &mut Tokens<'_>, usize, Level) -> Result<Expr, Par
     #[tactic(auto, unfolding(lq_grammar::specs::Parsing::argument_at))]
     fn argument(&self, tokens: &mut Tokens<'_>) -> Result<Argument<Expr>, ParseError>
         requires { Nests self.now.depth (F.pre self.now.inner) (F.post self.now.inner) }
-        ensures { Reads (parsing.argument_at self.now.line.now (expression self.now.line.now self.now.depth) tokens.old) result tokens.new }
+        ensures { Reads (parsing.argument_at self.now.line.now
+            (expression self.now.line.now self.now.depth) tokens.old) result tokens.new }
     {
         if tokens.begins_with_two(Kind::Name, Kind::Arrow) {
             let parameter = literals::name(self.alloc, self.line, tokens)?;
@@ -36,7 +37,8 @@ impl<'a, F: Fn(Global, &[u8], &mut Tokens<'_>, usize, Level) -> Result<Expr, Par
     #[tactic(auto, unfolding(lq_grammar::specs::Parsing::some_arguments))]
     fn some_arguments(&self, tokens: &mut Tokens<'_>) -> Result<List<Argument<Expr>>, ParseError>
         requires { Nests self.now.depth (F.pre self.now.inner) (F.post self.now.inner) }
-        ensures { Reads (parsing.some_arguments self.now.line.now (expression self.now.line.now self.now.depth) tokens.old) result tokens.new }
+        ensures { Reads (parsing.some_arguments self.now.line.now
+            (expression self.now.line.now self.now.depth) tokens.old) result tokens.new }
     {
         let mut arguments = List::new(self.alloc);
         arguments.push(self.argument(tokens)?)?;
@@ -54,7 +56,8 @@ impl<'a, F: Fn(Global, &[u8], &mut Tokens<'_>, usize, Level) -> Result<Expr, Par
     #[tactic(auto, unfolding(lq_grammar::specs::Parsing::arguments, lq_grammar::specs::Parsing::after))]
     pub fn arguments(&self, tokens: &mut Tokens<'_>) -> Result<List<Argument<Expr>>, ParseError>
         requires { Nests self.now.depth (F.pre self.now.inner) (F.post self.now.inner) }
-        ensures { Reads (parsing.arguments self.now.line.now (expression self.now.line.now self.now.depth) tokens.old) result tokens.new }
+        ensures { Reads (parsing.arguments self.now.line.now
+            (expression self.now.line.now self.now.depth) tokens.old) result tokens.new }
     {
         if tokens.eat(Kind::RightParenthesis) {
             return Ok(List::new(self.alloc));

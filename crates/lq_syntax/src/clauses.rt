@@ -23,7 +23,8 @@ impl<'a, F: Fn(Global, &[u8], &mut Tokens<'_>, usize, Level) -> Result<Expr, Par
     #[tactic(auto, unfolding(lq_grammar::specs::Parsing::source))]
     pub fn source(&self, tokens: &mut Tokens<'_>) -> Result<Expr, ParseError>
         requires { Nests self.now.depth (F.pre self.now.inner) (F.post self.now.inner) }
-        ensures { Reads (parsing.source self.now.line.now (expression self.now.line.now self.now.depth) tokens.old) result tokens.new }
+        ensures { Reads (parsing.source self.now.line.now
+            (expression self.now.line.now self.now.depth) tokens.old) result tokens.new }
     {
         tokens.expect(Kind::In)?;
         self.inner(tokens, Level::Conditional)
@@ -33,7 +34,8 @@ impl<'a, F: Fn(Global, &[u8], &mut Tokens<'_>, usize, Level) -> Result<Expr, Par
     #[tactic(auto, unfolding(lq_grammar::specs::Parsing::key, lq_grammar::specs::Parsing::after))]
     fn key(&self, tokens: &mut Tokens<'_>) -> Result<SortKey<Expr>, ParseError>
         requires { Nests self.now.depth (F.pre self.now.inner) (F.post self.now.inner) }
-        ensures { Reads (parsing.key self.now.line.now (expression self.now.line.now self.now.depth) tokens.old) result tokens.new }
+        ensures { Reads (parsing.key self.now.line.now
+            (expression self.now.line.now self.now.depth) tokens.old) result tokens.new }
     {
         let value = self.inner(tokens, Level::Conditional)?;
         if tokens.eat(Kind::Ascending) {
@@ -50,7 +52,8 @@ impl<'a, F: Fn(Global, &[u8], &mut Tokens<'_>, usize, Level) -> Result<Expr, Par
     #[tactic(auto, unfolding(lq_grammar::specs::Parsing::keys))]
     fn keys(&self, tokens: &mut Tokens<'_>) -> Result<List<SortKey<Expr>>, ParseError>
         requires { Nests self.now.depth (F.pre self.now.inner) (F.post self.now.inner) }
-        ensures { Reads (parsing.keys self.now.line.now (expression self.now.line.now self.now.depth) tokens.old) result tokens.new }
+        ensures { Reads (parsing.keys self.now.line.now
+            (expression self.now.line.now self.now.depth) tokens.old) result tokens.new }
     {
         let mut keys = List::new(self.alloc);
         keys.push(self.key(tokens)?)?;
@@ -68,7 +71,8 @@ impl<'a, F: Fn(Global, &[u8], &mut Tokens<'_>, usize, Level) -> Result<Expr, Par
     #[tactic(auto, unfolding(lq_grammar::specs::Parsing::group_name, lq_grammar::specs::Parsing::after))]
     fn group_name(&self, tokens: &mut Tokens<'_>) -> Result<Option<Txt>, ParseError>
         requires { Nests self.now.depth (F.pre self.now.inner) (F.post self.now.inner) }
-        ensures { Reads (parsing.group_name self.now.line.now (expression self.now.line.now self.now.depth) tokens.old) result tokens.new }
+        ensures { Reads (parsing.group_name self.now.line.now
+            (expression self.now.line.now self.now.depth) tokens.old) result tokens.new }
     {
         if !tokens.eat(Kind::Into) {
             return Ok(None);
@@ -84,7 +88,9 @@ impl<'a, F: Fn(Global, &[u8], &mut Tokens<'_>, usize, Level) -> Result<Expr, Par
         tokens: &mut Tokens<'_>,
     ) -> Result<Clause<Expr>, ParseError>
         requires { Nests self.now.depth (F.pre self.now.inner) (F.post self.now.inner) }
-        ensures { Reads (part.join_behind self.now.line.now (expression self.now.line.now self.now.depth) name source tokens.old) result tokens.new }
+        ensures { Reads (part.join_behind self.now.line.now
+            (expression self.now.line.now self.now.depth) name source tokens.old) result
+            tokens.new }
     {
         tokens.expect(Kind::On)?;
         let outer_key = self.held(tokens)?;
@@ -104,7 +110,8 @@ impl<'a, F: Fn(Global, &[u8], &mut Tokens<'_>, usize, Level) -> Result<Expr, Par
     #[tactic(auto, unfolding(lq_grammar::specs::Parsing::join))]
     fn join(&self, tokens: &mut Tokens<'_>) -> Result<Clause<Expr>, ParseError>
         requires { Nests self.now.depth (F.pre self.now.inner) (F.post self.now.inner) }
-        ensures { Reads (parsing.join self.now.line.now (expression self.now.line.now self.now.depth) tokens.old) result tokens.new }
+        ensures { Reads (parsing.join self.now.line.now
+            (expression self.now.line.now self.now.depth) tokens.old) result tokens.new }
     {
         let name = literals::name(self.alloc, self.line, tokens)?;
         let source = Held::new(self.alloc, self.source(tokens)?)?;
@@ -114,7 +121,8 @@ impl<'a, F: Fn(Global, &[u8], &mut Tokens<'_>, usize, Level) -> Result<Expr, Par
     /// Behind `from`: `name "in" cond`
     fn from_clause(&self, tokens: &mut Tokens<'_>) -> Result<Clause<Expr>, ParseError>
         requires { Nests self.now.depth (F.pre self.now.inner) (F.post self.now.inner) }
-        ensures { Reads (part.from_clause self.now.line.now (expression self.now.line.now self.now.depth) tokens.old) result tokens.new }
+        ensures { Reads (part.from_clause self.now.line.now
+            (expression self.now.line.now self.now.depth) tokens.old) result tokens.new }
     {
         let name = literals::name(self.alloc, self.line, tokens)?;
         Ok(Clause::From(name, self.source(tokens)?))
@@ -123,7 +131,8 @@ impl<'a, F: Fn(Global, &[u8], &mut Tokens<'_>, usize, Level) -> Result<Expr, Par
     /// Behind `let`: `name "=" cond`
     fn let_clause(&self, tokens: &mut Tokens<'_>) -> Result<Clause<Expr>, ParseError>
         requires { Nests self.now.depth (F.pre self.now.inner) (F.post self.now.inner) }
-        ensures { Reads (part.let_clause self.now.line.now (expression self.now.line.now self.now.depth) tokens.old) result tokens.new }
+        ensures { Reads (part.let_clause self.now.line.now
+            (expression self.now.line.now self.now.depth) tokens.old) result tokens.new }
     {
         let name = literals::name(self.alloc, self.line, tokens)?;
         tokens.expect(Kind::Assign)?;
@@ -133,7 +142,8 @@ impl<'a, F: Fn(Global, &[u8], &mut Tokens<'_>, usize, Level) -> Result<Expr, Par
     /// A clause behind its first word, which is of the kind `word`.
     fn clause(&self, word: Kind, tokens: &mut Tokens<'_>) -> Result<Clause<Expr>, ParseError>
         requires { Nests self.now.depth (F.pre self.now.inner) (F.post self.now.inner) }
-        ensures { Reads (part.clause_behind self.now.line.now (expression self.now.line.now self.now.depth) word tokens.old) result tokens.new }
+        ensures { Reads (part.clause_behind self.now.line.now
+            (expression self.now.line.now self.now.depth) word tokens.old) result tokens.new }
     {
         match word {
             Kind::From => self.from_clause(tokens),
@@ -147,7 +157,9 @@ impl<'a, F: Fn(Global, &[u8], &mut Tokens<'_>, usize, Level) -> Result<Expr, Par
 
     /// Whether a clause begins with a word of this kind.
     fn begins_clause(&self, word: Kind) -> bool
-        ensures { result ≡ is_some (parsing.clause_by self.now.line.now (expression self.now.line.now self.now.depth) word) }
+        ensures { result
+            ≡ is_some (parsing.clause_by self.now.line.now
+            (expression self.now.line.now self.now.depth) word) }
     {
         matches!(
             word,
@@ -158,7 +170,8 @@ impl<'a, F: Fn(Global, &[u8], &mut Tokens<'_>, usize, Level) -> Result<Expr, Par
     /// The clauses that come next.
     pub fn clauses(&self, tokens: &mut Tokens<'_>) -> Result<List<Clause<Expr>>, ParseError>
         requires { Nests self.now.depth (F.pre self.now.inner) (F.post self.now.inner) }
-        ensures { Reads (part.all_clauses self.now.line.now (expression self.now.line.now self.now.depth) tokens.old) result tokens.new }
+        ensures { Reads (part.all_clauses self.now.line.now
+            (expression self.now.line.now self.now.depth) tokens.old) result tokens.new }
     {
         let mut clauses = List::new(self.alloc);
         for _turn in 0..tokens.left() {

@@ -138,7 +138,8 @@ impl<'a> Tokens<'a> {
     #[tactic(auto, using(crate::proofs::Fronts::eaten))]
     pub fn eat(&mut self, kind: Kind) -> bool
         ensures is { result ≡ parsing.begins_with kind self.old }
-        ensures taken { IsTrue result → parsing.expect kind self.old ≡ Some (next_token self.old, self.new) }
+        ensures taken { IsTrue result → parsing.expect kind self.old
+            ≡ Some (next_token self.old, self.new) }
         ensures left { IsFalse result → self.new ≡ self.old }
     {
         if !self.begins_with(kind) {

@@ -71,8 +71,10 @@ impl Levels {
     #[tactic(auto, using(crate::proofs::LevelLemmas::opens_past, crate::proofs::LevelLemmas::opens_heavy))]
     fn open_level(&mut self) -> bool
         requires { IsWithin self.old }
-        ensures past { result ≡ depth.is_past (depth.behind_token (levels_of self.old) depth.Opens) }
-        ensures levels { result ≡ false → levels_of self.new ≡ depth.behind_token (levels_of self.old) depth.Opens }
+        ensures past { result ≡ depth.is_past
+            (depth.behind_token (levels_of self.old) depth.Opens) }
+        ensures levels { result ≡ false → levels_of self.new
+            ≡ depth.behind_token (levels_of self.old) depth.Opens }
         ensures within { result ≡ false → IsWithin self.new }
     {
         if self.innermost >= BRACKET_LIMIT || self.weight >= WEIGHT_LIMIT {
@@ -87,7 +89,8 @@ impl Levels {
     /// A bracket closes, where one is open.
     fn close_level(&mut self)
         requires { IsWithin self.old }
-        ensures past { depth.is_past (depth.behind_token (levels_of self.old) depth.Closes) ≡ false }
+        ensures past { depth.is_past (depth.behind_token (levels_of self.old) depth.Closes)
+            ≡ false }
         ensures levels { levels_of self.new ≡ depth.behind_token (levels_of self.old) depth.Closes }
         ensures within { IsWithin self.new }
     {
@@ -101,8 +104,10 @@ impl Levels {
     #[tactic(auto, using(crate::proofs::LevelLemmas::weighs_heavy))]
     fn weigh_one(&mut self) -> bool
         requires { IsWithin self.old }
-        ensures past { result ≡ depth.is_past (depth.behind_token (levels_of self.old) depth.Weighs) }
-        ensures levels { result ≡ false → levels_of self.new ≡ depth.behind_token (levels_of self.old) depth.Weighs }
+        ensures past { result ≡ depth.is_past
+            (depth.behind_token (levels_of self.old) depth.Weighs) }
+        ensures levels { result ≡ false → levels_of self.new
+            ≡ depth.behind_token (levels_of self.old) depth.Weighs }
         ensures within { result ≡ false → IsWithin self.new }
     {
         if self.weight >= WEIGHT_LIMIT {
@@ -117,8 +122,10 @@ impl Levels {
     #[tactic(auto, using(crate::proofs::LevelLemmas::within_limits))]
     fn go_behind(&mut self, effect: Effect) -> bool
         requires { IsWithin self.old }
-        ensures past { result ≡ depth.is_past (depth.behind_token (levels_of self.old) (effect_shown effect)) }
-        ensures levels { result ≡ false → levels_of self.new ≡ depth.behind_token (levels_of self.old) (effect_shown effect) }
+        ensures past { result ≡ depth.is_past
+            (depth.behind_token (levels_of self.old) (effect_shown effect)) }
+        ensures levels { result ≡ false → levels_of self.new
+            ≡ depth.behind_token (levels_of self.old) (effect_shown effect) }
         ensures within { result ≡ false → IsWithin self.new }
     {
         match effect {

@@ -20,7 +20,8 @@ impl<'a, F: Fn(Global, &[u8], &mut Tokens<'_>, usize, Level) -> Result<Expr, Par
     /// Whether 2147483648 comes next, which behind a minus sign is the least `int`.
     #[tactic(auto, using(crate::proofs::Readers::least_none, crate::proofs::Readers::least_some, crate::proofs::Readers::least_other))]
     fn is_least(&self, tokens: &Tokens<'_>) -> bool
-        ensures { result ≡ parsing.is_least self.now.line.now (expression self.now.line.now self.now.depth) tokens.now }
+        ensures { result ≡ parsing.is_least self.now.line.now
+            (expression self.now.line.now self.now.depth) tokens.now }
     {
         match tokens.next() {
             Some((token, _)) => {
@@ -35,7 +36,8 @@ impl<'a, F: Fn(Global, &[u8], &mut Tokens<'_>, usize, Level) -> Result<Expr, Par
     #[tactic(auto, unfolding(lq_grammar::specs::Parsing::below_zero))]
     fn below_zero(&self, tokens: &mut Tokens<'_>) -> Result<Expr, ParseError>
         requires { Nests self.now.depth (F.pre self.now.inner) (F.post self.now.inner) }
-        ensures { Reads (parsing.below_zero self.now.line.now (expression self.now.line.now self.now.depth) tokens.old) result tokens.new }
+        ensures { Reads (parsing.below_zero self.now.line.now
+            (expression self.now.line.now self.now.depth) tokens.old) result tokens.new }
     {
         if self.is_least(tokens) {
             tokens.expect(Kind::Integer)?;
@@ -49,7 +51,8 @@ impl<'a, F: Fn(Global, &[u8], &mut Tokens<'_>, usize, Level) -> Result<Expr, Par
     #[tactic(auto, unfolding(lq_grammar::specs::Parsing::prefix, lq_grammar::specs::Parsing::after))]
     fn prefix(&self, tokens: &mut Tokens<'_>) -> Result<Expr, ParseError>
         requires { Nests self.now.depth (F.pre self.now.inner) (F.post self.now.inner) }
-        ensures { Reads (parsing.prefix self.now.line.now (expression self.now.line.now self.now.depth) tokens.old) result tokens.new }
+        ensures { Reads (parsing.prefix self.now.line.now
+            (expression self.now.line.now self.now.depth) tokens.old) result tokens.new }
     {
         if tokens.eat(Kind::Not) {
             let x = self.inner(tokens, Level::Unary)?;
@@ -64,7 +67,8 @@ impl<'a, F: Fn(Global, &[u8], &mut Tokens<'_>, usize, Level) -> Result<Expr, Par
     /// Operands of the levels below `level`, joined by operators of those levels from the left.
     fn chain(&self, tokens: &mut Tokens<'_>, level: usize) -> Result<Expr, ParseError>
         requires { Nests self.now.depth (F.pre self.now.inner) (F.post self.now.inner) }
-        ensures { Reads (parsing.chain self.now.line.now (expression self.now.line.now self.now.depth) level tokens.old) result tokens.new }
+        ensures { Reads (parsing.chain self.now.line.now
+            (expression self.now.line.now self.now.depth) level tokens.old) result tokens.new }
     {
         if level == 0 {
             return self.prefix(tokens);
@@ -86,7 +90,8 @@ impl<'a, F: Fn(Global, &[u8], &mut Tokens<'_>, usize, Level) -> Result<Expr, Par
     #[tactic(auto, unfolding(lq_grammar::specs::Parsing::coalescing, lq_grammar::specs::Parsing::after))]
     fn coalescing(&self, tokens: &mut Tokens<'_>) -> Result<Expr, ParseError>
         requires { Nests self.now.depth (F.pre self.now.inner) (F.post self.now.inner) }
-        ensures { Reads (parsing.coalescing self.now.line.now (expression self.now.line.now self.now.depth) tokens.old) result tokens.new }
+        ensures { Reads (parsing.coalescing self.now.line.now
+            (expression self.now.line.now self.now.depth) tokens.old) result tokens.new }
     {
         let x = self.chain(tokens, operators::LEVELS)?;
         if !tokens.eat(Kind::Coalesce) {
@@ -101,7 +106,8 @@ impl<'a, F: Fn(Global, &[u8], &mut Tokens<'_>, usize, Level) -> Result<Expr, Par
     #[tactic(auto, unfolding(lq_grammar::specs::Parsing::conditional, lq_grammar::specs::Parsing::after))]
     fn conditional(&self, tokens: &mut Tokens<'_>) -> Result<Expr, ParseError>
         requires { Nests self.now.depth (F.pre self.now.inner) (F.post self.now.inner) }
-        ensures { Reads (parsing.conditional self.now.line.now (expression self.now.line.now self.now.depth) tokens.old) result tokens.new }
+        ensures { Reads (parsing.conditional self.now.line.now
+            (expression self.now.line.now self.now.depth) tokens.old) result tokens.new }
     {
         let x = self.coalescing(tokens)?;
         if !tokens.eat(Kind::Question) {
@@ -118,7 +124,8 @@ impl<'a, F: Fn(Global, &[u8], &mut Tokens<'_>, usize, Level) -> Result<Expr, Par
     #[tactic(auto, unfolding(lq_grammar::specs::Parsing::top))]
     fn top(&self, tokens: &mut Tokens<'_>) -> Result<Expr, ParseError>
         requires { Nests self.now.depth (F.pre self.now.inner) (F.post self.now.inner) }
-        ensures { Reads (parsing.top self.now.line.now (expression self.now.line.now self.now.depth) tokens.old) result tokens.new }
+        ensures { Reads (parsing.top self.now.line.now
+            (expression self.now.line.now self.now.depth) tokens.old) result tokens.new }
     {
         if tokens.begins_with(Kind::From) {
             let query = self.query(tokens)?;
@@ -131,7 +138,8 @@ impl<'a, F: Fn(Global, &[u8], &mut Tokens<'_>, usize, Level) -> Result<Expr, Par
     #[tactic(auto, unfolding(lq_grammar::specs::Parsing::rule))]
     pub fn rule(&self, tokens: &mut Tokens<'_>, level: Level) -> Result<Expr, ParseError>
         requires { Nests self.now.depth (F.pre self.now.inner) (F.post self.now.inner) }
-        ensures { Reads (parsing.rule self.now.line.now (expression self.now.line.now self.now.depth) level tokens.old) result tokens.new }
+        ensures { Reads (parsing.rule self.now.line.now
+            (expression self.now.line.now self.now.depth) level tokens.old) result tokens.new }
     {
         match level {
             Level::Top => self.top(tokens),

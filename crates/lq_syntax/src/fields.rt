@@ -30,7 +30,8 @@ impl<'a, F: Fn(Global, &[u8], &mut Tokens<'_>, usize, Level) -> Result<Expr, Par
     /// `name "=" cond`
     fn assigned(&self, tokens: &mut Tokens<'_>) -> Result<Field<Expr>, ParseError>
         requires { Nests self.now.depth (F.pre self.now.inner) (F.post self.now.inner) }
-        ensures { Reads (part.assigned self.now.line.now (expression self.now.line.now self.now.depth) tokens.old) result tokens.new }
+        ensures { Reads (part.assigned self.now.line.now
+            (expression self.now.line.now self.now.depth) tokens.old) result tokens.new }
     {
         let name = literals::name(self.alloc, self.line, tokens)?;
         tokens.expect(Kind::Assign)?;
@@ -41,7 +42,8 @@ impl<'a, F: Fn(Global, &[u8], &mut Tokens<'_>, usize, Level) -> Result<Expr, Par
     /// The name that a token is.
     #[tactic(auto, unfolding(lq_grammar::specs::Parsing::same_kind))]
     fn named_by(&self, token: Option<Token>) -> Result<Txt, ParseError>
-        ensures { (left : Listed Token) → Reads (part.named_by self.now.line.now token left) result left }
+        ensures { (left : Listed Token) → Reads (part.named_by self.now.line.now token left) result
+            left }
     {
         let Some(token) = token else {
             return Err(ParseError::Syntax);
@@ -57,7 +59,8 @@ impl<'a, F: Fn(Global, &[u8], &mut Tokens<'_>, usize, Level) -> Result<Expr, Par
     #[tactic(auto, using(crate::proofs::Readers::unnamed, crate::proofs::Readers::named))]
     fn named_last(&self, tokens: &mut Tokens<'_>) -> Result<Field<Expr>, ParseError>
         requires { Nests self.now.depth (F.pre self.now.inner) (F.post self.now.inner) }
-        ensures { Reads (part.named_last self.now.line.now (expression self.now.line.now self.now.depth) tokens.old) result tokens.new }
+        ensures { Reads (part.named_last self.now.line.now
+            (expression self.now.line.now self.now.depth) tokens.old) result tokens.new }
     {
         let all = tokens.rest();
         let value = self.inner(tokens, Level::Primary)?;
@@ -69,7 +72,8 @@ impl<'a, F: Fn(Global, &[u8], &mut Tokens<'_>, usize, Level) -> Result<Expr, Par
     #[tactic(auto, unfolding(lq_grammar::specs::Parsing::field))]
     fn field(&self, tokens: &mut Tokens<'_>) -> Result<Field<Expr>, ParseError>
         requires { Nests self.now.depth (F.pre self.now.inner) (F.post self.now.inner) }
-        ensures { Reads (parsing.field self.now.line.now (expression self.now.line.now self.now.depth) tokens.old) result tokens.new }
+        ensures { Reads (parsing.field self.now.line.now
+            (expression self.now.line.now self.now.depth) tokens.old) result tokens.new }
     {
         if tokens.begins_with_two(Kind::Name, Kind::Assign) {
             return self.assigned(tokens);
@@ -81,7 +85,8 @@ impl<'a, F: Fn(Global, &[u8], &mut Tokens<'_>, usize, Level) -> Result<Expr, Par
     #[tactic(auto, unfolding(lq_grammar::specs::Parsing::fields, lq_grammar::specs::Parsing::after))]
     pub fn fields(&self, tokens: &mut Tokens<'_>) -> Result<List<Field<Expr>>, ParseError>
         requires { Nests self.now.depth (F.pre self.now.inner) (F.post self.now.inner) }
-        ensures { Reads (parsing.fields self.now.line.now (expression self.now.line.now self.now.depth) tokens.old) result tokens.new }
+        ensures { Reads (parsing.fields self.now.line.now
+            (expression self.now.line.now self.now.depth) tokens.old) result tokens.new }
     {
         let mut fields = List::new(self.alloc);
         if tokens.eat(Kind::RightBrace) {

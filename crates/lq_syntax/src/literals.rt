@@ -62,7 +62,8 @@ pub fn name(alloc: Global, line: &[u8], tokens: &mut Tokens<'_>) -> Result<Txt, 
 
 /// The value of decimal digits, `None` where it is above 2147483648.
 fn value_of(digits: &[u8]) -> Option<u32>
-    ensures { result ≡ (if nat_le (decimal_value digits.now) 2147483648 then Some (decimal_value digits.now) else None) }
+    ensures { result ≡ (if nat_le (decimal_value digits.now) 2147483648
+        then Some (decimal_value digits.now) else None) }
 {
     let mut value: u64 = 0;
     for digit in digits {
@@ -76,14 +77,16 @@ fn value_of(digits: &[u8]) -> Option<u32>
 
 /// The `int` that digits spell, `None` where there is none so great.
 pub fn int_of(digits: &[u8]) -> Option<i32>
-    ensures { result ≡ (if nat_lt (decimal_value digits.now) 2147483648 then Some (pos (decimal_value digits.now)) else None) }
+    ensures { result ≡ (if nat_lt (decimal_value digits.now) 2147483648
+        then Some (pos (decimal_value digits.now)) else None) }
 {
     int_value(digits)
 }
 
 /// The `int` that a minus sign and digits spell, `None` where there is none so little.
 pub fn negative_of(digits: &[u8]) -> Option<i32>
-    ensures { result ≡ (if nat_le (decimal_value digits.now) 2147483648 then Some (neg_ℤ (pos (decimal_value digits.now))) else None) }
+    ensures { result ≡ (if nat_le (decimal_value digits.now) 2147483648
+        then Some (neg_ℤ (pos (decimal_value digits.now))) else None) }
 {
     let value = value_of(digits)?;
     i32::try_from(-i64::from(value)).ok()

@@ -16,7 +16,8 @@ fn first_statement(
     tokens: &mut Tokens<'_>,
     depth: usize,
 ) -> Result<Held<Statement>, ParseError>
-    ensures { Reads (parsing.statement_line line.now (parsing.expression line.now depth) tokens.old) result tokens.new }
+    ensures { Reads (parsing.statement_line line.now (parsing.expression line.now depth)
+        tokens.old) result tokens.new }
 {
     let grammar = Grammar {
         alloc,

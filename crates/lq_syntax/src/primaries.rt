@@ -23,7 +23,8 @@ impl<'a, F: Fn(Global, &[u8], &mut Tokens<'_>, usize, Level) -> Result<Expr, Par
     /// Behind `(`: `top ")"`
     fn parenthesized(&self, tokens: &mut Tokens<'_>) -> Result<Expr, ParseError>
         requires { Nests self.now.depth (F.pre self.now.inner) (F.post self.now.inner) }
-        ensures { Reads (part.parenthesized self.now.line.now (expression self.now.line.now self.now.depth) tokens.old) result tokens.new }
+        ensures { Reads (part.parenthesized self.now.line.now
+            (expression self.now.line.now self.now.depth) tokens.old) result tokens.new }
     {
         let x = self.inner(tokens, Level::Top)?;
         tokens.expect(Kind::RightParenthesis)?;
@@ -33,7 +34,8 @@ impl<'a, F: Fn(Global, &[u8], &mut Tokens<'_>, usize, Level) -> Result<Expr, Par
     /// Behind `Host`: `"." name "(" cond ")"`
     fn host(&self, tokens: &mut Tokens<'_>) -> Result<Expr, ParseError>
         requires { Nests self.now.depth (F.pre self.now.inner) (F.post self.now.inner) }
-        ensures { Reads (part.host self.now.line.now (expression self.now.line.now self.now.depth) tokens.old) result tokens.new }
+        ensures { Reads (part.host self.now.line.now (expression self.now.line.now self.now.depth)
+            tokens.old) result tokens.new }
     {
         tokens.expect(Kind::Dot)?;
         let predicate = literals::name(self.alloc, self.line, tokens)?;
@@ -48,7 +50,8 @@ impl<'a, F: Fn(Global, &[u8], &mut Tokens<'_>, usize, Level) -> Result<Expr, Par
     /// Behind `new`: `"{" [member {"," member} [","]] "}"`
     fn record(&self, tokens: &mut Tokens<'_>) -> Result<Expr, ParseError>
         requires { Nests self.now.depth (F.pre self.now.inner) (F.post self.now.inner) }
-        ensures { Reads (part.record_of self.now.line.now (expression self.now.line.now self.now.depth) tokens.old) result tokens.new }
+        ensures { Reads (part.record_of self.now.line.now
+            (expression self.now.line.now self.now.depth) tokens.old) result tokens.new }
     {
         tokens.expect(Kind::LeftBrace)?;
         Ok(Expr::Node(Node::New(self.fields(tokens)?)))
@@ -56,7 +59,9 @@ impl<'a, F: Fn(Global, &[u8], &mut Tokens<'_>, usize, Level) -> Result<Expr, Par
 
     /// An integer literal.
     fn integer(&self, token: Token) -> Result<Expr, ParseError>
-        ensures { (left : Listed Token) → Reads (parsing.literal self.now.line.now (decimal_value (text_of self.now.line.now token)) left) result left }
+        ensures { (left : Listed Token) → Reads
+            (parsing.literal self.now.line.now (decimal_value (text_of self.now.line.now token))
+            left) result left }
     {
         match literals::int_of(literals::bytes_of(self.line, token)) {
             Some(value) => Ok(Expr::Node(Node::Integer(value))),
@@ -67,7 +72,9 @@ impl<'a, F: Fn(Global, &[u8], &mut Tokens<'_>, usize, Level) -> Result<Expr, Par
     /// A primary expression up to its first dot, behind its first token.
     fn start_by(&self, token: Token, tokens: &mut Tokens<'_>) -> Result<Expr, ParseError>
         requires { Nests self.now.depth (F.pre self.now.inner) (F.post self.now.inner) }
-        ensures { Reads (parsing.start_by self.now.line.now (expression self.now.line.now self.now.depth) token.kind token tokens.old) result tokens.new }
+        ensures { Reads (parsing.start_by self.now.line.now
+            (expression self.now.line.now self.now.depth) token.kind token tokens.old) result
+            tokens.new }
     {
         match token.kind {
             Kind::Integer => self.integer(token),
@@ -93,7 +100,8 @@ impl<'a, F: Fn(Global, &[u8], &mut Tokens<'_>, usize, Level) -> Result<Expr, Par
     #[tactic(auto, using(crate::proofs::Readers::start_none, crate::proofs::Readers::start_some))]
     fn start(&self, tokens: &mut Tokens<'_>) -> Result<Expr, ParseError>
         requires { Nests self.now.depth (F.pre self.now.inner) (F.post self.now.inner) }
-        ensures { Reads (parsing.start self.now.line.now (expression self.now.line.now self.now.depth) tokens.old) result tokens.new }
+        ensures { Reads (parsing.start self.now.line.now
+            (expression self.now.line.now self.now.depth) tokens.old) result tokens.new }
     {
         let token = tokens.take()?;
         self.start_by(token, tokens)
@@ -103,7 +111,8 @@ impl<'a, F: Fn(Global, &[u8], &mut Tokens<'_>, usize, Level) -> Result<Expr, Par
     #[tactic(auto, unfolding(lq_grammar::specs::Parsing::primary))]
     pub fn primary(&self, tokens: &mut Tokens<'_>) -> Result<Expr, ParseError>
         requires { Nests self.now.depth (F.pre self.now.inner) (F.post self.now.inner) }
-        ensures { Reads (parsing.primary self.now.line.now (expression self.now.line.now self.now.depth) tokens.old) result tokens.new }
+        ensures { Reads (parsing.primary self.now.line.now
+            (expression self.now.line.now self.now.depth) tokens.old) result tokens.new }
     {
         let mut x = self.start(tokens)?;
         for _turn in 0..tokens.left() {

@@ -22,7 +22,8 @@ impl<'a, F: Fn(Global, &[u8], &mut Tokens<'_>, usize, Level) -> Result<Expr, Par
     #[tactic(auto, unfolding(lq_grammar::specs::Parsing::ending, lq_grammar::specs::Parsing::after))]
     fn ending(&self, tokens: &mut Tokens<'_>) -> Result<Last<Expr>, ParseError>
         requires { Nests self.now.depth (F.pre self.now.inner) (F.post self.now.inner) }
-        ensures { Reads (parsing.ending self.now.line.now (expression self.now.line.now self.now.depth) tokens.old) result tokens.new }
+        ensures { Reads (parsing.ending self.now.line.now
+            (expression self.now.line.now self.now.depth) tokens.old) result tokens.new }
     {
         if tokens.eat(Kind::Select) {
             return Ok(Last::Select(self.inner(tokens, Level::Conditional)?));
@@ -38,7 +39,8 @@ impl<'a, F: Fn(Global, &[u8], &mut Tokens<'_>, usize, Level) -> Result<Expr, Par
     #[tactic(auto, unfolding(lq_grammar::specs::Parsing::body))]
     fn body(&self, tokens: &mut Tokens<'_>) -> Result<Body<Expr>, ParseError>
         requires { Nests self.now.depth (F.pre self.now.inner) (F.post self.now.inner) }
-        ensures { Reads (parsing.body self.now.line.now (expression self.now.line.now self.now.depth) tokens.old) result tokens.new }
+        ensures { Reads (parsing.body self.now.line.now
+            (expression self.now.line.now self.now.depth) tokens.old) result tokens.new }
     {
         let clauses = self.clauses(tokens)?;
         let last = self.ending(tokens)?;
@@ -48,7 +50,8 @@ impl<'a, F: Fn(Global, &[u8], &mut Tokens<'_>, usize, Level) -> Result<Expr, Par
     /// `{"into" name body}`
     fn continuations(&self, tokens: &mut Tokens<'_>) -> Result<List<Continuation<Expr>>, ParseError>
         requires { Nests self.now.depth (F.pre self.now.inner) (F.post self.now.inner) }
-        ensures { Reads (part.all_continuations self.now.line.now (expression self.now.line.now self.now.depth) tokens.old) result tokens.new }
+        ensures { Reads (part.all_continuations self.now.line.now
+            (expression self.now.line.now self.now.depth) tokens.old) result tokens.new }
     {
         let mut rest = List::new(self.alloc);
         for _turn in 0..tokens.left() {
@@ -66,7 +69,8 @@ impl<'a, F: Fn(Global, &[u8], &mut Tokens<'_>, usize, Level) -> Result<Expr, Par
     #[tactic(auto, unfolding(lq_grammar::specs::Parsing::query))]
     pub fn query(&self, tokens: &mut Tokens<'_>) -> Result<Query<Expr>, ParseError>
         requires { Nests self.now.depth (F.pre self.now.inner) (F.post self.now.inner) }
-        ensures { Reads (parsing.query self.now.line.now (expression self.now.line.now self.now.depth) tokens.old) result tokens.new }
+        ensures { Reads (parsing.query self.now.line.now
+            (expression self.now.line.now self.now.depth) tokens.old) result tokens.new }
     {
         tokens.expect(Kind::From)?;
         let name = literals::name(self.alloc, self.line, tokens)?;

@@ -21,7 +21,8 @@ impl<'a, F: Fn(Global, &[u8], &mut Tokens<'_>, usize, Level) -> Result<Expr, Par
     #[tactic(auto, unfolding(lq_grammar::specs::Parsing::value_and_end))]
     fn value_and_end(&self, tokens: &mut Tokens<'_>) -> Result<Expr, ParseError>
         requires { Nests self.now.depth (F.pre self.now.inner) (F.post self.now.inner) }
-        ensures { Reads (parsing.value_and_end self.now.line.now (expression self.now.line.now self.now.depth) tokens.old) result tokens.new }
+        ensures { Reads (parsing.value_and_end self.now.line.now
+            (expression self.now.line.now self.now.depth) tokens.old) result tokens.new }
     {
         let x = self.inner(tokens, Level::Top)?;
         tokens.expect(Kind::Semicolon)?;
@@ -31,7 +32,8 @@ impl<'a, F: Fn(Global, &[u8], &mut Tokens<'_>, usize, Level) -> Result<Expr, Par
     /// Behind `var`: `name "=" top ";"`
     fn definition(&self, tokens: &mut Tokens<'_>) -> Result<Statement, ParseError>
         requires { Nests self.now.depth (F.pre self.now.inner) (F.post self.now.inner) }
-        ensures { Reads (part.definition self.now.line.now (expression self.now.line.now self.now.depth) tokens.old) result tokens.new }
+        ensures { Reads (part.definition self.now.line.now
+            (expression self.now.line.now self.now.depth) tokens.old) result tokens.new }
     {
         let name = literals::name(self.alloc, self.line, tokens)?;
         tokens.expect(Kind::Assign)?;
@@ -41,7 +43,8 @@ impl<'a, F: Fn(Global, &[u8], &mut Tokens<'_>, usize, Level) -> Result<Expr, Par
     /// Behind a name: `"=" top ";"`
     fn assignment(&self, name: Token, tokens: &mut Tokens<'_>) -> Result<Statement, ParseError>
         requires { Nests self.now.depth (F.pre self.now.inner) (F.post self.now.inner) }
-        ensures { Reads (part.assignment self.now.line.now (expression self.now.line.now self.now.depth) name tokens.old) result tokens.new }
+        ensures { Reads (part.assignment self.now.line.now
+            (expression self.now.line.now self.now.depth) name tokens.old) result tokens.new }
     {
         tokens.expect(Kind::Assign)?;
         let value = self.value_and_end(tokens)?;
@@ -52,7 +55,8 @@ impl<'a, F: Fn(Global, &[u8], &mut Tokens<'_>, usize, Level) -> Result<Expr, Par
     /// Behind `as`: `name ";"`
     fn role(&self, tokens: &mut Tokens<'_>) -> Result<Statement, ParseError>
         requires { Nests self.now.depth (F.pre self.now.inner) (F.post self.now.inner) }
-        ensures { Reads (part.role self.now.line.now (expression self.now.line.now self.now.depth) tokens.old) result tokens.new }
+        ensures { Reads (part.role self.now.line.now (expression self.now.line.now self.now.depth)
+            tokens.old) result tokens.new }
     {
         let role = literals::name(self.alloc, self.line, tokens)?;
         tokens.expect(Kind::Semicolon)?;
@@ -62,7 +66,8 @@ impl<'a, F: Fn(Global, &[u8], &mut Tokens<'_>, usize, Level) -> Result<Expr, Par
     /// Behind `insert`: `name "(" cells ")" ";"`
     fn insertion(&self, tokens: &mut Tokens<'_>) -> Result<Statement, ParseError>
         requires { Nests self.now.depth (F.pre self.now.inner) (F.post self.now.inner) }
-        ensures { Reads (part.insertion self.now.line.now (expression self.now.line.now self.now.depth) tokens.old) result tokens.new }
+        ensures { Reads (part.insertion self.now.line.now
+            (expression self.now.line.now self.now.depth) tokens.old) result tokens.new }
     {
         let table = literals::name(self.alloc, self.line, tokens)?;
         tokens.expect(Kind::LeftParenthesis)?;
@@ -75,7 +80,8 @@ impl<'a, F: Fn(Global, &[u8], &mut Tokens<'_>, usize, Level) -> Result<Expr, Par
     /// Behind `delete`: `name name "=>" cond ";"`
     fn deletion(&self, tokens: &mut Tokens<'_>) -> Result<Statement, ParseError>
         requires { Nests self.now.depth (F.pre self.now.inner) (F.post self.now.inner) }
-        ensures { Reads (part.deletion self.now.line.now (expression self.now.line.now self.now.depth) tokens.old) result tokens.new }
+        ensures { Reads (part.deletion self.now.line.now
+            (expression self.now.line.now self.now.depth) tokens.old) result tokens.new }
     {
         let table = literals::name(self.alloc, self.line, tokens)?;
         let row = literals::name(self.alloc, self.line, tokens)?;
@@ -88,7 +94,9 @@ impl<'a, F: Fn(Global, &[u8], &mut Tokens<'_>, usize, Level) -> Result<Expr, Par
     /// A statement behind its first token.
     fn statement_by(&self, token: Token, tokens: &mut Tokens<'_>) -> Result<Statement, ParseError>
         requires { Nests self.now.depth (F.pre self.now.inner) (F.post self.now.inner) }
-        ensures { Reads (parsing.statement_by self.now.line.now (expression self.now.line.now self.now.depth) token.kind token tokens.old) result tokens.new }
+        ensures { Reads (parsing.statement_by self.now.line.now
+            (expression self.now.line.now self.now.depth) token.kind token tokens.old) result
+            tokens.new }
     {
         match token.kind {
             Kind::Run => Ok(Statement::Run(self.value_and_end(tokens)?)),
@@ -105,7 +113,8 @@ impl<'a, F: Fn(Global, &[u8], &mut Tokens<'_>, usize, Level) -> Result<Expr, Par
     #[tactic(auto, using(crate::proofs::Readers::statement_none, crate::proofs::Readers::statement_some))]
     pub fn statement(&self, tokens: &mut Tokens<'_>) -> Result<Statement, ParseError>
         requires { Nests self.now.depth (F.pre self.now.inner) (F.post self.now.inner) }
-        ensures { Reads (parsing.statement_line self.now.line.now (expression self.now.line.now self.now.depth) tokens.old) result tokens.new }
+        ensures { Reads (parsing.statement_line self.now.line.now
+            (expression self.now.line.now self.now.depth) tokens.old) result tokens.new }
     {
         let token = tokens.take()?;
         self.statement_by(token, tokens)

@@ -66,7 +66,8 @@ pub fn parse_tokens(
     ensures none { IfOk result (λ read. IsNone read ↔ (tokens_of line.now ≡ Some [])) }
     ensures too_deep { result ≡ Err SyntaxError.TooDeep → IsPastDepth line.now }
     // Where the line is refused for its syntax, its tokens spell none.
-    ensures no_tree { result ≡ Err SyntaxError.Syntax → (tree : Statement) → ¬ (IsSpelled line.now (part.Line tree)) }
+    ensures no_tree { result ≡ Err SyntaxError.Syntax → (tree : Statement)
+        → ¬ (IsSpelled line.now (part.Line tree)) }
 {
     read_tokens(alloc, line, tokens)
 }
@@ -95,7 +96,8 @@ pub fn parse_statement(alloc: Global, line: &str) -> Result<Option<Statement>, S
     ensures none { IfOk result (λ read. IsNone read ↔ (tokens_of line.now ≡ Some [])) }
     ensures too_deep { result ≡ Err SyntaxError.TooDeep → IsPastDepth line.now }
     // Where the line is refused for its syntax, its tokens spell none.
-    ensures no_tree { result ≡ Err SyntaxError.Syntax → (tree : Statement) → ¬ (IsSpelled line.now (part.Line tree)) }
+    ensures no_tree { result ≡ Err SyntaxError.Syntax → (tree : Statement)
+        → ¬ (IsSpelled line.now (part.Line tree)) }
 {
     read_line(alloc, line)
 }
@@ -111,7 +113,8 @@ pub fn parse_rule(alloc: Global, text: &str) -> Result<Expr, SyntaxError>
     ensures tree { IfOk result (λ tree. IsSpelled text.now (part.Conditional tree)) }
     ensures too_deep { result ≡ Err SyntaxError.TooDeep → IsPastDepth text.now }
     // Where the text is refused for its syntax, its tokens spell none.
-    ensures no_tree { result ≡ Err SyntaxError.Syntax → (tree : Expr) → ¬ (IsSpelled text.now (part.Conditional tree)) }
+    ensures no_tree { result ≡ Err SyntaxError.Syntax → (tree : Expr)
+        → ¬ (IsSpelled text.now (part.Conditional tree)) }
 {
     read_rule(alloc, text)
 }

@@ -152,7 +152,8 @@ fn push_final<X: Named>(
     clause: Clause<X>,
     last: Last<X>,
 ) -> Result<(), AllocError>
-    ensures { OnOk result (made.new ≡ made.old ++ operators_of X.naming name.now true sole (clause ∷ []) last) }
+    ensures { OnOk result (made.new ≡ made.old
+        ++ operators_of X.naming name.now true sole (clause ∷ []) last) }
 {
     let sole = sole && !brings_name(&clause);
     let makes = makes_results(&clause);
@@ -197,7 +198,8 @@ fn push_select<X: Named>(
     sole: bool,
     value: X,
 ) -> Result<(), AllocError>
-    ensures { OnOk result (made.new ≡ made.old ++ last_operators X.naming name.now used sole (last.Select value)) }
+    ensures { OnOk result (made.new ≡ made.old
+        ++ last_operators X.naming name.now used sole (last.Select value)) }
 {
     if used && sole && value.is_name(name) {
         return Ok(());
@@ -213,7 +215,8 @@ fn push_group<X: Named>(
     element: X,
     key: X,
 ) -> Result<(), AllocError>
-    ensures { OnOk result (made.new ≡ made.old ++ last_operators X.naming name.now true sole (last.Group element key)) }
+    ensures { OnOk result (made.new ≡ made.old
+        ++ last_operators X.naming name.now true sole (last.Group element key)) }
 {
     if sole && element.is_name(name) {
         return made.push(Operator::GroupBy(key, None));

@@ -127,7 +127,8 @@ fn name_of(alloc: Global, name: &Txt) -> Result<Term, AllocError>
 #[cycle(translating)]
 #[inline(never)]
 fn member_of(alloc: Global, operand: &Expr, member: &Txt) -> Result<Term, AllocError>
-    ensures { IfOk result (λ made. made ≡ term.Node (node.Member (translated operand.now) member.now)) }
+    ensures { IfOk result (λ made. made
+        ≡ term.Node (node.Member (translated operand.now) member.now)) }
 {
     let operand = held(alloc, operand)?;
     Ok(Term::Node(Node::Member(operand, copied(alloc, member)?)))
@@ -144,7 +145,8 @@ fn unary_of(alloc: Global, sign: Unary, operand: &Expr) -> Result<Term, AllocErr
 #[cycle(translating)]
 #[inline(never)]
 fn binary_of(alloc: Global, sign: Binary, left: &Expr, right: &Expr) -> Result<Term, AllocError>
-    ensures { IfOk result (λ made. made ≡ term.Node (node.Binary sign (translated left.now) (translated right.now))) }
+    ensures { IfOk result (λ made. made
+        ≡ term.Node (node.Binary sign (translated left.now) (translated right.now))) }
 {
     let left = held(alloc, left)?;
     Ok(Term::Node(Node::Binary(sign, left, held(alloc, right)?)))
@@ -153,7 +155,8 @@ fn binary_of(alloc: Global, sign: Binary, left: &Expr, right: &Expr) -> Result<T
 #[cycle(translating)]
 #[inline(never)]
 fn and_of(alloc: Global, left: &Expr, right: &Expr) -> Result<Term, AllocError>
-    ensures { IfOk result (λ made. made ≡ term.Node (node.And (translated left.now) (translated right.now))) }
+    ensures { IfOk result (λ made. made
+        ≡ term.Node (node.And (translated left.now) (translated right.now))) }
 {
     let left = held(alloc, left)?;
     Ok(Term::Node(Node::And(left, held(alloc, right)?)))
@@ -162,7 +165,8 @@ fn and_of(alloc: Global, left: &Expr, right: &Expr) -> Result<Term, AllocError>
 #[cycle(translating)]
 #[inline(never)]
 fn or_of(alloc: Global, left: &Expr, right: &Expr) -> Result<Term, AllocError>
-    ensures { IfOk result (λ made. made ≡ term.Node (node.Or (translated left.now) (translated right.now))) }
+    ensures { IfOk result (λ made. made
+        ≡ term.Node (node.Or (translated left.now) (translated right.now))) }
 {
     let left = held(alloc, left)?;
     Ok(Term::Node(Node::Or(left, held(alloc, right)?)))
@@ -171,7 +175,8 @@ fn or_of(alloc: Global, left: &Expr, right: &Expr) -> Result<Term, AllocError>
 #[cycle(translating)]
 #[inline(never)]
 fn coalesce_of(alloc: Global, left: &Expr, right: &Expr) -> Result<Term, AllocError>
-    ensures { IfOk result (λ made. made ≡ term.Node (node.Coalesce (translated left.now) (translated right.now))) }
+    ensures { IfOk result (λ made. made
+        ≡ term.Node (node.Coalesce (translated left.now) (translated right.now))) }
 {
     let left = held(alloc, left)?;
     Ok(Term::Node(Node::Coalesce(left, held(alloc, right)?)))
@@ -185,7 +190,9 @@ fn conditional_of(
     left: &Expr,
     right: &Expr,
 ) -> Result<Term, AllocError>
-    ensures { IfOk result (λ made. made ≡ term.Node (node.Conditional (translated condition.now) (translated left.now) (translated right.now))) }
+    ensures { IfOk result (λ made. made
+        ≡ term.Node (node.Conditional (translated condition.now) (translated left.now)
+        (translated right.now))) }
 {
     let condition = held(alloc, condition)?;
     let left = held(alloc, left)?;
@@ -195,7 +202,8 @@ fn conditional_of(
 #[cycle(translating)]
 #[inline(never)]
 fn host_of(alloc: Global, asked: &List<Expr>, predicate: &Txt) -> Result<Term, AllocError>
-    ensures { IfOk result (λ made. made ≡ term.Node (node.Host predicate.now (map translated asked.now))) }
+    ensures { IfOk result (λ made. made
+        ≡ term.Node (node.Host predicate.now (map translated asked.now))) }
 {
     let predicate = copied(alloc, predicate)?;
     Ok(Term::Node(Node::Host(predicate, expressions_of(alloc, asked)?)))
@@ -204,7 +212,8 @@ fn host_of(alloc: Global, asked: &List<Expr>, predicate: &Txt) -> Result<Term, A
 #[cycle(translating)]
 #[inline(never)]
 fn record_of(alloc: Global, fields: &List<Field<Expr>>) -> Result<Term, AllocError>
-    ensures { IfOk result (λ made. made ≡ term.Node (node.New (map (map_field translated) fields.now))) }
+    ensures { IfOk result (λ made. made
+        ≡ term.Node (node.New (map (map_field translated) fields.now))) }
 {
     Ok(Term::Node(Node::New(fields_of(alloc, fields)?)))
 }
@@ -217,7 +226,9 @@ fn method_of(
     receiver: Held<Term>,
     method: &Txt,
 ) -> Result<Term, AllocError>
-    ensures { IfOk result (λ made. made ≡ term.Node (node.Method receiver method.now (map (map_argument translated) arguments.now))) }
+    ensures { IfOk result (λ made. made
+        ≡ term.Node (node.Method receiver method.now
+        (map (map_argument translated) arguments.now))) }
 {
     let method = copied(alloc, method)?;
     Ok(Term::Node(Node::Method(receiver, method, arguments_of(alloc, arguments)?)))

@@ -4,7 +4,7 @@ ghost use Rattle.std.specs.Prelude.{◌≡◌};
 
 use lq_grammar::{Field, SortKey};
 use lq_language::{Given, Op, Simple};
-use lq_value::{Held, List, Scalar, Ty};
+use lq_value::{ColumnNumber, Held, List, Scalar, TableNumber, Ty};
 
 /// The parts of a join, whose outer sequence stands beside it (.NET, `Enumerable.Join` and
 /// `GroupJoin`).
@@ -34,9 +34,9 @@ pub enum Form {
     /// The second part of a pair.
     Second(Held<Form>),
     /// The rows of the table with this number.
-    Table(u16),
+    Table(TableNumber),
     /// The cell of a row of the table with this number, by the number of its column.
-    Column(Held<Form>, u16, u16),
+    Column(Held<Form>, TableNumber, ColumnNumber),
     /// A member of a record, by its place.
     Member(Held<Form>, usize),
     /// The key of a group.

@@ -17,7 +17,8 @@ pub struct Denied<'a> {
 
 /// The rule that denies a use, if the role has no right to it.
 fn denier<'a>(used: &Use, role: RoleId, policies: &'a Policies) -> Option<&'a str>
-    ensures { option_map (λ rule. rule.now) result ≡ denier_of policies.now (number_of role) used.now }
+    ensures { option_map (λ rule. rule.now) result
+        ≡ denier_of policies.now (number_of role) used.now }
 {
     policies.right(role, *used).err()
 }

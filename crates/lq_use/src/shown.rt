@@ -5,11 +5,11 @@ ghost use Rattle.lq_language.specs.Uses.{all_columns, columns_from, shown_column
 
 use lq_policy::Use;
 use lq_store::Store;
-use lq_value::{Column, Txt, Ty};
+use lq_value::{Column, TableNumber, Txt, Ty};
 use std::alloc::AllocError;
 
 /// These columns of a table, behind other uses.
-fn add_each(table: u16, columns: &[Column], uses: &mut Vec<Use>) -> Result<(), AllocError>
+fn add_each(table: TableNumber, columns: &[Column], uses: &mut Vec<Use>) -> Result<(), AllocError>
     requires { length columns.now ≤ 100 }
     ensures { OnOk result (uses.new.items ≡ uses.old.items ++ columns_from table 0 columns.now) }
 {
@@ -21,8 +21,9 @@ fn add_each(table: u16, columns: &[Column], uses: &mut Vec<Use>) -> Result<(), A
 
 /// All columns of a table, behind other uses; none where there is no such table.
 #[tactic(auto, using(crate::proofs::UseLemmas::types))]
-fn add_table(store: &Store, table: u16, uses: &mut Vec<Use>) -> Result<(), AllocError>
-    ensures { OnOk result (uses.new.items ≡ uses.old.items ++ all_columns table (slice_get (schemas_of store.now) table)) }
+fn add_table(store: &Store, table: TableNumber, uses: &mut Vec<Use>) -> Result<(), AllocError>
+    ensures { OnOk result (uses.new.items
+        ≡ uses.old.items ++ all_columns table (slice_get (schemas_of store.now) table)) }
 {
     if table as usize >= store.len() {
         return Ok(());
@@ -35,7 +36,8 @@ fn add_table(store: &Store, table: u16, uses: &mut Vec<Use>) -> Result<(), Alloc
 #[cycle(showing)]
 #[tactic(auto, using(crate::proofs::UseLemmas::types))]
 pub(crate) fn add_columns(store: &Store, ty: &Ty, uses: &mut Vec<Use>) -> Result<(), AllocError>
-    ensures { OnOk result (uses.new.items ≡ uses.old.items ++ shown_columns (schemas_of store.now) ty.now) }
+    ensures { OnOk result (uses.new.items
+        ≡ uses.old.items ++ shown_columns (schemas_of store.now) ty.now) }
 {
     match ty {
         Ty::Row(table) => add_table(store, *table, uses),
@@ -49,7 +51,9 @@ pub(crate) fn add_columns(store: &Store, ty: &Ty, uses: &mut Vec<Use>) -> Result
 /// The same of two types, one behind the other.
 #[cycle(showing)]
 fn add_both(store: &Store, key: &Ty, item: &Ty, uses: &mut Vec<Use>) -> Result<(), AllocError>
-    ensures { OnOk result (uses.new.items ≡ uses.old.items ++ (shown_columns (schemas_of store.now) key.now ++ shown_columns (schemas_of store.now) item.now)) }
+    ensures { OnOk result (uses.new.items
+        ≡ uses.old.items ++ (shown_columns (schemas_of store.now) key.now
+        ++ shown_columns (schemas_of store.now) item.now)) }
 {
     add_columns(store, key, uses)?;
     add_columns(store, item, uses)
@@ -58,7 +62,9 @@ fn add_both(store: &Store, key: &Ty, item: &Ty, uses: &mut Vec<Use>) -> Result<(
 /// The same of these members, in order.
 #[cycle(showing)]
 fn add_members(store: &Store, members: &[(Txt, Ty)], uses: &mut Vec<Use>) -> Result<(), AllocError>
-    ensures { OnOk result (uses.new.items ≡ uses.old.items ++ flat_map (λ member. shown_columns (schemas_of store.now) member.1) members.now) }
+    ensures { OnOk result (uses.new.items
+        ≡ uses.old.items ++ flat_map (λ member. shown_columns (schemas_of store.now) member.1)
+        members.now) }
 {
     for (_, ty) in members {
         add_columns(store, ty, uses)?;

@@ -9,6 +9,7 @@ use lq_grammar::{Field, SortKey};
 use lq_policy::Use;
 use lq_store::Store;
 use lq_tree::{Form, Joined, Tree, ty};
+use lq_value::{ColumnNumber, TableNumber};
 use std::alloc::{AllocError, Global};
 
 /// What a form uses, behind other uses.
@@ -59,8 +60,14 @@ fn add_form(form: &Form, uses: &mut Vec<Use>) -> Result<(), AllocError>
 
 /// A column, behind what its row uses.
 #[cycle(gathering)]
-fn add_column(row: &Form, table: u16, column: u16, uses: &mut Vec<Use>) -> Result<(), AllocError>
-    ensures { OnOk result (uses.new.items ≡ uses.old.items ++ (form_uses row.now ++ Use.Column table column ∷ [])) }
+fn add_column(
+    row: &Form,
+    table: TableNumber,
+    column: ColumnNumber,
+    uses: &mut Vec<Use>,
+) -> Result<(), AllocError>
+    ensures { OnOk result (uses.new.items
+        ≡ uses.old.items ++ (form_uses row.now ++ Use.Column table column ∷ [])) }
 {
     add_form(row, uses)?;
     Ok(uses.push(Use::Column(table, column))?)
@@ -69,7 +76,8 @@ fn add_column(row: &Form, table: u16, column: u16, uses: &mut Vec<Use>) -> Resul
 /// What two forms use, one behind the other.
 #[cycle(gathering)]
 fn add_two(first: &Form, second: &Form, uses: &mut Vec<Use>) -> Result<(), AllocError>
-    ensures { OnOk result (uses.new.items ≡ uses.old.items ++ (form_uses first.now ++ form_uses second.now)) }
+    ensures { OnOk result (uses.new.items
+        ≡ uses.old.items ++ (form_uses first.now ++ form_uses second.now)) }
 {
     add_form(first, uses)?;
     add_form(second, uses)
@@ -83,7 +91,9 @@ fn add_three(
     third: &Form,
     uses: &mut Vec<Use>,
 ) -> Result<(), AllocError>
-    ensures { OnOk result (uses.new.items ≡ uses.old.items ++ (form_uses first.now ++ (form_uses second.now ++ form_uses third.now))) }
+    ensures { OnOk result (uses.new.items
+        ≡ uses.old.items ++ (form_uses first.now
+        ++ (form_uses second.now ++ form_uses third.now))) }
 {
     add_form(first, uses)?;
     add_two(second, third, uses)
@@ -92,7 +102,8 @@ fn add_three(
 /// What the members of a record use, in order.
 #[cycle(gathering)]
 fn add_fields(fields: &[Field<Form>], uses: &mut Vec<Use>) -> Result<(), AllocError>
-    ensures { OnOk result (uses.new.items ≡ uses.old.items ++ flat_map (λ field. form_uses field.value) fields.now) }
+    ensures { OnOk result (uses.new.items
+        ≡ uses.old.items ++ flat_map (λ field. form_uses field.value) fields.now) }
 {
     for field in fields {
         add_form(&field.value, uses)?;
@@ -103,7 +114,8 @@ fn add_fields(fields: &[Field<Form>], uses: &mut Vec<Use>) -> Result<(), AllocEr
 /// What keys use, in order.
 #[cycle(gathering)]
 fn add_keys(keys: &[SortKey<Form>], uses: &mut Vec<Use>) -> Result<(), AllocError>
-    ensures { OnOk result (uses.new.items ≡ uses.old.items ++ flat_map (λ key. form_uses key.value) keys.now) }
+    ensures { OnOk result (uses.new.items
+        ≡ uses.old.items ++ flat_map (λ key. form_uses key.value) keys.now) }
 {
     for key in keys {
         add_form(&key.value, uses)?;
@@ -120,7 +132,9 @@ fn add_four(
     fourth: &Form,
     uses: &mut Vec<Use>,
 ) -> Result<(), AllocError>
-    ensures { OnOk result (uses.new.items ≡ uses.old.items ++ (form_uses first.now ++ (form_uses second.now ++ (form_uses third.now ++ form_uses fourth.now)))) }
+    ensures { OnOk result (uses.new.items
+        ≡ uses.old.items ++ (form_uses first.now
+        ++ (form_uses second.now ++ (form_uses third.now ++ form_uses fourth.now)))) }
 {
     add_form(first, uses)?;
     add_three(second, third, fourth, uses)
@@ -143,7 +157,8 @@ fn add_joined(joined: &Joined<Form>, uses: &mut Vec<Use>) -> Result<(), AllocErr
 /// What a tree uses of the tables, in the order of the text that it comes from: tables and columns; and where it is `served`,
 /// behind them each column of each row type in its type, all of which a reply shows. Refused where memory is.
 pub fn uses(alloc: Global, tree: &Tree, store: &Store, served: bool) -> Result<Vec<Use>, AllocError>
-    ensures { IfOk result (λ uses. uses.items ≡ form_uses tree.now.form ++ uses_served served (schemas_of store.now) tree.now.ty) }
+    ensures { IfOk result (λ uses. uses.items
+        ≡ form_uses tree.now.form ++ uses_served served (schemas_of store.now) tree.now.ty) }
 {
     let mut uses = Vec::new(alloc);
     add_form(tree.form.get(), &mut uses)?;

@@ -181,7 +181,8 @@ fn push_record<R: RowRef>(
     atoms: &mut List<Atom>,
     members: &[(Txt, Value<R>)],
 ) -> Result<(), AllocError>
-    ensures { OnOk result (atoms.new ≡ atoms.old ++ atom.Open ∷ (members_atoms members.now ++ atom.Close ∷ [])) }
+    ensures { OnOk result (atoms.new ≡ atoms.old
+        ++ atom.Open ∷ (members_atoms members.now ++ atom.Close ∷ [])) }
 {
     atoms.push(Atom::Open)?;
     push_members(alloc, atoms, members)?;

@@ -1,6 +1,7 @@
 //! The types of expressions.
 use crate::held::Held;
 use crate::list::List;
+use crate::numbers::TableNumber;
 use crate::txt::Txt;
 
 /// The type of an expression. Types are compared as they are written: a record type by its
@@ -18,7 +19,7 @@ pub enum Ty {
     /// The type of the literal `null` alone.
     Null,
     /// A row of the table with this number.
-    Row(u16),
+    Row(TableNumber),
     /// A record, with its members as written.
     Rec(List<(Txt, Ty)>),
     /// A sequence of such items.
