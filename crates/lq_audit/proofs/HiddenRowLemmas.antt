@@ -58,12 +58,12 @@ module _ (number : ℕ) (passes : Row → Bool) where
   found_whole low next [] row numbered found = absurd (none-some row found)
   found_whole low next (first ∷ rows) row numbered found =
       by (is_it first) (passes first) refl refl (found_whole (first.number + 1) next rows row numbered.1) found where
-        Whole : Bool → Type 0
-        Whole it = ((if it then Some first else find is_it rows) ≡ Some row) × (passes row ≡ true)
+        Shows : Bool → Type 0
+        Shows it = ((if it then Some first else find is_it rows) ≡ Some row) × (passes row ≡ true)
 
         by : (it pass_first : Bool) → is_it first ≡ it → passes first ≡ pass_first
             → (find is_it (filter passes rows) ≡ Some row → (find is_it rows ≡ Some row) × (passes row ≡ true))
-            → find is_it (if pass_first then first ∷ filter passes rows else filter passes rows) ≡ Some row → Whole (is_it first)
+            → find is_it (if pass_first then first ∷ filter passes rows else filter passes rows) ≡ Some row → Shows (is_it first)
         by true true is p rest here =
             let there : Some first ≡ Some row = sym (ap (λ b. if b then Some first else find is_it (filter passes rows)) is) ∙ here in
             (ap (λ b. if b then Some first else find is_it rows) is ∙ there, ap passes (sym (same_Some first row there)) ∙ p)

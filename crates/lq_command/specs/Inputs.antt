@@ -1,15 +1,12 @@
 -- What is said of a line while it comes, and once it is there.
 use Rattle.std.specs.Prelude.{◌≡◌, ◌<◌, ◌≤◌, List, ℕ, Option, Some, None, length, string_bytes}
 use Rattle.std.specs.Str.{IsUtf8}
+use Rattle.lq_grammar.specs.Script.{line_limit}
 use Rattle.lq_command.specs.declared.input.Draft.{Draft}
 use Rattle.lq_command.specs.declared.input.Fault.{Fault}
 use Rattle.lq_command.specs.declared.input.Fault.TheVariants as fault
 use Rattle.lq_command.specs.declared.input.Input.{Input}
 use Rattle.lq_command.specs.declared.input.Input.TheVariants as input
-
--- the most bytes of a line
-abbrev pub line_limit : ℕ
-line_limit = 65536
 
 -- what a line of these bytes is given as; where memory was refused, nothing is known of it
 abbrev pub IsInput : List ℕ → Input → Type 0

@@ -1,11 +1,10 @@
 //! A line while its bytes come.
 ghost use Rattle.std.specs.Prelude.{◌≤◌, length};
+ghost use Rattle.lq_grammar.specs.Script.{line_limit};
 
 use crate::text_line::text_line;
+use lq_lex::LINE_LIMIT;
 use std::alloc::Global;
-
-/// The most bytes that a line may have, its line feed not counted.
-const LINE_LIMIT: usize = 65_536;
 
 /// What a line is, or why there is none.
 #[derive(Drop)]
@@ -34,7 +33,7 @@ enum Fault {
 pub(crate) struct Draft {
     bytes: Vec<u8>,
     fault: Option<Fault>,
-    ghost in_size: { length bytes.items ≤ 65536 },
+    ghost in_size: { length bytes.items ≤ line_limit },
 }
 
 impl Draft {

@@ -1,6 +1,7 @@
 //! Lines whose bytes are there.
 ghost use Rattle.std.specs.Prelude.{◌≤◌, length};
-ghost use Rattle.lq_command.specs.Inputs.{IsInput, line_limit};
+ghost use Rattle.lq_grammar.specs.Script.{line_limit};
+ghost use Rattle.lq_command.specs.Inputs.{IsInput};
 
 use crate::input::Input;
 

@@ -1,9 +1,6 @@
 //! The script that `.run` names.
 use lq_platform::Disk;
-use lq_serve::{FileError, Files};
-
-/// The most bytes that a script may have.
-const SCRIPT_LIMIT: usize = 1_048_576;
+use lq_serve::{FileError, Files, SCRIPT_LIMIT};
 
 /// The bytes of a script, or the sentence that says why there are none.
 pub(crate) fn read_script(rt: &HostRuntime, file: &str) -> Result<Vec<u8>, &'static str> {

@@ -233,7 +233,7 @@ record Reaches (found : Option Piece) (many : ℕ) : Type 0 where
   is : found ≡ Some (Some kind, more)
   far : many ≤ suc more
 
-is_other : (c : ℕ) (cs : List ℕ) → is_blank c ≡ false → (c == 47 && (head_of cs == 47)) ≡ false → piece c cs ≡ other_piece c cs
+pub is_other : (c : ℕ) (cs : List ℕ) → is_blank c ≡ false → (c == 47 && (head_of cs == 47)) ≡ false → piece c cs ≡ other_piece c cs
 unfolding piece
 is_other c cs blank slashes = rw (blank, slashes) refl
 

@@ -14,7 +14,7 @@ use Rattle.lq_grammar.specs.LexingLaws.{AreInOrder, EndsLine, IsOneLine, LieInOr
 use Rattle.lq_grammar.specs.Tokens.{Piece, head_of, is_blank, piece, tokens_from, tokens_in, with_piece}
 use Rattle.lq_grammar.specs.declared.token.Kind.{Kind}
 use Rattle.lq_grammar.specs.declared.token.Token.{Token}
-use Rattle.lq_grammar.proofs.LexemeLemmas.{Stops, drop_over, goes_as_far, is_longest, is_taken, take_over}
+use Rattle.lq_grammar.proofs.LexemeLemmas.{Stops, drop_over, goes_as_far, is_longest, is_other, is_taken, take_over}
 use Rattle.lq_grammar.proofs.PieceLaws.{both_left, both_right, by_cases, other_is_token, other_piece, piece_within, turn}
 
 -- ---- white space and comments
@@ -46,10 +46,6 @@ unfolding piece
 comment_is cs =
     let next : 1 + prefix_len (λ c. not (c == 10)) cs ≡ suc (prefix_len (λ c. not (c == 10)) cs) = omega arith in
     ap (λ n. Some (None, n)) next
-
-other_is : (c : ℕ) (cs : List ℕ) → is_blank c ≡ false → (c == 47 && (head_of cs == 47)) ≡ false → piece c cs ≡ other_piece c cs
-unfolding piece
-other_is c cs blank slashes = rw (blank, slashes) refl
 
 -- ---- one piece
 
@@ -99,7 +95,7 @@ gap n place c more cs tokens follow within found is =
     (λ not_blank. by_cases (c == 47 && (head_of cs == 47)) (λ slashes. slashed cs within found slashes) (λ other. lone not_blank other))
   where
     lone : is_blank c ≡ false → (c == 47 && (head_of cs == 47)) ≡ false → IsCut place (c ∷ cs) tokens
-    lone not_blank other = let never : false ≡ true = other_is_token c cs (None, more) (sym (other_is c cs not_blank other) ∙ is) in absurd (cc)
+    lone not_blank other = let never : false ≡ true = other_is_token c cs (None, more) (sym (is_other c cs not_blank other) ∙ is) in absurd (cc)
 
     slashed : (ds : List ℕ) → length ds ≤ n → tokens_from 0 place (c ∷ ds) ≡ Some tokens → (c == 47 && (head_of ds == 47)) ≡ true → IsCut place (c ∷ ds) tokens
     slashed [] le f e = let never : false ≡ true = both_right (c == 47) false e in absurd (cc)

@@ -128,7 +128,7 @@ module _ (line : List ℕ) (inner : Level → Parser Expr) (sound_inner : (l : L
       (sound_continuations n (rest ++ record { name = text_of line word; body = b } ∷ []) (xs ++ into ∷ word ∷ ys) (s.another_continuation into word spells into_is word_is one)))))
       (done (stays spells))
 
-  sound_query : Sound line s.Whole (query line inner)
+  sound_query : Sound line s.Queried (query line inner)
   unfolding query
   sound_query =
       token_then (λ from from_is. name_then line _ (λ word word_is. source_then (λ x within xs within_is source_is. part_then sound_body (λ b ys body_is.

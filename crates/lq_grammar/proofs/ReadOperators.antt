@@ -145,7 +145,7 @@ module _ (line : List ℕ) (inner : Level → Parser Expr) where
 
   -- ---- a query or a conditional expression
 
-  pub read_top_query : (q : Query Expr) (ts : List Token) → PartReadsOver line inner (s.Whole q) ts → Reads 13 (p.top line inner) (expr.Query q) ts
+  pub read_top_query : (q : Query Expr) (ts : List Token) → PartReadsOver line inner (s.Queried q) ts → Reads 13 (p.top line inner) (expr.Query q) ts
   unfolding p.top
   read_top_query q ts reads rest stops = let (from, front) = reads rest stops in rw from (bind_step (p.query line inner) _ (ts ++ rest) rest q front)
 

@@ -55,7 +55,7 @@ module _ (line : List ℕ) (inner : Level → Parser Expr) where
       (closing : Token) (rest : List Token) → closing.kind ≡ k.RightParenthesis → p.arguments line inner (ts ++ closing ∷ rest) ≡ Some (args, rest)
   PartReadsOver (s.SomeArguments args) ts = ReadsOn 10 (p.some_arguments line inner) (λ turns. p.more_arguments line inner turns args) ts
   PartReadsOver (s.OneArgument a) ts = Reads 10 (p.argument_at line inner) a ts
-  PartReadsOver (s.Whole q) ts =
+  PartReadsOver (s.Queried q) ts =
       (rest : List Token) → 13 ≤ tight (peek rest) → (begins_with k.From (ts ++ rest) ≡ true) × (p.query line inner (ts ++ rest) ≡ Some (q, rest))
   PartReadsOver (s.Continuations cs) ts =
       (rest : List Token) → 10 ≤ tight (peek rest)

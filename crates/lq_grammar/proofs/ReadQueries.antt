@@ -226,7 +226,7 @@ module _ (line : List ℕ) (inner : Level → Parser Expr) where
 
   pub read_query : (x : Expr) (b : Body Expr) (cs : List (Continuation Expr)) (xs ys zs : List Token) (from word within : Token) → from.kind ≡ k.From → word.kind ≡ k.Name
       → within.kind ≡ k.In → ConditionalRead line inner x xs → BodyRead b ys → ContinuationsRead cs zs
-      → PartReadsOver line inner (s.Whole (record { name = text_of line word; source = x; body = b; rest = cs })) (from ∷ word ∷ within ∷ (xs ++ (ys ++ zs)))
+      → PartReadsOver line inner (s.Queried (record { name = text_of line word; source = x; body = b; rest = cs })) (from ∷ word ∷ within ∷ (xs ++ (ys ++ zs)))
   unfolding p.query
   read_query x b cs xs ys zs from word within from_is word_is within_is source_is body_is continues rest stops =
       let split : (xs ++ (ys ++ zs)) ++ rest ≡ xs ++ (ys ++ (zs ++ rest)) = append_assoc xs (ys ++ zs) rest ∙ ap (λ more. xs ++ more) (append_assoc ys zs rest) in

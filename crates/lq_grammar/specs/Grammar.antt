@@ -97,7 +97,7 @@ pub data Part : Type 0 where
   Arguments : List (Argument Expr) → Part
   SomeArguments : List (Argument Expr) → Part
   OneArgument : Argument Expr → Part
-  Whole : Query Expr → Part
+  Queried : Query Expr → Part
   Continuations : List (Continuation Expr) → Part
   Bodied : Body Expr → Part
   Clauses : List (Clause Expr) → Part
@@ -145,7 +145,7 @@ pub data Spells (line : List ℕ) : Part → List Token → Type 0 where
   cell_null : (word : Token) → word.kind ≡ k.Null → Spells line (Cell scalar.Null) (word ∷ [])
   -- ---- expressions
   -- top: a query or a conditional expression
-  top_query : {q : Query Expr} {ts : List Token} → Spells line (Whole q) ts → Spells line (Top (expr.Query q)) ts
+  top_query : {q : Query Expr} {ts : List Token} → Spells line (Queried q) ts → Spells line (Top (expr.Query q)) ts
   top_other : {x : Expr} {ts : List Token} → Spells line (Conditional x) ts → Spells line (Top x) ts
   -- coal ["?" cond ":" cond]
   unconditional : {x : Expr} {ts : List Token} → Spells line (Coalescing x) ts → Spells line (Conditional x) ts
@@ -216,7 +216,7 @@ pub data Spells (line : List ℕ) : Part → List Token → Type 0 where
   -- "from" name "in" cond body {"into" name body}
   query : {s : Expr} {b : Body Expr} {rest : List (Continuation Expr)} {xs ys zs : List Token} (from word within : Token) → from.kind ≡ k.From → word.kind ≡ k.Name → within.kind ≡ k.In
       → Spells line (Conditional s) xs → Spells line (Bodied b) ys → Spells line (Continuations rest) zs
-      → Spells line (Whole (record { name = text_of line word; source = s; body = b; rest = rest })) (from ∷ word ∷ within ∷ (xs ++ (ys ++ zs)))
+      → Spells line (Queried (record { name = text_of line word; source = s; body = b; rest = rest })) (from ∷ word ∷ within ∷ (xs ++ (ys ++ zs)))
   no_continuation : Spells line (Continuations []) []
   another_continuation : {rest : List (Continuation Expr)} {b : Body Expr} {xs ys : List Token} (into word : Token) → Spells line (Continuations rest) xs → into.kind ≡ k.Into
       → word.kind ≡ k.Name → Spells line (Bodied b) ys

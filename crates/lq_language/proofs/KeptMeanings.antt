@@ -51,6 +51,7 @@ use Rattle.lq_grammar.specs.declared.syntax.Query.{Query}
 use Rattle.lq_grammar.specs.declared.syntax.SortKey.{SortKey}
 use Rattle.lq_grammar.specs.declared.syntax.Unary.TheVariants as unary
 use Rattle.lq_language.proofs.AlikeStreamLaws.{Agree, Alike, KeysAlike, Pair, agree_err, agree_ok, both_agree, every_element, expand_alike, group_alike, join_alike, on_ok_agree, order_alike, select_alike, where_alike}
+use Rattle.lq_language.proofs.MatchLaws.{every_match}
 use Rattle.lq_language.proofs.ItemLaws.{every_map, every_more, every_none, first_of, no_binding, others_of, table_there}
 use Rattle.lq_language.proofs.LayerLaws.{para_node, para_query}
 use Rattle.lq_language.proofs.MemberLaws.{search_told}
@@ -345,20 +346,12 @@ module _ {R : Type 0} (world : World R) (holds : HoldsRows world) (kept : IsSess
 
   -- ---- clauses
 
-  matched_by : (k t : Ty) (key : Value R) (qs : List (Value R × Value R)) → Every (Pair (Val k) (Val t)) qs → (null : Bool)
-      → Every (Val t) (if null then [] else elements_of same_keys key qs)
-  matched_by k t key qs ps true = every_none (Val t)
-  matched_by k t key qs ps false = every_element (Val k) (Val t) same_keys key qs ps
-
-  matched : (k t : Ty) (key : Value R) (qs : List (Value R × Value R)) → Every (Pair (Val k) (Val t)) qs → Every (Val t) (matches key qs)
-  matched k t key qs ps = matched_by k t key qs ps (is_null_layer (out-Value R key))
-
   values_alike : (into : Option (List ℕ)) (k t : Ty) (key : Value R) (qs : List (Value R × Value R)) → Every (Pair (Val k) (Val t)) qs
       → (joined_values L expression_type in_left into key qs ≡ joined_values M expression_type in_right into key qs)
       × Every (Val (joined_type L expression_type in_left into t)) (joined_values L expression_type in_left into key qs)
-  values_alike None k t key qs ps = (refl, matched k t key qs ps)
+  values_alike None k t key qs ps = (refl, every_match (Val k) (Val t) key qs ps)
   values_alike (Some n) k t key qs ps =
-      (refl, every_more (Val (ty.Seq t)) (value.Seq (matches key qs) end.Done) [] (sequence_is world t (matches key qs, end.Done) (matched k t key qs ps)) (every_none (Val (ty.Seq t))))
+      (refl, every_more (Val (ty.Seq t)) (value.Seq (matches key qs) end.Done) [] (sequence_is world t (matches key qs, end.Done) (every_match (Val k) (Val t) key qs ps)) (every_none (Val (ty.Seq t))))
 
   keyed_means : (outer : Names) (j : Join Expr) (t l : Ty) (place : Scope R) → At outer place → source_type expression_type j.source outer ≡ Some t → Means (Gives outer j.source t)
       → Means (Has (with_local outer j.name t) j.inner_key l) → Alike (Pair (Val l) (Val t)) (inner_items L expression_type in_left place j) (inner_items M expression_type in_right place j)

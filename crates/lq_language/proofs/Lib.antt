@@ -10,6 +10,7 @@ pub mod IntLaws
 pub mod ItemLaws
 pub mod ItemlessTypes
 pub mod KeptMeanings
+pub mod MatchLaws
 pub mod KeptTypeLaws
 pub mod KeyOrder
 pub mod LayerLaws

@@ -107,9 +107,9 @@ pub row_layer : (n : ℕ) (s : Scalar) → IsScalarOf (Ty-F.Row n) s → s ≡ s
 row_layer n scalar.Null fits = refl
 row_layer n s fits = absurd fits
 
-null_layer : (s : Scalar) → IsScalarOf Ty-F.Null s → s ≡ scalar.Null
-null_layer scalar.Null fits = refl
-null_layer s fits = absurd fits
+pub null_scalar : (s : Scalar) → IsScalarOf Ty-F.Null s → s ≡ scalar.Null
+null_scalar scalar.Null fits = refl
+null_scalar s fits = absurd fits
 
 pub row_is_no_scalar : (layer : Ty-F Ty) (n : ℕ) → row_table layer ≡ Some n → is_scalar layer ≡ true → ⊥
 row_is_no_scalar (Ty-F.Row m) n h k = true≢false (sym k)
@@ -201,12 +201,12 @@ no_items_behind k l item h is = by (kind_of k l h) where
 
 -- a row is compared with null alone
 pub null_before_row : (k l : Ty-F Ty) (n : ℕ) → are_comparable k l ≡ true → row_table l ≡ Some n → (s : Scalar) → IsScalarOf k s → s ≡ scalar.Null
-null_before_row Ty-F.Null (Ty-F.Row m) n h is s fits = null_layer s fits
+null_before_row Ty-F.Null (Ty-F.Row m) n h is s fits = null_scalar s fits
 null_before_row k (Ty-F.Row m) n h is s fits = absurd (true≢false (sym h))
 null_before_row k l n h is s fits = absurd (none-some n is)
 
 pub null_behind_row : (k l : Ty-F Ty) (n : ℕ) → are_comparable k l ≡ true → row_table k ≡ Some n → (s : Scalar) → IsScalarOf l s → s ≡ scalar.Null
-null_behind_row (Ty-F.Row m) Ty-F.Null n h is s fits = null_layer s fits
+null_behind_row (Ty-F.Row m) Ty-F.Null n h is s fits = null_scalar s fits
 null_behind_row (Ty-F.Row m) l n h is s fits = absurd (true≢false (sym h))
 null_behind_row k l n h is s fits = absurd (none-some n is)
 
@@ -451,7 +451,7 @@ int_widens = scalars_widen Ty-F.Int Ty-F.IntN (refl, refl) by where
   by s fits = absurd fits
 
 null_widens : (layer : Ty-F Ty) → IsScalarOf layer scalar.Null → Widens Ty-F.Null layer
-null_widens layer fits = scalars_widen Ty-F.Null layer (refl, refl) (λ s is. subst (λ (x : Scalar). IsScalarOf layer x) (sym (null_layer s is)) fits)
+null_widens layer fits = scalars_widen Ty-F.Null layer (refl, refl) (λ s is. subst (λ (x : Scalar). IsScalarOf layer x) (sym (null_scalar s is)) fits)
 
 abbrev pub AreWidened : Ty-F Ty → Ty-F Ty → Ty → Type 0
 AreWidened k l r = Widens k (out-Ty r) × Widens l (out-Ty r)

@@ -23,10 +23,10 @@ use Rattle.lq_language.specs.MeaningLaws.{by_group, by_null_record, by_record, b
 use Rattle.lq_language.specs.Typing.{are_null_tests, type_of_choice}
 use Rattle.lq_language.proofs.AlikeStreamLaws.{Agree, agree_ok}
 use Rattle.lq_language.proofs.FindingLaws.{when_by}
-use Rattle.lq_language.proofs.ScalarResultLaws.{Decides, Widens, chosen_widens, coalesced_fits, comparable_same}
+use Rattle.lq_language.proofs.ScalarResultLaws.{Decides, Widens, chosen_widens, coalesced_fits, comparable_same, null_scalar}
 use Rattle.lq_language.proofs.SameTypeLaws.{same_type}
 use Rattle.lq_language.proofs.TypingLaws.{is_of_layer, type_with}
-use Rattle.lq_language.proofs.ValueLaws.{Is, RecordOrNull, RowOrNull, a_record, a_row, group_value, is_plain, no_record, no_row, null_scalar, plain_value, record_value, row_value, truth_is}
+use Rattle.lq_language.proofs.ValueLaws.{Is, RecordOrNull, RowOrNull, a_record, a_row, group_value, is_plain, no_record, no_row, plain_value, record_value, row_value, truth_is}
 
 -- ---- what `==` compares
 

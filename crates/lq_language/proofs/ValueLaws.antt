@@ -62,11 +62,6 @@ no_members (Ty-F.Row n) h = absurd (true≢false (sym h))
 no_members (Ty-F.Rec ms) h = absurd (true≢false (sym h))
 no_members layer h = (refl, refl)
 
--- the one scalar of the type of null
-pub null_scalar : (s : Scalar) → IsScalarOf Ty-F.Null s → s ≡ scalar.Null
-null_scalar scalar.Null fits = refl
-null_scalar s fits = absurd fits
-
 module _ {R : Type 0} (world : World R) where
   abbrev pub Is : Ty → Value R → Type 0
   Is t = IsValueOf world t

@@ -24,6 +24,7 @@ use Rattle.lq_load.specs.TableLaws.{AreCells, AreColumns, HasName, IsFirstFault,
 use Rattle.lq_load.specs.TableLaws as law
 use Rattle.lq_load.specs.declared.load_error.LoadError.{LoadError}
 use Rattle.lq_load.specs.declared.load_error.LoadError.TheVariants.{Csv, Header, DuplicateName, Cell, TooLarge}
+use Rattle.lq_load.proofs.TableFileLemmas.{table_of-large}
 
 -- ---- the header
 
@@ -535,10 +536,6 @@ unfolding table_of
 way_of name bytes = way_bytes name bytes (nat_lt table_limit (length bytes)) refl
 
 -- each way is gone
-large_goes : (name bytes : List ℕ) → table_limit < length bytes → table_of name bytes ≡ Err TooLarge
-unfolding table_of
-large_goes name bytes h = rw (lt-ltb table_limit (length bytes) h) refl
-
 small_goes : (name bytes : List ℕ) (rs : List (List (List ℕ))) → length bytes ≤ table_limit → records_in bytes ≡ rs → table_of name bytes ≡ table_of_records name rs
 unfolding table_of
 small_goes name bytes rs h is = rw (le-ltb table_limit (length bytes) h) (ap (table_of_records name) is)
@@ -627,7 +624,7 @@ record_fault name columns rest e h =
     ∙ ap (and_then (with_records h.behind)) (record_is t h.fields e (subst (λ (n : ℕ). IsWrongRecord columns n h.fields e) count h.wrong))
 
 first_fault : (name bytes : List ℕ) (e : LoadError) → IsFirstFault bytes e → table_of name bytes ≡ Err e
-first_fault name bytes e (law.too_large large) = large_goes name bytes large
+first_fault name bytes e (law.too_large large) = table_of-large name bytes large
 first_fault name bytes e (law.no_header small is) = small_goes name bytes [] small is
 first_fault name bytes e (law.too_many header rest small is many) = small_goes name bytes (header ∷ rest) small is ∙ many_goes name header rest many
 first_fault name bytes e (law.in_header header rest small is few fault) =

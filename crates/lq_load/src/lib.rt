@@ -9,12 +9,10 @@ mod cells;
 mod header;
 mod kind;
 mod load_error;
-mod marks;
 mod number;
 mod reading;
 mod table_file;
 pub mod table_laws;
 
 pub use load_error::LoadError;
-pub use marks::without_marks;
 pub use table_file::{MOST_BYTES, table_from_csv};

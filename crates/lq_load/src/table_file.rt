@@ -7,9 +7,9 @@ ghost use Rattle.lq_load.specs.TableFile.{LoadsAs, UnlessMemory, table_of, table
 use crate::cells::cells_of;
 use crate::header::columns_of;
 use crate::load_error::LoadError;
-use crate::marks::without_marks;
 use crate::reading::{read_record, reader_of};
 use csv::{ByteRecord, Reader};
+use lq_lex::without_marks;
 use lq_store::{Schema, StoreError, Table};
 use lq_value::Txt;
 use std::alloc::Global;

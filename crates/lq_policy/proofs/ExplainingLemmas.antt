@@ -1,5 +1,6 @@
 -- Policies that have a say are about the table at hand.
 use Rattle.std.proofs.Common.{◌≡◌, ℕ, Bool, true, false, ◌||◌, ◌⊎◌, inl, inr, refl, List}
+use Rattle.std.proofs.lemmas.Bool.{or_cases}
 use Rattle.lq_security.specs.Visible.{applies}
 use Rattle.lq_security.specs.declared.policy.Action.TheVariants as action
 use Rattle.lq_security.specs.declared.policy.Action.{Action}
@@ -12,10 +13,6 @@ use Rattle.lq_policy.specs.Roles.{number_of}
 use Rattle.lq_policy.specs.declared.access.Access.{Access}
 use Rattle.lq_policy.specs.declared.access.RoleId.{RoleId}
 use Rattle.lq_policy.proofs.GuardLemmas.{same_columns}
-
-or_cases : (a b : Bool) → (a || b) ≡ true → (a ≡ true) ⊎ (b ≡ true)
-or_cases true b h = inl refl
-or_cases false b h = inr h
 
 -- by the action
 columns_by : (tables : List TablePart) (roles : List Role) (role : RoleId) (act : Action) (table : ℕ) (policy : Policy)

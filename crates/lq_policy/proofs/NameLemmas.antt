@@ -1,20 +1,12 @@
 -- Whether a role goes by a name: one of the numbers in a list is that of a role with the name.
 use Rattle.std.proofs.Common.{◌≡◌, ◌∙◌, ℕ, Bool, true, false, ◌&&◌, ◌||◌, ◌==◌, List, [], ◌∷◌, Option, Some, None, slice_get, refl, ap, sym, ◌⊎◌, inl, inr}
 use Rattle.std.specs.List.{list_any}
-use Rattle.std.proofs.lemmas.Bool.{eq-eqb, eqb-true}
+use Rattle.std.proofs.lemmas.Bool.{eq-eqb, eqb-true, or_cases, or_right}
 use Rattle.lq_security.specs.Visible.{goes_by, is_named, memberships_after}
 use Rattle.lq_security.specs.declared.policy.Role.{Role}
 use Rattle.lq_policy.specs.Memberships.{TellMemberships, goes_by_marks, is_in, is_marked}
 use Rattle.lq_policy.specs.Roles.{IsAnyNumber, goes_by_name}
 use Rattle.lq_policy.specs.declared.role_set.RoleSet.{RoleSet}
-
-or_cases : (a b : Bool) → (a || b) ≡ true → (a ≡ true) ⊎ (b ≡ true)
-or_cases true b h = inl refl
-or_cases false b h = inr h
-
-or_right : (a b : Bool) → b ≡ true → (a || b) ≡ true
-or_right true b h = refl
-or_right false b h = h
 
 or_left : (a b : Bool) → a ≡ true → (a || b) ≡ true
 or_left a b h = ap (λ x. x || b) h

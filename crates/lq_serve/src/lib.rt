@@ -26,6 +26,7 @@ pub use device::Device;
 pub use ending::{finish, refuse};
 pub use files::{FileError, Files, Reading};
 pub use memory_files::MemoryFiles;
+pub use script_bytes::SCRIPT_LIMIT;
 pub use script_run::{Summary, serve};
 pub use serve_error::{ReadFailed, ServeError, WriteFailed};
 pub use start_error::StartError;

@@ -8,11 +8,8 @@ use crate::serve_error::ServeError;
 use std::alloc::Global;
 use std::io::Read;
 
-// The most bytes that a script may have.
-pub(crate) const SCRIPT_LIMIT: usize = 1_048_576;
-
-// The most bytes that a line may have, its line feed not counted.
-pub(crate) const LINE_LIMIT: usize = 65_536;
+/// The most bytes that a script may have.
+pub const SCRIPT_LIMIT: usize = 1_048_576;
 
 // Reads to the end, by at most `limit + 1` reads, none after an error or the end: at most `limit` bytes, and one more to see
 // that there are more. The first read is made whether or not the reader had come to its end before.

@@ -6,10 +6,10 @@ ghost use Rattle.lq_serve.specs.Devices.{inner_of, read_count, late_count, late_
 ghost use Rattle.lq_serve.specs.ScriptRun.{IsNoText, IsTooLong, Served, ServedInPart, ServedWhole, Stopped, Told, ToldInPart};
 
 use crate::device::Device;
-use crate::script_bytes::{LINE_LIMIT, SCRIPT_LIMIT, fits, read_script};
+use crate::script_bytes::{SCRIPT_LIMIT, fits, read_script};
 use crate::script_lines::first_line;
 use crate::serve_error::{ServeError, WriteFailed};
-use lq_load::without_marks;
+use lq_lex::{LINE_LIMIT, without_marks};
 use lq_session::Session;
 use std::alloc::Global;
 use std::io::{Read, Write};

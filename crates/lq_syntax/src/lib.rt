@@ -1,5 +1,5 @@
 //! Reads the lines of a script and the rules of policies: the parser that makes their syntax trees.
-//! Which tree tokens spell is defined by `lq_model`.
+//! Which tree tokens spell is defined by `lq_grammar`.
 //!
 //! `parse_statement` and `parse_rule` give a tree exactly where the tokens spell one within the limits
 //! of depth, and it is that tree; a line is too deep exactly where its tokens are past these limits.

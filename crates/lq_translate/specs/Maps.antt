@@ -1,4 +1,4 @@
--- Parts of trees with each expression in them replaced, so that all else stays as it is: those of expressions, as `lq_model` has them,
+-- Parts of trees with each expression in them replaced, so that all else stays as it is: those of expressions, as `lq_grammar` has them,
 -- and those of calls.
 use Rattle.std.specs.Prelude.{map, option_map}
 pub use Rattle.lq_language.specs.Maps.{map_argument, map_body, map_clause, map_enumerable, map_field, map_join, map_key, map_last, map_next, map_node, map_query}

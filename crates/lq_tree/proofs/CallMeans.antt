@@ -37,6 +37,7 @@ use Rattle.lq_language.specs.declared.calls.Part.{Part}
 use Rattle.lq_grammar.specs.declared.syntax.Join.{Join}
 use Rattle.lq_grammar.specs.declared.syntax.SortKey.{SortKey}
 use Rattle.lq_language.proofs.AlikeStreamLaws.{Agree, Alike, KeysAlike, Pair, agree_ok, both_agree, every_element, expand_alike, group_alike, join_alike, on_ok_agree, order_alike, select_alike, where_alike}
+use Rattle.lq_language.proofs.MatchLaws.{every_match}
 use Rattle.lq_language.proofs.ItemLaws.{every_more, every_none, first_of, others_of}
 use Rattle.lq_language.proofs.FindingLaws.{map_by, when_by}
 use Rattle.lq_language.proofs.TypedMethodLaws.{scalar_after, stream_alike, truth_same}
@@ -230,26 +231,18 @@ module _ {R : Type 0} (world : World R) (holds : HoldsRows world) {X : Type 0} (
 
   -- ---- joins
 
-  matches_by : (k t : Ty) (key : Value R) (qs : List (Value R × Value R)) → Every (Pair (Val k) (Val t)) qs → (null : Bool)
-      → Every (Val t) (if null then [] else elements_of same_keys key qs)
-  matches_by k t key qs ps true = every_none (Val t)
-  matches_by k t key qs ps false = every_element (Val k) (Val t) same_keys key qs ps
-
-  matches_fit : (k t : Ty) (key : Value R) (qs : List (Value R × Value R)) → Every (Pair (Val k) (Val t)) qs → Every (Val t) (matches key qs)
-  matches_fit k t key qs ps = matches_by k t key qs ps (is_null_layer (out-Value R key))
-
   -- what matches stands as the type of the name says
   finds : (into : Option (List ℕ)) (p : Pattern) (k t u : Ty) → matched_type world.schemas tree places p into t ≡ Some u
       → (key : Value R) (qs : List (Value R × Value R)) → Every (Pair (Val k) (Val t)) qs
       → (matched world (is_some into) key qs ≡ joined_values world typed meant into key qs) × Every (Val u) (matched world (is_some into) key qs)
-  finds None p k t u h key qs ps = (refl, subst (λ (x : Ty). Every (Val x) (matches key qs)) (same_Some t u h) (matches_fit k t key qs ps))
+  finds None p k t u h key qs ps = (refl, subst (λ (x : Ty). Every (Val x) (matches key qs)) (same_Some t u h) (every_match (Val k) (Val t) key qs ps))
   finds (Some g) p k t u h key qs ps =
       when_by _ _ u h
       (λ fresh is. (
         refl,
         subst (λ (x : Ty). Every (Val x) (value.Seq (matches key qs) end.Done ∷ [])) (same_Some (ty.Seq t) u is)
             (every_more (Val (ty.Seq t)) (value.Seq (matches key qs) end.Done) [] (sequence_is world t (matches key qs, end.Done)
-            (matches_fit k t key qs ps)) (every_none (Val (ty.Seq t)))),
+            (every_match (Val k) (Val t) key qs ps)) (every_none (Val (ty.Seq t)))),
       ))
 
   joined_is : (into : Option (List ℕ)) (p : Pattern) (t u : Ty) → matched_type world.schemas tree places p into t ≡ Some u

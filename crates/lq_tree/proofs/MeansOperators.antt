@@ -30,11 +30,11 @@ use Rattle.lq_grammar.specs.declared.syntax.Binary.TheVariants as binary
 use Rattle.lq_grammar.specs.declared.syntax.Unary.TheVariants as unary
 use Rattle.lq_language.proofs.AlikeStreamLaws.{Agree, agree_err, agree_ok, on_ok_agree}
 use Rattle.lq_language.proofs.FindingLaws.{if_by, map_by, when_by}
-use Rattle.lq_language.proofs.ScalarResultLaws.{Gives, arithmetic_of, coalesced_fits, given_of, joined_given, minus_given, ordering_given, signed}
+use Rattle.lq_language.proofs.ScalarResultLaws.{Gives, arithmetic_of, coalesced_fits, given_of, joined_given, minus_given, null_scalar, ordering_given, signed}
 use Rattle.lq_language.proofs.TypedMethodLaws.{given_agree, scalar_after, truth_after}
 use Rattle.lq_language.proofs.TypedOperatorLaws.{Keeps, choice_keeps, coalesced_plain, decides, plain_keeps}
 use Rattle.lq_language.proofs.TypingLaws.{compares_not, is_truth}
-use Rattle.lq_language.proofs.ValueLaws.{is_plain, joined_plain, null_scalar, number_plain, plain_value, truth_is}
+use Rattle.lq_language.proofs.ValueLaws.{is_plain, joined_plain, number_plain, plain_value, truth_is}
 use Rattle.lq_tree.specs.Binding.{and_tree, binary_form, binary_tree, coalesce_tree, conditional_tree, equality_form, is_literal, is_object, operation_at, or_tree, tested_first, tested_second, tree_of, unary_tree}
 use Rattle.lq_tree.specs.FormMeaning.{Slots, form_meaning, is_null_value}
 use Rattle.lq_tree.specs.OperandKinds as kind

@@ -31,6 +31,7 @@ use Rattle.lq_grammar.specs.declared.syntax.Binary.{Binary}
 use Rattle.lq_grammar.specs.declared.syntax.Binary.TheVariants as binary
 use Rattle.lq_grammar.specs.declared.syntax.SortKey.{SortKey}
 use Rattle.lq_language.proofs.AlikeStreamLaws.{Agree, KeysAlike, Pair, agree_err, both_agree, agree_ok, every_element, expand_alike, group_alike, join_alike, order_alike, select_alike, where_alike}
+use Rattle.lq_language.proofs.MatchLaws.{every_match}
 use Rattle.lq_language.proofs.ItemLaws.{every_map, every_more, every_none}
 use Rattle.lq_language.proofs.ScalarResultLaws.{Gives as Given_as, given_of, has_value_given, length_given, value_given}
 use Rattle.lq_language.proofs.TypedMethodLaws.{given_agree, given_typed, scalar_after, simple_typed, stream_alike}
@@ -181,18 +182,12 @@ module _ {R : Type 0} (world : World R) (holds : HoldsRows world) where
 
   -- ---- what matches in a join
 
-  matches_fit : (k t : Ty) (key : Value R) (qs : List (Value R × Value R)) → Every (Pair (Val k) (Val t)) qs → Every (Val t) (matches key qs)
-  matches_fit k t key qs ps = by (is_null_layer (out-Value R key)) where
-    by : (null : Bool) → Every (Val t) (if null then [] else elements_of same_keys key qs)
-    by true = every_none (Val t)
-    by false = every_element (Val k) (Val t) same_keys key qs ps
-
   pub found_fit : (grouped : Bool) (k t : Ty) (key : Value R) (qs : List (Value R × Value R)) → Every (Pair (Val k) (Val t)) qs
       → Every (Val (matched_items grouped t)) (matched world grouped key qs)
   found_fit true k t key qs ps =
       every_more (Val (ty.Seq t)) (value.Seq (matches key qs) end.Done) []
-      (by_sequence (ty.Seq t) t (matches key qs) end.Done (outs-Seq t) (matches_fit k t key qs ps)) (every_none (Val (ty.Seq t)))
-  found_fit false k t key qs ps = matches_fit k t key qs ps
+      (by_sequence (ty.Seq t) t (matches key qs) end.Done (outs-Seq t) (every_match (Val k) (Val t) key qs ps)) (every_none (Val (ty.Seq t)))
+  found_fit false k t key qs ps = every_match (Val k) (Val t) key qs ps
 
   keys_alike : (s : Shape) {K : Type 0} (key : K → Value R → Result Scalar Fault) (ks : List K) → KeysAlike (Fit s) key key ks
   keys_alike s key [] = tt

@@ -1,6 +1,6 @@
 use Rattle.std.proofs.Common.{◌∙◌, arith, length-drop}
-use Rattle.lq_load.proofs.MarkLemmas.{marked, marked_text, unmarked}
-use Rattle.lq_load.proofs.marks.without_marks.Goals as goal
+use Rattle.lq_lex.proofs.MarkLemmas.{marked, marked_text, unmarked}
+use Rattle.lq_lex.proofs.marks.without_marks.Goals as goal
 
 pub loop-tail-preserved : goal.loop-tail-preserved
 loop-tail-preserved c =

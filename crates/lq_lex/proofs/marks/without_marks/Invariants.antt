@@ -1,7 +1,7 @@
 use Rattle.std.proofs.Common.{◌≡◌, ◌≤◌, ◌↔◌, length}
 use Rattle.std.specs.Str.{IsUtf8}
 use Rattle.lq_grammar.specs.Script.{without_marks}
-use Rattle.lq_load.proofs.marks.without_marks.Given as goal
+use Rattle.lq_lex.proofs.marks.without_marks.Given as goal
 
 -- only marks were passed over
 abbrev pub invariant-loop-tail : goal.invariant-loop-tail
