@@ -1,5 +1,5 @@
 -- What a reader has read, from its result back to the tokens: one lemma for each of the steps that the functions of
--- `Parsing` are made of. A lemma on a step takes what the reader behind it has read with the tokens in front of it.
+-- `Parsing` are made of. A lemma on a step takes what the reader that follows it has read with the tokens in front of it.
 use Rattle.std.proofs.Common.{◌≡◌, ℕ, Bool, true, false, List, [], ◌∷◌, ◌++◌, length, refl, ap, sym, ◌∙◌, append_assoc}
 use Rattle.std.specs.Prelude.{Option, Some, None, option_and_then, if◌then◌else◌}
 use Rattle.std.proofs.lemmas.Option.{some_pair_parts}
@@ -167,7 +167,7 @@ pub tested : {A : Type 0} (b : Bool) {p q : Parser A} {Q : List Token → A → 
 tested b {p = p} {q = q} one other =
     record { read = λ ts x rest e. either_way b (p ts) (q ts) (Some (x, rest)) e (λ is some. (one is).read ts x rest some) (λ is some. (other is).read ts x rest some) }
 
--- behind a token of a kind, or on the other way
+-- after a token of a kind, or on the other way
 pub after_token : {A : Type 0} {kind : Kind} {found other : Parser A} {Q : List Token → A → Type 0}
     → ((t : Token) → t.kind ≡ kind → Reads found (λ more y. Q (t ∷ more) y)) → Reads other Q → Reads (after kind found other) Q
 unfolding after
@@ -191,7 +191,7 @@ headed {A = A} p q {Q = Q} none some each =
     ] in
     record { read = by }
 
--- what holds of what a table tells, where it tells something
+-- what holds of what a table gives, where it gives something
 abbrev pub EachSome : {T : Type 0} → Option T → (T → Type 0) → Type 0
 EachSome None P = Unit
 EachSome (Some v) P = P v
@@ -201,7 +201,7 @@ each_some P o v each e =
     let some : EachSome (Some v) P = rw (← ap (λ z. EachSome z P) e) each in
     some
 
--- what a reader that chooses by a table of what comes next has read, by what the table tells
+-- what a reader that chooses by a table of what comes next has read, by what the table gives
 module _ {A T : Type 0} (table : Kind → Option T) (by : Option T → Parser A) (next : T → Parser A) {Q : List Token → A → Type 0} (none : table k.Semicolon ≡ None)
     (some : (v : T) (t : Token) (ts : List Token) → by (Some v) (t ∷ ts) ≡ next v ts) (other : Reads (by None) Q)
     (each : (v : T) (t : Token) → table t.kind ≡ Some v → Reads (next v) (λ more y. Q (t ∷ more) y)) where
@@ -219,7 +219,7 @@ module _ {A T : Type 0} (table : Kind → Option T) (by : Option T → Parser A)
 
 -- ---- what ends with a token of a kind
 
--- what was read, with a token of the kind behind it
+-- what was read, with a token of the kind after it
 pub record Closed {A : Type 0} (P : List Token → A → Type 0) (kind : Kind) (front : List Token) (x : A) : Type 0 where
   pub inside : List Token
   pub closing : Token
@@ -238,7 +238,7 @@ pub closed_last : {A B : Type 0} {p : Parser A} (g : A → B) {P : List Token �
     → ((x : A) (inside : List Token) (closing : Token) → P inside x → closing.kind ≡ kind → Q (inside ++ closing ∷ []) (g x)) → Reads (p >>= (λ x. pure (g x))) Q
 closed_last g {Q = Q} first next = part_last g first (λ x front c. rw (ap (λ all. Q all (g x)) c.split) (next x c.inside c.closing c.holds c.is))
 
--- all was read, and nothing stands behind it
+-- all was read, and nothing is left after it
 pub at_the_end : {A : Type 0} (o : Option (A × List Token)) (x : A) → to_the_end o ≡ Some x → o ≡ Some (x, [])
 unfolding to_the_end
 at_the_end None x e = absurd (cc)

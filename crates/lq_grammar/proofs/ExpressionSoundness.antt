@@ -215,7 +215,7 @@ module _ (line : List ℕ) (inner : Level → Parser Expr) (sound_inner : (l : L
 
   -- ---- operators
 
-  -- the digits that are least behind a minus sign
+  -- the digits that are least after a minus sign
   least_value : (ts : List Token) (t : Token) (more : List Token) → ts ≡ t ∷ more → is_least line inner ts ≡ true → decimal_value (text_of line t) ≡ 2147483648
   least_value ts t more split is =
       let here : is_least line inner (t ∷ more) ≡ true = ap (λ all. is_least line inner all) (sym split) ∙ is in

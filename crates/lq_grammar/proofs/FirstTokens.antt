@@ -34,7 +34,7 @@ starts kind = 2
 abbrev pub Begun : ℕ → List Token → Type 0
 Begun b ts = (kind : Kind) (rest : List Token) → b < starts kind → begins_with kind (ts ++ rest) ≡ false
 
--- the first tokens of an expression: no name with an arrow or `=`, and no 2147483648
+-- the first tokens of an expression: not a name with an arrow or `=`, and not 2147483648
 pub record Opening (line : List ℕ) (b : ℕ) (ts : List Token) : Type 0 where
   pub begins : Begun b ts
   pub pair : (kind : Kind) (rest : List Token) → tight kind ≡ 0 → 1 ≤ tight (peek rest) → begins_with_two k.Name kind (ts ++ rest) ≡ false
@@ -94,7 +94,7 @@ OpeningOf line (s.SomeArguments args) ts = Begun 1 ts
 OpeningOf line (s.OneArgument a) ts = Begun 1 ts
 OpeningOf line part ts = Unit
 
--- a kind that is known tells how tightly a token goes on, and what it may begin
+-- a kind that is known decides how tightly a token goes on, and what it may begin
 goes_on : (t : Token) (kind : Kind) → t.kind ≡ kind → 1 ≤ tight kind → 1 ≤ tight t.kind
 goes_on t kind is above = let same : tight t.kind ≡ tight kind = ap tight is in omega arith
 

@@ -10,7 +10,7 @@ use Rattle.lq_grammar.specs.declared.token.Kind.TheVariants as k
 use Rattle.lq_grammar.specs.declared.token.Token.{Token}
 use Rattle.lq_grammar.proofs.Forwards.{begins_false}
 
--- tokens that are no operators of a level, the tightest first; 13 goes on with nothing
+-- tokens that aren't operators of a level, the tightest first; 13 goes on with nothing
 abbrev pub looseness : Kind → ℕ
 looseness k.LeftParenthesis = 0
 looseness k.Arrow = 0
@@ -28,7 +28,7 @@ abbrev pub tight_by : Option (ℕ × Infix) → ℕ → ℕ
 tight_by None other = other
 tight_by (Some found) other = found.0 + 2
 
--- how tightly a token goes on with what stands before it; an operator of level l has l + 2
+-- how tightly a token goes on with what comes before it; an operator of level l has l + 2
 abbrev pub tight : Kind → ℕ
 tight kind = tight_by (infix_of kind) (looseness kind)
 

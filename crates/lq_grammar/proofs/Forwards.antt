@@ -29,7 +29,7 @@ pub expect_reads : (kind : Kind) (t : Token) (rest : List Token) → t.kind ≡ 
 unfolding expect
 expect_reads kind t rest is = let same : same_kind t.kind kind ≡ true = same_kind_true t.kind kind is in rw same refl
 
--- a token of a kind that is expected, and what reads behind it
+-- a token of a kind that is expected, and what reads the tokens after it
 pub expect_step : {B : Type 0} (kind : Kind) (f : Token → Parser B) (t : Token) (rest : List Token) → t.kind ≡ kind → (expect kind >>= f) (t ∷ rest) ≡ f t rest
 expect_step kind f t rest is = bind_step (expect kind) f (t ∷ rest) rest t (expect_reads kind t rest is)
 
@@ -45,12 +45,12 @@ pub pair_true : (first second : Kind) (t u : Token) (rest : List Token) → t.ki
 unfolding begins_with_two
 pair_true first second t u rest t_is u_is = rw (same_kind_true t.kind first t_is) (begins_true second u rest u_is)
 
--- no pair, since the first token is of another kind
+-- not a pair, since the first token is of another kind
 pub pair_false : (first second : Kind) (t : Token) (rest : List Token) → (t.kind ≡ first → ⊥) → begins_with_two first second (t ∷ rest) ≡ false
 unfolding begins_with_two
 pair_false first second t rest differ = rw (same_kind_false t.kind first differ) refl
 
--- no pair, since what follows the first token is of another kind
+-- not a pair, since what follows the first token is of another kind
 pub pair_half : (first second : Kind) (t : Token) (rest : List Token) → t.kind ≡ first → begins_with second rest ≡ false → begins_with_two first second (t ∷ rest) ≡ false
 unfolding begins_with_two
 pair_half first second t rest t_is other = rw (same_kind_true t.kind first t_is) other
@@ -69,7 +69,7 @@ name_step line f t rest is = bind_step (name line) f (t ∷ rest) rest (text_of 
 
 -- ---- lists
 
--- what stands in front, between and behind
+-- what is in front, between and after
 pub split_middle : (xs : List Token) (t : Token) (ys rest : List Token) → (xs ++ t ∷ ys) ++ rest ≡ xs ++ t ∷ (ys ++ rest)
 split_middle xs t ys rest = append_assoc xs (t ∷ ys) rest
 
@@ -82,12 +82,12 @@ fits_right xs ys n le = let both : length (xs ++ ys) ≡ length xs + length ys =
 pub shorter : (ts rest : List Token) → length rest ≤ length (ts ++ rest)
 shorter ts rest = let both : length (ts ++ rest) ≡ length ts + length rest = length-append ts rest in omega arith
 
--- one more turn, behind a front and a token
+-- one more turn, after a front and a token
 pub turn : (turns : ℕ) (t : Token) (ys rest : List Token) → length (t ∷ (ys ++ rest)) ≤ turns → (less : ℕ) × (turns ≡ suc less) × (length rest ≤ less)
 turn zero t ys rest le = absurd (omega arith)
 turn (suc less) t ys rest le = let longer : length rest ≤ length (ys ++ rest) = shorter ys rest in (less, refl, omega arith)
 
--- one more turn, behind a row that isn't empty
+-- one more turn, after a row that isn't empty
 pub turn_row : (turns : ℕ) (ys rest : List Token) → 1 ≤ length ys → length (ys ++ rest) ≤ turns → (less : ℕ) × (turns ≡ suc less) × (length rest ≤ less)
 turn_row zero ys rest some le = let both : length (ys ++ rest) ≡ length ys + length rest = length-append ys rest in absurd (omega arith)
 turn_row (suc less) ys rest some le = let both : length (ys ++ rest) ≡ length ys + length rest = length-append ys rest in (less, refl, omega arith)
@@ -98,6 +98,6 @@ less_left xs ys n less = let both : length (xs ++ ys) ≡ length xs + length ys 
 pub less_right : (xs ys : List Token) (n : ℕ) → length (xs ++ ys) < n → length ys < n
 less_right xs ys n less = let both : length (xs ++ ys) ≡ length xs + length ys = length-append xs ys in omega arith
 
--- the tokens behind a row and one token more
+-- the tokens after a row and one token more
 pub less_behind : (xs : List Token) (t : Token) (ys : List Token) (n : ℕ) → length (xs ++ t ∷ ys) ≤ n → length ys < n
 less_behind xs t ys n le = let both : length (xs ++ t ∷ ys) ≡ length xs + length (t ∷ ys) = length-append xs (t ∷ ys) in omega arith

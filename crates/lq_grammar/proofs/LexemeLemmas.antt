@@ -23,7 +23,7 @@ use Rattle.lq_grammar.proofs.PieceLaws.{both_left, both_right, by_cases, other_i
 
 -- ---- characters
 
--- a digit starts no name, and may continue one
+-- a digit can't start a name, but may continue one
 ten : (d : ℕ) → d < 10 → (starts_name (48 + d) ≡ false) × (continues_name (48 + d) ≡ true)
 unfolding starts_name continues_name unicode_ident
 ten zero h = (refl, refl)
@@ -324,7 +324,7 @@ text_reached body spelled behind h =
       far = omega (arith, length-append body (34 ∷ []));
     }
 
--- whether two slashes stand at the head of a text
+-- whether two slashes are at the head of a text
 abbrev slashes : List ℕ → Bool
 slashes [] = false
 slashes (c ∷ cs) = c == 47 && (head_of cs == 47)

@@ -87,7 +87,7 @@ digit c f s e = by (hexadecimal c) refl e
 abbrev Find : ℕ → Type 0
 Find n = (cs : List ℕ) (many : ℕ) → length cs ≤ n → length_from plain cs ≡ Some many → HasLiteral cs many
 
--- behind the three first digits of a number
+-- after the first three digits of a number
 last_digit : (n a b c i j k many : ℕ) (cs : List ℕ) → Find n → length cs ≤ n → hexadecimal a ≡ Some i → hexadecimal b ≡ Some j → hexadecimal c ≡ Some k
     → length_from (fourth i j k) cs ≡ Some many → HasLiteral (92 ∷ 117 ∷ a ∷ b ∷ c ∷ cs) (many + 5)
 last_digit n a b c i j k many [] find le ea eb ec e = absurd (cc)
@@ -141,7 +141,7 @@ first_digit n many (a ∷ cs) find le e =
     let count : p.left + 3 ≡ many + 2 = omega (arith, p.counted) in
     rw (← count) (second_digit n a d.value p.left cs find (omega arith) d.is (ap (λ (s : Step). length_from s.0 cs) d.goes ∙ p.behind))
 
--- behind a backslash
+-- after a backslash
 escaped : (n many : ℕ) (cs : List ℕ) → Find n → length cs ≤ n → length_from backslash cs ≡ Some many → HasLiteral (92 ∷ cs) (many + 1)
 escaped n many [] find le e = absurd (cc)
 escaped n many (c ∷ cs) find le e = by_cases (c == 117) number_of letter_of
@@ -174,7 +174,7 @@ escaped n many (c ∷ cs) find le e = by_cases (c == 117) number_of letter_of
     letter_of : (c == 117) ≡ false → HasLiteral (92 ∷ c ∷ cs) (many + 1)
     letter_of other = by (simple_escape c) refl (rw other at p.steps)
 
--- at a character that is no closing quote
+-- at a character that isn't a closing quote
 inside : (n c many : ℕ) (cs : List ℕ) → Find n → length cs ≤ n → (c == 34) ≡ false → Past plain c cs many → HasLiteral (c ∷ cs) many
 inside n c many cs find le quote p =
     by_cases (c == 92) escape_at (λ other. by_cases (c == 10) (λ feed. let none : None ≡ Some p.next = rw (other, feed) at p.steps in absurd (cc)) (itself_at other))

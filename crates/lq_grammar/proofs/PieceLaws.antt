@@ -1,4 +1,4 @@
--- Pieces of a text: how far each goes, what is left behind it, and which are tokens.
+-- Pieces of a text: how far each goes, what is left after it, and which are tokens.
 use Rattle.std.proofs.Common.{◌≡◌, ℕ, zero, suc, ◌+◌, ◌≤◌, Bool, true, false, List, [], ◌∷◌, length, take, drop, refl, ap, sym, ◌∙◌, arith, cond, not, ◌&&◌}
 use Rattle.std.specs.Prelude.{Option, Some, None, option_and_then, option_map, is_some, sum_by, if◌then◌else◌, ◌==◌}
 use Rattle.std.specs.Char.{len_utf8}
@@ -56,7 +56,7 @@ either : (limit : ℕ) (b : Bool) (x y : Option Piece) → IsWithin limit x → 
 either limit true x y f g = f
 either limit false x y f g = g
 
--- a sign of one character stands in any text, and one of two where a second character is there
+-- a sign of one character fits in any text, and one of two where a second character is there
 one_within : (limit : ℕ) (kind : Kind) → IsWithin limit (one kind)
 one_within limit kind = within_some limit (Some kind, 0) (omega arith)
 
@@ -107,9 +107,9 @@ piece_within c cs =
     (either _ (is_digit c) _ _ (either _ _ _ _ (within_some _ _ (prefix_len-le-length is_digit cs)) (within_none _))
     (either _ (c == 34) _ _ (text_within cs) (sign_within c cs)))))
 
--- ---- what is left behind a piece
+-- ---- what is left after a piece
 
--- the characters of a piece already read are passed over
+-- the characters of a piece already read are skipped
 pub passed : (n place : ℕ) (cs : List ℕ) → n ≤ length cs → tokens_from n place cs ≡ tokens_from 0 (place + sum_by len_utf8 (take n cs)) (drop n cs)
 unfolding tokens_from
 passed zero place cs within = let e : place + sum_by len_utf8 (take zero cs) ≡ place = omega arith in rw e refl

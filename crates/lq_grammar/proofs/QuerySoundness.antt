@@ -60,7 +60,7 @@ module _ (line : List ℕ) (inner : Level → Parser Expr) (sound_inner : (l : L
   unfolding keys
   sound_keys = part_then sound_key (λ x xs one. counted (λ n. sound_more_keys n (x ∷ []) xs (s.one_key one)))
 
-  -- "into" name, where it stands
+  -- "into" name, where it is there
   data GroupName : List Token → Option (List ℕ) → Type 0 where
     no_group : GroupName [] None
     group : (into word : Token) → into.kind ≡ k.Into → word.kind ≡ k.Name → GroupName (into ∷ word ∷ []) (Some (text_of line word))

@@ -1,4 +1,4 @@
--- What the function of a part reads where tokens that spell the part stand before others.
+-- What the function of a part reads where tokens that spell the part come before others.
 use Rattle.std.proofs.Common.{◌≡◌, ◌≤◌, ◌+◌, ℕ, suc, zero, true, List, [], ◌∷◌, ◌++◌, length}
 use Rattle.std.specs.Prelude.{None, Some}
 use Rattle.lq_grammar.specs.Grammar as s
@@ -12,11 +12,11 @@ use Rattle.lq_grammar.specs.declared.token.Kind.TheVariants as k
 use Rattle.lq_grammar.specs.declared.token.Token.{Token}
 use Rattle.lq_grammar.proofs.Following.{tight}
 
--- a reader finds a tree where these tokens stand before others that go on no more tightly than the number says
+-- a reader finds a tree where these tokens come before others that go on no more tightly than the number says
 abbrev pub Reads : {A : Type 0} → ℕ → Parser A → A → List Token → Type 0
 Reads b parser x ts = (rest : List Token) → b ≤ tight (peek rest) → parser (ts ++ rest) ≡ Some (x, rest)
 
--- A reader of a row comes to the loop that goes on behind these tokens, with a turn at least for each token that is left.
+-- A reader of a row comes to the loop that goes on after these tokens, with a turn at least for each token that is left.
 abbrev pub Turns : {A : Type 0} → Parser A → (ℕ → Parser A) → List Token → List Token → Type 0
 Turns parser loop ts rest = (turns : ℕ) × (length rest ≤ turns) × (parser (ts ++ rest) ≡ loop turns rest)
 
@@ -36,7 +36,7 @@ module _ (line : List ℕ) (inner : Level → Parser Expr) where
       → (13 ≤ tight (peek (ts ++ rest))) × ((turns : ℕ) (cs : List (Clause Expr)) → p.clauses line inner (suc turns) cs (ts ++ rest) ≡ p.clauses line inner turns (cs ++ c ∷ []) rest))
 
   -- A part that its own first line leads back to is read on by a loop; the others are read whole. Queries say too how their
-  -- first token goes on with what stands before it.
+  -- first token goes on with what comes before it.
   abbrev pub PartReadsOver : Part → List Token → Type 0
   PartReadsOver (s.Line x) ts = p.statement_line line inner ts ≡ Some (x, [])
   PartReadsOver (s.Cells cs) ts = ReadsOn 0 (p.cells line) (λ turns. p.more_cells line turns cs) ts

@@ -28,7 +28,7 @@ module _ (line : List ℕ) (inner : Level → Parser Expr) where
   abbrev Selected : Expr → List Token → Type 0
   Selected x ts = ReadsOn 1 (p.primary line inner) (λ turns. p.selections line inner turns x) ts
 
-  -- what a start reads, the members and methods behind it go on with
+  -- what a start reads, the members and methods after it go on with
   started : (x : Expr) (ts rest : List Token) → p.start line inner (ts ++ rest) ≡ Some (x, rest) → Turns (p.primary line inner) (λ turns. p.selections line inner turns x) ts rest
   unfolding p.primary
   started x ts rest reads =
@@ -57,7 +57,7 @@ module _ (line : List ℕ) (inner : Level → Parser Expr) where
   pub read_name : (word : Token) → word.kind ≡ k.Name → Selected (named (text_of line word)) (word ∷ [])
   read_name word is rest stops = started _ (word ∷ []) rest (start_is word k.Name rest is)
 
-  -- what stands before a parenthesis that closes
+  -- what comes before a parenthesis that closes
   closed : {B : Type 0} (l : Level) (b : ℕ) (f : Expr → Parser B) (x : Expr) (ts rest : List Token) (closing : Token) → b ≤ 13 → Reads b (inner l) x ts
       → closing.kind ≡ k.RightParenthesis → (inner l >>= f) ((ts ++ closing ∷ []) ++ rest) ≡ f x (closing ∷ rest)
   unfolding peek

@@ -35,7 +35,7 @@ module _ (line : List ℕ) (inner : Level → Parser Expr) where
       ap (λ o. p.clauses_by line inner (p.clauses line inner turns) cs o (word ∷ ts)) is
       ∙ bind_step found (λ a. p.clauses line inner turns (cs ++ a ∷ [])) ts rest c reads
 
-  -- a clause, by its first word and what reads behind it
+  -- a clause, by its first word and what reads the tokens after it
   read_clause : (c : Clause Expr) (kind : Kind) (found : Parser (Clause Expr)) (word : Token) (ts : List Token) → word.kind ≡ kind → tight kind ≡ 13
       → p.clause_by line inner kind ≡ Some found → Reads 13 found c ts → ClauseReads line inner c (word ∷ ts)
   unfolding peek
@@ -82,7 +82,7 @@ module _ (line : List ℕ) (inner : Level → Parser Expr) where
   unfolding p.group_name
   group_name_some into group rest into_is group_is = after_sees k.Into _ _ into (group ∷ rest) into_is ∙ name_step line _ group rest group_is
 
-  -- a join, by what stands behind its last key
+  -- a join, by what comes after its last key
   join_reads : (s x y : Expr) (g : Option (List ℕ)) (ss xs ys left rest : List Token) (variable within on equals : Token) → variable.kind ≡ k.Name → within.kind ≡ k.In → ConditionalRead line inner s ss
       → on.kind ≡ k.On → ConditionalRead line inner x xs → equals.kind ≡ k.Equals → ConditionalRead line inner y ys → 10 ≤ tight (peek left) → p.group_name line inner left ≡ Some (g, rest)
       → p.join line inner (variable ∷ within ∷ (ss ++ on ∷ (xs ++ equals ∷ (ys ++ left))))

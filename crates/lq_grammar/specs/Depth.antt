@@ -61,7 +61,7 @@ weight_limit = 256
 abbrev pub is_past : Levels → Bool
 is_past levels = nat_lt (bracket_limit + 1) (length levels) || nat_lt weight_limit (weight levels)
 
--- whether a place behind some token of the text is past the limits
+-- whether a place after some token of the text is past the limits
 abbrev pub deep_from : Levels → List Token → Bool
 deep_from levels [] = false
 deep_from levels (token ∷ tokens) = is_past (behind_token levels (effect_of token.kind)) || deep_from (behind_token levels (effect_of token.kind)) tokens

@@ -52,7 +52,7 @@ infix_of kind = None
 abbrev pub levels : ℕ
 levels = 6
 
--- the operator of a level that a sign stands for
+-- the operator of a level that a sign spells
 abbrev pub operator : ℕ → Kind → Option Infix
 operator level kind = option_and_then (λ found. if found.0 == level then Some found.1 else None) (infix_of kind)
 
@@ -133,7 +133,7 @@ pub data Spells (line : List ℕ) : Part → List Token → Type 0 where
   one_cell : {c : Scalar} {ts : List Token} → Spells line (Cell c) ts → Spells line (Cells (c ∷ [])) ts
   another_cell : {cs : List Scalar} {c : Scalar} {xs ys : List Token} (comma : Token) → Spells line (Cells cs) xs → comma.kind ≡ k.Comma → Spells line (Cell c) ys
       → Spells line (Cells (cs ++ c ∷ [])) (xs ++ comma ∷ ys)
-  -- ["-"] integer; 2147483648 stands behind a minus sign alone
+  -- ["-"] integer; 2147483648 is allowed only after a minus sign
   cell_integer : (digits : Token) → digits.kind ≡ k.Integer → decimal_value (text_of line digits) < 2147483648
       → Spells line (Cell (scalar.Int (pos (decimal_value (text_of line digits))))) (digits ∷ [])
   cell_minus : (minus digits : Token) → minus.kind ≡ k.Minus → digits.kind ≡ k.Integer → decimal_value (text_of line digits) ≤ 2147483648

@@ -1,4 +1,4 @@
--- The lexical grammar as a relation: which characters spell a token, and which token stands at the head of a text (ECMA-334,
+-- The lexical grammar as a relation: which characters spell a token, and which token is at the head of a text (ECMA-334,
 -- lexical structure).
 use Rattle.std.specs.Prelude.{◌≡◌, ◌↔◌, ◌≤◌, ◌+◌, ◌∷◌, ◌++◌, List, [], ℕ, true, false, Some, None, chars, codes, length, sum_by}
 use Rattle.std.specs.Char.{len_utf8}
@@ -39,17 +39,18 @@ pub data IsSign : Kind → List ℕ → Type 0 where
   and : IsSign k.And (codes "&&")
   or : IsSign k.Or (codes "||")
 
--- no character that may continue a name stands at the head of what is left
+-- no character that may continue a name is at the head of what is left
 abbrev pub EndsInteger : List ℕ → Type 0
 EndsInteger [] = Unit {0}
 EndsInteger (c ∷ cs) = continues_name c ≡ false
 
--- the words that are no names, with the kind of each
+-- the words that aren't names, with the kind of each
 abbrev pub IsReserved : Kind → List ℕ → Type 0
 IsReserved kind cs = Contains reserved_words (cs, kind)
 
--- These characters spell a token of this kind where those stand behind them: a reserved word; any other word, which is a
--- name; decimal digits of at most 2147483648, directly behind which no name could go on; a text between two quotes; a sign.
+-- These characters spell a token of this kind where those characters follow them: a reserved word; any other word, which is a
+-- name; decimal digits of at most 2147483648, with no character directly after them that could continue a name; a text between
+-- two quotes; a sign.
 pub data IsLexeme : Kind → List ℕ → List ℕ → Type 0 where
   reserved : {kind : Kind} {cs behind : List ℕ} → IsReserved kind cs → IsLexeme kind cs behind
   name : {c : ℕ} {cs behind : List ℕ} → starts_name c ≡ true → list_all continues_name cs ≡ true
@@ -59,11 +60,11 @@ pub data IsLexeme : Kind → List ℕ → List ℕ → Type 0 where
   text : {body spelled behind : List ℕ} → IsLiteral body spelled → IsLexeme k.Text (34 ∷ (body ++ 34 ∷ [])) behind
   sign : {kind : Kind} {cs behind : List ℕ} → IsSign kind cs → IsLexeme kind cs behind
 
--- two slashes stand at the head of a text
+-- two slashes are at the head of a text
 abbrev pub OpensComment : List ℕ → Type 0
 OpensComment cs = (rest : List ℕ) × (cs ≡ 47 ∷ 47 ∷ rest)
 
--- The token at the head of a text is these characters: they spell one of its kind, and no comment stands there, nor a longer
+-- The token at the head of a text is these characters: they spell one of its kind, and no comment begins there, nor a longer
 -- lexeme of any kind.
 pub record IsToken (kind : Kind) (lexeme behind : List ℕ) : Type 0 where
   pub spelled : IsLexeme kind lexeme behind
@@ -86,7 +87,7 @@ FaultsWithoutLexeme =
 
 -- ---- lines
 
--- A text of these characters, which begins at this place of its line, is its tokens, white space and comments, one behind
+-- A text of these characters, which begins at this place of its line, is its tokens, white space and comments, one after
 -- the other. Each token is the longest lexeme that there is at its place. Places count bytes.
 pub data IsCut : ℕ → List ℕ → List Token → Type 0 where
   end : {place : ℕ} → IsCut place [] []

@@ -6,7 +6,7 @@ use Rattle.lq_grammar.specs.TextLiterals.{hexadecimal, length_from, plain, simpl
 use Rattle.lq_grammar.specs.Tokens.{tokens_in}
 use Rattle.lq_grammar.specs.declared.token.Token.{Token}
 
--- the tokens begin at this place or behind it, none is empty, each ends before the next begins, and the last ends before the end
+-- the tokens begin at this place or after it, none is empty, each ends before the next begins, and the last ends before the end
 abbrev pub AreInOrder : ℕ → ℕ → List Token → Type 0
 AreInOrder place end [] = place ≤ end
 AreInOrder place end (token ∷ tokens) = (place ≤ token.start) × (token.start < token.end) × AreInOrder token.end end tokens
@@ -27,7 +27,7 @@ LieInOrder = (line : List ℕ) (tokens : List Token) → IsUtf8 line → tokens_
 -- ---- text literals
 
 -- The characters between the quotes of a text literal, and those that they spell: a character for itself, a backslash with
--- what may stand behind it, and `\u` with four hexadecimal digits, which are no surrogate.
+-- what may come after it, and `\u` with four hexadecimal digits, which aren't a surrogate.
 pub data IsLiteral : List ℕ → List ℕ → Type 0 where
   nothing : IsLiteral [] []
   itself : {c : ℕ} {cs text : List ℕ} → c ≢ 34 → c ≢ 92 → c ≢ 10 → IsLiteral cs text → IsLiteral (c ∷ cs) (c ∷ text)

@@ -34,7 +34,7 @@ use Rattle.lq_grammar.specs.declared.token.Token.{Token}
 
 -- ---- steps
 
--- what a reader finds at the front of the tokens, with the tokens behind it
+-- what a reader finds at the front of the tokens, with the tokens after it
 abbrev pub Parser : Type 0 → Type 0
 Parser A = List Token → Option (A × List Token)
 
@@ -67,21 +67,21 @@ unfoldable pub begins_with_two : Kind → Kind → List Token → Bool
 begins_with_two first second [] = false
 begins_with_two first second (token ∷ tokens) = if same_kind token.kind first then begins_with second tokens else false
 
--- behind a token of this kind the first, and where another comes next the second
+-- the first reader after a token of this kind, and the second one where another token comes next
 unfoldable pub after : {A : Type 0} → Kind → Parser A → Parser A → Parser A
 after kind found other tokens = if begins_with kind tokens then (expect kind >>= (λ token. found)) tokens else other tokens
 
--- the kind of the token that comes next; a semicolon ends each statement, so it stands for none
+-- the kind of the token that comes next; a semicolon ends each statement, so it is the answer where no token is left
 unfoldable pub peek : List Token → Kind
 peek [] = k.Semicolon
 peek (token ∷ tokens) = token.kind
 
--- the tokens behind the one that comes next
+-- the tokens after the one that comes next
 unfoldable pub behind : List Token → List Token
 behind [] = []
 behind (token ∷ tokens) = tokens
 
--- what was read, where nothing stands behind it
+-- what was read, where nothing comes after it
 unfoldable pub to_the_end : {A : Type 0} → Option (A × List Token) → Option A
 to_the_end None = None
 to_the_end (Some (x, [])) = Some x
@@ -92,7 +92,7 @@ module _ (line : List ℕ) where
   unfoldable pub name : Parser (List ℕ)
   name = expect k.Name >>= (λ token. pure (text_of line token))
 
-  -- an integer literal, which stands below 2147483648
+  -- an integer literal, which is below 2147483648
   abbrev pub literal : ℕ → Parser Expr
   literal value tokens = if nat_lt value 2147483648 then Some (integer value, tokens) else None
 
@@ -117,7 +117,7 @@ module _ (line : List ℕ) where
   cell [] = None
   cell (token ∷ tokens) = cell_by token.kind token tokens
 
-  -- more cells behind some, each behind a comma; the number bounds how many
+  -- more cells after some, each after a comma; the number bounds how many
   unfoldable pub more_cells : ℕ → List Scalar → Parser (List Scalar)
   more_cells zero cs = pure cs
   more_cells (suc n) cs = after k.Comma (cell >>= (λ c. more_cells n (cs ++ c ∷ []))) (pure cs)
@@ -150,7 +150,7 @@ module _ (line : List ℕ) where
     field_by x None tokens = None
     field_by x (Some token) tokens = if same_kind token.kind k.Name then Some (record { name = text_of line token; value = x }, tokens) else None
 
-    -- the last token that stood in front of the tokens that are left
+    -- the last token that was in front of the tokens that are left
     abbrev pub last_before : List Token → List Token → Option Token
     last_before all left = slice_get all (length all - length left - 1)
 
@@ -159,7 +159,7 @@ module _ (line : List ℕ) where
         if begins_with_two k.Name k.Assign tokens then (name >>= (λ x. expect k.Assign >>= (λ assign. inner level.Conditional >>= (λ v. pure (record { name = x; value = v }))))) tokens
         else (inner level.Primary >>= (λ x left. field_by x (last_before tokens left) left)) tokens
 
-    -- more members behind some, up to the brace that closes them, before which a comma may stand
+    -- more members after some, up to the brace that closes them, before which a comma may be
     unfoldable pub more_fields : ℕ → List (Field Expr) → Parser (List (Field Expr))
     more_fields zero fs = refuse
     more_fields (suc n) fs = after k.RightBrace (pure fs) (expect k.Comma >>= (λ comma. after k.RightBrace (pure fs) (field >>= (λ f. more_fields n (fs ++ f ∷ [])))))
@@ -186,7 +186,7 @@ module _ (line : List ℕ) where
     start [] = None
     start (token ∷ tokens) = start_by token.kind token tokens
 
-    -- the members and methods behind an expression
+    -- the members and methods after an expression
     unfoldable pub selections : ℕ → Expr → Parser Expr
     selections zero x = pure x
     selections (suc n) x =
@@ -195,7 +195,7 @@ module _ (line : List ℕ) where
     unfoldable pub primary : Parser Expr
     primary = start >>= (λ x tokens. selections (length tokens) x tokens)
 
-    -- behind a minus sign: 2147483648, or a unary expression
+    -- after a minus sign: 2147483648, or a unary expression
     abbrev pub is_least : List Token → Bool
     is_least [] = false
     is_least (token ∷ tokens) = if same_kind token.kind k.Integer then decimal_value (text_of line token) == 2147483648 else false
@@ -208,7 +208,7 @@ module _ (line : List ℕ) where
     unfoldable pub prefix : Parser Expr
     prefix = after k.Not (inner level.Unary >>= (λ x. pure (expr.Node (node.Unary unary.Not x)))) (after k.Minus below_zero primary)
 
-    -- the operations of a level behind its first operand
+    -- the operations of a level after its first operand
     abbrev pub operation_by : Parser Expr → (Expr → Parser Expr) → Expr → Option Infix → Parser Expr
     operation_by operand more x None tokens = Some (x, tokens)
     operation_by operand more x (Some op) tokens = (operand >>= (λ y. more (operation_of op x y))) (behind tokens)
@@ -247,7 +247,7 @@ module _ (line : List ℕ) where
     unfoldable pub keys : Parser (List (SortKey Expr))
     keys = key >>= (λ x tokens. more_keys (length tokens) (x ∷ []) tokens)
 
-    -- "into" name, where it stands
+    -- "into" name, where it is there
     unfoldable pub group_name : Parser (Option (List ℕ))
     group_name = after k.Into (name >>= (λ g. pure (Some g))) (pure None)
 
@@ -256,7 +256,7 @@ module _ (line : List ℕ) where
         name >>= (λ x. source >>= (λ s. expect k.On >>= (λ on. inner level.Conditional >>= (λ outer. expect k.Equals >>= (λ equals. inner level.Conditional >>= (λ own. group_name >>= (λ g.
         pure (clause.Join (record { name = x; source = s; outer_key = outer; inner_key = own; into = g })))))))))
 
-    -- a clause behind its first word; None where the word begins no clause
+    -- a clause after its first word; None where the word begins no clause
     abbrev pub clause_by : Kind → Option (Parser (Clause Expr))
     clause_by k.From = Some (name >>= (λ x. source >>= (λ s. pure (clause.From x s))))
     clause_by k.Let = Some (name >>= (λ x. expect k.Assign >>= (λ assign. inner level.Conditional >>= (λ v. pure (clause.Let x v)))))

@@ -28,7 +28,7 @@ line_limit = 65536
 abbrev pub fits : ℕ → List ℕ → Bool
 fits limit bytes = list_all (λ line. nat_le (length line) limit) (lines_of bytes)
 
--- A script is in size by its bytes as they stand, marks among them.
+-- A script is in size by its bytes as they are, the marks among them.
 pub record IsInSize (bytes : List ℕ) : Type 0 where
   pub script : length bytes ≤ script_limit
   pub lines : fits line_limit bytes ≡ true

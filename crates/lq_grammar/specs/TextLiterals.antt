@@ -1,11 +1,11 @@
--- Text literals: what may stand between two double quotes, and which text it spells (ECMA-334, string literals).
+-- Text literals: what may be between two double quotes, and which text it spells (ECMA-334, string literals).
 use Rattle.std.specs.Prelude.{◌+◌, ◌*◌, ◌∷◌, ◌==◌, ◌&&◌, if◌then◌else◌, List, [], ℕ, suc, Bool, false, Option, Some, None, drop, chars, nat_le, nat_lt, option_and_then, option_map}
 use Rattle.std.specs.Char.{digit_value}
 use Rattle.std.specs.Option.{option_map_or}
 use Rattle.std.specs.Str.{encode_utf8_all}
 
--- Where a reader stands behind the opening quote: between two characters, behind a backslash, or before one of the four
--- digits behind `\u`, whose digits so far have these values.
+-- Where a reader is after the opening quote: between two characters, after a backslash, or before one of the four
+-- digits after `\u`, whose digits so far have these values.
 pub data Place : Type 0 where
   plain : Place
   backslash : Place
@@ -18,11 +18,11 @@ pub data Place : Type 0 where
 abbrev pub hexadecimal : ℕ → Option ℕ
 hexadecimal c = if nat_lt (digit_value c) 16 then Some (digit_value c) else None
 
--- the character of this number, which is no surrogate
+-- the character of this number, which isn't a surrogate
 abbrev pub unit : ℕ → Option ℕ
 unit value = if nat_le 0xD800 value && nat_le value 0xDFFF then None else Some value
 
--- the character that a backslash with this one behind it spells: ' " \ 0 a b f n r t v
+-- the character that a backslash followed by this one spells: ' " \ 0 a b f n r t v
 abbrev pub simple_escape : ℕ → Option ℕ
 simple_escape c =
     if c == 39 then Some 39
@@ -38,8 +38,8 @@ simple_escape c =
     else if c == 118 then Some 11
     else None
 
--- Where the reader stands behind one more character, and the character that is spelled where its spelling ends there. A
--- line feed, an escape that there is not, and a surrogate are faults.
+-- Where the reader is after one more character, and the character that is spelled where its spelling ends there. A
+-- line feed, an escape that doesn't exist, and a surrogate are faults.
 abbrev pub Step : Type 0
 Step = Place × Option ℕ
 

@@ -21,8 +21,8 @@ is_digit c = nat_le 48 c && nat_le c 57
 abbrev pub decimal_value : List ℕ → ℕ
 decimal_value digits = fold (λ value digit. value * 10 + (digit - 48)) 0 digits
 
--- What stands at the head of a text: a blank or a comment, which is no token, or a token of this kind; and how many
--- characters it has behind its first.
+-- What is at the head of a text: a blank or a comment, which isn't a token, or a token of this kind; and how many
+-- characters it has after its first.
 abbrev pub Piece : Type 0
 Piece = Option Kind × ℕ
 
@@ -39,7 +39,7 @@ comment cs = (None, prefix_len (λ c. not (c == 10)) cs)
 abbrev pub word : ℕ → List ℕ → Option Piece
 word c cs = let more = prefix_len continues_name cs in Some (Some (kind_of_word (c ∷ take more cs)), more)
 
--- the longest row of digits at a digit: at most 2147483648, and no character that may continue a name directly behind
+-- the longest row of digits at a digit: at most 2147483648, and no character that may continue a name directly after
 abbrev pub integer : ℕ → List ℕ → Option Piece
 integer c cs =
     let more = prefix_len is_digit cs in
@@ -56,7 +56,7 @@ one kind = Some (Some kind, 0)
 abbrev pub two : Kind → Option Piece
 two kind = Some (Some kind, 1)
 
--- the signs that no longer one begins with
+-- the signs that no longer sign begins with
 abbrev pub short_sign : ℕ → Option Piece
 short_sign c =
     if c == 40 then one k.LeftParenthesis
@@ -86,7 +86,7 @@ sign c d =
     else if c == 124 then (if d == 124 then two k.Or else None)
     else short_sign c
 
--- The longest piece at the head of a text; None is a lexical fault. Two slashes open a comment, and are no signs.
+-- The longest piece at the head of a text; None is a lexical fault. Two slashes open a comment, and aren't signs.
 unfoldable pub piece : ℕ → List ℕ → Option Piece
 piece c cs =
     if is_blank c then Some (None, 0)
@@ -96,7 +96,7 @@ piece c cs =
     else if c == 34 then text cs
     else sign c (head_of cs)
 
--- a piece that is a token, put before the tokens behind it
+-- a piece that is a token, put before the tokens after it
 abbrev pub with_piece : Option Kind → ℕ → ℕ → Option (List Token) → Option (List Token)
 with_piece None start end behind = behind
 with_piece (Some kind) start end behind = option_map (λ tokens. record { kind = kind; start = start; end = end } ∷ tokens) behind

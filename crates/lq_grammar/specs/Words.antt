@@ -1,4 +1,4 @@
--- What names are made of, and the words that are no names.
+-- What names are made of, and the words that aren't names.
 use Rattle.std.specs.Prelude.{◌∷◌, ◌==◌, ◌||◌, if◌then◌else◌, List, [], ℕ, Bool, codes}
 use Rattle.std.specs.Str.{bytes_eq}
 use Rattle.unicode_ident.specs.Ident.{is_xid_start, is_xid_continue}
@@ -13,7 +13,7 @@ starts_name c = c == 95 || is_xid_start c
 unfoldable pub continues_name : ℕ → Bool
 continues_name c = is_xid_continue c
 
--- the words that are no names
+-- the words that aren't names
 abbrev pub reserved_words : List (List ℕ × Kind)
 reserved_words =
     (codes "from", k.From) ∷ (codes "where", k.Where) ∷ (codes "select", k.Select) ∷ (codes "group", k.Group) ∷ (codes "into", k.Into)

@@ -114,7 +114,7 @@ pub enum Node<X> {
     Host(Txt, List<X>),
     /// An anonymous object: `new` with its members.
     New(List<Field<X>>),
-    /// A method of what stands before the dot, with its arguments.
+    /// A method of what comes before the dot, with its arguments.
     Method(Held<X>, Txt, List<Argument<X>>),
 }
 
@@ -143,7 +143,7 @@ pub struct Join<X> {
     pub name: Txt,
     /// The inner sequence.
     pub source: X,
-    /// The key of what stands before the clause.
+    /// The key of what comes before the clause.
     pub outer_key: X,
     /// The key of an item of the inner sequence.
     pub inner_key: X,
@@ -193,7 +193,7 @@ pub struct Continuation<X> {
     pub body: Body<X>,
 }
 
-/// A query expression: `from name in source`, its body, and the continuations behind it, in order.
+/// A query expression: `from name in source`, its body, and the continuations after it, in order.
 #[derive(Drop)]
 pub struct Query<X> {
     /// The range variable.

@@ -3,7 +3,7 @@
 /// What a token is. Reserved words and signs have a kind of their own.
 #[derive(Clone, Copy, Debug, Drop, Eq, PartialEq)]
 pub enum Kind {
-    /// A name: no reserved word.
+    /// A name: not a reserved word.
     Name,
     /// Decimal digits.
     Integer,
@@ -115,13 +115,13 @@ pub enum Kind {
     Or,
 }
 
-/// A token: what it is, and where it stands in its line.
+/// A token: what it is, and where it is in its line.
 #[derive(Clone, Copy, Debug, Drop)]
 pub struct Token {
     /// What it is.
     pub kind: Kind,
     /// The place of its first byte in the line.
     pub start: usize,
-    /// The place behind its last byte.
+    /// The place after its last byte.
     pub end: usize,
 }

@@ -17,11 +17,11 @@ abbrev pub number_of : Option Scalar → Option ℤ
 number_of (Some (Int number)) = Some number
 number_of _ = None
 
--- the integer that stands in a column
+-- the integer in a column
 abbrev pub number_at : List Scalar → ℕ → Option ℤ
 number_at cells column = number_of (slice_get cells column)
 
--- the arguments that stand in some columns; none where a cell is missing or no integer
+-- the arguments in some columns; none where a cell is missing or isn't an integer
 abbrev pub arguments_at : List Scalar → Pick → Option Pick2
 arguments_at cells (columns.One column) = option_map arguments.One (number_at cells column)
 arguments_at cells (columns.Two first second) =
@@ -50,7 +50,7 @@ abbrev pub LogsCall : Option Bool → Question → List Call → Result Bool Hos
 LogsCall answer question old (Ok given) new = (answer ≡ Some given) × (new ≡ old ++ entry_of question given ∷ [])
 LogsCall answer question old (Err refused) new = IsUnasked answer refused × (new ≡ old)
 
--- asking for a row of a table: the arguments stand in the row's columns, and what is asked has the row's number
+-- asking for a row of a table: the arguments are those in the row's columns, and what is asked has the row's number
 abbrev pub question_of : ℕ → ℕ → ℕ → Pick → Pick2 → Question
 question_of predicate table row columns xs = record { predicate = predicate; table = table; row = row; columns = columns; arguments = xs }
 

@@ -4,7 +4,7 @@ use crate::error::HostError;
 use crate::log::Log;
 
 /// Hosts that are asked, each call with its entry in a log. What runs a query takes any such hosts by a type parameter, since a boxed
-/// closure may stand in no signature of a cycle of calls.
+/// closure isn't allowed in a signature of a cycle of calls.
 pub trait Asks {
     ghost use Rattle.std.specs.Prelude.{ℕ, Bool, Option};
     ghost use Rattle.lq_host.specs.declared.call.Pick2.{Pick2};
@@ -13,7 +13,7 @@ pub trait Asks {
     // The answer of a predicate, by its number, to arguments; none where they are out of its range, or there is no such predicate.
     ghost answer_of: { Self → ℕ → Pick2 → Option Bool };
 
-    /// Asks, and puts the call behind those of `log`. Refuses with `Range` exactly where there is no answer, and with `Memory` where there
+    /// Asks, and appends the call to `log`. Refuses with `Range` exactly where there is no answer, and with `Memory` where there
     /// is no room for the entry; in both no call was made, and the log is as it was.
     fn ask(&self, question: Question, log: &mut Log) -> Result<bool, HostError>
         ensures { LogsCall (answer_of self.now question.predicate question.arguments) question

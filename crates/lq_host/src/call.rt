@@ -22,7 +22,7 @@ pub enum Pick2 {
     Two(i32, i32),
 }
 
-/// What is asked: a predicate of numbers that stand in a row.
+/// What is asked: a predicate, of numbers from a row.
 #[derive(Clone, Copy, Debug, Eq, PartialEq)]
 pub struct Question {
     /// The number of the predicate.

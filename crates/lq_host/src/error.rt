@@ -1,7 +1,7 @@
 //! What host predicates refuse.
 use thiserror::Error;
 
-/// Why a predicate wasn't made, added or asked. What was asked is then as it was.
+/// Why a predicate wasn't made, added or asked. What the call was made on is then as it was.
 #[derive(Clone, Copy, Debug, Drop, Eq, Error, PartialEq)]
 pub enum HostError {
     /// There was no memory.

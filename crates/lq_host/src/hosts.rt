@@ -69,7 +69,7 @@ impl HostSet {
         self.log.calls()
     }
 
-    /// Puts `predicate` behind the others and answers its number. Refuses with `DuplicateName`, `TooMany` (there are 64) or `Memory`,
+    /// Puts `predicate` after the others and answers its number. Refuses with `DuplicateName`, `TooMany` (there are 64) or `Memory`,
     /// checked in this order; the predicates are then as they were, and the new one is handed back. The log stays in any case.
     pub fn add(
         &mut self,
@@ -83,8 +83,8 @@ impl HostSet {
     }
 
     /// Asks predicate `id` of the cells that `row`, of table `t`, has in `columns`: as many columns as the predicate has arguments, with an
-    /// integer in each. Answers by the predicate's accepted set, and puts the call behind the others in the log. Refuses with `Range`
-    /// where the cells are out of the predicate's range, and else with `Memory` where there is none for the entry; in both no call was
+    /// integer in each. Answers by the predicate's accepted set, and puts the call after the others in the log. Refuses with `Range`
+    /// where the cells are out of the predicate's range, and else with `Memory` where there is no room for the entry; in both no call was
     /// made, and the log is as it was.
     pub fn ask<R: SeenRow>(
         &mut self,

@@ -1,4 +1,4 @@
-//! Host predicates: boxed closures that tell numbers of their range, and the log of their calls.
+//! Host predicates: boxed closures that test numbers in their range, and the log of their calls.
 //!
 //! A predicate answers by its accepted set, a finite set of numbers or of pairs of numbers in its range, which its maker proves of its
 //! closure. A closure is called by `Asks::ask` alone: on arguments in the range, with room for the call's entry in the log, which is

@@ -6,7 +6,7 @@ use crate::call::Call;
 use std::alloc::Global;
 use std::marker::Model;
 
-/// The calls that were made, in their order. `Asks::ask` puts a call behind the others, and nothing takes one out.
+/// The calls that were made, in their order. `Asks::ask` puts a call after the others, and nothing takes one out.
 #[derive(Debug, Drop)]
 pub struct Log {
     pub(crate) calls: Vec<Call>,
@@ -47,7 +47,7 @@ pub(crate) fn make_room(calls: &mut Vec<Call>) -> bool
     calls.try_reserve(1).is_ok()
 }
 
-/// Puts a call behind the others, for which there is room.
+/// Puts a call after the others, for which there is room.
 pub(crate) fn append(calls: &mut Vec<Call>, call: Call)
     requires { vec_len calls.old < vec_capacity calls.old }
     ensures { calls.new.items ≡ calls.old.items ++ call ∷ [] }

@@ -45,7 +45,7 @@ impl Test {
         }
     }
 
-    /// The answer to arguments of its range, by a call of its closure.
+    /// The answer to arguments in its range, by a call of its closure.
     pub(crate) fn answer(&self, arguments: Pick2) -> bool
         requires { is_some (domain_answer (domain_of self.now) arguments) ≡ true }
         ensures { domain_answer (domain_of self.now) arguments ≡ Some result }

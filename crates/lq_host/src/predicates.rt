@@ -66,7 +66,7 @@ impl Predicates {
         self.at(id).test.ranges()
     }
 
-    /// Puts `predicate` behind the others and answers its number. Refuses with `DuplicateName`, `TooMany` (there are 64) or `Memory`,
+    /// Puts `predicate` after the others and answers its number. Refuses with `DuplicateName`, `TooMany` (there are 64) or `Memory`,
     /// checked in this order; the predicates are then as they were, and the new one is handed back.
     pub fn add(
         &mut self,

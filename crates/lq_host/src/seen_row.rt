@@ -24,7 +24,7 @@ pub trait SeenRow {
         ensures { option_copied result ≡ slice_get (cells_of self.now) column };
 }
 
-/// The arguments that a row has in these columns; none where one of its cells there is missing or no integer.
+/// The arguments that a row has in these columns; none where one of its cells there is missing or isn't an integer.
 pub fn arguments_of<R: SeenRow>(row: &R, columns: Pick) -> Option<Pick2>
     ensures { result ≡ arguments_at (R.cells_of row.now) columns }
 {

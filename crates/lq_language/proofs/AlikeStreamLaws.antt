@@ -1,4 +1,4 @@
--- Steps over streams whose items are all such, in two worlds: where what is done to each item is alike, so is what comes of them.
+-- Steps over streams whose items all pass a test, in two worlds: where what is done to each item is alike, so is what comes of them.
 use Rattle.std.proofs.Common.{◌≡◌, ◌∷◌, ◌++◌, if◌then◌else◌, List, [], map, filter, Bool, true, false, not, Result, Ok, Err, ap, ap₂, refl, subst}
 use Rattle.lq_value.specs.declared.scalar.Scalar.{Scalar}
 use Rattle.lq_value.specs.declared.value.End.{End}
@@ -10,11 +10,11 @@ use Rattle.lq_language.specs.Operations.{on_ok}
 use Rattle.lq_language.specs.Stream.{Stream, both, each, elements_of, expand_by, first_keys, group_by, groups_of, join_by, kept, made, on_value, one, select_by, then_ending, then_stream, where_by, whole}
 use Rattle.lq_language.proofs.ItemLaws.{every_filter, every_map, every_more, every_none, first_of, others_of}
 
--- one outcome in both, and a value that is such
+-- one outcome in both, and a value that passes
 abbrev pub Agree : {A : Type 0} → (A → Type 0) → Result A Fault → Result A Fault → Type 0
 Agree {A} P m n = (m ≡ n) × ((x : A) → m ≡ Ok x → P x)
 
--- one stream in both, of items that are such
+-- one stream in both, of items that pass
 abbrev pub Alike : {A : Type 0} → (A → Type 0) → Stream A → Stream A → Type 0
 Alike P s t = (s ≡ t) × Every P s.0
 
@@ -51,7 +51,7 @@ module _ {A B : Type 0} (P : A → Type 0) (Q : B → Type 0) where
       → Alike Q (whole s.0 s.1 next) (whole t.0 t.1 more)
   whole_alike next more same s t h = subst (λ (r : Stream A). Alike Q (whole s.0 s.1 next) (whole r.0 r.1 more)) h.0 (whole_by next more same s.0 s.1 h.1)
 
--- ---- one item, and one stream behind another
+-- ---- one item, and one stream after another
 
 every_one : {A : Type 0} (P : A → Type 0) (m : Result A Fault) → ((x : A) → m ≡ Ok x → P x) → Every P (one m).0
 every_one P (Ok x) p = every_more P x [] (p x refl) (every_none P)
@@ -155,7 +155,7 @@ module _ {A K V B : Type 0} (P : A → Type 0) (L : K → Type 0) (S : V → Typ
 -- ---- order
 
 module _ {A K : Type 0} (P : A → Type 0) (key other : K → A → Result Scalar Fault) where
-  -- each key is alike on all such items
+  -- each key is alike on all items that pass
   abbrev pub KeysAlike : List K → Type 0
   KeysAlike [] = Unit {0}
   KeysAlike (k ∷ ks) = ((x : A) → P x → key k x ≡ other k x) × KeysAlike ks

@@ -47,7 +47,7 @@ module _ {A : Type 0} (ds : List Bool) where
   abbrev after : Keyed A → Keyed A → Bool
   after row other = is_greater (order_of_keys ds row.0 other.0)
 
-  -- what stands after doesn't stand before
+  -- what comes after something doesn't come before it
   turned_round : (row other : Keyed A) → after row other ≡ true → after other row ≡ false
   turned_round row other h = ap is_greater (flips ds other.0 row.0) ∙ not_greater (order_of_keys ds row.0 other.0) h
 
@@ -60,7 +60,7 @@ module _ {A : Type 0} (ds : List Bool) where
   rest_sorted row [] sorted = tt
   rest_sorted row (other ∷ rows) sorted = sorted.1
 
-  -- an item inserted behind a first one that it stands after
+  -- an item inserted after the first one, which it comes after
   insert_behind : (row other : Keyed A) (rows : List (Keyed A)) → after row other ≡ true → Sorted (other ∷ rows) → Sorted (inserted ds row rows) → Sorted (other ∷ inserted ds row rows)
   insert_behind row other [] h sorted behind = (turned_round row other h, tt)
   insert_behind row other (third ∷ rows) h sorted behind = by (after row third) behind where
@@ -84,7 +84,7 @@ module _ {A : Type 0} (ds : List Bool) where
   -- ---- ties
 
   module _ (test : Keyed A → Bool) (one : TellsOne test) where
-    -- of two items that don't stand level only one passes
+    -- of two items that aren't level only one passes
     swapped : (row other : Keyed A) (rows : List (Keyed A)) → after row other ≡ true → (b c : Bool) → test row ≡ b → test other ≡ c
         → (if c then other ∷ (if b then row ∷ rows else rows) else (if b then row ∷ rows else rows))
         ≡ (if b then row ∷ (if c then other ∷ rows else rows) else (if c then other ∷ rows else rows))

@@ -1,4 +1,4 @@
--- Lists whose items are all such, streams over them, and what is found by its name.
+-- Lists whose items all pass a test, streams over them, and what is found by its name.
 use Rattle.std.proofs.Common.{◌≡◌, ◌+◌, ◌∷◌, if◌then◌else◌, List, [], map, filter, ℕ, zero, suc, Bool, true, false, Option, Some, None, Result, Ok, Err, ap, ap₂, ◌∙◌, arith, sym, refl, subst, slice_get, bytes_eq, zero-add}
 use Rattle.std.proofs.lemmas.Option.{none-some, same_Some}
 use Rattle.std.specs.List.{position_from}
@@ -81,7 +81,7 @@ there : {A : Type 0} (test : A → Bool) (xs : List A) (start n : ℕ) → posit
 there test [] start n h = absurd (none-some n h)
 there test (x ∷ xs) start n h = there_by x xs start n (position_from test (start + 1) xs) (there test xs (start + 1) n) (test x) h
 
--- a table that a name stands for is there
+-- a table that a name refers to is there
 pub table_there : (x : List ℕ) (schemas : List Schema) (n : ℕ) → table_number x schemas ≡ Some n → (schema : Schema) × (slice_get schemas n ≡ Some schema)
 table_there x schemas n h = let found = there (λ schema. bytes_eq schema.name x) schemas 0 n h in (found.2.0, ap (slice_get schemas) (found.1 ∙ zero-add found.0) ∙ found.2.1)
 

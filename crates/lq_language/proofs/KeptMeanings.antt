@@ -1,4 +1,4 @@
--- What is typed means the same in two worlds that differ only in the fault that stands where there is
+-- What is typed means the same in two worlds that differ only in the fault that is used where there is
 -- no meaning, and gives values of its type.
 use Rattle.std.proofs.Common.{◌≡◌, ◌∷◌, if◌then◌else◌, List, [], map, ℕ, Bool, true, false, not, Option, Some, None, Result, Ok, ap, ap₂, ◌∙◌, sym, refl, subst, bytes_eq, codes, option_and_then, option_map}
 use Rattle.std.proofs.lemmas.Bool.{and_from}

@@ -11,7 +11,7 @@ use Rattle.lq_language.specs.Arrangement.{order_of_keys, turned}
 use Rattle.lq_language.specs.KeyOrder.{StandsBefore, TellsKeyOrder}
 use Rattle.lq_language.proofs.ArrangementLemmas.{flips}
 
--- how a key stands that decides for its list
+-- how a key compares that decides for its list
 abbrev decided : Bool → Ordering
 decided d = if d then ordering.Greater else ordering.Less
 

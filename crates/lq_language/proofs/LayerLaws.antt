@@ -1,5 +1,5 @@
 -- The layers of expressions: what a fold gives to a node and to a query, by the maps of `Maps`. The formers are those that the type of
--- the trees gives, by the place at which a part stands in it.
+-- the trees gives, by the place of a part in it.
 use Rattle.std.proofs.Common.{◌≡◌, List, map, ap, ◌∙◌, sym, refl, subst}
 use Rattle.lq_grammar.specs.declared.syntax.Argument.{Argument}
 use Rattle.lq_grammar.specs.declared.syntax.Argument.TheVariants as argument

@@ -1,4 +1,4 @@
--- What is typed means the same in two worlds that differ only in the fault that stands where there is no meaning.
+-- What is typed means the same in two worlds that differ only in the fault that is used where there is no meaning.
 use Rattle.std.proofs.Common.{◌≡◌, ◌∷◌, if◌then◌else◌, List, [], map, ℕ, ℤ, Bool, true, false, not, Option, Some, None, Result, Ok, Err, ap, ap₂, ◌∙◌, sym, refl, subst, slice_get, codes, option_and_then, bytes_eq}
 use Rattle.std.proofs.lemmas.Option.{none-some, same_Some}
 use Rattle.std.specs.Prelude.{is_some}

@@ -1,4 +1,4 @@
--- The methods that look for a text in another, as they are named and as they are told.
+-- The methods that look for a text in another, by their names and by what is known of them.
 use Rattle.std.proofs.Common.{◌≡◌, ◌||◌, ◌⊎◌, inl, inr, List, ℕ, Bool, true, false, codes, bytes_eq, ap, refl}
 use Rattle.std.proofs.lemmas.Slice.Eq.{bytes_eq-Decides}
 use Rattle.lq_language.specs.Members.{IsSearch, contains, ends, is_search, starts}

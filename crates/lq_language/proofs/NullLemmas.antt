@@ -24,9 +24,9 @@ null_has_nothing unknown n (scalar.Text t) text = (refl, refl, refl, refl, refl,
 null_has_nothing unknown n scalar.Null text = (refl, refl, refl, refl, refl, refl)
 null_has_nothing unknown n s text = absurd text
 
--- ---- what `==` tells
+-- ---- what `==` says
 
--- `==` tells whether two scalars are one
+-- `==` says whether two scalars are one
 abbrev Tells : Fault → Scalar → Scalar → Type 0
 Tells unknown a b = (same : Bool) × (same_content unknown a b ≡ Ok same) × ((same ≡ true) ↔ (a ≡ b))
 
@@ -64,7 +64,7 @@ module _ (unknown : Fault) where
   tells a b (inr (inl both)) = truths a b both.0 both.1
   tells a b (inr (inr both)) = texts a b both.0 both.1
 
--- an operator that gives this truth value tells of what it is, and one that gives the other, too
+-- an operator that gives this truth value says what holds, and so does one that gives the other
 told : {P : Type 0} (o : Result Scalar Fault) (same : Bool) → o ≡ Ok (scalar.Bool same) → ((same ≡ true) ↔ P)
     → ((o ≡ Ok (scalar.Bool true)) ↔ P) × ((o ≡ Ok (scalar.Bool false)) ↔ (P → ⊥))
 told o true is tells = ((λ h. tells.0 refl, λ p. is), (λ h. absurd (cc), λ none. absurd (none (tells.0 refl))))

@@ -126,7 +126,7 @@ module _ {A : Type 0} (ds : List Bool) where
   abbrev after : Keyed A → Keyed A → Bool
   after row other = is_greater (order_of_keys ds row.0 other.0)
 
-  -- an item doesn't stand after another
+  -- an item doesn't come after another
   abbrev Precedes : Keyed A → Keyed A → Type 0
   Precedes row other = after row other ≡ false
 
@@ -143,7 +143,7 @@ module _ {A : Type 0} (ds : List Bool) where
       (further x z rows xs (others_of HasKeys y (z ∷ rows) all)
       (chained x y z xs (first_of HasKeys y (z ∷ rows) all) (first_of HasKeys z rows (others_of HasKeys y (z ∷ rows) all)) h sorted.0) sorted.1)
 
-  -- the first of a sorted list stands after none of it
+  -- the first item of a sorted list comes after none of the list
   first_precedes : (x : Keyed A) (rows : List (Keyed A)) → Every HasKeys (x ∷ rows) → IsSorted ds (x ∷ rows) → Every (Precedes x) (x ∷ rows)
   first_precedes x rows all sorted = further x x rows (first_of HasKeys x rows all) all (ap is_greater (level ds x.0)) sorted
 

@@ -15,7 +15,7 @@ use Rattle.lq_language.specs.Operations.{applied, arithmetic, begins_with, check
 use Rattle.lq_language.specs.declared.operation.Op.{Op}
 use Rattle.lq_language.specs.declared.operation.Op.TheVariants as op
 
--- ---- what is decided, whatever stands where there is no meaning
+-- ---- what is decided, whatever is used where there is no meaning
 
 module _ (f g : Fault) where
   number_alike : (o : Op) → ((m n : ℤ) → computed f o m n ≡ computed g o m n) → (a b : Scalar) → IsNumber a → IsNumber b → arithmetic f o a b ≡ arithmetic g o a b

@@ -1,4 +1,4 @@
--- What operators and members give to scalars of the types that they take: the same whatever stands where there is no meaning.
+-- What operators and members give to scalars of the types that they take: the same whatever is used where there is no meaning.
 use Rattle.std.proofs.Common.{◌≡◌, ◌==◌, ◌++◌, ◌||◌, ◌⊎◌, if◌then◌else◌, List, [], ℕ, ℤ, Bool, true, false, not, Some, None, Result, Ok, Err, ap, ap₂, ◌∙◌, sym, refl, subst, inl, inr, bytes_eq, int_lt, int_le, true≢false}
 use Rattle.std.proofs.lemmas.Bool.{eqb-true}
 use Rattle.std.proofs.lemmas.Option.{none-some, same_Some}
@@ -35,7 +35,7 @@ number_scalars Ty-F.Int h = (refl, refl)
 number_scalars Ty-F.IntN h = (refl, refl)
 number_scalars layer h = absurd (true≢false (sym h))
 
--- an int or null stands there, a truth value, or a text or null
+-- an int or null, a truth value, or a text or null
 abbrev HasNumbers : Ty-F Ty → Type 0
 HasNumbers Ty-F.Int = Unit {0}
 HasNumbers Ty-F.IntN = Unit {0}
@@ -121,7 +121,7 @@ sequence_is_no_scalar layer item h k = none-some item h
 
 -- ---- comparisons
 
--- what a comparison tells, whatever stands where there is no meaning
+-- what a comparison says, whatever is used where there is no meaning
 abbrev pub Decides : (Fault → Result Bool Fault) → Type 0
 Decides o = (b : Bool) × ((unknown : Fault) → o unknown ≡ Ok b)
 
@@ -217,7 +217,7 @@ no_two_rows k l m n h i j = none-some m i
 
 -- ---- operators
 
--- what an operator gives to scalars, whatever stands where there is no meaning: a scalar of this layer, or a fault
+-- what an operator gives to scalars, whatever is used where there is no meaning: a scalar of this layer, or a fault
 pub data Gives (layer : Ty-F Ty) (o : Fault → Result Scalar Fault) : Type 0 where
   gives : (s : Scalar) → IsScalarOf layer s → ((unknown : Fault) → o unknown ≡ Ok s) → Gives layer o
   faults : (x : Fault) → ((unknown : Fault) → o unknown ≡ Err x) → Gives layer o
@@ -259,7 +259,7 @@ left_over_given m n = by (int_eq n (pos 0)) (is_int (int_div m n)) where
   by false true = gives (scalar.Int (int_rem m n)) tt (λ unknown. refl)
   by false false = faults fault.Overflow (λ unknown. refl)
 
--- an int may stand for an int?
+-- an int may be used as an int?
 widened : (o : Fault → Result Scalar Fault) → Gives Ty-F.Int o → Gives Ty-F.IntN o
 widened o (gives (scalar.Int n) fits is) = gives (scalar.Int n) tt is
 widened o (gives s fits is) = absurd fits

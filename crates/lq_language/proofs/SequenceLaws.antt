@@ -59,7 +59,7 @@ module _ {R : Type 0} (world : World R) (holds : HoldsRows world) (kept : IsSess
   Streams (Has names e t) = (u : Ty) → out-Ty t ≡ Ty-F.Seq u → (scope : Scope R) → At names scope → IsStream e scope
   Streams claim = Unit {0}
 
-  -- what has no items is no sequence
+  -- what has no items isn't a sequence
   none : (names : Names) (e : Expr) (t : Ty) → HasNoItems t → Streams (Has names e t)
   none names e t empty u is = absurd (none-some u (sym empty ∙ ap item_of is))
 

@@ -110,7 +110,7 @@ module _ {R : Type 0} (world : World R) (holds : HoldsRows world) (unknown : Fau
   value_at : (names : Names) (e : Expr) (t : Ty) (scope : Scope R) → At names scope → HasRuleType names e t → (v : Value R) → served e scope ≡ Ok v → IsOf world t v
   value_at names e t scope at typed = value_of_type world holds unknown names e t typed scope at.0 at.1
 
-  -- what is no sequence is as it is
+  -- what isn't a sequence is as it is
   unsettled : (t : Ty) (o : Option Ty) (found : Result (Value R) Fault) → o ≡ Some t → item_of (out-Ty t) ≡ None → settled W o found ≡ found
   unsettled t o found is none =
       ap (λ (p : Option Ty). settled W p found) is ∙ ap (λ (b : Bool). if b then as_sequence (stream_of W found) else found) (not_sequence (out-Ty t) none)

@@ -1,4 +1,4 @@
--- Streams: one behind another, how steps over a stream go with a map of its items, and how one step follows another.
+-- Streams: one after another, how steps over a stream go with a map of its items, and how one step follows another.
 use Rattle.std.proofs.Common.{◌≡◌, ◌∷◌, ◌++◌, if◌then◌else◌, List, [], map, Bool, true, false, Result, Ok, Err, ap, ap₂, ◌∙◌, sym, refl}
 use Rattle.std.proofs.lemmas.List.{append-nil, append_assoc, map-append}
 use Rattle.lq_value.specs.declared.scalar.Scalar.{Scalar}
@@ -25,7 +25,7 @@ pub map_twice : {A B C : Type 0} (b : A → B) (g : B → C) (xs : List A) → m
 map_twice b g [] = refl
 map_twice b g (x ∷ xs) = ap (λ ys. g (b x) ∷ ys) (map_twice b g xs)
 
--- ---- one stream behind another
+-- ---- one stream after another
 
 pub then_mapped : {A B : Type 0} (d : A → B) (xs : List A) (e : End) (t : Stream A) → then_ending (map d xs) e (mapped d t) ≡ mapped d (then_ending xs e t)
 then_mapped d xs end.Done t = ap (λ ys. (ys, t.1)) (sym (map-append d xs t.0))
@@ -35,7 +35,7 @@ then_nil : {A : Type 0} (xs : List A) (e : End) → then_ending xs e ([], end.Do
 then_nil xs end.Done = ap (λ ys. (ys, end.Done)) (append-nil xs)
 then_nil xs (end.Fault f) = refl
 
--- one stream behind another, behind a third
+-- one stream after another, after a third
 pub then_assoc : {A : Type 0} (xs : List A) (d : End) (ys : List A) (e : End) (c : Stream A) → then_ending xs d (then_ending ys e c) ≡ then_stream (then_ending xs d (ys, e)) c
 then_assoc xs end.Done ys end.Done c = ap (λ l. (l, c.1)) (sym (append_assoc xs ys c.0))
 then_assoc xs end.Done ys (end.Fault f) c = refl
@@ -65,7 +65,7 @@ kept_mapped b (Ok true) x = refl
 kept_mapped b (Ok false) x = refl
 kept_mapped b (Err f) x = refl
 
--- ---- one step behind another
+-- ---- one step after another
 
 each_append : {A B : Type 0} (k : A → Stream B) (xs ys : List A) (e : End) → each k (xs ++ ys) e ≡ then_stream (each k xs end.Done) (each k ys e)
 each_append k [] ys e = refl

@@ -1,4 +1,4 @@
--- Methods of sequences, members and operators give what their types say, in two worlds that differ only in the fault that stands where
+-- Methods of sequences, members and operators give what their types say, in two worlds that differ only in the fault that is used where
 -- there is no meaning.
 use Rattle.std.proofs.Common.{◌≡◌, ◌∷◌, if◌then◌else◌, List, [], map, filter, ℕ, ℤ, pos, Bool, true, false, not, Option, Some, None, Result, Ok, Err, ap, ap₂, ◌∙◌, sym, refl, subst, true≢false, option_and_then}
 use Rattle.std.specs.Prelude.{is_some}

@@ -34,7 +34,7 @@ module _ {R : Type 0} (world : World R) where
   widened_value t r _ widens (is_row _ n row is cells) = is_row r n row (widens.rows n is) cells
   widened_value t r _ widens (is_sequence _ item xs e is items) = is_sequence r item xs e (widens.items item is) items
 
-  -- whether two values are the same, whatever stands where there is no meaning
+  -- whether two values are the same, whatever is used where there is no meaning
   abbrev pub DecidesSame : Value R → Value R → Type 0
   DecidesSame v w = Decides (λ unknown. same_values (assuming unknown world) (out-Value R v) (out-Value R w))
 

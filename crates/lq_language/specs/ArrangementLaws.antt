@@ -2,7 +2,7 @@
 use Rattle.std.specs.Prelude.{◌≡◌, ◌∷◌, List, [], filter, Bool, true, false}
 use Rattle.lq_language.specs.Arrangement.{Keyed, arranged, is_greater, order_of_keys}
 
--- no item stands behind one that its keys put after it
+-- no item comes after one that its keys put after it
 abbrev pub IsSorted : {A : Type 0} → List Bool → List (Keyed A) → Type 0
 IsSorted ds [] = Unit {0}
 IsSorted ds (row ∷ []) = Unit {0}
@@ -15,6 +15,6 @@ ArrangesByKeys A = (ds : List Bool) (rows : List (Keyed A)) → IsSorted ds (arr
 abbrev pub TellsOne : {A : Type 0} → (Keyed A → Bool) → Type 0
 TellsOne {A} test = (row other : Keyed A) → test row ≡ true → test other ≡ true → row.0 ≡ other.0
 
--- items with one list of keys are the same ones in the same order, before and behind
+-- items with one list of keys are the same ones in the same order, before the arrangement and after it
 abbrev pub KeepsTies : Type 0 → Type 0
 KeepsTies A = (ds : List Bool) (rows : List (Keyed A)) (test : Keyed A → Bool) → TellsOne test → filter test (arranged ds rows) ≡ filter test rows

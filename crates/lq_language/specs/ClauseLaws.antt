@@ -47,7 +47,7 @@ SeesNoRangeVariable X =
     → ((t : Ty) → typed j.inner_key (with_local outer j.name t) ≡ other j.inner_key (with_local outer j.name t)) → typed j.outer_key names ≡ other j.outer_key names
     → join_type typed outer j names ≡ join_type other outer j names
 
--- the range variable of a `join` with `into` is gone behind it, so `into` may bring its name in again
+-- the range variable of a `join` with `into` is gone after it, so `into` may bring its name in again
 abbrev pub ReturnsItsName : Type 0 → Type 0
 ReturnsItsName X =
     (typed : X → Names → Option Ty) (outer names : Names) (n : List ℕ) (f k l : X) (t u : Ty) → local_type n names.locals ≡ None
@@ -55,13 +55,13 @@ ReturnsItsName X =
     → names_after typed outer (clause.Join (record { name = n; source = f; outer_key = k; inner_key = l; into = Some n })) names
     ≡ Some (with_local names n (ty.Seq t))
 
--- a range variable hides a table of its name: where it stands for a row, no clause enumerates it
+-- a range variable hides a table of its name: where it refers to a row, no clause enumerates it
 abbrev pub HidesTables : Type 0
 HidesTables =
     (outer names : Names) (n m : List ℕ) (table : ℕ) → local_type n names.locals ≡ Some (ty.Row table)
     → names_after expression_type outer (clause.From m (expr.Node (node.Name n))) names ≡ None
 
--- behind `into x` there is x alone, beside the names round the query, none of which it repeats
+-- after `into x` there is x alone, beside the names around the query, none of which it repeats
 abbrev pub SeesItAlone : Type 0 → Type 0
 SeesItAlone X =
     (typed : X → Names → Option Ty) (outer : Names) (n : List ℕ) (t : Ty)
@@ -70,7 +70,7 @@ SeesItAlone X =
 
 -- ---- types
 
--- null alone is bound by no `let`, and is neither selected nor grouped
+-- null alone can't be bound by a `let`, and is neither selected nor grouped
 abbrev pub TakesNoNull : Type 0 → Type 0
 TakesNoNull X =
     (typed : X → Names → Option Ty) (outer names : Names) (f : X) → typed f names ≡ Some ty.Null
@@ -113,7 +113,7 @@ CountsParts =
 
 -- ---- meaning
 
--- a second `from` reads its source anew for each scope, in that scope
+-- a second `from` reads its source again for each scope, in that scope
 abbrev pub ReadsSourceAnew : Type 0 → Type 0 → Type 0
 ReadsSourceAnew R X =
     (world : World R) (typed : X → Names → Option Ty) (meant : X → Meaning R) (outer scope : Scope R) (n : List ℕ) (f : X) (scopes : List (Scope R)) (e : End)
@@ -125,7 +125,7 @@ ReadsSourceAnew R X =
 abbrev pub NullMatchesNothing : Type 0 → Type 0
 NullMatchesNothing R = (qs : List (Value R × Value R)) → matches (value.Scalar scalar.Null) qs ≡ []
 
--- a record is no null, whatever its members are: it matches the records that are the same
+-- a record isn't null, whatever its members are: it matches the records that are the same
 abbrev pub RecordsMatch : Type 0 → Type 0
 RecordsMatch R =
     (ms : List (List ℕ × Value R)) (qs : List (Value R × Value R)) → matches (value.Rec ms) qs ≡ elements_of same_values (value.Rec ms) qs
@@ -143,7 +143,7 @@ SortsWhole R =
     (descending : ℕ → Bool) (key : ℕ → Value R → Result Scalar Fault) (ks : List ℕ) (xs : List (Value R)) (f : Fault)
     → order_by descending key ks xs (end.Fault f) ≡ ([], end.Fault f)
 
--- and `group` the keys and elements of the items that stand before that fault
+-- and `group` the keys and elements of the items that come before that fault
 abbrev pub GroupsInTurn : Type 0 → Type 0
 GroupsInTurn R =
     (same : Value R → Value R → Bool) (key element : Value R → Result (Value R) Fault) (result : Value R × List (Value R) → Value R)

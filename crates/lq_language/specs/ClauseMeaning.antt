@@ -41,7 +41,7 @@ module _ {R : Type 0} where
   abbrev pub as_group : Value R × List (Value R) → Value R
   as_group group = value.Group group.0 group.1
 
--- ---- clauses, whatever their expressions are: `typed` tells the type that one has under names, `meant` what it means
+-- ---- clauses, whatever their expressions are: `typed` gives the type that an expression has under names, `meant` what it means
 
 module _ {R X : Type 0} (world : World R) (typed : X → Names → Option Ty) (meant : X → Meaning R) where
   -- whether a condition is true
@@ -65,7 +65,7 @@ module _ {R X : Type 0} (world : World R) (typed : X → Names → Option Ty) (m
   joined_values None key qs = matches key qs
   joined_values (Some g) key qs = value.Seq (matches key qs) end.Done ∷ []
 
-  -- the type of the name that a `join` leaves behind
+  -- the type of the name that a `join` leaves in scope
   abbrev pub joined_type : Option (List ℕ) → Ty → Ty
   joined_type None t = t
   joined_type (Some g) t = ty.Seq t

@@ -1,5 +1,5 @@
 -- «Typing» of clauses: which types the parts of a query have, whatever their expressions are (ECMA-334, query expressions and scopes).
--- `typed` tells the type that an expression has under names.
+-- `typed` gives the type that an expression has under names.
 use Rattle.std.specs.Prelude.{◌∷◌, ◌&&◌, List, [], ℕ, Bool, true, Option, Some, None, option_and_then, option_map}
 use Rattle.lq_value.specs.declared.ty.Ty.{Ty, out-Ty}
 use Rattle.lq_value.specs.declared.ty.Ty.TheVariants as ty
@@ -21,7 +21,7 @@ use Rattle.lq_grammar.specs.declared.syntax.SortKey.{SortKey}
 
 -- ---- clauses
 
--- the name that a `join` leaves behind stands for an item of the inner sequence, or by `into` for the sequence of the matches
+-- the name that a `join` leaves in scope refers to an item of the inner sequence, or by `into` to the sequence of the matches
 abbrev pub matched_name : Option (List ℕ) → List ℕ → List ℕ
 matched_name None n = n
 matched_name (Some g) n = g
@@ -44,7 +44,7 @@ module _ {X : Type 0} (typed : X → Names → Option Ty) where
   matched_type names None t = Some t
   matched_type names (Some g) t = fresh_type names g (Some (ty.Seq t))
 
-  -- The inner sequence and the second key stand at the place of the query, and see none of its range variables; the second key
+  -- The inner sequence and the second key are at the place of the query, and see none of its range variables; the second key
   -- sees the new one besides. Its name repeats no name before the clause, though it ends with the clause where there is `into`.
   abbrev pub join_type : Names → Join X → Names → Option Ty
   join_type outer j names =
@@ -55,7 +55,7 @@ module _ {X : Type 0} (typed : X → Names → Option Ty) where
   are_sort_keys [] names = true
   are_sort_keys (k ∷ ks) names = is_sort_key (typed k.value names) && are_sort_keys ks names
 
-  -- the names behind a clause of a query at the place of the first names, where it is typed under those before it
+  -- the names after a clause of a query at the place of the first names, where it is typed under those before it
   abbrev pub names_after : Names → Clause X → Names → Option Names
   names_after outer (clause.From n f) names = option_map (with_local names n) (from_type n f names)
   names_after outer (clause.Let n f) names = option_map (with_local names n) (let_type n f names)

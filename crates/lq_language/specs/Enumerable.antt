@@ -1,5 +1,5 @@
 -- «Operator meaning» of the methods of sequences, each a function on streams, item by item (.NET, Enumerable). A fault that ends the
--- source is met where its items end, and not at all where an operator has stopped before. `Where` and `Select` stand in `Stream`.
+-- source is met where its items end, and not at all where an operator has stopped before. `Where` and `Select` are in `Stream`.
 use Rattle.std.specs.Prelude.{◌∷◌, ◌||◌, if◌then◌else◌, not, List, [], map, filter, fold, ℕ, zero, suc, ℤ, pos, negsuc, ◌+ℤ◌, Bool, true, false, Result, Ok, Err, int_le, drop, reverse}
 use Rattle.lq_value.specs.declared.scalar.Scalar.{Scalar}
 use Rattle.lq_value.specs.declared.scalar.Scalar.TheVariants as scalar
@@ -12,7 +12,7 @@ use Rattle.lq_language.specs.Stream.{Stream, first_keys, then_stream, whole}
 
 -- ---- what follows
 
--- one item, and behind it the rest
+-- one item, and after it the rest
 abbrev pub in_front : {A : Type 0} → A → Stream A → Stream A
 in_front x rest = (x ∷ rest.0, rest.1)
 
@@ -21,7 +21,7 @@ abbrev pub at_end : {B : Type 0} → End → Result B Fault → Result B Fault
 at_end end.Done found = found
 at_end (end.Fault f) found = Err f
 
--- how many items a number stands for: none where it is below 1
+-- how many items a number asks for: none where it is below 1
 abbrev pub as_count : ℤ → ℕ
 as_count (pos n) = n
 as_count (negsuc n) = 0
@@ -36,7 +36,7 @@ concat = then_stream
 abbrev pub distinct : {A : Type 0} → (A → A → Bool) → List A → End → Stream A
 distinct same xs e = (first_keys same xs, e)
 
--- Union: the distinct items of both, one behind the other
+-- Union: the distinct items of both, one after the other
 abbrev pub union : {A : Type 0} → (A → A → Bool) → Stream A → Stream A → Stream A
 union same xs ys = let both = concat xs ys in distinct same both.0 both.1
 
@@ -56,11 +56,11 @@ except same xs ys = whole ys.0 ys.1 (λ zs. (filter (λ x. not (is_among same x 
 abbrev pub reversed : {A : Type 0} → List A → End → Stream A
 reversed xs e = whole xs e (λ ys. (reverse ys, end.Done))
 
--- Skip: what stands behind so many items
+-- Skip: what comes after so many items
 abbrev pub skip : {A : Type 0} → ℕ → List A → End → Stream A
 skip n xs e = (drop n xs, e)
 
--- Take: so many items; nothing is read for none, and nothing behind the last of them
+-- Take: so many items; nothing is read for none, and nothing after the last of them
 abbrev pub take_first : {A : Type 0} → ℕ → List A → End → Stream A
 take_first zero xs e = ([], end.Done)
 take_first (suc n) [] e = ([], e)
@@ -110,7 +110,7 @@ single none [] e = at_end e none
 single none (x ∷ []) e = at_end e (Ok x)
 single none (x ∷ y ∷ ys) e = Err fault.InvalidOperation
 
--- ElementAt: stops at the item behind so many
+-- ElementAt: stops at the item after so many
 abbrev pub item_behind : {A : Type 0} → ℕ → List A → End → Result A Fault
 item_behind n [] e = at_end e (Err fault.ArgumentOutOfRange)
 item_behind zero (x ∷ xs) e = Ok x
@@ -123,7 +123,7 @@ element_at (negsuc n) xs e = Err fault.ArgumentOutOfRange
 
 -- ---- numbers
 
--- Sum: the running sum, which may leave int at an item, before what stands behind it
+-- Sum: the running sum, which may leave int at an item, before what comes after it
 abbrev pub summed : ℤ → List ℤ → End → Result Scalar Fault
 summed total [] e = at_end e (Ok (scalar.Int total))
 summed total (n ∷ ns) e = if is_int (total +ℤ n) then summed (total +ℤ n) ns e else Err fault.Overflow

@@ -11,8 +11,8 @@ use Rattle.lq_language.specs.ValuesOfTypes.{Every}
 use Rattle.lq_language.specs.Operations.{is_int}
 use Rattle.lq_language.specs.Stream.{Stream}
 
--- What stops at an item is the same whatever stands behind it, and whatever the ending is: the first item, the item that is the same, the
--- one on which a condition is false, the second one, the one behind so many, and the last of so many.
+-- What stops at an item is the same whatever comes after it, and whatever the ending is: the first item, the item that is the same, the
+-- one on which a condition is false, the second one, the one after so many, and the last of so many.
 abbrev pub StopsAtItems : Type 0 → Type 0
 StopsAtItems A =
     (x y : A) (xs ys : List A) (e : End) (none : Result A Fault)
@@ -52,14 +52,14 @@ AnswersNone A =
     → (default_if_empty x [] end.Done ≡ (x ∷ [], end.Done)) × (first none [] end.Done ≡ none) × (last none [] end.Done ≡ none) × (single none [] end.Done ≡ none)
     × (element_at {A = A} (pos n) [] end.Done ≡ Err fault.ArgumentOutOfRange) × (any {A = A} [] end.Done ≡ Ok false)
 
--- `Distinct` gives the first item, and behind it no other that is the same; `Union` the items of the first before those of the second
+-- `Distinct` gives the first item, and after it no other that is the same; `Union` the items of the first before those of the second
 abbrev pub KeepsFirstAppearances : Type 0 → Type 0
 KeepsFirstAppearances A =
     (same : A → A → Bool) (x : A) (xs ys : List A) (d e : End)
     → (distinct same (x ∷ xs) e ≡ (x ∷ filter (λ y. not (same x y)) (distinct same xs e).0, e)) × (union same (xs, end.Done) (ys, e) ≡ distinct same (xs ++ ys) e)
     × Every (λ y. same x y ≡ false) (filter (λ y. not (same x y)) (distinct same xs e).0)
 
--- a sum that leaves int is an overflow at that item, whatever stands behind it
+-- a sum that leaves int is an overflow at that item, whatever comes after it
 abbrev pub SumsInTurn : Type 0
 SumsInTurn =
     (total n : ℤ) (ns : List ℤ) (e : End)

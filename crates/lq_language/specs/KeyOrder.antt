@@ -6,7 +6,7 @@ use Rattle.lq_value.specs.SameAndOrder.{order_of}
 use Rattle.lq_value.specs.declared.scalar.Scalar.{Scalar}
 use Rattle.lq_language.specs.Arrangement.{order_of_keys}
 
--- One list of keys stands before another: at the first place at which they differ its key is less,
+-- One list of keys comes before another: at the first place at which they differ its key is less,
 -- or greater where that key descends.
 pub record StandsBefore (ds : List Bool) (keys others : List Scalar) : Type 0 where
   pub place : ℕ
@@ -19,7 +19,7 @@ pub record StandsBefore (ds : List Bool) (keys others : List Scalar) : Type 0 wh
   pub decisive : order_of key other ≡ (if descending then Greater else Less)
   pub same : (earlier : ℕ) → earlier < place → slice_get keys earlier ≡ slice_get others earlier
 
--- the order of keys tells exactly which of two lists stands before the other
+-- the order of keys says exactly which of two lists comes before the other
 abbrev pub TellsKeyOrder : Type 0
 TellsKeyOrder =
     (ds : List Bool) (keys others : List Scalar)

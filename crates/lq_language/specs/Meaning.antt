@@ -145,7 +145,7 @@ module _ {R : Type 0} (world : World R) where
 
   -- ---- names
 
-  -- what a name of the session stands for
+  -- what a name of the session refers to
   abbrev pub session_value : List ℕ → List (SessionValue R) → Result (Value R) Fault
   session_value x [] = Err world.unknown
   session_value x (s ∷ others) = if bytes_eq s.known.name x then Ok s.value else session_value x others
@@ -155,7 +155,7 @@ module _ {R : Type 0} (world : World R) where
   global_value x (Some n) = table_value world (slice_get world.rows n)
   global_value x None = session_value x world.session
 
-  -- a local name's value, else what its name stands for outside
+  -- a local name's value, else what its name refers to outside
   abbrev pub value_of_name : List ℕ → Option (Binding R) → Result (Value R) Fault
   value_of_name x (Some b) = Ok b.value
   value_of_name x None = global_value x (table_number x world.schemas)
@@ -182,7 +182,7 @@ module _ {R : Type 0} (world : World R) where
   abbrev pub settled : Option Ty → Result (Value R) Fault → Result (Value R) Fault
   settled t found = if is_sequence_type t then as_sequence (stream_of world found) else found
 
--- An operand beside its meaning: `type_of` tells its type.
+-- An operand beside its meaning: `type_of` gives its type.
 module _ {R E : Type 0} (world : World R) (type_of : E → Names → Option Ty) where
   abbrev pub typed : E × Meaning R → Names → Option Ty
   typed a = type_of a.0

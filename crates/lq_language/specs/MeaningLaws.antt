@@ -53,7 +53,7 @@ module _ {R : Type 0} (world : World R) where
   abbrev pub IsScopeOfValues : Scope R → Type 0
   IsScopeOfValues scope = Every (λ b. IsValueOf b.ty b.value) scope
 
--- what a typed expression means is the same whatever stands where there is no meaning, and if it is a value, then one of its type
+-- what a typed expression means is the same whatever is used where there is no meaning, and if it is a value, then one of its type
 abbrev pub HasMeaning : Type 0 → Type 0
 HasMeaning R =
     (world : World R) → HoldsRows world → IsSessionOfValues world → (scope : Scope R) → IsScopeOfValues world scope → (e : Expr) (t : Ty)

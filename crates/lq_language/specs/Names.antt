@@ -1,4 +1,4 @@
--- What the names of a place stand for: tables and their columns, the names of the session, and local names with their types.
+-- What the names of a place refer to: tables and their columns, the names of the session, and local names with their types.
 use Rattle.std.specs.Prelude.{◌∷◌, if◌then◌else◌, List, [], ℕ, Option, Some, None, slice_get, option_and_then, option_map}
 use Rattle.std.specs.Str.{bytes_eq}
 use Rattle.lq_value.specs.Tables.{first_named}
@@ -10,13 +10,13 @@ use Rattle.lq_value.specs.declared.ty.Ty.{Ty}
 use Rattle.lq_value.specs.declared.ty.Ty.TheVariants as ty
 use Rattle.lq_language.specs.declared.rights.Use.{Use}
 
--- a name of the session, which is that of a variable or of a named query: its type, and what the expression uses that it stands for
+-- a name of the session, which is that of a variable or of a named query: its type, and what the expression uses that it refers to
 pub record SessionName : Type 0 where
   pub name : List ℕ
   pub ty : Ty
   pub uses : List Use
 
--- what the names of a place stand for: the tables, by number, the names of the session, and the local names with their types
+-- what the names of a place refer to: the tables, by number, the names of the session, and the local names with their types
 pub record Names : Type 0 where
   pub tables : List Schema
   pub session : List SessionName

@@ -37,7 +37,7 @@ SameByContent =
     × ((applied unknown op.NotEqual (a ∷ b ∷ []) ≡ Ok (scalar.Bool true)) ↔ (a ≢ b))
     × ((applied unknown op.NotEqual (a ∷ b ∷ []) ≡ Ok (scalar.Bool false)) ↔ (a ≡ b))
 
--- no number stands before null or behind it, or is level with it by `<=` and `>=`; nor is null itself
+-- no number comes before null or after it, or is level with it by `<=` and `>=`; nor does null itself
 abbrev pub NullHasNoOrder : Type 0
 NullHasNoOrder =
     (unknown : Fault) (sign : Binary) → is_ordering sign ≡ true → (s : Scalar) → IsNumber s

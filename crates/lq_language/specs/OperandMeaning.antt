@@ -39,7 +39,7 @@ operation_on binary.Add s t a (scalar.Text y) = op.Concat
 operation_on binary.Add s t scalar.Null scalar.Null = if is_text_type s || is_text_type t then op.Concat else op.Add
 operation_on sign s t a b = operation_of sign
 
--- what `==` or `!=` tells of operands that are the same, or aren't
+-- what `==` or `!=` says of operands that are the same, or aren't
 abbrev pub told : Binary → Bool → Bool
 told binary.NotEqual same = not same
 told sign same = same
@@ -49,7 +49,7 @@ is_null scalar.Null = true
 is_null s = false
 
 module _ {R : Type 0} (world : World R) where
-  -- a table stands for the sequence of its rows
+  -- a table means the sequence of its rows
   abbrev pub table_value : Option (List R) → Result (Value R) Fault
   table_value (Some rows) = Ok (value.Seq (map value.Row rows) end.Done)
   table_value None = Err world.unknown
@@ -67,7 +67,7 @@ module _ {R : Type 0} (world : World R) where
   abbrev pub null_member : Option Ty → List ℕ → Result Scalar Fault
   null_member t m = if is_row_type t then Err fault.NullReference else of_member world.unknown (member_named m) scalar.Null
 
-  -- a column of a row, or a member of a scalar, which stands where an expression of this type does
+  -- a column of a row, or a member of a scalar, which is used where an expression of this type is
   abbrev pub member_value : Option Ty → List ℕ → Value-F R (Value R) → Result (Value R) Fault
   member_value t m (Value-F.Row r) = cell_value (world.cell r m)
   member_value t m (Value-F.Scalar scalar.Null) = as_value (null_member t m)

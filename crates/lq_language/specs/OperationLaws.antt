@@ -54,7 +54,7 @@ Takes other operands = ⊥
 
 -- ---- the laws
 
--- on operands that an operator or member takes, its result is the same whatever stands where there is no meaning
+-- on operands that an operator or member takes, its result is the same whatever is used where there is no meaning
 abbrev pub IsDecided : Type 0
 IsDecided = (o : Op) (operands : List Scalar) → Takes o operands → (f g : Fault) → applied f o operands ≡ applied g o operands
 
@@ -73,7 +73,7 @@ abbrev pub Divides : Type 0
 Divides =
     (m n quotient remainder : ℤ) → divided m n ≡ Ok (scalar.Int quotient) → left_over m n ≡ Ok (scalar.Int remainder) → DividesTowardsZero m n quotient remainder
 
--- a text begins with another, ends with it, or has it, exactly where it is the other and more behind it, before it, or on both sides
+-- a text begins with another, ends with it, or has it, exactly where it is the other and more after it, before it, or on both sides
 abbrev pub FindsPrefixes : Type 0
 FindsPrefixes = (text needle : List ℕ) → (begins_with text needle ≡ true) ↔ ((rest : List ℕ) × (text ≡ needle ++ rest))
 

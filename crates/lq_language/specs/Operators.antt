@@ -1,4 +1,4 @@
--- «Operator meaning» of the calls that clauses stand for, each a function on streams, and their types. Between two calls an item is a
+-- «Operator meaning» of the calls that clauses are translated to, each a function on streams, and their types. Between two calls an item is a
 -- value, or a transparent identifier: a nested pair of the values of several range variables (ECMA-334, query expression translation).
 use Rattle.std.specs.Prelude.{◌∷◌, List, [], ℕ, Option, Some, None, Result, Ok, option_and_then, option_map}
 use Rattle.lq_value.specs.SameAndOrder.{same_values as same_keys}
@@ -26,12 +26,12 @@ use Rattle.lq_language.specs.declared.calls.Part.{Part}
 
 -- ---- nested pairs
 
--- what an item stands for: one name's value, or a pair of what stood there before and the value of one more name
+-- what the names of an item refer to: one name's value, or a pair of what was there before and the value of one more name
 pub data Pattern : Type 0 where
   One : List ℕ → Ty → Pattern
   With : Pattern → List ℕ → Ty → Pattern
 
--- an item that no name stands for: no name is spelled by no letters
+-- an item that no name refers to: the empty text is not the spelling of a name
 abbrev pub unnamed : Ty → Pattern
 unnamed t = One [] t
 
@@ -87,7 +87,7 @@ module _ {X : Type 0} (typed : X → Names → Option Ty) where
   element_of outer p None = Some (pattern_type p)
   element_of outer p (Some v) = typed v (names_of outer p)
 
-  -- what an item behind a call stands for, where the call is typed: a new name repeats none that is known where it is paired
+  -- what the names of an item after a call refer to, where the call is typed: a new name repeats none that is known where it is paired
   abbrev pub pattern_after : Names → Operator X → Pattern → Option Pattern
   pattern_after outer (operator.Where c) p = when (is_bool_type (typed c (names_of outer p))) (Some p)
   pattern_after outer (operator.Select v) p = option_map unnamed (if_placed (typed v (names_of outer p)))
@@ -99,7 +99,7 @@ module _ {X : Type 0} (typed : X → Names → Option Ty) where
   pattern_after outer (operator.GroupBy key element) p =
       option_map unnamed (group_type typed (typed key (names_of outer p)) (element_of outer p element))
 
-  -- the type of the items behind all calls, which is any but that of null
+  -- the type of the items after all calls, which is any but that of null
   abbrev pub operators_type : Names → List (Operator X) → Pattern → Option Ty
   operators_type outer [] p = if_placed (Some (pattern_type p))
   operators_type outer (op ∷ ops) p = option_and_then (operators_type outer ops) (pattern_after outer op p)
@@ -163,7 +163,7 @@ module _ {R X : Type 0} (world : World R) (typed : X → Names → Option Ty) (m
   paired_behind outer p n t paired.Pair = With p n t
   paired_behind outer p n t (paired.Value x) = unnamed (type_under outer (With p n t) x)
 
-  -- what an item behind a call stands for
+  -- what the names of an item after a call refer to
   abbrev pub pattern_behind : Scope R → Operator X → Pattern → Pattern
   pattern_behind outer (operator.Where c) p = p
   pattern_behind outer (operator.Select x) p = unnamed (type_under outer p x)
@@ -188,7 +188,7 @@ module _ {R X : Type 0} (world : World R) (typed : X → Names → Option Ty) (m
   parts_meaning outer (part ∷ rest) t items =
       parts_meaning outer rest (operators_type_at outer part.operators part.name t) (operators_meaning outer part.operators (One part.name t) items)
 
-  -- «Operator meaning» of the calls that a query stands for, at the place of this scope
+  -- «Operator meaning» of the calls that a query is translated to, at the place of this scope
   unfoldable pub call_meaning : Call X → Scope R → Stream (Value R)
   call_meaning c outer =
       let t = item_type_at world typed meant c.source outer in

@@ -33,7 +33,7 @@ module _ {R : Type 0} (world : World R) where
   meaning_at scope None = Err world.unknown
   meaning_at scope (Some a) = a.1 scope
 
-  -- an operator that evaluates two scalars, which stand where expressions of these types do
+  -- an operator that evaluates two scalars, which are used where expressions of these types are
   abbrev pub operated_meaning : Binary → Option Ty → Option Ty → Result (Value R) Fault → Result (Value R) Fault → Result (Value R) Fault
   operated_meaning sign t u a b = on_scalar world a (λ x. on_scalar world b (λ y. as_value (of_two world.unknown (operation_on sign t u x y) x y)))
 
@@ -41,7 +41,7 @@ module _ {R : Type 0} (world : World R) where
   abbrev pub compared_meaning : Binary → Result (Value R) Fault → Result (Value R) Fault → Result (Value R) Fault
   compared_meaning sign a b = on_comparand world a (λ v. on_comparand world b (λ w. on_ok (same_values world v w) (λ same. Ok (truth_value (told sign same)))))
 
--- An operand beside its meaning: `operand_type` tells its type where it is a scalar or a row, which is all that a node's meaning asks for.
+-- An operand beside its meaning: `operand_type` gives its type where it is a scalar or a row, which is all that a node's meaning asks for.
 module _ {R E : Type 0} (world : World R) (operand_type : E → Names → Option Ty) where
   -- the meaning of a node, over the meanings of what it holds
   abbrev pub rule_node_meaning : Node (E × Meaning R) → Meaning R

@@ -11,7 +11,7 @@ use Rattle.lq_language.specs.TableRows.{TableRow}
 use Rattle.lq_language.specs.ValuesOfTypes.{HoldsRows, IsOf, IsOfScope, assuming}
 use Rattle.lq_grammar.specs.declared.syntax.Expr.{Expr}
 
--- what a typed expression means is the same whatever stands where there is no meaning, and if it is a value, then one of its type
+-- what a typed expression means is the same whatever is used where there is no meaning, and if it is a value, then one of its type
 abbrev pub HasRuleMeaning : Type 0
 HasRuleMeaning =
     (world : World TableRow) → HoldsRows world → (scope : Scope TableRow) → IsOfScope world scope → (e : Expr) (t : Ty) → HasRuleType (names_at world scope) e t

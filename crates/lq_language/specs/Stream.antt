@@ -8,7 +8,7 @@ use Rattle.lq_value.specs.declared.value.Fault.{Fault}
 abbrev pub Stream : Type 0 → Type 0
 Stream A = List A × End
 
--- the first stream, and where it comes to its end the second behind it
+-- the first stream, and the second after it where the first comes to its end
 abbrev pub then_ending : {A : Type 0} → List A → End → Stream A → Stream A
 then_ending xs end.Done rest = (xs ++ rest.0, rest.1)
 then_ending xs (end.Fault f) rest = (xs, end.Fault f)
@@ -42,7 +42,7 @@ select_by f = each (λ x. one (f x))
 abbrev pub made : {B V : Type 0} → (V → Result B Fault) → Stream V → Stream B
 made f vs = each (λ v. one (f v)) vs.0 vs.1
 
--- Enumerable.SelectMany: for each item each value of its stream in turn, which is read anew for each item
+-- Enumerable.SelectMany: for each item each value of its stream in turn, which is read again for each item
 abbrev pub expand_by : {A B V : Type 0} → (A → Stream V) → (A → V → Result B Fault) → List A → End → Stream B
 expand_by stream_of result = each (λ x. made (result x) (stream_of x))
 

@@ -1,4 +1,4 @@
--- Expressions in which each query is the calls that it stands for: their types, and what they mean.
+-- Expressions in which each query is the calls that it is translated to: their types, and what they mean.
 use Rattle.std.specs.Prelude.{Option, Ok, option_map}
 use Rattle.lq_value.specs.declared.ty.Ty.{Ty}
 use Rattle.lq_value.specs.declared.ty.Ty.TheVariants as ty

@@ -67,7 +67,7 @@ parts_of = fold-Ty ℕ parts_step
 abbrev pub is_within : Ty → Bool
 is_within t = nat_le (parts_of t) 4096
 
--- any type but that of null, which has a place only where a rule gives it one
+-- any type but that of null, which is allowed only where a rule says so
 abbrev pub has_place : Ty-F Ty → Bool
 has_place Ty-F.Null = false
 has_place layer = true

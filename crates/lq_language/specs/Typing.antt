@@ -187,7 +187,7 @@ abbrev pub global_type : Names → List ℕ → Option ℕ → Option Ty
 global_type names x (Some n) = Some (ty.Seq (ty.Row n))
 global_type names x None = option_map (λ known. known.ty) (session_name x names.session)
 
--- a local name's type, else what its name stands for outside
+-- a local name's type, else what its name refers to outside
 abbrev pub type_of_name : Names → List ℕ → Option Ty → Option Ty
 type_of_name names x (Some t) = Some t
 type_of_name names x None = global_type names x (table_number x names.tables)

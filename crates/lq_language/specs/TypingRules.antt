@@ -39,7 +39,7 @@ pub data TypeClaim : Type 0 where
   Members : Names → List (Field Expr) → List (List ℕ × Ty) → TypeClaim
   -- each of these keys is one to sort by
   Sorts : Names → List (SortKey Expr) → TypeClaim
-  -- the clause has the second names before it and the third behind it
+  -- the clause has the second names before it and the third after it
   Leads : Names → Clause Expr → Names → Names → TypeClaim
   LeadAll : Names → List (Clause Expr) → Names → Names → TypeClaim
   -- a body ends with values of this type
@@ -124,7 +124,7 @@ pub data IsRight : TypeClaim → Type 0 where
   by_let : (outer names : Names) (c : Clause Expr) (n : List ℕ) (f : Expr) (t : Ty) → c ≡ clause.Let n f → local_type n names.locals ≡ None
       → IsRight (Has names f t) → has_place (out-Ty t) ≡ true → IsRight (Leads outer c names (with_local names n t))
   by_where : (outer names : Names) (c : Clause Expr) (f : Expr) → c ≡ clause.Where f → IsRight (Has names f ty.Bool) → IsRight (Leads outer c names names)
-  -- The inner sequence and the second key of a `join` stand at the place of the query.
+  -- The inner sequence and the second key of a `join` are at the place of the query.
   by_join : (outer names : Names) (c : Clause Expr) (j : Join Expr) (t k l : Ty) → c ≡ clause.Join j → local_type j.name names.locals ≡ None
       → IsRight (Gives outer j.source t) → IsRight (Has names j.outer_key k) → IsRight (Has (with_local outer j.name t) j.inner_key l)
       → are_join_keys (Some k) (Some l) ≡ true → j.into ≡ None → IsRight (Leads outer c names (with_local names j.name t))

@@ -29,12 +29,12 @@ under (Some x) used = used x
 
 -- ---- names and members
 
--- a table is a use, and a name of the session uses what the expression does that it stands for
+-- a table is a use, and a name of the session uses what the expression uses that it refers to
 abbrev pub global_uses : Names → List ℕ → Option ℕ → List Use
 global_uses names x (Some t) = of.Table t ∷ []
 global_uses names x None = under (session_name x names.session) (λ known. known.uses)
 
--- a local name is no use
+-- a local name isn't a use
 abbrev pub name_uses : Option Ty → List ℕ → Names → List Use
 name_uses (Some t) x names = []
 name_uses None x names = global_uses names x (table_number x names.tables)
@@ -43,12 +43,12 @@ name_uses None x names = global_uses names x (table_number x names.tables)
 abbrev pub column_number : List ℕ → Option Schema → Option ℕ
 column_number m table = option_and_then (λ schema. first_named (λ column. column.name) m schema.columns) table
 
--- a member of a row is a column; a member of anything else is no use
+-- a member of a row is a column; a member of anything else isn't a use
 abbrev pub member_uses : Names → List ℕ → Ty-F Ty → List Use
 member_uses names m (Ty-F.Row t) = under (column_number m (slice_get names.tables t)) (λ c. of.Column t c ∷ [])
 member_uses names m layer = []
 
--- ---- what holds expressions: `typed` tells the type of each, and `uses` what it uses
+-- ---- what holds expressions: `typed` gives the type of each, and `uses` what it uses
 
 module _ {X : Type 0} (typed : X → Names → Option Ty) (uses : X → Names → List Use) where
   -- an argument of a method on items of this type
@@ -56,7 +56,7 @@ module _ {X : Type 0} (typed : X → Names → Option Ty) (uses : X → Names �
   argument_uses names item (argument.Value x) = uses x names
   argument_uses names item (argument.Lambda n body) = under item (λ t. uses body (with_local names n t))
 
-  -- an expression that is no query
+  -- an expression that isn't a query
   abbrev pub node_uses : Node X → Names → List Use
   node_uses (node.Name x) names = name_uses (local_type x names.locals) x names
   node_uses (node.Member a m) names = uses a names ++ under (typed a names) (λ t. member_uses names m (out-Ty t))
@@ -79,12 +79,12 @@ module _ {X : Type 0} (typed : X → Names → Option Ty) (uses : X → Names �
       uses j.source outer ++ (uses j.outer_key names ++ under (source_type typed j.source outer) (λ t. uses j.inner_key (with_local outer j.name t)))
   clause_uses outer (clause.OrderBy ks) names = flat_map (λ k. uses k.value names) ks
 
-  -- an element stands before its key
+  -- an element comes before its key
   abbrev pub last_uses : Last X → Names → List Use
   last_uses (last.Select v) names = uses v names
   last_uses (last.Group v key) names = uses v names ++ uses key names
 
-  -- the clauses of a body in turn, each under the names behind those before it, and its end
+  -- the clauses of a body in turn, each under the names after those before it, and its end
   abbrev pub clauses_uses : Names → List (Clause X) → Last X → Names → List Use
   clauses_uses outer [] l names = last_uses l names
   clauses_uses outer (c ∷ cs) l names = clause_uses outer c names ++ under (names_after typed outer c names) (clauses_uses outer cs l)

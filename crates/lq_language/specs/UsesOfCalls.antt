@@ -1,4 +1,4 @@
--- «Uses» of the calls that clauses stand for: the same list as the text's, a group's element before its key.
+-- «Uses» of the calls that clauses are translated to: the same list as the text's, a group's element before its key.
 use Rattle.std.specs.Prelude.{◌∷◌, ◌++◌, List, [], flat_map, ℕ, Option, Some, None}
 use Rattle.lq_value.specs.declared.ty.Ty.{Ty}
 use Rattle.lq_language.specs.ClauseTyping.{from_type, join_type, joined_name, source_type}
@@ -33,7 +33,7 @@ module _ {X : Type 0} (typed : X → Names → Option Ty) (uses : X → Names �
   join_uses outer j names =
       uses j.source outer ++ (uses j.outer_key names ++ under (source_type typed j.source outer) (λ t. uses j.inner_key (with_local outer j.name t)))
 
-  -- a call on items that stand for this
+  -- a call on items whose names refer to this
   abbrev pub operator_uses : Names → Operator X → Pattern → List Use
   operator_uses outer (operator.Where c) p = uses c (names_of outer p)
   operator_uses outer (operator.Select v) p = uses v (names_of outer p)
@@ -56,7 +56,7 @@ module _ {X : Type 0} (typed : X → Names → Option Ty) (uses : X → Names �
       under (sole_pattern typed outer part.name t)
       (λ p. operators_uses outer part.operators p ++ under (operators_items typed outer part.operators p) (parts_uses outer rest))
 
-  -- the calls that a query stands for
+  -- the calls that a query is translated to
   unfoldable pub call_uses : Call X → Names → List Use
   call_uses c outer =
       uses c.source outer

@@ -15,13 +15,13 @@ use Rattle.lq_language.specs.Worlds.{Scope, World}
 use Rattle.lq_language.specs.Names.{column_type, type_of_column}
 use Rattle.lq_language.specs.OperandTypes.{item_of, row_table}
 
--- each item of a list is such
+-- each item of a list passes the test
 abbrev pub Every : {A : Type 0} → (A → Type 0) → List A → Type 0
 Every {A} P xs = (k : ℕ) (x : A) → slice_get xs k ≡ Some x → P x
 
 -- ---- values of a type
 
--- A scalar may stand where a type has this layer. An int may be null where its type says so, a text always, and so may a row.
+-- A scalar may be used where a type has this layer. An int may be null where its type says so, a text always, and so may a row.
 abbrev pub IsScalarOf : Ty-F Ty → Scalar → Type 0
 IsScalarOf Ty-F.Int (scalar.Int n) = Unit {0}
 IsScalarOf Ty-F.IntN (scalar.Int n) = Unit {0}

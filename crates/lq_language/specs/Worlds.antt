@@ -1,4 +1,4 @@
--- What is read where an expression stands: the tables with their rows, the session's names, and the local names with their values.
+-- What is read where an expression is: the tables with their rows, the session's names, and the local names with their values.
 use Rattle.std.specs.Prelude.{◌∷◌, if◌then◌else◌, List, [], map, ℕ, Option, Some, None, Result}
 use Rattle.std.specs.Str.{bytes_eq}
 use Rattle.lq_value.specs.declared.scalar.Scalar.{Scalar}
@@ -20,19 +20,19 @@ pub record Binding (R : Type 0) : Type 0 where
 abbrev pub Scope : Type 0 → Type 0
 Scope R = List (Binding R)
 
--- a name of the session, and what it stands for at a statement
+-- a name of the session, and what it refers to at a statement
 pub record SessionValue (R : Type 0) : Type 0 where
   pub known : SessionName
   pub value : Value R
 
--- what is read besides local names: the schemas and rows of the tables, by number, what the session's names stand for, and a row's cell by its
+-- what is read besides local names: the schemas and rows of the tables, by number, what the session's names refer to, and a row's cell by its
 -- column's name
 pub record World (R : Type 0) : Type 0 where
   pub schemas : List Schema
   pub rows : List (List R)
   pub session : List (SessionValue R)
   pub cell : R → List ℕ → Option Scalar
-  -- what stands where an expression has no meaning, since it has no type; nothing that is typed depends on it (MeaningLaws)
+  -- what is used where an expression has no meaning, since it has no type; nothing that is typed depends on it (MeaningLaws)
   pub unknown : Fault
 
 -- what an expression means in the scope of its place
@@ -60,7 +60,7 @@ module _ {R : Type 0} where
   abbrev pub names_at : World R → Scope R → Names
   names_at world scope = record { tables = world.schemas; session = session_names world.session; locals = typed_locals scope }
 
-  -- `from`: the range variable stands for each item of the source in turn
+  -- `from`: the range variable refers to each item of the source in turn
   abbrev pub bound : List ℕ → Ty → Scope R → Value R → Scope R
   bound name t scope v = record { name = name; ty = t; value = v } ∷ scope
 

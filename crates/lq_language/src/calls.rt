@@ -1,4 +1,4 @@
-//! The operator calls that a query stands for (ECMA-334, query expression translation). They are
+//! The operator calls that a query is translated to (ECMA-334, query expression translation). They are
 //! generic in the expressions that they hold, like the clauses that they come from. No lambda
 //! keeps its parameter: that follows from the operators before it.
 use lq_grammar::{Join, Node, SortKey};
@@ -13,7 +13,7 @@ pub enum Paired<X> {
     Value(X),
 }
 
-/// A call on what stands before it.
+/// A call on what comes before it.
 #[derive(Drop)]
 pub enum Operator<X> {
     /// `Where` with its condition.
@@ -41,7 +41,7 @@ pub struct Part<X> {
     pub operators: List<Operator<X>>,
 }
 
-/// The calls that a query stands for.
+/// The calls that a query is translated to.
 #[derive(Drop)]
 pub struct Call<X> {
     /// The range variable.
@@ -54,7 +54,7 @@ pub struct Call<X> {
     pub rest: List<Part<X>>,
 }
 
-/// An expression in which each query is the calls that it stands for.
+/// An expression in which each query is the calls that it is translated to.
 #[derive(Drop)]
 pub enum Term {
     /// An expression other than a query.

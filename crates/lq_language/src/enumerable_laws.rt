@@ -3,7 +3,7 @@
 ghost use Rattle.lq_language.specs.EnumerableLaws.{AnswersNone, ComparesAll, KeepsFirstAppearances, MeetsTheEnding, ReadsNothing, StopsAtItems, SumsInTurn};
 
 /// What stops at an item (`Any`, `First`, `Single` at the second, `ElementAt`, `Take`, `All`, `Contains`)
-/// ignores what stands behind it, faults too. What gets to the fault that ends its source meets it:
+/// ignores what comes after it, faults too. What gets to the fault that ends its source meets it:
 /// `Last` and `Reverse` always, and `Intersect` and `Except` that of the second sequence before all else.
 pub fn sequences_are_read<A>()
     ensures stops { StopsAtItems A }

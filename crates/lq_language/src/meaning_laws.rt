@@ -8,19 +8,19 @@ ghost use Rattle.lq_language.specs.MeaningLaws.{HasMeaning, HasStream, KeepsRule
 
 /// In the part of the language that rules of policies are of, where local names have values of their
 /// types and tables have their rows, a typed expression has
-/// a meaning of its own, the same whatever stands where there is none: a value of its type, or a
+/// a meaning of its own, the same whatever is used where there is none: a value of its type, or a
 /// fault.
 pub fn rule_meanings()
     ensures { HasRuleMeaning }
 {}
 
-/// Of two lists of sort keys one stands before the other exactly where, at the first place at which they
+/// Of two lists of sort keys one comes before the other exactly where, at the first place at which they
 /// differ, its key is less, or greater where that key descends.
 pub fn order_of_sort_keys()
     ensures { TellsKeyOrder }
 {}
 
-/// `orderby` leaves the items sorted by their keys: none stands behind one that its keys put after
+/// `orderby` leaves the items sorted by their keys: none comes after one that its keys put after
 /// it. And of items with the same keys each is there as often as before, in the order that they had.
 pub fn arranged_items<A>()
     ensures sorted { ArrangesByKeys A }
@@ -40,7 +40,7 @@ pub fn items_by_their_keys<A, S>()
 {}
 
 /// The same of the whole language, over rows of any kind: a typed expression, with records, groups and
-/// methods of sequences in it, has a meaning of its own, the same whatever stands where there is none:
+/// methods of sequences in it, has a meaning of its own, the same whatever is used where there is none:
 /// a value of its type, or a fault. So has a typed query: its stream, of items of their type.
 pub fn typed_meanings<R>()
     ensures expression { HasMeaning R }

@@ -34,7 +34,7 @@ pub enum Simple {
 /// A method with a second sequence, with a number of items, or with a value.
 #[derive(Clone, Copy, Debug, Drop, Eq, PartialEq)]
 pub enum Given {
-    /// Both sequences, one behind the other.
+    /// Both sequences, one after the other.
     Concat,
     /// The distinct items of both.
     Union,
@@ -42,11 +42,11 @@ pub enum Given {
     Intersect,
     /// The distinct items that are not in the second.
     Except,
-    /// What stands behind so many items.
+    /// What comes after so many items.
     Skip,
     /// So many items.
     Take,
-    /// The item behind so many.
+    /// The item after so many.
     ElementAt,
     /// Whether an item is the same as the value.
     Contains,

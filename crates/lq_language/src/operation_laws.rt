@@ -4,7 +4,7 @@ ghost use Rattle.lq_language.specs.NullLaws.{HasValueUnlessNull, NullHasNoOrder,
 ghost use Rattle.lq_language.specs.OperationLaws.{Divides, FindsParts, FindsPrefixes, FindsSuffixes, IsDecided};
 
 /// On operands of the number and the kinds that it takes, an operator or member has a meaning of
-/// its own, the same whatever stands where there is none.
+/// its own, the same whatever is used where there is none.
 pub fn decided_operations()
     ensures { IsDecided }
 {}
@@ -16,7 +16,7 @@ pub fn division_truncates()
 {}
 
 /// A text begins with another, ends with it, or has it in itself, exactly where its bytes are the
-/// other's and more behind them, before them, or on both sides.
+/// other's and more after them, before them, or on both sides.
 pub fn texts_are_searched()
     ensures prefixes { FindsPrefixes }
     ensures suffixes { FindsSuffixes }

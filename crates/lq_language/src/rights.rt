@@ -19,7 +19,7 @@ pub enum Use {
 pub struct RightRule {
     /// Its name.
     pub name: Txt,
-    /// The names of the roles that it applies to, and to whose members; `public` stands for all.
+    /// The names of the roles that it applies to, and to whose members; `public` means all.
     pub to: List<Txt>,
     /// The rights that it covers: columns, and the putting in and removal of rows.
     pub rights: List<Use>,

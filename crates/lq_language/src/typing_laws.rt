@@ -33,8 +33,8 @@ pub fn types_are_found()
     ensures query { FindsQueryItems }
 {}
 
-/// Where the types of local names and of the session's names have at most 4,096 parts, so have those of all expressions, and of
-/// the sequences of all queries' items.
+/// Where the types of local names and of the session's names have at most 4,096 parts, so have those of
+/// all expressions, and of the sequences of all queries' items.
 pub fn types_are_limited()
     ensures expression { LimitsTypes }
     ensures query { LimitsItems }

@@ -128,7 +128,7 @@ module _ (firsts : List Key) (apart : IsDistinct key_is firsts) where
 
 -- ---- what is found among groups
 
--- a key that no first key is the same as stands nowhere
+-- a key that is the same as no first key has no place
 pub nowhere : (firsts : List Key) (q : Key) → list_any (key_is q) firsts ≡ false → (m : ℕ) (numbers : List ℕ) (keys : List Key)
     → map (slice_get firsts) numbers ≡ map Some keys → places_from (key_is q) m keys ≡ []
 nowhere firsts q absent m [] [] h = refl
@@ -154,7 +154,7 @@ nowhere firsts q absent m (n ∷ ns) (k ∷ ks) h =
 abbrev with_places : List Key → List Key → List (Key × List ℕ)
 with_places keys firsts = map (λ k. (k, places (key_is k) keys)) firsts
 
--- what stands with a key among keys with their places
+-- the places of a key among keys with their places
 find_with : (keys firsts : List Key) (q : Key)
     → find_in key_is (with_places keys firsts) q ≡ (if list_any (key_is q) firsts then places (key_is q) keys else [])
 find_with keys [] q = refl

@@ -22,6 +22,6 @@ abbrev pub rows_from : ℕ → List Key → List ℕ → List ℕ → List (Key 
 rows_from n [] bounds ps = []
 rows_from n (k ∷ ks) bounds ps = (k, block bounds ps n) ∷ rows_from (suc n) ks bounds ps
 
--- what a lookup finds for q: nothing for null where nulls are skipped, and else what stands with q
+-- what a lookup finds for q: nothing for null where nulls are skipped, and else the places of q
 abbrev pub found : Nulls × List (Key × List ℕ) → Key → List ℕ
 found lookup q = if is_kept lookup.0 q then find_in key_is lookup.1 q else []

@@ -5,7 +5,7 @@ use Rattle.lq_value.specs.KeyTests.{key_is}
 use Rattle.lq_value.specs.Lookups.{first_keys}
 use Rattle.lq_value.specs.declared.key.Key.{Key}
 
--- the firsts are the keys in order of first appearance, and the numbers tell which of them each key is
+-- the firsts are the keys in order of first appearance, and the numbers say which of them each key is
 pub record AreNumbers (keys firsts : List Key) (numbers : List ℕ) : Type 0 where
   pub in_order : firsts ≡ first_keys key_is keys
   pub apart : IsDistinct key_is firsts

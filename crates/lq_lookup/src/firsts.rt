@@ -38,7 +38,7 @@ impl<'a> Seen<'a> {
         })
     }
 
-    // Puts a key behind the others, unless it was seen; tells whether it is new.
+    // Puts a key after the others, unless it was seen; says whether it is new.
     fn add(&mut self, key: &'a Key) -> Result<bool, AllocError>
         ensures new { IfOk result (λ is_new. is_new ≡ not (list_any (key_is key.now) self.old)) }
         ensures keys { OnOk result (self.new ≡ with_key key_is self.old key.now) }

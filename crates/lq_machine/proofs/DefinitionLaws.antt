@@ -74,7 +74,7 @@ module _ {R : Type 0} where
     defined_value name (of.Query e opened) is =
         subst (λ (t : Ty). IsValueOf world t (value_in world (of.Query e opened))) (sym (ap or_null is.1)) (query_value e opened is.0 is.1)
 
-    -- the value is the same whatever stands where there is no meaning
+    -- the value is the same whatever is used where there is no meaning
     same_value : (defined : Defined) → IsDefined world.schemas (session_names world.session) defined → (unknown : Fault)
         → value_in (assuming unknown world) defined ≡ value_in world defined
     same_value (of.Variable t s) is unknown = refl

@@ -105,7 +105,7 @@ module _ (name : List ℕ) where
     -- ---- a variable's new value
 
     module _ (t : Ty) (s : Scalar) (old : State) where
-      -- nothing behind a definition of the name is renewed
+      -- nothing after a definition of the name is renewed
       pub others_stay : (earlier : List SessionName) (ds : List Definition) → AreDefinedAfter schemas earlier ds → is_some (session_name name earlier) ≡ true
           → map (renewed old name t s) ds ≡ ds
       others_stay earlier [] all known = refl
@@ -120,7 +120,7 @@ module _ (name : List ℕ) where
               absurd (true≢false (sym known ∙ ap (λ (n : List ℕ). is_some (session_name n earlier)) (sym ((bytes_eq-Decides d.name name).0 is)) ∙ ap is_some all.2.1))
           by false is rest = ap (λ (more : List Definition). d ∷ more) rest
 
-      -- a variable keeps its name and its type, and so what is known behind it
+      -- a variable keeps its name and its type, and so what is known after it
       pub renewed_after : (earlier : List SessionName) (ds : List Definition) → AreDefinedAfter schemas earlier ds → (d : Definition) (before : Scalar)
           → definition_of name ds ≡ Some d → d.defined ≡ of.Variable t before → IsScalarOf (out-Ty t) s
           → AreDefinedAfter schemas earlier (map (renewed old name t s) ds)

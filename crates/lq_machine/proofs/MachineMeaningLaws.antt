@@ -1,4 +1,4 @@
--- No reply to `run` depends on what stands where an expression has no meaning.
+-- No reply to `run` depends on what is used where an expression has no meaning.
 use Rattle.std.proofs.Common.{◌≡◌, Bool, true, false, [], Option, Some, None, Result, Ok, Err, ap, ◌∙◌, sym, refl, ap₂, ◌++◌, ◌∷◌, List}
 use Rattle.std.proofs.lemmas.Option.{none-some}
 use Rattle.lq_value.specs.declared.ty.Ty.{Ty, out-Ty}
@@ -30,7 +30,7 @@ use Rattle.lq_machine.specs.declared.session.Definition.{Definition}
 use Rattle.lq_machine.proofs.DefinitionLaws.{names_are_known, names_have_meanings, names_have_values}
 use Rattle.lq_value.specs.declared.table.Schema.{Schema}
 
--- what has a type that is no null's has that type
+-- what has a type that isn't null's has that type
 pub placed : (o : Option Ty) (t : Ty) → if_placed o ≡ Some t → o ≡ Some t
 placed None t h = absurd (none-some t h)
 placed (Some u) t h = by (has_place (out-Ty u)) h where

@@ -96,7 +96,7 @@ module _ {R : Type 0} where
   of_sequence : (items : List (Value R)) (e : End) → nested_fault (value.Seq items e) ≡ or_next (first_of (map nested_fault items)) (fault_at e)
   of_sequence items e = at_layer (value.Seq items e) _ (outs-Seq items e)
 
-  -- ---- what the relations tell is found
+  -- ---- what the relations say is found
 
   none_found : {v : Value R} → HasNoFault v → nested_fault v ≡ None
   none_found (law.scalar s) = at_layer (value.Scalar s) _ (outs-Scalar s)
@@ -122,12 +122,12 @@ module _ {R : Type 0} where
   is_found {f = f} (law.at_end items none) =
       of_sequence items (end.Fault f) ∙ ap (λ (o : Option Fault). or_next o (Some f)) (free_of nested_fault items (none_before items none))
 
-  -- ---- what is found is told
+  -- ---- what is found is what the relations say
 
   abbrev Tells : Value R → Type 0
   Tells v = (nested_fault v ≡ None → HasNoFault v) × ((f : Fault) → nested_fault v ≡ Some f → IsFirstFault v f)
 
-  -- what is told of all values in a layer
+  -- what the relations say of all values in a layer
   abbrev Below : Value-F R (Value R) → Type 0
   Below (Value-F.Scalar s) = Unit {0}
   Below (Value-F.Row r) = Unit {0}

@@ -1,4 +1,4 @@
--- What some opened queries and others behind them add up to.
+-- What some opened queries and others after them add up to.
 use Rattle.std.proofs.Common.{◌≡◌, ◌∷◌, ◌++◌, ◌+◌, if◌then◌else◌, List, [], ℕ, refl}
 use Rattle.std.specs.Prelude.{nat_lt}
 use Rattle.lq_machine.specs.Opening.{rank_with, size_with}

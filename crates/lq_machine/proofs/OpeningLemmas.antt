@@ -132,14 +132,14 @@ module _ (definitions : List Definition) (text : List ℕ) where
   of_no_name k.Name h = absurd (true≢false h)
   of_no_name kind h = refl
 
--- the kind that stands before a place, where this one stands before all
+-- the kind that comes before a place, where this one comes before all
 abbrev kind_before : Kind → List Token → ℕ → Kind
 kind_before before tokens zero = before
 kind_before before [] (suc place) = before
 kind_before before (token ∷ tokens) (suc place) = kind_before token.kind tokens place
 
 module _ (definitions : List Definition) (line : List ℕ) where
-  -- a token opens a query where this kind stands before all
+  -- a token opens a query where this kind comes before all
   abbrev OpensFrom : Kind → List Token → ℕ → Opened → Type 0
   OpensFrom before tokens place opened =
       (token : Token) × (slice_get tokens place ≡ Some token) × (token.kind ≡ k.Name) × (kind_before before tokens place ≢ k.Dot)
@@ -304,7 +304,7 @@ reached rank (p ∷ os) = by (nat_lt rank (p.rank + 1)) (reached (higher rank p)
 
 -- ---- the laws
 
--- the kind behind which the first token of a line stands
+-- the kind after which the first token of a line comes
 abbrev start : Kind
 start = k.Semicolon
 

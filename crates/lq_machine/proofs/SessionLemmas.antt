@@ -200,7 +200,7 @@ scripts_alike a b after_a after_b lines from_a from_b calls_a calls_b same numbe
 abbrev Keeps : State → Outcome → Type 0
 Keeps old x = line_of x.0 ≡ memory_line → x.1 ≡ old
 
--- The replies behind which the state is another begin with no `{\"e`, as the memory line does.
+-- The replies after which the state is a different one begin with no `{\"e`, as the memory line does.
 abbrev third : List ℕ → Option ℕ
 third text = slice_get text 2
 

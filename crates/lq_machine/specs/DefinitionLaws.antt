@@ -1,4 +1,4 @@
--- Laws of what the names of a session stand for: each has a value of its type, over whatever rows its tables hold, and every line leaves it so.
+-- Laws of what the names of a session refer to: each has a value of its type, over whatever rows its tables hold, and every line leaves it so.
 use Rattle.std.specs.Prelude.{◌≡◌, ◌∷◌, ◌++◌, List, [], ℕ, None, true, Some}
 use Rattle.lq_value.specs.declared.table.Schema.{Schema}
 use Rattle.lq_value.specs.declared.ty.Ty.{Ty, out-Ty}
@@ -51,7 +51,7 @@ NamesHaveValues R =
     (world : World R) (definitions : List Definition) → HoldsRows world → world.session ≡ [] → AreDefined world.schemas definitions
     → IsSessionOfValues (defining world definitions)
 
--- and the same whatever stands where there is no meaning
+-- and the same whatever is used where there is no meaning
 abbrev pub NamesHaveMeanings : Type 0 → Type 0
 NamesHaveMeanings R =
     (world : World R) (definitions : List Definition) → HoldsRows world → world.session ≡ [] → AreDefined world.schemas definitions → (unknown : Fault)
@@ -59,7 +59,7 @@ NamesHaveMeanings R =
 
 -- ---- what the machine serves
 
--- over tables whose cells are of their columns' types, what a `run` serves that isn't denied is the same whatever stands where there is no
+-- over tables whose cells are of their columns' types, what a `run` serves that isn't denied is the same whatever is used where there is no
 -- meaning
 abbrev pub ServesMeanings : Type 0
 ServesMeanings =
@@ -70,7 +70,7 @@ ServesMeanings =
 
 -- ---- what the machine keeps
 
--- over tables whose cells are of their columns' types, the definitions behind a line are as `var` makes them where those before it are
+-- over tables whose cells are of their columns' types, the definitions after a line are as `var` makes them where those before it are
 abbrev pub KeepsDefined : Type 0
 KeepsDefined =
     (s : State) → Every IsTypedTable s.tables → AreDefined (schemas_of s.tables) s.definitions → (line : List ℕ)

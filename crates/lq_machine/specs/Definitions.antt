@@ -1,4 +1,4 @@
--- What the names of a session stand for: variables, and named queries, each of which sees the names that were defined before it and no
+-- What the names of a session refer to: variables, and named queries, each of which sees the names that were defined before it and no
 -- local name.
 use Rattle.std.specs.Prelude.{◌∷◌, ◌++◌, if◌then◌else◌, List, [], ℕ, Option, Some, None}
 use Rattle.std.specs.Str.{bytes_eq}
@@ -32,7 +32,7 @@ known_as schemas earlier name (of.Variable t s) = record { name = name; ty = t; 
 known_as schemas earlier name (of.Query e opened) =
     let names = outer_names schemas earlier in record { name = name; ty = or_null (expression_type e names); uses = expression_uses e names }
 
--- what is known behind these definitions, of which the oldest comes first
+-- what is known after these definitions, of which the oldest comes first
 abbrev pub known_after : List Schema → List SessionName → List Definition → List SessionName
 known_after schemas earlier [] = earlier
 known_after schemas earlier (d ∷ ds) = known_after schemas (earlier ++ known_as schemas earlier d.name d.defined ∷ []) ds
@@ -55,7 +55,7 @@ module _ {R : Type 0} where
   abbrev pub valued_as : World R → List ℕ → Defined → SessionValue R
   valued_as world name defined = record { known = known_as world.schemas (session_names world.session) name defined; value = value_in world defined }
 
-  -- a world behind these definitions
+  -- a world after these definitions
   abbrev pub world_after : World R → List Definition → World R
   world_after world [] = world
   world_after world (d ∷ ds) = world_after (with_session world (world.session ++ valued_as world d.name d.defined ∷ [])) ds

@@ -14,11 +14,11 @@ use Rattle.lq_grammar.specs.declared.syntax.Statement.TheVariants as statement
 abbrev pub Reply : Type 0
 Reply = Option (List ℕ)
 
--- the line that may stand in place of any reply where memory was refused
+-- the line that may take the place of any reply where memory was refused
 abbrev pub memory_line : List ℕ
 memory_line = codes "{\"error\":\"memory\"}" ++ 10 ∷ []
 
--- what a statement that opens this is answered, and the state behind it
+-- what a statement that opens this is answered, and the state after it
 abbrev pub perform : State → Opened → Statement → Outcome
 perform old opened (statement.Run x) = (run_in old x, old)
 perform old opened (statement.Define name x) = defined old name opened x

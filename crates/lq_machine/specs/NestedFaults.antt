@@ -22,7 +22,7 @@ module _ {R : Type 0} where
     in_sequence : (items : List (Value R))
         → ((k : ℕ) (v : Value R) → slice_get items k ≡ Some v → HasNoFault v) → HasNoFault (value.Seq items end.Done)
 
-  -- The first fault inside of a value, depth first: a record's members stand as they are written, a group's key before its
+  -- The first fault inside of a value, depth first: a record's members in the order in which they are written, a group's key before its
   -- elements, and the items of a sequence before its end. Nothing before the place of the first fault holds one.
   pub data IsFirstFault : Value R → Fault → Type 0 where
     in_member : {f : Fault} (before : List (List ℕ × Value R)) (member : List ℕ × Value R) (behind : List (List ℕ × Value R))

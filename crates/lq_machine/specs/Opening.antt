@@ -1,5 +1,5 @@
--- What a statement opens: each named query whose name stands among its tokens, but not behind a `.`. Both figures have a limit, which keeps
--- what a statement stands for small.
+-- What a statement opens: each named query whose name is among its tokens, but not directly after a `.`. Both figures have a limit, which keeps
+-- the meaning of a statement small.
 use Rattle.std.specs.Prelude.{◌∷◌, ◌++◌, ◌+◌, ◌||◌, if◌then◌else◌, List, [], ℕ, Bool, Option, Some, None, length, nat_lt}
 use Rattle.lq_machine.specs.Definitions.{definition_of}
 use Rattle.lq_grammar.specs.Tokens.{text_of, tokens_of}
@@ -25,12 +25,12 @@ abbrev pub opened_named : List Definition → Kind → List ℕ → List Opened
 opened_named definitions k.Name text = opened_by (definition_of text definitions)
 opened_named definitions kind text = []
 
--- and behind a token of the first kind
+-- and after a token of the first kind
 abbrev pub opened_behind : List Definition → Kind → Kind → List ℕ → List Opened
 opened_behind definitions k.Dot kind text = []
 opened_behind definitions before kind text = opened_named definitions kind text
 
--- what tokens open one behind the other, the first of which stands behind a token of this kind
+-- what tokens open one after the other, the first of which comes after a token of this kind
 abbrev pub opened_from : List Definition → List ℕ → Kind → List Token → List Opened
 opened_from definitions line before [] = []
 opened_from definitions line before (token ∷ tokens) =
@@ -46,7 +46,7 @@ abbrev pub rank_with : ℕ → List Opened → ℕ
 rank_with rank [] = rank
 rank_with rank (opened ∷ others) = rank_with (if nat_lt rank (opened.rank + 1) then opened.rank + 1 else rank) others
 
--- (a line begins behind no `.`)
+-- (a line doesn't begin after a `.`)
 abbrev pub opening : List Definition → List ℕ → List Token → Opened
 opening definitions line tokens =
     let opened = opened_from definitions line k.Semicolon tokens in record { size = size_with (length tokens) opened; rank = rank_with 0 opened }

@@ -23,7 +23,7 @@ module _ (definitions : List Definition) where
     pub stands_for : definition.defined ≡ of.Query query opened
 
 module _ (definitions : List Definition) (line : List ℕ) (tokens : List Token) where
-  -- The token at this place opens a named query: it is its name, and doesn't stand directly behind
+  -- The token at this place opens a named query: it is its name, and doesn't come directly after
   -- a `.`.
   pub record OpensAt (place : ℕ) (opened : Opened) : Type 0 where
     pub token : Token

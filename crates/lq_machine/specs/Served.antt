@@ -1,4 +1,4 @@
--- «Served bytes»: the line of a reply, which is the compact text of its JSON value and a line feed. The members of each object stand
+-- «Served bytes»: the line of a reply, which is the compact text of its JSON value and a line feed. The members of each object are ordered
 -- by the bytes of their names, which `put` keeps.
 use Rattle.std.specs.Prelude.{◌∷◌, ◌++◌, List, [], map, ℕ, Option, Some, None, Result, Ok, Err, codes, slice_get, pos}
 use Rattle.serde_json.specs.Data.{Data, Members, array, boolean, no_members, null, number, object, put, string}
@@ -137,7 +137,7 @@ abbrev pub value_members : Result Data Fault → Members
 value_members (Ok d) = put (codes "value") d no_members
 value_members (Err f) = put (codes "fault") (string (fault_name f)) no_members
 
--- a nested fault stands in place of the value
+-- a nested fault takes the place of the value
 abbrev pub unless_fault : Option Fault → Data → Result Data Fault
 unless_fault None d = Ok d
 unless_fault (Some f) d = Err f

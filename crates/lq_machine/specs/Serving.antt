@@ -31,7 +31,7 @@ abbrev pub served : World TableRow → Option Ty → Result (Value TableRow) Fau
 served world None found = error_data (codes "type")
 served world (Some t) found = served_as world t (out-Ty t) found
 
--- the type that an expression is served by: any but that of null, which has no place there
+-- the type that an expression is served by: any but that of null, which is not allowed there
 abbrev pub served_type : Names → Expr → Option Ty
 served_type names e = if_placed (expression_type e names)
 

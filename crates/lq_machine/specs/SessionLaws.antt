@@ -31,17 +31,17 @@ PutsIn line = (name : List ℕ) × (cells : List Scalar) × (reading_of line ≡
 abbrev pub TakesRole : List ℕ → Type 0
 TakesRole line = (name : List ℕ) × (reading_of line ≡ Says (statement.As name))
 
--- States that look the same give every line the same reply. An `insert` alone tells them apart that number the rows to come otherwise: it
+-- States that look the same give every line the same reply. Only an `insert` distinguishes states that number the rows to come otherwise: it
 -- is refused as full where no number is left.
 abbrev pub AnswersAlike : Type 0
 AnswersAlike = (a b : State) → LooksSame a b → (line : List ℕ) → (PutsIn line → NumberAlike a b) → (step a line).0 ≡ (step b line).0
 
--- And they look the same behind it, but behind a line that takes a role, to which they may look otherwise.
+-- And they look the same after it, except after a line that takes a role, to which they may look otherwise.
 abbrev pub LookAlikeBehind : Type 0
 LookAlikeBehind =
     (a b : State) → LooksSame a b → (line : List ℕ) → (PutsIn line → NumberAlike a b) → (TakesRole line → ⊥) → LooksSame (step a line).1 (step b line).1
 
--- states that look the same and number the rows to come alike do so behind every line
+-- states that look the same and number the rows to come alike do so after every line
 abbrev pub NumberAlikeBehind : Type 0
 NumberAlikeBehind = (a b : State) → LooksSame a b → NumberAlike a b → (line : List ℕ) → NumberAlike (step a line).1 (step b line).1
 
@@ -64,7 +64,7 @@ ScriptsAlike =
     → TakesNoRole lines → Runs a lines from_a calls_a after_a → Runs b lines from_b calls_b after_b
     → HasNoMemoryLine from_a → HasNoMemoryLine from_b → (from_a ≡ from_b) × LooksSame after_a after_b
 
--- where no reply is the memory line, the replies to the lines and the state behind them are the machine's
+-- where no reply is the memory line, the replies to the lines and the state after them are the machine's
 abbrev pub IsOutput : Type 0
 IsOutput = (old new : State) (lines : List (List ℕ)) (replies : List Reply) (calls : List HostCall) → Runs old lines replies calls new → HasNoMemoryLine replies → (replies, new) ≡ stepped old lines
 
@@ -78,7 +78,7 @@ pub data WithoutMemoryLines : List (List ℕ) → List Reply → List (List ℕ)
   refused : {line : List ℕ} {lines served : List (List ℕ)} {replies rest : List Reply}
       → WithoutMemoryLines lines replies served rest → WithoutMemoryLines (line ∷ lines) (Some memory_line ∷ replies) served rest
 
--- where some replies are the memory line, the others and the state behind the script are the machine's over the other lines
+-- where some replies are the memory line, the others and the state after the script are the machine's over the other lines
 abbrev pub LeavesTheRest : Type 0
 LeavesTheRest =
     (old new : State) (lines served : List (List ℕ)) (replies rest : List Reply) (calls : List HostCall) → Runs old lines replies calls new → WithoutMemoryLines lines replies served rest

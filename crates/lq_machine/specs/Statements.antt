@@ -1,4 +1,4 @@
--- What statements other than `run` are answered, and the state behind them. What is refused or denied, or faults, leaves the state.
+-- What statements other than `run` are answered, and the state after them. What is refused or denied, or faults, leaves the state.
 use Rattle.std.specs.Prelude.{◌∷◌, ◌++◌, ◌+◌, ◌^◌, ◌==◌, ◌&&◌, ◌||◌, if◌then◌else◌, not, List, [], filter, map, length, ℕ, Bool, true, false, Option, Some, None, Result, Ok, Err, codes, int_le, is_some, set, slice_get, ℤ}
 use Rattle.std.specs.List.{list_all, list_any, zip}
 use Rattle.std.specs.Str.{bytes_eq}
@@ -43,7 +43,7 @@ use Rattle.lq_machine.specs.declared.session.Definition.{Definition}
 use Rattle.lq_machine.specs.declared.session.Opened.{Opened}
 use Rattle.lq_grammar.specs.declared.syntax.Expr.{Expr}
 
--- a reply, and the state behind it
+-- a reply, and the state after it
 abbrev pub Outcome : Type 0
 Outcome = Data × State
 
@@ -104,7 +104,7 @@ module _ (old : State) where
   abbrev pub assigning : List ℕ → Ty → Scalar → State
   assigning name t s = record old { definitions = map (renewed name t s) old.definitions }
 
-  -- null has a place here, and an int in an int?
+  -- null is allowed here, and an int in an int?
   abbrev pub assigned_as : List ℕ → Expr → Ty → Option Ty → Outcome
   assigned_as name e t None = refused (codes "type")
   assigned_as name e t (Some u) = if converts u t then evaluated e (λ s. (assigned_data name, assigning name t s)) else refused (codes "type")

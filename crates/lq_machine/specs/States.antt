@@ -28,11 +28,11 @@ schemas_of tables = map (λ table. table.schema) tables
 abbrev pub seen_by_role : State → List (List TableRow)
 seen_by_role s = tables_as_seen s.policies s.role s.tables
 
--- what stands in a row, in the order of its table's columns
+-- what a row has in it, in the order of its table's columns
 abbrev pub cells_of : TableRow → List Scalar
 cells_of r = r.row.cells
 
--- what queries read: these schemas, and these rows alone; the fault stands where an expression has no meaning
+-- what queries read: these schemas, and these rows alone; the fault is used where an expression has no meaning
 abbrev pub world_by : Fault → List Schema → List (List TableRow) → World TableRow
 world_by unknown schemas rows =
     record { schemas = schemas; rows = rows; session = []; cell = λ r. cell_named (columns_in (slice_get schemas r.table)) r.row.cells; unknown = unknown }
@@ -41,7 +41,7 @@ world_by unknown schemas rows =
 abbrev pub world_of : List Schema → List (List TableRow) → World TableRow
 world_of = world_by fault.NullReference
 
--- the names where a statement stands: no local name is known
+-- the names where a statement is: no local name is known
 abbrev pub names_in : State → Names
 names_in s = outer_names (schemas_of s.tables) (known_names (schemas_of s.tables) s.definitions)
 

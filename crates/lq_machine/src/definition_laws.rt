@@ -1,10 +1,10 @@
-//! Laws of what a session's definitions stand for. Each function's contract is the law that it is named for; the
+//! Laws of what a session's definitions mean. Each function's contract is the law that it is named for; the
 //! functions themselves do nothing.
 ghost use Rattle.lq_machine.specs.DefinitionLaws.{NamesAreKnown, NamesHaveMeanings, NamesHaveValues, ServesMeanings};
 ghost use Rattle.lq_machine.specs.SessionTypes.{LimitsNames, LimitsQueries, LimitsStatements};
 
 /// The names of a session are those that its definitions make known. Where tables have their rows, each
-/// has a value of its type, the same whatever stands where there is no meaning.
+/// has a value of its type, the same whatever is used where there is no meaning.
 pub fn session_values<R>()
     ensures names { NamesAreKnown R }
     ensures values { NamesHaveValues R }
@@ -12,7 +12,7 @@ pub fn session_values<R>()
 {}
 
 /// Over tables whose cells are of their columns' types, and under definitions as `var` makes them, no
-/// reply to `run` depends on what stands where an expression has no meaning.
+/// reply to `run` depends on what is used where an expression has no meaning.
 pub fn served_meanings()
     ensures { ServesMeanings }
 {}

@@ -8,11 +8,11 @@ pub struct Opened {
     /// The number of the statement's tokens, and of those that each named query opened there has, in its
     /// turn.
     pub size: u64,
-    /// How many named queries stand one in the other at most: 0 where none is opened.
+    /// How many named queries are nested in one another at most: 0 where none is opened.
     pub rank: u32,
 }
 
-/// What a name of the session stands for.
+/// What a name of the session refers to.
 #[derive(Drop)]
 pub enum Defined {
     /// A variable: its type, which is that of a scalar, and its value.
@@ -26,6 +26,6 @@ pub enum Defined {
 pub struct Definition {
     /// The name, unlike that of any table and of any other definition.
     pub name: Txt,
-    /// What it stands for.
+    /// What it refers to.
     pub defined: Defined,
 }

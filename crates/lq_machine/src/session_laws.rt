@@ -6,8 +6,8 @@ ghost use Rattle.lq_machine.specs.SessionLaws.{AnswersAlike, AsksNoHost, LookAli
 
 /// Hidden rows change no answer: two states whose role sees the same tables, under the same policies,
 /// schemas, variables and named queries, give every line the same reply, and a script under that role the
-/// same replies, the memory line aside. An `insert` alone may tell them apart, as full, where they number
-/// the rows to come otherwise. Behind a line that takes another role they may look otherwise to that one.
+/// same replies, the memory line aside. An `insert` alone may distinguish them, as full, where they number
+/// the rows to come otherwise. After a line that takes another role they may look otherwise to that one.
 pub fn hidden_rows()
     ensures line { AnswersAlike }
     ensures behind { LookAlikeBehind }
@@ -15,14 +15,14 @@ pub fn hidden_rows()
     ensures script { ScriptsAlike }
 {}
 
-/// Where no reply is the memory line, the replies to a script and the state behind it are those of
+/// Where no reply is the memory line, the replies to a script and the state after it are those of
 /// the session machine.
 pub fn output_law()
     ensures { IsOutput }
 {}
 
-/// The memory line changes nothing: the other replies, and the state behind the script, are those of
-/// the session machine over the other lines. It stands only where the machine has a reply.
+/// The memory line changes nothing: the other replies, and the state after the script, are those of
+/// the session machine over the other lines. It is given only where the machine has a reply.
 pub fn memory_law()
     ensures others { LeavesTheRest }
     ensures silent { IsSilentAlike }
@@ -45,7 +45,7 @@ pub fn definitions_are_kept()
     ensures { KeepsDefined }
 {}
 
-/// A token opens a named query where it is the query's name and doesn't stand directly behind a `.`. The
+/// A token opens a named query where it is the query's name and doesn't come directly after a `.`. The
 /// size of a statement is the number of its tokens, and the size of what each token opens; its rank is 0
 /// where none opens anything, and else one more than the greatest rank among what is opened.
 pub fn opened_queries()

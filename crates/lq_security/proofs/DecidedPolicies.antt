@@ -1,4 +1,4 @@
--- The relations of row policies by the truth values that rows are decided by. `ReadPolicies` tells where they are those of `Visible`.
+-- The relations of row policies by the truth values that rows are decided by. `ReadPolicies` shows where they are those of `Visible`.
 use Rattle.std.specs.Prelude.{◌≡◌, ◌∷◌, ◌++◌, List, ℕ, true, false, Some, codes, slice_get}
 use Rattle.std.specs.List.{Contains}
 use Rattle.lq_value.specs.declared.scalar.Scalar.{Scalar}

@@ -1,4 +1,4 @@
--- Proofs of the law of membership: the function that works out memberships tells exactly the roles that a role goes by.
+-- Proofs of the law of membership: the function that works out memberships gives exactly the roles that a role has.
 use Rattle.std.proofs.Common.{◌≡◌, ◌<◌, ◌⊎◌, ◌↔◌, ◌+◌, if◌then◌else◌, ◌∷◌, ◌++◌, List, [], ℕ, suc, zero, Bool, true, false, Some, filter, flat_map, length, slice_get, ap, ◌∙◌, sym, refl, subst, inl, inr, arith}
 use Rattle.std.specs.List.{Contains, slice_index_or}
 use Rattle.std.proofs.lemmas.Bool.{cases_lt}
@@ -63,7 +63,7 @@ module _ {A : Type 0} where
   at_the_seam (y ∷ front) x rest = at_the_seam front x rest
 
 module _ {A B : Type 0} (f : A → List B) where
-  -- an item of the lists behind one another is an item of one of them
+  -- an item of the lists one after another is an item of one of them
   pub one_has : (xs : List A) (y : B) → Contains (flat_map f xs) y → (x : A) × Contains xs x × Contains (f x) y
   one_has [] y has = absurd (none_in_nil y has)
   one_has (x ∷ xs) y has =
@@ -80,14 +80,14 @@ module _ {A B : Type 0} (f : A → List B) where
         | inr later ↦ Contains-append_right (f z) (flat_map f xs) y (all_have xs y x later within)
       ]
 
--- ---- roles that a role goes by
+-- ---- roles that a role has
 
 module _ (roles : List Role) where
-  -- each list tells what the role of its number goes by
+  -- each list says which roles the role of its number has
   abbrev Tells : List (List ℕ) → Type 0
   Tells earlier = (role other : ℕ) → role < length earlier → Contains (slice_index_or earlier role []) other ↔ GoesBy roles role other
 
-  -- a number past the end goes by nothing
+  -- a number past the end has no roles
   known_where_listed : (lists : List (List ℕ)) (role other : ℕ) → Contains (slice_index_or lists role []) other → role < length lists
   known_where_listed [] role other has = absurd (none_in_nil other has)
   known_where_listed (list ∷ lists) zero other has = omega arith

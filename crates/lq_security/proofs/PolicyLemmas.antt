@@ -1,4 +1,4 @@
--- Proofs of the laws of policies: the function that decides on a row tells exactly the visible rows.
+-- Proofs of the laws of policies: the function that decides on a row gives exactly the visible rows.
 use Rattle.std.proofs.Common.{◌≡◌, ◌≢◌, ◌==◌, ◌&&◌, ◌||◌, ◌<◌, ◌∷◌, ◌++◌, not, List, ℕ, length, Bool, true, false, Option, Some, None, codes, slice_get, bytes_eq, ap, ◌∙◌, sym, refl, subst, inl, inr}
 use Rattle.std.specs.List.{Contains, list_any, list_all, slice_index_or}
 use Rattle.std.proofs.lemmas.Bool.{and_from, and_parts, cases_Bool, eqb-true, or_left, or_right}
@@ -44,7 +44,7 @@ not_true false h = refl
 -- ---- lists of roles
 
 module _ (roles : List Role) (role : ℕ) where
-  -- one of the roles that the role goes by has this name
+  -- one of the roles of the role has this name
   abbrev is_one : List ℕ → Bool
   is_one name = list_any (λ n. is_named name (slice_get roles n)) (goes_by roles role)
 

@@ -1,4 +1,4 @@
--- Proofs of the laws of rights: the function tells exactly what a role may use.
+-- Proofs of the laws of rights: the function gives exactly what a role may use.
 use Rattle.std.proofs.Common.{◌≡◌, ◌==◌, ◌&&◌, ◌∷◌, ◌++◌, not, if◌then◌else◌, List, [], ℕ, Bool, true, false, Option, Some, None, ap, ◌∙◌, sym, refl, subst, inl, inr, true≢false}
 use Rattle.std.specs.List.{Contains, list_any}
 use Rattle.std.proofs.lemmas.Bool.{and_from, and_parts, eqb-true}

@@ -103,7 +103,7 @@ holds_as_meant columns rule is cells row user unknown = meant columns cells row 
 
 -- ---- rules that hold
 
--- a value that is told to be true is that scalar
+-- a value that is said to be true is that scalar
 true_value : (world : World (List Scalar)) (v : Value (List Scalar)) → truth_in world (Ok v) ≡ true → v ≡ value.Scalar (scalar.Bool true)
 true_value world v h = by (out-Value (List Scalar) v) refl h where
   found : out-Value (List Scalar) v ≡ Value-F.Scalar (scalar.Bool true) → v ≡ value.Scalar (scalar.Bool true)

@@ -111,7 +111,7 @@ module _ (schemas : List Schema) (rows : List (List (List Scalar))) (cell : List
   cell_same None = refl
   cell_same (Some s) = refl
 
-  -- a member of what is no row, whose type is no row's
+  -- a member of what isn't a row, whose type isn't a row's
   null_as : (t : Option Ty) (m : List ℕ) → is_row_type t ≡ false → (world : World (List Scalar)) → world.unknown ≡ unknown
       → member_value world t m (Value-F.Scalar scalar.Null) ≡ as_value (of_member unknown (member_named m) scalar.Null)
   null_as t m none world is =

@@ -1,4 +1,4 @@
--- The function of `Totality` tells exactly the rules that its forms give.
+-- The function of `Totality` gives exactly the rules that its forms give.
 use Rattle.std.proofs.Common.{◌≡◌, ◌∷◌, ◌&&◌, ◌||◌, ◌⊎◌, inl, inr, if◌then◌else◌, List, [], ℕ, suc, zero, ℤ, pos, negsuc, Bool, true, false, codes, bytes_eq, int_le, ap, ◌∙◌, sym, refl, subst, true≢false, arith}
 use Rattle.std.proofs.lemmas.Bool.{and_parts, and_from, le-leb}
 use Rattle.std.proofs.lemmas.Slice.Eq.{bytes_eq-Decides}
@@ -105,7 +105,7 @@ strength_method a m (argument.Lambda x b ∷ c ∷ xs) = node_is (node.Method a 
 pub strength_query : (q : Query Expr) → strength_of (expr.Query q) ≡ total_where false
 strength_query q = ap strength_of (sym (rolls-Query q)) ∙ rolled_strength (Expr-F.Query q)
 
--- ---- what the forms give is told
+-- ---- what the forms give is what the function says
 
 is_out : {e : Expr} (n : Node Expr) → e ≡ expr.Node n → out-Expr e ≡ Expr-F.Node n
 is_out n is = ap out-Expr is ∙ outs-Node n
@@ -177,7 +177,7 @@ is_told (sure_user _ is) = sure_by is (strength_name (codes "user")) refl
 is_told (sure_coalesce _ a b is left right) = sure_by is (strength_coalesce a b) (two (is_told left) (is_told right))
 is_told (sure_conditional _ c a b is test left right) = sure_by is (strength_conditional c a b) (three (is_told test) (is_told left) (is_told right))
 
--- ---- what is told is given by a form
+-- ---- what the function says is given by a form
 
 pub node_with : (e : Expr) (n : Node Expr) → out-Expr e ≡ Expr-F.Node n → e ≡ expr.Node n
 node_with e n is = sym (roll-out-Expr e) ∙ ap roll-Expr is ∙ rolls-Node n
@@ -288,7 +288,7 @@ given_other a m xs none =
     given_where (node.Method a m xs) _ (strength_method a m xs)
     (λ h. absurd (true≢false (sym (and_parts (is_search m && is_sure a) _ h).1 ∙ none)))
 
--- a form of which nothing is told
+-- a form of which the function says nothing
 given_none : (layer : Expr-F Expr) → layer_strength layer ≡ total_where false → IsGiven (roll-Expr layer)
 given_none layer none =
     (λ h. absurd (true≢false (sym h ∙ ap (λ (s : Strength). s.total) is)), λ h. absurd (true≢false (sym h ∙ ap (λ (s : Strength). s.sure) is)))

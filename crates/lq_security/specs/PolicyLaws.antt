@@ -18,13 +18,13 @@ use Rattle.lq_security.specs.declared.policy.TablePart.{TablePart}
 
 -- ---- roles
 
--- the function tells exactly the roles that a role goes by
+-- the function gives exactly the roles that a role has
 abbrev pub TellsMemberships : Type 0
 TellsMemberships = (roles : List Role) (role other : ℕ) → Contains (goes_by roles role) other ↔ GoesBy roles role other
 
 -- ---- visible rows
 
--- under policies that were read for the tables, the function tells exactly the rows that are visible
+-- under policies that were read for the tables, the function gives exactly the rows that are visible
 abbrev pub TellsVisible : Type 0
 TellsVisible =
     (schemas : List Schema) (parts : PolicyParts) → AreReadFor schemas parts

@@ -7,7 +7,7 @@ use Rattle.lq_security.specs.declared.policy.PolicyParts.{PolicyParts}
 use Rattle.lq_language.specs.declared.rights.RightRule.{RightRule}
 use Rattle.lq_language.specs.declared.rights.Use.{Use}
 
--- the function tells exactly what a role may use
+-- the function gives exactly what a role may use
 abbrev pub TellsUses : Type 0
 TellsUses = (parts : PolicyParts) (role : ℕ) (used : Use) → (may_use parts role used ≡ true) ↔ MayUse parts role used
 

@@ -47,7 +47,7 @@ pub record AreReadFor (schemas : List Schema) (parts : PolicyParts) : Type 0 whe
 abbrev pub AreCellsOf : List Schema → ℕ → List Scalar → Type 0
 AreCellsOf schemas table cells = (schema : Schema) → slice_get schemas table ≡ Some schema → IsRowOver schema.columns cells
 
--- The world of a rule in the language: a table with these columns. Its rows are in no rule's reach.
+-- The world of a rule in the language: a table with these columns. Its rows are out of every rule's reach.
 abbrev pub language_world : List Column → Fault → World (List Scalar)
 language_world columns unknown = record {
   schemas = record { name = []; columns = columns } ∷ [];
@@ -57,7 +57,7 @@ language_world columns unknown = record {
   unknown = unknown;
 }
 
--- what the language says of a rule on a row, `row` and `user` standing for the row and for the name of the role, is the truth value
+-- what the language says of a rule on a row, `row` and `user` being the row and the name of the role, is the truth value
 -- that policies are decided by
 abbrev pub HoldsAsMeant : Type 0
 HoldsAsMeant =

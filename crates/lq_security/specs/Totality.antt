@@ -1,4 +1,5 @@
--- Which rules of row policies are total, form by form, and the same as a function: where one is typed, it can't fault (TotalityLaws). A rule's names are `row`, with its columns, and `user`.
+-- Which rules of row policies are total, form by form, and the same as a function: where one is typed, it can't fault (TotalityLaws). A
+-- rule's names are `row`, with its columns, and `user`.
 use Rattle.std.specs.Prelude.{◌≡◌, ◌∷◌, ◌&&◌, ◌||◌, if◌then◌else◌, List, [], ℕ, suc, ℤ, pos, Bool, true, false, codes, int_le}
 use Rattle.std.specs.Str.{bytes_eq}
 use Rattle.lq_language.specs.Members.{IsSearch, is_search}
@@ -86,7 +87,7 @@ pub record Strength : Type 0 where
 abbrev pub total_where : Bool → Strength
 total_where b = record { total = b; sure = false }
 
--- an expression, and what is told of it
+-- an expression, and what is said of it
 abbrev pub Told : Type 0
 Told = Expr × Strength
 

@@ -1,4 +1,4 @@
--- Laws of total rules: the function tells exactly the rules that the forms give, and a total rule that is typed has a truth value.
+-- Laws of total rules: the function gives exactly the rules that the forms give, and a total rule that is typed has a truth value.
 use Rattle.std.specs.Prelude.{◌≡◌, ◌↔◌, ◌∷◌, ◌&&◌, List, [], map, ℕ, Bool, true, Ok, codes}
 use Rattle.std.specs.List.{list_all}
 use Rattle.lq_value.specs.declared.scalar.Scalar.{Scalar}

@@ -45,8 +45,8 @@ rule_holds columns rule cells user = is_true (truth_at (rule_world columns) rule
 
 -- ---- roles
 
--- The roles that a role goes by, by their numbers: itself, and those that it is a member of, by any chain. Each is a member of
--- roles that stand before it; `earlier` holds what those go by.
+-- The roles that a role has, by their numbers: itself, and those that it is a member of, by any chain. Each is a member of
+-- roles that come before it; `earlier` holds the roles that those have.
 abbrev pub goes_by_after : List (List ℕ) → Role → List ℕ
 goes_by_after earlier role = length earlier ∷ flat_map (λ other. slice_index_or earlier other []) role.member_of
 
@@ -61,7 +61,7 @@ abbrev pub is_named : List ℕ → Option Role → Bool
 is_named name None = false
 is_named name (Some role) = bytes_eq role.name name
 
--- a list has `public`, or the name of a role that the role goes by
+-- a list has `public`, or the name of a role that the role has
 abbrev pub is_listed : List Role → ℕ → List (List ℕ) → Bool
 is_listed roles role to = list_any (λ name. bytes_eq name (codes "public") || list_any (λ n. is_named name (slice_get roles n)) (goes_by roles role)) to
 
@@ -97,7 +97,7 @@ pub record Asked : Type 0 where
   pub columns : List (List ℕ)
   pub cells : List Scalar
 
--- no rule is no rule that holds
+-- where there is no rule, none holds
 abbrev pub holds_on : Asked → Option Expr → Bool
 holds_on asked None = false
 holds_on asked (Some rule) = rule_holds asked.columns rule asked.cells asked.user
@@ -170,7 +170,7 @@ pub record HasCell (columns : List (List ℕ)) (cells : List Scalar) (name : Lis
   pub under : slice_get cells place ≡ Some cell
   pub first : (earlier : ℕ) → slice_get columns earlier ≡ Some name → place ≤ earlier
 
--- A rule is true on a row of a table with these columns, by the meaning of the language: `row` stands for the row, and `user` for
+-- A rule is true on a row of a table with these columns, by the meaning of the language: `row` is the row, and `user` is
 -- the name of the role. A rule reads no other row.
 abbrev pub IsTrueOn : List Column → Asked → Expr → Type 0
 IsTrueOn columns asked rule =
@@ -187,13 +187,13 @@ IsTrueOn columns asked rule =
     let scope : Scope (List Scalar) = row ∷ user ∷ [] in
     expression_meaning world rule scope ≡ Ok (value.Scalar (scalar.Bool true))
 
--- A role goes by itself, and by whatever a role that it is a member of goes by. It is a member of roles that stand before it.
+-- A role has itself, and whatever roles a role that it is a member of has. It is a member of roles that come before it.
 pub data GoesBy (roles : List Role) : ℕ → ℕ → Type 0 where
   itself : {role : ℕ} → role < length roles → GoesBy roles role role
   member : {role group other : ℕ} (its : Role) → slice_get roles role ≡ Some its → Contains its.member_of group → group < role
       → GoesBy roles group other → GoesBy roles role other
 
--- A list has `public`, or the name of a role that the role goes by.
+-- A list has `public`, or the name of a role that the role has.
 pub data IsListed (roles : List Role) (role : ℕ) (to : List (List ℕ)) : Type 0 where
   all : Contains to (codes "public") → IsListed roles role to
   named : (number : ℕ) (other : Role) → GoesBy roles role number → slice_get roles number ≡ Some other → Contains to other.name → IsListed roles role to

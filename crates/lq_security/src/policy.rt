@@ -8,7 +8,7 @@ use lq_value::{List, TableNumber, Txt};
 pub struct Role {
     /// Its name, unlike that of any other role; never `public`.
     pub name: Txt,
-    /// The roles that it is a member of, by their numbers, each of which stands before it.
+    /// The roles that it is a member of, by their numbers, each of which comes before it.
     pub member_of: List<usize>,
     /// Whether row policies don't bear on it. Members of the role don't have this from it.
     pub bypass: bool,
@@ -47,7 +47,7 @@ pub struct Policy {
     pub for_all: bool,
     /// The action that it is for, where it isn't for every one.
     pub action: Action,
-    /// The names of the roles that it applies to, and to whose members; `public` stands for all.
+    /// The names of the roles that it applies to, and to whose members; `public` means all.
     pub to: List<Txt>,
     /// Its rule for rows that are there, over `row`, and `user`, the role's name.
     pub using: Option<Expr>,

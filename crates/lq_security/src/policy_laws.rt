@@ -5,13 +5,13 @@ ghost use Rattle.lq_security.specs.PolicyLaws.{IsDeniedByDefault, IsDeniedToStra
 ghost use Rattle.lq_security.specs.PolicyLaws.{ReadsWhatItRemoves, NarrowsByRestriction, WidensByPermission};
 ghost use Rattle.lq_security.specs.RuleLaws.{HoldsWhereTrue};
 
-/// The function that works out memberships tells exactly the roles that a role goes by: itself, and
+/// The function that works out memberships gives exactly the roles that a role has: itself, and
 /// those that it is a member of, by any chain.
 pub fn memberships()
     ensures { TellsMemberships }
 {}
 
-/// Under policies that were read for the tables, the function that decides on a row tells exactly the
+/// Under policies that were read for the tables, the function that decides on a row gives exactly the
 /// visible rows: those of a table without row security, those that a role sees that bypasses it, and
 /// those on which some permissive policy that applies is true and every restrictive one that applies
 /// is, by what the language says of their rules.

@@ -3,7 +3,7 @@
 ghost use Rattle.lq_security.specs.DenialLaws.{DeniesFirst, NamesDenier};
 ghost use Rattle.lq_security.specs.RightLaws.{DeniesTheRest, DeniesWithoutGrants, GrantsMore, TellsUses, WithholdsMore};
 
-/// The function that decides on rights tells exactly what a role may use: what some grant that applies
+/// The function that decides on rights gives exactly what a role may use: what some grant that applies
 /// covers and no withhold that applies does, and a table where this is so of one of its columns. And
 /// nothing is denied exactly where the role may use each of the uses.
 pub fn rights_of_roles()

@@ -3,7 +3,7 @@
 ghost use Rattle.lq_security.specs.RuleLaws.{HoldsAsMeant};
 ghost use Rattle.lq_security.specs.TotalityLaws.{DecidesRules, TellsTotal};
 
-/// The function that looks whether a rule can fault tells exactly the rules that are total by their
+/// The function that looks whether a rule can fault gives exactly the rules that are total by their
 /// form.
 pub fn total_rules_are_told()
     ensures { TellsTotal }
@@ -17,7 +17,7 @@ pub fn total_rules_decide()
 
 /// Policies are decided by what the language says: on every row whose cells are of the columns'
 /// types, and for every user, a total rule that is typed as a truth value has the value that
-/// `rule_holds` tells.
+/// `rule_holds` gives.
 pub fn total_rules_hold_as_meant()
     ensures { HoldsAsMeant }
 {}

@@ -31,7 +31,7 @@ one_more : (a b c d : Bool) → not a ≡ true → b ≡ false → c ≡ true �
 one_more true b c d n e f = cc
 one_more false b c d n e f = rw (e, f) refl
 
--- a text that is unlike each of some distinct ones stands behind them
+-- a text that is unlike each of some distinct ones comes after them
 pub are_distinct-push : (texts : List (List ℕ)) (text : List ℕ) → are_distinct texts ≡ true → list_any (λ other. pointwise nat_eq other text) texts ≡ false
     → are_distinct (texts ++ text ∷ []) ≡ true
 are_distinct-push [] text d n = refl
@@ -59,7 +59,7 @@ pub names-push : (tables : List Table) (table : Table) → are_distinct (map nam
 names-push tables table d n =
     rw (map-append name_of tables (table ∷ [])) (are_distinct-push (map name_of tables) (name_of table) d (none_alike 0 tables (name_of table) n))
 
--- the next number stands behind those that were given
+-- the next number comes after those that were given
 numbered-push : (low : ℕ) (rows : List Row) (next : ℕ) (cells : List Scalar) → AreNumbered low rows next
     → AreNumbered low (rows ++ (record { number = next; cells = cells }) ∷ []) (next + 1)
 numbered-push low [] next cells h = (h, omega arith)

@@ -10,11 +10,11 @@ use Rattle.lq_store.specs.Calls.{is_listed}
 use Rattle.lq_store.specs.Numbers.{Rise, from_number, is_first}
 use Rattle.lq_store.specs.Rules.{AreNumbered}
 
--- numbers behind the first rise too
+-- numbers after the first rise too
 behind : (first : ℕ) (numbers : List ℕ) → IsNonDecreasing (first ∷ numbers) → IsNonDecreasing numbers
 behind first numbers up i j d e b = up (suc i) (suc j) d (omega (arith, e)) (omega (arith, b))
 
--- a number below the first is none of them
+-- a number below the first isn't one of them
 pub below_all : (first : ℕ) (numbers : List ℕ) (number : ℕ) → IsNonDecreasing (first ∷ numbers) → number < first → is_listed (first ∷ numbers) number ≡ false
 below_all first [] number up below = rw (ne_eqb first number (omega (arith, below))) refl
 below_all first (second ∷ numbers) number up below =
@@ -65,7 +65,7 @@ module _ {F : Type 0} (R : F → Row → Bool → F → Type 0) (left : F → Li
   abbrev test : Row → Bool
   test row = not (is_listed all row.number)
 
-  -- a row is tested right, and what is known behind it
+  -- a row is tested rightly, and what is known after it
   told : (f : F) (row : Row) (b : Bool) (f' : F) (low : ℕ) → R f row b f' → low ≤ row.number → Knows all low (left f)
       → (b ≡ test row) × Knows all (row.number + 1) (left f')
   told f row b f' low ran e knows =

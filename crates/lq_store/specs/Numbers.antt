@@ -12,7 +12,7 @@ abbrev pub from_number : List ℕ → ℕ → List ℕ
 from_number [] number = []
 from_number (first ∷ behind) number = if nat_lt first number then from_number behind number else first ∷ behind
 
--- whether this number stands at their head
+-- whether this number is at their head
 abbrev pub is_first : List ℕ → ℕ → Bool
 is_first [] number = false
 is_first (first ∷ behind) number = first == number

@@ -90,7 +90,7 @@ impl Store {
         self.tables[t as usize].rows()
     }
 
-    /// Puts `table` behind the others and answers its number. Refuses with `DuplicateTable`,
+    /// Puts `table` after the others and answers its number. Refuses with `DuplicateTable`,
     /// `TooMany` (there are 64) or `Memory`, checked in this order; the store is then as it
     /// was, and the table is handed back.
     pub fn add(&mut self, table: Table) -> Result<TableNumber, (StoreError, Table)>
@@ -109,7 +109,7 @@ impl Store {
         }
     }
 
-    /// Puts a row of `cells` behind the last one of table `t` and answers its number, the next after
+    /// Puts a row of `cells` after the last one of table `t` and answers its number, the next after
     /// the last one given there. Refuses with `UnknownTable`, `Arity`, `CellType`, `CellRange`,
     /// `Full` or `Memory`, checked in this order; the store is then as it was, and the cells are
     /// handed back.

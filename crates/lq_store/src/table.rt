@@ -67,7 +67,7 @@ impl Table {
         self.rows.as_slice()
     }
 
-    /// Puts a row of `cells` behind the last one and answers its number, the next after the
+    /// Puts a row of `cells` after the last one and answers its number, the next after the
     /// last one given. Refuses with `Arity`, `CellType`, `CellRange`, `Full` or `Memory`,
     /// checked in this order; the table is then as it was, and the cells are handed back.
     pub fn push(&mut self, cells: Vec<Scalar>) -> Result<u64, (StoreError, Vec<Scalar>)>
@@ -117,7 +117,7 @@ impl Table {
     }
 }
 
-/// Removes the rows of these numbers, in any order. Rows stand in the order of their numbers.
+/// Removes the rows of these numbers, in any order. Rows are in the order of their numbers.
 fn retain_unlisted(rows: &mut Vec<Row>, numbers: &[u64])
     requires { Rise rows.old.items }
     ensures { rows.new.items ≡ filter (λ row. not (is_listed numbers.now row.number))

@@ -128,7 +128,7 @@ module _ (R : Type 0) where
     by (Value-F.Group k vs) h = ap bare (atoms_at R v _ h) ∙ sym (key_at R v _ h)
     by (Value-F.Seq vs e) h = ap bare (atoms_at R v _ h) ∙ sym (key_at R v _ h)
 
-  -- ---- the atoms of values of key types tell what is the same
+  -- ---- the atoms of values of key types say what is the same
 
   abbrev atoms_all : List (Value R) → List Atom
   atoms_all [] = []

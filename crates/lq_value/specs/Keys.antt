@@ -14,7 +14,7 @@ use Rattle.lq_value.specs.declared.value.Value.{Value, fold-Value, out-Value}
 use Rattle.lq_value.specs.declared.value.Value.TheOpen.{Value-F}
 use Rattle.lq_value.specs.declared.value.Value.TheVariants as value
 
--- lists behind one another
+-- lists after one another
 abbrev pub flat : {A : Type 0} → List (List A) → List A
 flat [] = []
 flat (xs ∷ xss) = xs ++ flat xss
@@ -26,7 +26,7 @@ key_of_scalar (scalar.Bool b) = key.Bool b
 key_of_scalar (scalar.Text t) = key.Text t
 
 module _ {R : Type 0} where
-  -- a scalar is one atom, a record the atoms of its members between two marks; what is no key counts as null
+  -- a scalar is one atom, a record the atoms of its members between two marks; what isn't a key counts as null
   abbrev pub atoms_step : Value-F R (List Atom) → List Atom
   atoms_step (Value-F.Scalar s) = atom.One s ∷ []
   atoms_step (Value-F.Rec ms) = atom.Open ∷ (flat (map (λ m. m.1) ms) ++ atom.Close ∷ [])

@@ -1,5 +1,5 @@
 -- «Same and order»: which values are one key, by .NET's default equality of ints, truth values, texts and anonymous objects, and
--- which of two scalars stands first, by its default comparer, but texts by their UTF-8 bytes, with no culture.
+-- which of two scalars comes first, by its default comparer, but texts by their UTF-8 bytes, with no culture.
 use Rattle.std.specs.Prelude.{◌≡◌, ◌↔◌, ◌&&◌, List, ℕ, Bool, true, false, Some, slice_get}
 use Rattle.std.specs.Bool.{beq}
 use Rattle.std.specs.Cmp.{IsTotalOrder}
@@ -30,7 +30,7 @@ module _ {R : Type 0} where
   tested_member m n = bytes_eq m.0 n.0 && m.1 n.1
 
   -- Values layer by layer, where each value in the first has become the test of what is the same as it. Two records are the same
-  -- where they have as many members, and these are the same pair by pair. Rows, groups and sequences are no keys, and are the
+  -- where they have as many members, and these are the same pair by pair. Rows, groups and sequences aren't keys, and are the
   -- same as nothing.
   abbrev pub same_layers : Value-F R (Value R → Bool) → Value-F R (Value R) → Bool
   same_layers (Value-F.Scalar s) (Value-F.Scalar t) = same_scalars s t
@@ -60,7 +60,7 @@ TellsKeys R = (v w : Value R) → (same_values v w ≡ true) ↔ (IsKey v × (v 
 
 -- ---- the order of scalars
 
--- Null stands before all. Scalars of two kinds, which no typed expression compares, stand in the order of their kinds.
+-- Null comes before all. Scalars of two kinds, which no typed expression compares, are in the order of their kinds.
 abbrev pub kind_of : Scalar → ℕ
 kind_of scalar.Null = 0
 kind_of (scalar.Int n) = 1
@@ -74,8 +74,8 @@ order_of (scalar.Bool b) (scalar.Bool c) = bool_cmp b c
 order_of (scalar.Text t) (scalar.Text u) = slice_cmp nat_cmp t u
 order_of s t = nat_cmp (kind_of s) (kind_of t)
 
--- the order is total: turning two scalars turns the answer, what is less stays so along a chain, and what is level stands alike
--- to any other
+-- the order is total: turning two scalars turns the answer, what is less stays so along a chain, and what is level compares alike
+-- with any other
 abbrev pub OrdersScalars : Type 0
 OrdersScalars = IsTotalOrder order_of
 

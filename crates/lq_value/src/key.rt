@@ -26,7 +26,7 @@ pub enum Atom {
     Close,
 }
 
-/// What stands for a value where values are compared in great number. It is flat, so that it is
+/// What represents a value where a great number of values is compared. It is flat, so that it is
 /// hashed and compared in one go: a scalar's content, or the scalars in a record in their order, with
 /// marks at the head and the end of each record in it. For two values of one key type, the keys are
 /// equal exactly where the values are the same.
@@ -119,7 +119,7 @@ impl Hash for Key {
     }
 }
 
-/// The key of `value`. What is no key (a row, a group or a sequence) has the key of null.
+/// The key of `value`. What isn't a key (a row, a group or a sequence) has the key of null.
 #[tactic(auto, using(crate::proofs::KeyLaws::keying))]
 pub fn key_of<R: RowRef>(alloc: Global, value: &Value<R>) -> Result<Key, AllocError>
     ensures { IfOk result (λ key. key ≡ key_value value.now) }
@@ -148,7 +148,7 @@ fn scalar_key(alloc: Global, scalar: &Scalar) -> Result<Key, AllocError>
     }
 }
 
-// Puts the atoms of a value behind those that are there.
+// Puts the atoms of a value after those that are there.
 #[cycle(atoms)]
 #[tactic(auto, using(crate::proofs::KeyLaws::keying))]
 fn push_value<R: RowRef>(

@@ -11,7 +11,7 @@ pub fn same_keys<R: RowRef>()
 {}
 
 /// The order of scalars is total: turning two scalars turns the answer, what is less stays so along
-/// a chain, and what is level stands alike to any other. Two scalars are level exactly where they
+/// a chain, and what is level compares alike with any other. Two scalars are level exactly where they
 /// are equal.
 pub fn total_order()
     ensures total { OrdersScalars }

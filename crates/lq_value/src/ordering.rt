@@ -1,13 +1,13 @@
-//! Which of two scalars stands first.
+//! Which of two scalars comes first.
 ghost use Rattle.std.specs.Prelude.{◌≡◌};
 ghost use Rattle.lq_value.specs.SameAndOrder.{kind_of, order_of};
 
 use crate::scalar::Scalar;
 use std::cmp::Ordering;
 
-/// Which of two scalars stands first, as .NET's default comparer has it for two of one type: null
+/// Which of two scalars comes first, as .NET's default comparer has it for two of one type: null
 /// before all, ints by size, false before true; but texts by their UTF-8 bytes, with no culture. Two
-/// of different kinds, which no typed expression compares, stand in the order null, ints, truth
+/// of different kinds, which no typed expression compares, are in the order null, ints, truth
 /// values, texts, so that the order is total and sorting by it needs no condition. Takes no memory.
 pub fn order(left: &Scalar, right: &Scalar) -> Ordering
     ensures { result ≡ order_of left.now right.now }

@@ -9,7 +9,7 @@ use crate::value::{RowRef, Value};
 
 /// Whether two values are the same, as .NET's default equality has it for ints, truth values, texts
 /// and anonymous objects: two scalars where both are null or both hold one content, two records
-/// where all members are, names and values, in their order. A row, a group and a sequence are no
+/// where all members are, names and values, in their order. A row, a group and a sequence aren't
 /// keys: such a value is the same as none, not even as itself. Takes no memory.
 #[cycle(sameness)]
 #[tactic(auto, using(crate::proofs::SamenessLaws::sameness))]

@@ -4,7 +4,7 @@ use crate::list::List;
 use crate::scalar::Scalar;
 use crate::txt::Txt;
 
-/// A fault that ends an evaluation, named as the .NET exception it stands for.
+/// A fault that ends an evaluation, named as the .NET exception it represents.
 #[derive(Clone, Copy, Debug, Eq, PartialEq)]
 pub enum Fault {
     /// An integer division or remainder by zero.
@@ -19,7 +19,7 @@ pub enum Fault {
     ArgumentOutOfRange,
 }
 
-/// How a stream ends, behind its last item.
+/// How a stream ends, after its last item.
 #[derive(Clone, Copy, Debug, Eq, PartialEq)]
 pub enum End {
     /// All items were given.
@@ -28,7 +28,7 @@ pub enum End {
     Fault(Fault),
 }
 
-/// A reference to a row of a table, by which a value stands for the row without a copy of it.
+/// A reference to a row of a table, by which a value represents the row without a copy of it.
 pub trait RowRef: Copy {
     ghost use Rattle.std.specs.Prelude.{List, ◌≡◌};
     ghost use Rattle.lq_value.specs.declared.scalar.Scalar.{Scalar};
