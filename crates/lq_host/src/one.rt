@@ -9,7 +9,8 @@ pub(crate) struct OneTest {
     pub(crate) range: (i32, i32),
     pub(crate) test: Box<dyn Fn(i32) -> bool>,
     pub(crate) ghost callable: { (x : ℤ) → is_within range x ≡ true → pre test x },
-    pub(crate) ghost accepted: { Accepted int_cmp (is_within range) (λ x answer. post test x answer) } by { accepted_numbers-prop _ _ },
+    pub(crate) ghost accepted: { Accepted int_cmp (is_within range)
+        (λ x answer. post test x answer) } by { accepted_numbers-prop _ _ },
 }
 
 impl OneTest {

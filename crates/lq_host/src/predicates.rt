@@ -43,7 +43,7 @@ impl Predicates {
     {
         for (number, predicate) in self.items.iter().enumerate() {
             if predicate.name.as_str() == name {
-                return Some(number as u16);
+                return Some(number as PredicateNumber);
             }
         }
         None
@@ -83,7 +83,7 @@ impl Predicates {
             return Err((HostError::TooMany, predicate));
         }
         match self.items.push(predicate) {
-            Ok(()) => Ok(number as u16),
+            Ok(()) => Ok(number as PredicateNumber),
             Err(back) => Err((HostError::Memory, back.value)),
         }
     }

@@ -10,7 +10,8 @@ pub(crate) struct TwoTest {
     pub(crate) ranges: ((i32, i32), (i32, i32)),
     pub(crate) test: Box<dyn Fn(i32, i32) -> bool>,
     pub(crate) ghost callable: { (x y : ℤ) → is_within_both ranges (x, y) ≡ true → pre test x y },
-    pub(crate) ghost accepted: { Accepted pair_cmp (is_within_both ranges) (λ p answer. post test p.0 p.1 answer) } by { accepted_pairs-prop _ _ },
+    pub(crate) ghost accepted: { Accepted pair_cmp (is_within_both ranges)
+        (λ p answer. post test p.0 p.1 answer) } by { accepted_pairs-prop _ _ },
 }
 
 impl TwoTest {

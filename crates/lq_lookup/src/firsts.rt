@@ -31,7 +31,7 @@ impl<'a> Seen<'a> {
 
     // No keys, with room for `room` of them.
     fn new(alloc: Global, room: usize) -> Result<Seen<'a>, AllocError>
-        ensures { IfOk result (λ seen. seen ≡ []) }
+        ensures { IfOk result (λ keys. keys ≡ []) }
     {
         Ok(Seen {
             keys: IndexSet::with_capacity(alloc, room)?,

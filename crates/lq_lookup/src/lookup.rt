@@ -44,7 +44,7 @@ impl Lookup {
     pub fn find(&self, key: &Key) -> &[usize]
         ensures { result.now ≡ found self.now key.now }
     {
-        if kept(self.nulls, key) {
+        if is_kept(self.nulls, key) {
             self.rows.find(key)
         } else {
             &[]
@@ -53,7 +53,7 @@ impl Lookup {
 }
 
 // Whether a key may have a match.
-fn kept(nulls: Nulls, key: &Key) -> bool
+fn is_kept(nulls: Nulls, key: &Key) -> bool
     ensures { result ≡ is_kept nulls key.now }
 {
     match (nulls, key) {

@@ -13,13 +13,13 @@ pub(crate) fn numbered(
     alloc: Global,
     keys: &[Key],
 ) -> Result<(IndexSet<Key>, Vec<usize>), AllocError>
-    ensures { IfOk result (λ made. AreNumbers keys.now made.0.keys made.1.items) }
+    ensures { IfOk result (λ numbering. AreNumbers keys.now numbering.0.keys numbering.1.items) }
 {
     let mut firsts: IndexSet<Key> = IndexSet::with_capacity(alloc, keys.len())?;
     let mut numbers = Vec::with_capacity(alloc, keys.len())?;
     for key in keys {
-        let copied = copy_key(alloc, key)?;
-        let (number, _) = firsts.insert_full(copied)?;
+        let copy = copy_key(alloc, key)?;
+        let (number, _) = firsts.insert_full(copy)?;
         numbers.push(number)?;
     }
     Ok((firsts, numbers))

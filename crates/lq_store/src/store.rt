@@ -65,7 +65,7 @@ impl Store {
     {
         for (number, table) in self.tables.iter().enumerate() {
             if table.schema().name.as_str() == name {
-                return Some(number as u16);
+                return Some(number as TableNumber);
             }
         }
         None
@@ -104,7 +104,7 @@ impl Store {
             return Err((StoreError::TooMany, table));
         }
         match self.tables.push(table) {
-            Ok(()) => Ok(number as u16),
+            Ok(()) => Ok(number as TableNumber),
             Err(back) => Err((StoreError::Memory, back.value)),
         }
     }

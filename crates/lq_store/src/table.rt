@@ -30,7 +30,11 @@ impl Model for Table {
 
     ghost view = { λ t. record { schema = t.schema; rows = t.rows.items; next = t.last + 1 } };
 
-    ghost invariant = { λ t. IsTable (record { schema = t.schema; rows = t.rows.items; next = t.last + 1 }) };
+    ghost invariant = { λ t. IsTable (record {
+      schema = t.schema;
+      rows = t.rows.items;
+      next = t.last + 1;
+    }) };
 }
 
 impl Table {

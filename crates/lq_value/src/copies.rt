@@ -10,7 +10,7 @@ use std::alloc::{AllocError, Global};
 
 /// A scalar equal to `scalar`.
 pub fn copy_scalar(alloc: Global, scalar: &Scalar) -> Result<Scalar, AllocError>
-    ensures { IfOk result (λ made. made ≡ scalar.now) }
+    ensures { IfOk result (λ copy. copy ≡ scalar.now) }
 {
     match scalar {
         Scalar::Null => Ok(Scalar::Null),
@@ -23,7 +23,7 @@ pub fn copy_scalar(alloc: Global, scalar: &Scalar) -> Result<Scalar, AllocError>
 /// A value equal to `value`, of the same rows.
 #[cycle(copying)]
 pub fn copy<R: RowRef>(alloc: Global, value: &Value<R>) -> Result<Value<R>, AllocError>
-    ensures { IfOk result (λ made. made ≡ value.now) }
+    ensures { IfOk result (λ copy. copy ≡ value.now) }
 {
     match value {
         Value::Scalar(scalar) => Ok(Value::Scalar(copy_scalar(alloc, scalar)?)),
@@ -42,13 +42,13 @@ fn copy_values<R: RowRef>(
     alloc: Global,
     values: &List<Value<R>>,
 ) -> Result<List<Value<R>>, AllocError>
-    ensures { IfOk result (λ made. made ≡ values.now) }
+    ensures { IfOk result (λ copy. copy ≡ values.now) }
 {
-    let mut copied = List::new(alloc);
+    let mut copies = List::new(alloc);
     for value in values.as_slice() {
-        copied.push(copy(alloc, value)?)?;
+        copies.push(copy(alloc, value)?)?;
     }
-    Ok(copied)
+    Ok(copies)
 }
 
 #[cycle(copying)]
@@ -56,12 +56,12 @@ fn copy_members<R: RowRef>(
     alloc: Global,
     members: &List<(Txt, Value<R>)>,
 ) -> Result<List<(Txt, Value<R>)>, AllocError>
-    ensures { IfOk result (λ made. made ≡ members.now) }
+    ensures { IfOk result (λ copy. copy ≡ members.now) }
 {
-    let mut copied = List::new(alloc);
+    let mut copies = List::new(alloc);
     for (name, value) in members.as_slice() {
         let name = Txt::from_str(alloc, name.as_str())?;
-        copied.push((name, copy(alloc, value)?))?;
+        copies.push((name, copy(alloc, value)?))?;
     }
-    Ok(copied)
+    Ok(copies)
 }

@@ -48,7 +48,7 @@ impl<T> Held<T> {
 impl<T: Drop> Held<T> {
     /// Puts `value` in a box of its own.
     pub fn new(alloc: Global, value: T) -> Result<Held<T>, AllocError>
-        ensures { IfOk result (λ held. held ≡ value) }
+        ensures { IfOk result (λ holder. holder ≡ value) }
     {
         Ok(Held {
             inner: Box::new(alloc, value)?,

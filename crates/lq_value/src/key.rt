@@ -170,8 +170,8 @@ fn push_value<R: RowRef>(
 fn push_scalar(alloc: Global, atoms: &mut List<Atom>, scalar: &Scalar) -> Result<(), AllocError>
     ensures { OnOk result (atoms.new ≡ atoms.old ++ atom.One scalar.now ∷ []) }
 {
-    let copied = copy_scalar(alloc, scalar)?;
-    atoms.push(Atom::One(copied))
+    let copy = copy_scalar(alloc, scalar)?;
+    atoms.push(Atom::One(copy))
 }
 
 #[cycle(atoms)]
@@ -207,7 +207,7 @@ fn push_members<R: RowRef>(
 
 /// A key equal to `key`.
 pub fn copy_key(alloc: Global, key: &Key) -> Result<Key, AllocError>
-    ensures { IfOk result (λ made. made ≡ key.now) }
+    ensures { IfOk result (λ copy. copy ≡ key.now) }
 {
     match key {
         Key::Null => Ok(Key::Null),
@@ -219,17 +219,17 @@ pub fn copy_key(alloc: Global, key: &Key) -> Result<Key, AllocError>
 }
 
 fn copy_atoms(alloc: Global, atoms: &[Atom]) -> Result<List<Atom>, AllocError>
-    ensures { IfOk result (λ made. made ≡ atoms.now) }
+    ensures { IfOk result (λ copy. copy ≡ atoms.now) }
 {
-    let mut copied = List::new(alloc);
+    let mut copies = List::new(alloc);
     for atom in atoms {
-        copied.push(copy_atom(alloc, atom)?)?;
+        copies.push(copy_atom(alloc, atom)?)?;
     }
-    Ok(copied)
+    Ok(copies)
 }
 
 fn copy_atom(alloc: Global, atom: &Atom) -> Result<Atom, AllocError>
-    ensures { IfOk result (λ made. made ≡ atom.now) }
+    ensures { IfOk result (λ copy. copy ≡ atom.now) }
 {
     match atom {
         Atom::One(scalar) => Ok(Atom::One(copy_scalar(alloc, scalar)?)),

@@ -43,8 +43,8 @@ fn same_members<R: RowRef>(left: &[(Txt, Value<R>)], right: &[(Txt, Value<R>)]) 
     let mut rest = right;
     for (name, value) in left {
         match rest.split_first() {
-            Some(((other, found), others)) => {
-                if name.as_str() != other.as_str() || !same(value, found) {
+            Some(((other, member), others)) => {
+                if name.as_str() != other.as_str() || !same(value, member) {
                     return false;
                 }
                 rest = others;
