@@ -62,7 +62,7 @@ class Lq:
 
     @staticmethod
     def check(out, times):
-        """Each statement has to be answered by items or a value: a refusal or a fault is no answer that a time could be of."""
+        """Each statement has to be answered by items or a value: a refusal or a fault isn't an answer that could be timed."""
         replies = 0
         for line in out:
             if not line.startswith((b'{"items":', b'{"value":')):

@@ -20,7 +20,7 @@ from tables import table_of  # noqa: E402
 PLAIN = [".tables", ".roles", ".names", ".rights", ".why", ".rows", ".help"]
 MISUSED = [".", ".table", ".tables now", ".why", ".why t", ".why t x", ".rows", ".rows -1", ".json", ".json maybe", ".time", ".run", ".run nosuch",
            ".quit now", ".roles x", ".RIGHTS", ".names\t", ". names"]
-# What is shown has to have each of these so often, so that sessions that show nothing can't pass.
+# What is shown has to have each of these at least so often, so that sessions that show nothing can't pass.
 LEAST = {
     r"^-+(  -+)*$": 150, r"^Key: ": 80, r"^  \S": 300, r" more$": 25, "∅": 60, r"…(?! \d)": 12, r"^no rows$": 90, r"^fault: ": 60,
     r"^denied by ": 45, r"^denied: no grant": 20, r"^denied by default": 10, r"^error: ": 60, r" is defined$": 150, r" is assigned$": 12,
@@ -85,7 +85,7 @@ def typed(dice, tables, line):
 
 
 def with_bypass(dice, roles):
-    """The roles, or often only those that bypass row security, if there are any: a desk that begins as such a role tells more."""
+    """The roles, or often only those that bypass row security, if there are any: a desk that begins as such a role shows more."""
     return [it for it in roles if it.get("bypass") and dice.random() < 0.9] or roles
 
 

@@ -32,7 +32,7 @@ def columns_of(character):
     category = unicodedata.category(character)
     if category in ("Mn", "Me", "Cf"):
         return 0
-    # (Python takes a code point that is no character for a wide one)
+    # (Python takes a code point that isn't a character for a wide one)
     return 2 if unicodedata.east_asian_width(character) in "WF" and category != "Cn" else 1
 
 

@@ -1,4 +1,4 @@
-"""What the desk answers, computed another way: sessions, types, policies and rights are those of tests/second_opinion, which is no part of
+"""What the desk answers, computed another way: sessions, types, policies and rights are those of tests/second_opinion, which isn't part of
 the program, and what is shown of them is laid out by layout.py."""
 
 import re
@@ -39,12 +39,12 @@ USAGES = {
     ".time": "Write .time on or .time off.\n",
     ".run": "Write .run FILE, where FILE has no space in its name.\n",
 }
-# How many words a command takes behind its name.
+# How many words a command takes after its name.
 ARGUMENTS = {**dict.fromkeys(USAGES, [0]), ".why": [2, 3], **dict.fromkeys([".rows", ".json", ".time", ".run"], [1])}
 
 
 class Misuse(Exception):
-    """A line begins with a dot and is no command; the text says what is wrong."""
+    """A line begins with a dot and isn't a command; the text says what is wrong."""
 
 
 class End(Exception):
@@ -77,7 +77,7 @@ def shape_of(its_type):
 
 
 def closed(line):
-    """A statement with the `;` that may be left out, in a line of its own behind a comment."""
+    """A statement with the `;` that may be left out, in a line of its own after a comment."""
     try:
         tokens = tokens_of(line)
     except SyntaxFault:
@@ -130,7 +130,7 @@ class Numbered(Session):
 
 
 def ranges_of(words):
-    """The bounds of each column whose type tells them, by its table and its name."""
+    """The bounds of each column whose type gives them, by its table and its name."""
     found = {}
     for path in options_of(words).tables:
         header = next(records_of(without_marks(Path(path).read_bytes())))
@@ -174,7 +174,7 @@ class Desk:
         return self.shown, self.hints
 
     def lines_of(self, given):
-        """The lines of bytes, with the prompt that each is typed at, and a prompt behind the last."""
+        """The lines of bytes, with the prompt that each is typed at, and a prompt after the last."""
         lines = given.split(b"\n")
         for line in lines if lines[-1] else lines[:-1]:
             self.hint(f"{self.session.user}> ")

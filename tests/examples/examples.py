@@ -1,4 +1,4 @@
-"""The examples of a page of Markdown, by the rules that `run` tells of."""
+"""The examples of a page of Markdown, by the rules that `run` describes."""
 
 import json
 import re
@@ -105,7 +105,7 @@ class Page:
         return self.examples
 
     def refuse_others(self, block, taken):
-        """Fails at a statement that is no example, and at a whole reply of a sentence that belongs to none. Notes those of tables."""
+        """Fails at a statement that isn't an example, and at a whole reply of a sentence that belongs to none. Notes those of tables."""
         for span, line in block.spans():
             if LIKE_A_REPLY.search(span) and not is_reply(SHORT.sub(lambda found: "0" if found[1] else "", span)):
                 raise self.failure(line, f"this is like a reply, and no JSON: {span}")
@@ -141,7 +141,7 @@ class Page:
         return taken
 
     def read_fence(self, block, before, behind):
-        """The example that a block in fences is, with the paragraph before it and the blocks behind."""
+        """The example that a block in fences is, with the paragraph before it and the blocks after it."""
         if block.word == "csharp":
             replies = behind[0] if behind and behind[0].kind == "fence" else (behind + [None] * 2)[1]
             if replies is None or replies.word != "json" or behind[0].kind not in ("text", "fence"):
@@ -210,7 +210,7 @@ class Page:
         return []
 
     def read_session(self, block):
-        """The session of a table's examples, a row at a time behind those before it; returns what belongs to it."""
+        """The session of a table's examples, a row at a time after those before it; returns what belongs to it."""
         script, taken = "", []
         for line, row in rows_by_head(block):
             statement, reply = row["Example"], (re.findall(r"`([^`]+)`", row["Reply"]) or [row["Reply"]])[0]
@@ -222,8 +222,8 @@ class Page:
 
 
 def form_of(reply):
-    """Whether the last line that is printed has the form of a reply: a letter stands for a value, or for a name in a text, and `..`
-    for items."""
+    """Whether the last line that is printed has the form of a reply: a letter represents a value, or a name in a text, and `..`
+    represents items."""
     parts = re.split(r'(\.\.|\b[A-Za-z]\b)', reply)
     texts = ["".join(parts[:place]).count('"') % 2 for place in range(len(parts))]
     kinds = [r"\w+" if inside else ".*" if part == ".." else r'(?:"[^"]*"|\d+)' for part, inside in zip(parts, texts)]
@@ -248,7 +248,7 @@ def rows_by_head(block):
 
 
 def statements_in(block):
-    """The statements of a block that are no forms, in order."""
+    """The statements of a block that aren't forms, in order."""
     return [span for span, _ in block.spans() if STATEMENT.fullmatch(span) and span not in FORMS]
 
 

@@ -1,4 +1,4 @@
-"""Pages of Markdown, taken apart into the blocks that examples are made of."""
+"""Pages of Markdown, taken apart into the blocks that examples consist of."""
 
 import re
 from dataclasses import dataclass, field
@@ -9,7 +9,7 @@ ITEM = re.compile(r"(?:- |\d+\. )")
 
 @dataclass
 class Block:
-    """A heading, a paragraph or an item of a list (`text`), a block in fences (`fence`, with the word behind the fence), or a
+    """A heading, a paragraph or an item of a list (`text`), a block in fences (`fence`, with the word after the fence), or a
     table. `line` is the number of its first line in the page."""
 
     kind: str
@@ -23,7 +23,7 @@ class Block:
         return self.line + self.text.count("\n", 0, place)
 
     def spans(self):
-        """What stands between single backquotes, each with its line; of a table in its cells."""
+        """What is between single backquotes, each with its line; of a table in its cells."""
         if self.kind == "table":
             return [(span, line) for line, cells in self.rows for cell in cells for span in SPAN.findall(cell)]
         return [(unwrapped(it[1]), self.line_of(it.start())) for it in SPAN.finditer(self.text)] if self.kind == "text" else []
@@ -53,7 +53,7 @@ def kind_of(line):
 
 
 def fenced(lines, number):
-    """The block in fences that begins at a line, and the number of the line behind it."""
+    """The block in fences that begins at a line, and the number of the line after it."""
     end = next((it for it in range(number + 1, len(lines) + 1) if lines[it - 1].startswith("```")), len(lines) + 1)
     text = "".join(line + "\n" for line in lines[number:end - 1])
     return Block("fence", number, text, lines[number - 1].strip("`").strip()), end + 1

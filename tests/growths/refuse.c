@@ -24,7 +24,7 @@ static int is_refused(void) {
     return 0;
 }
 
-/* Tells by a file whether the growth was met at all. */
+/* Shows by a file whether the growth was reached at all. */
 __attribute__((destructor)) static void tell(void) {
     const char *path = getenv("REFUSED_GROWTH_MET");
     if (path && refused != 0 && growths >= refused) {

@@ -31,7 +31,7 @@ def groups(opening, text, closing, joint, last=";"):
 
 
 def to_the_left(text):
-    """A tree that is as deep as the depth of a text allows: each bracket holds the next and a chain behind it."""
+    """A tree that is as deep as the depth of a text allows: each bracket holds the next and a chain after it."""
     def line(size):
         chain = "a"
         for brackets in range(64, -1, -1):
@@ -75,7 +75,7 @@ QUERY = "(from x in t " + "where true " * 100 + "select x).Count()"
 
 
 def counted(text, times=1):
-    """The value that is a number for each time that this text stands in the line."""
+    """The value that is a number for each time that this text is in the line."""
     return lambda line: f'{{"value":{line.count(text) * times}}}'
 
 
@@ -88,7 +88,7 @@ def the_text(line):
     return line.replace("run ", '{"value":').replace(";", "}").replace("\\u00e9", "é")
 
 
-# What the lines are made of, how a line of a size is made, and its reply, or what gives that of the line.
+# What the lines consist of, how a line of a size is built, and its reply, or what gives that of the line.
 KINDS = [
     ("a chain of operators", repeated("run 1", "+1", ";"), TOO_DEEP),
     ("a chain of members", repeated("run a", ".b", ";"), TOO_DEEP),
@@ -160,7 +160,7 @@ def is_met(one, half, whole, short):
 
 
 def measure_kind(program, kind, line, reply):
-    """Measures a kind of lines, prints its figures, and tells whether the bounds are met."""
+    """Measures a kind of lines, prints its figures, and says whether the bounds are met."""
     try:
         counts = count_kind(program, line, reply)
     except Failure as failure:

@@ -66,7 +66,7 @@ def count_command(words):
 
 
 def counted(start):
-    """Has a run started behind the words that count its instructions, and returns how many there were."""
+    """Has a run started by the words that count its instructions, and returns how many there were."""
     with tempfile.NamedTemporaryFile("r") as told:
         start([*COUNTER, f"--log-file={told.name}"])
         found = re.search(r"I +refs: +([\d,]+)", told.read())

@@ -43,7 +43,7 @@ def sum_in_brackets(terms):
 
 
 def filled(term, end):
-    """A line that selects a sum of as many of these terms as there is room for, and of what stands at its end."""
+    """A line that selects a sum of as many of these terms as there is room for, and of what is at its end."""
     count = (LINE - 2 - len(HEAD + end)) // len(term + "+")
     return HEAD + "+".join([term] * count) + end + ";"
 
@@ -61,7 +61,7 @@ def records(end=""):
 
 
 SERVED, DENIED = '{"items":[]}', '{"denied":"w0","use":"w.c95"}'
-# What the lines are made of, the line, and its reply. Of a denied one the last use has no right.
+# What the lines consist of, the line, and its reply. Of a denied one the last use has no right.
 KINDS = [
     ("columns summed", sums(), SERVED), ("members of records", records(), SERVED),
     ("columns summed, the last one withheld", sums("+x.c95"), DENIED),
@@ -83,12 +83,12 @@ def least_time(program, name):
 
 
 def told_time(seconds):
-    """What a line took over a run without one; two runs may differ by more than that, which then is no figure."""
+    """What a line took over a run without one; two runs may differ by more than that, which then isn't a figure."""
     return f"{seconds * 1000:.0f} ms" if seconds >= 0.001 else "less than two runs differ by"
 
 
 def measure_kind(program, kind, line, reply, nothing):
-    """Prints what a kind of lines takes over a run without a line, and tells whether the bound is met."""
+    """Prints what a kind of lines takes over a run without a line, and says whether the bound is met."""
     if not LINE * 15 // 16 < len(line) < LINE:
         raise ValueError(f"{kind}: a line of {len(line)} bytes, which has to have nearly {LINE}")
     write("decided.script", line + "\n")

@@ -1,4 +1,4 @@
-"""Sessions that write: a script of 1 MB of inserts, against one of half as many, into a table behind policies with checks; and a
+"""Sessions that write: a script of 1 MB of inserts, against one of half as many, into a table under policies with checks; and a
 `delete` of half of 300,000 rows, against one of half of 150,000.
 
 What is judged is what the lines take over a run that loads the same table and serves nothing.

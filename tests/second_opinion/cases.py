@@ -1,4 +1,4 @@
-"""The cases: the fixed ones, mostly at the limits, and then those made by chance, each from its number alone."""
+"""The cases: the fixed ones, mostly at the limits, and then those generated at random, each from its number alone."""
 
 import random
 from dataclasses import dataclass, field
@@ -44,7 +44,7 @@ TABLE_OF_SCRIPT = b"c:int\n1\n2\n"
 # The options of most fixed cases.
 OPTIONS = [b"--role", b"reader", b"--policy", b"p.toml"]
 POLICY_PATHS = ["p.toml", "p.toml", "./p.toml", "sub/p", "policy .toml", "é"]
-# What stands on standard input where the script is a file.
+# What is on standard input where the script is a file.
 NOT_READ = b"run 7;\n"
 
 
@@ -99,7 +99,7 @@ def of_company(policies, role="dan", script=b"run from e in employees select e.n
 
 
 def of_many_tables(count, *more):
-    """A case of so many tables, and more words behind them."""
+    """A case of so many tables, and more words after them."""
     data = {f"t{number}.csv": f"c:int\n{number}\n".encode() for number in range(count)}
     script = b"".join(b"run from x in t%d select x.c;\n" % number for number in range(count + 1))
     words = [*OPTIONS, *(name.encode() for name in data), *more]
@@ -295,7 +295,7 @@ def lines_case(dice, line):
 
 
 def queries_case(dice, line=query_lines.line, rights_of=policy_files.open_rights):
-    """Queries by chance, over small tables behind some policies."""
+    """Queries by chance, over small tables under some policies."""
     tables = queries.tables(dice)
     file = policy_files.right_file(dice, tables, rights_of)
     if dice.random() < 0.3:
@@ -312,7 +312,7 @@ def rights_case(dice):
 
 
 def session_case(dice):
-    """A session by chance, of a role that has some rights. Its script is made for the tables and the policies that the files give."""
+    """A session by chance, of a role that has some rights. Its script is written for the tables and the policies that the files give."""
     words, data = filed(dice, session_files.tables(dice))
     tables = {name: table_of(data[word]) for name, word in words.items()}
     file = session_files.policy_file(dice, tables)
@@ -323,8 +323,8 @@ def session_case(dice):
 
 
 def case_of(number, fixed):
-    """The case of a number: first the fixed ones, then those by chance, whose number is the seed; that of a session is told from the
-    first session on. The known lines over the small company and the known sessions stand between these."""
+    """The case of a number: first the fixed ones, then those by chance, whose number is the seed; that of a session is counted from the
+    first session on. The known lines over the small company and the known sessions are between these."""
     if number < len(fixed):
         return fixed[number]
     if FIRST_OF_COMPANY <= number < FIRST_OF_QUERIES:

@@ -13,7 +13,7 @@ def hot(dice, scope):
 
 
 def twins(dice, scope):
-    """Two ints that fault differently on the same items: which fault is met tells which was evaluated first."""
+    """Two ints that fault differently on the same items: the fault that is met shows which was evaluated first."""
     paths = scope.paths_of("int")
     path = dice.choice([*paths, *paths[-2:] * 2]).words if paths else ["1"]
     near = dice.choice(["1", "1", "2", "2", "3", "4"])
@@ -27,7 +27,7 @@ def twins(dice, scope):
 
 
 def pair(dice, scope):
-    """Two ints in which faults may stand."""
+    """Two ints that may have faults in them."""
     return twins(dice, scope) if dice.random() < 0.6 else [hot(dice, scope), hot(dice, scope)]
 
 
@@ -48,7 +48,7 @@ def table(dice, scope):
 
 
 def hot_sequence(dice, scope):
-    """Ints or rows in whose midst a fault may stand."""
+    """Ints or rows with a fault in their midst, perhaps."""
     part = table(dice, scope)
     if not is_source(part.type):
         return called(Part(PRIMARY, [list(scope.tables)[0]], None), "Take", ["1"], Sequence("int"))
@@ -94,7 +94,7 @@ def with_stop(dice, part, scope):
 
 
 def with_other(dice, part, scope):
-    """A method that gives a sequence, perhaps of a second one in which another fault stands."""
+    """A method that gives a sequence, perhaps of a second one that has another fault in it."""
     items = part.type.item
     names = ["Skip", "Take", "Take", "Reverse", "Concat"] + ["DefaultIfEmpty"] * has_default(items)
     names += ["Distinct", "Union", "Intersect", "Except", "Except"] * is_key(items)
@@ -116,7 +116,7 @@ def chain(dice, scope):
 
 
 def hot_clause(dice, outside, inside):
-    """A clause with faults in its parts, and the scope behind it."""
+    """A clause with faults in its parts, and the scope after it."""
     kind = dice.choice(["let", "where", "from", "join", "join", "orderby", "orderby"])
     name = new_name(dice, inside, outside)
     if kind == "where":
@@ -180,7 +180,7 @@ def group_source(dice, scope):
 
 
 def nested(dice, scope):
-    """Records of sequences in which faults stand, alone or for each item of a table."""
+    """Records of sequences that have faults in them, alone or for each item of a table."""
 
     def record(inner):
         names = dice.sample(MEMBERS, dice.choice([1, 2, 2, 3]))

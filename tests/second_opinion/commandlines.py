@@ -66,7 +66,7 @@ def spelled_option(dice, name, value):
 
 
 def command_line(dice, values, tables):
-    """The words of a call: options in any order before, between and behind the tables, some of which may stand behind `--`."""
+    """The words of a call: options in any order before, between and after the tables, some of which may come after `--`."""
     options = [spelled_option(dice, name, value) for name, value in values.items()]
     dice.shuffle(options)
     behind = dice.randrange(len(tables) + 1) if dice.random() < 0.1 else len(tables)

@@ -1,4 +1,4 @@
-"""The command line: the words behind the program's name, read as the library `clap` reads them."""
+"""The command line: the words after the program's name, read as the library `clap` reads them."""
 
 from dataclasses import dataclass, field
 
@@ -7,7 +7,7 @@ REQUIRED = ("--role", "--policy")
 
 
 class UsageFault(Exception):
-    """The words are no call of the program."""
+    """The words aren't a call of the program."""
 
 
 class HelpWanted(Exception):
@@ -28,7 +28,7 @@ def is_value(word):
 
 
 def take_option(options, word, rest):
-    """Reads an option, and of the words behind it its value, where that doesn't stand behind a `=`."""
+    """Reads an option, and of the words after it its value, where that doesn't follow a `=`."""
     name, equals, value = word.partition("=")
     if word in ("--help", "-h"):
         raise HelpWanted

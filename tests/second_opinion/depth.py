@@ -12,7 +12,7 @@ class DepthFault(Exception):
 def depth_of(tokens):
     """The most brackets that are open at one place, and the greatest weight of a place.
 
-    Each level, the whole line's and that of each open bracket, weighs one and its tokens that are no name, literal, bracket
+    Each level, the whole line's and that of each open bracket, weighs one and its tokens that aren't a name, literal, bracket
     or `;`. A closed bracket's level is gone.
     """
     levels = [1]

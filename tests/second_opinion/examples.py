@@ -3,7 +3,7 @@
 They hold for this reading as well as for the program: a reading that answers one of them otherwise compares nothing.
 
 Each file of the folder `known_lines` has pairs of lines, a statement and its reply, between empty lines; a line that begins
-with `#` tells of them. Those of `over_t.txt` are over the table `t`.
+with `#` describes them. Those of `over_t.txt` are over the table `t`.
 """
 
 import json
@@ -113,7 +113,7 @@ RUN = {
 OVERFLOW = ["run - -2147483648;", "run --2147483648;", "run 1--2147483648;", "run " + "(1+1)*" * 252 + "(1+1);"]
 
 LEXICAL = ["1_", "1x", "1٣", "٣", "2147483649", "&", '"', r'"\q"', r'"\uDABC"', "\u00a0", "\ufeff", "é²"]
-# Lexical faults come before depth, and faults of the grammar behind it.
+# Lexical faults come before depth, and faults of the grammar after it.
 SYNTAX = [
     "run 4294967296;", "run 2147483649;", "run 1_0;", "run 1x;", "run 1é;", "run 1٣;", "run ٣;", "run 0x1;",
     "run 1" + ACUTE + ";", "run " + ACUTE + ";", 'run "a;', "run 'a';", r'run "\x41";', r'run "\U00000041";', r'run "\ud800";',
@@ -216,7 +216,7 @@ def scalar_lines():
 
 
 def lines_of_nulls():
-    """The same over the table of nulls: with known items, a fault on its first row, and one on its second behind a null."""
+    """The same over the table of nulls: with known items, a fault on its first row, and one on its second after a null."""
     known = [(query("nulls", scalar), {"items": items}) for scalar, items in OF_NULLS.items()]
     for fault, scalars in FAULTS_OF_NULLS.items():
         known += [(query("nulls", scalar), {"fault": fault, "items": []}) for scalar in scalars]

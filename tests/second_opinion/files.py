@@ -64,7 +64,7 @@ def table(dice):
 
 
 def spelled_number(dice, value):
-    """The digits of a cell, perhaps behind zeros; zero may have a minus sign."""
+    """The digits of a cell, perhaps after zeros; zero may have a minus sign."""
     sign = "-" if value < 0 or (value == 0 and dice.random() < 0.2) else ""
     return (sign + dice.choice(["", "", "", "0", "0" * 25]) + str(abs(value))).encode()
 
@@ -108,16 +108,16 @@ def spelled_cell(dice, cell):
 
 
 def spelled_record(dice, record):
-    """A record of one empty cell has quotes, since an empty line is no record."""
+    """A record of one empty cell has quotes, since an empty line isn't a record."""
     return b'""' if record == [b""] else b",".join(spelled_cell(dice, cell) for cell in record)
 
 
 def spelled_file(dice, lines):
-    """The bytes of a file: records parted by one or several line ends, perhaps behind byte order marks."""
+    """The bytes of a file: records parted by one or several line ends, perhaps after byte order marks."""
     ends = dice.choice([[b"\n"], [b"\n"], [b"\r\n"], [b"\r"], [b"\n", b"\r\n", b"\r", b"\n\n", b"\r\n\r\n"]])
     data = dice.choice([b""] * 6 + [MARK, MARK * 2]) + dice.choice([b""] * 8 + [b"\n", b"\r\n"])
     data += b"".join(spelled_record(dice, record) + dice.choice(ends) for record in lines)
-    # What is cut off is no part of a cell: the last record may be an empty text in quotes, but not end in a line's end.
+    # What is cut off isn't part of a cell: the last record may be an empty text in quotes, but not end in a line's end.
     return data.rstrip(b"\r\n") if dice.random() < 0.2 else data
 
 

@@ -28,7 +28,7 @@ class Tokens:
         return self.place < len(self.tokens) and self.tokens[self.place].kind in kinds
 
     def next_are(self, first, second):
-        """Whether the next token is of one kind and the one behind it of the other."""
+        """Whether the next token is of one kind and the one after it of the other."""
         return [token.kind for token in self.tokens[self.place:self.place + 2]] == [first, second]
 
     def take(self, *kinds):
@@ -39,7 +39,7 @@ class Tokens:
         return self.tokens[self.place - 1]
 
     def skip(self, *kinds):
-        """Reads the next token where it is of one of these kinds, and tells whether it was."""
+        """Reads the next token where it is of one of these kinds, and returns whether it was."""
         if not self.next_is(*kinds):
             return False
         self.place += 1
@@ -77,7 +77,7 @@ def statement(reader):
     """statement = "run" top ";" | "var" name "=" top ";" | name "=" top ";" | "as" name ";"
     | "insert" name "(" cell {"," cell} ")" ";" | "delete" name name "=>" expression ";"
 
-    The tree's parts are the names in front, and what stands behind them. An assignment's kind is "=".
+    The tree's parts are the names in front, and what follows them. An assignment's kind is "=".
     """
     first = reader.take("run", "var", "name", "as", "insert", "delete")
     kind = "=" if first.kind == "name" else first.kind
@@ -181,7 +181,7 @@ def product(reader):
 def unary(reader):
     """unary = primary | "-" least | ("!" | "-") unary
 
-    ECMA-334, unary minus: behind a minus sign the size of the least int is one literal with it.
+    ECMA-334, unary minus: after a minus sign the size of the least int is one literal with it.
     """
     if reader.next_are("-", "least"):
         reader.take("-")
@@ -206,7 +206,7 @@ def primary(reader):
 
 def operand(reader):
     """operand = integer | text | "true" | "false" | "null" | name | "(" top ")" | predicate | record
-    where predicate and record stand for the two lines of the grammar that start with "Host" and "new"
+    where predicate and record mean the two lines of the grammar that start with "Host" and "new"
 
     Parentheses leave no trace in the tree.
     """
@@ -247,7 +247,7 @@ def record(reader):
 def member(reader):
     """member = name "=" expression | name | primary "." name
 
-    A member without a name of its own is told by its tokens: parentheses leave no trace, but `(a)` is no member.
+    A member without a name of its own is recognized by its tokens: parentheses leave no trace, but `(a)` isn't a member.
     """
     if reader.next_are("name", "="):
         name = reader.take("name").value

@@ -7,7 +7,7 @@ RESERVED = frozenset(
     "from where select group into orderby join let in on equals by ascending descending var run as insert delete "
     "update set new true false null Host".split()
 )
-# The longer ones stand first, since the longest token is taken.
+# The longer ones come first, since the longest token is taken.
 SIGNS = "=> ?? <= >= == != && || ( ) { } . , ; = ? : ! - + * / % < >".split()
 LARGEST_INT = 2147483647
 
@@ -23,7 +23,7 @@ SIGN = re.compile("|".join(map(re.escape, SIGNS)))
 
 
 class SyntaxFault(Exception):
-    """The line is no statement."""
+    """The line isn't a statement."""
 
 
 @dataclass(frozen=True)
@@ -60,7 +60,7 @@ def integer_of(digits):
 
 
 def text_of(spelled):
-    """The characters that a text's spelling between its quotes stands for: those of its escapes, and all others themselves."""
+    """The characters that a text's spelling between its quotes means: those of its escapes, and all others themselves."""
     return ESCAPE.sub(lambda found: chr(int(found[1], 16)) if found[1] else ESCAPED.get(found[2], found[2]), spelled)
 
 

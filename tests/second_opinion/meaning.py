@@ -1,6 +1,6 @@
-"""What an expression means: values, streams of items, and what is served of them. None stands for null.
+"""What an expression means: values, streams of items, and what is served of them. None represents null.
 
-A row and a record are dicts of their members in order. A sequence is a Stream, which begins anew each time that it is gone
+A row and a record are dicts of their members in order. A sequence is a Stream, which begins again each time that it is gone
 over, and raises the Fault that it ends in. So what isn't asked for is never evaluated.
 """
 
@@ -92,7 +92,7 @@ def each(part, names):
 
 
 def call(node, names):
-    """.NET, Enumerable: a method of a sequence, of its items' type where this tells its result."""
+    """.NET, Enumerable: a method of a sequence, of its items' type where this determines its result."""
     method, owner, *arguments = node.parts
     name, letter = method.split()
     source = source_of(owner, names)
@@ -152,7 +152,7 @@ def skip(source, number):
 
 
 def take(source, number):
-    """Nothing is read for a number below one, nor behind the last item that is taken."""
+    """Nothing is read for a number below one, nor after the last item that is taken."""
     left = number()
     if left < 1:
         return
@@ -200,7 +200,7 @@ def last(source, _):
 
 
 def at_most_one(source):
-    """The items, of which there is one at most: the second is a fault, and nothing behind it is read."""
+    """The items, of which there is one at most: the second is a fault, and nothing after it is read."""
     items = []
     for item in source:
         if items:
@@ -291,7 +291,7 @@ def query(node, names):
 
 
 def continued(items, name, body, names):
-    """`into`: the clauses behind it see the items by this name, and no range variable before."""
+    """`into`: the clauses after it see the items by this name, and no range variable before."""
     steps, end, rest = body.parts
     bindings = ({**names, name: item} for item in items)
     for kind, *parts in steps:

@@ -1,7 +1,7 @@
-"""Opening: how much a line is together with the named queries that it names, and how far these stand on others.
+"""Opening: how much a line is together with the named queries that it names, and how far these depend on others.
 
-Both are counted from the line's tokens, before anything has a type. A name that spells a named query opens it wherever it stands,
-also where it means something else (a range variable, a member, a role), but not directly behind a `.`.
+Both are counted from the line's tokens, before anything has a type. A name that spells a named query opens it wherever it is,
+also where it means something else (a range variable, a member, a role), but not directly after a `.`.
 """
 
 from dataclasses import dataclass
@@ -14,7 +14,7 @@ MOST_RANK = 8
 
 @dataclass(frozen=True)
 class Opened:
-    """A line's own tokens and the sizes of all queries that it opens, each as often as it is named; and how many queries stand
+    """A line's own tokens and the sizes of all queries that it opens, each as often as it is named; and how many queries depend
     on one another at most."""
 
     size: int
@@ -22,7 +22,7 @@ class Opened:
 
 
 def opening_names(tokens):
-    """The names that stand where a named query is opened."""
+    """The names that are where a named query is opened."""
     for place, token in enumerate(tokens):
         if token.kind == "name" and (place == 0 or tokens[place - 1].kind != "."):
             yield token.value

@@ -1,8 +1,8 @@
 """Policy files: TOML that names roles, tables with row security, policies, grants and withholds; and the rows that policies show.
 
-The library `tomllib` reads TOML 1.0, and the program reads TOML 1.1. Files on which the two differ are no cases here: line ends
-and a comma behind the last key in an inline table, the escapes `\\e` and `\\x`, and times without seconds, which 1.1 has. Of what
-1.1 leaves to its readers, the width of integers and the depth of arrays are looked at here as the program's page tells them; a
+The library `tomllib` reads TOML 1.0, and the program reads TOML 1.1. Files on which the two differ aren't cases here: line ends
+and a comma after the last key in an inline table, the escapes `\\e` and `\\x`, and times without seconds, which 1.1 has. Of what
+1.1 leaves to its readers, the width of integers and the depth of arrays are looked at here as the program's page states them; a
 number with a fraction beyond the floats of 64 bits, the depth of inline tables and the number of parts of a key are not.
 """
 
@@ -24,7 +24,7 @@ NO_POLICY_NAMES = (NO_GRANT, DEFAULT_DENY)
 
 REQUIRED = object()
 TEXT, FLAG, TEXTS = "a text", "a truth value", "an array of texts"
-# Of each array the keys of its entries, with the kind of each value, and what stands for it where it is absent.
+# Of each array the keys of its entries, with the kind of each value, and what is taken where it is absent.
 ARRAYS = {
     "role": {"name": (TEXT, REQUIRED), "member_of": (TEXTS, []), "bypass": (FLAG, False)},
     "table": {"name": (TEXT, REQUIRED), "row_security": (FLAG, REQUIRED)},
@@ -39,7 +39,7 @@ NAMED_APART = [("role",), ("table",), ("policy", "grant", "withhold")]
 
 
 class PolicyFault(Exception):
-    """The policy file is refused, for the reason that stands on standard error."""
+    """The policy file is refused, for the reason that is on standard error."""
 
 
 @dataclass
@@ -78,7 +78,7 @@ class Policies:
 
 
 def depth_of(value):
-    """How deep arrays stand in one another, also in a table's. (Those of sections count here and not in the program: no case
+    """How deep arrays are nested, also in a table's. (Those of sections count here and not in the program: no case
     comes near the limit there.)"""
     parts = value.values() if isinstance(value, dict) else value if isinstance(value, list) else ()
     return isinstance(value, list) + max(map(depth_of, parts), default=0)
@@ -265,7 +265,7 @@ def forbidding(policies, name, action, rule_for, table, row, user):
 
 
 def is_visible(policies, name, table, row, user, action="select"):
-    """Whether the role sees a row; or for the action `delete`, as far as the policies for this tell it, may remove it."""
+    """Whether the role sees a row; or for the action `delete`, as far as the policies for this decide it, may remove it."""
     return forbidding(policies, name, action, lambda policy: policy.using, table, row, user) is None
 
 

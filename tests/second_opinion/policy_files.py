@@ -148,7 +148,7 @@ def total(dice, its_type, scope, fuel):
 
 
 def rule(dice, table):
-    """The text of a rule that is right. Line ends may stand between its tokens."""
+    """The text of a rule that is right. Line ends may be between its tokens."""
     kind = dice.random()
     texts = [column for column, its_type in table.columns.items() if its_type == "string"]
     if kind < 0.03:
@@ -207,7 +207,7 @@ def right(dice, tables):
 
 
 def all_rights(dice, tables):
-    """The rights to all columns of the tables, in any order; some may stand twice."""
+    """The rights to all columns of the tables, in any order; some may be there twice."""
     found = []
     for name, table in tables.items():
         each = [f"{name}.{column}" for column in table.columns]
@@ -357,7 +357,7 @@ def any_right_rule(dice, file):
 
 
 def with_right(texts):
-    """A text that is no right, or one to what isn't there, among those of a grant or a withhold."""
+    """A text that isn't a right, or one to what isn't there, among those of a grant or a withhold."""
 
     def change(dice, file, tables):
         rights = any_right_rule(dice, file)["rights"]
@@ -406,7 +406,7 @@ def no_table(dice, file, tables):
 
 
 def no_role(dice, file, tables):
-    """A role that isn't there, or as one to be a member of, one that doesn't stand earlier."""
+    """A role that isn't there, or as one to be a member of, one that doesn't come earlier."""
     if dice.random() < 0.4:
         entry = any_right_rule(dice, file) if dice.random() < 0.5 else any_policy(dice, file, tables)
         to = entry.setdefault("to", [])
@@ -418,7 +418,7 @@ def no_role(dice, file, tables):
 
 
 def twice(dice, file, tables):
-    """A second entry of one name. One of a role stands last, and is a member of others."""
+    """A second entry of one name. One of a role comes last, and is a member of others."""
     array = dice.choice([array for array in file if file[array]])
     entry = dict(dice.choice(file[array]))
     if array in NAMED_ALIKE:
@@ -458,7 +458,7 @@ def spelled_text(dice, text):
     escaped = re.sub(rf"(?![\t{plain}])[\x00-\x1f\x7f]{more}", lambda found: spelled_escape(ord(found[0])), escaped)
     if not is_long:
         return f'"{escaped}"'
-    # A line end behind the quotes is none of the text. A backslash at a line's end takes all blanks behind it.
+    # A line end after the quotes isn't part of the text. A backslash at a line's end takes all blanks after it.
     fronts = ["\n"] if escaped[:1] in ("", " ", "\t", "\n") else ["\n", "\n", "", "\\\n  "]
     return f'"""{dice.choice(fronts)}{escaped}"""'
 
@@ -545,7 +545,7 @@ b"\xff", b"{", b"}",
 
 
 def no_toml(dice, data):
-    """What is no TOML in front of the file or behind it; a fault in a section is one wherever it stands."""
+    """What isn't TOML in front of the file or after it; a fault in a section is one wherever it is."""
     piece = dice.choice(NO_TOML)
     first = piece == b"\xef\xbb\xbf" and not data.startswith(piece)
     return data + b"\n" + piece + b"\n" if not first else piece * 2 + data
@@ -597,7 +597,7 @@ def faulty_file(dice, tables):
 
 
 def with_second_fault(dice, file, tables):
-    """One more fault that stands behind the others: another entry."""
+    """One more fault that comes after the others: another entry."""
     array, more = "policy", {"name": "second", "table": dice.choice(list(tables)), "using": "true"}
     kind = dice.randrange(8)
     if kind == 0:

@@ -31,13 +31,13 @@ SOME_TEXT = None
 
 @dataclass(frozen=True)
 class Answer:
-    """The program's status, and what it wrote to standard output and to standard error. SOME_TEXT stands for any text, but
+    """The program's status, and what it wrote to standard output and to standard error. SOME_TEXT means any text, but
     not for none: that of the library that reads the command line."""
 
     status: int
     output: bytes
     errors: bytes
-    # What the role has to do with the rows: words for whoever counts cases.
+    # What the role has to do with the rows: words for those who count cases.
     views: frozenset = frozenset()
 
     def is_met_by(self, other):
@@ -58,7 +58,7 @@ def tables_of(words):
 
 def started(options):
     """The session in its first state, and words for what the role sees. The tables are read before the policies, and these before
-    the role is sought."""
+    the role is looked up."""
     tables = tables_of(options.tables)
     word, user = options.values["--policy"], options.values["--role"]
     try:

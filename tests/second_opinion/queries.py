@@ -218,7 +218,7 @@ def record(dice, scope, fuel, part_of):
 
 
 def any_value(dice, scope, fuel):
-    """An expression of any type that a name may stand for; now and then one that faults on some items."""
+    """An expression of any type that a name may mean; now and then one that faults on some items."""
     kind = dice.random()
     if kind < 0.2:
         found = telling(dice, "int", scope)
@@ -268,7 +268,7 @@ def base(dice, scope, fuel):
 
 
 def sequence(dice, scope, fuel):
-    """A sequence or a group with some methods behind it; a scalar where there is none."""
+    """A sequence or a group with some methods after it; a scalar where there is none."""
     part = base(dice, scope, fuel)
     if part is None:
         return any_scalar(dice, scope, 0)
@@ -466,7 +466,7 @@ def members_words(dice, names, kinds, scope):
 
 
 def body(dice, outside, inside, fuel):
-    """Clauses, and what a query ends with; perhaps with more behind `into`. With it the type of the items."""
+    """Clauses, and what a query ends with; perhaps with more after `into`. With it the type of the items."""
     words = []
     clauses = [from_clause, let_clause, where_clause, where_clause, orderby_clause, join_clause, join_clause]
     for _ in range(dice.choice([0, 0, 1, 1, 2]) if fuel <= 1 else dice.choice([0, 1, 1, 2, 2, 3])):

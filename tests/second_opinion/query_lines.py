@@ -9,7 +9,7 @@ from queries import Scope, top
 from scopes import METHODS
 from statements import spell
 
-# Names and literals that may stand in another one's place, and methods in another's.
+# Names and literals that may be put in another one's place, and methods in another's.
 STRAY_NAMES = ["none", "x", "y", "g", "id", "n", "s", "Key", "t", "Count", "Value", "Length"]
 STRAY_VALUES = [
     "null", "1", '"a"', "true", "new { }", "none", "t", "( t )", "- 2147483648", "new { a = 1 }", "Host . p ( x . id )",
@@ -40,7 +40,7 @@ def other_part(dice, words):
 
 
 def letters_of(words, place):
-    """The letters of arguments, of which the one behind a method's name is."""
+    """The letters of arguments, of which the one after a method's name is."""
     behind = words[place + 2:place + 4]
     return "-" if behind[:1] == [")"] else "pf" if behind[1:] == ["=>"] else "nsv"
 

@@ -82,7 +82,7 @@ NOT_USING_SALARY = {
     "employees.Select(e => " + "(" * 65 + "e.salary" + ")" * 65 + ")": '{"error":"too-deep"}',
     "none.Select(e => e.salary)": '{"error":"type"}',
 }
-# The first of several uses, as they stand in the text; and behind them those of the result.
+# The first of several uses, as they are in the text; and after them those of the result.
 FIRST_USES = {
     "from e in employees where e.salary > e.year select e.id": SALARY,
     "from e in employees where e.year > e.salary select e.id": YEAR,
@@ -156,7 +156,7 @@ TITLES = {
     over(granting("depts.*"), withholding('q\\"\\\\é', "depts.title")): denied('q\\"\\\\é', "depts.title"),
     over(granting("depts.id"), withholding("x" * 64, "depts.title")): denied("x" * 64, "depts.title"),
 }
-# Rights go by membership, along any chain: lee is in eve and in kim, who is in dan; aid is in root, who bypasses row security.
+# Rights follow membership, along any chain: lee is in eve and in kim, who is in dan; aid is in root, who bypasses row security.
 CHAIN = MORE_PLAIN_ROLES + SECURED + right_rule("grant", "of-dan", '["employees.*"]', to='["dan"]') + right_rule(
     "grant", "of-root", '["employees.*"]', to='["root"]') + withholding("of-kim", "employees.name", to='["kim"]') + policy("p", "true")
 NAMES_BY_ROLE = {

@@ -1,7 +1,7 @@
-"""Lines by chance in which several columns are used in one clause, so that it tells which of them stands first.
+"""Lines by chance in which several columns are used in one clause, so that it shows which of them comes first.
 
 `dice` is a random.Random. In a form T and U are tables, x is a row of T, and y and z are rows of U; `x?` is a column of x, `x=` a
-condition on some, AND a sign, M the next of some members' names in any order, and a word with bars stands for one of its parts.
+condition on some, AND a sign, M the next of some members' names in any order, and a word with bars means one of its parts.
 """
 
 from statements import spell
@@ -44,7 +44,7 @@ def condition(dice, row, table):
 
 
 def word_of(dice, word, names, tables, members):
-    """What stands for a form's word."""
+    """What is put for a form's word."""
     table = tables[names["T" if word[0] == "x" else "U"]]
     if word in ("T", "U"):
         return names[word]

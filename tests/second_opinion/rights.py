@@ -29,7 +29,7 @@ class RightRule:
 
 
 def parted(text):
-    """A right's text in two: the table's name or `Host`, and what stands behind the one dot or blank."""
+    """A right's text in two: the table's name or `Host`, and what follows the one dot or blank."""
     name, dot, column = text.partition(".")
     if dot and (is_name(name) and (column == "*" or is_name(column)) or name == "Host" and is_name(column)):
         return name, column
@@ -40,7 +40,7 @@ def parted(text):
 
 
 def is_known(right, tables):
-    """Whether there is the table, and the column. Predicates, which stand behind `Host`, there are none."""
+    """Whether there is the table, and the column. Predicates, which follow `Host`, there are none."""
     name, to = right
     return name in tables and (to in ("*", *STATEMENTS) or to in tables[name].columns)
 
@@ -80,7 +80,7 @@ def covers(rules, right):
 
 
 def denials(policies, tables, user):
-    """What tells of a use by which rule the role is denied it."""
+    """What decides of a use by which rule the role is denied it."""
     role = policies.roles[user]
     grants, withholds = ([rule for rule in rules if rule.applies(role)] for rules in (policies.grants, policies.withholds))
     return lambda use: denying_rule(use, grants, withholds, tables)

@@ -14,7 +14,7 @@ SEARCHES = ("StartsWith", "EndsWith", "Contains")
 
 
 class NoRule(Exception):
-    """A text is no rule."""
+    """A text isn't a rule."""
 
 
 class UnknownName(Exception):
@@ -34,7 +34,7 @@ def rule_of(text):
 
 
 def check_names_in_body(clauses, end, rest, columns, outside, hidden):
-    """The names in a query's body. `outside` tells whether `row` has another meaning around the query, and `hidden` whether it has
+    """The names in a query's body. `outside` says whether `row` has another meaning around the query, and `hidden` whether it has
     one where the body begins."""
     for clause in clauses:
         if clause.kind == "where":
@@ -119,7 +119,7 @@ def is_total(tree):
     if tree.kind == "call":
         return is_total_call(tree)
     if tree.kind == "unary -":
-        # The least int is one literal with its sign: a further sign before it stands before no integer.
+        # The least int is one literal with its sign: a further sign before it isn't before an integer.
         return tree.parts[0].kind == "integer" and tree.parts[0].parts[0] >= 0
     if tree.kind in ("/", "%"):
         dividend, divisor = tree.parts

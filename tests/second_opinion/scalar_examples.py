@@ -24,7 +24,7 @@ VALUES = {
     '"a" + "b" == "ab"': True, '"" == null': False, 'null != "a"': True, 'null + "" == null': False, '"" + null == ""': True,
     "null == null": True, "null != null": False, "1 == null": False, "null != -1": True, "0 == null": False,
     "null == null == true": True, '"a" == null || null == "b"': False,
-    # What may be null, and what stands for it.
+    # What may be null, and what is put for it.
     '"a" ?? "b"': "a", '"a" ?? null': "a", '"a" ?? "b" ?? null': "a", '("a" ?? "b") ?? "c"': "a", '"" ?? "b"': "",
     '("a" ?? "b") == "a"': True, '"a" ?? "b" + "c"': "a", '("a" ?? "b") + "c"': "ac", 'false ? "a" : "b" ?? "c"': "b",
     '"a" ?? (1 / 0 == 0 ? "b" : "c")': "a",

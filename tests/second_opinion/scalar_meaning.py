@@ -1,4 +1,4 @@
-"""What operators and members give of scalars, and the value of a rule of a policy. None stands for null.
+"""What operators and members give of scalars, and the value of a rule of a policy. None represents null.
 
 The meaning of the language, in meaning.py, takes the operators on scalars from here.
 """
@@ -24,7 +24,7 @@ class Fault(Exception):
 
 @dataclass(frozen=True)
 class Names:
-    """What names stand for where a rule is evaluated: the type of each, and its value."""
+    """What names mean where a rule is evaluated: the type of each, and its value."""
 
     scope: dict
     values: dict
@@ -90,7 +90,7 @@ def search(text, name, part):
 
 
 def is_sum_of_null_texts(tree, operands, names):
-    """Of two nulls their types alone tell whether they are texts."""
+    """Of two nulls their types alone decide whether they are texts."""
     return operands == [None, None] and type_of(tree, names.scope) == "string"
 
 

@@ -84,7 +84,7 @@ def type_of_member(owner, name):
 
 
 def type_of_call(call, scope):
-    """.NET, the methods of String that search one text in another. Null, which has no type, is no argument."""
+    """.NET, the methods of String that search one text in another. Null, which has no type, isn't an argument."""
     method, arguments = call.parts
     owner, name = method.parts
     types = [type_of(part, scope) for part in (owner, *arguments)]

@@ -5,7 +5,7 @@
 
 from lexer import continues_name
 
-# Of each type the forms that have it. In a form a type's name stands for an expression of this type, in brackets where its
+# Of each type the forms that have it. In a form a type's name means an expression of this type, in brackets where its
 # operator binds too weakly, a word in capitals for any sign of its list, and `COLUMN` for the name of a column of a type.
 FORMS = {
     "int": ["- int", "int TIMES int", "int PLUS int", "bool ? int : int", "int? ?? int", "string . Length", "int? . Value",
@@ -32,7 +32,7 @@ CHOICES = {
     "TIMES": ["*", "/", "%"], "PLUS": ["+", "-"], "COMPARE": ["<", ">", "<=", ">="], "EQUAL": ["==", "!="],
     "SEARCH": ["StartsWith", "EndsWith", "Contains"],
 }
-# Of each operator its level, and the least levels of what stands before it and behind it.
+# Of each operator its level, and the least levels of what comes before it and after it.
 LEVELS = {
     "?": (0, 1, 0), "??": (1, 2, 1), "||": (2, 2, 3), "&&": (3, 3, 4), "EQUAL": (4, 4, 5), "COMPARE": (5, 5, 6),
     "PLUS": (6, 6, 7), "+": (6, 6, 7), "TIMES": (7, 7, 8), "DIVIDE": (7, 7, 8), "!": (8, 8, 8), "-": (8, 8, 8), ".": (9, 9, 0),
@@ -89,11 +89,11 @@ class Scope:
         """What else has a type, in other kinds of scopes."""
 
     def has(self, word):
-        """Whether something stands here for a form's word: not for all types, and not for all types' columns."""
+        """Whether something is put here for a form's word: not for all types, and not for all types' columns."""
         return word in self.leaves if word in self.types else word in self.choices or not word.startswith("COLUMN")
 
     def around(self, its_type):
-        """The places of a type in forms: the type and the form that it is in, and where it stands there."""
+        """The places of a type in forms: the type and the form that it is in, and where it is there."""
         if its_type not in self.places:
             self.places[its_type] = [
                 (outer, form, place) for outer, forms in self.forms.items() for form in forms
@@ -131,7 +131,7 @@ def stray(dice, scope):
 
 
 def in_brackets(dice, part, least, slips):
-    """What stands beside an operator, in brackets where they are needed, and by chance; now and then they are left out."""
+    """What is beside an operator, in brackets where they are needed, and by chance; now and then they are left out."""
     level, words = part
     brackets = dice.random() >= slips if level < least else dice.random() < 0.1
     return ["(", *words, ")"] if brackets else words

@@ -111,7 +111,7 @@ def is_nullable(its_type):
 
 
 def is_key(its_type):
-    """What is told apart by its contents: scalars, and records of such."""
+    """What is distinguished by its contents: scalars, and records of such."""
     if isinstance(its_type, Record):
         return all(is_key(member) for _, member in its_type.members)
     return its_type in SCALARS
@@ -139,7 +139,7 @@ def typed(tree, scope):
 
 
 def value(tree, scope):
-    """An expression that a name, a member or an item may stand for: of any type but null's."""
+    """An expression that a name, a member or an item may be: of any type but null's."""
     found = typed(tree, scope)
     needs(found.type != "null")
     return found
@@ -322,7 +322,7 @@ def typed_body(clauses, end, rest, outside, inside):
 
 
 def from_clause(clause, _, inside):
-    """ECMA-334, from clause: the range variable is in scope behind it, and not in its own source."""
+    """ECMA-334, from clause: the range variable is in scope after it, and not in its own source."""
     name, tree = clause.parts
     found = source(tree, inside)
     return ("from", name, found), inside.with_name(name, found.type.item)
@@ -340,7 +340,7 @@ def where_clause(clause, _, inside):
 
 def join_clause(clause, outside, inside):
     """ECMA-334, join clauses: the inner sequence sees no range variable of this query, the first key those before, the second
-    the inner items alone. With `into` the groups' name is in scope behind it, and the inner items' isn't."""
+    the inner items alone. With `into` the groups' name is in scope after it, and the inner items' isn't."""
     name, inner, outer_key, inner_key, *group = clause.parts
     found = source(inner, outside)
     behind = inside.with_name(name, found.type.item)

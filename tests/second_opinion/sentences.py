@@ -111,7 +111,7 @@ def operand(dice, fuel):
 
 
 def members(dice, fuel):
-    """None, or some with or without a comma behind the last."""
+    """None, or some with or without a comma after the last."""
     words = listed(dice, lambda: member(dice, fuel))
     return dice.choice([[], words, words, [*words, ","]])
 
@@ -256,7 +256,7 @@ def other_brackets(dice, words):
 
 
 def other_forms(dice, words):
-    """A form that is no expression, or hardly one, stands in a name's or an integer's place."""
+    """A form that isn't an expression, or hardly one, is in a name's or an integer's place."""
     places = [place for place, word in enumerate(words) if word in NAMES or word in INTEGERS]
     if not places:
         return words
@@ -274,7 +274,7 @@ def other_escapes(dice, words):
 
 
 def other_characters(dice, line):
-    """A character, mostly of another script, is put in or stands in another one's place."""
+    """A character, mostly of another script, is put in or takes another one's place."""
     place = dice.randrange(len(line) + 1)
     return line[:place] + dice.choice(CHARACTERS) + line[place + dice.choice([0, 1]):]
 
@@ -307,7 +307,7 @@ def weight_of(words):
 
 
 def weighted(dice, words, statement, weight):
-    """The expression behind so many signs that the statement has the weight, if it had less."""
+    """The expression after so many signs that the statement has the weight, if it had less."""
     lacking = max(weight - weight_of(statement(words)), 0)
     signs, cost = dice.choice([
         (["1", "+"], 1), (["true", "&&"], 1), (["x", "??"], 1), (["1", "-", "1", "*"], 2), (["-"], 1), (["!"], 1),
@@ -325,7 +325,7 @@ STATEMENTS = [
 
 
 def deep_served(dice, tables):
-    """What is selected stands in so many brackets as may be, or in one or two more."""
+    """What is selected is in so many brackets as may be, or in one or two more."""
     its_name, table = dice.choice(list(tables.items()))
     brackets = MOST_BRACKETS + dice.choice([-1, 0, 0, 1, 2])
     column = ["x", ".", dice.choice(number_columns(table))]
@@ -359,7 +359,7 @@ def deep_other(dice, tables):
 
 
 def tail(dice, words):
-    """Tokens behind a fault of the grammar, which count all the same."""
+    """Tokens after a fault of the grammar, which count all the same."""
     place = dice.choice([len(words), len(words), dice.randrange(len(words) + 1)])
     more = [dice.choice([*BRACKETS, "+", "1", "x", "run", ";"])] * dice.choice([1, 60, 64, 65, 100, 250, 253, 254, 255, 256])
     return [*words[:place], *more, *words[place:]]

@@ -89,7 +89,7 @@ def bracketed(words):
 
 
 def faulting(writer, name, variable, row):
-    """A condition that is true on an early row and faults on a late one, both told by a cell."""
+    """A condition that is true on an early row and faults on a late one, both decided by a cell."""
     dice = writer.dice
     column, nullable = column_of(dice, row, "int"), column_of(dice, row, "int?")
     if nullable and dice.random() < 0.2:

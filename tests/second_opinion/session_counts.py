@@ -1,6 +1,6 @@
 """What scripts of sessions meet: how often each statement gets each reply, and how often a script gets deep: named queries that
-stand on others, or that are run by another role, over other rows or with other values than they were defined by; local names that
-named queries read by another meaning; conditions that fault behind rows to remove, or read the table that they remove from.
+depend on others, or that are run by another role, over other rows or with other values than they were defined by; local names that
+named queries read by another meaning; conditions that fault after rows to remove, or read the table that they remove from.
 
 A script is stepped once more by this reading, and before each step its line is looked at in the state that it meets.
 """
@@ -163,7 +163,7 @@ def is_out_of_range(table, row):
 
 
 def met_by_delete(session, reply, name, variable, tree):
-    """Whether a condition faults behind rows to remove, reads the table that it removes from, or would remove rows that may not be."""
+    """Whether a condition faults after rows to remove, reads the table that it removes from, or would remove rows that may not be."""
     if "fault" in reply and doomed_before_fault(session, name, variable, tree):
         yield "half way"
     if not reply.get("deleted"):

@@ -4,7 +4,7 @@
 They hold for this reading as well as for the program: a reading that answers one of them otherwise compares nothing.
 
 In a file each block between empty lines is a session of its own, which dan begins under the policies of the desk: its lines are a
-statement and its reply in turn. A line that begins with `#` tells of them.
+statement and its reply in turn. A line that begins with `#` describes them.
 """
 
 from pathlib import Path
@@ -75,14 +75,14 @@ def for_action(title, action, rule, **more):
 EVERYTHING = PLAIN_ROLES + SECURED + OPEN
 # Of each policy file the session of dan that is known.
 UNDER_POLICIES = [
-    # Of two restrictive policies that forbid a row, the first one in the file is told, whatever their names and actions.
+    # Of two restrictive policies that forbid a row, the first one in the file is reported, whatever their names and actions.
     (EVERYTHING + policy("p", "true") + policy("b", "row.id < 10", kind=RESTRICTIVE) + for_action(
         "a", INSERT, "row.dept < 50", kind=RESTRICTIVE),
      [(new_row(20, dept=60), denied("b")), (new_row(5, dept=60), denied("a")), (new_row(20), denied("b")), (new_row(5), INSERTED)]),
     (EVERYTHING + for_action("a", INSERT, "row.dept < 50", kind=RESTRICTIVE) + policy(
         "b", "row.id < 10", kind=RESTRICTIVE) + policy("p", "true"),
      [(new_row(20, dept=60), denied("a")), (new_row(20), denied("b"))]),
-    # Without a permissive policy that is true of it, no restrictive one is told.
+    # Without a permissive policy that is true of it, no restrictive one is reported.
     (EVERYTHING + policy("a", "false", kind=RESTRICTIVE) + policy("p", "row.id == 5") + policy("q", "row.id == 6"),
      [(new_row(7), denied("default-deny")), (new_row(6), denied("a"))]),
     (EVERYTHING, [(new_row(7), denied("default-deny")), (IDS, values([])), (DELETE_ALL, deleted(0))]),
@@ -144,7 +144,7 @@ UNDER_POLICIES = [
       ("insert marks (10, true);", CELL), ("insert marks (9, true);", INSERTED), role("eve"),
       ("insert marks (10, false);", denied("w", "marks insert")), ("insert marks (9, 1);", '{"error":"type"}'),
       ("run marks.Select(m => m.k);", values([3, 9]))]),
-    # What a named query uses stands where its name does, and the columns of what is served behind all.
+    # What a named query uses comes where its name does, and the columns of what is served come last.
     (EVERYTHING + policy("p", "true") + withholding("no-salary", "employees.salary") + withholding(
         "no-title", "depts.title") + withholding("no-year", "employees.year"),
      [("var q = employees.Where(e => e.year > 1);", '{"defined":"q"}'), ("var p = employees.Take(1);", '{"defined":"p"}'),

@@ -1,4 +1,4 @@
-"""Tables behind policies, and roles with rights, for sessions by chance. `dice` is a random.Random.
+"""Tables under policies, and roles with rights, for sessions by chance. `dice` is a random.Random.
 
 A policy file is a dict of its arrays, as in policy_files.py. Most tables have row security, some policies to see rows by, and others
 that bear on new rows and on removing; most roles may use most columns and statements.
@@ -64,7 +64,7 @@ def policies_of_table(dice, name, table, names):
     found = [made("all", to=["public"]) if dice.random() < 0.8 else made("select")]
     found += [made(action) for action in ("all", "select", "insert", "delete") if dice.random() < 0.35]
     found += [made(action, **RESTRICTIVE) for action in ("all", "select", "insert", "insert", "delete") if dice.random() < 0.35]
-    # Two that forbid the same new rows: which one is told tells their order.
+    # Two that forbid the same new rows: the one that is reported shows their order.
     return found + [dict(one) for one in found if one.get("kind") and one["for"] in ("all", "insert") and dice.random() < 0.6]
 
 

@@ -1,6 +1,6 @@
 """Statements of sessions by chance that run, define, assign and change the role: right ones, for the state that a Writer has.
 
-`writer.dice` is its dice. Those that change rows stand in session_changes.py.
+`writer.dice` is its dice. Those that change rows are in session_changes.py.
 """
 
 import queries
@@ -32,7 +32,7 @@ def run(writer):
 
 
 def of_variable(writer, name):
-    """A variable in a form that its type decides; an int? tells by some of them that it is none of the ints."""
+    """A variable in a form that its type decides; an int? shows by some of them that it is none of the ints."""
     forms = {
         "int": ["{} + 1", "10 / {}", "{}"], "bool": ["! {}", "{} ? 1 : 2"], "string": ["{} . Length", "{} + null", '{} ?? "none"'],
         "int?": ["{} . HasValue", "{} . HasValue", "{} ?? 7", "{} . Value", "true ? 1 : {}"],
@@ -41,7 +41,7 @@ def of_variable(writer, name):
 
 
 def of_query(writer, fuel):
-    """A named query with some methods behind it, or an item of it."""
+    """A named query with some methods after it, or an item of it."""
     dice, scope = writer.dice, writer.scope()
     part = dice.choice(writer.queries())
     for _ in range(dice.choice([0, 1, 1, 2])):
@@ -212,7 +212,7 @@ def look_again(writer, line):
 
 
 def look(writer, line):
-    """What tells whether a refused line changed something: the name that it was to define, or one that it has."""
+    """What shows whether a refused line changed something: the name that it was to define, or one that it has."""
     dice = writer.dice
     names = [word for word in line if word in writer.given]
     if line[0] == "var" and dice.random() < 0.5:

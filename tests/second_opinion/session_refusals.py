@@ -114,7 +114,7 @@ def deepest(writer):
 
 
 def too_large(writer):
-    """A query, of those that stand on less than the most others the largest, so often that it passes the limit of size, or nearly;
+    """A query, of those that depend on less than the most others the largest, so often that it passes the limit of size, or nearly;
     None where a line has no room for that."""
     queries = writer.session.queries
     fitting = [name for name in queries if queries[name].opened.rank < MOST_RANK]

@@ -1,6 +1,6 @@
 """Scripts of sessions by chance: which statements follow one another, and which replies they are to get.
 
-A script has a theme, which tells how often a statement of each kind is tried, and what reply a line of the kind is chosen for.
+A script has a theme, which decides how often a statement of each kind is tried, and what reply a line of the kind is chosen for.
 """
 
 import session_changes
@@ -68,7 +68,7 @@ KINDS = {
 # What has to be there before a line of a kind.
 NEEDED = {"assign": Writer.variables, "opening": Writer.queries}
 REFUSED = {"no syntax": 2, "too deep": 2, "no type": 4, "no role": 2, "forbidden": 5}
-# Of each theme how often it is chosen, and of each kind of line how often it stands in such a script.
+# Of each theme how often it is chosen, and of each kind of line how often it is in such a script.
 THEMES = {
     "mixed": (5, {"run": 36, "scalar": 6, "query": 11, "assign": 9, "as": 9, "insert": 14, "delete": 10, **REFUSED}),
     "rows": (4, {"run": 26, "scalar": 4, "query": 6, "assign": 4, "as": 7, "insert": 30, "delete": 26, **REFUSED}),
@@ -97,8 +97,8 @@ def kind_of_line(writer, theme, place):
 
 
 def script(dice, tables, policies, user):
-    """The lines of a script that begins with this role. Often what a line changed, or would have changed, is looked at behind it; and
-    now and then lines of nothing stand between the others."""
+    """The lines of a script that begins with this role. Often what a line changed, or would have changed, is looked at after it; and
+    now and then lines of nothing come between the others."""
     writer = Writer(dice, tables, policies, user)
     theme = chosen(dice, {name: weight for name, (weight, _) in THEMES.items()})
     look = None
@@ -111,7 +111,7 @@ def script(dice, tables, policies, user):
 
 
 def look_behind(words, reply):
-    """What makes a line that tells what this one changed, or that it changed nothing; None behind a line that reads."""
+    """What makes a line that shows what this one changed, or that it changed nothing; None after a line that reads."""
     if words[0] in ("run", "as") or "defined" in reply:
         return None
     return session_lines.look if {"error", "denied", "fault"} & reply.keys() else session_lines.look_again

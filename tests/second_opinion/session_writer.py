@@ -33,7 +33,7 @@ def is_large(session, name):
 
 
 class Writer:
-    """A script's lines so far, and the session behind them."""
+    """A script's lines so far, and the session after them."""
 
     def __init__(self, dice, tables, policies, user):
         self.dice = dice

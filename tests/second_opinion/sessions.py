@@ -23,7 +23,7 @@ from uses import uses_of, uses_of_run
 
 
 class RoleFault(Exception):
-    """There is no role of a name."""
+    """There is no role of this name."""
 
 
 class CellFault(Exception):
@@ -50,12 +50,12 @@ class Query:
 
 
 def compact(reply):
-    """RFC 8259: JSON without white space; members by their names' bytes, which go by their characters' numbers."""
+    """RFC 8259: JSON without white space; members by their names' bytes, which are ordered as their characters' numbers."""
     return json.dumps(reply, separators=(",", ":"), ensure_ascii=False, sort_keys=True) + "\n"
 
 
 def cell_of(literal):
-    """What a literal in a new row stands for."""
+    """What a literal in a new row means."""
     return VALUES[literal.kind] if literal.kind in VALUES else literal.parts[0]
 
 
@@ -117,7 +117,7 @@ class Session:
         return Scope({}, self.seen, self.variables, {name: query.tree for name, query in self.queries.items()})
 
     def check_uses(self, uses):
-        """The first use that the role has no right to is the one that is told."""
+        """The first use that the role has no right to is the one that is reported."""
         denied = denials(self.policies, self.tables, self.user)
         for use in uses:
             rule = denied(use)
@@ -130,7 +130,7 @@ class Session:
         return served(node)
 
     def define(self, name, tree, opened):
-        """A sequence is kept as its query, whose uses are those of whoever runs it; a scalar is evaluated now."""
+        """A sequence is kept as its query, whose uses are those of the role that runs it; a scalar is evaluated now."""
         needs(name not in self.variables and name not in self.queries and name not in self.tables)
         node = typed(tree, self.scope())
         if isinstance(node.type, Sequence):

@@ -85,7 +85,7 @@ OTHER_QUERIES = """
 
 
 def number_near(dice, table, column):
-    """A number that a comparison with the column's cells tells something about; one in ten is any number of the pool."""
+    """A number that a comparison with the column's cells says something about; one in ten is any number of the pool."""
     if dice.random() < 0.1:
         return dice.choice(NUMBERS)
     cells = [row[column] for row in table.rows if row[column] is not None and row[column] >= 0] or [0]
@@ -99,7 +99,7 @@ def number_columns(table):
 
 
 def comparison(dice, variable, table):
-    """A comparison of a column with a number that tells something about it, or now and then with another column."""
+    """A comparison of a column with a number that says something about it, or now and then with another column."""
     columns = [column for column, its_type in table.columns.items() if its_type in ("int", "int?")]
     column = dice.choice(columns)
     other = [variable, ".", dice.choice(columns)] if dice.random() < 0.1 else [number_near(dice, table, column)]
@@ -120,7 +120,7 @@ def statement(dice, tables):
 
 
 def joins(line, word):
-    """Whether the word, put directly behind the line, would be part of the line's last word."""
+    """Whether the word, put directly after the line, would be part of the line's last word."""
     return all(end and continues_name(end) for end in (line[-1:], word[:1]))
 
 
@@ -176,7 +176,7 @@ def other_characters(dice, tables):
 
 
 def other_names(dice, tables):
-    """One name, or two, that may stand for nothing: a table, a column or a range variable that isn't there, or another one."""
+    """One name, or two, that may mean nothing: a table, a column or a range variable that isn't there, or another one."""
     words = statement(dice, tables)
     names = [place for place, word in enumerate(words) if is_name(word)]
     pool = OTHER_NAMES + list(tables) + [column for table in tables.values() for column in table.columns]
@@ -195,7 +195,7 @@ def reserved_names(dice, tables):
 
 
 def other_numbers(dice, tables):
-    """A condition with a number at a limit, or with what is no number."""
+    """A condition with a number at a limit, or with what isn't a number."""
     name, table = dice.choice(list(tables.items()))
     column = dice.choice(number_columns(table))
     number = dice.choice(["", "", "0", "0" * 100]) + dice.choice(NUMBERS + NO_NUMBERS)
@@ -204,14 +204,14 @@ def other_numbers(dice, tables):
 
 
 def nothing(dice, tables):
-    """A line without tokens; now and then one that only looks so, alone or behind a statement."""
+    """A line without tokens; now and then one that only looks so, alone or after a statement."""
     if dice.random() < 0.6:
         return dice.choice(BLANKS)
     return dice.choice(["", served(dice, tables)]) + dice.choice(NO_BLANKS)
 
 
 def two(dice, tables):
-    """Two statements in one line, which is no statement."""
+    """Two statements in one line, which isn't a statement."""
     return served(dice, tables).split("//")[0] + served(dice, tables)
 
 

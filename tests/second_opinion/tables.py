@@ -19,11 +19,11 @@ CELL = re.compile(rb'(?:"((?:[^"]+|"")*)(?:"|\Z))?([^,\r\n]*)')
 
 
 class TableFault(Exception):
-    """The table is refused, for the reason that stands on standard error."""
+    """The table is refused, for the reason that is on standard error."""
 
 
 class NoCell(Exception):
-    """A text is no cell of a column."""
+    """A text isn't a cell of a column."""
 
 
 @dataclass(frozen=True)
@@ -38,7 +38,7 @@ class Column:
 @dataclass
 class Table:
     """`columns` is a dict of each column's name to its type; a row is a dict of each column's name to its cell, None for null. `ranges`
-    has the least and the largest that a column of integers takes, where its type tells them."""
+    has the least and the largest that a column of integers takes, where its type gives them."""
 
     columns: dict
     rows: list
@@ -56,8 +56,8 @@ def without_marks(data):
 def record_at(data, place):
     """The cells of the record that starts at the place, and where it ends. RFC 4180: cells are parted by commas.
 
-    A cell that starts with a double quote holds commas, line ends and doubled quotes up to the next quote that stands alone,
-    or to the end of the file; what stands behind that, up to the cell's end, is text as it is. Blanks belong to the cell.
+    A cell that starts with a double quote holds commas, line ends and doubled quotes up to the next quote that is alone,
+    or to the end of the file; what follows that, up to the cell's end, is text as it is. Blanks belong to the cell.
     """
     record = []
     while True:
@@ -131,7 +131,7 @@ def columns_of(header):
 
 
 def value_of_cell(cell, column):
-    """What a cell of the column holds. A cell that is no UTF-8 holds nothing, whatever the column's type."""
+    """What a cell of the column holds. A cell that isn't UTF-8 holds nothing, whatever the column's type."""
     try:
         text = cell.decode("utf-8")
     except UnicodeDecodeError:
@@ -180,7 +180,7 @@ def table_of(data):
 
 
 def name_of(word):
-    """The table's name: the file's name behind its last `/`, without `.csv` at its end."""
+    """The table's name: the file's name after its last `/`, without `.csv` at its end."""
     name = word.rsplit("/", 1)[-1].removesuffix(".csv")
     if not is_name(name):
         raise TableFault("name")

@@ -1,15 +1,15 @@
 """What a statement uses: the tables that it names and the columns of rows that it reads, in the order of its text; and for `run`,
-behind them, the columns of the rows in its result.
+after them, the columns of the rows in its result.
 
 A use is the pair of a table's name and a column's, or of a table's name and None for the table itself. Whether a part is ever
-evaluated makes no difference. A named query is opened in place: what it uses stands where its name does.
+evaluated makes no difference. A named query is opened in place: what it uses comes where its name does.
 """
 
 from scopes import Group, Lambda, Record, Row, Sequence, Typed
 
 
 def expressions_in(part):
-    """The expressions in a part of a typed tree, as they stand in the text. Names and values of literals hold none."""
+    """The expressions in a part of a typed tree, as they are in the text. Names and values of literals hold none."""
     if isinstance(part, Typed):
         return [part]
     if isinstance(part, Lambda):
@@ -18,7 +18,7 @@ def expressions_in(part):
 
 
 def uses_of(node):
-    """The uses of a typed expression: those of its parts, and then its own, whose name stands behind them."""
+    """The uses of a typed expression: those of its parts, and then its own, whose name comes after them."""
     found = [use for part in expressions_in(node.parts) for use in uses_of(part)]
     if node.kind == "table":
         found.append((node.type.item.table, None))

@@ -6,7 +6,7 @@ FUNCTION = re.compile(r"fn (\S+): (proved|not proved|no proof|could not tell)\b(
 OPEN_GOAL = re.compile(r"note: \S+:\d+:\d+: it is not proved that .*?\((`[^`]*`)\)")
 UNTRIED = re.compile(r"note: `search` has not tried the goals of `(\S+)`")
 ERROR = re.compile(r"(?:\./)?(\S+?):(\d+):(\d+): error(?:\[[^]]*\])?: (.*)")
-# A proof that names what an edit took away, or that rests on such a one, tells nothing of the contract.
+# A proof that names what an edit took away, or that depends on such a one, says nothing about the contract.
 ONLY_A_NAME = re.compile(r"is not in scope|has no field|has no `|is no name|which was (not admitted|rejected)|was not admitted")
 
 # An error there is of the text and not of a proof.
@@ -36,7 +36,7 @@ class Answer:
         self.refused_early = next((it for it in self.errors if it[0].startswith(SOURCES)), None)
 
     def read(self, line, goals):
-        """Reads a line; `goals` has the open goals that stand above the line of their function."""
+        """Reads a line; `goals` has the open goals that are above the line of their function."""
         if found := FUNCTION.match(line):
             self.judge(found, goals)
             goals.clear()
@@ -111,7 +111,7 @@ class Answer:
 
 
 def is_of(error, function):
-    """Whether the error stands in the function's own proof files, or in those of its cycle."""
+    """Whether the error is in the function's own proof files, or in those of its cycle."""
     own = f"proofs/{'/'.join(function.name.split('::')[1:])}/"
     return error[0].startswith(own) or bool(function.cycle) and f"/+{function.cycle}/" in f"/{error[0]}"
 

@@ -18,7 +18,7 @@ class Edit:
         self.label = f"{self.crate}/{self.name}"
         self.changes, self.spans, self.touched = {}, {}, set()
         self.own, self.named, self.problem = None, None, None
-        # An edit of something that many functions stand on is tried in a check of its own.
+        # An edit of something that many functions depend on is tried in a check of its own.
         self.is_alone = False
         try:
             with open(file, encoding="utf-8") as text:
@@ -28,7 +28,7 @@ class Edit:
             self.problem = str(why)
 
     def read(self, crate, lines):
-        """Applies the pairs in turn, each to what those before it made, and keeps the lines that differ in the end."""
+        """Applies the pairs in turn, each to what those before it produced, and keeps the lines that differ in the end."""
         path, old, texts = None, None, {}
         for line in lines:
             word, _, rest = line.partition(": ")

@@ -1,4 +1,4 @@
-"""Finds the functions of a Rattle source file: their names as a check prints them, and the lines that they stand on."""
+"""Finds the functions of a Rattle source file: their names as a check prints them, and the lines that they are on."""
 
 import re
 from collections import namedtuple
@@ -12,7 +12,7 @@ UNREAD = re.compile(
     r"""//[^\n]*|/\*.*?\*/|b?r(?P<marks>\#*)".*?"(?P=marks)|b?"(?:\\.|[^"\\])*"|b?'(?:\\[^\n]{1,9}?|[^\\'\n])'""",
     re.S,
 )
-# What stands before the braces of a clause, where a body would have the signature's end.
+# What comes before the braces of a clause, where a body would have the signature's end.
 CLAUSE = re.compile(r"\b(?:requires|ensures|ghost)\*?(?:\s+\w+)?\s*:?\s*\Z")
 HEADS = re.compile(r"^[ \t]*(?:pub(?:\([^)]*\))?\s+)?(?:unsafe\s+)?(impl|trait|mod)\b([^{;]*)\{", re.M)
 
@@ -33,7 +33,7 @@ def closing(text, at):
 
 
 def end_of_function(text, at):
-    """Where the function ends whose signature goes on at `at`: behind its body, or at the `;` in place of one."""
+    """Where the function ends whose signature goes on at `at`: after its body, or at the `;` in place of one."""
     since = at
     while True:
         found = re.compile(r"[(\[{;]").search(text, at)
@@ -61,7 +61,7 @@ def last_word(path):
 
 
 def pieces(text):
-    """The arguments of a list, split at the commas that stand in no bracket."""
+    """The arguments of a list, split at the commas that are in no bracket."""
     parts, depth = [""], 0
     for mark in text:
         depth += (mark in "<([{") - (mark in ">)]}")
@@ -117,7 +117,7 @@ def types_of(text):
 def functions_of(crate, path, text, homes):
     """The functions of the file `path` of a crate, in the file's order.
 
-    A check names the own functions of a type by the module that declares it, whatever file they stand in; `homes` has
+    A check names the own functions of a type by the module that declares it, whatever file they are in; `homes` has
     the file of each type.
     """
     text = blanked(text)

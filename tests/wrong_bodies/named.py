@@ -1,7 +1,7 @@
 """Finds what a proof can know of the crates below its own: the items that it names, and those that these name in turn.
 
 Of a function below, a proof knows what its contract says, and of a type, a definition or a lemma all that it says. So an answer
-depends on the items that are named, and on no body of a function that has a contract. A name is sought where the file that uses
+depends on the items that are named, and on no body of a function that has a contract. A name is looked up where the file that uses
 it says: among its own items and those that its `use` lines bring in.
 """
 
@@ -14,7 +14,7 @@ from functions import UNREAD, blanked
 
 # An item of a file: its names, the types of which it is a function if it is one, and what is known of it.
 Item = namedtuple("Item", "names owners text")
-# What a file holds: its items, what each name that it brings in stands for, and all paths in it, each as a list of words.
+# What a file holds: its items, what each name that it brings in means, and all paths in it, each as a list of words.
 Held = namedtuple("Held", "items scope paths")
 
 NAME = re.compile(r"\w+(?:['-]+\w+)*'*")
@@ -42,7 +42,7 @@ CONSTRUCTOR = re.compile(r"^\s+(\S+)(?:\s*\{[^}]*\})?\s*:", re.M)
 
 
 def pieces(text, starts):
-    """What stands before the first start, and the text from each start to the next; attributes belong to what they stand before."""
+    """What comes before the first start, and the text from each start to the next; attributes belong to what they precede."""
     at, heads = [found.start() for found in starts.finditer(text)], []
     for before, start in zip([None, *at], at):
         if before is None or not text[before:start].lstrip().startswith("#["):
@@ -67,7 +67,7 @@ def items_of_source(text):
 
 
 def items_of_block(text):
-    """The items of an `impl` or a trait: its head with all that is no function, and its functions."""
+    """The items of an `impl` or a trait: its head with all that isn't a function, and its functions."""
     head, members = pieces(text, MEMBER)
     owners = frozenset(TYPE.findall(re.split(r"\bwhere\b", head)[0]))
     is_shared, rest = re.search(r"\btrait\b|\bfor\b", head), [head]
@@ -116,7 +116,7 @@ def items_of_definitions(text):
             yield Item([head[3], *(CONSTRUCTOR.findall(it) if "data" in head[2] else [])], frozenset(), "\n".join([*heads, it]))
 
 
-# ---- what names stand for
+# ---- what names mean
 
 
 def uncommented(path, text):
@@ -182,7 +182,7 @@ class Named:
         return path.split("/")[1] if words and words[0] == "crate" else (words or [""])[0]
 
     def targets(self, path, way):
-        """The files and names that a path of words may stand for, used in this file."""
+        """The files and names that a path of words may mean, used in this file."""
         words, crate = [it for it in way if it not in ("Rattle", "pub")], self.crate_of(path, way)
         if crate not in self.sources:
             return
@@ -211,7 +211,7 @@ class Named:
                 left = self.functions()
 
     def brought(self, path, name):
-        """What a name stands for that a file only brings in, and so hands on."""
+        """What a name means that a file only brings in, and so hands on."""
         held = self.hold(path)
         if any(name in it.names for it in held.items):
             return []
@@ -230,12 +230,12 @@ class Named:
 
     @staticmethod
     def signs(held, text):
-        """The operators of a file, its own and those that it brings in, whose signs stand in the text."""
+        """The operators of a file, its own and those that it brings in, whose signs are in the text."""
         known = {it for other in held.items for it in other.names if "◌" in it} | {it for it in held.scope if "◌" in it}
         return [it for it in known if all(part in text for part in it.split("◌"))]
 
     def functions(self):
-        """The functions of types that are named, whose own names stand anywhere."""
+        """The functions of types that are named, whose own names are anywhere."""
         left = []
         for path, held in [*self.held.items()]:
             for number, item in enumerate(held.items):
@@ -244,13 +244,13 @@ class Named:
         return left
 
     def texts(self):
-        """The texts of what is named, without the places where they stand."""
+        """The texts of what is named, without the places where they are."""
         return sorted({uncommented(path, text) for (path, _), text in self.found.items()})
 
-    # ---- what the `use` lines and the other paths of an own file stand for
+    # ---- what the `use` lines and the other paths of an own file mean
 
     def meant(self, path, way):
-        """A checksum of all that a path may stand for, used in this file; None where it is nothing of these crates."""
+        """A checksum of all that a path may mean, used in this file; None where it is nothing of these crates."""
         found, left = set(), [*self.targets(path, way)]
         for file, name in left:
             left += [it for it in self.brought(file, name) if it not in left]
@@ -260,7 +260,7 @@ class Named:
         return hashlib.sha256("\0".join(sorted(found)).encode()).hexdigest() if found else None
 
     def imports(self, path):
-        """What each local name stands for, by its text in place of its path."""
+        """What each local name means, by its text in place of its path."""
         found = [(local, self.meant(path, way) or way) for local, ways in self.own[path].scope.items() for way in ways if self.is_ours(path, way)]
         return sorted(found, key=repr)
 

@@ -13,7 +13,7 @@ from named import Named, uncommented
 
 PARTS = ("src", "specs")
 HERE = os.path.dirname(os.path.realpath(__file__))
-# How a proof is sought, which is no part of what is said.
+# How a proof is searched for, which isn't part of what is said.
 SOUGHT = re.compile(r"#!?\[tactic\((?:[^()]|\([^()]*\))*\)\]")
 # What of this tool an answer depends on.
 JUDGES = ("answers.py", "edits.py", "functions.py", "rounds.py")
@@ -39,7 +39,7 @@ class Record:
 
     An answer depends on what the crate says, its code, contracts and definitions, and of the crates below it on what it names of
     them (`named`). It doesn't depend on proofs, since no lemma makes true of a wrong body what is false of it; nor on comments, nor on
-    the crate and file in which something named stands, so that definitions may move.
+    the crate and file in which something named is, so that definitions may move.
     """
 
     def __init__(self, root, name, below):
@@ -80,7 +80,7 @@ class Record:
         found.update(f"{len(name.encode())} {name} {len(text)} ".encode() + text)
 
     def refused(self):
-        """How many wrong bodies are on record as refused on just these bytes; None where a trial has to tell."""
+        """How many wrong bodies are on record as refused on just these bytes; None where a trial has to decide."""
         try:
             with open(self.file, encoding="utf-8") as lines:
                 first, *rest = lines.read().splitlines()

@@ -12,7 +12,7 @@ PARTS = ("src", "specs", "proofs")
 
 
 def linked(source, target):
-    """Links a file of kept work, which a check replaces and never writes into; where no link can be made it is copied."""
+    """Links a file of kept work, which a check replaces and never writes into; where it can't be linked it is copied."""
     try:
         os.link(source, target)
     except OSError:
@@ -124,13 +124,13 @@ class Rounds:
         return any(it.own.cycle == edit.own.cycle for it in self.together if it is not edit and it.own)
 
     def settle_one(self, edits):
-        """Where every edit waits for what its function calls, one is tried by itself, and its answer stands."""
+        """Where every edit waits for what its function calls, one is tried by itself, and its answer holds."""
         if len(edits) > 1:
             return self.try_together(edits[:1])
         self.decide(edits[0], False, f"only what it calls is not proved: {edits[0].own.name} has no failure of its own")
 
     def judge(self, edit, answer):
-        """Decides on an edit that the check tells of."""
+        """Decides on an edit that the check reports."""
         if edit.is_of_specs():
             return self.judge_specs(edit, answer)
         failure = answer.own_failure(edit.own)

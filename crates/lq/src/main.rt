@@ -30,7 +30,7 @@ fn serve_from<R: Read + Drop>(rt: &HostRuntime, script: R, session: &mut Session
     finish(rt.alloc(), &mut reader, &mut writer, &mut errors, session)
 }
 
-/// Loads the tables and the policies, and serves the script. The session isn't taken apart behind it: the program ends, and the system
+/// Loads the tables and the policies, and serves the script. The session isn't taken apart afterwards: the program ends, and the system
 /// takes its memory back at once.
 fn serve_options(rt: &HostRuntime, options: &Options) -> u8 {
     match load(rt.alloc(), options, &mut Disk::new(rt)) {

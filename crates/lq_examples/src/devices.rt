@@ -151,8 +151,8 @@ pub(crate) fn taking(alloc: Global, bad: u64, fault: Fault) -> Taker {
     }
 }
 
-// What is left of serving a script: the outcome, and what the devices tell. The functions that make it stand apart from the
-// tests: what costs most to prove of a test is that it lets go of a session.
+// What is left of serving a script: the outcome, and what the devices show. The functions that make it are apart from the
+// tests: what costs most to prove of a test is that it frees a session.
 #[derive(Drop)]
 struct Served {
     outcome: Result<Summary, ServeError>,
@@ -387,7 +387,7 @@ const ENDINGS: [(&[u8], u64, u64, u64, u8, &[u8]); 5] = [
     (SCRIPT, 1, 0, 0, 4, b"lq: script: read\n"),
     (b"", 0, 1, 0, 4, b"lq: script: write\n"),
     (b"one\n\xFF\n", 0, 0, 0, 4, b"lq: script: utf8\n"),
-    // A fault that nobody can be told of keeps its status.
+    // A fault that can be reported to nobody keeps its status.
     (b"one\n\xFF\n", 0, 0, 3, 4, b"lq: script"),
 ];
 

@@ -1,4 +1,4 @@
-//! Tests of the server by public calls, over devices and files that fail. They stand here and not in the crates that they test: a crate
+//! Tests of the server by public calls, over devices and files that fail. They are here and not in the crates that they test: a crate
 //! without tests is proved once.
 #![tactic(auto)]
 

@@ -42,7 +42,7 @@ placed_cell name i (c ∷ cs) cells = by (slice_cmp nat_cmp name c.0) (placed_ce
   by ordering.Equal h = refl
   by ordering.Greater h = ap (member c.0 (cell_data (slice_get cells c.1))) h
 
--- the cell at a place and those behind it are those from the place on
+-- the cell at a place and those after it are those from the place on
 cells_from : (name : List ℕ) (names : List (List ℕ)) (i : ℕ) (cells : List Scalar)
     → put name (cell_data (slice_get cells i)) (row_members names (drop (suc i) cells)) ≡ row_members (name ∷ names) (drop i cells)
 cells_from name names zero [] = refl

@@ -22,11 +22,11 @@ pub integer_text : (n : ℤ) → number_text (of_integer n) ≡ signed_decimal n
 integer_text (pos n) = refl
 integer_text (negsuc n) = refl
 
--- what is written of a group, token behind token
+-- what is written of a group, token after token
 pub group_joined : {A : Type 0} (old k xs : List A) (a b c d : A) → (((((old ++ a ∷ []) ++ b ∷ []) ++ k) ++ c ∷ []) ++ xs) ++ d ∷ [] ≡ old ++ (a ∷ (b ∷ (k ++ (c ∷ (xs ++ d ∷ [])))))
 group_joined old k xs a b c d = simp append_assoc
 
--- items one behind the other, and what ends them
+-- items one after the other, and what ends them
 flat_items : (ds : List Data) → items_tokens (items_outline (items_of ds)) ≡ flat ds ++ end_array ∷ []
 flat_items [] = refl
 flat_items (d ∷ ds) = ap (λ ts. tokens_of d ++ ts) (flat_items ds) ∙ sym (append_assoc (tokens_of d) (flat ds) (end_array ∷ []))
@@ -38,7 +38,7 @@ whole ds =
     ∙ ap (λ ts. front ++ ts) (sym (append_assoc (flat ds) (end_array ∷ []) (end_object ∷ [])))
     ∙ ap (λ ts. front ++ (ts ++ end_object ∷ [])) (sym (flat_items ds))
 
--- the text of what was written, where nothing stood before it
+-- the text of what was written, where nothing was before it
 pub text_of : (before text : List ℕ) (tokens : List Token) (d : Data) → text ≡ before ++ print tokens → before ≡ [] → tokens ≡ tokens_of d → text ≡ compact_text d
 text_of before text tokens d is alone written = is ∙ ap (λ b. b ++ print tokens) alone ∙ ap print written ∙ print-outline d
 

@@ -37,7 +37,7 @@ module _ {R : Type 0} (cells_of : R → List Scalar) where
   abbrev pub served_by : Form → Stream (Value R) → Stream Data
   served_by form s = made (λ v. unless_fault (nested_fault v) (data_by cells_of form v)) s
 
-  -- All items are written behind the others that are served, and they end as these do.
+  -- All items are written after the others that are served, and they end as these do.
   pub record ServesAll (form : Form) (items : List (Value R)) (end : End) (old new : ItemsLine) (ended : End) : Type 0 where
     pub tokens : tokens_in new ≡ tokens_in old ++ flat (served_by form (items, end)).0
     pub before : bytes_before new ≡ bytes_before old

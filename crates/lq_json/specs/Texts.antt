@@ -8,11 +8,11 @@ use Rattle.serde_json.specs.Written.{outline}
 abbrev pub tokens_of : Data → List Token
 tokens_of d = json_tokens (outline d)
 
--- the tokens of items one behind the other
+-- the tokens of items one after the other
 abbrev pub flat : List Data → List Token
 flat [] = []
 flat (d ∷ ds) = tokens_of d ++ flat ds
 
--- what stands before the items of a reply that ends well
+-- what comes before the items of a reply that ends well
 abbrev pub front : List Token
 front = begin_object ∷ (key (codes "items") ∷ (begin_array ∷ []))

@@ -16,7 +16,7 @@ use json::Writer;
 use lq_value::{End, Fault, RowRef, Value};
 use std::alloc::{AllocError, Global};
 
-/// The line of a reply of items, of which some are written. Items are put behind one another, with no
+/// The line of a reply of items, of which some are written. Items are put one after another, with no
 /// copy of those before. Once memory was refused it is of no more use.
 #[derive(Drop)]
 pub struct ItemsLine {
@@ -87,14 +87,14 @@ impl ItemsLine {
         Ok(ItemsLine { alloc, out })
     }
 
-    /// Writes a null behind the other items.
+    /// Writes a null after the other items.
     pub fn push_null(&mut self) -> Result<(), AllocError>
         ensures { OnOk result (Pushes self.old self.new null) }
     {
         self.out.null()
     }
 
-    /// Writes an int behind the other items.
+    /// Writes an int after the other items.
     #[tactic(auto, using(crate::proofs::Tokens::integer_text))]
     pub fn push_int(&mut self, int: i32) -> Result<(), AllocError>
         ensures { OnOk result (Pushes self.old self.new (number (of_integer int))) }
@@ -102,21 +102,21 @@ impl ItemsLine {
         self.out.i64(int as i64)
     }
 
-    /// Writes a truth value behind the other items.
+    /// Writes a truth value after the other items.
     pub fn push_bool(&mut self, truth: bool) -> Result<(), AllocError>
         ensures { OnOk result (Pushes self.old self.new (boolean truth)) }
     {
         self.out.boolean(truth)
     }
 
-    /// Writes a text behind the other items.
+    /// Writes a text after the other items.
     pub fn push_text(&mut self, text: &str) -> Result<(), AllocError>
         ensures { OnOk result (Pushes self.old self.new (string text.now)) }
     {
         self.out.string(text)
     }
 
-    /// Writes a value of this form behind the other items.
+    /// Writes a value of this form after the other items.
     pub(crate) fn push<R: RowRef>(
         &mut self,
         form: &Form,

@@ -23,7 +23,7 @@ impl Model for Line {
 const MEMORY_LINE: &[u8] = b"{\"error\":\"memory\"}\n";
 
 impl Line {
-    /// The line that stands in place of a reply where memory was refused. Takes no memory.
+    /// The line in place of a reply where memory was refused. Takes no memory.
     pub fn memory() -> Line
         ensures { result ≡ memory_line }
     {

@@ -21,7 +21,7 @@ use lq_store::Store;
 use lq_value::{End, Fault, RowRef, Ty, Value};
 use std::alloc::{AllocError, Global};
 
-/// What a statement is answered. A value stands in it with its type, and with the store whose
+/// What a statement is answered. A value is in it with its type, and with the store whose
 /// tables name the columns of rows.
 #[derive(Clone, Copy, Drop)]
 pub enum Reply<'a, R> {
@@ -33,7 +33,7 @@ pub enum Reply<'a, R> {
         items: &'a [Value<R>],
         end: End,
     },
-    /// A value of this type. A sequence inside of it that ends in a fault stands in its place.
+    /// A value of this type. A sequence inside of it that ends in a fault takes its place.
     Value {
         store: &'a Store,
         ty: &'a Ty,
@@ -53,7 +53,7 @@ pub enum Reply<'a, R> {
     Defined(&'a str),
     /// The variable that was assigned to.
     Assigned(&'a str),
-    /// The role that the session goes by from now on.
+    /// The role that the session has from now on.
     Role(&'a str),
     /// One row was put into a table.
     Inserted,
@@ -85,7 +85,7 @@ pub fn reply_line<R: RowRef>(alloc: Global, reply: &Reply<'_, R>) -> Result<Line
     }
 }
 
-/// Writes items of a form behind others, up to the first that holds a fault, and tells how they end.
+/// Writes items of a form after others, up to the first that holds a fault, and returns how they end.
 fn push_all<R: RowRef>(
     form: &Form,
     items: &[Value<R>],

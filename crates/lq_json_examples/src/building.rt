@@ -55,7 +55,7 @@ fn last<T: Drop>(alloc: Global, made: &mut Vec<T>, many: usize) -> Result<Vec<T>
     Ok(taken)
 }
 
-/// What is on top, else what stands in its place.
+/// What is on top, else what is put in its place.
 fn top<T: Drop>(made: &mut Vec<T>, other: T) -> T {
     match made.pop() {
         Some(value) => value,
@@ -96,7 +96,7 @@ fn built(
     }
 }
 
-/// The values that are made of these parts.
+/// The values that are built from these parts.
 pub(crate) fn values(alloc: Global, parts: &[Part]) -> Result<Vec<Value<NoRow>>, AllocError> {
     let mut made = Vec::new(alloc);
     for part in parts {
@@ -122,7 +122,7 @@ fn built_type(alloc: Global, made: &mut Vec<Ty>, part: Of) -> Result<Ty, AllocEr
     }
 }
 
-/// The type that is made of these parts.
+/// The type that is built from these parts.
 pub(crate) fn ty(alloc: Global, parts: &[Of]) -> Result<Ty, AllocError> {
     let mut made = Vec::new(alloc);
     for part in parts {

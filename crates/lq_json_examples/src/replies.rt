@@ -41,8 +41,8 @@ const VALUES: [(&[Of], &[Part], &str); 16] = [
     (&[Of::Rec(&[])], &[Part::Rec(&[])], "{\"value\":{}}\n"),
     // a null record
     (&[Of::Rec(&[])], &[Part::Null], "{\"value\":null}\n"),
-    // By bytes capital letters stand before `_`, that before small ones, and these before all that is not ASCII; a name
-    // stands before those that it begins.
+    // By bytes capital letters come before `_`, that before small ones, and these before all that is not ASCII; a name
+    // comes before those that it begins.
     (
         &[
             Of::Int,
@@ -218,7 +218,7 @@ const ITEMS: [(&[Of], &[Part], End, &str); 10] = [
         End::Done,
         "{\"items\":[{\"Key\":10,\"items\":[\"ann\",\"bob\"]}]}\n",
     ),
-    // the reply ends before the first item with a fault inside, whatever the ending behind it
+    // the reply ends before the first item with a fault inside, whatever the ending after it
     (
         &[Of::Int, Of::Seq],
         &[

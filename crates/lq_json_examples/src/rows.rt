@@ -33,7 +33,7 @@ fn column(alloc: Global, name: &str, ty: ColumnType) -> Result<Column, AllocErro
     })
 }
 
-// The schema of departments, with the title before the number, as it does not stand by the names' bytes.
+// The schema of departments, with the title before the number, as it is not by the names' bytes.
 fn departments(alloc: Global) -> Result<Schema, AllocError>
     ensures { IfOk result (λ schema. keeps_rules schema ≡ true) }
 {
@@ -60,7 +60,7 @@ fn store(rt: &impl Abort, alloc: Global) -> Result<Store, AllocError> {
     Ok(store)
 }
 
-/// Whether the reply of these rows, with a null row behind them, has this line.
+/// Whether the reply of these rows, with a null row after them, has this line.
 fn is_line_of_rows(
     alloc: Global,
     store: &Store,

@@ -6,7 +6,7 @@ ghost use Rattle.lq_grammar.specs.Script.{without_marks};
 // A byte order mark, in UTF-8.
 const MARK: [u8; 3] = [0xef, 0xbb, 0xbf];
 
-/// The bytes behind all byte order marks at their start.
+/// The bytes after all byte order marks at their start.
 pub fn without_marks(bytes: &[u8]) -> &[u8]
     ensures marks { result.now ≡ without_marks bytes.now }
     ensures no_longer { length result.now ≤ length bytes.now }

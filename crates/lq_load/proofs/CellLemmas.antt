@@ -108,7 +108,7 @@ taken table place fields cells fair size e room =
 
 -- ---- a record cell by cell
 
--- what stands at a place is the first of what stands from there on
+-- what is at a place is the first of what is from there on
 drop-column : (columns : List Column) (at : ℕ) (column : Column) → at < length columns → column ≡ get_or columns at column → drop at columns ≡ column ∷ drop (at + 1) columns
 drop-column columns at column there is = rw (add-one at) (drop-cons columns at column there ∙ ap (λ (c : Column). c ∷ drop (suc at) columns) (sym is))
 

@@ -50,7 +50,7 @@ step-between st.AfterQuote c = between_either (c == 34) (st.InQuoted, act.Copy) 
 step-between st.InComment c = between_either (c == 10) (st.StartRecord, act.Skip) (st.InComment, act.Skip) (λ e. cc) (λ e. cc)
 step-between st.AfterCr c = between_either (c == 10) (st.StartRecord, act.Skip) (start_record default_config c) (λ e. cc) (start_record-between c)
 
--- what is left behind a record that was read: no more than these bytes, no open record, and a field or more were read
+-- what is left after a record that was read: no more than these bytes, no open record, and a field or more were read
 abbrev IsBehind : ℕ → Read → Type 0
 IsBehind size read = (length read.2 ≤ size) × (ends_at_end read.1 ≡ false) × (0 < length read.0)
 
@@ -117,7 +117,7 @@ same_turns (suc n) (suc m) s bytes e f g = by (next_record default_config s [] [
     by None h more = refl
     by (Some read) h more = ap (λ (rest : List (List (List ℕ))). read.0 ∷ rest) (more read h)
 
--- a reader's records are the next one and those behind it
+-- a reader's records are the next one and those after it
 next_of_rest : (s : State) (bytes : List ℕ) (read : Read) → ends_at_end s ≡ false → next_record default_config s [] [] bytes ≡ Some read
     → (records_of_rest s (Some bytes) ≡ read.0 ∷ records_of_rest read.1 (Some read.2)) × IsShorter (length bytes) read
 unfolding records_from
@@ -170,7 +170,7 @@ reads_either : (old new : BytesReader) (fields : List (List ℕ)) (found : Bool)
 reads_either old new fields true h r first = let s = read_some old new fields h r first in (s.0, (λ e. s.1), (λ e. s.2))
 reads_either old new fields false h r first = (read_none old new fields h r, (λ e. cc), (λ e. cc))
 
--- the same of a result whose errors all stand for memory
+-- the same of a result whose errors all mean memory
 pub reads_outcome : (old new : BytesReader) (fields : List (List ℕ)) (read : Result Bool Error) (out : Result Bool AllocError) → IsReading old
     → IfOk read (λ found. old.trim ≡ trim.None → Ready old → ReadRecord (λ source. Some source.now) old new found fields)
     → OnOk read (new.first ≡ true) → out ≡ ok_or (result_ok read) alloc_error → IfOk out (Reads old new fields)

@@ -25,7 +25,7 @@ use Rattle.lq_load.proofs.FieldLemmas.{drop-field, drop-no_field}
 
 -- ---- one column
 
--- the bounds of a range stand in order
+-- the bounds of a range are in order
 abbrev pub InOrder : Option (ℤ × ℤ) → Type 0
 InOrder range = (bounds : ℤ × ℤ) → range ≡ Some bounds → int_le bounds.0 bounds.1 ≡ true
 
@@ -152,7 +152,7 @@ kept-fair schema e =
 
 -- ---- a header cell by cell
 
--- a cell that tells of no column ends the header
+-- a cell that describes no column ends the header
 pub no_column : (rest : List Column → Result (List Column) LoadError) (columns : List Column) (o : Option Column) (e : LoadError)
     → ok_or o Header ≡ Err e → after_column rest columns o ≡ Err e
 no_column rest columns None e h = let same : Header ≡ e = cc in rw same refl

@@ -10,7 +10,7 @@ use Rattle.lq_load.specs.Cells.{bounded, natural_of}
 above_limit : (limit value : ℕ) → limit < value → nat_le value limit ≡ false
 above_limit limit value h = grind (arith, nat_tests)
 
--- the number that digits spell behind those of a value, digit by digit
+-- the number that digits spell after those of a value, digit by digit
 abbrev pub decimal : ℕ → List ℕ → Option ℕ
 decimal value [] = Some value
 decimal value (c ∷ rest) = if is_digit c then decimal (value * 10 + (c - 48)) rest else None

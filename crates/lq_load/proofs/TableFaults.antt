@@ -69,7 +69,7 @@ fresh_more done c more e f (b ∷ before) column behind is h =
     let rest : more ≡ before ++ column ∷ behind = cc in
     f before column behind rest (subst (λ (cs : List Column). HasName cs column.name) (sym (append_assoc done (c ∷ []) before)) (rw (← same) at h))
 
--- cells that tell of columns are passed over
+-- cells that describe columns are passed over
 run : (cells rest : List (List ℕ)) (done columns : List Column) → map column_of cells ≡ map Some columns → Fresh done columns
     → columns_from (cells ++ rest) done ≡ columns_from rest (done ++ columns)
 run [] rest done [] e f = ap (columns_from rest) (sym (append-nil done))
@@ -191,7 +191,7 @@ header_fault header e h =
 
 -- ---- the cells of a record
 
--- the cells of fields, each beside its column, behind some cells
+-- the cells of fields, each beside its column, after some cells
 abbrev cells_by : ℕ → List (Column × List ℕ) → List Scalar → Result (List Scalar) LoadError
 cells_by number [] done = Ok done
 cells_by number (p ∷ ps) done = after_cell (cells_by number ps) number done (meaning_of p)

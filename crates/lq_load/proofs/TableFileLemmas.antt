@@ -39,7 +39,7 @@ other_length a b e = grind (arith, nat_tests)
 pub with_record-other : (table : Table) (fields : List (List ℕ)) → length table.schema.columns ≢ length fields → with_record table fields ≡ Err Csv
 with_record-other table fields h = rw (other_length (length table.schema.columns) (length fields) h) refl
 
--- the one error that stands for no refusal is memory
+-- the one error that means no refusal is memory
 pub only_memory : (e : StoreError) → None ≡ unless_memory e → e ≡ store.Memory
 only_memory store.Memory h = refl
 only_memory store.Arity h = cc

@@ -20,7 +20,7 @@ abbrev pub bounded : ℕ → Option ℕ → Option ℕ
 bounded limit None = None
 bounded limit (Some number) = if nat_le number limit then Some number else None
 
--- an integer: digits, behind a minus or not, within 32 bits with a sign
+-- an integer: digits, with or without a minus before them, within 32 bits with a sign
 abbrev pub int_of : List ℕ → Option ℤ
 int_of [] = None
 int_of (c ∷ rest) =
@@ -36,7 +36,7 @@ within range (Some number) = if is_in_range range (scalar.Int number) then Some 
 abbrev pub int_cell : Option (ℤ × ℤ) → List ℕ → Option Scalar
 int_cell range text = within range (int_of text)
 
--- the text that stands for null
+-- the text that means null
 abbrev pub is_null : List ℕ → Bool
 is_null text = bytes_eq text (codes "\\N")
 
@@ -70,6 +70,6 @@ cell_of_type ty.IntN range text = nullable_int_cell text
 cell_of_type ty.Bool range text = bool_cell text
 cell_of_type ty.Str range text = text_cell text
 
--- the cell of a column that a field of a record means; bytes that are no text mean none, whatever the column
+-- the cell of a column that a field of a record means; bytes that aren't text mean none, whatever the column
 abbrev pub cell_of : Column → List ℕ → Option Scalar
 cell_of column text = cell_of_type column.ty column.range text

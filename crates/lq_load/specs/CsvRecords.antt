@@ -23,7 +23,7 @@ records_of_rest state (Some bytes) = records_from default_config (length bytes +
 unfoldable pub records_left : BytesReader → List (List (List ℕ))
 records_left reader = records_of_rest reader.state (bytes_left reader)
 
--- a reader with the settings of table files that stands between two records
+-- a reader with the settings of table files that is between two records
 pub record IsReading (reader : BytesReader) : Type 0 where
   pub trim : reader.trim ≡ trim.None
   pub ready : Ready reader

@@ -24,7 +24,7 @@ range_at text dot =
 abbrev pub range_of : List ℕ → Option (ℤ × ℤ)
 range_of text = option_and_then (range_at text) (position (λ c. c == 46) text)
 
--- the range of a type `int[lo..hi]` of which this is what stands behind the bracket
+-- the range of a type `int[lo..hi]` of which this is what follows the bracket
 abbrev pub range_behind : List ℕ → Option (ℤ × ℤ)
 range_behind text = if ends_with nat_eq text (codes "]") then range_of (take (length text - 1) text) else None
 
@@ -45,7 +45,7 @@ kind_of text =
 abbrev pub column_named : List ℕ → Kind → Column
 column_named name kind = record { name = name; ty = kind.0; range = kind.1 }
 
--- the column that a header's cell with its first colon at this place tells of: a name before it, and a type behind it
+-- the column that a header's cell with its first colon at this place describes: a name before it, and a type after it
 abbrev pub column_at : List ℕ → ℕ → Option Column
 column_at cell colon =
     if is_name (take colon cell) then option_map (column_named (take colon cell)) (kind_of (drop (colon + 1) cell)) else None
@@ -57,12 +57,12 @@ column_of cell = option_and_then (column_at cell) (position (λ c. c == 58) cell
 abbrev pub has_name : List Column → List ℕ → Bool
 has_name columns name = list_any (λ column. bytes_eq column.name name) columns
 
--- the columns behind some, one of which may be there already, and those that the rest gives
+-- the columns after some, one of which may be there already, and those that the rest gives
 abbrev pub after_column : (List Column → Result (List Column) LoadError) → List Column → Option Column → Result (List Column) LoadError
 after_column rest columns None = Err Header
 after_column rest columns (Some column) = if has_name columns column.name then Err DuplicateName else rest (columns ++ column ∷ [])
 
--- the columns that a header's cells tell of, behind some columns
+-- the columns that a header's cells describe, after some columns
 abbrev pub columns_from : List (List ℕ) → List Column → Result (List Column) LoadError
 columns_from [] columns = Ok columns
 columns_from (cell ∷ rest) columns = after_column (columns_from rest) columns (column_of cell)

@@ -18,12 +18,12 @@ table_limit = 16777216
 abbrev pub column_limit : ℕ
 column_limit = 100
 
--- the cell of a record behind some cells, and those that the rest gives
+-- the cell of a record after some cells, and those that the rest gives
 abbrev pub after_cell : (List Scalar → Result (List Scalar) LoadError) → ℕ → List Scalar → Option Scalar → Result (List Scalar) LoadError
 after_cell rest place cells None = Err (Cell place (length cells + 1))
 after_cell rest place cells (Some cell) = rest (cells ++ cell ∷ [])
 
--- the row that the fields of the record at this place mean, each by its column, behind some cells
+-- the row that the fields of the record at this place mean, each by its column, after some cells
 abbrev pub cells_from : ℕ → List Column → List (List ℕ) → List Scalar → Result (List Scalar) LoadError
 cells_from place [] fields cells = Ok cells
 cells_from place (column ∷ columns) [] cells = Ok cells
@@ -49,7 +49,7 @@ with_records (fields ∷ rest) table = and_then (with_records rest) (with_record
 abbrev pub new_table : List ℕ → List Column → Table
 new_table name columns = record { schema = record { name = name; columns = columns }; rows = []; next = 1 }
 
--- the table without rows that a header's cells tell of
+-- the table without rows that a header's cells describe
 abbrev pub table_under : List ℕ → List (List ℕ) → Result Table LoadError
 table_under name header =
     if nat_lt column_limit (length header) then Err TooLarge

@@ -20,13 +20,13 @@ use Rattle.lq_load.specs.declared.load_error.LoadError.TheVariants.{Csv, Header,
 abbrev pub HasName : List Column → List ℕ → Type 0
 HasName columns name = Any (λ column. column.name ≡ name) columns
 
--- The cells of a header tell of these columns, one each, of which none has the name of one before it.
+-- The cells of a header describe these columns, one each, of which none has the name of one before it.
 pub record AreColumns (cells : List (List ℕ)) (columns : List Column) : Type 0 where
   pub each : map column_of cells ≡ map Some columns
   pub distinct : (before : List Column) (column : Column) (behind : List Column) → columns ≡ before ++ column ∷ behind
       → HasName before column.name → ⊥
 
--- A cell behind those that tell of these columns is wrong: it tells of no column, or else of one whose name is taken.
+-- A cell after those that describe these columns is wrong: it describes no column, or else one whose name is taken.
 pub data IsWrongColumn (columns : List Column) (cell : List ℕ) : LoadError → Type 0 where
   no_column : column_of cell ≡ None → IsWrongColumn columns cell Header
   repeated : (column : Column) → column_of cell ≡ Some column → HasName columns column.name → IsWrongColumn columns cell DuplicateName
@@ -41,7 +41,7 @@ pub record IsHeaderFault (cells : List (List ℕ)) (e : LoadError) : Type 0 wher
   pub good : AreColumns before columns
   pub wrong : IsWrongColumn columns cell e
 
--- ---- the records behind it
+-- ---- the records after it
 
 -- the cell that a field beside its column means
 abbrev pub meaning_of : Column × List ℕ → Option Scalar
@@ -57,14 +57,14 @@ abbrev pub IsRow : List Column → List (List ℕ) → Type 0
 IsRow columns fields = (cells : List Scalar) × AreCells columns fields cells
 
 -- The record with this number is wrong: it has another number of fields, or else a field that means no cell, of which the
--- first is told by its column's number, from 1.
+-- first is named by its column's number, from 1.
 pub data IsWrongRecord (columns : List Column) (number : ℕ) (fields : List (List ℕ)) : LoadError → Type 0 where
   other_length : length fields ≢ length columns → IsWrongRecord columns number fields Csv
   wrong_cell : (before : List (Column × List ℕ)) (place : Column × List ℕ) (behind : List (Column × List ℕ)) (cells : List Scalar)
       → length fields ≡ length columns → zip columns fields ≡ before ++ place ∷ behind → map meaning_of before ≡ map Some cells
       → meaning_of place ≡ None → IsWrongRecord columns number fields (Cell number (length before + 1))
 
--- The first wrong record behind the header, which is record 1, has this fault.
+-- The first wrong record after the header, which is record 1, has this fault.
 pub record IsRecordFault (columns : List Column) (rest : List (List (List ℕ))) (e : LoadError) : Type 0 where
   pub before : List (List (List ℕ))
   pub fields : List (List ℕ)
@@ -75,12 +75,12 @@ pub record IsRecordFault (columns : List Column) (rest : List (List (List ℕ)))
 
 -- ---- files
 
--- the records of a file, behind its byte order marks
+-- the records of a file, after its byte order marks
 abbrev pub records_in : List ℕ → List (List (List ℕ))
 records_in bytes = records default_config (without_marks bytes)
 
 -- The first fault of a file. Its size comes before all, the number of its columns before its header's cells, and these
--- before the records behind it.
+-- before the records after it.
 pub data IsFirstFault (bytes : List ℕ) : LoadError → Type 0 where
   too_large : table_limit < length bytes → IsFirstFault bytes TooLarge
   no_header : length bytes ≤ table_limit → records_in bytes ≡ [] → IsFirstFault bytes Header

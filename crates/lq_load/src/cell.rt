@@ -74,7 +74,7 @@ fn text_cell(alloc: Global, text: &[u8]) -> Result<Option<Scalar>, AllocError>
     }
 }
 
-// Whether a text stands for null.
+// Whether a text means null.
 fn is_null(text: &[u8]) -> bool
     ensures { result ≡ is_null text.now }
 {

@@ -1,4 +1,4 @@
-//! The columns that a header tells of.
+//! The columns that a header describes.
 ghost use Rattle.std.specs.Prelude.{◌≡◌, ◌==◌, ◌+◌, [], if◌then◌else◌, take, drop, true, length, ◌<◌, IfSome, Option, Some, None, option_map};
 ghost use Rattle.std.specs.List.{position};
 ghost use Rattle.std.specs.Option.{ok_or};
@@ -16,7 +16,7 @@ use lq_store::Column;
 use lq_value::{List, Txt};
 use std::alloc::Global;
 
-/// The columns that the cells of `header` tell of. Refuses with `Header` or `DuplicateName` for
+/// The columns that the cells of `header` describe. Refuses with `Header` or `DuplicateName` for
 /// the first cell that has no form of a column, or the name of an earlier one.
 pub(crate) fn columns_of(alloc: Global, header: &ByteRecord) -> Result<List<Column>, LoadError>
     ensures { LoadsAs (columns_from (fields_of header.now) []) result }
@@ -39,7 +39,7 @@ fn has_name(columns: &[Column], name: &[u8]) -> bool
     columns.iter().any(|column| column.name.as_bytes() == name)
 }
 
-// The column that a cell tells of.
+// The column that a cell describes.
 fn column_of(alloc: Global, cell: &[u8]) -> Result<Column, LoadError>
     ensures { LoadsAs (ok_or (column_of cell.now) Header) result }
 {
@@ -67,7 +67,7 @@ fn colon_of(cell: &[u8]) -> Option<usize>
     cell.iter().position(|byte| *byte == b':')
 }
 
-// The name that these bytes are. Bytes that are no text are none.
+// The name that these bytes are. Bytes that aren't text aren't a name.
 #[tactic(auto, using(crate::proofs::NameFacts::other_bytes))]
 fn name_of(bytes: &[u8]) -> Option<&str>
     ensures { option_map (λ name. name.now) result

@@ -27,7 +27,7 @@ pub(crate) fn kind_of(text: &[u8]) -> Option<(ColumnType, Option<(i32, i32)>)>
     }
 }
 
-// The range of a type `int[lo..hi]` of which `text` is what stands behind the bracket.
+// The range of a type `int[lo..hi]` of which `text` is what follows the bracket.
 fn range_behind(text: &[u8]) -> Option<(i32, i32)>
     ensures { result ≡ range_behind text.now }
 {

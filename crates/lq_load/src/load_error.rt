@@ -11,7 +11,7 @@ pub enum LoadError {
     /// A record has more or fewer cells than the header.
     #[error("csv")]
     Csv,
-    /// There is no header, or a cell of it is no `NAME:TYPE`.
+    /// There is no header, or a cell of it isn't a `NAME:TYPE`.
     #[error("header")]
     Header,
     /// Two columns have one name.

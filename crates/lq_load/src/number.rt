@@ -8,7 +8,7 @@ const MOST_BELOW: u64 = 2_147_483_648;
 /// How far above zero an `int` reaches.
 const MOST_ABOVE: u64 = 2_147_483_647;
 
-/// The number that `text` spells: digits, behind a minus or not, within `int`.
+/// The number that `text` spells: digits, with or without a minus before them, within `int`.
 pub(crate) fn int_of(text: &[u8]) -> Option<i32>
     ensures { result ≡ int_of text.now }
 {

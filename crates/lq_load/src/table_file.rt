@@ -25,7 +25,7 @@ const MOST_COLUMNS: usize = 100;
 /// further record is a row, numbered from 1. Byte order marks at the start are passed over, cells
 /// aren't trimmed, and quotes make no difference to what a cell means.
 ///
-/// An integer is decimal digits, behind a minus or not, within 32 bits with a sign, and within the
+/// An integer is decimal digits, with or without a minus before them, within 32 bits with a sign, and within the
 /// column's range; a truth value is `true`, `True`, `TRUE` or `t`, or `false`, `False`, `FALSE` or
 /// `f`; a text is any UTF-8. `\N` is null for `int?` and `string`, and so is an empty cell for `int?`.
 ///
@@ -33,7 +33,7 @@ const MOST_COLUMNS: usize = 100;
 /// then with the first fault met, record by record: a header cell's form before its name (`Header`,
 /// `DuplicateName`), and a record's length (`Csv`) before its cells (`Cell`). No record at all is
 /// `Header`, and so is a cell of the header that isn't UTF-8; in another record that is `Cell`.
-/// `Memory` may stand for any other answer.
+/// `Memory` may replace any other answer.
 pub fn table_from_csv(alloc: Global, name: Txt, bytes: &[u8]) -> Result<Table, LoadError>
     ensures { LoadsAs (table_of name bytes.now) result }
 {
@@ -63,7 +63,7 @@ fn table_of_records(
     Ok(table)
 }
 
-// The table without rows that a header tells of.
+// The table without rows that a header describes.
 fn table_under(alloc: Global, name: Txt, header: &ByteRecord) -> Result<Table, LoadError>
     requires { 0 < length (fields_of header.now) }
     ensures table { LoadsAs (table_under name (fields_of header.now)) result }

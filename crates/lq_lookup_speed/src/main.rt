@@ -1,5 +1,5 @@
-//! A program for measuring: makes 300,000 keys and does with them what its first word says. Whoever runs it takes the processor
-//! time, and subtracts that of a run that only makes the keys. Where that word is `growths`, it makes each call over a few keys,
+//! A program for measuring: builds 300,000 keys and does with them what its first word says. Whoever runs it takes the processor
+//! time, and subtracts that of a run that only builds the keys. Where that word is `growths`, it makes each call over a few keys,
 //! and ends with 0 where the answers are right, with 1 where one isn't, and with 5 where it was refused memory.
 #![tactic(auto)]
 
@@ -11,10 +11,10 @@ use std::alloc::{AllocError, Global};
 use std::process::ExitCode;
 use std::{env, io};
 
-/// How many keys are made.
+/// How many keys are built.
 const COUNT: u32 = 300_000;
 
-/// A prime above that count, so that multiplying by a number and taking the rest tells the keys apart.
+/// A prime above that count, so that multiplying by a number and taking the rest distinguishes the keys.
 const PRIME: u32 = 300_007;
 
 // A scattered number below the prime, another one for each place.

@@ -12,7 +12,7 @@ policy_rule = record (new_rule (codes "policy")) { long = Some (codes "policy");
 abbrev pub script_rule : Rule
 script_rule = record (new_rule (codes "script")) { long = Some (codes "script"); value_names = 1 }
 
--- the words that stand by themselves, one at least
+-- the words that belong to no option, one at least
 abbrev pub tables_rule : Rule
 tables_rule = record (new_rule (codes "tables")) { action = Some Append; value_names = 1; required = true }
 

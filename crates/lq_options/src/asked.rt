@@ -1,6 +1,6 @@
 //! What the words of a command line ask for.
 
-/// The options of the program, each as it stands among the words.
+/// The options of the program, each as it is among the words.
 #[derive(Debug, Drop)]
 pub struct Options {
     /// The role whose rows are served first.

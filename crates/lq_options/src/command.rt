@@ -77,7 +77,7 @@ fn script<'a>(alloc: Global) -> Arg<'a>
         .help("The script, one statement a line [default: standard input]")
 }
 
-/// The words that stand by themselves, which name the table files.
+/// The words that belong to no option, which name the table files.
 pub(crate) fn tables<'a>(alloc: Global) -> Arg<'a>
     ensures rule { rule_of result ≡ tables_rule }
     ensures local { result.global ≡ false }

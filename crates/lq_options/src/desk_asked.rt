@@ -1,7 +1,7 @@
 //! What the words of a command line of the program `desk` ask for.
 use crate::asked::Options;
 
-/// The options of the desk, each as it stands among the words.
+/// The options of the desk, each as it is among the words.
 #[derive(Debug, Drop)]
 pub struct DeskOptions {
     /// The role that the desk begins with.

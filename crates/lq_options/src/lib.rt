@@ -27,7 +27,7 @@ use values::{given_text, given_texts, text_of};
 
 /// The options that `words` name; the first word is the program's name, as in `std::env::args`.
 ///
-/// A refusal is `clap`'s: a mistake in the words, a wish for help, or want of memory. Its `print` writes help to
+/// A refusal is `clap`'s: a mistake in the words, a wish for help, or lack of memory. Its `print` writes help to
 /// standard output and anything else to standard error, and its `exit_code` is 0 after help and 2 else.
 pub fn options(alloc: Global, words: &[String]) -> Result<Options, Error>
     ensures role { IfOk result (λ options.

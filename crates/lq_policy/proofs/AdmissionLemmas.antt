@@ -1,4 +1,4 @@
--- Rules that are put behind others, policy by policy.
+-- Rules that are put after others, policy by policy.
 use Rattle.std.proofs.Common.{◌≡◌, ◌∙◌, ℕ, zero, suc, ◌+◌, ◌<◌, Bool, true, false, ◌&&◌, ◌||◌, cond, not, List, [], ◌∷◌, filter, length, get_or, slice_get, Some, drop, ap, sym, subst, arith}
 use Rattle.std.proofs.Math.Bool.{and-true, and_assoc, or-false, or_assoc}
 use Rattle.std.specs.List.{list_all, list_any}

@@ -8,7 +8,7 @@ use Rattle.lq_security.specs.declared.policy.Role.{Role}
 use Rattle.lq_policy.specs.Memberships.{TellMemberships, goes_by_marks, is_in, is_marked}
 use Rattle.lq_policy.specs.declared.role_set.RoleSet.{RoleSet}
 
--- What the roles before these go by, and the sets that tell it.
+-- The roles that the roles before these have, and the sets that decide them.
 pub record AreSoFar (roles left : List Role) (sets : List RoleSet) : Type 0 where
   pub earlier : List (List ℕ)
   pub as_many : length earlier ≡ length sets
@@ -31,7 +31,7 @@ any_same p q same (x ∷ xs) = ap (λ b. b || list_any p xs) (same x) ∙ ap (λ
 
 -- ---- one more role
 
--- what the next role goes by, as the sets so far and its own tell
+-- the roles that the next role has, as the sets so far and its own decide
 next_told : (earlier : List (List ℕ)) (sets : List RoleSet) (role : Role) (set : RoleSet) (n : ℕ)
     → TellMemberships earlier sets
     → ((n : ℕ) → is_marked set n ≡ list_any (λ other. goes_by_marks other (slice_get sets other) n) role.member_of)
@@ -42,7 +42,7 @@ next_told earlier sets role set n told groups =
     ∙ any_same (λ other. is_in (get_or earlier other []) n) (λ other. goes_by_marks other (slice_get sets other) n) (λ other. told other n) role.member_of
     ∙ sym (groups n))
 
--- the new sets behind the ones so far, at the places of the new numbers
+-- the new sets after the ones so far, at the places of the new numbers
 told_at_the_end : (earlier : List (List ℕ)) (sets : List RoleSet) (numbers : List ℕ) (set : RoleSet) (role : ℕ)
     → length earlier ≡ length sets
     → (get_or (earlier ++ numbers ∷ []) role [] ≡ get_or earlier role []) × (slice_get (sets ++ set ∷ []) role ≡ slice_get sets role)

@@ -1,4 +1,4 @@
--- Whether a role goes by a name: one of the numbers in a list is that of a role with the name.
+-- Whether a role has one of a name: one of the numbers in a list is that of a role with the name.
 use Rattle.std.proofs.Common.{◌≡◌, ◌∙◌, ℕ, Bool, true, false, ◌&&◌, ◌||◌, ◌==◌, List, [], ◌∷◌, Option, Some, None, slice_get, refl, ap, sym, ◌⊎◌, inl, inr}
 use Rattle.std.specs.List.{list_any}
 use Rattle.std.proofs.lemmas.Bool.{eq-eqb, eqb-true, or_cases, or_right}
@@ -37,7 +37,7 @@ any_nowhere test (m ∷ numbers) none =
     or_none (test m) (list_any test numbers) (none m (or_left (m == m) (is_in numbers m) (eq-eqb m m refl)))
     (any_nowhere test numbers (λ n among. none n (or_right (m == n) (is_in numbers n) among)))
 
--- ---- the numbers that marks tell
+-- ---- the numbers that marks give
 
 -- a role's own name
 found_itself : (test marked : ℕ → Bool) (numbers : List ℕ) (role : ℕ) → ((n : ℕ) → is_in numbers n ≡ (role == n) || marked n)
@@ -57,7 +57,7 @@ found_other test marked numbers role told is false any =
       | inr other ↦ and_both (marked n) (test n) other (any n)
     ])
 
--- the numbers that a role goes by, as its set tells
+-- the numbers of the roles that a role has, as its set gives them
 told_of : (roles : List Role) (sets : List RoleSet) (role : ℕ) (set : RoleSet)
     → TellMemberships (memberships_after [] roles) sets → slice_get sets role ≡ Some set
     → (n : ℕ) → is_in (goes_by roles role) n ≡ (role == n) || is_marked set n

@@ -29,7 +29,7 @@ by_a_column (of.Column u d) t c so_far = refl
 by_a_column (of.Insert u) t c so_far = refl
 by_a_column (of.Delete u) t c so_far = refl
 
--- a column is put into a set behind its table
+-- a column is put into a set after its table
 pub column_added : (added : Result (Unit {0}) AllocError) (before between after : UseSet) (right : Use) (t c : ℕ) → right ≡ of.Column t c
     → ((other : Use) → is_among between other ≡ is_same_use other (of.Table t) || is_among before other)
     → IfOk added (λ _. (other : Use) → is_among after other ≡ is_same_use other (of.Column t c) || is_among between other)

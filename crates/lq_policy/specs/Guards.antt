@@ -43,7 +43,7 @@ abbrev pub rule_in : Action → Option Guard → Option PreparedRule
 rule_in act None = None
 rule_in act (Some guard) = prepared_for act guard
 
--- A prepared rule stands for a rule; none, for none.
+-- A prepared rule corresponds to a rule; none, to none.
 abbrev pub IsPrepared : List (List ℕ) → Option Expr → Option PreparedRule → Type 0
 IsPrepared columns None None = Unit {0}
 IsPrepared columns None (Some prepared) = ⊥

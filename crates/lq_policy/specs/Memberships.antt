@@ -1,10 +1,10 @@
--- The roles that a role goes by, as bits of words.
+-- The roles that a role has, as bits of words.
 use Rattle.std.specs.Prelude.{◌≡◌, ◌==◌, ◌||◌, ◌/◌, ◌%◌, List, [], ℕ, Bool, false, Option, Some, None, slice_get}
 use Rattle.std.specs.Int.{bit_at}
 use Rattle.std.specs.List.{list_any, slice_index_or}
 use Rattle.lq_policy.specs.declared.role_set.RoleSet.{RoleSet}
 
--- whether a number stands in a list
+-- whether a number is in a list
 abbrev pub is_in : List ℕ → ℕ → Bool
 is_in numbers n = list_any (λ m. m == n) numbers
 
@@ -12,11 +12,11 @@ is_in numbers n = list_any (λ m. m == n) numbers
 abbrev pub is_marked : RoleSet → ℕ → Bool
 is_marked set n = bit_at (slice_index_or set.words.items (n / 64) 0) (n % 64) == 1
 
--- whether a role goes by another: it goes by itself, and by those in its set
+-- whether a role has another: it has itself, and those in its set
 abbrev pub goes_by_marks : ℕ → Option RoleSet → ℕ → Bool
 goes_by_marks role None n = false
 goes_by_marks role (Some set) n = (role == n) || is_marked set n
 
--- The sets of roles tell what each of them goes by.
+-- The sets of roles decide which roles each of them has.
 abbrev pub TellMemberships : List (List ℕ) → List RoleSet → Type 0
 TellMemberships memberships sets = (role n : ℕ) → is_in (slice_index_or memberships role []) n ≡ goes_by_marks role (slice_get sets role) n

@@ -8,7 +8,7 @@ use Rattle.lq_security.specs.declared.policy.PolicyParts.{PolicyParts}
 use Rattle.lq_security.specs.declared.policy.Role.{Role}
 use Rattle.lq_policy.specs.declared.access.RoleId.{RoleId}
 
--- the number that a role stands for
+-- the number of a role
 abbrev pub number_of : RoleId → ℕ
 number_of role = role.number
 
@@ -21,7 +21,7 @@ abbrev pub is_bypassing : Option Role → Bool
 is_bypassing None = false
 is_bypassing (Some role) = role.bypass
 
--- whether a role that a role goes by has this name
+-- whether a role has one of this name
 abbrev pub goes_by_name : List Role → ℕ → List ℕ → Bool
 goes_by_name roles role name = list_any (λ n. is_named name (slice_get roles n)) (goes_by roles role)
 

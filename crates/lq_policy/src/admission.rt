@@ -3,7 +3,7 @@ use crate::asked::Asked;
 use lq_rule::PreparedRule;
 use std::alloc::{AllocError, Global};
 
-/// The rules of the policies that apply to an action. None stands for a policy without a rule
+/// The rules of the policies that apply to an action. None is for a policy without a rule
 /// for it.
 #[derive(Drop)]
 pub(crate) struct Admission<'a> {
@@ -31,7 +31,7 @@ impl<'a> Admission<'a> {
         }
     }
 
-    /// Puts the rule of a policy behind the others.
+    /// Puts the rule of a policy after the others.
     pub(crate) fn push(
         &mut self,
         restrictive: bool,

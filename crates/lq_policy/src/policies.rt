@@ -29,7 +29,7 @@ const DEFAULT_DENY: &str = "default-deny";
 #[derive(Drop)]
 pub struct Policies {
     pub(crate) parts: PolicyParts,
-    /// For each role, those that it goes by beside itself.
+    /// For each role, those that it has besides itself.
     groups: Vec<RoleSet>,
     /// For each policy, its rules, prepared.
     guards: Vec<Guard>,
@@ -96,7 +96,7 @@ pub(crate) fn is_same_action(a: Action, b: Action) -> bool
     a == b
 }
 
-/// What is worked out once: the roles that each role goes by, and the rules of each policy.
+/// What is worked out once: the roles that each role has, and the rules of each policy.
 fn prepared(alloc: Global, parts: &PolicyParts) -> Result<(Vec<RoleSet>, Vec<Guard>), AllocError>
     requires { rules_are_total parts.now.policies ≡ true }
     ensures groups { IfOk result (λ made.
@@ -122,7 +122,7 @@ impl Policies {
     ghost use Rattle.lq_policy.specs.Rules.{rules_are_total};
 
     /// Policies of these parts, which they keep. Where there is no memory the parts are handed
-    /// back as they were. Each rule is total, as `rules_are_total` tells.
+    /// back as they were. Each rule is total, as `rules_are_total` decides.
     pub fn build(alloc: Global, parts: PolicyParts) -> Result<Policies, (PolicyError, PolicyParts)>
         requires { rules_are_total parts.policies ≡ true }
         ensures ok { IfOk result (λ policies. policies ≡ parts) }
@@ -151,7 +151,7 @@ impl Policies {
         None
     }
 
-    /// Whether a role that this role goes by has this name.
+    /// Whether this role has a role of this name.
     fn goes_by(&self, role: RoleId, name: &str) -> bool
         ensures { result ≡ goes_by_name self.now.roles (number_of role) name.now }
     {
@@ -163,7 +163,7 @@ impl Policies {
         )
     }
 
-    /// Whether a list has `public`, or a name that the role goes by.
+    /// Whether a list has `public`, or the name of a role that this one has.
     pub(crate) fn is_listed(&self, role: RoleId, to: &[Txt]) -> bool
         ensures { result ≡ is_listed self.now.roles (number_of role) to.now }
     {
@@ -416,7 +416,7 @@ impl Policies {
         }
     }
 
-    /// Puts the rule of a policy, which has this number, behind others, if the policy applies.
+    /// Puts the rule of a policy, which has this number, after others, if the policy applies.
     fn add_rule<'a>(
         &'a self,
         access: Access,
@@ -510,7 +510,7 @@ impl Policies {
     }
 
     /// What bears on the role's action on the table, worked out once. It admits the rows that
-    /// `visible` tells.
+    /// `visible` admits.
     #[tactic(auto, unfolding(lq_security::specs::Visible::visible_to))]
     pub fn rules_for(
         &self,

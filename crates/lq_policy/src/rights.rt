@@ -230,7 +230,7 @@ impl Policies {
     /// Whether the role has a right to this use: to a table where it has one to a column of it, and
     /// to anything else where some grant that applies covers it and no withhold that applies does.
     /// Takes no memory. Where the role is prepared, a use to which it has a right is looked up; else it
-    /// is sought in each rule.
+    /// is looked for in each rule.
     ///
     /// A use is denied under the name of the first withhold that applies and covers it (of a table
     /// any of its columns), or under `no-grant` where there is none.

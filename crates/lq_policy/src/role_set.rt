@@ -1,4 +1,4 @@
-//! Sets of roles, and the roles that each role goes by as a member of others.
+//! Sets of roles, and the roles that each role has as a member of others.
 ghost use Rattle.std.specs.Prelude.{◌≡◌, [], ℕ, slice_get, IfOk};
 ghost use Rattle.std.specs.List.{list_any};
 ghost use Rattle.std.specs.Option.{option_copied};
@@ -12,7 +12,7 @@ use std::alloc::{AllocError, Global};
 /// A set of roles, by their numbers.
 #[derive(Drop)]
 pub(crate) struct RoleSet {
-    /// A role n is in the set where bit n % 64 of word n / 64 is 1. None behind the last word is.
+    /// A role n is in the set where bit n % 64 of word n / 64 is 1. None after the last word is.
     words: Vec<u64>,
 }
 
@@ -89,8 +89,8 @@ impl RoleSet {
         false
     }
 
-    /// Puts the role of this number into the set, and all that it goes by, as the sets of the
-    /// roles tell them. Nothing, where there is no such role.
+    /// Puts the role of this number into the set, and all that it has, as the sets of the
+    /// roles give them. Nothing, where there is no such role.
     fn insert_group(&mut self, number: usize, sets: &[RoleSet]) -> Result<(), AllocError>
         ensures { IfOk result (λ _. (n : ℕ)
             → is_marked self.new n ≡ goes_by_marks number (slice_get sets.now number) n
@@ -114,7 +114,7 @@ fn is_named(role: Option<&Role>, name: &str) -> bool
     }
 }
 
-/// The roles that a member of these goes by beside itself.
+/// The roles that a member of these has besides itself.
 fn groups_of(alloc: Global, member_of: &[usize], sets: &[RoleSet]) -> Result<RoleSet, AllocError>
     ensures { IfOk result (λ set. (n : ℕ)
         → is_marked set n ≡ list_any (λ other. goes_by_marks other (slice_get sets.now other) n)
@@ -127,7 +127,7 @@ fn groups_of(alloc: Global, member_of: &[usize], sets: &[RoleSet]) -> Result<Rol
     Ok(groups)
 }
 
-/// For each role, the roles that it goes by beside itself, by any chain of memberships.
+/// For each role, the roles that it has besides itself, by any chain of memberships.
 pub(crate) fn memberships(alloc: Global, roles: &[Role]) -> Result<Vec<RoleSet>, AllocError>
     ensures { IfOk result (λ sets. TellMemberships (memberships_after [] roles.now) sets.items) }
 {
@@ -153,7 +153,7 @@ fn role_of(roles: &[Role], role: usize) -> Option<&Role>
     roles.get(role)
 }
 
-/// Whether a role that this role goes by, as the sets tell, has this name.
+/// Whether this role has, as the sets give its roles, one of this name.
 pub(crate) fn goes_by(roles: &[Role], sets: &[RoleSet], role: usize, name: &str) -> bool
     requires { TellMemberships (memberships_after [] roles.now) sets.now }
     ensures { result ≡ goes_by_name roles.now role name.now }

@@ -36,7 +36,7 @@ pub ruleset documents = (document_in_text, document_in_none)
 abbrev part_of : List TableEntry → Table → TablePart
 part_of entries table = table_part entries table.schema
 
--- the part of a table that is there stands before those of the tables behind it
+-- the part of a table that is there comes before those of the tables after it
 pub next_table : (entries : List TableEntry) (tables : List Table) (number : ℕ) (schema : Schema) → option_map (λ table. table.schema) (slice_get tables number) ≡ Some schema
     → map (λ table. table_part entries table.schema) (drop number tables) ≡ table_part entries schema ∷ map (λ table. table_part entries table.schema) (drop (number + 1) tables)
 next_table entries tables number schema there = by (slice_get tables number) refl there where

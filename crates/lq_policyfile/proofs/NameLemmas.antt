@@ -76,7 +76,7 @@ IsSetOf names set = (name : List ℕ) → is_among set name ≡ is_among names n
 set_grows : (names set : List (List ℕ)) (name : List ℕ) → IsSetOf names set → IsSetOf (names ++ name ∷ []) (with_name set name)
 set_grows names set name same q = among_with set name q ∙ ap (λ (b : Bool). b || bytes_eq q name) (same q) ∙ sym (among_more names name q)
 
--- ---- what is told by a set is told by the names
+-- ---- what a set decides the names decide
 
 all_same : {A : Type 0} (p q : A → Bool) → ((x : A) → p x ≡ q x) → (xs : List A) → list_all p xs ≡ list_all q xs
 all_same p q same [] = refl
@@ -152,7 +152,7 @@ are_new_step earlier name names new = by (is_among earlier name) refl where
   by true there = absurd (let h : not true ≡ true = subst (λ (b : Bool). not b ≡ true) there new in cc)
   by false other = ap (λ (ns : List (List ℕ)). are_new ns names) (new_name earlier name other)
 
--- names behind others are new where those are, and where they are behind them
+-- names after others are new where those are, and where they are after them
 pub are_new_behind : (earlier names more : List (List ℕ)) → are_new earlier (names ++ more) ≡ (are_new earlier names && are_new (earlier ++ names) more)
 are_new_behind earlier [] more = ap (λ (ns : List (List ℕ)). are_new ns more) (sym (append-nil earlier))
 are_new_behind earlier (name ∷ names) more =

@@ -1,4 +1,4 @@
--- What is told of the names in each form of an expression.
+-- What is known of the names in each form of an expression.
 use Rattle.std.proofs.Common.{◌≡◌, ◌∷◌, ◌&&◌, ◌||◌, not, List, [], map, ℕ, ℤ, Bool, true, false, ap, ap₂, ◌∙◌, sym, refl}
 use Rattle.std.specs.List.{list_all}
 use Rattle.lq_value.specs.declared.table.Column.{Column}
@@ -26,7 +26,7 @@ use Rattle.lq_policyfile.specs.RuleNames.{Told, argument_knows, clause_knows, cl
 pub ruleset layers = (outs-Node, outs-Query)
 
 module _ (columns : List Column) where
-  -- an expression beside what is told of it
+  -- an expression beside what is known of it
   abbrev pub beside : Expr → Told
   beside e = (e, knows columns e)
 
@@ -85,7 +85,7 @@ module _ (columns : List Column) where
   pub knows_host : (p : List ℕ) (xs : List Expr) (hidden : Bool) → knows columns (expr.Node (node.Host p xs)) hidden ≡ false
   knows_host p xs hidden = node_is (node.Host p xs) hidden
 
-  -- ---- lists of parts, which the layer holds beside what is told of them
+  -- ---- lists of parts, which the layer holds beside what is known of them
 
   abbrev fields_in : Expr-F Told → List (Field Told)
   fields_in (Expr-F.Node (node.New fs)) = fs
@@ -144,7 +144,7 @@ module _ (columns : List Column) where
   abbrev query_told : Query Expr → Query Told
   query_told q = query_in (layer_told (Expr-F.Query q))
 
-  -- a clause and the end of a query's own body, and those of a continuation, with what is told of their expressions
+  -- a clause and the end of a query's own body, and those of a continuation, with what is known of their expressions
   abbrev clause_told : Clause Expr → Clause Told
   clause_told c = first_clause (query_told (query_with (c ∷ []) (last.Select null) [])).body.clauses
 
@@ -210,7 +210,7 @@ module _ (columns : List Column) where
   next_last_same hidden (last.Select v) = refl
   next_last_same hidden (last.Group v key) = refl
 
-  -- clauses that are told of one by one
+  -- clauses of which something is known one by one
   clauses_same : (tell : Clause Expr → Clause Told) → ((outer hidden : Bool) (c : Clause Expr) → clause_knows told outer hidden (tell c) ≡ clause_knows (knows columns) outer hidden c)
       → ((hidden : Bool) (c : Clause Expr) → hidden_behind hidden (tell c) ≡ hidden_behind hidden c)
       → (end : Last Told) (l : Last Expr) → ((hidden : Bool) → last_knows told hidden end ≡ last_knows (knows columns) hidden l)

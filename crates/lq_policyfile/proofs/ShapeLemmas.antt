@@ -6,7 +6,7 @@ use Rattle.toml.specs.View.{members_view}
 use Rattle.toml.specs.declared.value.Value.{Value}
 use Rattle.lq_policyfile.specs.Reading.{has_only}
 
--- what was read before stands in front of what is read behind
+-- what was read before comes in front of what is read after
 abbrev pub put_before : {A : Type 0} → List A → Option (List A) → Option (List A)
 put_before done found = option_map (λ xs. done ++ xs) found
 

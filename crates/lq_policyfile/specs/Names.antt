@@ -23,7 +23,7 @@ is_among names name = list_any (bytes_eq name) names
 abbrev pub role_names : List RoleEntry → List (List ℕ)
 role_names roles = map (λ role. role.name) roles
 
--- each role is a member of roles that stand before it
+-- each role is a member of roles that come before it
 abbrev pub memberships_are_known : List (List ℕ) → List RoleEntry → Bool
 memberships_are_known earlier [] = true
 memberships_are_known earlier (role ∷ roles) = list_all (is_among earlier) role.member_of && memberships_are_known (earlier ++ role.name ∷ []) roles

@@ -38,7 +38,7 @@ texts = array_of as_str
 abbrev pub by_text : {A : Type 0} → (List ℕ → Option A) → Data → Option A
 by_text read d = option_and_then read (as_str d)
 
--- the keys are no others than these
+-- the keys are only these
 abbrev pub has_only : List (List ℕ) → Members → Bool
 has_only keys no_members = true
 has_only keys (member key d ms) = list_any (bytes_eq key) keys && has_only keys ms

@@ -1,4 +1,4 @@
--- What the rights of a file are for: the uses that each comes to, and the rules that grant or withhold them.
+-- What the rights of a file are for: the uses that each means, and the rules that grant or withhold them.
 use Rattle.std.specs.Prelude.{◌∷◌, List, [], ℕ, flat_map, unwrap_or}
 use Rattle.lq_value.specs.Tables.{Table, first_named}
 use Rattle.lq_value.specs.declared.table.Column.{Column}
@@ -20,7 +20,7 @@ table_number tables name = unwrap_or (first_named name_of name tables) 0
 abbrev pub column_number : List Column → List ℕ → ℕ
 column_number columns name = unwrap_or (first_named (λ column. column.name) name columns) 0
 
--- What a right is for. All columns of a table stand in the order of its schema; there is no host predicate.
+-- What a right is for. All columns of a table are in the order of its schema; there is no host predicate.
 abbrev pub uses_of : List Table → RightForm → List Use
 uses_of tables (form.Column t c) = of.Column (table_number tables t) (column_number (columns_of tables t) c) ∷ []
 uses_of tables (form.AllColumns t) = columns_from (table_number tables t) 0 (columns_of tables t)

@@ -10,7 +10,7 @@ use Rattle.lq_policyfile.specs.declared.error.ShapeError.TheVariants as shape
 
 -- ---- as a relation
 
--- A right says one of these things. T, c and p are names, which hold neither a dot nor a blank and are no reserved words.
+-- A right says one of these things. T, c and p are names, which hold neither a dot nor a blank and aren't reserved words.
 pub data Says : List ℕ → RightForm → Type 0 where
   column : (t c : List ℕ) → is_name t ≡ true → is_name c ≡ true → Says (t ++ (codes "." ++ c)) (form.Column t c)
   all_columns : (t : List ℕ) → is_name t ≡ true → Says (t ++ codes ".*") (form.AllColumns t)
@@ -26,11 +26,11 @@ IsRead text (Err shape.Memory) = Unit {0}
 
 -- ---- the same as a function
 
--- what stands before the first of these bytes in a text, and what stands behind it
+-- what comes before the first of these bytes in a text, and what comes after it
 abbrev pub around : ℕ → List ℕ → Option (List ℕ × List ℕ)
 around c text = option_map (λ place. (take place text, drop (place + 1) text)) (position (λ b. b == c) text)
 
--- a table, and what stands behind its dot
+-- a table, and what comes after its dot
 abbrev pub columns_in_words : List ℕ → List ℕ → Option RightForm
 columns_in_words table columns =
     if bytes_eq columns (codes "*") then Some (form.AllColumns table)
@@ -47,7 +47,7 @@ dotted owner part =
     else (if bytes_eq owner (codes "Host") then predicate_in_words part
     else None)
 
--- a table, and the word behind its blank
+-- a table, and the word after its blank
 abbrev pub change_in_words : List ℕ → List ℕ → Option RightForm
 change_in_words table change =
     if bytes_eq change (codes "insert") then Some (form.Insert table)

@@ -32,14 +32,14 @@ abbrev pub joined_name : List ℕ → Option (List ℕ) → List ℕ
 joined_name name None = name
 joined_name name (Some group) = group
 
--- whether the row is hidden behind a clause
+-- whether the row is hidden after a clause
 abbrev pub hidden_behind : {X : Type 0} → Bool → Clause X → Bool
 hidden_behind hidden (clause.From name x) = hidden_by name hidden
 hidden_behind hidden (clause.Let name x) = hidden_by name hidden
 hidden_behind hidden (clause.Join join) = hidden_by (joined_name join.name join.into) hidden
 hidden_behind hidden clause = hidden
 
--- What is told of the expressions of a query, each where the row is hidden or not. Range variables may hide it.
+-- What is known of the expressions of a query, each where the row is hidden or not. Range variables may hide it.
 module _ {X : Type 0} (knows : X → Bool → Bool) where
   abbrev pub argument_knows : Bool → Argument X → Bool
   argument_knows hidden (argument.Value x) = knows x hidden
@@ -76,7 +76,7 @@ module _ {X : Type 0} (knows : X → Bool → Bool) where
   query_knows outer q =
       knows q.source outer && body_knows outer (hidden_by q.name outer) q.body && list_all (continuation_knows outer) q.rest
 
--- an expression, and what is told of it
+-- an expression, and what is known of it
 abbrev pub Told : Type 0
 Told = Expr × (Bool → Bool)
 

@@ -24,7 +24,7 @@ use Rattle.lq_policyfile.specs.declared.entry.TableEntry.{TableEntry}
 abbrev pub role_keys : List (List ℕ)
 role_keys = codes "name" ∷ codes "member_of" ∷ codes "bypass" ∷ []
 
--- the name of a role: a name of the language, and not `public`, which stands for all roles
+-- the name of a role: a name of the language, and not `public`, which means all roles
 abbrev pub is_role_name : List ℕ → Bool
 is_role_name name = is_name name && not (bytes_eq name (codes "public"))
 
@@ -68,7 +68,7 @@ table_of d = option_and_then table_in (as_table d)
 abbrev pub policy_keys : List (List ℕ)
 policy_keys = codes "name" ∷ codes "table" ∷ codes "kind" ∷ codes "for" ∷ codes "to" ∷ codes "using" ∷ codes "check" ∷ []
 
--- The name of a policy, a grant or a withhold, under which it refuses: 1 to 64 bytes, and none of those that stand for a refusal by no rule.
+-- The name of a policy, a grant or a withhold, under which it refuses: 1 to 64 bytes, and none of those that mean a refusal by no rule.
 abbrev pub is_rule_name : List ℕ → Bool
 is_rule_name name =
     nat_le 1 (length name) && nat_le (length name) 64 && not (bytes_eq name (codes "no-grant")) && not (bytes_eq name (codes "default-deny"))

@@ -1,4 +1,4 @@
--- The names of a rule, as the type check has them: any row and any text stand for them.
+-- The names of a rule, as the type check has them: they may be any row and any text.
 use Rattle.std.specs.Prelude.{◌∷◌, List, [], codes, None}
 use Rattle.lq_value.specs.declared.scalar.Scalar.TheVariants as scalar
 use Rattle.lq_value.specs.declared.table.Column.{Column}

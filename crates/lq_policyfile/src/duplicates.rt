@@ -1,4 +1,4 @@
-//! Names that stand twice.
+//! Names that occur twice.
 ghost use Rattle.std.specs.Prelude.{◌≡◌, ◌++◌, [], map, true, IfOk};
 ghost use Rattle.lq_policyfile.specs.Duplicates.{are_new, has_no_duplicates, names_of_rules};
 ghost use Rattle.lq_policyfile.specs.NameSets.{with_names};

@@ -61,7 +61,7 @@ pub(crate) struct PolicyEntry {
     pub table: Txt,
     /// Whether it lets rows through or keeps them back.
     pub kind: Kind,
-    /// The names of the roles that it applies to, and to whose members; `public` stands for all.
+    /// The names of the roles that it applies to, and to whose members; `public` means all.
     pub to: List<Txt>,
     /// Its rules.
     pub rules: Rules,
@@ -87,7 +87,7 @@ pub(crate) enum RightForm {
 pub(crate) struct RightEntry {
     /// Its name.
     pub name: Txt,
-    /// The names of the roles that it applies to, and to whose members; `public` stands for all.
+    /// The names of the roles that it applies to, and to whose members; `public` means all.
     pub to: List<Txt>,
     /// The rights that it covers.
     pub rights: List<RightForm>,

@@ -10,7 +10,7 @@ pub enum PolicyFileError {
     /// There was no memory, so that nothing is known of the file.
     #[error("memory")]
     Memory,
-    /// The bytes are no UTF-8, or no TOML.
+    /// The bytes aren't UTF-8, or aren't TOML.
     #[error("toml")]
     Toml,
     /// The file is too long; or a key is unknown, is missing, or has a value of another kind.
@@ -22,7 +22,7 @@ pub enum PolicyFileError {
     /// Two roles, two tables, or two of the policies, grants and withholds have one name.
     #[error("duplicate")]
     Duplicate,
-    /// A rule is no truth value, or uses a name other than `row` and `user`.
+    /// A rule isn't a truth value, or uses a name other than `row` and `user`.
     #[error("rule-type")]
     RuleType,
     /// A rule has a form that may fault.

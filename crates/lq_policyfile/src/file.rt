@@ -46,7 +46,7 @@ fn check(alloc: Global, store: &Store, file: &FileEntries) -> Result<(), PolicyF
     Ok(())
 }
 
-/// What the entries of a file come to.
+/// What the entries of a file mean.
 #[tactic(auto, using(crate::proofs::FileLemmas::total_parts))]
 fn parts_in(alloc: Global, store: &Store, file: FileEntries) -> Result<PolicyParts, PolicyFileError>
     ensures parts { Answers (parts_in store.now file) result }
@@ -56,7 +56,7 @@ fn parts_in(alloc: Global, store: &Store, file: FileEntries) -> Result<PolicyPar
     Ok(parts_of(alloc, store, file)?)
 }
 
-/// The tree of a TOML document in UTF-8; None where the bytes are no such document.
+/// The tree of a TOML document in UTF-8; None where the bytes aren't such a document.
 #[tactic(auto, using(crate::proofs::FileLemmas::documents))]
 fn document(alloc: Global, bytes: &[u8]) -> Result<Option<Table>, AllocError>
     ensures { IfOk result (λ found. option_map table_view found ≡ document_of bytes.now) }
@@ -71,7 +71,7 @@ fn document(alloc: Global, bytes: &[u8]) -> Result<Option<Table>, AllocError>
     }
 }
 
-/// What the bytes of a file within its limit come to.
+/// What the bytes of a file within its limit mean.
 fn parts_of_bytes(
     alloc: Global,
     bytes: &[u8],
@@ -87,7 +87,7 @@ fn parts_of_bytes(
     parts_in(alloc, store, file)
 }
 
-/// The parts of the policies that the bytes of a file come to.
+/// The parts of the policies that the bytes of a file mean.
 #[tactic(auto, unfolding(crate::specs::File::policies_in))]
 fn policy_parts(alloc: Global, bytes: &[u8], store: &Store) -> Result<PolicyParts, PolicyFileError>
     ensures parts { Answers (policies_in store.now bytes.now) result }
@@ -102,8 +102,8 @@ fn policy_parts(alloc: Global, bytes: &[u8], store: &Store) -> Result<PolicyPart
 /// The policies that the bytes of a policy file mean for the tables of a store.
 ///
 /// A file of more than 1,048,576 bytes is refused with `Shape`. Of any other the least refusal that
-/// applies is given, whatever stands first in the file: `Toml`, `Shape`, `UnknownName`, `Duplicate`,
-/// `RuleType` and then `RuleNotTotal`. `Memory` may stand for any other answer.
+/// applies is given, whatever comes first in the file: `Toml`, `Shape`, `UnknownName`, `Duplicate`,
+/// `RuleType` and then `RuleNotTotal`. `Memory` may replace any other answer.
 pub fn policies_from_toml(
     alloc: Global,
     bytes: &[u8],

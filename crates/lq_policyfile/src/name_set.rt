@@ -55,7 +55,7 @@ impl<'a> NameSet<'a> {
         self.names.get_index_of(name)
     }
 
-    /// Puts the name behind the others, unless the set has it; tells whether it is new.
+    /// Puts the name after the others, unless the set has it; returns whether it is new.
     pub fn add(&mut self, name: &'a str) -> Result<bool, AllocError>
         ensures new { IfOk result (λ is_new. is_new ≡ not (is_among self.old name.now)) }
         ensures names { OnOk result (self.new ≡ with_name self.old name.now) }

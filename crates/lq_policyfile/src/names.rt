@@ -26,7 +26,7 @@ fn is_known<'a>(earlier: &mut NameSet<'a>, role: &'a RoleEntry) -> Result<bool, 
     Ok(known)
 }
 
-/// Whether each role is a member of roles that stand before it.
+/// Whether each role is a member of roles that come before it.
 fn memberships_are_known(alloc: Global, roles: &[RoleEntry]) -> Result<bool, AllocError>
     ensures { IfOk result (λ known. known ≡ memberships_are_known [] roles.now) }
 {

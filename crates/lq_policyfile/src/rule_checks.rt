@@ -28,7 +28,7 @@ fn type_of_named(columns: &[Column], name: &str) -> Option<ColumnType>
 }
 
 /// The names of a rule: `row`, a row of the table with these columns, and `user`. No type depends on
-/// what they stand for.
+/// what they mean.
 #[derive(Drop)]
 struct RuleNames<'a> {
     columns: &'a [Column],

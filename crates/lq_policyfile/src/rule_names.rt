@@ -26,14 +26,14 @@ fn is_row(expression: &Expr) -> bool
     matches!(expression, Expr::Node(Node::Name(name)) if name.as_str() == "row")
 }
 
-/// Whether the row is hidden behind a local name.
+/// Whether the row is hidden after a local name.
 fn hidden_by(name: &str, hidden: bool) -> bool
     ensures { result ≡ hidden_by name.now hidden }
 {
     hidden || name == "row"
 }
 
-/// Whether the row is hidden behind a clause.
+/// Whether the row is hidden after a clause.
 fn hidden_behind(clause: &Clause<Expr>, hidden: bool) -> bool
     ensures { result ≡ hidden_behind hidden clause.now }
 {

@@ -1,4 +1,5 @@
-//! Tests of what people read of replies, by public calls. They stand here and not in the crate that they test: a crate without tests is proved once.
+//! Tests of what people read of replies, by public calls. They are here and not in the crate that they test: a crate
+//! without tests is proved once.
 #![tactic(auto)]
 
 #[cfg(test)]

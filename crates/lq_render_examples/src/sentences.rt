@@ -1,4 +1,4 @@
-//! Replies without rows, and lines that are no replies.
+//! Replies without rows, and lines that aren't replies.
 use crate::building::{Served, shown};
 use std::test::Fail;
 

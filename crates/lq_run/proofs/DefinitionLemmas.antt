@@ -30,7 +30,7 @@ module _ (name : List ℕ) where
   there_later x ds None = refl
   there_later x ds (Some i) = refl
 
-  -- the definition of a name stands at the first place of the name
+  -- the definition of a name is at the first place of the name
   definition_there : (ds : List Definition) → definition_of name ds ≡ option_and_then (slice_get ds) (first_named (λ d. d.name) name ds)
   definition_there [] = refl
   definition_there (x ∷ ds) = by (bytes_eq x.name name) (definition_there ds) where
@@ -67,7 +67,7 @@ module _ (name : List ℕ) where
         by false same h rest = over (position_from named 0 ds) rest (sym (later named 0 ds) ∙ h)
 
 module _ (s : State) (defined : AreDefined (schemas_of s.tables) s.definitions) (name : List ℕ) (value : Scalar) where
-  -- the variable stands at the first place of its name
+  -- the variable is at the first place of its name
   module _ (for : IsValueFor s.definitions name value) (i : ℕ) (at : first_named (λ d. d.name) name s.definitions ≡ Some i) where
     abbrev before : Definition
     before = record { name = name; defined = of.Variable for.0 for.1 }
@@ -108,7 +108,7 @@ module _ (s : State) (defined : AreDefined (schemas_of s.tables) s.definitions) 
 
 -- ---- one more definition
 
--- a definition under a new name, behind others
+-- a definition under a new name, after others
 pub also_defined : (schemas : List Schema) (ds definitions : List Definition) (d : Definition) → AreDefined schemas ds
     → IsDefined schemas (known_names schemas ds) d.defined → IsNew schemas (known_names schemas ds) d.name → definitions ≡ ds ++ d ∷ []
     → AreDefined schemas definitions

@@ -93,7 +93,7 @@ abbrev is_done : End → Bool
 is_done end.Done = true
 is_done (end.Fault f) = false
 
--- what is kept of rows behind others comes behind what is kept of these
+-- what is kept of rows after others comes after what is kept of these
 kept_behind : {A : Type 0} (holds : A → Result Bool Fault) (xs ys : List A) → where_by holds (xs ++ ys) end.Done ≡ then_stream (where_by holds xs end.Done) (where_by holds ys end.Done)
 kept_behind holds [] ys = refl
 kept_behind holds (x ∷ xs) ys =
@@ -106,7 +106,7 @@ admitted_behind rules n xs ys =
     ∙ map-append (λ (row : Row). let r : TableRow = record { table = n; row = row } in r) (filter (λ (row : Row). admits rules row.cells) xs)
     (filter (λ (row : Row). admits rules row.cells) ys)
 
--- numbers behind others, where the rows before them came to their end, and where they ended in a fault
+-- numbers after others, where the rows before them came to their end, and where they ended in a fault
 numbers_done : (before more : List ℕ) (first rest : Stream TableRow) → (more, end.Done) ≡ numbers_then before first
     → numbers_then before (then_stream first rest) ≡ numbers_then more rest
 numbers_done before more (xs, end.Done) rest is =

@@ -56,7 +56,7 @@ module _ (s : State) where
   type_served : (e : Expr) (tree : Tree) → IsTreeOf s e tree → served_type (names_in s) e ≡ when (has_place (out-Ty tree.ty)) (Some tree.ty)
   type_served e tree is = sym (ap if_placed (ap (option_map (λ t. t.ty)) (sym is) ∙ tree_type e))
 
-  -- nothing is denied of what has no place, and nothing of it is served
+  -- nothing is denied of what can't be in a reply, and nothing of it is served
   pub null_refused : (e : Expr) (tree : Tree) → IsTreeOf s e tree → has_place (out-Ty tree.ty) ≡ false → error_data (codes "type") ≡ run_in s e
   unfolding run_denial run_reply
   null_refused e tree is null =

@@ -21,7 +21,7 @@ taken f [] n y is = absurd (none-some y is)
 taken f (x ∷ xs) zero y is = ap (λ z. z ∷ []) (sym (same_Some (f x) y is))
 taken f (x ∷ xs) (suc n) y is = ap (λ rest. f x ∷ rest) (taken f xs n y is)
 
--- a list made so far, and one item more
+-- a list built so far, and one item more
 pub one_more : {A B C : Type 0} (g : C → B) (f : A → B) (xs : List A) (n : ℕ) (before after : List C) (c : C) → map g before ≡ map f (take n xs)
     → after ≡ before ++ c ∷ [] → option_map f (slice_get xs n) ≡ Some (g c) → map g after ≡ map f (take (n + 1) xs)
 one_more g f xs n before after c so_far is there =

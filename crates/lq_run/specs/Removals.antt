@@ -14,6 +14,6 @@ use Rattle.lq_run.specs.SeenRows.{admitted_rows}
 abbrev pub rows_chosen : World TableRow → Form → RowRules → ℕ → List Row → Stream TableRow
 rows_chosen world condition rules table rows = rows_true world condition (admitted_rows rules table rows)
 
--- numbers with those of some rows behind them, and how these end
+-- numbers with those of some rows after them, and how these end
 abbrev pub numbers_then : List ℕ → Stream TableRow → List ℕ × End
 numbers_then numbers rows = (numbers ++ map (λ r. r.row.number) rows.0, rows.1)

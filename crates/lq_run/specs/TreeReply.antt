@@ -14,7 +14,7 @@ use Rattle.lq_tree.specs.FormMeaning.{form_meaning}
 use Rattle.lq_tree.specs.declared.tree.Tree.{Tree}
 
 module _ {R : Type 0} (cells_of : R → List Scalar) (schemas : List Schema) (world : World R) where
-  -- a sequence item by item, and any other value as one; null by its type has no place there
+  -- a sequence item by item, and any other value as one; null by its type isn't allowed there
   abbrev pub data_by : Ty → Ty-F Ty → Result (Value R) Fault → Data
   data_by t Ty-F.Null found = error_data (codes "type")
   data_by t (Ty-F.Seq item) found = stream_data schemas cells_of item (stream_of world found)

@@ -14,7 +14,7 @@ use std::alloc::{AllocError, Global};
 /// How many rows are asked for at a time, so that what is held of them meanwhile is small.
 const AT_A_TIME: usize = 1024;
 
-/// What tells the rows of a table that a `delete` removes.
+/// What decides which rows of a table a `delete` removes.
 #[derive(Drop)]
 struct Choice<'a, 'b> {
     alloc: Global,
@@ -24,7 +24,7 @@ struct Choice<'a, 'b> {
     condition: &'b Tree,
 }
 
-/// Puts the numbers of rows behind others, in their order.
+/// Puts the numbers of rows after others, in their order.
 fn add_numbers(numbers: &mut Vec<u64>, rows: &[SeenRow<'_>]) -> Result<(), AllocError>
     ensures { IfOk result (λ _. numbers.new.items
         ≡ numbers.old.items ++ map (λ r. r.row.now.number) rows.now) }
@@ -42,8 +42,8 @@ impl<'a> Choice<'a, '_> {
     ghost use Rattle.lq_run.specs.Removals.{numbers_then, rows_chosen};
     ghost use Rattle.lq_run.specs.SeenRows.{AreSeen};
 
-    /// Puts the numbers of some rows behind others: of those that the role may remove and on which the condition is true, up to its first
-    /// fault. Tells how they end.
+    /// Puts the numbers of some rows after others: of those that the role may remove and on which the condition is true, up to its first
+    /// fault. Returns how they end.
     fn choose(
         &self,
         rows: &'a [Row],

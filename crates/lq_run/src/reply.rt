@@ -47,7 +47,7 @@ fn items_line<R: TableRow>(
     reply_line(alloc, &reply)
 }
 
-/// The line of a value that is no sequence.
+/// The line of a value that isn't a sequence.
 fn value_line<R: TableRow>(
     alloc: Global,
     store: &Store,

@@ -7,7 +7,7 @@ use lq_value::{Scalar, TableNumber, Txt};
 use std::alloc::{AllocError, Global};
 use std::marker::Model;
 
-/// The tables of a session, the policies in front of them, the role that it runs under, and what its `var` statements
+/// The tables of a session, the policies for them, the role that it runs under, and what its `var` statements
 /// defined, the oldest first. No two definitions have one name, and none has a table's; each variable has a value of
 /// its type, and each named query the type of a sequence under the names that were defined before it.
 #[derive(Drop)]
@@ -70,7 +70,7 @@ impl State {
         &self.store
     }
 
-    /// The policies in front of them.
+    /// The policies for them.
     pub fn policies(&self) -> &Policies
         ensures { result.now ≡ self.now.policies }
     {
@@ -92,7 +92,7 @@ impl State {
         self.definitions.as_slice()
     }
 
-    /// Defines a name that neither a table nor another definition has, behind the others. Where memory is refused the state stays.
+    /// Defines a name that neither a table nor another definition has, after the others. Where memory is refused the state stays.
     pub fn define(&mut self, name: Txt, defined: Defined) -> Result<(), AllocError>
         requires new { IsNew (schemas_of self.old.tables)
             (known_names (schemas_of self.old.tables) self.old.definitions) name }

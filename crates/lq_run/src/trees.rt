@@ -1,4 +1,4 @@
-//! The trees of expressions, where a statement stands.
+//! The trees of expressions, in the state in which a statement is served.
 ghost use Rattle.std.specs.Prelude.{◌≡◌, false};
 ghost use Rattle.lq_machine.specs.Opening.{is_past_opening};
 ghost use Rattle.lq_run.specs.Statements.{FindsTree, IsTyped, condition_in, tree_in};

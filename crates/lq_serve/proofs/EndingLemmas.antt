@@ -6,7 +6,7 @@ use Rattle.lq_serve.specs.Ending.{Comes, Finished, IsUntouched, Outcome, is_read
 use Rattle.lq_serve.specs.ScriptRun.{IsNoText, IsTooLong, ServedInPart, ServedWhole}
 use Rattle.lq_serve.specs.declared.serve_error.ServeError.TheVariants as serve
 
--- the one outcome behind which a device is marked
+-- the one outcome after which a device is marked
 read_as : (o : Outcome) (failed : Bool) → ((o ≡ Err serve.Read) ↔ (failed ≡ true)) → failed ≡ is_read_fault o
 read_as (Err serve.Read) failed marked = marked.0 refl
 read_as (Ok summary) true marked = let never : Ok summary ≡ Err serve.Read = marked.1 refl in cc

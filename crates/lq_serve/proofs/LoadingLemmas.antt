@@ -78,7 +78,7 @@ readings_of-more (first ∷ rest) visit =
     ap (λ (l : List Reading). readings_of_one first ++ l) (readings_of-more rest visit)
     ∙ sym (append_assoc (readings_of_one first) (readings_of rest) (readings_of_one visit))
 
--- one more file is read behind those that were fine
+-- one more file is read after those that were fine
 after_next : (file : List ℕ) (rest more : List Table → Result (List Table) (List ℕ)) (last : Result (List Table) (List ℕ)) (tables : List Table)
     (next : Result (List Table) FileFault) → ((now : List Table) → rest now ≡ Ok tables → more now ≡ last)
     → next_or_line rest file next ≡ Ok tables → next_or_line more file next ≡ last

@@ -13,7 +13,7 @@ has_slash-there : (front behind : List ℕ) → has_slash (front ++ 47 ∷ behin
 has_slash-there [] behind = refl
 has_slash-there (c ∷ rest) behind = either (c == 47) (has_slash (rest ++ 47 ∷ behind)) (has_slash-there rest behind)
 
--- what stands in front of a slash and the slash make no odds
+-- what comes in front of a slash and the slash make no difference
 pub without_folders-split : (front behind : List ℕ) → without_folders (front ++ 47 ∷ behind) ≡ without_folders behind
 without_folders-split [] behind = refl
 without_folders-split (c ∷ rest) behind = rw (has_slash-there (c ∷ rest) behind) (without_folders-split rest behind)

@@ -1,4 +1,4 @@
--- Sessions that start behind their tables, policies and role, and those that don't.
+-- Sessions that start after their tables, policies and role, and those that don't.
 use Rattle.std.proofs.Common.{◌≡◌, ◌≢◌, ℕ, List, [], ◌∷◌, ◌++◌, Option, Some, None, Result, Ok, Err, IfSome, IfOk, IfErr, refl, subst, sym, ◌∙◌, ap, append_assoc, append-nil}
 use Rattle.lq_value.specs.Tables.{Table}
 use Rattle.lq_machine.specs.States.{State}
@@ -22,7 +22,7 @@ use Rattle.lq_serve.proofs.LoadingLemmas.{Adds-behind, AddsFront-all, AddsFront-
 abbrev policy_reading : Asked → Option (List ℕ) → Reading
 policy_reading asked gave = record { file = asked.policy; limit = policy_read_limit; gave = gave }
 
--- the policy file was read behind the tables
+-- the policy file was read after the tables
 pub Reads-behind : (holds : List ℕ → Option (Option (List ℕ))) (before between after : Option (List Reading)) (asked : Asked) (tables : List Table) (gave : Option (List ℕ))
     → Loaded holds before between asked.tables tables → IfSome (holds asked.policy) (λ there. gave ≡ first_bytes policy_read_limit there)
     → Adds between after (policy_reading asked gave ∷ []) → Reads holds before after asked tables gave
@@ -35,7 +35,7 @@ Reads-behind holds before between after asked tables gave loaded agrees adds = r
   read = Adds-behind before between after _ _ loaded.read adds;
 }
 
--- there was no memory behind the tables
+-- there was no memory after the tables
 GivenUp-behind : (holds : List ℕ → Option (Option (List ℕ))) (before between after : Option (List Reading)) (asked : Asked) (tables : List Table) (gave : Option (List ℕ))
     → Loaded holds before between asked.tables tables → AddsFront between after (policy_reading asked gave ∷ []) → GivenUp holds before after asked
 GivenUp-behind holds before between after asked tables gave loaded adds = record {
@@ -56,7 +56,7 @@ front_of_more before after first more adds = record {
   added = adds.added;
 }
 
--- what a policy file gave, told as a fault of the command line's
+-- what a policy file gave, reported as a fault of the command line's
 pub GivesPolicies-fault : (meant : Result PolicyParts PolicyFileError) (error : PolicyFileError) → Answers meant (Err error)
     → GivesPolicies (parts_or_fault meant) (Err (fault_of_policy error))
 GivesPolicies-fault meant policy.Memory h = λ ne. absurd (ne refl)

@@ -31,7 +31,7 @@ one_more n = min (n + 1) (2 ^ 64 - 1)
 abbrev pub late_count : {T : Type 0} → Device T → ℕ
 late_count device = device.late
 
--- how many there will be behind its next read
+-- how many there will be after its next read
 abbrev pub late_count_next : {T : Type 0} → Device T → ℕ
 late_count_next device = if device.ended then one_more device.late else device.late
 

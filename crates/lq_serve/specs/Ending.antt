@@ -1,4 +1,4 @@
--- How the program ends for whoever started it: by a status and a line.
+-- How the program ends for its caller: by a status and a line.
 use Rattle.std.specs.Prelude.{◌≡◌, ◌∷◌, ◌++◌, ℕ, Bool, true, false, List, [], Option, Result, Ok, Err, codes}
 use Rattle.lq_machine.specs.States.{State}
 use Rattle.lq_serve.specs.Devices.{Writes}
@@ -28,7 +28,7 @@ status_of (start.Refused line) = 3
 abbrev pub Outcome : Type 0
 Outcome = Result Summary ServeError
 
--- the line that tells of it: none where the whole script was served
+-- the line that reports it: none where the whole script was served
 abbrev pub told_of_outcome : Outcome → List ℕ
 told_of_outcome (Ok summary) = []
 told_of_outcome (Err serve.Read) = as_line (codes "lq: script: read")
@@ -43,7 +43,7 @@ status_of_outcome (Ok summary) = 0
 status_of_outcome (Err serve.Memory) = 5
 status_of_outcome (Err error) = 4
 
--- the one outcome behind which the reader is marked, and the one behind which the writer is
+-- the one outcome after which the reader is marked, and the one after which the writer is
 abbrev pub is_read_fault : Outcome → Bool
 is_read_fault (Err serve.Read) = true
 is_read_fault outcome = false

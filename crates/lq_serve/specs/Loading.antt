@@ -1,4 +1,4 @@
--- The tables of the files that the program is told to load, or the line of the first fault among them.
+-- The tables of the files that the program is asked to load, or the line of the first fault among them.
 use Rattle.std.specs.Prelude.{◌≡◌, ◌≢◌, ◌+◌, ◌-◌, ◌==◌, ◌∷◌, ◌++◌, if◌then◌else◌, List, [], ℕ, Bool, false, length, map, nat_eq, take, codes, Option, Some, None, IfSome, Result, Ok, Err, Vec, ⊤}
 use Rattle.std.specs.declared.alloc.Global.{Global}
 use Rattle.std.specs.Fmt.{decimal}
@@ -23,7 +23,7 @@ use Rattle.lq_load.specs.declared.load_error.LoadError.TheVariants as load
 abbrev pub has_slash : List ℕ → Bool
 has_slash text = list_any (λ c. c == 47) text
 
--- what stands behind the last slash
+-- what comes after the last slash
 abbrev pub without_folders : List ℕ → List ℕ
 without_folders [] = []
 without_folders (c ∷ rest) = if has_slash (c ∷ rest) then without_folders rest else c ∷ rest
@@ -71,7 +71,7 @@ fault_text fault.RuleType = codes "rule-type"
 fault_text fault.RuleNotTotal = codes "rule-not-total"
 fault_text fault.Role = codes "role"
 
--- the line that tells of a fault of a file or of the role, without a line feed
+-- the line that reports a fault of a file or of the role, without a line feed
 unfoldable pub fault_line : List ℕ → FileFault → List ℕ
 fault_line file found = codes "lq: " ++ (file ++ (codes ": " ++ fault_text found))
 
@@ -117,7 +117,7 @@ table_read name (Some bytes) = table_or_fault (table_of name bytes)
 unfoldable pub table_in : Visit → Result Table FileFault
 table_in visit = if is_name (table_name visit.file) then table_read (table_name visit.file) visit.gave else Err fault.Name
 
--- the tables with one more behind them
+-- the tables with one more after them
 abbrev pub unless_refused : List Table → Table → Option StoreError → Result (List Table) FileFault
 unless_refused tables table None = Ok (tables ++ table ∷ [])
 unless_refused tables table (Some refusal) = Err (fault_of_store refusal)
@@ -131,7 +131,7 @@ abbrev pub next_or_line : (List Table → Result (List Table) (List ℕ)) → Li
 next_or_line rest file (Ok tables) = rest tables
 next_or_line rest file (Err found) = Err (fault_line file found)
 
--- tables with those of some files behind them, or the line of the first fault
+-- tables with those of some files after them, or the line of the first fault
 abbrev pub with_files : List Visit → List Table → Result (List Table) (List ℕ)
 with_files [] tables = Ok tables
 with_files (visit ∷ rest) tables = next_or_line (with_files rest) visit.file (with_table tables (table_in visit))
@@ -146,7 +146,7 @@ pub record Loaded (holds : List ℕ → Option (Option (List ℕ))) (before afte
   pub read : Adds before after (readings_of visits)
   pub loaded : with_files visits [] ≡ Ok tables
 
--- Some first files were visited, these were the reads, and the line tells of the first fault among them.
+-- Some first files were visited, these were the reads, and the line reports the first fault among them.
 pub record Refused (holds : List ℕ → Option (Option (List ℕ))) (before after : Option (List Reading)) (files : List (List ℕ)) (line : List ℕ) : Type 0 where
   pub visits : List Visit
   pub unseen : List (List ℕ)
@@ -168,7 +168,7 @@ abbrev pub RefusedBy : (List ℕ → Option (Option (List ℕ))) → Option (Lis
 RefusedBy holds before after files start.Memory = Abandoned holds before after files
 RefusedBy holds before after files (start.Refused line) = Refused holds before after files line
 
--- an error that tells of a file's fault, or of the want of memory
+-- an error that reports a file's fault, or the lack of memory
 abbrev pub TellsOf : List ℕ → FileFault → StartError → Type 0
 TellsOf file found start.Memory = ⊤
 TellsOf file found (start.Refused line) = (found ≢ fault.Memory) × (line ≡ fault_line file found)
@@ -188,7 +188,7 @@ abbrev pub GivesTable : Result Table FileFault → Result Table FileFault → Ty
 GivesTable meant (Ok table) = meant ≡ Ok table
 GivesTable meant (Err found) = found ≢ fault.Memory → meant ≡ Err found
 
--- the same of a call that leaves its tables behind
+-- the same of a call that leaves its tables
 abbrev pub LeavesTables : {A : Type 0} → Result (List Table) FileFault → Result A FileFault → List Table → Type 0
 LeavesTables meant (Ok x) tables = meant ≡ Ok tables
 LeavesTables meant (Err found) tables = found ≢ fault.Memory → meant ≡ Err found

@@ -10,7 +10,7 @@ use Rattle.lq_machine.specs.Output.{Answers, Runs, bytes_of, joined, one_if_some
 use Rattle.lq_serve.specs.Devices.{AppendsFront}
 use Rattle.lq_serve.specs.declared.script_run.Summary.{Summary}
 
--- The script is what the reader had, where that is known; it is in size and UTF-8.
+-- The script is what the reader had, where that is known; it is within the limits of size and is UTF-8.
 pub record IsScript (known : Option (List ℕ)) (script : List ℕ) : Type 0 where
   pub whole : IfSome known (λ all. script ≡ all)
   pub in_size : IsInSize script
@@ -53,7 +53,7 @@ pub record ServedInPart (known : Option (List ℕ)) (old new : State) (before af
 abbrev pub IsTooLong : Option (List ℕ) → Type 0
 IsTooLong known = IfSome known (λ all. ¬ (IsInSize all))
 
--- The bytes that the reader had, where they are known, are in size and not UTF-8.
+-- The bytes that the reader had, where they are known, are within the limits of size and not UTF-8.
 abbrev pub IsNoText : Option (List ℕ) → Type 0
 IsNoText known = IfSome known (λ all. IsInSize all × ¬ (IsUtf8 all))
 

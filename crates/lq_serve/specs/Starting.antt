@@ -35,7 +35,7 @@ abbrev pub parts_or_fault : Result PolicyParts PolicyFileError → Result Policy
 parts_or_fault (Ok parts) = Ok parts
 parts_or_fault (Err error) = Err (fault_of_policy error)
 
--- the policies in front of these tables that mean what was read of their file
+-- the policies for these tables that mean what was read of their file
 abbrev pub policies_read : List Table → Option (List ℕ) → Result PolicyParts FileFault
 policies_read tables None = Err fault.Read
 policies_read tables (Some bytes) = parts_or_fault (policies_in tables bytes)
@@ -56,7 +56,7 @@ pub record Asked : Type 0 where
 abbrev pub asked_by : Options → Asked
 asked_by options = record { role = string_bytes options.role; policy = string_bytes options.policy; tables = map string_bytes options.tables.items }
 
--- The tables were loaded, behind them the policy file was read, and it gave this: its first bytes, or nothing where it can't be
+-- The tables were loaded, after them the policy file was read, and it gave this: its first bytes, or nothing where it can't be
 -- read. These were all the reads.
 pub record Reads (holds : List ℕ → Option (Option (List ℕ))) (before after : Option (List Reading)) (asked : Asked) (tables : List Table)
     (gave : Option (List ℕ)) : Type 0 where
@@ -78,7 +78,7 @@ pub record Started (holds : List ℕ → Option (Option (List ℕ))) (before aft
   pub found : role_number policies asked.role ≡ Some role
   pub first : state ≡ record { tables = tables; policies = policies; role = role; definitions = [] }
 
--- The line tells of the first fault: of a table, then of the policies, then of the role.
+-- The line reports the first fault: of a table, then of the policies, then of the role.
 pub data Told (holds : List ℕ → Option (Option (List ℕ))) (before after : Option (List Reading)) (asked : Asked) (line : List ℕ) : Type 0 where
   of_table : Refused holds before after asked.tables line → Told holds before after asked line
   of_policies : (tables : List Table) (gave : Option (List ℕ)) → Reads holds before after asked tables gave
@@ -87,7 +87,7 @@ pub data Told (holds : List ℕ → Option (Option (List ℕ))) (before after : 
       → (policies : PolicyParts) → policies_read tables gave ≡ Ok policies → role_number policies asked.role ≡ None
       → line ≡ fault_line asked.role fault.Role → Told holds before after asked line
 
--- There was no memory to go on. Some first tables were visited; the policy file was read, if at all, behind all of them; and no
+-- There was no memory to go on. Some first tables were visited; the policy file was read, if at all, after all of them; and no
 -- other file was.
 pub record GivenUp (holds : List ℕ → Option (Option (List ℕ))) (before after : Option (List Reading)) (asked : Asked) : Type 0 where
   pub visits : List Visit

@@ -7,7 +7,7 @@ use crate::output::write_some;
 use crate::serve_error::{ReadFailed, WriteFailed};
 use std::io::{Read, Write};
 
-/// A std reader or writer with a mark that tells whether it has failed.
+/// A std reader or writer with a mark that says whether it has failed.
 ///
 /// It fails where a read, a write or a flush answers an error (`Interrupted` is one too, and is not
 /// tried again), or where a write takes none of some bytes. A mark stays.

@@ -1,4 +1,4 @@
-//! Ending: the status for the caller of the program, and the line that tells of a fault.
+//! Ending: the status for the caller of the program, and the line that reports a fault.
 ghost use Rattle.std.specs.Prelude.{◌≡◌, false};
 ghost use Rattle.lq_session.specs.States.{state_of};
 ghost use Rattle.lq_serve.specs.Devices.{inner_of, is_ended, is_failed, Writes};
@@ -18,14 +18,14 @@ const FILE_FAULT: u8 = 3;
 // The status for a fault of the script or of a device.
 const SCRIPT_FAULT: u8 = 4;
 
-// The status for want of memory.
+// The status for lack of memory.
 const NO_MEMORY: u8 = 5;
 
-/// Serves a script from a reader to a writer, tells of a fault by one line to `errors`, and returns
-/// the program's status: 0, 4 for a fault of the script or of a device, and 5 for want of memory.
+/// Serves a script from a reader to a writer, reports a fault by one line to `errors`, and returns
+/// the program's status: 0, 4 for a fault of the script or of a device, and 5 for lack of memory.
 /// Status and line are those of what `serve` answered, and so are the marks of reader and writer.
 ///
-/// Behind the replies nothing is written. The line is written whole, unless `errors` fails: it is
+/// After the replies nothing is written. The line is written whole, unless `errors` fails: it is
 /// then marked, and holds a front of the line.
 pub fn finish<R: Read, W: Write, E: Write>(
     alloc: Global,
@@ -69,7 +69,7 @@ pub fn finish<R: Read, W: Write, E: Write>(
     }
 }
 
-/// Tells of the error by one line to `errors`, and answers the program's status: 5 for want of
+/// Reports the error by one line to `errors`, and answers the program's status: 5 for lack of
 /// memory, and 3 for a table, policies or a role that was refused.
 ///
 /// The line is written whole, unless `errors` fails: it is then marked, and holds a front of the line.
@@ -103,7 +103,7 @@ fn tell_line<E: Write>(errors: &mut Device<E>, line: &[u8])
     }
 }
 
-// Writes as much of the line as can be written: nobody is left to be told of a failure here.
+// Writes as much of the line as can be written: nobody is left to report a failure to here.
 fn tell<E: Write>(errors: &mut Device<E>, line: &[u8])
     requires { is_failed errors.old ≡ false }
     ensures { Writes (is_failed errors.new) (E.contents (inner_of errors.old))

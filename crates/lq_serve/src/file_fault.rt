@@ -1,4 +1,4 @@
-//! What may be wrong with what the command line names, a file or the role, and the line that tells of it.
+//! What may be wrong with what the command line names, a file or the role, and the line that reports it.
 ghost use Rattle.std.specs.Prelude.{◌≡◌, IfOk, string_bytes};
 ghost use Rattle.lq_serve.specs.Loading.{fault_line, fault_of_load, fault_of_store, fault_text};
 
@@ -12,13 +12,13 @@ use std::alloc::{AllocError, Global};
 pub(crate) enum FileFault {
     // There was no memory.
     Memory,
-    // The table's name is no name.
+    // The table's name isn't a name.
     Name,
     // The file can't be read.
     Read,
     // A record has more or fewer cells than the header.
     Csv,
-    // There is no header, or a cell of it is no `NAME:TYPE`.
+    // There is no header, or a cell of it isn't a `NAME:TYPE`.
     Header,
     // Two columns have one name.
     DuplicateName,
@@ -30,7 +30,7 @@ pub(crate) enum FileFault {
     DuplicateTable,
     // There are as many tables as a session has.
     TooMany,
-    // The policy file is no TOML.
+    // The policy file isn't TOML.
     Toml,
     // The policy file has another key, another kind of value, or too many bytes, lacks a key, or has
     // a rule that doesn't parse.
@@ -39,7 +39,7 @@ pub(crate) enum FileFault {
     UnknownName,
     // The policy file has a role, a table or the name of a rule twice.
     Duplicate,
-    // A rule of the policy file is no truth value.
+    // A rule of the policy file isn't a truth value.
     RuleType,
     // A rule of the policy file may fault.
     RuleNotTotal,
@@ -110,7 +110,7 @@ impl From<PolicyFileError> for FileFault {
     }
 }
 
-// The line that tells of a fault, without a line feed.
+// The line that reports a fault, without a line feed.
 pub(crate) fn fault_line(alloc: Global, file: &str, fault: FileFault) -> Result<String, AllocError>
     ensures { IfOk result (λ line. string_bytes line ≡ fault_line file.now fault) }
 {
@@ -119,7 +119,7 @@ pub(crate) fn fault_line(alloc: Global, file: &str, fault: FileFault) -> Result<
     format!(in alloc; "lq: {file}: {text}")
 }
 
-// The words of a fault, as they stand in its line.
+// The words of a fault, as they are in its line.
 fn fault_text(alloc: Global, fault: FileFault) -> Result<String, AllocError>
     ensures { IfOk result (λ text. string_bytes text ≡ fault_text fault) }
 {

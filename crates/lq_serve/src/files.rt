@@ -1,4 +1,4 @@
-//! Files by their names, as whoever loads them sees them.
+//! Files by their names, as those who load them see them.
 use lq_value::{List, Txt};
 use std::alloc::AllocError;
 use thiserror::Error;

@@ -1,4 +1,4 @@
-//! Loading: the tables of some files, or the line that tells why there are none.
+//! Loading: the tables of some files, or the line that says why there are none.
 ghost use Rattle.std.specs.Prelude.{◌≡◌, ◌∷◌, [], List, ℕ, Option, map, string_bytes, IfOk, IfErr};
 ghost use Rattle.lq_serve.specs.Loading.{Agrees, Answered, GivesTable, LeavesTables, Loaded, RefusedBy, readings_of_one, table_in, table_read, with_table};
 
@@ -45,7 +45,7 @@ pub(crate) fn load_tables<F: Files>(
     Ok(store)
 }
 
-// Reads the file of this name, and puts its table behind the others.
+// Reads the file of this name, and puts its table after the others.
 fn add_file<F: Files>(
     alloc: Global,
     file: &str,

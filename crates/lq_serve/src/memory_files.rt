@@ -36,7 +36,7 @@ impl<'a> MemoryFiles<'a> {
         self.readings.as_slice()
     }
 
-    // Puts a reading behind the others.
+    // Puts a reading after the others.
     fn add_reading(
         &mut self,
         name: &str,

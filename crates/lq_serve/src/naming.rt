@@ -10,7 +10,7 @@ pub(crate) fn table_name(file: &str) -> &str
     without_ending(without_folders(file))
 }
 
-// What stands behind the last `/`.
+// What comes after the last `/`.
 fn without_folders(file: &str) -> &str
     ensures { result.now ≡ without_folders file.now }
 {

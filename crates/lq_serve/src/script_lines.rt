@@ -2,7 +2,7 @@
 ghost use Rattle.std.specs.Prelude.{◌≡◌, ◌∷◌, ◌<◌, length};
 ghost use Rattle.lq_grammar.specs.Script.{lines_of};
 
-// The first line without its line feed, and the text behind it.
+// The first line without its line feed, and the text after it.
 pub(crate) fn first_line(text: &str) -> (&str, &str)
     requires { 0 < length text.now }
     ensures lines { lines_of text.now ≡ result.0.now ∷ lines_of result.1.now }

@@ -27,7 +27,7 @@ pub struct Summary {
 /// Reads a script whole, steps its lines in order, and writes the replies.
 ///
 /// A script has at most 1,048,576 bytes, and its lines at most 65,536 bytes each. Sizes are those of
-/// the script as it stands, byte order marks among them, and are looked at before UTF-8. At most
+/// the script as it is, byte order marks among them, and are looked at before UTF-8. At most
 /// 1,048,577 bytes are read, and by at most as many reads, whatever the reader has; the reader may
 /// have come to its end before, and is then read on. No read is made after one that answered an error
 /// or the end. After each error but `Write` nothing was stepped and nothing written. `Memory` is for
@@ -60,10 +60,10 @@ pub fn serve<R: Read, W: Write>(
         → IsTooLong (R.remaining (inner_of reader.old)) }
     ensures utf8 { result ≡ Err ServeError.Utf8 → IsNoText (R.remaining (inner_of reader.old)) }
 
-    // Memory is wanting for bytes that a read gave, before the end.
+    // There is no memory for bytes that a read gave, before the end.
     ensures memory { result ≡ Err ServeError.Memory → is_ended reader.new ≡ false }
 
-    // The devices tell which of them failed.
+    // The devices show which of them failed.
     ensures read_marked { (result ≡ Err ServeError.Read) ↔ (is_failed reader.new ≡ true) }
     ensures write_marked { (result ≡ Err ServeError.Write) ↔ (is_failed writer.new ≡ true) }
 
@@ -84,7 +84,7 @@ pub fn serve<R: Read, W: Write>(
     }
 }
 
-// The text is in size, so the counts do not wrap.
+// The text is within the limits of size, so the counts do not wrap.
 fn serve_text<W: Write>(
     text: &str,
     writer: &mut Device<W>,

@@ -24,7 +24,7 @@ pub enum ServeError {
     /// The script has more than 1,048,576 bytes, or a line of more than 65,536 bytes. Nothing was stepped.
     #[error("too-long")]
     TooLong,
-    /// The script is in size, and not UTF-8. Nothing was stepped.
+    /// The script is within the limits of size, and not UTF-8. Nothing was stepped.
     #[error("utf8")]
     Utf8,
     /// There was no memory for the script. Nothing was stepped.

@@ -1,4 +1,4 @@
-//! Why the program has no session, and the line that tells of it.
+//! Why the program has no session, and the line that reports it.
 ghost use Rattle.lq_serve.specs.Loading.{TellsOf};
 
 use crate::file_fault::{FileFault, fault_line};
@@ -29,7 +29,7 @@ impl From<AllocError> for StartError {
     }
 }
 
-// The error that tells of a fault of what this word of the command line names.
+// The error that reports a fault of what this word of the command line names.
 pub(crate) fn refusal(alloc: Global, word: &str, fault: FileFault) -> StartError
     ensures { TellsOf word.now fault result }
 {

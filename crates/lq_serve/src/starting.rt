@@ -1,4 +1,4 @@
-//! Starting: the session over the tables, the policies and the role that the command line names, or the line that tells
+//! Starting: the session over the tables, the policies and the role that the command line names, or the line that says
 //! why there is none.
 ghost use Rattle.std.specs.Prelude.{◌≡◌, ◌∷◌, [], List, ℕ, Option, Some, IfErr, IfOk, IfSome};
 ghost use Rattle.lq_policy.specs.Roles.{number_of, role_number};
@@ -22,7 +22,7 @@ use std::alloc::{AllocError, Global};
 // The most bytes that are read of a policy file: one more than it may have.
 const READ_LIMIT: u64 = MOST_BYTES as u64 + 1;
 
-/// The first session that the options ask for: over the tables of their files, behind the policies of
+/// The first session that the options ask for: over the tables of their files, under the policies of
 /// their policy file, in their role.
 ///
 /// A table's name is its file's without folders and without the ending `.csv`. The first fault is
@@ -32,7 +32,7 @@ const READ_LIMIT: u64 = MOST_BYTES as u64 + 1;
 /// then `role`, where the policies don't have the role. The line is `lq: WORD: FAULT`, with the word
 /// of the command line. Each file is read once, up to the first fault, and no other file is; at most
 /// 16,777,217 bytes are asked for of a table's file, and 1,048,577 of the policy file. `Memory` may
-/// stand for any other answer.
+/// replace any other answer.
 pub fn load<F: Files>(
     alloc: Global,
     options: &Options,
@@ -56,7 +56,7 @@ pub fn load<F: Files>(
     }
 }
 
-// The session over these tables, behind these policies, which are prepared for its role.
+// The session over these tables, under these policies, which are prepared for its role.
 fn prepared(
     alloc: Global,
     store: Store,
@@ -73,7 +73,7 @@ fn prepared(
     }
 }
 
-// The policies that the file of this name holds, in front of the tables of the store.
+// The policies that the file of this name holds, for the tables of the store.
 fn load_policies<F: Files>(
     alloc: Global,
     file: &str,
@@ -90,7 +90,7 @@ fn load_policies<F: Files>(
     policies_from_bytes(alloc, &bytes, store)
 }
 
-// The policies that the bytes of their file mean, in front of the tables of the store.
+// The policies that the bytes of their file mean, for the tables of the store.
 fn policies_from_bytes(alloc: Global, bytes: &[u8], store: &Store) -> Result<Policies, FileFault>
     ensures { GivesPolicies (policies_read store.now (Some bytes.now)) result }
 {

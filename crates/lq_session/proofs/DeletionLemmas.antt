@@ -41,7 +41,7 @@ pub without_same : (s : State) (table : Table) (gone : List TableRow) → withou
 without_same s table gone i = record table { rows = filter (λ row. not (listed_rows row.number gone i)) table.rows }
 
 module _ (s : State) (n : ℕ) (table : Table) (gone : List TableRow) (ending : End) where
-  -- the rows go by their numbers, where these come to their end
+  -- the rows are removed by their numbers, where these come to their end
   removes : (line numbers : List ℕ) (k count : ℕ) (new : State) → slice_get s.tables n ≡ Some table → ending ≡ end.Done
       → numbers ≡ map (λ r. r.row.number) gone → k ≡ length numbers → line ≡ line_of (deleted_data k)
       → IfSome (slice_get s.tables n) (λ t. (count ≡ count_listed t numbers) × (new ≡ record s { tables = set s.tables n (without_rows t numbers) }))
@@ -54,7 +54,7 @@ module _ (s : State) (n : ℕ) (table : Table) (gone : List TableRow) (ending : 
         gone_there.1 ∙ ap (λ (ns : List ℕ). with_table s n (without_rows table ns)) are ∙ ap (with_table s n) (without_same s table gone),
       )
 
--- ---- the parts of a deletion, one behind the other
+-- ---- the parts of a deletion, one after the other
 
 module _ (s : State) (name x : List ℕ) (e : Expr) (n : ℕ) (table : Table) (number : table_number name (schemas_of s.tables) ≡ Some n)
     (at : slice_get s.tables n ≡ Some table) where

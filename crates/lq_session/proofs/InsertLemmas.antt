@@ -81,7 +81,7 @@ full_part true true false d typed within = absurd (true≢false (sym within))
 full_part true true true false typed within = refl
 full_part true true true true typed within = refl
 
--- ---- the parts of an insertion, one behind the other
+-- ---- the parts of an insertion, one after the other
 
 module _ (s : State) (name : List ℕ) (cells : List Scalar) (n : ℕ) (table : Table) (number : table_number name (schemas_of s.tables) ≡ Some n)
     (at : slice_get s.tables n ≡ Some table) (says : Option StoreError) (told : says ≡ insertion_refusal_of s.tables n cells) where

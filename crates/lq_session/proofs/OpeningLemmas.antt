@@ -1,4 +1,4 @@
--- What is opened behind some tokens and then behind others, and the limits.
+-- What is opened after some tokens and then after others, and the limits.
 use Rattle.std.proofs.Common.{◌≡◌, ◌∷◌, ◌++◌, ◌+◌, ◌<◌, ◌≤◌, ◌∙◌, List, [], ℕ, Bool, true, false, if◌then◌else◌, Some, None, ap, ap₂, sym, refl, arith, length, drop, get_or}
 use Rattle.std.specs.Prelude.{nat_lt}
 use Rattle.std.proofs.lemmas.Bool.Decides.{nat_tests}
@@ -74,7 +74,7 @@ module _ (definitions : List Definition) (line : List ℕ) where
     abbrev opened_there : Opened
     opened_there = opened_with opened (opened_behind definitions before (get_or tokens i token).kind (text_of line (get_or tokens i token)))
 
-    -- what is opened behind a token, with what those behind it open
+    -- what is opened after a token, with what those after it open
     turned : i < length tokens → opened_with opened (opened_from definitions line before (drop i tokens)) ≡ whole
         → opened_with opened_there (opened_from definitions line (get_or tokens i token).kind (drop (i + 1) tokens)) ≡ whole
     turned within rest =

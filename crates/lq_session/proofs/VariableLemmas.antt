@@ -70,7 +70,7 @@ module _ (s : State) (name : List ℕ) (o : Option ℕ) (found : o ≡ table_num
       is ∙ ap is_some there
       ∙ ap (λ (table : Bool). table || is_some (definition_of name s.definitions)) (sym is_not ∙ tells ∙ ap is_some found)
 
--- what is told of a value is there exactly where the value is
+-- what is computed from a value is there exactly where the value is
 pub there_too : {A B : Type 0} (f : A → B) (o : Option A) → is_some o ≡ is_some (option_map f o)
 there_too f None = refl
 there_too f (Some x) = refl

@@ -10,11 +10,11 @@ use Rattle.lq_run.specs.declared.stop.Stop.{Stop}
 use Rattle.lq_run.specs.declared.stop.Stop.TheVariants as stop
 use Rattle.lq_session.specs.declared.replies.NoRow.{NoRow}
 
--- a row that stands in no reply
+-- a row that is in no reply
 abbrev pub no_cells : NoRow → List Scalar
 no_cells row = []
 
--- the outcome's line and the state behind it; where the statement stops the state is as it was
+-- the outcome's line and the state after it; where the statement stops the state is as it was
 abbrev pub Performs : Outcome → State → Result (List ℕ) Stop → State → Type 0
 Performs outcome old (Ok line) new = (line ≡ line_of outcome.0) × (new ≡ outcome.1)
 Performs outcome old (Err why) new = Stops old outcome why × (new ≡ old)

@@ -1,4 +1,4 @@
--- What is told of rows that are put into a table.
+-- What is answered to rows that are put into a table.
 use Rattle.std.specs.Prelude.{◌≡◌, List, ℕ, Bool, true, false, Option, Some, None, Result, Ok, Err}
 use Rattle.lq_value.specs.Tables.{Table}
 use Rattle.lq_value.specs.declared.scalar.Scalar.{Scalar}
@@ -15,7 +15,7 @@ abbrev pub ChecksRow : State → ℕ → List Scalar → Result (Unit {0}) Stop 
 ChecksRow s n cells (Ok all) = refuser_of s.policies s.role n cells ≡ None
 ChecksRow s n cells (Err why) = (table : Table) → Stops s (row_checked s n table cells (refuser_of s.policies s.role n cells)) why
 
--- what a table says of a row tells whether it has one cell a column, of its type; whether each number is in its range; and whether the
+-- what a table answers to a row decides whether it has one cell a column, of its type; whether each number is in its range; and whether the
 -- table is full
 abbrev pub is_typed : Option StoreError → Bool
 is_typed (Some error.Arity) = false

@@ -10,8 +10,8 @@ use Rattle.lq_language.specs.ValuesOfTypes.{Every}
 use Rattle.lq_language.specs.Meaning.{expression_meaning}
 use Rattle.lq_grammar.specs.declared.syntax.Expr.{Expr}
 
--- over tables that a store keeps and names that stand for what `var` defined, what a `run` that isn't denied serves is the same whatever
--- stands where an expression has no meaning
+-- over tables that a store keeps and names that mean what `var` defined, what a `run` that isn't denied serves is the same whatever
+-- is put where an expression has no meaning
 abbrev pub ServesStoredMeanings : Type 0
 ServesStoredMeanings =
     (s : State) → Every IsTable s.tables → AreDefined (schemas_of s.tables) s.definitions → (e : Expr) (unknown : Fault)

@@ -1,4 +1,4 @@
-//! Sessions: a step for each line of a script, over tables behind row policies.
+//! Sessions: a step for each line of a script, over tables under row policies.
 //!
 //! `Session::step` is the session machine's step, reply and new state, for every line and statement; or,
 //! where memory was refused, the memory line with the state unchanged.

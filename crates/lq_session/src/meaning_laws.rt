@@ -2,7 +2,7 @@
 //! functions themselves do nothing.
 ghost use Rattle.lq_session.specs.StoredMeanings.{ServesStoredMeanings};
 
-/// Over the tables that a store keeps and names that stand for what `var` defined, no reply to `run` depends on what stands where an expression
+/// Over the tables that a store keeps and names that mean what `var` defined, no reply to `run` depends on what is put where an expression
 /// has no meaning: what is served has one.
 pub fn served_meanings()
     ensures { ServesStoredMeanings }

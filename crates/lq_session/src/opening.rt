@@ -1,4 +1,4 @@
-//! What a statement opens: the named queries whose names stand among its tokens.
+//! What a statement opens: the named queries whose names are among its tokens.
 ghost use Rattle.std.specs.Prelude.{◌≡◌, ◌∷◌, [], false, length, option_to_list};
 ghost use Rattle.std.specs.Option.{option_copied};
 ghost use Rattle.lq_machine.specs.Definitions.{definition_of};
@@ -36,7 +36,7 @@ fn opened_as(definition: &Definition) -> Option<Opened>
     }
 }
 
-/// What a token opens that doesn't stand behind a `.`.
+/// What a token opens that doesn't come after a `.`.
 fn opened_named(definitions: &[Definition], line: &[u8], token: Token) -> Option<Opened>
     ensures { option_to_list result ≡ opened_named definitions.now token.kind
         (text_of line.now token) }
@@ -47,7 +47,7 @@ fn opened_named(definitions: &[Definition], line: &[u8], token: Token) -> Option
     }
 }
 
-/// What a token opens behind one of the first kind.
+/// What a token opens after one of the first kind.
 fn opened_behind(
     definitions: &[Definition],
     before: Kind,
@@ -78,7 +78,7 @@ fn with_query(opened: Opened, query: Opened) -> Option<Opened>
     })
 }
 
-/// What is opened behind one token more; none where that is past a limit.
+/// What is opened after one token more; none where that is past a limit.
 fn with_token(
     opened: Opened,
     definitions: &[Definition],
@@ -106,9 +106,9 @@ fn unopened(tokens: &[Token]) -> Option<Opened>
     (size <= MOST_TOKENS).then_some(Opened { size, rank: 0 })
 }
 
-/// What a statement of these tokens opens: each named query among these definitions whose name stands among them, but not behind
+/// What a statement of these tokens opens: each named query among these definitions whose name is among them, but not after
 /// a `.`. None where the tokens are more than 65,536 together with those of all that it opens, or more than 8 named queries
-/// stand one in the other.
+/// are nested one in the other.
 pub(crate) fn opening_of_tokens(
     line: &[u8],
     definitions: &[Definition],

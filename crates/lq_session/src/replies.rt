@@ -8,7 +8,7 @@ use lq_json::{Line, Reply, reply_line};
 use lq_value::{RowRef, Scalar};
 use std::alloc::{AllocError, Global};
 
-/// A row with no cells: no row stands in a reply without a value.
+/// A row with no cells: no row is in a reply without a value.
 #[derive(Clone, Copy)]
 pub(crate) struct NoRow;
 

@@ -87,7 +87,7 @@ pub(crate) fn insert(
 }
 
 /// Removes the rows of the table of this name on which a condition is true, of those that the role may remove. It is
-/// refused as `type` where there is no such table, or the condition is no truth value; then it is denied
+/// refused as `type` where there is no such table, or the condition isn't a truth value; then it is denied
 /// where the role has no right to remove rows there, or to what the condition uses. A fault removes none.
 pub(crate) fn delete(
     alloc: Global,

@@ -12,7 +12,7 @@ use lq_typing::{copy_ty, has_place};
 use lq_value::Ty;
 use std::alloc::{AllocError, Global};
 
-/// A copy of the type, if it is any but that of null, which has no place in a reply.
+/// A copy of the type, if it is any but that of null, which can't be in a reply.
 fn placed_type(alloc: Global, given: &Ty) -> Result<Option<Ty>, AllocError>
     ensures { IfOk result (λ found. found
         ≡ when (has_place (out-Ty given.now)) (Some given.now)) }

@@ -12,8 +12,8 @@ use lq_store::Store;
 use lq_value::Ty;
 use std::alloc::{AllocError, Global};
 
-/// A session: the tables that its statements work on, the policies in front of them, the role that it
-/// goes by, and what it has defined.
+/// A session: the tables that its statements work on, the policies for them, the role that it
+/// has, and what it has defined.
 #[derive(Drop)]
 pub struct Session {
     alloc: Global,

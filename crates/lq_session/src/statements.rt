@@ -37,7 +37,7 @@ pub(crate) fn perform(
     }
 }
 
-/// The session goes by the role of this name from now on; refused as `role` where there is none.
+/// The session has the role of this name from now on; refused as `role` where there is none.
 #[tactic(auto, using(lq_machine::proofs::StatementLaws::of_roles))]
 fn take_role(alloc: Global, name: &str, state: &mut State) -> Result<Line, Stop>
     ensures { Performs (taking_role state.old name.now) state.old result state.new }

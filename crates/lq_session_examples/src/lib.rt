@@ -1,4 +1,4 @@
-//! Tests of values, operators, tables, policies and sessions, by public calls, where the built program can't show it. They stand here
+//! Tests of values, operators, tables, policies and sessions, by public calls, where the built program can't show it. They are here
 //! and not in the crates that they test: a crate without tests is proved once.
 #![tactic(auto)]
 

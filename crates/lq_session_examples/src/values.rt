@@ -1,4 +1,4 @@
-//! How scalars stand in order, and which values are the same, of whatever kinds they are. What the program makes of copies and of
+//! How scalars are ordered, and which values are the same, of whatever kinds they are. What the program makes of copies and of
 //! keys is shown by the built program (tests/cli).
 ghost use Rattle.std.specs.Prelude.{◌≡◌};
 
@@ -31,7 +31,7 @@ fn a_list_gives_back_its_items(rt: HostRuntime) -> Result<(), Fail> {
     Ok(())
 }
 
-// Two scalars as they are spelled, a text in quotes, and how the first stands to the second.
+// Two scalars as they are spelled, a text in quotes, and how the first compares to the second.
 const ORDERS: [(&str, &str, Ordering); 16] = [
     ("null", "null", Ordering::Equal),
     ("null", "-2147483648", Ordering::Less),
@@ -48,7 +48,7 @@ const ORDERS: [(&str, &str, Ordering); 16] = [
     ("'B'", "'a'", Ordering::Less),
     ("'\u{e9}'", "'z'", Ordering::Greater),
     ("'\u{e9}'", "'\u{e9}'", Ordering::Equal),
-    // No typed expression compares these: they stand in the order of their kinds.
+    // No typed expression compares these: they are in the order of their kinds.
     ("1", "'1'", Ordering::Less),
 ];
 
@@ -87,12 +87,12 @@ pub(crate) fn spelled(alloc: Global, word: &str) -> Result<Scalar, AllocError> {
     })
 }
 
-// Whether the two are the same, as they are let go of here.
+// Whether the two are the same, as they are freed here.
 fn is_same<'a>(left: Value<Cells<'a>>, right: Value<Cells<'a>>) -> bool {
     same(&left, &right)
 }
 
-// How two scalars stand to each other, and whether they are the same.
+// How two scalars compare to each other, and whether they are the same.
 fn compared(alloc: Global, first: &str, second: &str) -> Result<(Ordering, bool), AllocError> {
     let left = spelled(alloc, first)?;
     let right = spelled(alloc, second)?;

@@ -1,4 +1,4 @@
-//! Tests of tokens, of trees and of total rules, by the public calls that give them. They stand here
+//! Tests of tokens, of trees and of total rules, by the public calls that give them. They are here
 //! and not in the crates that they test: a crate without tests is proved once.
 #![tactic(auto)]
 

@@ -1,4 +1,4 @@
-//! Which rules are told to be total, form by form.
+//! Which rules are reported to be total, form by form.
 use lq_scalar::is_total;
 use lq_syntax::{SyntaxError, parse_rule};
 use std::alloc::Global;
@@ -108,7 +108,7 @@ const RULES: [(&str, bool); 92] = [
     ("Host.p(row.c)", false),
 ];
 
-// A function of its own: what costs most to prove of a test is that it lets go of a tree.
+// A function of its own: what costs most to prove of a test is that it frees a tree.
 fn is_told_total(alloc: Global, text: &str) -> Result<bool, SyntaxError> {
     Ok(is_total(&parse_rule(alloc, text)?))
 }

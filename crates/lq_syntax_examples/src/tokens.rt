@@ -4,7 +4,7 @@ use lq_lex::{LINE_LIMIT, LexError, int_value, is_blank, is_name, text_value, tok
 use std::alloc::Global;
 use std::test::Fail;
 
-/// Signs with nothing behind them.
+/// Signs with nothing after them.
 const SIGNS: [(&str, Kind); 26] = [
     ("(", Kind::LeftParenthesis),
     (")", Kind::RightParenthesis),
@@ -173,7 +173,7 @@ const NAMES: [&str; 15] = [
     "\u{1d4d0}",
 ];
 
-/// Texts that are no name.
+/// Texts that aren't a name.
 const NO_NAMES: [&str; 14] = [
     "", "1x", "from", "Host", "a b", "a ", " a", "a-b", "\u{663}", "\u{301}", "\u{b7}", "a\u{a0}",
     "a#", "\"a\"",
@@ -235,7 +235,7 @@ const LENGTHS: [(&str, usize, Found); 8] = [
     ("a", 65537, Found::TooLong),
     ("\u{e9}", 32768, Found::Tokens(1)),
     ("\u{e9}", 32769, Found::TooLong),
-    // A line over the limit is too long, whatever stands in it.
+    // A line over the limit is too long, whatever is in it.
     ("#", 65536, Found::Faulty),
     ("#", 65537, Found::TooLong),
     (" ", 65536, Found::Tokens(0)),
@@ -270,7 +270,7 @@ fn spells(alloc: Global, literal: &str, expected: &[u8]) -> Result<bool, Fail> {
     Ok(is_one(alloc, literal, Kind::Text)? && text_value(alloc, literal)?.as_bytes() == expected)
 }
 
-/// `text`, so many times behind one another.
+/// `text`, so many times one after another.
 fn repeated(alloc: Global, text: &str, times: usize) -> Result<String, Fail> {
     let mut all = String::new(alloc);
     for _ in 0..times {

@@ -1,10 +1,10 @@
-//! Trees of rules. What the trees of queries are, and which lines are no statement, the replies show (tests/cli).
+//! Trees of rules. What the trees of queries are, and which lines aren't a statement, the replies show (tests/cli).
 use lq_grammar::{Binary, Expr, Node};
 use lq_syntax::{SyntaxError, parse_rule};
 use std::alloc::Global;
 use std::test::Fail;
 
-/// Texts that are no rule: a rule is one expression.
+/// Texts that aren't a rule: a rule is one expression.
 const NO_RULES: [&str; 8] = [
     "",
     "row.c >= 2;",
@@ -47,7 +47,7 @@ fn leans_left(expr: &Expr, operator: Binary) -> bool {
 }
 
 // Whether the text is a rule of three operands under this operator, grouped from the left. A function of its own, like the
-// next two: what costs most to prove of a test is that it lets go of a tree.
+// next two: what costs most to prove of a test is that it frees a tree.
 fn groups_from_the_left(alloc: Global, text: &str, operator: Binary) -> Result<bool, SyntaxError> {
     Ok(leans_left(&parse_rule(alloc, text)?, operator))
 }

@@ -1,4 +1,4 @@
-//! Tests of the translation of queries, by public calls. They stand here and not in the crate that they test: a crate without tests is
+//! Tests of the translation of queries, by public calls. They are here and not in the crate that they test: a crate without tests is
 //! proved once.
 #![tactic(auto)]
 

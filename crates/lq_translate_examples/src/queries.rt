@@ -1,4 +1,4 @@
-//! The calls that queries stand for, each query spelled as a script has it.
+//! The calls that queries are translated to, each query spelled as a script has it.
 use lq_grammar::{Expr, Query, Statement};
 use lq_language::{Call, Operator, Paired, Term};
 use lq_syntax::{SyntaxError, parse_statement};
@@ -119,8 +119,8 @@ fn is_made_of(call: &Call<Term>, words: &[&str], behind: &[&str]) -> bool {
         }
 }
 
-// Whether a query stands for these calls. A function of its own, like the next four: what costs most to prove of a test is that it lets
-// go of a tree.
+// Whether a query is translated to these calls. A function of its own, like the next four: what costs most to prove of a test is that
+// it frees a tree.
 fn has_calls(
     alloc: Global,
     query: &Query<Expr>,
@@ -142,7 +142,7 @@ fn query_of(statement: &Statement) -> Option<&Query<Expr>> {
     }
 }
 
-// Whether the line is a query that stands for these calls.
+// Whether the line is a query that is translated to these calls.
 fn is_translated(
     alloc: Global,
     line: &str,

@@ -71,7 +71,7 @@ module _ (parts : PolicyParts) (role : ℕ) where
   first_denied uses place used rule at so_far denied =
       sym so_far.left ∙ ap (denial parts role) (next_use uses place used at) ∙ denied_first used (drop (place + 1) uses) rule denied
 
-  -- no use is left behind the last
+  -- no use is left after the last
   pub no_more : (uses : List Use) (place : ℕ) → length uses ≤ place → AreAllowed uses place → denial parts role uses ≡ None
   no_more uses place past so_far = sym so_far.left ∙ ap (denial parts role) (drop_past uses place past) ∙ nothing_denied
 
@@ -81,7 +81,7 @@ found [] place other within = absurd (omega (arith, within))
 found (u ∷ uses) zero other within = refl
 found (u ∷ uses) (suc place) other within = let later : place < length uses = omega (arith, within) in found uses place other later
 
--- a denier that is told, and one that isn't
+-- a denier that is given, and one that isn't
 pub denied_by : (told : Option (Bor (List ℕ))) (rule : Bor (List ℕ)) (meant : Option (List ℕ)) → told ≡ Some rule → option_map (λ r. r.now) told ≡ meant
     → meant ≡ Some rule.now
 denied_by told rule meant is same = sym same ∙ ap (option_map (λ r. r.now)) is

@@ -116,7 +116,7 @@ pub row_shows : (schemas : List Schema) (n : ℕ) → shown_columns schemas (ty.
 row_shows schemas n =
     type_out schemas (ty.Row n) ∙ ap (λ (layer : Ty-F Ty). shown_step schemas (map-Ty Ty (List Use) (shown_columns schemas) layer)) (outs-Row n)
 
--- a form, behind the uses of its source and of its other parts
+-- a form, after the uses of its source and of its other parts
 module _ (old mid new : List Use) (f a : Form) where
   behind_two : (more : List Use) → form_uses f ≡ form_uses a ++ more → mid ≡ old ++ form_uses a → new ≡ mid ++ more → new ≡ old ++ form_uses f
   behind_two more is first second =

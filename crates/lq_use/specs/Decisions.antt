@@ -5,7 +5,7 @@ use Rattle.lq_security.specs.declared.policy.PolicyParts.{PolicyParts}
 use Rattle.lq_language.specs.declared.rights.Use.{Use}
 use Rattle.lq_use.specs.declared.decisions.Denied.{Denied}
 
--- The role may use each use that stands before the place.
+-- The role may use each use before the place.
 abbrev pub AreAllowedBefore : PolicyParts → ℕ → List Use → ℕ → Type 0
 AreAllowedBefore parts role uses place =
     (earlier : ℕ) (used : Use) → earlier < place → slice_get uses earlier ≡ Some used → may_use parts role used ≡ true

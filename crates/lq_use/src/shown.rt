@@ -8,7 +8,7 @@ use lq_store::Store;
 use lq_value::{Column, TableNumber, Txt, Ty};
 use std::alloc::AllocError;
 
-/// These columns of a table, behind other uses.
+/// These columns of a table, after other uses.
 fn add_each(table: TableNumber, columns: &[Column], uses: &mut Vec<Use>) -> Result<(), AllocError>
     requires { length columns.now ≤ 100 }
     ensures { OnOk result (uses.new.items ≡ uses.old.items ++ columns_from table 0 columns.now) }
@@ -19,7 +19,7 @@ fn add_each(table: TableNumber, columns: &[Column], uses: &mut Vec<Use>) -> Resu
     Ok(())
 }
 
-/// All columns of a table, behind other uses; none where there is no such table.
+/// All columns of a table, after other uses; none where there is no such table.
 #[tactic(auto, using(crate::proofs::UseLemmas::types))]
 fn add_table(store: &Store, table: TableNumber, uses: &mut Vec<Use>) -> Result<(), AllocError>
     ensures { OnOk result (uses.new.items
@@ -31,7 +31,7 @@ fn add_table(store: &Store, table: TableNumber, uses: &mut Vec<Use>) -> Result<(
     add_each(table, store.schema(table).columns.as_slice(), uses)
 }
 
-/// The columns of each row in values of this type, behind other uses: a record's members as written, and a group's key before its
+/// The columns of each row in values of this type, after other uses: a record's members as written, and a group's key before its
 /// items.
 #[cycle(showing)]
 #[tactic(auto, using(crate::proofs::UseLemmas::types))]
@@ -48,7 +48,7 @@ pub(crate) fn add_columns(store: &Store, ty: &Ty, uses: &mut Vec<Use>) -> Result
     }
 }
 
-/// The same of two types, one behind the other.
+/// The same of two types, one after the other.
 #[cycle(showing)]
 fn add_both(store: &Store, key: &Ty, item: &Ty, uses: &mut Vec<Use>) -> Result<(), AllocError>
     ensures { OnOk result (uses.new.items

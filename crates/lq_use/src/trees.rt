@@ -12,7 +12,7 @@ use lq_tree::{Form, Joined, Tree, ty};
 use lq_value::{ColumnNumber, TableNumber};
 use std::alloc::{AllocError, Global};
 
-/// What a form uses, behind other uses.
+/// What a form uses, after other uses.
 #[cycle(gathering)]
 #[inline(never)]
 #[tactic(auto, using(crate::proofs::UseLemmas::forms))]
@@ -58,7 +58,7 @@ fn add_form(form: &Form, uses: &mut Vec<Use>) -> Result<(), AllocError>
     }
 }
 
-/// A column, behind what its row uses.
+/// A column, after what its row uses.
 #[cycle(gathering)]
 fn add_column(
     row: &Form,
@@ -73,7 +73,7 @@ fn add_column(
     Ok(uses.push(Use::Column(table, column))?)
 }
 
-/// What two forms use, one behind the other.
+/// What two forms use, one after the other.
 #[cycle(gathering)]
 fn add_two(first: &Form, second: &Form, uses: &mut Vec<Use>) -> Result<(), AllocError>
     ensures { OnOk result (uses.new.items
@@ -83,7 +83,7 @@ fn add_two(first: &Form, second: &Form, uses: &mut Vec<Use>) -> Result<(), Alloc
     add_form(second, uses)
 }
 
-/// What three forms use, one behind the other.
+/// What three forms use, one after the other.
 #[cycle(gathering)]
 fn add_three(
     first: &Form,
@@ -123,7 +123,7 @@ fn add_keys(keys: &[SortKey<Form>], uses: &mut Vec<Use>) -> Result<(), AllocErro
     Ok(())
 }
 
-/// What four forms use, one behind the other.
+/// What four forms use, one after the other.
 #[cycle(gathering)]
 fn add_four(
     first: &Form,
@@ -155,7 +155,7 @@ fn add_joined(joined: &Joined<Form>, uses: &mut Vec<Use>) -> Result<(), AllocErr
 }
 
 /// What a tree uses of the tables, in the order of the text that it comes from: tables and columns; and where it is `served`,
-/// behind them each column of each row type in its type, all of which a reply shows. Refused where memory is.
+/// after them each column of each row type in its type, all of which a reply shows. Refused where memory is.
 pub fn uses(alloc: Global, tree: &Tree, store: &Store, served: bool) -> Result<Vec<Use>, AllocError>
     ensures { IfOk result (λ uses. uses.items
         ≡ form_uses tree.now.form ++ uses_served served (schemas_of store.now) tree.now.ty) }

@@ -15,7 +15,7 @@ use toml::{Table, Value};
 /// The most bytes that the name of a rule has.
 const MOST_NAME_BYTES: usize = 64;
 
-/// Whether a rule may have this name. Two names stand for a refusal that no rule makes.
+/// Whether a rule may have this name. Two names mean a refusal that no rule makes.
 fn is_rule_name(name: &str) -> bool
     ensures { result ≡ is_rule_name name.now }
 {
@@ -34,7 +34,7 @@ pub(crate) fn rule_name(alloc: Global, table: &Table) -> Result<Txt, ShapeError>
     }
 }
 
-/// The list of `public`, which stands for all roles.
+/// The list of `public`, which means all roles.
 pub(crate) fn all_roles(alloc: Global) -> Result<List<Txt>, AllocError>
     ensures { IfOk result (λ names. names ≡ codes "public" ∷ []) }
 {

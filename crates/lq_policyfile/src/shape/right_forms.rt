@@ -11,14 +11,14 @@ use lq_value::Txt;
 use std::alloc::Global;
 use toml::Value;
 
-/// What stands before the first dot of a text, and behind it.
+/// What comes before the first dot of a text, and after it.
 fn around_dot(text: &str) -> Option<(&str, &str)>
     ensures { option_map (λ words. (words.0.now, words.1.now)) result ≡ around 46 text.now }
 {
     text.split_once('.')
 }
 
-/// What stands before the first blank of a text, and behind it.
+/// What comes before the first blank of a text, and after it.
 fn around_blank(text: &str) -> Option<(&str, &str)>
     ensures { option_map (λ words. (words.0.now, words.1.now)) result ≡ around 32 text.now }
 {

@@ -1,4 +1,4 @@
--- A column, behind its table.
+-- A column, after its table.
 use Rattle.lq_policy.proofs.RightLemmas.{column_added}
 use Rattle.lq_policy.proofs.role_rights.add_given.Goals as goal
 

@@ -1,4 +1,4 @@
--- The sets of roles tell the roles that one goes by, and so whether one of them has the name.
+-- The sets of roles decide which roles one has, and so whether one of them has the name.
 use Rattle.std.proofs.Common.{◌∙◌, Option, ap, sym}
 use Rattle.lq_security.specs.Visible.{is_named}
 use Rattle.lq_security.specs.declared.policy.Role.{Role}

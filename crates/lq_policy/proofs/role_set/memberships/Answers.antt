@@ -1,4 +1,4 @@
--- One more role, and its set, tell one more membership.
+-- One more role, and its set, give one more membership.
 use Rattle.std.proofs.Common.{rules, arith}
 use Rattle.lq_policy.proofs.MembershipLemmas.{one_more_at}
 use Rattle.lq_policy.proofs.role_set.memberships.Goals as goal

@@ -1,4 +1,4 @@
--- What each function goes down by: the size of its forms, and at one size how far it stands from `add_form`; and what each loop keeps.
+-- What each function goes down by: the size of its forms, and at one size how far it is from `add_form`; and what each loop keeps.
 use Rattle.std.proofs.Common.{◌≡◌, ◌+◌, ◌*◌, ◌++◌, max, drop, flat_map}
 use Rattle.lq_tree.proofs.tree.Form.TheLaws.{the_size}
 use Rattle.lq_tree.specs.UsesOfForms.{form_uses}

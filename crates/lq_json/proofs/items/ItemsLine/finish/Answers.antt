@@ -1,4 +1,4 @@
--- The line of a reply that ends in a fault is made of the text of the one that ends well.
+-- The line of a reply that ends in a fault is built from the text of the one that ends well.
 use Rattle.std.proofs.Common.{◌≡◌, ◌++◌, ◌∷◌, ◌∙◌, [], List, ℕ, ap, drop, sym}
 use Rattle.std.proofs.lemmas.Result.{IfOk-weaker}
 use Rattle.serde_json.specs.Data.{Data, object}

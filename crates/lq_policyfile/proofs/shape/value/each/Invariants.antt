@@ -4,7 +4,7 @@ use Rattle.lq_policyfile.specs.Reading.{each}
 use Rattle.lq_policyfile.proofs.ShapeLemmas.{put_before}
 use Rattle.lq_policyfile.proofs.shape.value.each.Given as goal
 
--- what is left is read behind what was read
+-- what is left is read after what was read
 abbrev pub invariant-loop-left : goal.invariant-loop-left
 invariant-loop-left g l = put_before l.read (each g.T.Shaped.shape (items_view l.left)) ≡ each g.T.Shaped.shape (items_view l.values)
 
