@@ -356,7 +356,7 @@ fn lines_are_counted_behind_the_marks(rt: HostRuntime) -> Result<(), Fail> {
 struct Ended {
     status: u8,
     is_marked: bool,
-    told: Taker,
+    error_sink: Taker,
     sink: Taker,
 }
 
@@ -364,18 +364,18 @@ fn end_script(
     alloc: Global,
     script: Pieces,
     mut sink: Taker,
-    mut told: Taker,
+    mut error_sink: Taker,
 ) -> Result<Ended, Fail> {
     let mut session = session(alloc)?;
     let mut reader = Device::new(script);
     let mut writer = Device::new(&mut sink);
-    let mut errors = Device::new(&mut told);
+    let mut errors = Device::new(&mut error_sink);
     let status = finish(alloc, &mut reader, &mut writer, &mut errors, &mut session);
     let is_marked = errors.failed();
     Ok(Ended {
         status,
         is_marked,
-        told,
+        error_sink,
         sink,
     })
 }
@@ -394,19 +394,19 @@ const ENDINGS: [(&[u8], u64, u64, u64, u8, &[u8]); 5] = [
 fn ends_so(end: &Ended, status: u8, line: &[u8], is_marked: bool) -> bool {
     end.status == status
         && end.is_marked == is_marked
-        && end.told.taken.as_slice() == line
+        && end.error_sink.taken.as_slice() == line
         && (status != 0 || end.sink.taken.as_slice() == OUTPUT)
 }
 
 #[test]
 fn a_fault_ends_with_its_status_and_its_line(rt: HostRuntime) -> Result<(), Fail> {
-    for (text, bad_read, bad_call, bad_told, status, line) in &ENDINGS {
+    for (text, bad_read, bad_call, bad_error, status, line) in &ENDINGS {
         let mut script = whole(text);
         script.bad = *bad_read;
         let sink = taking(rt.alloc(), *bad_call, Fault::Errs(ErrorKind::Other));
-        let told = taking(rt.alloc(), *bad_told, Fault::Stalls);
-        let end = end_script(rt.alloc(), script, sink, told)?;
-        assert!(rt; ends_so(&end, *status, line, *bad_told > 0), "{text:?}");
+        let error_sink = taking(rt.alloc(), *bad_error, Fault::Stalls);
+        let end = end_script(rt.alloc(), script, sink, error_sink)?;
+        assert!(rt; ends_so(&end, *status, line, *bad_error > 0), "{text:?}");
     }
     Ok(())
 }

@@ -2,7 +2,7 @@
 //! program (tests/cli).
 use crate::devices::{Fault, names_of, taking};
 use lq_options::Options;
-use lq_serve::{Device, FileError, Files, MemoryFiles, Reading, StartError, load, refuse};
+use lq_serve::{Device, FileError, FileRead, Files, MemoryFiles, StartError, load, refuse};
 use lq_value::Txt;
 use std::alloc::Global;
 use std::process::Abort;
@@ -49,10 +49,10 @@ fn assert_refused(
     line: &str,
 ) {
     match load(alloc, options, files) {
-        Err(StartError::Refused(told)) => {
-            assert!(rt; told.as_str() == line, "{line} and not {told:?}");
+        Err(StartError::Refused(text)) => {
+            assert!(rt; text.as_str() == line, "{line} and not {text:?}");
         }
-        _ => panic!(rt; "{line} was not told"),
+        _ => panic!(rt; "{line} was not reported"),
     }
 }
 
@@ -96,7 +96,7 @@ const READINGS: [(&str, &[&str], &str, Asked<'static>); 5] = [
     ),
 ];
 
-fn are_asked(readings: &[Reading], asked: Asked<'_>) -> bool {
+fn are_asked(readings: &[FileRead], asked: Asked<'_>) -> bool {
     let mut left = asked;
     for reading in readings {
         match left {
@@ -156,7 +156,7 @@ const FIRST_FAULTS: [(&[&str], &str); 12] = [
 ];
 
 #[test]
-fn the_first_fault_is_told(rt: HostRuntime) -> Result<(), Fail> {
+fn the_first_fault_is_reported(rt: HostRuntime) -> Result<(), Fail> {
     let mut files = folder(rt.alloc());
     for (words, line) in &FIRST_FAULTS {
         let options = options_of(rt.alloc(), "low", "no.toml", words)?;
@@ -173,11 +173,11 @@ fn a_refusal_ends_with_its_status_and_its_line(rt: HostRuntime) -> Result<(), Fa
         (&StartError::Memory, 0, 5, "lq: memory\n"),
         (&refused, 2, 3, "lq: a"),
     ] {
-        let mut told = taking(rt.alloc(), *bad, Fault::Stalls);
-        let mut errors = Device::new(&mut told);
+        let mut taker = taking(rt.alloc(), *bad, Fault::Stalls);
+        let mut errors = Device::new(&mut taker);
         assert_eq!(rt; refuse(error, &mut errors), *status);
         assert_eq!(rt; errors.failed(), *bad > 0);
-        assert!(rt; told.taken.as_slice() == line.as_bytes());
+        assert!(rt; taker.taken.as_slice() == line.as_bytes());
     }
     Ok(())
 }

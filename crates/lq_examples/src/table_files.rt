@@ -79,7 +79,7 @@ fn refusal(alloc: Global, text: &str) -> Result<Option<LoadError>, AllocError> {
 }
 
 #[test]
-fn faults_are_told_where_they_stand(rt: HostRuntime) -> Result<(), Fail> {
+fn faults_are_reported_where_they_are(rt: HostRuntime) -> Result<(), Fail> {
     for (text, error) in &FAULTS {
         assert!(rt; refusal(rt.alloc(), text)? == Some(*error), "{text:?}");
     }

@@ -1,4 +1,4 @@
-pub mod FormLemmas
 pub mod Opens
 pub mod OrderLemmas
+pub mod ShapeLemmas
 pub mod Tokens

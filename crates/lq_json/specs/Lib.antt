@@ -1,5 +1,5 @@
-pub mod Forms
 pub mod Items
 pub mod Lines
 pub mod Replies
+pub mod Shapes
 pub mod Texts

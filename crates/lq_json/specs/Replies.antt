@@ -7,10 +7,10 @@ use Rattle.lq_value.specs.declared.value.Value.{Value}
 use Rattle.lq_machine.specs.States.{schemas_of}
 use Rattle.lq_machine.specs.Served.{assigned_data, defined_data, deleted_data, denied_data, error_data, fault_data, inserted_data, nested_fault, role_data, stream_data, stream_members, unless_fault, value_data}
 use Rattle.lq_language.specs.Stream.{Stream, made}
-use Rattle.lq_json.specs.Forms.{data_by}
+use Rattle.lq_json.specs.Shapes.{data_by}
 use Rattle.lq_json.specs.Items.{bytes_before, tokens_in}
 use Rattle.lq_json.specs.Texts.{flat}
-use Rattle.lq_json.specs.declared.form.Form.{Form}
+use Rattle.lq_json.specs.declared.shape.Shape.{Shape}
 use Rattle.lq_json.specs.declared.items.ItemsLine.{ItemsLine}
 use Rattle.lq_json.specs.declared.reply.Reply.{Reply}
 use Rattle.lq_json.specs.declared.reply.Reply.TheVariants as reply
@@ -33,12 +33,12 @@ module _ {R : Type 0} (cells_of : R → List Scalar) where
   reply_data reply.Inserted = inserted_data
   reply_data (reply.Deleted n) = deleted_data n
 
-  -- a stream of values as a form writes them, up to the first that holds a fault
-  abbrev pub served_by : Form → Stream (Value R) → Stream Data
-  served_by form s = made (λ v. unless_fault (nested_fault v) (data_by cells_of form v)) s
+  -- a stream of values as a shape writes them, up to the first that holds a fault
+  abbrev pub served_by : Shape → Stream (Value R) → Stream Data
+  served_by shape s = made (λ v. unless_fault (nested_fault v) (data_by cells_of shape v)) s
 
   -- All items are written after the others that are served, and they end as these do.
-  pub record ServesAll (form : Form) (items : List (Value R)) (end : End) (old new : ItemsLine) (ended : End) : Type 0 where
-    pub tokens : tokens_in new ≡ tokens_in old ++ flat (served_by form (items, end)).0
+  pub record ServesAll (shape : Shape) (items : List (Value R)) (end : End) (old new : ItemsLine) (ended : End) : Type 0 where
+    pub tokens : tokens_in new ≡ tokens_in old ++ flat (served_by shape (items, end)).0
     pub before : bytes_before new ≡ bytes_before old
-    pub ending : ended ≡ (served_by form (items, end)).1
+    pub ending : ended ≡ (served_by shape (items, end)).1

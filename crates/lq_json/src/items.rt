@@ -6,11 +6,11 @@ ghost use Rattle.serde_json.specs.Find.{of_integer};
 ghost use Rattle.serde_json.specs.Written.{compact_text};
 ghost use Rattle.lq_value.specs.declared.value.End.TheVariants as end;
 ghost use Rattle.lq_machine.specs.Served.{line_of, stream_members};
-ghost use Rattle.lq_json.specs.Forms.{data_by};
+ghost use Rattle.lq_json.specs.Shapes.{data_by};
 ghost use Rattle.lq_json.specs.Items.{Holds, Pushes, fault_front};
 
-use crate::form::Form;
 use crate::line::Line;
+use crate::shape::Shape;
 use crate::write::write;
 use json::Writer;
 use lq_value::{End, Fault, RowRef, Value};
@@ -46,7 +46,7 @@ fn line_of_text(mut text: Vec<u8>) -> Result<Line, AllocError>
 }
 
 /// The text without its first byte.
-fn behind_first(text: &[u8]) -> &[u8]
+fn after_first(text: &[u8]) -> &[u8]
     ensures { result.now ≡ drop 1 text.now }
 {
     match text {
@@ -57,12 +57,12 @@ fn behind_first(text: &[u8]) -> &[u8]
 
 /// The text of a reply that ends in this fault, from the text of the one that ends well.
 fn faulted(alloc: Global, fault: Fault, text: &[u8]) -> Result<Vec<u8>, AllocError>
-    ensures { IfOk result (λ made. made.items ≡ fault_front fault ++ drop 1 text.now) }
+    ensures { IfOk result (λ bytes. bytes.items ≡ fault_front fault ++ drop 1 text.now) }
 {
-    let mut made = Vec::new(alloc);
-    made.extend_from_slice(fault_front(fault))?;
-    made.extend_from_slice(behind_first(text))?;
-    Ok(made)
+    let mut bytes = Vec::new(alloc);
+    bytes.extend_from_slice(fault_front(fault))?;
+    bytes.extend_from_slice(after_first(text))?;
+    Ok(bytes)
 }
 
 /// Ends the items and the reply.
@@ -116,15 +116,15 @@ impl ItemsLine {
         self.out.string(text)
     }
 
-    /// Writes a value of this form after the other items.
+    /// Writes a value of this shape after the other items.
     pub(crate) fn push<R: RowRef>(
         &mut self,
-        form: &Form,
+        shape: &Shape,
         value: &Value<R>,
     ) -> Result<(), AllocError>
-        ensures { OnOk result (Pushes self.old self.new (data_by R.shown form.now value.now)) }
+        ensures { OnOk result (Pushes self.old self.new (data_by R.shown shape.now value.now)) }
     {
-        write(form, value, &mut self.out)
+        write(shape, value, &mut self.out)
     }
 
     /// The line's text, where the items end well.

@@ -6,11 +6,11 @@
 
 mod denial;
 mod fault;
-mod form;
 mod items;
 mod line;
 mod order;
 mod reply;
+mod shape;
 mod sole;
 mod write;
 

@@ -42,7 +42,7 @@ impl Line {
         ensures { result.now ≡ self.now }
     {
         match &self.built {
-            Some(built) => built.as_slice(),
+            Some(bytes) => bytes.as_slice(),
             None => MEMORY_LINE,
         }
     }

@@ -4,15 +4,15 @@ ghost use Rattle.serde_json.specs.Data.{no_members, object, put};
 ghost use Rattle.serde_json.specs.Written.{compact_text};
 ghost use Rattle.lq_machine.specs.States.{schemas_of};
 ghost use Rattle.lq_machine.specs.Served.{line_of, stream_data, value_data};
-ghost use Rattle.lq_json.specs.Forms.{data_by};
+ghost use Rattle.lq_json.specs.Shapes.{data_by};
 ghost use Rattle.lq_json.specs.Replies.{ServesAll, reply_data, served_by, stream_reply};
 ghost use Rattle.lq_json.specs.Texts.{tokens_of};
 
 use crate::denial::denied_line;
 use crate::fault::{fault_name, nested_fault};
-use crate::form::{Form, form_of};
 use crate::items::ItemsLine;
 use crate::line::Line;
+use crate::shape::{Shape, shape_of};
 use crate::sole::{count_line, word_line};
 use crate::write::write;
 use json::Writer;
@@ -85,37 +85,37 @@ pub fn reply_line<R: RowRef>(alloc: Global, reply: &Reply<'_, R>) -> Result<Line
     }
 }
 
-/// Writes items of a form after others, up to the first that holds a fault, and returns how they end.
+/// Writes items of a shape after others, up to the first that holds a fault, and returns how they end.
 fn push_all<R: RowRef>(
-    form: &Form,
+    shape: &Shape,
     items: &[Value<R>],
     end: End,
     line: &mut ItemsLine,
 ) -> Result<End, AllocError>
     ensures { IfOk result
-        (λ ended. ServesAll R.shown form.now items.now end line.old line.new ended) }
+        (λ ending. ServesAll R.shown shape.now items.now end line.old line.new ending) }
 {
     for item in items {
         if let Some(fault) = nested_fault(item) {
             return Ok(End::Fault(fault));
         }
-        line.push(form, item)?;
+        line.push(shape, item)?;
     }
     Ok(end)
 }
 
-/// The line of a reply of items of a form.
-fn formed_items_line<R: RowRef>(
+/// The line of a reply of items of a shape.
+fn shaped_items_line<R: RowRef>(
     alloc: Global,
-    form: &Form,
+    shape: &Shape,
     items: &[Value<R>],
     end: End,
 ) -> Result<Line, AllocError>
     ensures { IfOk result (λ line. line
-        ≡ line_of (stream_reply (served_by R.shown form.now (items.now, end)))) }
+        ≡ line_of (stream_reply (served_by R.shown shape.now (items.now, end)))) }
 {
     let mut line = ItemsLine::new(alloc)?;
-    let end = push_all(form, items, end, &mut line)?;
+    let end = push_all(shape, items, end, &mut line)?;
     line.finish(end)
 }
 
@@ -130,49 +130,53 @@ fn items_line<R: RowRef>(
     ensures { IfOk result (λ line. line
         ≡ line_of (stream_data (schemas_of store.now) R.shown ty.now (items.now, end))) }
 {
-    let form = form_of(alloc, store, ty)?;
-    formed_items_line(alloc, &form, items, end)
+    let shape = shape_of(alloc, store, ty)?;
+    shaped_items_line(alloc, &shape, items, end)
 }
 
-/// Writes a reply with a value of a form.
-fn write_value<R: RowRef>(form: &Form, value: &Value<R>, out: &mut Writer) -> Result<(), AllocError>
+/// Writes a reply with a value of a shape.
+fn write_value<R: RowRef>(
+    shape: &Shape,
+    value: &Value<R>,
+    out: &mut Writer,
+) -> Result<(), AllocError>
     ensures tokens { OnOk result (out.new.tokens
         ≡ out.old.tokens
         ++ tokens_of
-        (object (put (codes "value") (data_by R.shown form.now value.now) no_members))) }
+        (object (put (codes "value") (data_by R.shown shape.now value.now) no_members))) }
     ensures before { out.new.before ≡ out.old.before }
 {
     out.begin_object()?;
     out.key("value")?;
-    write(form, value, out)?;
+    write(shape, value, out)?;
     out.end_object()
 }
 
-/// The text of a reply with a value of a form.
+/// The text of a reply with a value of a shape.
 fn value_text<R: RowRef>(
     alloc: Global,
-    form: &Form,
+    shape: &Shape,
     value: &Value<R>,
 ) -> Result<Vec<u8>, AllocError>
     ensures { IfOk result (λ text. text.items
         ≡ compact_text
-        (object (put (codes "value") (data_by R.shown form.now value.now) no_members))) }
+        (object (put (codes "value") (data_by R.shown shape.now value.now) no_members))) }
 {
     let mut out = Writer::new(Vec::new(alloc));
-    write_value(form, value, &mut out)?;
+    write_value(shape, value, &mut out)?;
     Ok(out.into_inner())
 }
 
-/// The line of a reply with a value of a form.
-fn formed_value_line<R: RowRef>(
+/// The line of a reply with a value of a shape.
+fn shaped_value_line<R: RowRef>(
     alloc: Global,
-    form: &Form,
+    shape: &Shape,
     value: &Value<R>,
 ) -> Result<Line, AllocError>
     ensures { IfOk result (λ line. line
-        ≡ line_of (object (put (codes "value") (data_by R.shown form.now value.now) no_members))) }
+        ≡ line_of (object (put (codes "value") (data_by R.shown shape.now value.now) no_members))) }
 {
-    let mut line = value_text(alloc, form, value)?;
+    let mut line = value_text(alloc, shape, value)?;
     line.push(b'\n')?;
     Ok(Line::from_bytes(line))
 }
@@ -190,6 +194,6 @@ fn value_line<R: RowRef>(
     if let Some(fault) = nested_fault(value) {
         return word_line(alloc, "fault", fault_name(fault));
     }
-    let form = form_of(alloc, store, ty)?;
-    formed_value_line(alloc, &form, value)
+    let shape = shape_of(alloc, store, ty)?;
+    shaped_value_line(alloc, &shape, value)
 }

@@ -1,12 +1,12 @@
-//! Values, written by their forms as JSON tokens.
+//! Values, written by their shapes as JSON tokens.
 ghost use Rattle.std.specs.Prelude.{◌≡◌, ◌++◌, map, slice_get, OnOk};
 ghost use Rattle.serde_json.specs.Data.{array, object};
 ghost use Rattle.serde_json.specs.View.{items_of};
 ghost use Rattle.lq_machine.specs.Served.{scalar_data};
-ghost use Rattle.lq_json.specs.Forms.{cell_data, cells_in, data_by, fields_by, member_data};
+ghost use Rattle.lq_json.specs.Shapes.{cell_data, cells_in, data_by, fields_by, member_data};
 ghost use Rattle.lq_json.specs.Texts.{tokens_of};
 
-use crate::form::Form;
+use crate::shape::Shape;
 use json::Writer;
 use lq_value::{RowRef, Scalar, Txt, Value};
 use std::alloc::AllocError;
@@ -51,75 +51,75 @@ fn write_row(columns: &[(Txt, usize)], cells: &[Scalar], out: &mut Writer) -> Re
     out.end_object()
 }
 
-/// A value of this form; one of another form is written as null.
+/// A value of this shape; one of another shape is written as null.
 #[cycle(writing)]
 #[tactic(auto, using(crate::proofs::Opens::writing, crate::proofs::Tokens::group_joined))]
 pub(crate) fn write<R: RowRef>(
-    form: &Form,
+    shape: &Shape,
     value: &Value<R>,
     out: &mut Writer,
 ) -> Result<(), AllocError>
     ensures tokens { OnOk result (out.new.tokens
-        ≡ out.old.tokens ++ tokens_of (data_by R.shown form.now value.now)) }
+        ≡ out.old.tokens ++ tokens_of (data_by R.shown shape.now value.now)) }
     ensures before { out.new.before ≡ out.old.before }
 {
-    match (form, value) {
+    match (shape, value) {
         (_, Value::Scalar(scalar)) => write_scalar(scalar, out),
-        (Form::Row(columns), Value::Row(row)) => write_row(columns.as_slice(), row.cells(), out),
-        (Form::Rec(fields), Value::Rec(members)) => {
+        (Shape::Row(columns), Value::Row(row)) => write_row(columns.as_slice(), row.cells(), out),
+        (Shape::Rec(fields), Value::Rec(members)) => {
             write_record(fields.as_slice(), members.as_slice(), out)
         }
-        (Form::Group(key_form, item_form), Value::Group(key, items)) => {
+        (Shape::Group(key_shape, item_shape), Value::Group(key, items)) => {
             out.begin_object()?;
             out.key("Key")?;
-            write(key_form.get(), key.get(), out)?;
+            write(key_shape.get(), key.get(), out)?;
             out.key("items")?;
-            write_items(item_form.get(), items.as_slice(), out)?;
+            write_items(item_shape.get(), items.as_slice(), out)?;
             out.end_object()
         }
-        (Form::Seq(item_form), Value::Seq(items, _)) => {
-            write_items(item_form.get(), items.as_slice(), out)
+        (Shape::Seq(item_shape), Value::Seq(items, _)) => {
+            write_items(item_shape.get(), items.as_slice(), out)
         }
         _ => out.null(),
     }
 }
 
-/// Values of this form, as an array.
+/// Values of this shape, as an array.
 #[cycle(writing)]
 #[tactic(auto, using(crate::proofs::Opens::writing))]
 fn write_items<R: RowRef>(
-    form: &Form,
+    shape: &Shape,
     items: &[Value<R>],
     out: &mut Writer,
 ) -> Result<(), AllocError>
     ensures tokens { OnOk result (out.new.tokens
         ≡ out.old.tokens
-        ++ tokens_of (array (items_of (map (data_by R.shown form.now) items.now)))) }
+        ++ tokens_of (array (items_of (map (data_by R.shown shape.now) items.now)))) }
     ensures before { out.new.before ≡ out.old.before }
 {
     out.begin_array()?;
     for item in items {
-        write(form, item, out)?;
+        write(shape, item, out)?;
     }
     out.end_array()
 }
 
-/// A member of this form; null where the record has none there.
+/// A member of this shape; null where the record has none there.
 #[cycle(writing)]
 #[tactic(auto, using(crate::proofs::Opens::writing))]
 fn write_member<R: RowRef>(
-    form: &Form,
+    shape: &Shape,
     members: &[(Txt, Value<R>)],
     place: usize,
     out: &mut Writer,
 ) -> Result<(), AllocError>
     ensures tokens { OnOk result (out.new.tokens
         ≡ out.old.tokens
-        ++ tokens_of (member_data (data_by R.shown form.now) (slice_get members.now place))) }
+        ++ tokens_of (member_data (data_by R.shown shape.now) (slice_get members.now place))) }
     ensures before { out.new.before ≡ out.old.before }
 {
     match members.get(place) {
-        Some((_, value)) => write(form, value, out),
+        Some((_, value)) => write(shape, value, out),
         None => out.null(),
     }
 }
@@ -128,7 +128,7 @@ fn write_member<R: RowRef>(
 #[cycle(writing)]
 #[tactic(auto, using(crate::proofs::Opens::writing))]
 fn write_record<R: RowRef>(
-    fields: &[(Txt, (usize, Form))],
+    fields: &[(Txt, (usize, Shape))],
     members: &[(Txt, Value<R>)],
     out: &mut Writer,
 ) -> Result<(), AllocError>
@@ -138,9 +138,9 @@ fn write_record<R: RowRef>(
     ensures before { out.new.before ≡ out.old.before }
 {
     out.begin_object()?;
-    for (name, (place, form)) in fields {
+    for (name, (place, shape)) in fields {
         out.key(name.as_str())?;
-        write_member(form, members, *place, out)?;
+        write_member(shape, members, *place, out)?;
     }
     out.end_object()
 }

@@ -44,20 +44,20 @@ pub(crate) enum Of {
 }
 
 /// Takes the last so many.
-fn last<T: Drop>(alloc: Global, made: &mut Vec<T>, many: usize) -> Result<Vec<T>, AllocError> {
-    let mut taken = Vec::new(alloc);
+fn last<T: Drop>(alloc: Global, stack: &mut Vec<T>, many: usize) -> Result<Vec<T>, AllocError> {
+    let mut items = Vec::new(alloc);
     for _ in 0..many {
-        if let Some(value) = made.pop() {
-            taken.push(value)?;
+        if let Some(value) = stack.pop() {
+            items.push(value)?;
         }
     }
-    taken.reverse();
-    Ok(taken)
+    items.reverse();
+    Ok(items)
 }
 
 /// What is on top, else what is put in its place.
-fn top<T: Drop>(made: &mut Vec<T>, other: T) -> T {
-    match made.pop() {
+fn top<T: Drop>(stack: &mut Vec<T>, other: T) -> T {
+    match stack.pop() {
         Some(value) => value,
         None => other,
     }
@@ -66,11 +66,11 @@ fn top<T: Drop>(made: &mut Vec<T>, other: T) -> T {
 /// The last ones, each with one of these names.
 fn named<T: Drop>(
     alloc: Global,
-    made: &mut Vec<T>,
+    stack: &mut Vec<T>,
     names: &[&str],
 ) -> Result<List<(Txt, T)>, AllocError> {
     let mut members = List::new(alloc);
-    for (name, value) in names.iter().zip(last(alloc, made, names.len())?) {
+    for (name, value) in names.iter().zip(last(alloc, stack, names.len())?) {
         members.push((Txt::from_str(alloc, name)?, value))?;
     }
     Ok(members)
@@ -78,7 +78,7 @@ fn named<T: Drop>(
 
 fn built(
     alloc: Global,
-    made: &mut Vec<Value<NoRow>>,
+    stack: &mut Vec<Value<NoRow>>,
     part: Part,
 ) -> Result<Value<NoRow>, AllocError> {
     match part {
@@ -86,11 +86,11 @@ fn built(
         Part::Bool(truth) => Ok(Value::Scalar(Scalar::Bool(truth))),
         Part::Int(number) => Ok(Value::Scalar(Scalar::Int(number))),
         Part::Text(text) => Ok(Value::Scalar(Scalar::Text(Txt::from_str(alloc, text)?))),
-        Part::Rec(names) => Ok(Value::Rec(named(alloc, made, names)?)),
-        Part::Seq(many, end) => Ok(Value::Seq(List::from_vec(last(alloc, made, many)?), end)),
+        Part::Rec(names) => Ok(Value::Rec(named(alloc, stack, names)?)),
+        Part::Seq(many, end) => Ok(Value::Seq(List::from_vec(last(alloc, stack, many)?), end)),
         Part::Group(many) => {
-            let elements = last(alloc, made, many)?;
-            let key = top(made, Value::Scalar(Scalar::Null));
+            let elements = last(alloc, stack, many)?;
+            let key = top(stack, Value::Scalar(Scalar::Null));
             Ok(Value::Group(Held::new(alloc, key)?, List::from_vec(elements)))
         }
     }
@@ -98,25 +98,25 @@ fn built(
 
 /// The values that are built from these parts.
 pub(crate) fn values(alloc: Global, parts: &[Part]) -> Result<Vec<Value<NoRow>>, AllocError> {
-    let mut made = Vec::new(alloc);
+    let mut stack = Vec::new(alloc);
     for part in parts {
-        let value = built(alloc, &mut made, *part)?;
-        made.push(value)?;
+        let value = built(alloc, &mut stack, *part)?;
+        stack.push(value)?;
     }
-    Ok(made)
+    Ok(stack)
 }
 
-fn built_type(alloc: Global, made: &mut Vec<Ty>, part: Of) -> Result<Ty, AllocError> {
+fn built_type(alloc: Global, stack: &mut Vec<Ty>, part: Of) -> Result<Ty, AllocError> {
     match part {
         Of::Int => Ok(Ty::Int),
         Of::IntN => Ok(Ty::IntN),
         Of::Bool => Ok(Ty::Bool),
         Of::Str => Ok(Ty::Str),
-        Of::Rec(names) => Ok(Ty::Rec(named(alloc, made, names)?)),
-        Of::Seq => Ok(Ty::Seq(Held::new(alloc, top(made, Ty::Null))?)),
+        Of::Rec(names) => Ok(Ty::Rec(named(alloc, stack, names)?)),
+        Of::Seq => Ok(Ty::Seq(Held::new(alloc, top(stack, Ty::Null))?)),
         Of::Group => {
-            let element = Held::new(alloc, top(made, Ty::Null))?;
-            let key = Held::new(alloc, top(made, Ty::Null))?;
+            let element = Held::new(alloc, top(stack, Ty::Null))?;
+            let key = Held::new(alloc, top(stack, Ty::Null))?;
             Ok(Ty::Group(key, element))
         }
     }
@@ -124,10 +124,10 @@ fn built_type(alloc: Global, made: &mut Vec<Ty>, part: Of) -> Result<Ty, AllocEr
 
 /// The type that is built from these parts.
 pub(crate) fn ty(alloc: Global, parts: &[Of]) -> Result<Ty, AllocError> {
-    let mut made = Vec::new(alloc);
+    let mut stack = Vec::new(alloc);
     for part in parts {
-        let ty = built_type(alloc, &mut made, *part)?;
-        made.push(ty)?;
+        let ty = built_type(alloc, &mut stack, *part)?;
+        stack.push(ty)?;
     }
-    Ok(top(&mut made, Ty::Null))
+    Ok(top(&mut stack, Ty::Null))
 }

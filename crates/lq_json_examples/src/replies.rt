@@ -270,8 +270,8 @@ fn is_value_line(
 ) -> Result<bool, AllocError> {
     let store = Store::new(alloc);
     let ty = ty(alloc, types)?;
-    let made = values(alloc, parts)?;
-    let [value] = made.as_slice() else {
+    let items = values(alloc, parts)?;
+    let [value] = items.as_slice() else {
         return Ok(false);
     };
     let reply = Reply::Value {
@@ -292,11 +292,11 @@ fn is_items_line(
 ) -> Result<bool, AllocError> {
     let store = Store::new(alloc);
     let ty = ty(alloc, types)?;
-    let made = values(alloc, parts)?;
+    let items = values(alloc, parts)?;
     let reply = Reply::Items {
         store: &store,
         ty: &ty,
-        items: made.as_slice(),
+        items: items.as_slice(),
         end,
     };
     Ok(reply_line(alloc, &reply)?.bytes() == line.as_bytes())

@@ -8,11 +8,11 @@ use clap::{Arg, ArgAction, ArgMatches, Command, Error};
 use std::alloc::{AllocError, Global};
 
 const ABOUT: &str = "\
-Answers C# query expressions over CSV tables, behind row security policies.
+Answers C# query expressions over CSV tables, under row security policies.
 
 The tables are read, then each statement of the script is answered by a line of JSON on standard
-output. A role is served those rows alone that the policies show it, and a statement that uses a
-table or a column without a right is denied.";
+output. A role is served only the rows that the policies show it, and a statement that uses a table
+or a column without a right is denied.";
 
 const ROLE: &str = "The role that the script begins with, one of the policy file's";
 
@@ -40,8 +40,8 @@ Statuses:
   0  the script has ended, whatever its replies are
   2  the command line is wrong
   3  a table, the policies or the role was refused
-  4  the script could not be read, its replies could not be written, or it is too long or no UTF-8
-  5  there was no memory for the tables or the script";
+  4  the script could not be read, is too long or is not UTF-8, or its replies could not be written
+  5  there was no memory for the tables, the policies or the script";
 
 /// The argument that names the role to begin with.
 pub(crate) fn role<'a>(alloc: Global, help: &'a str) -> Arg<'a>
@@ -84,7 +84,7 @@ pub(crate) fn tables<'a>(alloc: Global) -> Arg<'a>
 {
     Arg::new(alloc, "tables")
         .value_name("T.csv")
-        .help("The tables, each named as its file is without folders and .csv")
+        .help("The tables, each named after its file, without folders and .csv")
         .required(true)
         .action(ArgAction::Append)
 }

@@ -15,7 +15,12 @@ pub struct DeskOptions {
 impl From<DeskOptions> for Options {
     ghost use Rattle.std.specs.Prelude.{◌≡◌, None};
 
-    ghost from_gives = { λ asked options. options ≡ record { role = asked.role; policy = asked.policy; script = None; tables = asked.tables } };
+    ghost from_gives = { λ asked options. options ≡ record {
+      role = asked.role;
+      policy = asked.policy;
+      script = None;
+      tables = asked.tables;
+    } };
 
     fn from(asked: DeskOptions) -> Options {
         Options {

@@ -9,7 +9,7 @@ use clap::{ArgMatches, Command, Error};
 use std::alloc::{AllocError, Global};
 
 const ABOUT: &str = "\
-Answers C# query expressions over CSV tables at a prompt, behind row security policies.
+Answers C# query expressions over CSV tables at a prompt, under row security policies.
 
 One statement a line, or a command that begins with a dot: .help lists the commands. The prompt
 shows the role. Replies go to standard output, the prompt and hints to standard error. Ctrl-D ends.";
@@ -37,7 +37,7 @@ Statuses:
   2  the command line is wrong
   3  a table, the policies or the role was refused
   4  the input could not be read, or the replies could not be written
-  5  there was no memory for the tables";
+  5  there was no memory for the tables or the policies";
 
 fn desk_command<'a>(alloc: Global) -> Result<Command<'a>, AllocError>
     ensures { IfOk result (λ command. app_of command ≡ desk_app) }

@@ -88,7 +88,7 @@ impl Policies {
         requires numbered { slice_get self.now.policies number ≡ Some policy.now }
         requires concerned { has_a_say self.now.roles (number_of access.role) access.action
             access.table policy.now ≡ true }
-        ensures { IfOk result (λ reported. reported
+        ensures { IfOk result (λ report. report
             ≡ explained access.action (asked_of self.now access asked.entry) policy.now) }
     {
         let is_true = self.is_true(access, number, policy, asked);
@@ -108,7 +108,7 @@ impl Policies {
         asked: Asked<'_>,
     ) -> Result<List<ExplainedPolicy>, AllocError>
         requires { policies.now ≡ self.now.policies }
-        ensures { IfOk result (λ reported. reported
+        ensures { IfOk result (λ reports. reports
             ≡ map (explained access.action (asked_of self.now access asked.entry))
             (filter (has_a_say self.now.roles (number_of access.role) access.action access.table)
             policies.now)) }
@@ -161,7 +161,7 @@ impl Policies {
         access: Access,
         asked: Asked<'_>,
     ) -> Result<Explanation, AllocError>
-        ensures { IfOk result (λ found. found
+        ensures { IfOk result (λ answer. answer
             ≡ explanation.Policies
             (explained_policies self.now (number_of access.role) access.action access.table
             (asked_of self.now access asked.entry))
@@ -185,7 +185,7 @@ impl Policies {
         access: Access,
         cells: &[Scalar],
     ) -> Result<Explanation, AllocError>
-        ensures { IfOk result (λ found. found
+        ensures { IfOk result (λ answer. answer
             ≡ explanation_for self.now (number_of access.role) access.action access.table
             (columns_at self.now.tables access.table) cells.now
             (slice_get self.now.roles (number_of access.role))) }
@@ -216,7 +216,7 @@ impl Policies {
         table: TableNumber,
         cells: &[Scalar],
     ) -> Result<Explanation, AllocError>
-        ensures { IfOk result (λ found. found
+        ensures { IfOk result (λ answer. answer
             ≡ explanation_of self.now (number_of role) action table cells.now) }
     {
         let access = Access {

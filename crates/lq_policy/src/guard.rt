@@ -3,7 +3,7 @@ ghost use Rattle.std.specs.Prelude.{◌≡◌, slice_get, true, IfOk};
 ghost use Rattle.std.specs.List.{AllZip};
 ghost use Rattle.std.specs.Option.{option_copied};
 ghost use Rattle.lq_policy.specs.Guards.{IsGuarded, IsPrepared, columns_at, rule_in};
-ghost use Rattle.lq_policy.specs.Rules.{rule_is_total, rules_are_total};
+ghost use Rattle.lq_policy.specs.Rules.{are_rules_total, is_rule_total};
 
 use lq_grammar::Expr;
 use lq_rule::PreparedRule;
@@ -22,11 +22,11 @@ impl Guard {
     ghost use Rattle.std.specs.Prelude.{◌≡◌, true, IfOk};
     ghost use Rattle.std.specs.Option.{option_copied};
     ghost use Rattle.lq_policy.specs.Guards.{Guards, prepared_for};
-    ghost use Rattle.lq_policy.specs.Rules.{policy_is_total};
+    ghost use Rattle.lq_policy.specs.Rules.{is_policy_total};
 
     /// The rules of a policy, prepared for rows with these columns.
     fn prepare(alloc: Global, columns: &[Txt], policy: &Policy) -> Result<Guard, AllocError>
-        requires { policy_is_total policy.now ≡ true }
+        requires { is_policy_total policy.now ≡ true }
         ensures { IfOk result (Guards columns.now policy.now) }
     {
         Ok(Guard {
@@ -53,7 +53,7 @@ fn prepared(
     columns: &[Txt],
     rule: &Option<Expr>,
 ) -> Result<Option<PreparedRule>, AllocError>
-    requires { rule_is_total rule.now ≡ true }
+    requires { is_rule_total rule.now ≡ true }
     ensures { IfOk result (IsPrepared columns.now rule.now) }
 {
     match rule {
@@ -78,7 +78,7 @@ pub(crate) fn guards(
     tables: &[TablePart],
     policies: &[Policy],
 ) -> Result<Vec<Guard>, AllocError>
-    requires { rules_are_total policies.now ≡ true }
+    requires { are_rules_total policies.now ≡ true }
     ensures { IfOk result (λ guards. AllZip (IsGuarded tables.now) policies.now guards.items) }
 {
     let mut guards = Vec::new(alloc);

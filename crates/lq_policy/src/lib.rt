@@ -25,5 +25,5 @@ pub use error::PolicyError;
 pub use explaining::{ExplainedPolicy, Explanation};
 pub use lq_language::Use;
 pub use lq_security::Action;
-pub use policies::{Policies, rules_are_total};
+pub use policies::{Policies, are_rules_total};
 pub use row_rules::RowRules;

@@ -4,7 +4,7 @@ ghost use Rattle.std.specs.List.{AllZip};
 ghost use Rattle.lq_security.specs.Visible.{is_same_action, memberships_after};
 ghost use Rattle.lq_policy.specs.Guards.{IsGuarded};
 ghost use Rattle.lq_policy.specs.Memberships.{TellMemberships};
-ghost use Rattle.lq_policy.specs.Rules.{policy_is_total, rule_is_total, rules_are_total};
+ghost use Rattle.lq_policy.specs.Rules.{are_rules_total, is_policy_total, is_rule_total};
 
 use crate::access::{Access, RoleId};
 use crate::admission::Admission;
@@ -62,8 +62,8 @@ impl Model for Policies {
 }
 
 /// Whether the rule, if it is there, is total by its form.
-fn rule_is_total(rule: &Option<Expr>) -> bool
-    ensures { result ≡ rule_is_total rule.now }
+fn is_rule_total(rule: &Option<Expr>) -> bool
+    ensures { result ≡ is_rule_total rule.now }
 {
     match rule {
         Some(rule) => is_total(rule),
@@ -72,21 +72,21 @@ fn rule_is_total(rule: &Option<Expr>) -> bool
 }
 
 /// Whether each rule of the policy is total by its form.
-fn policy_is_total(policy: &Policy) -> bool
-    ensures { result ≡ policy_is_total policy.now }
+fn is_policy_total(policy: &Policy) -> bool
+    ensures { result ≡ is_policy_total policy.now }
 {
-    rule_is_total(&policy.using) && rule_is_total(&policy.check)
+    is_rule_total(&policy.using) && is_rule_total(&policy.check)
 }
 
 /// Whether each rule of the policies is total by its form.
-pub fn rules_are_total(parts: &PolicyParts) -> bool
-    ensures { result ≡ rules_are_total parts.now.policies }
+pub fn are_rules_total(parts: &PolicyParts) -> bool
+    ensures { result ≡ are_rules_total parts.now.policies }
 {
     parts
         .policies
         .as_slice()
         .iter()
-        .all(|policy| policy_is_total(policy))
+        .all(|policy| is_policy_total(policy))
 }
 
 /// Whether two actions are the same.
@@ -98,11 +98,11 @@ pub(crate) fn is_same_action(a: Action, b: Action) -> bool
 
 /// What is worked out once: the roles that each role has, and the rules of each policy.
 fn prepared(alloc: Global, parts: &PolicyParts) -> Result<(Vec<RoleSet>, Vec<Guard>), AllocError>
-    requires { rules_are_total parts.now.policies ≡ true }
-    ensures groups { IfOk result (λ made.
-        TellMemberships (memberships_after [] parts.now.roles) made.0.items) }
-    ensures guards { IfOk result (λ made.
-        AllZip (IsGuarded parts.now.tables) parts.now.policies made.1.items) }
+    requires { are_rules_total parts.now.policies ≡ true }
+    ensures groups { IfOk result (λ pair.
+        TellMemberships (memberships_after [] parts.now.roles) pair.0.items) }
+    ensures guards { IfOk result (λ pair.
+        AllZip (IsGuarded parts.now.tables) parts.now.policies pair.1.items) }
 {
     let groups = memberships(alloc, parts.roles.as_slice())?;
     let guards = guards(alloc, parts.tables.as_slice(), parts.policies.as_slice())?;
@@ -119,14 +119,14 @@ impl Policies {
     ghost use Rattle.lq_policy.specs.Roles.{goes_by_name, number_of, refused_under, role_number};
     ghost use Rattle.lq_policy.specs.RowRules.{admits, admits_by, admits_under, allowed_by, permitted_by};
     ghost use Rattle.lq_value.specs.declared.scalar.Scalar.{Scalar};
-    ghost use Rattle.lq_policy.specs.Rules.{rules_are_total};
+    ghost use Rattle.lq_policy.specs.Rules.{are_rules_total};
 
     /// Policies of these parts, which they keep. Where there is no memory the parts are handed
-    /// back as they were. Each rule is total, as `rules_are_total` decides.
+    /// back as they were. Each rule is total, as `are_rules_total` decides.
     pub fn build(alloc: Global, parts: PolicyParts) -> Result<Policies, (PolicyError, PolicyParts)>
-        requires { rules_are_total parts.policies ≡ true }
+        requires { are_rules_total parts.policies ≡ true }
         ensures ok { IfOk result (λ policies. policies ≡ parts) }
-        ensures err { IfErr result (λ refused. refused.1 ≡ parts) }
+        ensures err { IfErr result (λ error. error.1 ≡ parts) }
     {
         match prepared(alloc, &parts) {
             Ok((groups, guards)) => Ok(Policies {

@@ -117,7 +117,7 @@ impl Policies {
 
     /// Whether the role may use this, where it is prepared.
     fn known(&self, role: RoleId, used: Use) -> Option<bool>
-        ensures { IfSome result (λ may. may ≡ may_use self.now (number_of role) used) }
+        ensures { IfSome result (λ answer. answer ≡ may_use self.now (number_of role) used) }
     {
         match &self.rights {
             Some(rights) if rights.are_of(role) => Some(rights.allowed.has(used)),

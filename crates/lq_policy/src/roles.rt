@@ -25,7 +25,7 @@ impl Policies {
     /// The name of a role; none, where these policies don't have it.
     pub fn role_name(&self, role: RoleId) -> Option<&str>
         ensures { option_copied result
-            ≡ option_map (λ named. named.name) (slice_get self.now.roles (number_of role)) }
+            ≡ option_map (λ entry. entry.name) (slice_get self.now.roles (number_of role)) }
     {
         Some(self.role_at(role)?.name.as_str())
     }

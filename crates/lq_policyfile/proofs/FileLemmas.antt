@@ -12,10 +12,10 @@ use Rattle.lq_security.specs.Totality.{is_total}
 use Rattle.lq_security.specs.declared.policy.TablePart.{TablePart}
 use Rattle.lq_grammar.specs.declared.syntax.Expr.{Expr}
 use Rattle.lq_policy.specs.Rules as totals
-use Rattle.lq_policy.specs.Rules.{rule_is_total}
+use Rattle.lq_policy.specs.Rules.{is_rule_total}
 use Rattle.lq_policyfile.specs.File.{document_of, policy_part, table_part}
 use Rattle.lq_policyfile.specs.Names.{passes}
-use Rattle.lq_policyfile.specs.RuleChecks.{rules_are_total}
+use Rattle.lq_policyfile.specs.RuleChecks.{are_rules_total}
 use Rattle.lq_policyfile.specs.declared.entry.PolicyEntry.{PolicyEntry}
 use Rattle.lq_policyfile.specs.declared.entry.TableEntry.{TableEntry}
 
@@ -51,12 +51,12 @@ next_table entries tables number schema there = by (slice_get tables number) ref
 
 -- ---- policies
 
-rule_same : (rule : Option Expr) → rule_is_total rule ≡ passes is_total rule
+rule_same : (rule : Option Expr) → is_rule_total rule ≡ passes is_total rule
 rule_same None = refl
 rule_same (Some rule) = refl
 
 -- the rules of policies are total where those of their entries are
-pub total_parts : (tables : List Table) (policies : List PolicyEntry) → totals.rules_are_total (map (policy_part tables) policies) ≡ rules_are_total policies
+pub total_parts : (tables : List Table) (policies : List PolicyEntry) → totals.are_rules_total (map (policy_part tables) policies) ≡ are_rules_total policies
 total_parts tables [] = refl
 total_parts tables (policy ∷ policies) =
     ap₂ (λ (a b : Bool). a && b) (ap₂ (λ (a b : Bool). a && b) (rule_same policy.rules.using) (rule_same policy.rules.check)) (total_parts tables policies)

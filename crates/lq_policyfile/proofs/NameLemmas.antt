@@ -8,7 +8,7 @@ use Rattle.std.proofs.lemmas.Slice.Eq.{bytes_eq-Decides}
 use Rattle.lq_value.specs.Tables.{Table}
 use Rattle.lq_policyfile.specs.Duplicates.{are_new}
 use Rattle.lq_policyfile.specs.NameSets.{with_name, with_names}
-use Rattle.lq_policyfile.specs.Names.{entry_is_known, is_addressee, is_among, memberships_are_known, policy_is_known, rules_are_known}
+use Rattle.lq_policyfile.specs.Names.{are_memberships_known, are_rules_known, is_addressee, is_among, is_entry_known, is_policy_known}
 use Rattle.lq_policyfile.specs.declared.entry.FileEntries.{FileEntries}
 use Rattle.lq_policyfile.specs.declared.entry.PolicyEntry.{PolicyEntry}
 use Rattle.lq_policyfile.specs.declared.entry.RightEntry.{RightEntry}
@@ -85,7 +85,7 @@ all_same p q same (x ∷ xs) = ap₂ (λ (a b : Bool). a && b) (same x) (all_sam
 grown : (names set : List (List ℕ)) (name : List ℕ) → IsSetOf names set → IsSetOf (names ++ name ∷ []) (set ++ name ∷ [])
 grown names set name same q = among_more set name q ∙ ap (λ (b : Bool). b || bytes_eq q name) (same q) ∙ sym (among_more names name q)
 
-same_memberships : (names set : List (List ℕ)) → IsSetOf names set → (roles : List RoleEntry) → memberships_are_known set roles ≡ memberships_are_known names roles
+same_memberships : (names set : List (List ℕ)) → IsSetOf names set → (roles : List RoleEntry) → are_memberships_known set roles ≡ are_memberships_known names roles
 same_memberships names set same [] = refl
 same_memberships names set same (role ∷ roles) =
     ap₂ (λ (a b : Bool). a && b) (all_same (is_among set) (is_among names) same role.member_of)
@@ -93,30 +93,30 @@ same_memberships names set same (role ∷ roles) =
 
 -- a role's name is put into the set of the names before it
 pub memberships_go_on : (earlier : List (List ℕ)) (name : List ℕ) (roles : List RoleEntry)
-    → memberships_are_known (with_name earlier name) roles ≡ memberships_are_known (earlier ++ name ∷ []) roles
+    → are_memberships_known (with_name earlier name) roles ≡ are_memberships_known (earlier ++ name ∷ []) roles
 memberships_go_on earlier name roles = same_memberships (earlier ++ name ∷ []) (with_name earlier name) (set_grows earlier earlier name (λ q. refl)) roles
 
 same_addressees : (names set : List (List ℕ)) → IsSetOf names set → (to : List (List ℕ)) → list_all (is_addressee set) to ≡ list_all (is_addressee names) to
 same_addressees names set same to = all_same (is_addressee set) (is_addressee names) (λ name. ap (λ (b : Bool). bytes_eq name (codes "public") || b) (same name)) to
 
 same_policy : (tables : List Table) (names set : List (List ℕ)) → IsSetOf names set → (policy : PolicyEntry)
-    → policy_is_known tables set policy ≡ policy_is_known tables names policy
+    → is_policy_known tables set policy ≡ is_policy_known tables names policy
 same_policy tables names set same policy = rw (same_addressees names set same policy.to)
 
 same_entry : (tables : List Table) (names set : List (List ℕ)) → IsSetOf names set → (entry : RightEntry)
-    → entry_is_known tables set entry ≡ entry_is_known tables names entry
+    → is_entry_known tables set entry ≡ is_entry_known tables names entry
 same_entry tables names set same entry = rw (same_addressees names set same entry.to)
 
 same_policies : (tables : List Table) (names set : List (List ℕ)) → IsSetOf names set → (policies : List PolicyEntry)
-    → list_all (policy_is_known tables set) policies ≡ list_all (policy_is_known tables names) policies
-same_policies tables names set same policies = all_same (policy_is_known tables set) (policy_is_known tables names) (same_policy tables names set same) policies
+    → list_all (is_policy_known tables set) policies ≡ list_all (is_policy_known tables names) policies
+same_policies tables names set same policies = all_same (is_policy_known tables set) (is_policy_known tables names) (same_policy tables names set same) policies
 
 same_entries : (tables : List Table) (names set : List (List ℕ)) → IsSetOf names set → (entries : List RightEntry)
-    → list_all (entry_is_known tables set) entries ≡ list_all (entry_is_known tables names) entries
-same_entries tables names set same entries = all_same (entry_is_known tables set) (entry_is_known tables names) (same_entry tables names set same) entries
+    → list_all (is_entry_known tables set) entries ≡ list_all (is_entry_known tables names) entries
+same_entries tables names set same entries = all_same (is_entry_known tables set) (is_entry_known tables names) (same_entry tables names set same) entries
 
 same_rules : (tables : List Table) (names set : List (List ℕ)) → IsSetOf names set → (file : FileEntries)
-    → rules_are_known tables set file ≡ rules_are_known tables names file
+    → are_rules_known tables set file ≡ are_rules_known tables names file
 same_rules tables names set same file =
     rw (same_policies tables names set same file.policies, same_entries tables names set same file.grants, same_entries tables names set same file.withholds)
 
@@ -125,12 +125,12 @@ same_rules tables names set same file =
 -- a role that is a member of earlier ones is passed, and is an earlier one itself
 pub memberships_step : (earlier new : List (List ℕ)) (roles : List RoleEntry) (place : ℕ) (role : RoleEntry) → place < length roles → role ≡ get_or roles place role
     → list_all (is_among earlier) role.member_of ≡ true → new ≡ with_name earlier role.name
-    → memberships_are_known new (drop (place + 1) roles) ≡ memberships_are_known earlier (drop place roles)
+    → are_memberships_known new (drop (place + 1) roles) ≡ are_memberships_known earlier (drop place roles)
 memberships_step earlier new roles place role within there known grown =
-    ap (λ (names : List (List ℕ)). memberships_are_known names (drop (place + 1) roles)) grown
+    ap (λ (names : List (List ℕ)). are_memberships_known names (drop (place + 1) roles)) grown
     ∙ memberships_go_on earlier role.name (drop (place + 1) roles)
-    ∙ sym (ap (λ (b : Bool). b && memberships_are_known (earlier ++ role.name ∷ []) (drop (place + 1) roles)) known)
-    ∙ sym (ap (memberships_are_known earlier) (drop_more roles place role within ∙ ap (λ (r : RoleEntry). r ∷ drop (place + 1) roles) (sym there)))
+    ∙ sym (ap (λ (b : Bool). b && are_memberships_known (earlier ++ role.name ∷ []) (drop (place + 1) roles)) known)
+    ∙ sym (ap (are_memberships_known earlier) (drop_more roles place role within ∙ ap (λ (r : RoleEntry). r ∷ drop (place + 1) roles) (sym there)))
 
 -- the set of all names is a set of them
 more_set : (names set more : List (List ℕ)) → IsSetOf names set → IsSetOf (names ++ more) (with_names set more)
@@ -139,7 +139,7 @@ more_set names set (name ∷ more) same q =
     more_set (names ++ name ∷ []) (with_name set name) more (set_grows names set name same) q ∙ ap (λ (ns : List (List ℕ)). is_among ns q) (append_assoc names (name ∷ []) more)
 
 pub rules_by_set : (tables : List Table) (names : List (List ℕ)) (file : FileEntries)
-    → rules_are_known tables (with_names [] names) file ≡ rules_are_known tables names file
+    → are_rules_known tables (with_names [] names) file ≡ are_rules_known tables names file
 rules_by_set tables names file = same_rules tables names (with_names [] names) (more_set [] [] names (λ q. refl)) file
 
 new_name : (names : List (List ℕ)) (name : List ℕ) → is_among names name ≡ false → with_name names name ≡ names ++ name ∷ []
@@ -153,11 +153,11 @@ are_new_step earlier name names new = by (is_among earlier name) refl where
   by false other = ap (λ (ns : List (List ℕ)). are_new ns names) (new_name earlier name other)
 
 -- names after others are new where those are, and where they are after them
-pub are_new_behind : (earlier names more : List (List ℕ)) → are_new earlier (names ++ more) ≡ (are_new earlier names && are_new (earlier ++ names) more)
-are_new_behind earlier [] more = ap (λ (ns : List (List ℕ)). are_new ns more) (sym (append-nil earlier))
-are_new_behind earlier (name ∷ names) more =
+pub are_new_after : (earlier names more : List (List ℕ)) → are_new earlier (names ++ more) ≡ (are_new earlier names && are_new (earlier ++ names) more)
+are_new_after earlier [] more = ap (λ (ns : List (List ℕ)). are_new ns more) (sym (append-nil earlier))
+are_new_after earlier (name ∷ names) more =
     ap (λ (b : Bool). not (is_among earlier name) && b)
-    (are_new_behind (earlier ++ name ∷ []) names more
+    (are_new_after (earlier ++ name ∷ []) names more
     ∙ ap (λ (ns : List (List ℕ)). are_new (earlier ++ name ∷ []) names && are_new ns more) (append_assoc earlier (name ∷ []) names))
     ∙ sym (and_assoc (not (is_among earlier name)) (are_new (earlier ++ name ∷ []) names) (are_new (earlier ++ name ∷ names) more))
 

@@ -31,9 +31,9 @@ use Rattle.lq_language.proofs.KeptTypeLaws.{keeps_types}
 use Rattle.lq_policyfile.specs.Duplicates.{has_no_duplicates}
 use Rattle.lq_policyfile.specs.File.{document_of, most_bytes, of_document, of_entries, parts_of, policies_in, policy_part, refusal_of, table_part, unless_refused}
 use Rattle.lq_policyfile.specs.FileLaws.{AreHeld, ReadsForTables}
-use Rattle.lq_policyfile.specs.Names.{all_pass, columns_at, columns_in, columns_of, entry_is_known, is_table, names_are_known, passes, policy_is_known, role_names, rules_are_known}
+use Rattle.lq_policyfile.specs.Names.{all_pass, are_names_known, are_rules_known, columns_at, columns_in, columns_of, is_entry_known, is_policy_known, is_table, passes, role_names}
 use Rattle.lq_policyfile.specs.RightUses.{table_number}
-use Rattle.lq_policyfile.specs.RuleChecks.{is_typed, policy_is_typed, rules_are_total, rules_are_typed}
+use Rattle.lq_policyfile.specs.RuleChecks.{are_rules_total, are_rules_typed, is_policy_typed, is_typed}
 use Rattle.lq_policyfile.specs.RuleNames.{knows}
 use Rattle.lq_policyfile.specs.Shape.{entries_of}
 use Rattle.lq_policyfile.specs.declared.entry.FileEntries.{FileEntries}
@@ -89,14 +89,14 @@ entries_read tables bytes parts h = by (nat_le (length bytes) most_bytes) (docum
 
 -- no refusal applies
 record Passes (tables : List Table) (file : FileEntries) : Type 0 where
-  known : names_are_known tables file ≡ true
-  typed : rules_are_typed tables file.policies ≡ true
-  total : rules_are_total file.policies ≡ true
+  known : are_names_known tables file ≡ true
+  typed : are_rules_typed tables file.policies ≡ true
+  total : are_rules_total file.policies ≡ true
 
 all_passed : (tables : List Table) (file : FileEntries) → refusal_of tables file ≡ None → Passes tables file
 unfolding refusal_of
 all_passed tables file h =
-    let found = by (names_are_known tables file) (has_no_duplicates file) (rules_are_typed tables file.policies) (rules_are_total file.policies) h in
+    let found = by (are_names_known tables file) (has_no_duplicates file) (are_rules_typed tables file.policies) (are_rules_total file.policies) h in
     record { known = found.0; typed = found.1; total = found.2 } where
       by : (a b c d : Bool)
           → (if not a then Some error.UnknownName else (if not b then Some error.Duplicate else (if not c then Some error.RuleType else (if not d then Some error.RuleNotTotal else None)))) ≡ None
@@ -110,12 +110,12 @@ all_passed tables file h =
 -- ---- rules
 
 -- the table of an entry is there
-table_there : (tables : List Table) (file : FileEntries) (entry : PolicyEntry) → names_are_known tables file ≡ true → Contains file.policies entry → is_table tables entry.table ≡ true
-unfolding names_are_known
+table_there : (tables : List Table) (file : FileEntries) (entry : PolicyEntry) → are_names_known tables file ≡ true → Contains file.policies entry → is_table tables entry.table ≡ true
+unfolding are_names_known
 table_there tables file entry known has =
-    let rules = (and_parts _ (rules_are_known tables (role_names file.roles) file) known).1 in
-    let policies = (and_parts (list_all (policy_is_known tables (role_names file.roles)) file.policies) _ (and_parts _ (list_all (entry_is_known tables (role_names file.roles)) file.withholds) rules).0).0 in
-    let own = passed (policy_is_known tables (role_names file.roles)) file.policies entry policies has in
+    let rules = (and_parts _ (are_rules_known tables (role_names file.roles) file) known).1 in
+    let policies = (and_parts (list_all (is_policy_known tables (role_names file.roles)) file.policies) _ (and_parts _ (list_all (is_entry_known tables (role_names file.roles)) file.withholds) rules).0).0 in
+    let own = passed (is_policy_known tables (role_names file.roles)) file.policies entry policies has in
     (and_parts (is_table tables entry.table) _ (and_parts _ (all_pass (λ rule. knows (columns_of tables entry.table) rule false) entry.rules) own).0).0
 
 -- the columns that the rules of an entry are typed over are those of the schema of its number
@@ -166,7 +166,7 @@ module _ (tables : List Table) (file : FileEntries) (passes : Passes tables file
       of_entry entry among place has_rule literals =
           subst (λ (columns : List Column). IsRuleOver columns rule) (columns_are tables entry.table schema (table_there tables file entry passes.known among) place)
           (rule_over (columns_of tables entry.table) rule
-          (each_passes (is_typed (columns_of tables entry.table)) entry.rules (policy_part tables entry) act rule refl refl (passed (policy_is_typed tables) file.policies entry passes.typed among) has_rule)
+          (each_passes (is_typed (columns_of tables entry.table)) entry.rules (policy_part tables entry) act rule refl refl (passed (is_policy_typed tables) file.policies entry passes.typed among) has_rule)
           (each_passes is_total entry.rules (policy_part tables entry) act rule refl refl (passed (λ policy. all_pass is_total policy.rules) file.policies entry passes.total among) has_rule)
           literals)
 

@@ -21,26 +21,26 @@ use Rattle.lq_grammar.specs.declared.syntax.Node.TheVariants as node
 use Rattle.lq_grammar.specs.declared.syntax.Query.{Query}
 use Rattle.lq_grammar.specs.declared.syntax.SortKey.{SortKey}
 use Rattle.lq_grammar.specs.declared.syntax.Unary.{Unary}
-use Rattle.lq_policyfile.specs.RuleNames.{Told, argument_knows, clause_knows, clauses_know, continuation_knows, has_column, hidden_behind, hidden_by, knows, knows_step, last_knows, query_knows, told}
+use Rattle.lq_policyfile.specs.RuleNames.{ExprKnowing, argument_knows, clause_knows, clauses_know, continuation_knows, has_column, is_hidden_after, is_hidden_by, knowing, knows, knows_step, last_knows, query_knows}
 
 pub ruleset layers = (outs-Node, outs-Query)
 
 module _ (columns : List Column) where
   -- an expression beside what is known of it
-  abbrev pub beside : Expr → Told
+  abbrev pub beside : Expr → ExprKnowing
   beside e = (e, knows columns e)
 
-  abbrev pub layer_told : Expr-F Expr → Expr-F Told
-  layer_told layer = map-Expr Expr Told beside layer
+  abbrev pub layer_knowing : Expr-F Expr → Expr-F ExprKnowing
+  layer_knowing layer = map-Expr Expr ExprKnowing beside layer
 
-  rolled : (layer : Expr-F Expr) (hidden : Bool) → knows columns (roll-Expr layer) hidden ≡ knows_step columns (layer_told layer) hidden
+  rolled : (layer : Expr-F Expr) (hidden : Bool) → knows columns (roll-Expr layer) hidden ≡ knows_step columns (layer_knowing layer) hidden
   unfolding knows
   rolled layer hidden = ap (λ (f : Bool → Bool). f hidden) (para-roll-Expr (Bool → Bool) (knows_step columns) layer)
 
-  node_is : (n : Node Expr) (hidden : Bool) → knows columns (expr.Node n) hidden ≡ knows_step columns (layer_told (Expr-F.Node n)) hidden
+  node_is : (n : Node Expr) (hidden : Bool) → knows columns (expr.Node n) hidden ≡ knows_step columns (layer_knowing (Expr-F.Node n)) hidden
   node_is n hidden = ap (λ (e : Expr). knows columns e hidden) (sym (rolls-Node n)) ∙ rolled (Expr-F.Node n) hidden
 
-  query_is : (q : Query Expr) (hidden : Bool) → knows columns (expr.Query q) hidden ≡ knows_step columns (layer_told (Expr-F.Query q)) hidden
+  query_is : (q : Query Expr) (hidden : Bool) → knows columns (expr.Query q) hidden ≡ knows_step columns (layer_knowing (Expr-F.Query q)) hidden
   query_is q hidden = ap (λ (e : Expr). knows columns e hidden) (sym (rolls-Query q)) ∙ rolled (Expr-F.Query q) hidden
 
   pub knows_integer : (n : ℤ) (hidden : Bool) → knows columns (expr.Node (node.Integer n)) hidden ≡ true
@@ -87,32 +87,32 @@ module _ (columns : List Column) where
 
   -- ---- lists of parts, which the layer holds beside what is known of them
 
-  abbrev fields_in : Expr-F Told → List (Field Told)
+  abbrev fields_in : Expr-F ExprKnowing → List (Field ExprKnowing)
   fields_in (Expr-F.Node (node.New fs)) = fs
   fields_in layer = []
 
-  fields_told : (fs : List (Field Expr)) (hidden : Bool)
-      → list_all (λ field. field.value.1 hidden) (fields_in (layer_told (Expr-F.Node (node.New fs)))) ≡ list_all (λ field. knows columns field.value hidden) fs
-  fields_told [] hidden = refl
-  fields_told (f ∷ fs) hidden = ap (λ (b : Bool). knows columns f.value hidden && b) (fields_told fs hidden)
+  fields_knowing : (fs : List (Field Expr)) (hidden : Bool)
+      → list_all (λ field. field.value.1 hidden) (fields_in (layer_knowing (Expr-F.Node (node.New fs)))) ≡ list_all (λ field. knows columns field.value hidden) fs
+  fields_knowing [] hidden = refl
+  fields_knowing (f ∷ fs) hidden = ap (λ (b : Bool). knows columns f.value hidden && b) (fields_knowing fs hidden)
 
   pub knows_new : (fs : List (Field Expr)) (hidden : Bool)
       → knows columns (expr.Node (node.New fs)) hidden ≡ list_all (λ field. knows columns field.value hidden) fs
-  knows_new fs hidden = node_is (node.New fs) hidden ∙ fields_told fs hidden
+  knows_new fs hidden = node_is (node.New fs) hidden ∙ fields_knowing fs hidden
 
-  abbrev arguments_in : Expr-F Told → List (Argument Told)
+  abbrev arguments_in : Expr-F ExprKnowing → List (Argument ExprKnowing)
   arguments_in (Expr-F.Node (node.Method a m xs)) = xs
   arguments_in layer = []
 
-  arguments_told : (a : Expr) (m : List ℕ) (xs : List (Argument Expr)) (hidden : Bool)
-      → list_all (argument_knows told hidden) (arguments_in (layer_told (Expr-F.Node (node.Method a m xs)))) ≡ list_all (argument_knows (knows columns) hidden) xs
-  arguments_told a m [] hidden = refl
-  arguments_told a m (argument.Value x ∷ xs) hidden = ap (λ (b : Bool). knows columns x hidden && b) (arguments_told a m xs hidden)
-  arguments_told a m (argument.Lambda y x ∷ xs) hidden = ap (λ (b : Bool). knows columns x (hidden_by y hidden) && b) (arguments_told a m xs hidden)
+  arguments_knowing : (a : Expr) (m : List ℕ) (xs : List (Argument Expr)) (hidden : Bool)
+      → list_all (argument_knows knowing hidden) (arguments_in (layer_knowing (Expr-F.Node (node.Method a m xs)))) ≡ list_all (argument_knows (knows columns) hidden) xs
+  arguments_knowing a m [] hidden = refl
+  arguments_knowing a m (argument.Value x ∷ xs) hidden = ap (λ (b : Bool). knows columns x hidden && b) (arguments_knowing a m xs hidden)
+  arguments_knowing a m (argument.Lambda y x ∷ xs) hidden = ap (λ (b : Bool). knows columns x (is_hidden_by y hidden) && b) (arguments_knowing a m xs hidden)
 
   pub knows_method : (a : Expr) (m : List ℕ) (xs : List (Argument Expr)) (hidden : Bool)
       → knows columns (expr.Node (node.Method a m xs)) hidden ≡ (knows columns a hidden && list_all (argument_knows (knows columns) hidden) xs)
-  knows_method a m xs hidden = node_is (node.Method a m xs) hidden ∙ ap (λ (b : Bool). knows columns a hidden && b) (arguments_told a m xs hidden)
+  knows_method a m xs hidden = node_is (node.Method a m xs) hidden ∙ ap (λ (b : Bool). knows columns a hidden && b) (arguments_knowing a m xs hidden)
 
   -- ---- queries
 
@@ -126,117 +126,117 @@ module _ (columns : List Column) where
   next_with cs l = record { name = []; body = record { clauses = cs; last = l } }
 
   -- the parts of a query that a layer is, and the first of a list; where there is none any will do
-  abbrev no_query : Query Told
+  abbrev no_query : Query ExprKnowing
   no_query = record { name = []; source = beside null; body = record { clauses = []; last = last.Select (beside null) }; rest = [] }
 
-  abbrev query_in : Expr-F Told → Query Told
+  abbrev query_in : Expr-F ExprKnowing → Query ExprKnowing
   query_in (Expr-F.Query q) = q
   query_in (Expr-F.Node n) = no_query
 
-  abbrev first_clause : List (Clause Told) → Clause Told
+  abbrev first_clause : List (Clause ExprKnowing) → Clause ExprKnowing
   first_clause [] = clause.Where (beside null)
   first_clause (c ∷ cs) = c
 
-  abbrev first_next : List (Continuation Told) → Continuation Told
+  abbrev first_next : List (Continuation ExprKnowing) → Continuation ExprKnowing
   first_next [] = record { name = []; body = no_query.body }
   first_next (k ∷ ks) = k
 
-  abbrev query_told : Query Expr → Query Told
-  query_told q = query_in (layer_told (Expr-F.Query q))
+  abbrev query_knowing : Query Expr → Query ExprKnowing
+  query_knowing q = query_in (layer_knowing (Expr-F.Query q))
 
   -- a clause and the end of a query's own body, and those of a continuation, with what is known of their expressions
-  abbrev clause_told : Clause Expr → Clause Told
-  clause_told c = first_clause (query_told (query_with (c ∷ []) (last.Select null) [])).body.clauses
+  abbrev clause_knowing : Clause Expr → Clause ExprKnowing
+  clause_knowing c = first_clause (query_knowing (query_with (c ∷ []) (last.Select null) [])).body.clauses
 
-  abbrev last_told : Last Expr → Last Told
-  last_told l = (query_told (query_with [] l [])).body.last
+  abbrev last_knowing : Last Expr → Last ExprKnowing
+  last_knowing l = (query_knowing (query_with [] l [])).body.last
 
-  abbrev next_told : Continuation Expr → Continuation Told
-  next_told k = first_next (query_told (query_with [] (last.Select null) (k ∷ []))).rest
+  abbrev next_knowing : Continuation Expr → Continuation ExprKnowing
+  next_knowing k = first_next (query_knowing (query_with [] (last.Select null) (k ∷ []))).rest
 
-  abbrev next_clause_told : Clause Expr → Clause Told
-  next_clause_told c = first_clause (next_told (next_with (c ∷ []) (last.Select null))).body.clauses
+  abbrev next_clause_knowing : Clause Expr → Clause ExprKnowing
+  next_clause_knowing c = first_clause (next_knowing (next_with (c ∷ []) (last.Select null))).body.clauses
 
-  abbrev next_last_told : Last Expr → Last Told
-  next_last_told l = (next_told (next_with [] l)).body.last
+  abbrev next_last_knowing : Last Expr → Last ExprKnowing
+  next_last_knowing l = (next_knowing (next_with [] l)).body.last
 
-  abbrev keys_in : Clause Told → List (SortKey Told)
+  abbrev keys_in : Clause ExprKnowing → List (SortKey ExprKnowing)
   keys_in (clause.OrderBy ks) = ks
   keys_in c = []
 
   keys_same : (ks : List (SortKey Expr)) (hidden : Bool)
-      → list_all (λ key. key.value.1 hidden) (keys_in (clause_told (clause.OrderBy ks))) ≡ list_all (λ key. knows columns key.value hidden) ks
+      → list_all (λ key. key.value.1 hidden) (keys_in (clause_knowing (clause.OrderBy ks))) ≡ list_all (λ key. knows columns key.value hidden) ks
   keys_same [] hidden = refl
   keys_same (k ∷ ks) hidden = ap (λ (b : Bool). knows columns k.value hidden && b) (keys_same ks hidden)
 
   next_keys_same : (ks : List (SortKey Expr)) (hidden : Bool)
-      → list_all (λ key. key.value.1 hidden) (keys_in (next_clause_told (clause.OrderBy ks))) ≡ list_all (λ key. knows columns key.value hidden) ks
+      → list_all (λ key. key.value.1 hidden) (keys_in (next_clause_knowing (clause.OrderBy ks))) ≡ list_all (λ key. knows columns key.value hidden) ks
   next_keys_same [] hidden = refl
   next_keys_same (k ∷ ks) hidden = ap (λ (b : Bool). knows columns k.value hidden && b) (next_keys_same ks hidden)
 
-  clause_same : (outer hidden : Bool) (c : Clause Expr) → clause_knows told outer hidden (clause_told c) ≡ clause_knows (knows columns) outer hidden c
+  clause_same : (outer hidden : Bool) (c : Clause Expr) → clause_knows knowing outer hidden (clause_knowing c) ≡ clause_knows (knows columns) outer hidden c
   clause_same outer hidden (clause.From x e) = refl
   clause_same outer hidden (clause.Let x e) = refl
   clause_same outer hidden (clause.Where e) = refl
   clause_same outer hidden (clause.Join j) = refl
   clause_same outer hidden (clause.OrderBy ks) = keys_same ks hidden
 
-  next_clause_same : (outer hidden : Bool) (c : Clause Expr) → clause_knows told outer hidden (next_clause_told c) ≡ clause_knows (knows columns) outer hidden c
+  next_clause_same : (outer hidden : Bool) (c : Clause Expr) → clause_knows knowing outer hidden (next_clause_knowing c) ≡ clause_knows (knows columns) outer hidden c
   next_clause_same outer hidden (clause.From x e) = refl
   next_clause_same outer hidden (clause.Let x e) = refl
   next_clause_same outer hidden (clause.Where e) = refl
   next_clause_same outer hidden (clause.Join j) = refl
   next_clause_same outer hidden (clause.OrderBy ks) = next_keys_same ks hidden
 
-  behind_same : (hidden : Bool) (c : Clause Expr) → hidden_behind hidden (clause_told c) ≡ hidden_behind hidden c
-  behind_same hidden (clause.From x e) = refl
-  behind_same hidden (clause.Let x e) = refl
-  behind_same hidden (clause.Where e) = refl
-  behind_same hidden (clause.Join j) = refl
-  behind_same hidden (clause.OrderBy ks) = refl
+  hidden_same : (hidden : Bool) (c : Clause Expr) → is_hidden_after hidden (clause_knowing c) ≡ is_hidden_after hidden c
+  hidden_same hidden (clause.From x e) = refl
+  hidden_same hidden (clause.Let x e) = refl
+  hidden_same hidden (clause.Where e) = refl
+  hidden_same hidden (clause.Join j) = refl
+  hidden_same hidden (clause.OrderBy ks) = refl
 
-  next_behind_same : (hidden : Bool) (c : Clause Expr) → hidden_behind hidden (next_clause_told c) ≡ hidden_behind hidden c
-  next_behind_same hidden (clause.From x e) = refl
-  next_behind_same hidden (clause.Let x e) = refl
-  next_behind_same hidden (clause.Where e) = refl
-  next_behind_same hidden (clause.Join j) = refl
-  next_behind_same hidden (clause.OrderBy ks) = refl
+  next_hidden_same : (hidden : Bool) (c : Clause Expr) → is_hidden_after hidden (next_clause_knowing c) ≡ is_hidden_after hidden c
+  next_hidden_same hidden (clause.From x e) = refl
+  next_hidden_same hidden (clause.Let x e) = refl
+  next_hidden_same hidden (clause.Where e) = refl
+  next_hidden_same hidden (clause.Join j) = refl
+  next_hidden_same hidden (clause.OrderBy ks) = refl
 
-  last_same : (hidden : Bool) (l : Last Expr) → last_knows told hidden (last_told l) ≡ last_knows (knows columns) hidden l
+  last_same : (hidden : Bool) (l : Last Expr) → last_knows knowing hidden (last_knowing l) ≡ last_knows (knows columns) hidden l
   last_same hidden (last.Select v) = refl
   last_same hidden (last.Group v key) = refl
 
-  next_last_same : (hidden : Bool) (l : Last Expr) → last_knows told hidden (next_last_told l) ≡ last_knows (knows columns) hidden l
+  next_last_same : (hidden : Bool) (l : Last Expr) → last_knows knowing hidden (next_last_knowing l) ≡ last_knows (knows columns) hidden l
   next_last_same hidden (last.Select v) = refl
   next_last_same hidden (last.Group v key) = refl
 
   -- clauses of which something is known one by one
-  clauses_same : (tell : Clause Expr → Clause Told) → ((outer hidden : Bool) (c : Clause Expr) → clause_knows told outer hidden (tell c) ≡ clause_knows (knows columns) outer hidden c)
-      → ((hidden : Bool) (c : Clause Expr) → hidden_behind hidden (tell c) ≡ hidden_behind hidden c)
-      → (end : Last Told) (l : Last Expr) → ((hidden : Bool) → last_knows told hidden end ≡ last_knows (knows columns) hidden l)
-      → (outer hidden : Bool) (cs : List (Clause Expr)) → clauses_know told outer hidden (map tell cs) end ≡ clauses_know (knows columns) outer hidden cs l
-  clauses_same tell same behind end l ends outer hidden [] = ends hidden
-  clauses_same tell same behind end l ends outer hidden (c ∷ cs) =
+  clauses_same : (with_knowing : Clause Expr → Clause ExprKnowing) → ((outer hidden : Bool) (c : Clause Expr) → clause_knows knowing outer hidden (with_knowing c) ≡ clause_knows (knows columns) outer hidden c)
+      → ((hidden : Bool) (c : Clause Expr) → is_hidden_after hidden (with_knowing c) ≡ is_hidden_after hidden c)
+      → (end : Last ExprKnowing) (l : Last Expr) → ((hidden : Bool) → last_knows knowing hidden end ≡ last_knows (knows columns) hidden l)
+      → (outer hidden : Bool) (cs : List (Clause Expr)) → clauses_know knowing outer hidden (map with_knowing cs) end ≡ clauses_know (knows columns) outer hidden cs l
+  clauses_same with_knowing same hides end l ends outer hidden [] = ends hidden
+  clauses_same with_knowing same hides end l ends outer hidden (c ∷ cs) =
       ap₂ (λ (a b : Bool). a && b) (same outer hidden c)
-      (ap (λ (h : Bool). clauses_know told outer h (map tell cs) end) (behind hidden c)
-      ∙ clauses_same tell same behind end l ends outer (hidden_behind hidden c) cs)
+      (ap (λ (h : Bool). clauses_know knowing outer h (map with_knowing cs) end) (hides hidden c)
+      ∙ clauses_same with_knowing same hides end l ends outer (is_hidden_after hidden c) cs)
 
   body_same : (outer hidden : Bool) (cs : List (Clause Expr)) (l : Last Expr)
-      → clauses_know told outer hidden (map clause_told cs) (last_told l) ≡ clauses_know (knows columns) outer hidden cs l
-  body_same outer hidden cs l = clauses_same clause_told clause_same behind_same (last_told l) l (λ h. last_same h l) outer hidden cs
+      → clauses_know knowing outer hidden (map clause_knowing cs) (last_knowing l) ≡ clauses_know (knows columns) outer hidden cs l
+  body_same outer hidden cs l = clauses_same clause_knowing clause_same hidden_same (last_knowing l) l (λ h. last_same h l) outer hidden cs
 
-  next_same : (outer : Bool) (k : Continuation Expr) → continuation_knows told outer (next_told k) ≡ continuation_knows (knows columns) outer k
+  next_same : (outer : Bool) (k : Continuation Expr) → continuation_knows knowing outer (next_knowing k) ≡ continuation_knows (knows columns) outer k
   next_same outer k =
-      clauses_same next_clause_told next_clause_same next_behind_same (next_last_told k.body.last) k.body.last (λ h. next_last_same h k.body.last) outer
-      (hidden_by k.name outer) k.body.clauses
+      clauses_same next_clause_knowing next_clause_same next_hidden_same (next_last_knowing k.body.last) k.body.last (λ h. next_last_same h k.body.last) outer
+      (is_hidden_by k.name outer) k.body.clauses
 
-  rest_same : (outer : Bool) (ks : List (Continuation Expr)) → list_all (continuation_knows told outer) (map next_told ks) ≡ list_all (continuation_knows (knows columns) outer) ks
+  rest_same : (outer : Bool) (ks : List (Continuation Expr)) → list_all (continuation_knows knowing outer) (map next_knowing ks) ≡ list_all (continuation_knows (knows columns) outer) ks
   rest_same outer [] = refl
   rest_same outer (k ∷ ks) = ap₂ (λ (a b : Bool). a && b) (next_same outer k) (rest_same outer ks)
 
   pub knows_query : (q : Query Expr) (hidden : Bool) → knows columns (expr.Query q) hidden ≡ query_knows (knows columns) hidden q
   knows_query q hidden =
       query_is q hidden
-      ∙ ap₂ (λ (a b : Bool). knows columns q.source hidden && a && b) (body_same hidden (hidden_by q.name hidden) q.body.clauses q.body.last) (rest_same hidden q.rest)
+      ∙ ap₂ (λ (a b : Bool). knows columns q.source hidden && a && b) (body_same hidden (is_hidden_by q.name hidden) q.body.clauses q.body.last) (rest_same hidden q.rest)
 
 pub ruleset forms = (knows_integer, knows_text, knows_truth, knows_null, knows_name, knows_member, knows_unary, knows_binary, knows_and, knows_or, knows_coalesce, knows_conditional, knows_host, knows_new, knows_method, knows_query)

@@ -13,9 +13,9 @@ use Rattle.lq_security.specs.declared.policy.PolicyParts.{PolicyParts}
 use Rattle.lq_security.specs.declared.policy.Role.{Role}
 use Rattle.lq_security.specs.declared.policy.TablePart.{TablePart}
 use Rattle.lq_policyfile.specs.Duplicates.{has_no_duplicates}
-use Rattle.lq_policyfile.specs.Names.{names_are_known, role_names}
+use Rattle.lq_policyfile.specs.Names.{are_names_known, role_names}
 use Rattle.lq_policyfile.specs.RightUses.{right_rule, table_number}
-use Rattle.lq_policyfile.specs.RuleChecks.{rules_are_total, rules_are_typed}
+use Rattle.lq_policyfile.specs.RuleChecks.{are_rules_total, are_rules_typed}
 use Rattle.lq_policyfile.specs.Shape.{entries_of}
 use Rattle.lq_policyfile.specs.declared.entry.Actions.{Actions}
 use Rattle.lq_policyfile.specs.declared.entry.Actions.TheVariants as actions
@@ -86,10 +86,10 @@ parts_of tables file =
 -- the least refusal that applies to entries, if one does
 unfoldable pub refusal_of : List Table → FileEntries → Option PolicyFileError
 refusal_of tables file =
-    if not (names_are_known tables file) then Some error.UnknownName
+    if not (are_names_known tables file) then Some error.UnknownName
     else (if not (has_no_duplicates file) then Some error.Duplicate
-    else (if not (rules_are_typed tables file.policies) then Some error.RuleType
-    else (if not (rules_are_total file.policies) then Some error.RuleNotTotal
+    else (if not (are_rules_typed tables file.policies) then Some error.RuleType
+    else (if not (are_rules_total file.policies) then Some error.RuleNotTotal
     else None)))
 
 abbrev pub unless_refused : Option PolicyFileError → PolicyParts → Result PolicyParts PolicyFileError

@@ -24,9 +24,9 @@ abbrev pub role_names : List RoleEntry → List (List ℕ)
 role_names roles = map (λ role. role.name) roles
 
 -- each role is a member of roles that come before it
-abbrev pub memberships_are_known : List (List ℕ) → List RoleEntry → Bool
-memberships_are_known earlier [] = true
-memberships_are_known earlier (role ∷ roles) = list_all (is_among earlier) role.member_of && memberships_are_known (earlier ++ role.name ∷ []) roles
+abbrev pub are_memberships_known : List (List ℕ) → List RoleEntry → Bool
+are_memberships_known earlier [] = true
+are_memberships_known earlier (role ∷ roles) = list_all (is_among earlier) role.member_of && are_memberships_known (earlier ++ role.name ∷ []) roles
 
 -- ---- tables
 
@@ -45,8 +45,8 @@ columns_at tables (Some number) = columns_in (slice_get tables number)
 abbrev pub columns_of : List Table → List ℕ → List Column
 columns_of tables name = columns_at tables (first_named name_of name tables)
 
-abbrev pub table_is_known : List Table → TableEntry → Bool
-table_is_known tables entry = is_table tables entry.name
+abbrev pub is_table_known : List Table → TableEntry → Bool
+is_table_known tables entry = is_table tables entry.name
 
 -- ---- policies
 
@@ -63,30 +63,30 @@ abbrev pub is_addressee : List (List ℕ) → List ℕ → Bool
 is_addressee roles name = bytes_eq name (codes "public") || is_among roles name
 
 -- the table of a policy, the roles that it applies to, and what its rules name
-abbrev pub policy_is_known : List Table → List (List ℕ) → PolicyEntry → Bool
-policy_is_known tables roles entry =
+abbrev pub is_policy_known : List Table → List (List ℕ) → PolicyEntry → Bool
+is_policy_known tables roles entry =
     is_table tables entry.table && list_all (is_addressee roles) entry.to && all_pass (λ rule. knows (columns_of tables entry.table) rule false) entry.rules
 
 -- ---- rights
 
 -- a right names a table that is there, and a column that the table has; no host predicate is there
-abbrev pub right_is_known : List Table → RightForm → Bool
-right_is_known tables (form.Column t c) = is_table tables t && has_column (columns_of tables t) c
-right_is_known tables (form.AllColumns t) = is_table tables t
-right_is_known tables (form.Insert t) = is_table tables t
-right_is_known tables (form.Delete t) = is_table tables t
-right_is_known tables (form.Host p) = false
+abbrev pub is_right_known : List Table → RightForm → Bool
+is_right_known tables (form.Column t c) = is_table tables t && has_column (columns_of tables t) c
+is_right_known tables (form.AllColumns t) = is_table tables t
+is_right_known tables (form.Insert t) = is_table tables t
+is_right_known tables (form.Delete t) = is_table tables t
+is_right_known tables (form.Host p) = false
 
 -- the roles that a grant or a withhold applies to, and its rights
-abbrev pub entry_is_known : List Table → List (List ℕ) → RightEntry → Bool
-entry_is_known tables roles entry = list_all (is_addressee roles) entry.to && list_all (right_is_known tables) entry.rights
+abbrev pub is_entry_known : List Table → List (List ℕ) → RightEntry → Bool
+is_entry_known tables roles entry = list_all (is_addressee roles) entry.to && list_all (is_right_known tables) entry.rights
 
 -- ---- files
 
-abbrev pub rules_are_known : List Table → List (List ℕ) → FileEntries → Bool
-rules_are_known tables roles file =
-    list_all (policy_is_known tables roles) file.policies && list_all (entry_is_known tables roles) file.grants && list_all (entry_is_known tables roles) file.withholds
+abbrev pub are_rules_known : List Table → List (List ℕ) → FileEntries → Bool
+are_rules_known tables roles file =
+    list_all (is_policy_known tables roles) file.policies && list_all (is_entry_known tables roles) file.grants && list_all (is_entry_known tables roles) file.withholds
 
-unfoldable pub names_are_known : List Table → FileEntries → Bool
-names_are_known tables file =
-    memberships_are_known [] file.roles && list_all (table_is_known tables) file.tables && rules_are_known tables (role_names file.roles) file
+unfoldable pub are_names_known : List Table → FileEntries → Bool
+are_names_known tables file =
+    are_memberships_known [] file.roles && list_all (is_table_known tables) file.tables && are_rules_known tables (role_names file.roles) file

@@ -15,11 +15,11 @@ use Rattle.lq_policyfile.specs.declared.entry.PolicyEntry.{PolicyEntry}
 abbrev pub is_typed : List Column → Expr → Bool
 is_typed columns rule = is_bool_type (type_of rule (rule_names [] columns))
 
-abbrev pub policy_is_typed : List Table → PolicyEntry → Bool
-policy_is_typed tables policy = all_pass (is_typed (columns_of tables policy.table)) policy.rules
+abbrev pub is_policy_typed : List Table → PolicyEntry → Bool
+is_policy_typed tables policy = all_pass (is_typed (columns_of tables policy.table)) policy.rules
 
-abbrev pub rules_are_typed : List Table → List PolicyEntry → Bool
-rules_are_typed tables policies = list_all (policy_is_typed tables) policies
+abbrev pub are_rules_typed : List Table → List PolicyEntry → Bool
+are_rules_typed tables policies = list_all (is_policy_typed tables) policies
 
-abbrev pub rules_are_total : List PolicyEntry → Bool
-rules_are_total policies = list_all (λ policy. all_pass is_total policy.rules) policies
+abbrev pub are_rules_total : List PolicyEntry → Bool
+are_rules_total policies = list_all (λ policy. all_pass is_total policy.rules) policies

@@ -24,8 +24,8 @@ abbrev pub has_column : List Column → List ℕ → Bool
 has_column columns name = list_any (λ column. bytes_eq column.name name) columns
 
 -- whether the row is hidden where this local name is in scope: a local name `row` hides it
-abbrev pub hidden_by : List ℕ → Bool → Bool
-hidden_by name hidden = hidden || bytes_eq name (codes "row")
+abbrev pub is_hidden_by : List ℕ → Bool → Bool
+is_hidden_by name hidden = hidden || bytes_eq name (codes "row")
 
 -- the name that a `join` brings into scope for what follows it
 abbrev pub joined_name : List ℕ → Option (List ℕ) → List ℕ
@@ -33,21 +33,21 @@ joined_name name None = name
 joined_name name (Some group) = group
 
 -- whether the row is hidden after a clause
-abbrev pub hidden_behind : {X : Type 0} → Bool → Clause X → Bool
-hidden_behind hidden (clause.From name x) = hidden_by name hidden
-hidden_behind hidden (clause.Let name x) = hidden_by name hidden
-hidden_behind hidden (clause.Join join) = hidden_by (joined_name join.name join.into) hidden
-hidden_behind hidden clause = hidden
+abbrev pub is_hidden_after : {X : Type 0} → Bool → Clause X → Bool
+is_hidden_after hidden (clause.From name x) = is_hidden_by name hidden
+is_hidden_after hidden (clause.Let name x) = is_hidden_by name hidden
+is_hidden_after hidden (clause.Join join) = is_hidden_by (joined_name join.name join.into) hidden
+is_hidden_after hidden clause = hidden
 
 -- What is known of the expressions of a query, each where the row is hidden or not. Range variables may hide it.
 module _ {X : Type 0} (knows : X → Bool → Bool) where
   abbrev pub argument_knows : Bool → Argument X → Bool
   argument_knows hidden (argument.Value x) = knows x hidden
-  argument_knows hidden (argument.Lambda name x) = knows x (hidden_by name hidden)
+  argument_knows hidden (argument.Lambda name x) = knows x (is_hidden_by name hidden)
 
   -- the inner sequence sees no range variable of its query, and the inner key no other than its own
   abbrev pub join_knows : Bool → Bool → Join X → Bool
-  join_knows outer hidden join = knows join.source outer && knows join.outer_key hidden && knows join.inner_key (hidden_by join.name outer)
+  join_knows outer hidden join = knows join.source outer && knows join.outer_key hidden && knows join.inner_key (is_hidden_by join.name outer)
 
   -- in a query at whose place the row is hidden or not, and a clause at whose place it is
   abbrev pub clause_knows : Bool → Bool → Clause X → Bool
@@ -63,28 +63,28 @@ module _ {X : Type 0} (knows : X → Bool → Bool) where
 
   abbrev pub clauses_know : Bool → Bool → List (Clause X) → Last X → Bool
   clauses_know outer hidden [] end = last_knows hidden end
-  clauses_know outer hidden (c ∷ cs) end = clause_knows outer hidden c && clauses_know outer (hidden_behind hidden c) cs end
+  clauses_know outer hidden (c ∷ cs) end = clause_knows outer hidden c && clauses_know outer (is_hidden_after hidden c) cs end
 
   abbrev pub body_knows : Bool → Bool → Body X → Bool
   body_knows outer hidden body = clauses_know outer hidden body.clauses body.last
 
   -- what follows by `into` sees no earlier range variable
   abbrev pub continuation_knows : Bool → Continuation X → Bool
-  continuation_knows outer next = body_knows outer (hidden_by next.name outer) next.body
+  continuation_knows outer next = body_knows outer (is_hidden_by next.name outer) next.body
 
   abbrev pub query_knows : Bool → Query X → Bool
   query_knows outer q =
-      knows q.source outer && body_knows outer (hidden_by q.name outer) q.body && list_all (continuation_knows outer) q.rest
+      knows q.source outer && body_knows outer (is_hidden_by q.name outer) q.body && list_all (continuation_knows outer) q.rest
 
 -- an expression, and what is known of it
-abbrev pub Told : Type 0
-Told = Expr × (Bool → Bool)
+abbrev pub ExprKnowing : Type 0
+ExprKnowing = Expr × (Bool → Bool)
 
-abbrev pub told : Told → Bool → Bool
-told x = x.1
+abbrev pub knowing : ExprKnowing → Bool → Bool
+knowing x = x.1
 
 -- a column of the row is there; no host predicate is
-abbrev pub node_knows : List Column → Node Told → Bool → Bool
+abbrev pub node_knows : List Column → Node ExprKnowing → Bool → Bool
 node_knows columns (node.Member a c) hidden = a.1 hidden && (hidden || not (is_row (out-Expr a.0)) || has_column columns c)
 node_knows columns (node.Unary op a) hidden = a.1 hidden
 node_knows columns (node.Binary op a b) hidden = a.1 hidden && b.1 hidden
@@ -94,12 +94,12 @@ node_knows columns (node.Coalesce a b) hidden = a.1 hidden && b.1 hidden
 node_knows columns (node.Conditional c a b) hidden = c.1 hidden && a.1 hidden && b.1 hidden
 node_knows columns (node.Host p xs) hidden = false
 node_knows columns (node.New fields) hidden = list_all (λ field. field.value.1 hidden) fields
-node_knows columns (node.Method a m arguments) hidden = a.1 hidden && list_all (argument_knows told hidden) arguments
+node_knows columns (node.Method a m arguments) hidden = a.1 hidden && list_all (argument_knows knowing hidden) arguments
 node_knows columns node hidden = true
 
-abbrev pub knows_step : List Column → Expr-F Told → Bool → Bool
+abbrev pub knows_step : List Column → Expr-F ExprKnowing → Bool → Bool
 knows_step columns (Expr-F.Node n) hidden = node_knows columns n hidden
-knows_step columns (Expr-F.Query q) hidden = query_knows told hidden q
+knows_step columns (Expr-F.Query q) hidden = query_knows knowing hidden q
 
 -- whether an expression names only columns of these where it names columns of the row, which is hidden or not, and no host predicate
 unfoldable pub knows : List Column → Expr → Bool → Bool

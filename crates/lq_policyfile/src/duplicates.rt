@@ -12,8 +12,8 @@ use std::alloc::{AllocError, Global};
 /// earlier ones from now on.
 #[tactic(auto, using(crate::proofs::NameLemmas::are_new_step))]
 fn add_new<'a, T: Named>(earlier: &mut NameSet<'a>, entries: &'a [T]) -> Result<bool, AllocError>
-    ensures new { IfOk result (λ new. new ≡ are_new earlier.old (map T.name entries.now)) }
-    ensures names { IfOk result (λ new. new ≡ true
+    ensures new { IfOk result (λ answer. answer ≡ are_new earlier.old (map T.name entries.now)) }
+    ensures names { IfOk result (λ answer. answer ≡ true
         → earlier.new ≡ earlier.old ++ map T.name entries.now) }
 {
     let mut left = entries;
@@ -28,15 +28,15 @@ fn add_new<'a, T: Named>(earlier: &mut NameSet<'a>, entries: &'a [T]) -> Result<
 
 /// Whether each entry's name is unlike those before it.
 fn are_new<T: Named>(alloc: Global, entries: &[T]) -> Result<bool, AllocError>
-    ensures { IfOk result (λ new. new ≡ are_new [] (map T.name entries.now)) }
+    ensures { IfOk result (λ answer. answer ≡ are_new [] (map T.name entries.now)) }
 {
     add_new(&mut NameSet::new(alloc), entries)
 }
 
 /// Whether the names of policies, grants and withholds are unlike one another.
-#[tactic(auto, using(crate::proofs::NameLemmas::are_new_behind))]
-fn rules_are_new(alloc: Global, file: &FileEntries) -> Result<bool, AllocError>
-    ensures { IfOk result (λ new. new ≡ are_new [] (names_of_rules file.now)) }
+#[tactic(auto, using(crate::proofs::NameLemmas::are_new_after))]
+fn are_rules_new(alloc: Global, file: &FileEntries) -> Result<bool, AllocError>
+    ensures { IfOk result (λ answer. answer ≡ are_new [] (names_of_rules file.now)) }
 {
     let mut earlier = NameSet::new(alloc);
     Ok(
@@ -61,11 +61,11 @@ pub(crate) fn names_of<T: Named>(alloc: Global, entries: &[T]) -> Result<NameSet
 
 /// Whether no two roles, no two tables and no two rules have one name.
 pub(crate) fn has_no_duplicates(alloc: Global, file: &FileEntries) -> Result<bool, AllocError>
-    ensures { IfOk result (λ holds. holds ≡ has_no_duplicates file.now) }
+    ensures { IfOk result (λ answer. answer ≡ has_no_duplicates file.now) }
 {
     Ok(
         are_new(alloc, file.roles.as_slice())?
             && are_new(alloc, file.tables.as_slice())?
-            && rules_are_new(alloc, file)?,
+            && are_rules_new(alloc, file)?,
     )
 }

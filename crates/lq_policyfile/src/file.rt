@@ -11,9 +11,9 @@ ghost use Rattle.lq_policyfile.specs.RuleChecks as rules;
 use crate::duplicates::has_no_duplicates;
 use crate::entry::FileEntries;
 use crate::error::PolicyFileError;
-use crate::names::names_are_known;
+use crate::names::are_names_known;
 use crate::parts::parts_of;
-use crate::rule_checks::{rules_are_total, rules_are_typed};
+use crate::rule_checks::{are_rules_total, are_rules_typed};
 use crate::shape::entries_of;
 use lq_policy::{Policies, PolicyError};
 use lq_security::PolicyParts;
@@ -29,18 +29,18 @@ pub const MOST_BYTES: usize = 1_048_576;
 fn check(alloc: Global, store: &Store, file: &FileEntries) -> Result<(), PolicyFileError>
     ensures refusal { Refuses (refusal_of store.now file.now) result }
     ensures distinct { OnOk result (are_new [] (role_names file.now.roles) ≡ true) }
-    ensures total { OnOk result (rules.rules_are_total file.now.policies ≡ true) }
+    ensures total { OnOk result (rules.are_rules_total file.now.policies ≡ true) }
 {
-    if !names_are_known(alloc, store, file)? {
+    if !are_names_known(alloc, store, file)? {
         return Err(PolicyFileError::UnknownName);
     }
     if !has_no_duplicates(alloc, file)? {
         return Err(PolicyFileError::Duplicate);
     }
-    if !rules_are_typed(store, file.policies.as_slice()) {
+    if !are_rules_typed(store, file.policies.as_slice()) {
         return Err(PolicyFileError::RuleType);
     }
-    if !rules_are_total(file.policies.as_slice()) {
+    if !are_rules_total(file.policies.as_slice()) {
         return Err(PolicyFileError::RuleNotTotal);
     }
     Ok(())
@@ -50,7 +50,7 @@ fn check(alloc: Global, store: &Store, file: &FileEntries) -> Result<(), PolicyF
 #[tactic(auto, using(crate::proofs::FileLemmas::total_parts))]
 fn parts_in(alloc: Global, store: &Store, file: FileEntries) -> Result<PolicyParts, PolicyFileError>
     ensures parts { Answers (parts_in store.now file) result }
-    ensures total { IfOk result (λ parts. totals.rules_are_total parts.policies ≡ true) }
+    ensures total { IfOk result (λ parts. totals.are_rules_total parts.policies ≡ true) }
 {
     check(alloc, store, &file)?;
     Ok(parts_of(alloc, store, file)?)
@@ -59,7 +59,7 @@ fn parts_in(alloc: Global, store: &Store, file: FileEntries) -> Result<PolicyPar
 /// The tree of a TOML document in UTF-8; None where the bytes aren't such a document.
 #[tactic(auto, using(crate::proofs::FileLemmas::documents))]
 fn document(alloc: Global, bytes: &[u8]) -> Result<Option<Table>, AllocError>
-    ensures { IfOk result (λ found. option_map table_view found ≡ document_of bytes.now) }
+    ensures { IfOk result (λ tree. option_map table_view tree ≡ document_of bytes.now) }
 {
     let Ok(text) = std::str::from_utf8(bytes) else {
         return Ok(None);
@@ -78,7 +78,7 @@ fn parts_of_bytes(
     store: &Store,
 ) -> Result<PolicyParts, PolicyFileError>
     ensures parts { Answers (of_document store.now (document_of bytes.now)) result }
-    ensures total { IfOk result (λ parts. totals.rules_are_total parts.policies ≡ true) }
+    ensures total { IfOk result (λ parts. totals.are_rules_total parts.policies ≡ true) }
 {
     let Some(tree) = document(alloc, bytes)? else {
         return Err(PolicyFileError::Toml);
@@ -91,7 +91,7 @@ fn parts_of_bytes(
 #[tactic(auto, unfolding(crate::specs::File::policies_in))]
 fn policy_parts(alloc: Global, bytes: &[u8], store: &Store) -> Result<PolicyParts, PolicyFileError>
     ensures parts { Answers (policies_in store.now bytes.now) result }
-    ensures total { IfOk result (λ parts. totals.rules_are_total parts.policies ≡ true) }
+    ensures total { IfOk result (λ parts. totals.are_rules_total parts.policies ≡ true) }
 {
     if bytes.len() > MOST_BYTES {
         return Err(PolicyFileError::Shape);

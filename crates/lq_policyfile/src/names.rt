@@ -2,13 +2,13 @@
 ghost use Rattle.std.specs.Prelude.{◌≡◌, ◌≤◌, [], false, length, IfOk, OnOk};
 ghost use Rattle.std.specs.List.{list_all};
 ghost use Rattle.lq_policyfile.specs.NameSets.{with_name};
-ghost use Rattle.lq_policyfile.specs.Names.{all_pass, columns_of, is_addressee, is_among, is_table, memberships_are_known, names_are_known, passes, policy_is_known, rules_are_known, table_is_known};
+ghost use Rattle.lq_policyfile.specs.Names.{all_pass, are_memberships_known, are_names_known, are_rules_known, columns_of, is_addressee, is_among, is_policy_known, is_table, is_table_known, passes};
 ghost use Rattle.lq_policyfile.specs.RuleNames.{knows};
 
 use crate::duplicates::names_of;
 use crate::entry::{FileEntries, PolicyEntry, RoleEntry, Rules, TableEntry};
 use crate::name_set::NameSet;
-use crate::rights::entries_are_known;
+use crate::rights::are_entries_known;
 use crate::rule_names::knows;
 use lq_grammar::Expr;
 use lq_store::{Column, Store};
@@ -17,18 +17,18 @@ use std::alloc::{AllocError, Global};
 
 /// Whether a role is a member of earlier roles alone; it is one of them from now on.
 fn is_known<'a>(earlier: &mut NameSet<'a>, role: &'a RoleEntry) -> Result<bool, AllocError>
-    ensures known { IfOk result (λ known. known
+    ensures known { IfOk result (λ answer. answer
         ≡ list_all (is_among earlier.old) role.now.member_of) }
     ensures names { OnOk result (earlier.new ≡ with_name earlier.old role.now.name) }
 {
-    let known = earlier.has_all(role.member_of.as_slice());
+    let are_earlier = earlier.has_all(role.member_of.as_slice());
     earlier.add(role.name.as_str())?;
-    Ok(known)
+    Ok(are_earlier)
 }
 
 /// Whether each role is a member of roles that come before it.
-fn memberships_are_known(alloc: Global, roles: &[RoleEntry]) -> Result<bool, AllocError>
-    ensures { IfOk result (λ known. known ≡ memberships_are_known [] roles.now) }
+fn are_memberships_known(alloc: Global, roles: &[RoleEntry]) -> Result<bool, AllocError>
+    ensures { IfOk result (λ answer. answer ≡ are_memberships_known [] roles.now) }
 {
     let mut earlier = NameSet::new(alloc);
     for role in roles {
@@ -47,8 +47,8 @@ pub(crate) fn is_table(store: &Store, name: &str) -> bool
 }
 
 /// Whether each table that is spoken of is there.
-fn tables_are_known(store: &Store, tables: &[TableEntry]) -> bool
-    ensures { result ≡ list_all (table_is_known store.now) tables.now }
+fn are_tables_known(store: &Store, tables: &[TableEntry]) -> bool
+    ensures { result ≡ list_all (is_table_known store.now) tables.now }
 {
     tables
         .iter()
@@ -69,7 +69,7 @@ pub(crate) fn columns_of<'a>(store: &'a Store, table: &str) -> &'a [Column]
 
 /// Whether a rule that is there names only what is there.
 fn knows_rule(columns: &[Column], rule: &Option<Expr>) -> bool
-    ensures { result ≡ passes (λ found. knows columns.now found false) rule.now }
+    ensures { result ≡ passes (λ expr. knows columns.now expr false) rule.now }
 {
     match rule {
         Some(rule) => knows(columns, rule, false),
@@ -79,7 +79,7 @@ fn knows_rule(columns: &[Column], rule: &Option<Expr>) -> bool
 
 /// Whether the rules name only what is there.
 fn knows_rules(columns: &[Column], rules: &Rules) -> bool
-    ensures { result ≡ all_pass (λ found. knows columns.now found false) rules.now }
+    ensures { result ≡ all_pass (λ expr. knows columns.now expr false) rules.now }
 {
     knows_rule(columns, &rules.using) && knows_rule(columns, &rules.check)
 }
@@ -92,8 +92,8 @@ pub(crate) fn are_addressees(roles: &NameSet<'_>, names: &[Txt]) -> bool
 }
 
 /// Whether a policy names only what is there.
-fn policy_is_known(store: &Store, roles: &NameSet<'_>, policy: &PolicyEntry) -> bool
-    ensures { result ≡ policy_is_known store.now roles.now policy.now }
+fn is_policy_known(store: &Store, roles: &NameSet<'_>, policy: &PolicyEntry) -> bool
+    ensures { result ≡ is_policy_known store.now roles.now policy.now }
 {
     is_table(store, policy.table.as_str())
         && are_addressees(roles, policy.to.as_slice())
@@ -101,36 +101,36 @@ fn policy_is_known(store: &Store, roles: &NameSet<'_>, policy: &PolicyEntry) -> 
 }
 
 /// Whether each policy names only what is there.
-fn policies_are_known(store: &Store, roles: &NameSet<'_>, policies: &[PolicyEntry]) -> bool
-    ensures { result ≡ list_all (policy_is_known store.now roles.now) policies.now }
+fn are_policies_known(store: &Store, roles: &NameSet<'_>, policies: &[PolicyEntry]) -> bool
+    ensures { result ≡ list_all (is_policy_known store.now roles.now) policies.now }
 {
     policies
         .iter()
-        .all(|policy| policy_is_known(store, roles, policy))
+        .all(|policy| is_policy_known(store, roles, policy))
 }
 
 /// Whether each policy, grant and withhold names only what is there.
-fn rules_are_known(store: &Store, roles: &NameSet<'_>, file: &FileEntries) -> bool
-    ensures { result ≡ rules_are_known store.now roles.now file.now }
+fn are_rules_known(store: &Store, roles: &NameSet<'_>, file: &FileEntries) -> bool
+    ensures { result ≡ are_rules_known store.now roles.now file.now }
 {
-    policies_are_known(store, roles, file.policies.as_slice())
-        && entries_are_known(store, roles, file.grants.as_slice())
-        && entries_are_known(store, roles, file.withholds.as_slice())
+    are_policies_known(store, roles, file.policies.as_slice())
+        && are_entries_known(store, roles, file.grants.as_slice())
+        && are_entries_known(store, roles, file.withholds.as_slice())
 }
 
 /// Whether the file names only what is there.
-#[tactic(auto, using(crate::proofs::NameLemmas::rules_by_set), unfolding(crate::specs::Names::names_are_known))]
-pub(crate) fn names_are_known(
+#[tactic(auto, using(crate::proofs::NameLemmas::rules_by_set), unfolding(crate::specs::Names::are_names_known))]
+pub(crate) fn are_names_known(
     alloc: Global,
     store: &Store,
     file: &FileEntries,
 ) -> Result<bool, AllocError>
-    ensures { IfOk result (λ known. known ≡ names_are_known store.now file.now) }
+    ensures { IfOk result (λ answer. answer ≡ are_names_known store.now file.now) }
 {
     let roles = names_of(alloc, file.roles.as_slice())?;
     Ok(
-        memberships_are_known(alloc, file.roles.as_slice())?
-            && tables_are_known(store, file.tables.as_slice())
-            && rules_are_known(store, &roles, file),
+        are_memberships_known(alloc, file.roles.as_slice())?
+            && are_tables_known(store, file.tables.as_slice())
+            && are_rules_known(store, &roles, file),
     )
 }

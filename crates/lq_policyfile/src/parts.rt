@@ -127,7 +127,7 @@ fn tables_of(
 {
     let mut parts = List::new(alloc);
     for number in 0..store.len() {
-        let schema = store.schema(number as u16);
+        let schema = store.schema(number as TableNumber);
         parts.push(table_part(alloc, entries, schema)?)?;
     }
     Ok(parts)

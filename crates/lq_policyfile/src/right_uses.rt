@@ -28,7 +28,7 @@ fn column_number(columns: &[Column], name: &str) -> ColumnNumber
     ensures { result ≡ column_number columns.now name.now }
 {
     match column_place(columns, name) {
-        Some(place) => place as u16,
+        Some(place) => place as ColumnNumber,
         None => 0,
     }
 }

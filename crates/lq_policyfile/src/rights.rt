@@ -1,7 +1,7 @@
 //! Names in grants and withholds that aren't there.
 ghost use Rattle.std.specs.Prelude.{◌≡◌};
 ghost use Rattle.std.specs.List.{list_all};
-ghost use Rattle.lq_policyfile.specs.Names.{entry_is_known, right_is_known};
+ghost use Rattle.lq_policyfile.specs.Names.{is_entry_known, is_right_known};
 
 use crate::entry::{RightEntry, RightForm};
 use crate::name_set::NameSet;
@@ -10,8 +10,8 @@ use crate::rule_names::has_column;
 use lq_store::Store;
 
 /// Whether a right names only what is there. No host predicate is.
-fn right_is_known(store: &Store, right: &RightForm) -> bool
-    ensures { result ≡ right_is_known store.now right.now }
+fn is_right_known(store: &Store, right: &RightForm) -> bool
+    ensures { result ≡ is_right_known store.now right.now }
 {
     match right {
         RightForm::Column(table, column) => {
@@ -26,24 +26,24 @@ fn right_is_known(store: &Store, right: &RightForm) -> bool
 }
 
 /// Whether each right names only what is there.
-fn rights_are_known(store: &Store, rights: &[RightForm]) -> bool
-    ensures { result ≡ list_all (right_is_known store.now) rights.now }
+fn are_rights_known(store: &Store, rights: &[RightForm]) -> bool
+    ensures { result ≡ list_all (is_right_known store.now) rights.now }
 {
-    rights.iter().all(|right| right_is_known(store, right))
+    rights.iter().all(|right| is_right_known(store, right))
 }
 
 /// Whether a grant or a withhold names only what is there.
-fn entry_is_known(store: &Store, roles: &NameSet<'_>, entry: &RightEntry) -> bool
-    ensures { result ≡ entry_is_known store.now roles.now entry.now }
+fn is_entry_known(store: &Store, roles: &NameSet<'_>, entry: &RightEntry) -> bool
+    ensures { result ≡ is_entry_known store.now roles.now entry.now }
 {
-    are_addressees(roles, entry.to.as_slice()) && rights_are_known(store, entry.rights.as_slice())
+    are_addressees(roles, entry.to.as_slice()) && are_rights_known(store, entry.rights.as_slice())
 }
 
 /// Whether each grant or withhold names only what is there.
-pub(crate) fn entries_are_known(store: &Store, roles: &NameSet<'_>, entries: &[RightEntry]) -> bool
-    ensures { result ≡ list_all (entry_is_known store.now roles.now) entries.now }
+pub(crate) fn are_entries_known(store: &Store, roles: &NameSet<'_>, entries: &[RightEntry]) -> bool
+    ensures { result ≡ list_all (is_entry_known store.now roles.now) entries.now }
 {
     entries
         .iter()
-        .all(|entry| entry_is_known(store, roles, entry))
+        .all(|entry| is_entry_known(store, roles, entry))
 }

@@ -3,7 +3,7 @@ ghost use Rattle.std.specs.Prelude.{◌≡◌, option_map};
 ghost use Rattle.lq_security.specs.Totality.{is_total};
 ghost use Rattle.lq_language.specs.Names.{column_named, type_of_column};
 ghost use Rattle.lq_policyfile.specs.Names.{all_pass, passes};
-ghost use Rattle.lq_policyfile.specs.RuleChecks.{is_typed, policy_is_typed, rules_are_total, rules_are_typed};
+ghost use Rattle.lq_policyfile.specs.RuleChecks.{are_rules_total, are_rules_typed, is_policy_typed, is_typed};
 
 use crate::entry::{PolicyEntry, Rules};
 use crate::names::columns_of;
@@ -104,17 +104,17 @@ fn are_typed(columns: &[Column], rules: &Rules) -> bool
 }
 
 /// Whether the rules of a policy are truth values.
-fn policy_is_typed(store: &Store, policy: &PolicyEntry) -> bool
-    ensures { result ≡ policy_is_typed store.now policy.now }
+fn is_policy_typed(store: &Store, policy: &PolicyEntry) -> bool
+    ensures { result ≡ is_policy_typed store.now policy.now }
 {
     are_typed(columns_of(store, policy.table.as_str()), &policy.rules)
 }
 
 /// Whether the rules of each policy are truth values.
-pub(crate) fn rules_are_typed(store: &Store, policies: &[PolicyEntry]) -> bool
-    ensures { result ≡ rules_are_typed store.now policies.now }
+pub(crate) fn are_rules_typed(store: &Store, policies: &[PolicyEntry]) -> bool
+    ensures { result ≡ are_rules_typed store.now policies.now }
 {
-    policies.iter().all(|policy| policy_is_typed(store, policy))
+    policies.iter().all(|policy| is_policy_typed(store, policy))
 }
 
 /// Whether a rule that is there can't fault.
@@ -128,8 +128,8 @@ fn is_total_if_there(rule: &Option<Expr>) -> bool
 }
 
 /// Whether the rules of each policy can't fault.
-pub(crate) fn rules_are_total(policies: &[PolicyEntry]) -> bool
-    ensures { result ≡ rules_are_total policies.now }
+pub(crate) fn are_rules_total(policies: &[PolicyEntry]) -> bool
+    ensures { result ≡ are_rules_total policies.now }
 {
     policies.iter().all(|policy| {
         is_total_if_there(&policy.rules.using) && is_total_if_there(&policy.rules.check)

@@ -4,7 +4,7 @@ ghost use Rattle.std.specs.List.{list_all};
 ghost use Rattle.lq_security.specs.Totality.{is_row};
 ghost use Rattle.lq_grammar.specs.declared.syntax.Expr.{out-Expr};
 ghost use Rattle.lq_grammar.specs.declared.syntax.Expr.TheVariants as expr;
-ghost use Rattle.lq_policyfile.specs.RuleNames.{argument_knows, body_knows, clause_knows, continuation_knows, has_column, hidden_behind, hidden_by, join_knows, knows, last_knows, query_knows};
+ghost use Rattle.lq_policyfile.specs.RuleNames.{argument_knows, body_knows, clause_knows, continuation_knows, has_column, is_hidden_after, is_hidden_by, join_knows, knows, last_knows, query_knows};
 
 use lq_grammar::{
     Argument, Body, Clause, Continuation, Expr, Field, Join, Last, Node, Query, SortKey,
@@ -27,21 +27,21 @@ fn is_row(expression: &Expr) -> bool
 }
 
 /// Whether the row is hidden after a local name.
-fn hidden_by(name: &str, hidden: bool) -> bool
-    ensures { result ≡ hidden_by name.now hidden }
+fn is_hidden_by(name: &str, hidden: bool) -> bool
+    ensures { result ≡ is_hidden_by name.now hidden }
 {
     hidden || name == "row"
 }
 
 /// Whether the row is hidden after a clause.
-fn hidden_behind(clause: &Clause<Expr>, hidden: bool) -> bool
-    ensures { result ≡ hidden_behind hidden clause.now }
+fn is_hidden_after(clause: &Clause<Expr>, hidden: bool) -> bool
+    ensures { result ≡ is_hidden_after hidden clause.now }
 {
     match clause {
-        Clause::From(name, _) | Clause::Let(name, _) => hidden_by(name.as_str(), hidden),
+        Clause::From(name, _) | Clause::Let(name, _) => is_hidden_by(name.as_str(), hidden),
         Clause::Join(join) => match &join.into {
-            Some(group) => hidden_by(group.as_str(), hidden),
-            None => hidden_by(join.name.as_str(), hidden),
+            Some(group) => is_hidden_by(group.as_str(), hidden),
+            None => is_hidden_by(join.name.as_str(), hidden),
         },
         Clause::Where(_) | Clause::OrderBy(_) => hidden,
     }
@@ -114,7 +114,7 @@ fn knows_argument(columns: &[Column], argument: &Argument<Expr>, hidden: bool) -
     match argument {
         Argument::Value(value) => knows(columns, value, hidden),
         Argument::Lambda(parameter, body) => {
-            knows(columns, body, hidden_by(parameter.as_str(), hidden))
+            knows(columns, body, is_hidden_by(parameter.as_str(), hidden))
         }
     }
 }
@@ -142,7 +142,7 @@ fn knows_query(columns: &[Column], query: &Query<Expr>, outer: bool) -> bool
             columns,
             &query.body,
             outer,
-            hidden_by(query.name.as_str(), outer),
+            is_hidden_by(query.name.as_str(), outer),
         )
         && knows_continuations(columns, query.rest.as_slice(), outer)
 }
@@ -157,7 +157,7 @@ fn knows_continuations(
     ensures { result ≡ list_all (continuation_knows (knows columns.now) outer) continuations.now }
 {
     for next in continuations {
-        let hidden = hidden_by(next.name.as_str(), outer);
+        let hidden = is_hidden_by(next.name.as_str(), outer);
         if !knows_body(columns, &next.body, outer, hidden) {
             return false;
         }
@@ -174,7 +174,7 @@ fn knows_body(columns: &[Column], body: &Body<Expr>, outer: bool, mut hidden: bo
         if !knows_clause(columns, clause, outer, hidden) {
             return false;
         }
-        hidden = hidden_behind(clause, hidden);
+        hidden = is_hidden_after(clause, hidden);
     }
     knows_last(columns, &body.last, hidden)
 }
@@ -204,7 +204,7 @@ fn knows_join(columns: &[Column], join: &Join<Expr>, outer: bool, hidden: bool) 
         && knows(
             columns,
             &join.inner_key,
-            hidden_by(join.name.as_str(), outer),
+            is_hidden_by(join.name.as_str(), outer),
         )
 }
 

@@ -22,7 +22,7 @@ mod trees;
 pub use denials::check_rights;
 pub use removals::chosen_rows;
 pub use run::run_line;
-pub use scalars::evaluate;
+pub use scalars::evaluate_scalar;
 pub use state::State;
 pub use stop::{Stop, denial, fault, refusal};
 pub use trees::{condition_of, tree_of};

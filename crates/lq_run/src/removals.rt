@@ -71,7 +71,7 @@ impl<'a> Choice<'a, '_> {
     ) -> Result<(Vec<u64>, End), AllocError>
         requires seen { AreSeen self.now.state.now tables.now }
         requires columns { HaveDistinctColumns (schemas_in tables.now) }
-        ensures { IfOk result (λ found. (found.0.items, found.1)
+        ensures { IfOk result (λ answer. (answer.0.items, answer.1)
             ≡ numbers_then [] (rows_chosen (world_in self.now.state.now)
             self.now.condition.now.form self.now.rules self.now.table rows.now)) }
     {

@@ -60,11 +60,11 @@ fn value_line<R: TableRow>(
         (form_meaning (world_of R.table_of R.shown tables.now) tree.now.form []))) }
 {
     match value(alloc, tree, tables) {
-        Ok(found) => {
+        Ok(value) => {
             let reply = Reply::Value {
                 store,
                 ty: ty(tree),
-                value: &found,
+                value: &value,
             };
             reply_line(alloc, &reply)
         }

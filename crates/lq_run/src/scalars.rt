@@ -44,7 +44,7 @@ fn evaluate_seen(alloc: Global, tree: &Tree, state: &State) -> Result<Scalar, St
 
 /// The value of an expression of a scalar's type, or of null's, which has this tree. Stops with the line of the first use to which the role
 /// has no right, and else with that of the fault that the expression meets.
-pub fn evaluate(alloc: Global, tree: &Tree, state: &State) -> Result<Scalar, Stop>
+pub fn evaluate_scalar(alloc: Global, tree: &Tree, state: &State) -> Result<Scalar, Stop>
     requires { is_of_scalars (out-Ty tree.now.ty) ≡ true }
     ensures { EvaluatesTree state.now tree.now result }
 {

@@ -30,7 +30,12 @@ impl Model for State {
 
     ghost coded = { Prim.hlevel (codes, expr.the_row.coded, ty.the_row.coded) };
 
-    ghost view = { λ s. record { tables = s.store; policies = s.policies; role = number_of s.role; definitions = s.definitions.items } };
+    ghost view = { λ s. record {
+      tables = s.store;
+      policies = s.policies;
+      role = number_of s.role;
+      definitions = s.definitions.items;
+    } };
 
     ghost invariant = { λ s. AreDefined (schemas_of s.store) s.definitions.items };
 }

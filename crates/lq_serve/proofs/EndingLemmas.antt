@@ -2,7 +2,7 @@
 use Rattle.std.proofs.Common.{◌≡◌, ◌≢◌, ◌↔◌, ◌∙◌, ℕ, Bool, true, false, List, Option, Ok, Err, IfOk, IfErr, ap, refl, subst, sym}
 use Rattle.lq_machine.specs.States.{State}
 use Rattle.lq_serve.specs.Devices.{Writes}
-use Rattle.lq_serve.specs.Ending.{Comes, Finished, IsUntouched, Outcome, is_read_fault, is_write_fault, status_of_outcome, told_of_outcome}
+use Rattle.lq_serve.specs.Ending.{Comes, Finished, IsUntouched, Outcome, is_read_fault, is_write_fault, outcome_line, status_of_outcome}
 use Rattle.lq_serve.specs.ScriptRun.{IsNoText, IsTooLong, ServedInPart, ServedWhole}
 use Rattle.lq_serve.specs.declared.serve_error.ServeError.TheVariants as serve
 
@@ -51,7 +51,7 @@ module _ {known : Option (List ℕ)} {old new : State} {before after : Option (L
       → (o ≡ Err serve.Write → ServedInPart known old new before after) → IfErr o (λ e. e ≢ serve.Write → IsUntouched old new before after)
       → (o ≡ Err serve.TooLong → IsTooLong known) → (o ≡ Err serve.Utf8 → IsNoText known) → (o ≡ Err serve.Memory → ended ≡ false)
       → ((o ≡ Err serve.Read) ↔ (reader_failed ≡ true)) → ((o ≡ Err serve.Write) ↔ (writer_failed ≡ true))
-      → status ≡ status_of_outcome given → Writes errors_failed errors_before errors_after (told_of_outcome given)
+      → status ≡ status_of_outcome given → Writes errors_failed errors_before errors_after (outcome_line given)
       → Finished known old new before after reader_failed ended writer_failed errors_before errors_after errors_failed status
   finished {reader_failed} {writer_failed} {errors_before} {errors_after} {errors_failed} {status} o given is ok write untouched too_long utf8 memory read wrote
       status_is told =
@@ -61,5 +61,5 @@ module _ {known : Option (List ℕ)} {old new : State} {before after : Option (L
         read = read_as o reader_failed read;
         wrote = written_as o writer_failed wrote;
         answers = status_is ∙ ap status_of_outcome (sym is);
-        tells = subst (λ (p : Outcome). Writes errors_failed errors_before errors_after (told_of_outcome p)) (sym is) told;
+        tells = subst (λ (p : Outcome). Writes errors_failed errors_before errors_after (outcome_line p)) (sym is) told;
       }

@@ -8,7 +8,7 @@ use Rattle.lq_store.specs.declared.error.StoreError.TheVariants as store
 use Rattle.lq_grammar.specs.Tokens.{is_name}
 use Rattle.lq_serve.specs.declared.file_fault.FileFault.{FileFault}
 use Rattle.lq_serve.specs.declared.file_fault.FileFault.TheVariants as fault
-use Rattle.lq_serve.specs.declared.files.Reading.{Reading}
+use Rattle.lq_serve.specs.declared.files.FileRead.{FileRead}
 use Rattle.lq_serve.specs.declared.start_error.StartError.{StartError}
 use Rattle.lq_serve.specs.declared.start_error.StartError.TheVariants as start
 use Rattle.lq_serve.specs.Files.{Adds, AddsFront, first_bytes}
@@ -16,50 +16,50 @@ use Rattle.lq_serve.specs.Loading.{Abandoned, Agrees, AllAgree, Answered, Loaded
 
 -- ---- reads that were answered
 
-pub Adds-nil : (known : Option (List Reading)) → Adds known known []
+pub Adds-nil : (known : Option (List FileRead)) → Adds known known []
 Adds-nil None = tt
 Adds-nil (Some known) = sym (append-nil known)
 
-pub Adds-behind : (before between after : Option (List Reading)) (first more : List Reading) → Adds before between first → Adds between after more
+pub Adds-behind : (before between after : Option (List FileRead)) (first more : List FileRead) → Adds before between first → Adds between after more
     → Adds before after (first ++ more)
 Adds-behind None between after first more a b = tt
 Adds-behind (Some known) None after first more a b = absurd a
 Adds-behind (Some known) (Some now) None first more a b = absurd b
-Adds-behind (Some known) (Some now) (Some last) first more a b = b ∙ ap (λ (l : List Reading). l ++ more) a ∙ append_assoc known first more
+Adds-behind (Some known) (Some now) (Some last) first more a b = b ∙ ap (λ (l : List FileRead). l ++ more) a ∙ append_assoc known first more
 
-pub AddsFront-all : (before after : Option (List Reading)) (more : List Reading) → Adds before after more → AddsFront before after more
+pub AddsFront-all : (before after : Option (List FileRead)) (more : List FileRead) → Adds before after more → AddsFront before after more
 AddsFront-all before after more added = record { front = more; left = []; split = sym (append-nil more); added = added }
 
-pub AddsFront-none : (before after : Option (List Reading)) (more : List Reading) → Adds before after [] → AddsFront before after more
+pub AddsFront-none : (before after : Option (List FileRead)) (more : List FileRead) → Adds before after [] → AddsFront before after more
 AddsFront-none before after more added = record { front = []; left = more; split = refl; added = added }
 
-pub AddsFront-behind : (before between after : Option (List Reading)) (first more : List Reading) → Adds before between first → AddsFront between after more
+pub AddsFront-behind : (before between after : Option (List FileRead)) (first more : List FileRead) → Adds before between first → AddsFront between after more
     → AddsFront before after (first ++ more)
 AddsFront-behind before between after first more a b = record {
   front = first ++ b.front;
   left = b.left;
-  split = ap (λ (l : List Reading). first ++ l) b.split ∙ sym (append_assoc first b.front b.left);
+  split = ap (λ (l : List FileRead). first ++ l) b.split ∙ sym (append_assoc first b.front b.left);
   added = Adds-behind before between after first b.front a b.added;
 }
 
-pub Answered-all : {A : Type 0} (result : Result A FileFault) (before after : Option (List Reading)) (more : List Reading) → Adds before after more
+pub Answered-all : {A : Type 0} (result : Result A FileFault) (before after : Option (List FileRead)) (more : List FileRead) → Adds before after more
     → Answered result before after more
 Answered-all result before after more added = record { all = λ ne. added; some = AddsFront-all before after more added }
 
 -- whatever comes of the bytes that were read
-pub Answered-then : {A B : Type 0} (x : A) (result : Result B FileFault) (before after : Option (List Reading)) (more : List Reading)
+pub Answered-then : {A B : Type 0} (x : A) (result : Result B FileFault) (before after : Option (List FileRead)) (more : List FileRead)
     → Answered {A = A} (Ok x) before after more → Answered result before after more
 Answered-then x result before after more answered = Answered-all result before after more (answered.all (λ e. cc e))
 
 -- the same fault
-pub Answered-fault : {A B : Type 0} (found : FileFault) (before after : Option (List Reading)) (more : List Reading)
+pub Answered-fault : {A B : Type 0} (found : FileFault) (before after : Option (List FileRead)) (more : List FileRead)
     → Answered {A = A} (Err found) before after more → Answered {A = B} (Err found) before after more
 Answered-fault {A} {B} found before after more answered =
     record { all = λ ne. answered.all (λ e. let same : found ≡ fault.Memory = cc e in ne (ap (λ f. Err f) same)); some = answered.some }
 
 -- ---- files that were fine
 
-pub Loaded-none : (holds : List ℕ → Option (Option (List ℕ))) (known : Option (List Reading)) → Loaded holds known known [] []
+pub Loaded-none : (holds : List ℕ → Option (Option (List ℕ))) (known : Option (List FileRead)) → Loaded holds known known [] []
 Loaded-none holds known = record { visits = []; named = refl; agree = tt; read = Adds-nil known; loaded = refl }
 
 all_agree-more : (holds : List ℕ → Option (Option (List ℕ))) (visits : List Visit) (visit : Visit) → AllAgree holds visits → Agrees holds visit
@@ -75,7 +75,7 @@ named-more (first ∷ rest) visit = ap (λ (l : List (List ℕ)). first.file ∷
 readings_of-more : (visits : List Visit) (visit : Visit) → readings_of (visits ++ visit ∷ []) ≡ readings_of visits ++ readings_of_one visit
 readings_of-more [] visit = append-nil (readings_of_one visit)
 readings_of-more (first ∷ rest) visit =
-    ap (λ (l : List Reading). readings_of_one first ++ l) (readings_of-more rest visit)
+    ap (λ (l : List FileRead). readings_of_one first ++ l) (readings_of-more rest visit)
     ∙ sym (append_assoc (readings_of_one first) (readings_of rest) (readings_of_one visit))
 
 -- one more file is read after those that were fine
@@ -158,7 +158,7 @@ pub unreadable_is : (limit : ℕ) (o : Option (Option (List ℕ))) → IfSome o 
 unreadable_is limit None h = tt
 unreadable_is limit (Some there) h = rw h refl
 
-pub Loaded-more : (holds : List ℕ → Option (Option (List ℕ))) (before now after : Option (List Reading)) (files : List (List ℕ)) (tables next : List Table)
+pub Loaded-more : (holds : List ℕ → Option (Option (List ℕ))) (before now after : Option (List FileRead)) (files : List (List ℕ)) (tables next : List Table)
     (file : List ℕ) (gave : Option (List ℕ)) → Loaded holds before now files tables → Agrees holds (record { file = file; gave = gave })
     → Adds now after (readings_of_one (record { file = file; gave = gave })) → with_table tables (table_in (record { file = file; gave = gave })) ≡ Ok next
     → Loaded holds before after (files ++ file ∷ []) next
@@ -179,7 +179,7 @@ named-among files rest all visits visit named split =
     split ∙ sym (append_assoc files (visit.file ∷ []) rest) ∙ ap (λ (l : List (List ℕ)). (l ++ visit.file ∷ []) ++ rest) (sym named)
     ∙ ap (λ (l : List (List ℕ)). l ++ rest) (sym (named-more visits visit))
 
-Loaded-refused : (holds : List ℕ → Option (Option (List ℕ))) (before now after : Option (List Reading)) (files rest all : List (List ℕ)) (tables : List Table)
+Loaded-refused : (holds : List ℕ → Option (Option (List ℕ))) (before now after : Option (List FileRead)) (files rest all : List (List ℕ)) (tables : List Table)
     (file : List ℕ) (gave : Option (List ℕ)) (found : FileFault) → Loaded holds before now files tables → Agrees holds (record { file = file; gave = gave })
     → Adds now after (readings_of_one (record { file = file; gave = gave })) → with_table tables (table_in (record { file = file; gave = gave })) ≡ Err found
     → all ≡ files ++ file ∷ rest → Refused holds before after all (fault_line file found)
@@ -194,7 +194,7 @@ Loaded-refused holds before now after files rest all tables file gave found far 
       told = with_files-more far.visits visit [] tables far.loaded ∙ ap (λ (r : Result (List Table) FileFault). next_or_line (λ l. Ok l) file r) is;
     }
 
-Loaded-abandoned : (holds : List ℕ → Option (Option (List ℕ))) (before now after : Option (List Reading)) (files rest all : List (List ℕ)) (tables : List Table)
+Loaded-abandoned : (holds : List ℕ → Option (Option (List ℕ))) (before now after : Option (List FileRead)) (files rest all : List (List ℕ)) (tables : List Table)
     (file : List ℕ) (gave : Option (List ℕ)) → Loaded holds before now files tables → Agrees holds (record { file = file; gave = gave })
     → AddsFront now after (readings_of_one (record { file = file; gave = gave })) → all ≡ files ++ file ∷ rest → Abandoned holds before after all
 Loaded-abandoned holds before now after files rest all tables file gave far agrees adds split =
@@ -207,7 +207,7 @@ Loaded-abandoned holds before now after files rest all tables file gave far agre
       read = subst (AddsFront before after) (sym (readings_of-more far.visits visit)) (AddsFront-behind before now after _ _ far.read adds);
     }
 
-pub RefusedBy-fault : (holds : List ℕ → Option (Option (List ℕ))) (before now after : Option (List Reading)) (files rest all : List (List ℕ))
+pub RefusedBy-fault : (holds : List ℕ → Option (Option (List ℕ))) (before now after : Option (List FileRead)) (files rest all : List (List ℕ))
     (tables : List Table) (file : List ℕ) (gave : Option (List ℕ)) (found : FileFault) (error : StartError)
     → Loaded holds before now files tables → Agrees holds (record { file = file; gave = gave })
     → Answered {A = Unit {0}} (Err found) now after (readings_of_one (record { file = file; gave = gave }))

@@ -5,7 +5,7 @@ use Rattle.std.proofs.KnownBytes.{Appends-nil, Appends-trans, Appends-kept}
 use Rattle.lq_machine.specs.States.{State}
 use Rattle.lq_machine.specs.Output.{joined}
 use Rattle.lq_machine.proofs.OutputLaws.{Runs-more, joined-more, count_of_replies-more, IsCutOff-more, IsCutOff-whole}
-use Rattle.lq_serve.specs.ScriptRun.{Served, Stopped, Told, ToldInPart}
+use Rattle.lq_serve.specs.ScriptRun.{LineServed, LineServedInPart, Served, Stopped}
 use Rattle.lq_serve.specs.declared.script_run.Summary.{Summary}
 
 -- the lines before rest were stepped, and their replies written
@@ -22,36 +22,36 @@ UnderWay-start lines old before = record {
 }
 
 pub UnderWay-more : (lines rest : List (List ℕ)) (line : List ℕ) (old now new : State) (before between after : Option (List ℕ)) (summary : Summary) (count : ℕ)
-    → UnderWay lines (line ∷ rest) old now before between summary → Told line now new between after count
+    → UnderWay lines (line ∷ rest) old now before between summary → LineServed line now new between after count
     → UnderWay lines rest old new before after (record { lines = summary.lines + 1; replies = summary.replies + count })
-UnderWay-more lines rest line old now new before between after summary count way told = record {
+UnderWay-more lines rest line old now new before between after summary count way served = record {
   front = way.front ++ line ∷ [];
   split = way.split ∙ sym (append_assoc way.front (line ∷ []) rest);
   so_far = record {
-    replies = way.so_far.replies ++ told.reply ∷ [];
-    calls = way.so_far.calls ++ told.calls;
-    run = Runs-more old now new way.front way.so_far.replies line told.reply way.so_far.calls told.calls way.so_far.run told.answer;
-    written = subst (Appends before after) (sym (joined-more way.so_far.replies told.reply))
-        (Appends-trans before between after _ _ way.so_far.written told.written);
+    replies = way.so_far.replies ++ served.reply ∷ [];
+    calls = way.so_far.calls ++ served.calls;
+    run = Runs-more old now new way.front way.so_far.replies line served.reply way.so_far.calls served.calls way.so_far.run served.answer;
+    written = subst (Appends before after) (sym (joined-more way.so_far.replies served.reply))
+        (Appends-trans before between after _ _ way.so_far.written served.written);
     lines = omega (arith, way.so_far.lines, length-append way.front (line ∷ []));
-    count = omega (arith, way.so_far.count, told.counted, count_of_replies-more way.so_far.replies told.reply);
+    count = omega (arith, way.so_far.count, served.counted, count_of_replies-more way.so_far.replies served.reply);
   };
 }
 
 -- the writer failed over the line's reply
 pub UnderWay-stopped : (lines rest : List (List ℕ)) (line : List ℕ) (old now new : State) (before between after : Option (List ℕ)) (summary : Summary)
-    → UnderWay lines (line ∷ rest) old now before between summary → ToldInPart line now new between after
+    → UnderWay lines (line ∷ rest) old now before between summary → LineServedInPart line now new between after
     → Stopped lines old new before after
-UnderWay-stopped lines rest line old now new before between after summary way told = record {
+UnderWay-stopped lines rest line old now new before between after summary way served = record {
   front = way.front ++ line ∷ [];
   rest = rest;
   split = way.split ∙ sym (append_assoc way.front (line ∷ []) rest);
-  replies = way.so_far.replies ++ told.reply ∷ [];
-  calls = way.so_far.calls ++ told.calls;
-  run = Runs-more old now new way.front way.so_far.replies line told.reply way.so_far.calls told.calls way.so_far.run told.answer;
-  bytes = joined way.so_far.replies ++ told.written.front;
-  cut = IsCutOff-more way.so_far.replies told.reply told.written.front told.written.left told.written.split;
-  written = Appends-trans before between after _ _ way.so_far.written told.written.written;
+  replies = way.so_far.replies ++ served.reply ∷ [];
+  calls = way.so_far.calls ++ served.calls;
+  run = Runs-more old now new way.front way.so_far.replies line served.reply way.so_far.calls served.calls way.so_far.run served.answer;
+  bytes = joined way.so_far.replies ++ served.written.front;
+  cut = IsCutOff-more way.so_far.replies served.reply served.written.front served.written.left served.written.split;
+  written = Appends-trans before between after _ _ way.so_far.written served.written.written;
 }
 
 -- the writer failed as it was flushed

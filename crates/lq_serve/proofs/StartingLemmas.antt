@@ -11,19 +11,19 @@ use Rattle.lq_session.specs.States.{state_of}
 use Rattle.lq_session.specs.declared.session.Session.{Session}
 use Rattle.lq_serve.specs.Files.{Adds, AddsFront, first_bytes}
 use Rattle.lq_serve.specs.Loading.{Answered, Loaded, RefusedBy, TellsOf, readings_of}
-use Rattle.lq_serve.specs.Starting.{Asked, GivenUp, GivesPolicies, NotStarted, Reads, Started, Told, fault_of_policy, of_table, of_policies, of_role, parts_or_fault, policies_read, policy_read_limit}
+use Rattle.lq_serve.specs.Starting.{Asked, GivenUp, GivesPolicies, NotStarted, Reads, StartRefused, Started, fault_of_policy, of_table, of_policies, of_role, parts_or_fault, policies_read, policy_read_limit}
 use Rattle.lq_serve.specs.declared.file_fault.FileFault.{FileFault}
 use Rattle.lq_serve.specs.declared.file_fault.FileFault.TheVariants as fault
-use Rattle.lq_serve.specs.declared.files.Reading.{Reading}
+use Rattle.lq_serve.specs.declared.files.FileRead.{FileRead}
 use Rattle.lq_serve.specs.declared.start_error.StartError.{StartError}
 use Rattle.lq_serve.specs.declared.start_error.StartError.TheVariants as start
 use Rattle.lq_serve.proofs.LoadingLemmas.{Adds-behind, AddsFront-all, AddsFront-behind}
 
-abbrev policy_reading : Asked → Option (List ℕ) → Reading
+abbrev policy_reading : Asked → Option (List ℕ) → FileRead
 policy_reading asked gave = record { file = asked.policy; limit = policy_read_limit; gave = gave }
 
 -- the policy file was read after the tables
-pub Reads-behind : (holds : List ℕ → Option (Option (List ℕ))) (before between after : Option (List Reading)) (asked : Asked) (tables : List Table) (gave : Option (List ℕ))
+pub Reads-behind : (holds : List ℕ → Option (Option (List ℕ))) (before between after : Option (List FileRead)) (asked : Asked) (tables : List Table) (gave : Option (List ℕ))
     → Loaded holds before between asked.tables tables → IfSome (holds asked.policy) (λ there. gave ≡ first_bytes policy_read_limit there)
     → Adds between after (policy_reading asked gave ∷ []) → Reads holds before after asked tables gave
 Reads-behind holds before between after asked tables gave loaded agrees adds = record {
@@ -36,7 +36,7 @@ Reads-behind holds before between after asked tables gave loaded agrees adds = r
 }
 
 -- there was no memory after the tables
-GivenUp-behind : (holds : List ℕ → Option (Option (List ℕ))) (before between after : Option (List Reading)) (asked : Asked) (tables : List Table) (gave : Option (List ℕ))
+GivenUp-behind : (holds : List ℕ → Option (Option (List ℕ))) (before between after : Option (List FileRead)) (asked : Asked) (tables : List Table) (gave : Option (List ℕ))
     → Loaded holds before between asked.tables tables → AddsFront between after (policy_reading asked gave ∷ []) → GivenUp holds before after asked
 GivenUp-behind holds before between after asked tables gave loaded adds = record {
   visits = loaded.visits;
@@ -48,11 +48,11 @@ GivenUp-behind holds before between after asked tables gave loaded adds = record
   in_order = λ some. absurd (some refl);
 }
 
-front_of_more : (before after : Option (List Reading)) (first more : List Reading) → AddsFront before after first → AddsFront before after (first ++ more)
+front_of_more : (before after : Option (List FileRead)) (first more : List FileRead) → AddsFront before after first → AddsFront before after (first ++ more)
 front_of_more before after first more adds = record {
   front = adds.front;
   left = adds.left ++ more;
-  split = ap (λ (l : List Reading). l ++ more) adds.split ∙ append_assoc adds.front adds.left more;
+  split = ap (λ (l : List FileRead). l ++ more) adds.split ∙ append_assoc adds.front adds.left more;
   added = adds.added;
 }
 
@@ -72,7 +72,7 @@ pub GivesPolicies-none : (tables : List Table) (gave : Option (List ℕ)) (found
 GivesPolicies-none tables gave found failed = λ ne. rw ((failed ne).0, (failed ne).1) refl
 
 -- a table was refused
-pub NotStarted-tables : (holds : List ℕ → Option (Option (List ℕ))) (before after : Option (List Reading)) (asked : Asked) (error : StartError)
+pub NotStarted-tables : (holds : List ℕ → Option (Option (List ℕ))) (before after : Option (List FileRead)) (asked : Asked) (error : StartError)
     → RefusedBy holds before after asked.tables error → NotStarted holds before after asked error
 NotStarted-tables holds before after asked start.Memory given_up = record {
   visits = given_up.visits;
@@ -86,7 +86,7 @@ NotStarted-tables holds before after asked start.Memory given_up = record {
 NotStarted-tables holds before after asked (start.Refused line) refused = of_table refused
 
 -- the policies were refused
-pub NotStarted-policies : (holds : List ℕ → Option (Option (List ℕ))) (before between after : Option (List Reading)) (asked : Asked) (tables : List Table)
+pub NotStarted-policies : (holds : List ℕ → Option (Option (List ℕ))) (before between after : Option (List FileRead)) (asked : Asked) (tables : List Table)
     (gave : Option (List ℕ)) (found : FileFault) (error : StartError)
     → Loaded holds before between asked.tables tables → IfSome (holds asked.policy) (λ there. gave ≡ first_bytes policy_read_limit there)
     → Answered {A = PolicyParts} (Err found) between after (policy_reading asked gave ∷ []) → GivesPolicies (policies_read tables gave) (Err found)
@@ -98,7 +98,7 @@ NotStarted-policies holds before between after asked tables gave found (start.Re
     of_policies tables gave (Reads-behind holds before between after asked tables gave loaded agrees adds) found (gives tells.0) tells.1
 
 -- the policies don't have the role
-pub NotStarted-role : (holds : List ℕ → Option (Option (List ℕ))) (before between after : Option (List Reading)) (asked : Asked) (tables : List Table)
+pub NotStarted-role : (holds : List ℕ → Option (Option (List ℕ))) (before between after : Option (List FileRead)) (asked : Asked) (tables : List Table)
     (gave : Option (List ℕ)) (policies : PolicyParts) (error : StartError)
     → Loaded holds before between asked.tables tables → IfSome (holds asked.policy) (λ there. gave ≡ first_bytes policy_read_limit there)
     → Adds between after (policy_reading asked gave ∷ []) → policies_read tables gave ≡ Ok policies → role_number policies asked.role ≡ None
@@ -109,7 +109,7 @@ NotStarted-role holds before between after asked tables gave policies (start.Ref
     of_role tables gave (Reads-behind holds before between after asked tables gave loaded agrees adds) policies meant none tells.1
 
 -- everything was fine
-pub Started-behind : (holds : List ℕ → Option (Option (List ℕ))) (before between after : Option (List Reading)) (asked : Asked) (tables : List Table)
+pub Started-behind : (holds : List ℕ → Option (Option (List ℕ))) (before between after : Option (List FileRead)) (asked : Asked) (tables : List Table)
     (gave : Option (List ℕ)) (policies : PolicyParts) (number : ℕ) (state : State)
     → Loaded holds before between asked.tables tables → IfSome (holds asked.policy) (λ there. gave ≡ first_bytes policy_read_limit there)
     → Adds between after (policy_reading asked gave ∷ []) → policies_read tables gave ≡ Ok policies → role_number policies asked.role ≡ Some number
@@ -126,13 +126,13 @@ Started-behind holds before between after asked tables gave policies number stat
 }
 
 -- the session in the state that is meant
-pub Started-all : (holds : List ℕ → Option (Option (List ℕ))) (before after : Option (List Reading)) (asked : Asked) (made : Result Session StartError) (state : State)
+pub Started-all : (holds : List ℕ → Option (Option (List ℕ))) (before after : Option (List FileRead)) (asked : Asked) (made : Result Session StartError) (state : State)
     → IfOk made (λ it. state_of it ≡ state) → Started holds before after asked state → IfOk made (λ it. Started holds before after asked (state_of it))
 Started-all holds before after asked (Ok it) state is started = subst (λ (s : State). Started holds before after asked s) (sym is) started
 Started-all holds before after asked (Err error) state is started = is
 
 -- there was no memory to prepare the policies for the role
-pub NotStarted-prepared : (holds : List ℕ → Option (Option (List ℕ))) (before between after : Option (List Reading)) (asked : Asked) (tables : List Table)
+pub NotStarted-prepared : (holds : List ℕ → Option (Option (List ℕ))) (before between after : Option (List FileRead)) (asked : Asked) (tables : List Table)
     (gave : Option (List ℕ)) (made : Result Session StartError)
     → Loaded holds before between asked.tables tables → Adds between after (policy_reading asked gave ∷ [])
     → IfErr made (λ error. error ≡ start.Memory) → IfErr made (λ error. NotStarted holds before after asked error)

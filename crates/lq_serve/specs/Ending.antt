@@ -14,9 +14,9 @@ abbrev pub as_line : List ℕ → List ℕ
 as_line text = text ++ 10 ∷ []
 
 -- the line of the reason for which there is no session, and the program's status
-abbrev pub told_of : StartError → List ℕ
-told_of start.Memory = as_line (codes "lq: memory")
-told_of (start.Refused line) = as_line line
+abbrev pub error_line : StartError → List ℕ
+error_line start.Memory = as_line (codes "lq: memory")
+error_line (start.Refused line) = as_line line
 
 abbrev pub status_of : StartError → ℕ
 status_of start.Memory = 5
@@ -29,13 +29,13 @@ abbrev pub Outcome : Type 0
 Outcome = Result Summary ServeError
 
 -- the line that reports it: none where the whole script was served
-abbrev pub told_of_outcome : Outcome → List ℕ
-told_of_outcome (Ok summary) = []
-told_of_outcome (Err serve.Read) = as_line (codes "lq: script: read")
-told_of_outcome (Err serve.Write) = as_line (codes "lq: script: write")
-told_of_outcome (Err serve.TooLong) = as_line (codes "lq: script: too-long")
-told_of_outcome (Err serve.Utf8) = as_line (codes "lq: script: utf8")
-told_of_outcome (Err serve.Memory) = as_line (codes "lq: memory")
+abbrev pub outcome_line : Outcome → List ℕ
+outcome_line (Ok summary) = []
+outcome_line (Err serve.Read) = as_line (codes "lq: script: read")
+outcome_line (Err serve.Write) = as_line (codes "lq: script: write")
+outcome_line (Err serve.TooLong) = as_line (codes "lq: script: too-long")
+outcome_line (Err serve.Utf8) = as_line (codes "lq: script: utf8")
+outcome_line (Err serve.Memory) = as_line (codes "lq: memory")
 
 -- and the program's status
 abbrev pub status_of_outcome : Outcome → ℕ
@@ -76,4 +76,4 @@ pub record Finished (known : Option (List ℕ)) (old new : State) (before after 
   pub read : reader_failed ≡ is_read_fault outcome
   pub wrote : writer_failed ≡ is_write_fault outcome
   pub answers : status ≡ status_of_outcome outcome
-  pub tells : Writes errors_failed errors_before errors_after (told_of_outcome outcome)
+  pub tells : Writes errors_failed errors_before errors_after (outcome_line outcome)

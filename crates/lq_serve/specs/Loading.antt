@@ -12,7 +12,7 @@ use Rattle.lq_serve.specs.Files.{Adds, AddsFront, first_bytes}
 use Rattle.lq_load.specs.TableFile.{table_limit, table_of}
 use Rattle.lq_serve.specs.declared.file_fault.FileFault.{FileFault}
 use Rattle.lq_serve.specs.declared.file_fault.FileFault.TheVariants as fault
-use Rattle.lq_serve.specs.declared.files.Reading.{Reading}
+use Rattle.lq_serve.specs.declared.files.FileRead.{FileRead}
 use Rattle.lq_serve.specs.declared.start_error.StartError.{StartError}
 use Rattle.lq_serve.specs.declared.start_error.StartError.TheVariants as start
 use Rattle.lq_load.specs.declared.load_error.LoadError.{LoadError}
@@ -95,12 +95,12 @@ AllAgree holds [] = ⊤
 AllAgree holds (visit ∷ rest) = Agrees holds visit × AllAgree holds rest
 
 -- the read of a file: none where its table has no name
-abbrev pub readings_of_one : Visit → List Reading
+abbrev pub readings_of_one : Visit → List FileRead
 readings_of_one visit =
     if is_name (table_name visit.file) then record { file = visit.file; limit = read_limit; gave = visit.gave } ∷ [] else []
 
 -- the reads of some files, in order
-abbrev pub readings_of : List Visit → List Reading
+abbrev pub readings_of : List Visit → List FileRead
 readings_of [] = []
 readings_of (visit ∷ rest) = readings_of_one visit ++ readings_of rest
 
@@ -139,7 +139,7 @@ with_files (visit ∷ rest) tables = next_or_line (with_files rest) visit.file (
 -- ---- what comes of the files
 
 -- Every file was visited and fine, these were the reads, and these are the tables.
-pub record Loaded (holds : List ℕ → Option (Option (List ℕ))) (before after : Option (List Reading)) (files : List (List ℕ)) (tables : List Table) : Type 0 where
+pub record Loaded (holds : List ℕ → Option (Option (List ℕ))) (before after : Option (List FileRead)) (files : List (List ℕ)) (tables : List Table) : Type 0 where
   pub visits : List Visit
   pub named : map (λ visit. visit.file) visits ≡ files
   pub agree : AllAgree holds visits
@@ -147,7 +147,7 @@ pub record Loaded (holds : List ℕ → Option (Option (List ℕ))) (before afte
   pub loaded : with_files visits [] ≡ Ok tables
 
 -- Some first files were visited, these were the reads, and the line reports the first fault among them.
-pub record Refused (holds : List ℕ → Option (Option (List ℕ))) (before after : Option (List Reading)) (files : List (List ℕ)) (line : List ℕ) : Type 0 where
+pub record Refused (holds : List ℕ → Option (Option (List ℕ))) (before after : Option (List FileRead)) (files : List (List ℕ)) (line : List ℕ) : Type 0 where
   pub visits : List Visit
   pub unseen : List (List ℕ)
   pub named : files ≡ map (λ visit. visit.file) visits ++ unseen
@@ -156,7 +156,7 @@ pub record Refused (holds : List ℕ → Option (Option (List ℕ))) (before aft
   pub told : with_files visits [] ≡ Err line
 
 -- Some first files were visited, and no other was read: there was no memory to go on.
-pub record Abandoned (holds : List ℕ → Option (Option (List ℕ))) (before after : Option (List Reading)) (files : List (List ℕ)) : Type 0 where
+pub record Abandoned (holds : List ℕ → Option (Option (List ℕ))) (before after : Option (List FileRead)) (files : List (List ℕ)) : Type 0 where
   pub visits : List Visit
   pub unseen : List (List ℕ)
   pub named : files ≡ map (λ visit. visit.file) visits ++ unseen
@@ -164,7 +164,7 @@ pub record Abandoned (holds : List ℕ → Option (Option (List ℕ))) (before a
   pub read : AddsFront before after (readings_of visits)
 
 -- why there are no tables
-abbrev pub RefusedBy : (List ℕ → Option (Option (List ℕ))) → Option (List Reading) → Option (List Reading) → List (List ℕ) → StartError → Type 0
+abbrev pub RefusedBy : (List ℕ → Option (Option (List ℕ))) → Option (List FileRead) → Option (List FileRead) → List (List ℕ) → StartError → Type 0
 RefusedBy holds before after files start.Memory = Abandoned holds before after files
 RefusedBy holds before after files (start.Refused line) = Refused holds before after files line
 
@@ -174,7 +174,7 @@ TellsOf file found start.Memory = ⊤
 TellsOf file found (start.Refused line) = (found ≢ fault.Memory) × (line ≡ fault_line file found)
 
 -- these reads were answered, or there was no memory, and the first of them were
-pub record Answered {A : Type 0} (result : Result A FileFault) (before after : Option (List Reading)) (more : List Reading) : Type 0 where
+pub record Answered {A : Type 0} (result : Result A FileFault) (before after : Option (List FileRead)) (more : List FileRead) : Type 0 where
   pub all : result ≢ Err fault.Memory → Adds before after more
   pub some : AddsFront before after more
 

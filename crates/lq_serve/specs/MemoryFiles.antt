@@ -2,7 +2,7 @@
 use Rattle.std.specs.Prelude.{◌∷◌, if◌then◌else◌, List, [], ℕ, Option, Some, None}
 use Rattle.std.specs.Borrow.{Bor}
 use Rattle.std.specs.Str.{bytes_eq}
-use Rattle.lq_serve.specs.declared.files.Reading.{Reading}
+use Rattle.lq_serve.specs.declared.files.FileRead.{FileRead}
 use Rattle.lq_serve.specs.declared.memory_files.MemoryFiles.{MemoryFiles}
 
 -- the names of the files, each with its bytes
@@ -10,7 +10,7 @@ abbrev pub files_in : MemoryFiles → List (Bor (List ℕ) × Bor (List ℕ))
 files_in place = place.files.now
 
 -- the reads that were answered
-abbrev pub readings_in : MemoryFiles → List Reading
+abbrev pub readings_in : MemoryFiles → List FileRead
 readings_in place = place.readings
 
 -- the bytes of the first file of this name

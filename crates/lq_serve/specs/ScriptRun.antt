@@ -58,7 +58,7 @@ abbrev pub IsNoText : Option (List ℕ) → Type 0
 IsNoText known = IfSome known (λ all. IsInSize all × ¬ (IsUtf8 all))
 
 -- One line was stepped, and its reply was written whole.
-pub record Told (line : List ℕ) (old new : State) (before after : Option (List ℕ)) (count : ℕ) : Type 0 where
+pub record LineServed (line : List ℕ) (old new : State) (before after : Option (List ℕ)) (count : ℕ) : Type 0 where
   pub reply : Reply
   pub calls : List HostCall
   pub answer : Answers old line reply calls new
@@ -66,7 +66,7 @@ pub record Told (line : List ℕ) (old new : State) (before after : Option (List
   pub counted : count ≡ one_if_some reply
 
 -- One line was stepped, and a front of its reply was written.
-pub record ToldInPart (line : List ℕ) (old new : State) (before after : Option (List ℕ)) : Type 0 where
+pub record LineServedInPart (line : List ℕ) (old new : State) (before after : Option (List ℕ)) : Type 0 where
   pub reply : Reply
   pub calls : List HostCall
   pub answer : Answers old line reply calls new

@@ -12,7 +12,7 @@ use Rattle.lq_serve.specs.Files.{Adds, AddsFront, first_bytes}
 use Rattle.lq_serve.specs.Loading.{AllAgree, Refused, Visit, fault_line, readings_of, with_files}
 use Rattle.lq_serve.specs.declared.file_fault.FileFault.{FileFault}
 use Rattle.lq_serve.specs.declared.file_fault.FileFault.TheVariants as fault
-use Rattle.lq_serve.specs.declared.files.Reading.{Reading}
+use Rattle.lq_serve.specs.declared.files.FileRead.{FileRead}
 use Rattle.lq_serve.specs.declared.start_error.StartError.{StartError}
 use Rattle.lq_serve.specs.declared.start_error.StartError.TheVariants as start
 
@@ -58,7 +58,7 @@ asked_by options = record { role = string_bytes options.role; policy = string_by
 
 -- The tables were loaded, after them the policy file was read, and it gave this: its first bytes, or nothing where it can't be
 -- read. These were all the reads.
-pub record Reads (holds : List ℕ → Option (Option (List ℕ))) (before after : Option (List Reading)) (asked : Asked) (tables : List Table)
+pub record Reads (holds : List ℕ → Option (Option (List ℕ))) (before after : Option (List FileRead)) (asked : Asked) (tables : List Table)
     (gave : Option (List ℕ)) : Type 0 where
   pub visits : List Visit
   pub named : map (λ visit. visit.file) visits ≡ asked.tables
@@ -68,7 +68,7 @@ pub record Reads (holds : List ℕ → Option (Option (List ℕ))) (before after
   pub read : Adds before after (readings_of visits ++ record { file = asked.policy; limit = policy_read_limit; gave = gave } ∷ [])
 
 -- Everything was read and fine, and the session is in its first state.
-pub record Started (holds : List ℕ → Option (Option (List ℕ))) (before after : Option (List Reading)) (asked : Asked) (state : State) : Type 0 where
+pub record Started (holds : List ℕ → Option (Option (List ℕ))) (before after : Option (List FileRead)) (asked : Asked) (state : State) : Type 0 where
   pub tables : List Table
   pub gave : Option (List ℕ)
   pub reads : Reads holds before after asked tables gave
@@ -79,17 +79,17 @@ pub record Started (holds : List ℕ → Option (Option (List ℕ))) (before aft
   pub first : state ≡ record { tables = tables; policies = policies; role = role; definitions = [] }
 
 -- The line reports the first fault: of a table, then of the policies, then of the role.
-pub data Told (holds : List ℕ → Option (Option (List ℕ))) (before after : Option (List Reading)) (asked : Asked) (line : List ℕ) : Type 0 where
-  of_table : Refused holds before after asked.tables line → Told holds before after asked line
+pub data StartRefused (holds : List ℕ → Option (Option (List ℕ))) (before after : Option (List FileRead)) (asked : Asked) (line : List ℕ) : Type 0 where
+  of_table : Refused holds before after asked.tables line → StartRefused holds before after asked line
   of_policies : (tables : List Table) (gave : Option (List ℕ)) → Reads holds before after asked tables gave
-      → (found : FileFault) → policies_read tables gave ≡ Err found → line ≡ fault_line asked.policy found → Told holds before after asked line
+      → (found : FileFault) → policies_read tables gave ≡ Err found → line ≡ fault_line asked.policy found → StartRefused holds before after asked line
   of_role : (tables : List Table) (gave : Option (List ℕ)) → Reads holds before after asked tables gave
       → (policies : PolicyParts) → policies_read tables gave ≡ Ok policies → role_number policies asked.role ≡ None
-      → line ≡ fault_line asked.role fault.Role → Told holds before after asked line
+      → line ≡ fault_line asked.role fault.Role → StartRefused holds before after asked line
 
 -- There was no memory to go on. Some first tables were visited; the policy file was read, if at all, after all of them; and no
 -- other file was.
-pub record GivenUp (holds : List ℕ → Option (Option (List ℕ))) (before after : Option (List Reading)) (asked : Asked) : Type 0 where
+pub record GivenUp (holds : List ℕ → Option (Option (List ℕ))) (before after : Option (List FileRead)) (asked : Asked) : Type 0 where
   pub visits : List Visit
   pub unseen : List (List ℕ)
   pub named : asked.tables ≡ map (λ visit. visit.file) visits ++ unseen
@@ -99,6 +99,6 @@ pub record GivenUp (holds : List ℕ → Option (Option (List ℕ))) (before aft
   pub in_order : unseen ≢ [] → AddsFront before after (readings_of visits)
 
 -- why there is no session
-abbrev pub NotStarted : (List ℕ → Option (Option (List ℕ))) → Option (List Reading) → Option (List Reading) → Asked → StartError → Type 0
+abbrev pub NotStarted : (List ℕ → Option (Option (List ℕ))) → Option (List FileRead) → Option (List FileRead) → Asked → StartError → Type 0
 NotStarted holds before after asked start.Memory = GivenUp holds before after asked
-NotStarted holds before after asked (start.Refused line) = Told holds before after asked line
+NotStarted holds before after asked (start.Refused line) = StartRefused holds before after asked line

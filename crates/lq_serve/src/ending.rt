@@ -2,7 +2,7 @@
 ghost use Rattle.std.specs.Prelude.{◌≡◌, false};
 ghost use Rattle.lq_session.specs.States.{state_of};
 ghost use Rattle.lq_serve.specs.Devices.{inner_of, is_ended, is_failed, Writes};
-ghost use Rattle.lq_serve.specs.Ending.{as_line, status_of, told_of, Finished};
+ghost use Rattle.lq_serve.specs.Ending.{as_line, error_line, status_of, Finished};
 
 use crate::device::Device;
 use crate::script_run::serve;
@@ -47,23 +47,23 @@ pub fn finish<R: Read, W: Write, E: Write>(
     match serve(alloc, reader, writer, session) {
         Ok(_) => 0,
         Err(ServeError::Read) => {
-            tell(errors, b"lq: script: read\n");
+            write_error(errors, b"lq: script: read\n");
             SCRIPT_FAULT
         }
         Err(ServeError::Write) => {
-            tell(errors, b"lq: script: write\n");
+            write_error(errors, b"lq: script: write\n");
             SCRIPT_FAULT
         }
         Err(ServeError::TooLong) => {
-            tell(errors, b"lq: script: too-long\n");
+            write_error(errors, b"lq: script: too-long\n");
             SCRIPT_FAULT
         }
         Err(ServeError::Utf8) => {
-            tell(errors, b"lq: script: utf8\n");
+            write_error(errors, b"lq: script: utf8\n");
             SCRIPT_FAULT
         }
         Err(ServeError::Memory) => {
-            tell(errors, b"lq: memory\n");
+            write_error(errors, b"lq: memory\n");
             NO_MEMORY
         }
     }
@@ -76,35 +76,35 @@ pub fn finish<R: Read, W: Write, E: Write>(
 pub fn refuse<E: Write>(error: &StartError, errors: &mut Device<E>) -> u8
     requires { is_failed errors.old ≡ false }
     ensures line { Writes (is_failed errors.new) (E.contents (inner_of errors.old))
-        (E.contents (inner_of errors.new)) (told_of error.now) }
+        (E.contents (inner_of errors.new)) (error_line error.now) }
     ensures status { result ≡ status_of error.now }
 {
     match error {
         StartError::Memory => {
-            tell(errors, b"lq: memory\n");
+            write_error(errors, b"lq: memory\n");
             NO_MEMORY
         }
         StartError::Refused(line) => {
-            tell_line(errors, line.as_bytes());
+            write_error_line(errors, line.as_bytes());
             FILE_FAULT
         }
     }
 }
 
 // Writes the line and its line feed, as far as they can be written.
-fn tell_line<E: Write>(errors: &mut Device<E>, line: &[u8])
+fn write_error_line<E: Write>(errors: &mut Device<E>, line: &[u8])
     requires { is_failed errors.old ≡ false }
     ensures { Writes (is_failed errors.new) (E.contents (inner_of errors.old))
         (E.contents (inner_of errors.new)) (as_line line.now) }
 {
-    tell(errors, line);
+    write_error(errors, line);
     if !errors.failed() {
-        tell(errors, b"\n");
+        write_error(errors, b"\n");
     }
 }
 
 // Writes as much of the line as can be written: nobody is left to report a failure to here.
-fn tell<E: Write>(errors: &mut Device<E>, line: &[u8])
+fn write_error<E: Write>(errors: &mut Device<E>, line: &[u8])
     requires { is_failed errors.old ≡ false }
     ensures { Writes (is_failed errors.new) (E.contents (inner_of errors.old))
         (E.contents (inner_of errors.new)) line.now }

@@ -27,7 +27,7 @@ impl From<AllocError> for FileError {
 
 /// A read that was answered.
 #[derive(Drop)]
-pub struct Reading {
+pub struct FileRead {
     /// The name of the file.
     pub file: Txt,
     /// The most bytes that were asked for.
@@ -40,14 +40,14 @@ pub struct Reading {
 pub trait Files {
     ghost use Rattle.std.specs.Prelude.{◌≡◌, List, ℕ, Option, IfSome};
     ghost use Rattle.lq_serve.specs.Files.{Adds, IsAnswer, readings_by};
-    ghost use Rattle.lq_serve.specs.declared.files.Reading.{Reading};
+    ghost use Rattle.lq_serve.specs.declared.files.FileRead.{FileRead};
 
     /// What is known of the file of a name: nothing, that it can't be read (`Some None`), or its
     /// bytes, and that it can be read. A place of which nothing is known answers None throughout.
     ghost holds: { Self → List ℕ → Option (Option (List ℕ)) };
 
     /// The reads that were answered so far, with bytes or with `Read`, where they are known.
-    ghost answered: { Self → Option (List Reading) };
+    ghost answered: { Self → Option (List FileRead) };
 
     /// The first bytes of the file of this name, at most `limit` of them. Refuses with `Memory`
     /// where they find no room, and with `Read` where the file can't be read.

@@ -24,7 +24,7 @@ mod starting;
 
 pub use device::Device;
 pub use ending::{finish, refuse};
-pub use files::{FileError, Files, Reading};
+pub use files::{FileError, FileRead, Files};
 pub use memory_files::MemoryFiles;
 pub use script_bytes::SCRIPT_LIMIT;
 pub use script_run::{Summary, serve};

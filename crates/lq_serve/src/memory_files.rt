@@ -2,7 +2,7 @@
 ghost use Rattle.std.specs.Prelude.{◌≡◌, ◌∷◌, ◌++◌, [], take, option_map, OnOk, OnErr};
 ghost use Rattle.lq_serve.specs.MemoryFiles.{bytes_under};
 
-use crate::files::{FileError, Files, Reading};
+use crate::files::{FileError, FileRead, Files};
 use lq_value::{List, Txt};
 use std::alloc::{AllocError, Global};
 
@@ -11,7 +11,7 @@ use std::alloc::{AllocError, Global};
 pub struct MemoryFiles<'a> {
     alloc: Global,
     files: &'a [(&'a str, &'a [u8])],
-    readings: List<Reading>,
+    readings: List<FileRead>,
 }
 
 impl<'a> MemoryFiles<'a> {
@@ -30,7 +30,7 @@ impl<'a> MemoryFiles<'a> {
     }
 
     /// The reads that were answered, in order.
-    pub fn readings(&self) -> &[Reading]
+    pub fn readings(&self) -> &[FileRead]
         ensures { result.now ≡ readings_in self.now }
     {
         self.readings.as_slice()
@@ -49,7 +49,7 @@ impl<'a> MemoryFiles<'a> {
         ensures files { files_in self.new ≡ files_in self.old }
     {
         let file = Txt::from_str(self.alloc, name)?;
-        self.readings.push(Reading { file, limit, gave })
+        self.readings.push(FileRead { file, limit, gave })
     }
 }
 

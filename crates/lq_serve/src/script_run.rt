@@ -3,7 +3,7 @@ ghost use Rattle.std.specs.Prelude.{◌≡◌, ◌≢◌, ◌+◌, ◌≤◌, �
 ghost use Rattle.lq_grammar.specs.Script.{lines_of, script_limit};
 ghost use Rattle.lq_session.specs.States.{state_of};
 ghost use Rattle.lq_serve.specs.Devices.{inner_of, read_count, late_count, late_count_next, is_ended, is_failed, TakesAtMost};
-ghost use Rattle.lq_serve.specs.ScriptRun.{IsNoText, IsTooLong, Served, ServedInPart, ServedWhole, Stopped, Told, ToldInPart};
+ghost use Rattle.lq_serve.specs.ScriptRun.{IsNoText, IsTooLong, LineServed, LineServedInPart, Served, ServedInPart, ServedWhole, Stopped};
 
 use crate::device::Device;
 use crate::script_bytes::{SCRIPT_LIMIT, fits, read_script};
@@ -124,9 +124,11 @@ fn serve_line<W: Write>(
     session: &mut Session,
 ) -> Result<u64, WriteFailed>
     requires { is_failed writer.old ≡ false }
-    ensures ok { IfOk result (λ count. Told line.now (state_of session.old) (state_of session.new)
+    ensures ok { IfOk result (λ count. LineServed line.now (state_of session.old)
+        (state_of session.new)
         (W.contents (inner_of writer.old)) (W.contents (inner_of writer.new)) count) }
-    ensures err { OnErr result (ToldInPart line.now (state_of session.old) (state_of session.new)
+    ensures err { OnErr result (LineServedInPart line.now (state_of session.old)
+        (state_of session.new)
         (W.contents (inner_of writer.old)) (W.contents (inner_of writer.new))) }
     ensures few { IfOk result (λ count. count ≤ 1) }
     ensures unmarked { OnOk result (is_failed writer.new ≡ false) }

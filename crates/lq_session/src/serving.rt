@@ -14,7 +14,7 @@ use std::alloc::{AllocError, Global};
 
 /// A copy of the type, if it is any but that of null, which can't be in a reply.
 fn placed_type(alloc: Global, given: &Ty) -> Result<Option<Ty>, AllocError>
-    ensures { IfOk result (λ found. found
+    ensures { IfOk result (λ ty. ty
         ≡ when (has_place (out-Ty given.now)) (Some given.now)) }
 {
     if has_place(given) {
@@ -48,10 +48,10 @@ pub(crate) fn type_of_line(
     line: &str,
     state: &State,
 ) -> Result<Option<Ty>, AllocError>
-    ensures { IfOk result (λ found. found ≡ line_type state.now line.now) }
+    ensures { IfOk result (λ ty. ty ≡ line_type state.now line.now) }
 {
     match type_of_run(alloc, line, state) {
-        Ok(found) => Ok(found),
+        Ok(served_type) => Ok(served_type),
         Err(Stop::Answer(_)) => Ok(None),
         Err(Stop::Memory) => Err(AllocError),
     }

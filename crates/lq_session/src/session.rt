@@ -62,7 +62,7 @@ impl Session {
     /// expression of its `run`. None where the line says no `run`, the statement opens more than it
     /// may, or its expression has no type, or that of null alone, which is refused.
     pub fn served_type(&self, line: &str) -> Result<Option<Ty>, AllocError>
-        ensures { IfOk result (λ found. found ≡ line_type (state_of self.now) line.now) }
+        ensures { IfOk result (λ ty. ty ≡ line_type (state_of self.now) line.now) }
     {
         type_of_line(self.alloc, line, &self.state)
     }

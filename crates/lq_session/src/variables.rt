@@ -14,7 +14,7 @@ use crate::replies::reply;
 use lq_grammar::Expr;
 use lq_json::{Line, Reply};
 use lq_machine::{Defined, Opened};
-use lq_run::{State, Stop, evaluate, refusal, tree_of};
+use lq_run::{State, Stop, evaluate_scalar, refusal, tree_of};
 use lq_tree::{Tree, ty};
 use lq_typing::converts;
 use lq_value::{Txt, Ty};
@@ -43,7 +43,7 @@ fn definition_by(
     match ty(&tree) {
         Ty::Seq(_) => Ok(Defined::Query(expr, opened)),
         Ty::Int | Ty::IntN | Ty::Bool | Ty::Str => {
-            let value = evaluate(alloc, &tree, state)?;
+            let value = evaluate_scalar(alloc, &tree, state)?;
             Ok(Defined::Variable(tree.ty, value))
         }
         Ty::Null | Ty::Row(_) | Ty::Rec(_) | Ty::Group(_, _) => Err(refusal(alloc, "type")),
@@ -103,7 +103,7 @@ pub(crate) fn assign(
     if !converts(ty(&tree), place) {
         return Err(refusal(alloc, "type"));
     }
-    let value = evaluate(alloc, &tree, state)?;
+    let value = evaluate_scalar(alloc, &tree, state)?;
     let line = reply(alloc, Reply::Assigned(name))?;
     state.assign(name, value);
     Ok(line)

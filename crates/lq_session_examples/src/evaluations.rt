@@ -82,7 +82,13 @@ impl Names for NoNames {
 
     ghost Row = { Unit {0} };
 
-    ghost world = { λ names. record { schemas = []; rows = []; session = []; cell = λ row column. None; unknown = fault.NullReference } };
+    ghost world = { λ names. record {
+      schemas = [];
+      rows = [];
+      session = [];
+      cell = λ row column. None;
+      unknown = fault.NullReference;
+    } };
 
     ghost scope = { λ names. [] };
 

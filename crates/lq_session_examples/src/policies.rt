@@ -2,7 +2,7 @@
 //! table that isn't there, for roles of other policies, and for memberships that no file has.
 use crate::tables::rows_of;
 use lq_load::table_from_csv;
-use lq_policy::{Action, Policies, rules_are_total};
+use lq_policy::{Action, Policies, are_rules_total};
 use lq_policyfile::policies_from_toml;
 use lq_security::{Policy, PolicyParts, Role, TablePart};
 use lq_store::{Row, Store};
@@ -230,7 +230,7 @@ fn ladder_policies(alloc: Global) -> Result<Policies, Fail> {
         grants: List::new(alloc),
         withholds: List::new(alloc),
     };
-    if !rules_are_total(&parts) {
+    if !are_rules_total(&parts) {
         return Err(Fail::from("a rule may fault"));
     }
     match Policies::build(alloc, parts) {

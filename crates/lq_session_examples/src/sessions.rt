@@ -32,7 +32,7 @@ fn session(alloc: Global, next: u64) -> Result<Session, Fail>
 fn assert_replies(rt: &impl Abort, session: &mut Session, lines: &[(&str, &str)]) {
     for (line, reply) in lines {
         match session.step(line) {
-            Some(given) => assert!(rt; given.bytes() == reply.as_bytes(), "to {line}"),
+            Some(answer) => assert!(rt; answer.bytes() == reply.as_bytes(), "to {line}"),
             None => panic!(rt; "no reply to {line}"),
         }
     }

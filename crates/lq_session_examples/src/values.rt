@@ -96,8 +96,8 @@ fn is_same<'a>(left: Value<Cells<'a>>, right: Value<Cells<'a>>) -> bool {
 fn compared(alloc: Global, first: &str, second: &str) -> Result<(Ordering, bool), AllocError> {
     let left = spelled(alloc, first)?;
     let right = spelled(alloc, second)?;
-    let found = order(&left, &right);
-    Ok((found, is_same(Value::Scalar(left), Value::Scalar(right))))
+    let ordering = order(&left, &right);
+    Ok((ordering, is_same(Value::Scalar(left), Value::Scalar(right))))
 }
 
 #[test]

@@ -281,7 +281,7 @@ fn repeated(alloc: Global, text: &str, times: usize) -> Result<String, Fail> {
 
 fn is_found(alloc: Global, line: &str, expected: &Found) -> bool {
     match (tokens(alloc, line), expected) {
-        (Ok(found), Found::Tokens(number)) => found.len() == *number,
+        (Ok(tokens), Found::Tokens(number)) => tokens.len() == *number,
         (Err(LexError::Lexical), Found::Faulty) => true,
         (Err(LexError::TooLong), Found::TooLong) => true,
         _ => false,

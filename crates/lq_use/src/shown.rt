@@ -5,7 +5,7 @@ ghost use Rattle.lq_language.specs.Uses.{all_columns, columns_from, shown_column
 
 use lq_policy::Use;
 use lq_store::Store;
-use lq_value::{Column, TableNumber, Txt, Ty};
+use lq_value::{Column, ColumnNumber, TableNumber, Txt, Ty};
 use std::alloc::AllocError;
 
 /// These columns of a table, after other uses.
@@ -14,7 +14,7 @@ fn add_each(table: TableNumber, columns: &[Column], uses: &mut Vec<Use>) -> Resu
     ensures { OnOk result (uses.new.items ≡ uses.old.items ++ columns_from table 0 columns.now) }
 {
     for (number, _) in columns.iter().enumerate() {
-        uses.push(Use::Column(table, number as u16))?;
+        uses.push(Use::Column(table, number as ColumnNumber))?;
     }
     Ok(())
 }

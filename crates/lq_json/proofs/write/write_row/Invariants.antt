@@ -1,7 +1,7 @@
 use Rattle.std.proofs.Common.{◌≡◌, ◌++◌, drop}
 use Rattle.json.specs.Tree.{members_tokens}
 use Rattle.serde_json.specs.Written.{members_outline}
-use Rattle.lq_json.specs.Forms.{cells_in}
+use Rattle.lq_json.specs.Shapes.{cells_in}
 use Rattle.lq_json.proofs.write.write_row.Given as goal
 
 -- the columns so far are written

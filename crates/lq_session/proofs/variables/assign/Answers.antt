@@ -24,8 +24,8 @@ returns-then-not-converts c = (
   refl,
 )
 
-pub evaluate-requires : goal.evaluate-requires
-evaluate-requires c =
+pub evaluate_scalar-requires : goal.evaluate_scalar-requires
+evaluate_scalar-requires c =
     assigns_scalar c.args.state.now c.args.name.now c.args.expr.now c.in-Some.place.now (sym c.in-Some.ensures.value) c.in_ok-tree.tree c.in_ok-tree.ensures
     ((λ i. converts (sym c.ty.ensures i) c.in-Some.place.now) ∙ sym c.converts.ensures ∙ c.if-not-converts.false) c.in-Some.ensures.scalar
 

@@ -1,7 +1,7 @@
 -- The first denial is answered, and what comes of the expression where there is none.
 use Rattle.std.proofs.Common.{◌≡◌, ◌∙◌, Err, rules}
 use Rattle.lq_run.proofs.ScalarLemmas.{allowed_evaluated, denied_evaluated}
-use Rattle.lq_run.proofs.scalars.evaluate.Goals as goal
+use Rattle.lq_run.proofs.scalars.evaluate_scalar.Goals as goal
 
 pub returns-in_err-check_rights : goal.returns-in_err-check_rights
 returns-in_err-check_rights c =

@@ -2,7 +2,7 @@ use Rattle.std.proofs.Common.{rules, arith, ◌≡◌, ◌∙◌, ◌<◌, lengt
 use Rattle.std.specs.List.{list_all}
 use Rattle.lq_policyfile.specs.Names.{is_among}
 use Rattle.lq_policyfile.proofs.NameLemmas.{memberships_step}
-use Rattle.lq_policyfile.proofs.names.memberships_are_known.Goals as goal
+use Rattle.lq_policyfile.proofs.names.are_memberships_known.Goals as goal
 
 pub loop-role-preserved : goal.loop-role-preserved
 loop-role-preserved c =
