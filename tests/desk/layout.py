@@ -12,8 +12,8 @@ FAULTS = {
     "InvalidOperation": "no value or no single item where one is needed", "ArgumentOutOfRange": "an index out of range",
 }
 ADVICE = {
-    "syntax": "no statement is spelled like this; there are: run E; var N = E; N = E; as R; insert T (..); delete T x => p;",
-    "type": "a name is unknown or an operand has the wrong type; try .tables and .names",
+    "syntax": "this is not a statement; the statements are: run E; var N = E; N = E; as R; insert T (..); delete T x => p;",
+    "type": "a name is unknown or already in use, a type doesn't fit, or the number of cells is wrong; try .tables and .names",
     "role": "the policy file has no such role; try .roles",
     "cell": "a value lies outside of its column's range; try .tables",
     "full": "the table has used up its row numbers; it takes no more rows",

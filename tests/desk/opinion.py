@@ -25,7 +25,7 @@ from tables import records_of, without_marks  # noqa: E402
 
 MOST_LINE_BYTES = 65_536
 MOST_SCRIPT_BYTES = 1_048_576
-HINT = "A statement a line; .help lists the commands; Ctrl-D ends.\n"
+HINT = "One statement per line; .help lists the commands; Ctrl-D ends.\n"
 # The Unicode characters with the property White_Space.
 WHITE = "\t\n\v\f\r \x85\xa0\u1680\u2000\u2001\u2002\u2003\u2004\u2005\u2006\u2007\u2008\u2009\u200a\u2028\u2029\u202f\u205f\u3000"
 TOO_LONG = "The line has more than 65,536 bytes, and was not read: write a shorter one.\n"
@@ -256,7 +256,7 @@ class Desk:
         if action not in ("delete", "insert", None):
             raise Misuse
         if name not in self.session.tables:
-            return f"There is no table {name}; .tables lists those that there are.\n"
+            return f"There is no table {name}; .tables lists the tables.\n"
         return self.reasons(name, wanted, action or "select")
 
     def command_rows(self, text):

@@ -48,7 +48,7 @@ def options_of(words):
     try:
         rest = [word.decode("utf-8") for word in words]
     except UnicodeDecodeError:
-        raise UsageFault("a word that is no text") from None
+        raise UsageFault("a word that isn't UTF-8") from None
     options = Options()
     while rest:
         word = rest.pop(0)

@@ -40,7 +40,7 @@ pub(crate) fn converse(rt: &HostRuntime, desk: &mut Desk) -> u8 {
     };
     write_hint(
         rt,
-        "A statement a line; .help lists the commands; Ctrl-D ends.\n",
+        "One statement per line; .help lists the commands; Ctrl-D ends.\n",
     );
     let mut writer = Device::new(rt.stdout());
     match answer_typed(rt, input, desk, &mut writer) {

@@ -46,7 +46,7 @@ pub fn report_words(rt: &HostRuntime, error: &io::Error) -> u8
     }
     let _ = rt
         .stderr()
-        .write_all(b"lq: a word of the command line is no text\n");
+        .write_all(b"lq: a word of the command line isn't UTF-8\n");
     USAGE
 }
 

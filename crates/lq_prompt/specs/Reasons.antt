@@ -75,4 +75,4 @@ why_text q why.Secret = secret_text q
 
 -- the table isn't there
 abbrev pub no_table_text : List ℕ → List ℕ
-no_table_text table = joined (codes "There is no table " ∷ table ∷ codes "; .tables lists those that there are.\n" ∷ [])
+no_table_text table = joined (codes "There is no table " ∷ table ∷ codes "; .tables lists the tables.\n" ∷ [])

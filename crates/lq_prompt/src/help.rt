@@ -10,7 +10,7 @@ A command:
   .names                the variables and named queries, with their types
   .rights               what the current role may use, and which rule withholds the rest
   .why T NUMBER         which policies let the current role see the row of this number, or hide it
-  .why T NUMBER delete  the same of deleting it; with `insert`, of inserting a row like it
+  .why T NUMBER delete  the same for deleting it; with `insert`, for inserting a row like it
   .rows N               at most N rows of a reply are shown
   .json on|off          replies are shown as lines of JSON, or as tables
   .time on|off          the time that each statement takes is reported on standard error, or not

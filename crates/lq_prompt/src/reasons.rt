@@ -209,10 +209,6 @@ pub(crate) fn no_table_text(alloc: Global, table: &str) -> Result<String, AllocE
 {
     joined(
         alloc,
-        &[
-            "There is no table ",
-            table,
-            "; .tables lists those that there are.\n",
-        ],
+        &["There is no table ", table, "; .tables lists the tables.\n"],
     )
 }

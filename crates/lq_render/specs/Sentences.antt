@@ -29,8 +29,8 @@ ending_text name = fault_sentence name ++ codes " (these are the items before it
 -- what to do next, of a refusal under this word; none of another word
 abbrev pub advice : List ℕ → Option (List ℕ)
 advice word =
-    if bytes_eq word (codes "syntax") then Some (codes "no statement is spelled like this; there are: run E; var N = E; N = E; as R; insert T (..); delete T x => p;")
-    else if bytes_eq word (codes "type") then Some (codes "a name is unknown or an operand has the wrong type; try .tables and .names")
+    if bytes_eq word (codes "syntax") then Some (codes "this is not a statement; the statements are: run E; var N = E; N = E; as R; insert T (..); delete T x => p;")
+    else if bytes_eq word (codes "type") then Some (codes "a name is unknown or already in use, a type doesn't fit, or the number of cells is wrong; try .tables and .names")
     else if bytes_eq word (codes "role") then Some (codes "the policy file has no such role; try .roles")
     else if bytes_eq word (codes "cell") then Some (codes "a value lies outside of its column's range; try .tables")
     else if bytes_eq word (codes "full") then Some (codes "the table has used up its row numbers; it takes no more rows")

@@ -59,10 +59,12 @@ fn advice(word: &str) -> Option<&'static str>
 {
     if word == "syntax" {
         Some(
-            "no statement is spelled like this; there are: run E; var N = E; N = E; as R; insert T (..); delete T x => p;",
+            "this is not a statement; the statements are: run E; var N = E; N = E; as R; insert T (..); delete T x => p;",
         )
     } else if word == "type" {
-        Some("a name is unknown or an operand has the wrong type; try .tables and .names")
+        Some(
+            "a name is unknown or already in use, a type doesn't fit, or the number of cells is wrong; try .tables and .names",
+        )
     } else if word == "role" {
         Some("the policy file has no such role; try .roles")
     } else if word == "cell" {

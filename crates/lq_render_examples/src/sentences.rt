@@ -46,11 +46,11 @@ const CASES: [(&str, &str); 32] = [
     ),
     (
         "{\"error\":\"syntax\"}\n",
-        "error: no statement is spelled like this; there are: run E; var N = E; N = E; as R; insert T (..); delete T x => p;\n",
+        "error: this is not a statement; the statements are: run E; var N = E; N = E; as R; insert T (..); delete T x => p;\n",
     ),
     (
         "{\"error\":\"type\"}\n",
-        "error: a name is unknown or an operand has the wrong type; try .tables and .names\n",
+        "error: a name is unknown or already in use, a type doesn't fit, or the number of cells is wrong; try .tables and .names\n",
     ),
     (
         "{\"error\":\"role\"}\n",
