@@ -1,5 +1,6 @@
 pub mod DefinitionLaws
 pub mod KeptDefinitionLaws
+pub mod KeptPolicies
 pub mod MachineMeaningLaws
 pub mod NestedFaultLemmas
 pub mod OpenedLaws
@@ -7,7 +8,9 @@ pub mod OpeningLemmas
 pub mod OutputLaws
 pub mod SeenTableLaws
 pub mod ServedLaws
+pub mod ServedTypes
 pub mod SessionLemmas
 pub mod SessionTypes
 pub mod StatementLaws
 pub mod StatementsAlike
+pub mod StoredQueries

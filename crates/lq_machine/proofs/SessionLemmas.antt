@@ -1,5 +1,5 @@
 -- Proofs of the laws of the session machine and of its output.
-use Rattle.std.proofs.Common.{◌≡◌, ◌≢◌, ◌∷◌, ◌++◌, List, [], ℕ, Some, None, IsSome, ap, ap₂, ◌∙◌, sym, refl, subst, if◌then◌else◌, Bool, true, false, Option, codes, ◌==◌, ◌^◌, eqb, length, slice_get, true≢false, Result, Ok, Err}
+use Rattle.std.proofs.Common.{◌≡◌, ◌≢◌, ◌∷◌, List, [], ℕ, Some, None, IsSome, ap, ◌∙◌, sym, refl, subst, if◌then◌else◌, Bool, true, false, Option, codes, ◌==◌, ◌^◌, eqb, length, slice_get, true≢false, Result, Ok, Err}
 use Rattle.serde_json.specs.Data.{Data}
 use Rattle.serde_json.proofs.OnLiterals.{serde_json_on_literals}
 use Rattle.lq_machine.specs.HostCalls.{HostCall}
@@ -9,7 +9,7 @@ use Rattle.lq_machine.specs.States.{State, names_in, schemas_of, world_in}
 use Rattle.lq_machine.specs.Output.{Answers, as_machine, no_memory, stepped}
 use Rattle.lq_grammar.specs.Reading.{Reading, Nothing, Says, IsNoSyntax, IsTooDeep, reading_of}
 use Rattle.lq_machine.specs.Served.{line_of, assigned_data, defined_data, deleted_data, inserted_data, role_data}
-use Rattle.lq_machine.specs.SessionLaws.{AnswersAlike, AsksNoHost, IsOutput, IsSilentAlike, LeavesTheRest, LooksSame, MemoryLineIsServed, ScriptsAlike, end, answered, refused, LookAlikeBehind, NumberAlike, NumberAlikeBehind, TakesNoRole}
+use Rattle.lq_machine.specs.SessionLaws.{AnswersAlike, IsOutput, IsSilentAlike, LeavesTheRest, LooksSame, MemoryLineIsServed, ScriptsAlike, end, answered, refused, LookAlikeBehind, NumberAlike, NumberAlikeBehind, TakesNoRole}
 use Rattle.lq_grammar.specs.declared.syntax.Expr.{Expr}
 use Rattle.lq_grammar.specs.declared.syntax.Statement.{Statement}
 use Rattle.lq_grammar.specs.declared.syntax.Statement.TheVariants as statement
@@ -201,7 +201,7 @@ abbrev Keeps : State → Outcome → Type 0
 Keeps old x = line_of x.0 ≡ memory_line → x.1 ≡ old
 
 -- The replies after which the state is a different one begin with no `{\"e`, as the memory line does.
-abbrev third : List ℕ → Option ℕ
+abbrev pub third : List ℕ → Option ℕ
 third text = slice_get text 2
 
 no_e : (n : ℕ) → eqb n 101 ≡ false → (text : List ℕ) → third text ≡ Some n → text ≡ memory_line → ⊥
@@ -209,7 +209,7 @@ no_e n other text is h =
     let same : n ≡ 101 = same_Some n 101 (sym is ∙ ap third h) in
     true≢false (sym (ap (λ (k : ℕ). eqb k 101) same) ∙ other)
 
-defined_third : (name : List ℕ) → third (line_of (defined_data name)) ≡ Some 100
+pub defined_third : (name : List ℕ) → third (line_of (defined_data name)) ≡ Some 100
 unfolding serde_json_on_literals
 defined_third name = refl
 
@@ -369,19 +369,6 @@ silent_alike old new line reply calls (no_memory some is stays allowed) =
     (λ none. absurd (let other : Some memory_line ≡ None = sym is ∙ none in cc), λ none. absurd (no_some (subst (λ (r : Reply). IsSome r) none some))) where
       no_some : IsSome {T = List ℕ} None → ⊥
       no_some h = cc
-
--- ---- the log of host calls
-
-adds_no_call : (old new : State) (line : List ℕ) (reply : Reply) (calls : List HostCall) → Answers old line reply calls new → calls ≡ []
-adds_no_call old new line reply calls (as_machine steps allowed) = allowed
-adds_no_call old new line reply calls (no_memory some is stays allowed) = allowed
-
-pub asks_no_host : AsksNoHost
-asks_no_host old new [] [] calls run = run.1
-asks_no_host old new [] (reply ∷ replies) calls run = absurd run
-asks_no_host old new (line ∷ lines) [] calls run = absurd run
-asks_no_host old new (line ∷ lines) (reply ∷ replies) calls run =
-    run.3 ∙ ap₂ (λ (a b : List HostCall). a ++ b) (adds_no_call old run.0 line reply run.1 run.4) (asks_no_host run.0 new lines replies run.2 run.5)
 
 pub memory_line_served : MemoryLineIsServed
 unfolding serde_json_on_literals

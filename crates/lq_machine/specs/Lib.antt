@@ -7,6 +7,8 @@ pub mod Opening
 pub mod OpeningLaws
 pub mod Output
 pub mod Served
+pub mod ServedTypeLaws
+pub mod ServedTypes
 pub mod Serving
 pub mod SessionLaws
 pub mod SessionTypes

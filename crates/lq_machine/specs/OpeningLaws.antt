@@ -1,12 +1,20 @@
--- Laws of what a statement opens: its size and its rank, by the tokens of its line.
-use Rattle.std.specs.Prelude.{◌≡◌, ◌≢◌, ◌+◌, ◌≤◌, ◌∷◌, ◌++◌, List, ℕ, Some, None, length, slice_get, sum}
+-- Laws of what a statement opens: its size and its rank, by the tokens of its line; and what a named query keeps of them.
+use Rattle.std.specs.Prelude.{◌≡◌, ◌≢◌, ◌+◌, ◌≤◌, ◌∷◌, ◌++◌, List, [], ℕ, Some, None, length, slice_get, sum}
 use Rattle.std.specs.List.{Contains}
-use Rattle.lq_machine.specs.Opening.{opening_of}
+use Rattle.lq_value.specs.declared.ty.Ty.{Ty}
+use Rattle.lq_value.specs.declared.ty.Ty.TheVariants as ty
+use Rattle.lq_language.specs.ClauseTyping.{expression_type}
+use Rattle.lq_machine.specs.Machine.{step}
+use Rattle.lq_machine.specs.Opening.{opening_of, rank_limit, size_limit}
+use Rattle.lq_machine.specs.Served.{defined_data, line_of}
+use Rattle.lq_machine.specs.States.{State, names_in}
+use Rattle.lq_grammar.specs.Reading.{Says, reading_of}
 use Rattle.lq_grammar.specs.Tokens.{text_of, tokens_of}
 use Rattle.lq_machine.specs.declared.session.Defined.TheVariants as of
 use Rattle.lq_machine.specs.declared.session.Definition.{Definition}
 use Rattle.lq_machine.specs.declared.session.Opened.{Opened}
 use Rattle.lq_grammar.specs.declared.syntax.Expr.{Expr}
+use Rattle.lq_grammar.specs.declared.syntax.Statement.TheVariants as statement
 use Rattle.lq_grammar.specs.declared.token.Kind.TheVariants as k
 use Rattle.lq_grammar.specs.declared.token.Token.{Token}
 
@@ -73,3 +81,26 @@ abbrev pub OpensNothing : Type 0
 OpensNothing =
     (definitions : List Definition) (line : List ℕ) → tokens_of line ≡ None
     → opening_of definitions line ≡ record { size = 0; rank = 0 }
+
+-- ---- what a named query keeps
+
+-- The statement on a line opens no more than the limits allow.
+pub record IsWithinLimits (definitions : List Definition) (line : List ℕ) : Type 0 where
+  pub size : (opening_of definitions line).size ≤ size_limit
+  pub rank : (opening_of definitions line).rank ≤ rank_limit
+
+-- The state behind a line has one more definition, the newest: this query under this name, with what the line opens.
+abbrev pub StoresQuery : State → List ℕ → List ℕ → Expr → State → Type 0
+StoresQuery old line name e new =
+    new ≡ record old {
+      definitions = old.definitions ++ (record { name = name; defined = of.Query e (opening_of old.definitions line) }) ∷ [];
+    }
+
+-- a line that says `var`, gives a sequence and is answered as defined stores its expression, and what it opens itself
+abbrev pub StoresOpening : Type 0
+StoresOpening =
+    (old : State) (line name : List ℕ) (e : Expr) (item : Ty)
+    → reading_of line ≡ Says (statement.Define name e)
+    → expression_type e (names_in old) ≡ Some (ty.Seq item)
+    → (step old line).0 ≡ Some (line_of (defined_data name))
+    → IsWithinLimits old.definitions line × StoresQuery old line name e (step old line).1

@@ -6,6 +6,7 @@ use Rattle.lq_machine.specs.States.{State, schemas_of, seen_by_role}
 use Rattle.lq_machine.specs.Output.{Answers, Runs, stepped}
 use Rattle.lq_machine.specs.Served.{error_data, line_of}
 use Rattle.lq_grammar.specs.Reading.{Says, reading_of}
+use Rattle.lq_security.specs.RuleLaws.{AreReadFor}
 use Rattle.lq_value.specs.declared.scalar.Scalar.{Scalar}
 use Rattle.lq_grammar.specs.declared.syntax.Statement.TheVariants as statement
 
@@ -44,6 +45,18 @@ LookAlikeBehind =
 -- states that look the same and number the rows to come alike do so after every line
 abbrev pub NumberAlikeBehind : Type 0
 NumberAlikeBehind = (a b : State) → LooksSame a b → NumberAlike a b → (line : List ℕ) → NumberAlike (step a line).1 (step b line).1
+
+-- ---- what no line changes
+
+-- whatever a line says, the policies and the schemas of the tables stay
+abbrev pub KeepsPolicies : Type 0
+KeepsPolicies = (old : State) (line : List ℕ) → ((step old line).1.policies ≡ old.policies) × (schemas_of (step old line).1.tables ≡ schemas_of old.tables)
+
+-- so policies that were read for the tables are so behind any lines, whatever was answered
+abbrev pub StayReadForTables : Type 0
+StayReadForTables =
+    (old new : State) (lines : List (List ℕ)) (replies : List Reply) (calls : List HostCall) → Runs old lines replies calls new
+    → AreReadFor (schemas_of old.tables) old.policies → AreReadFor (schemas_of new.tables) new.policies
 
 -- ---- the output of a script
 
@@ -87,10 +100,6 @@ LeavesTheRest =
 -- a line has no reply exactly where the machine has none for it
 abbrev pub IsSilentAlike : Type 0
 IsSilentAlike = (old new : State) (line : List ℕ) (reply : Reply) (calls : List HostCall) → Answers old line reply calls new → (reply ≡ None) ↔ ((step old line).0 ≡ None)
-
--- no run asks a host, as no statement does
-abbrev pub AsksNoHost : Type 0
-AsksNoHost = (old new : State) (lines : List (List ℕ)) (replies : List Reply) (calls : List HostCall) → Runs old lines replies calls new → calls ≡ []
 
 -- the memory line is the line of a refusal
 abbrev pub MemoryLineIsServed : Type 0

@@ -1,8 +1,8 @@
 //! Laws of the session machine and of its output. Each function's contract is the law that it is
 //! named for; the functions themselves do nothing.
 ghost use Rattle.lq_machine.specs.DefinitionLaws.{KeepsDefined};
-ghost use Rattle.lq_machine.specs.OpeningLaws.{FindsRank, FindsSize, OpensNothing};
-ghost use Rattle.lq_machine.specs.SessionLaws.{AnswersAlike, AsksNoHost, LookAlikeBehind, NumberAlikeBehind, ScriptsAlike, IsOutput, LeavesTheRest, IsSilentAlike, MemoryLineIsServed};
+ghost use Rattle.lq_machine.specs.OpeningLaws.{FindsRank, FindsSize, OpensNothing, StoresOpening};
+ghost use Rattle.lq_machine.specs.SessionLaws.{AnswersAlike, KeepsPolicies, LookAlikeBehind, NumberAlikeBehind, ScriptsAlike, IsOutput, LeavesTheRest, IsSilentAlike, MemoryLineIsServed, StayReadForTables};
 
 /// Hidden rows change no answer: two states whose role sees the same tables, under the same policies,
 /// schemas, variables and named queries, give every line the same reply, and a script under that role the
@@ -28,11 +28,6 @@ pub fn memory_law()
     ensures silent { IsSilentAlike }
 {}
 
-/// No run of a script adds a call to the log of host calls, as no statement asks a host.
-pub fn logged_calls()
-    ensures { AsksNoHost }
-{}
-
 /// The memory line is served as any other refusal is.
 pub fn memory_line_is_served()
     ensures { MemoryLineIsServed }
@@ -45,11 +40,22 @@ pub fn definitions_are_kept()
     ensures { KeepsDefined }
 {}
 
+/// Whatever a line says, the state after it has the same policies, and tables of the same schemas. So
+/// policies that were read for the tables where a script begins are so after it, as the laws of row
+/// policies ask.
+pub fn policies_are_kept()
+    ensures step { KeepsPolicies }
+    ensures read { StayReadForTables }
+{}
+
 /// A token opens a named query where it is the query's name and doesn't come directly after a `.`. The
 /// size of a statement is the number of its tokens, and the size of what each token opens; its rank is 0
-/// where none opens anything, and else one more than the greatest rank among what is opened.
+/// where none opens anything, and else one more than the greatest rank among what is opened. A `var` line
+/// that is answered as defined and gives a sequence adds one definition: its name, its expression as a
+/// named query, and what the line itself opens, which is within the limits.
 pub fn opened_queries()
     ensures size { FindsSize }
     ensures rank { FindsRank }
     ensures unread { OpensNothing }
+    ensures stored { StoresOpening }
 {}

@@ -14,7 +14,7 @@ use Rattle.lq_machine.specs.States.{State}
 use Rattle.lq_render.specs.Replies.{front_of, line_text}
 use Rattle.lq_render.specs.Types.{schemas_of, shape_of}
 use Rattle.lq_security.specs.declared.policy.Action.{Action}
-use Rattle.lq_session.specs.ServedTypes.{line_type}
+use Rattle.lq_machine.specs.ServedTypes.{line_type}
 use Rattle.lq_store.specs.Rules.{name_of}
 use Rattle.lq_prompt.specs.Names.{names_text}
 use Rattle.lq_prompt.specs.Reasons.{no_table_text, why_text}

@@ -8,7 +8,7 @@ use Rattle.lq_machine.specs.declared.session.Definition.{Definition}
 use Rattle.lq_render.specs.Grids.{grid}
 use Rattle.lq_render.specs.Types.{schemas_of, type_text}
 use Rattle.lq_render.specs.declared.grid.Cell.{Cell}
-use Rattle.lq_session.specs.ServedTypes.{line_type}
+use Rattle.lq_machine.specs.ServedTypes.{line_type}
 use Rattle.lq_prompt.specs.Grids.{joined, word}
 
 abbrev pub stands_for : Defined → List ℕ

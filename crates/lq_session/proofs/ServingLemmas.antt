@@ -8,6 +8,7 @@ use Rattle.lq_grammar.specs.declared.syntax.Expr.{Expr}
 use Rattle.lq_grammar.specs.declared.syntax.Statement.{Statement}
 use Rattle.lq_grammar.specs.declared.syntax.Statement.TheVariants as statement
 use Rattle.lq_machine.specs.Opening.{is_past_opening, opening_of}
+use Rattle.lq_machine.specs.ServedTypes.{line_type, statement_type, type_read}
 use Rattle.lq_machine.specs.States.{State}
 use Rattle.lq_machine.specs.declared.session.Opened.{Opened}
 use Rattle.lq_tree.specs.declared.tree.Tree.{Tree}
@@ -15,7 +16,7 @@ use Rattle.lq_run.specs.Statements.{FindsTree, tree_in}
 use Rattle.lq_run.specs.declared.stop.Stop.{Stop}
 use Rattle.lq_run.specs.declared.stop.Stop.TheVariants as stop
 use Rattle.lq_session.specs.Lines.{OpensWithin, RefusesLine, word_of}
-use Rattle.lq_session.specs.ServedTypes.{ServesLine, line_type, statement_type, type_read}
+use Rattle.lq_session.specs.ServedTypes.{ServesLine}
 use Rattle.lq_session.proofs.VariableLemmas.{no_type, type_of}
 
 -- ---- statements

@@ -2,7 +2,8 @@
 ghost use Rattle.std.specs.Prelude.{◌≡◌, Some, IfOk};
 ghost use Rattle.lq_value.specs.declared.ty.Ty.{out-Ty};
 ghost use Rattle.lq_language.specs.Types.{has_place, when};
-ghost use Rattle.lq_session.specs.ServedTypes.{ServesLine, line_type};
+ghost use Rattle.lq_machine.specs.ServedTypes.{line_type};
+ghost use Rattle.lq_session.specs.ServedTypes.{ServesLine};
 
 use crate::lines::{opening_of, statement_of, tokens_of};
 use lq_grammar::Statement;

@@ -25,7 +25,7 @@ impl Session {
     ghost use Rattle.lq_machine.specs.Machine.{step};
     ghost use Rattle.lq_machine.specs.Output.{Answers};
     ghost use Rattle.lq_session.specs.Performed.{Steps};
-    ghost use Rattle.lq_session.specs.ServedTypes.{line_type};
+    ghost use Rattle.lq_machine.specs.ServedTypes.{line_type};
     ghost use Rattle.lq_session.specs.States.{state_of};
 
     /// The first state of a session over these tables, with these policies, under this role. No name is
