@@ -50,7 +50,7 @@ module _ (cells : List Scalar) where
 
 pub ruleset verdicts = (verdict_silent, verdict_constant, verdict_number, verdict_literal, verdict_search, verdict_both, verdict_either)
 
--- ---- what a condition is made to say
+-- ---- what a condition is built to say
 
 pub number_sign : (sign : Binary) (place : ℕ) (n : ℤ) (s : Scalar) (c : Condition)
     → c ≡ condition.Number sign place n → s ≡ scalar.Int n → IsSign sign place s c

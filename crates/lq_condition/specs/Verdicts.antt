@@ -49,7 +49,7 @@ verdict_step (Condition-F.Either a b) cells = either_verdict (a cells) (b cells)
 unfoldable pub verdict : Condition → Says
 verdict = fold-Condition Says verdict_step
 
--- ---- what a condition is made to say
+-- ---- what a condition is built to say
 
 pub record IsSign (sign : Binary) (place : ℕ) (s : Scalar) (c : Condition) : Type 0 where
   pub at : (cells : List Scalar) → verdict c cells ≡ sign_verdict sign (slice_get cells place) s

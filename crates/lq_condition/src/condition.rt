@@ -1,4 +1,4 @@
-//! Prepared conditions: how they are made, and what they say of the cells of a row.
+//! Prepared conditions: how they are built, and what they say of the cells of a row.
 ghost use Rattle.std.specs.Prelude.{◌≡◌, IfSome};
 ghost use Rattle.lq_value.specs.declared.scalar.Scalar.TheVariants as scalar;
 ghost use Rattle.lq_condition.specs.declared.condition.Condition.TheVariants as condition;
@@ -68,7 +68,7 @@ impl Condition {
     }
 
     /// Whether the text in the cell at a place begins with another, ends with it or has it somewhere,
-    /// as the method says; nothing where one of them is no text, and for any other operator. Refused
+    /// as the method says; nothing where one of them isn't a text, and for any other operator. Refused
     /// where there was no memory for a copy of the text that is looked for.
     #[tactic(auto, using(crate::proofs::ConditionLaws::search_made))]
     pub fn search(

@@ -104,7 +104,7 @@ pub(crate) fn number_verdict(sign: Binary, cell: Option<&Scalar>, number: i32) -
     }
 }
 
-/// Whether a text stands in a cell, where the method looks for it.
+/// Whether a text is in a cell, where the method looks for it.
 #[inline(never)]
 pub(crate) fn search_verdict(op: Op, cell: Option<&Scalar>, needle: &Scalar) -> Option<bool>
     ensures { result ≡ search_verdict op (option_copied cell.entry) needle.now }

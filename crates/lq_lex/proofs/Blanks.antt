@@ -1,4 +1,4 @@
--- What the scan for a token tells of the tokens.
+-- What the scan for a token says of the tokens.
 use Rattle.std.proofs.Common.{◌≡◌, ℕ, suc, ◌+◌, ◌≤◌, Bool, true, false, List, [], ◌∷◌, refl, ap, sym, ◌∙◌, arith, not, take, drop, length, get_or}
 use Rattle.std.specs.Prelude.{Option, Some, None, option_and_then, option_map, ◌==◌, sum_by, nat_lt, ◌<◌, ◌↔◌}
 use Rattle.std.specs.List.{prefix_len}
@@ -21,7 +21,7 @@ is_nothing None = false
 is_nothing (Some []) = true
 is_nothing (Some (t ∷ ts)) = false
 
--- the tokens of what a scan that stands here has before it
+-- the tokens of what a scan that is here has before it
 abbrev left : Scan → ℕ → List ℕ → Option (List Token)
 left scan.Between place cs = tokens_from 0 place cs
 left scan.Slash place cs = tokens_from 0 place (47 ∷ cs)

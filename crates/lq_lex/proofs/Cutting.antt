@@ -33,7 +33,7 @@ one_more : (tokens : List Token) (token : Token) (left : Option (List Token))
 one_more tokens token None = refl
 one_more tokens token (Some more) = ap Some (sym (append_assoc tokens (token ∷ []) more))
 
--- behind a token, which is put behind those found so far
+-- after a token, which is put after those found so far
 pub token_found : (all : Option (List Token)) (tokens grown : List Token) (text cs behind : List ℕ) (c start end more : ℕ) (found_kind : Option Kind) (kind : Kind)
     → all ≡ option_map (λ left. tokens ++ left) (tokens_from 0 start text) → piece c cs ≡ Some (found_kind, more) → found_kind ≡ Some kind → text ≡ c ∷ cs
     → behind ≡ drop (more + 1) text → end ≡ start + sum_by len_utf8 (take (more + 1) text) → grown ≡ tokens ++ record { kind = kind; start = start; end = end } ∷ []
@@ -46,7 +46,7 @@ token_found all tokens grown text cs behind c start end more found_kind kind so_
     so_far ∙ ap (option_map (λ left. tokens ++ left)) (rw (← place, ← rest) step) ∙ one_more tokens (record { kind = kind; start = start; end = end }) (tokens_from 0 end behind)
     ∙ ap (λ found. option_map (λ left. found ++ left) (tokens_from 0 end behind)) (sym grown_is)
 
--- behind a blank or a comment
+-- after a blank or a comment
 pub blank_found : (all : Option (List Token)) (tokens : List Token) (text cs behind : List ℕ) (c start end more : ℕ) (found_kind : Option Kind)
     → all ≡ option_map (λ left. tokens ++ left) (tokens_from 0 start text) → piece c cs ≡ Some (found_kind, more) → found_kind ≡ None → text ≡ c ∷ cs
     → behind ≡ drop (more + 1) text → end ≡ start + sum_by len_utf8 (take (more + 1) text)

@@ -1,4 +1,4 @@
--- What stands at the front of a list.
+-- What is at the front of a list.
 use Rattle.std.proofs.Common.{◌≡◌, suc, ◌-◌, ◌≤◌, List, [], ◌∷◌, length, get_or, take, drop, refl, arith}
 use Rattle.std.proofs.Math.Seq.{take-length}
 

@@ -1,4 +1,4 @@
--- A scan that tells whether a text has no token.
+-- A scan that decides whether a text has no token.
 use Rattle.std.specs.Prelude.{◌==◌, ◌∷◌, List, [], ℕ, Bool, true, false, if◌then◌else◌, Option, Some, None}
 use Rattle.std.specs.Option.{option_map_or}
 use Rattle.lq_grammar.specs.Tokens.{is_blank}

@@ -7,18 +7,18 @@ ghost use Rattle.lq_lex.specs.Blank as spec;
 use crate::letters;
 use crate::lexer::LINE_LIMIT;
 
-/// Where a scan stands that has met no token.
+/// The state of a scan that has met no token.
 #[derive(Clone, Copy, Debug)]
 enum Scan {
     /// Between blanks and comments.
     Between,
-    /// Behind a slash, which has to open a comment.
+    /// After a slash, which has to open a comment.
     Slash,
     /// In a comment.
     Comment,
 }
 
-/// Where the scan stands behind `c`, `None` where `c` is of a token or of nothing.
+/// The state of the scan after `c`, `None` where `c` is of a token or of nothing.
 fn step(scan: Scan, c: char) -> Option<Scan>
     ensures { result ≡ spec.step scan c }
 {
@@ -32,7 +32,7 @@ fn step(scan: Scan, c: char) -> Option<Scan>
     }
 }
 
-/// Whether a text may end where the scan stands.
+/// Whether a text may end where the scan is.
 fn is_closed(scan: Scan) -> bool
     ensures { result ≡ spec.is_closed scan }
 {
@@ -57,7 +57,7 @@ fn has_no_token(text: &str) -> bool
 }
 
 /// Whether a line has no token: it is of white space and comments, and within its limit of 65,536
-/// bytes. Takes no memory, so that such a line is told from the others even where none is left.
+/// bytes. Takes no memory, so that such a line is distinguished from the others even where none is left.
 #[tactic(auto, using(crate::proofs::Blanks::blank_is, crate::proofs::Blanks::long_is_not_blank))]
 pub fn is_blank(line: &str) -> bool
     ensures { IsTrue result ↔ (tokens_of line.now ≡ Some []) }

@@ -15,8 +15,8 @@ use std::alloc::Global;
 /// The most bytes of a line, its line feed not counted, and of a rule.
 pub const LINE_LIMIT: usize = 65_536;
 
-/// What stands at the head of a text: a token of this kind, or a blank or a comment, which is none;
-/// and how many characters it has behind its first.
+/// What is at the head of a text: a token of this kind, or a blank or a comment, which isn't one;
+/// and how many characters it has after its first.
 pub type Piece = (Option<Kind>, usize);
 
 /// The character at the head of `text`, NUL at its end.
@@ -29,7 +29,7 @@ fn head_of(text: &[char]) -> char
     }
 }
 
-/// A comment, whose first slash stands before `behind`: it goes to the next LF or the end.
+/// A comment, whose first slash comes before `behind`: it goes to the next LF or the end.
 fn comment(behind: &[char]) -> Piece
     ensures { result ≡ token.comment behind.now }
 {
@@ -60,7 +60,7 @@ fn integer(text: &[char], first: char, behind: &[char]) -> Option<Piece>
     }
 }
 
-/// The text literal whose opening quote stands before `behind`.
+/// The text literal whose opening quote comes before `behind`.
 fn text_literal(behind: &[char]) -> Option<Piece>
     ensures { result ≡ token.text behind.now }
 {
@@ -133,7 +133,7 @@ fn tokens_within(alloc: Global, line: &str) -> Result<Vec<Token>, LexError>
 
 /// The tokens of a line, or of a rule, each with its kind and its place in bytes.
 ///
-/// A text over 65,536 bytes is refused as `TooLong`, whatever stands in it, and one within that limit
+/// A text over 65,536 bytes is refused as `TooLong`, whatever is in it, and one within that limit
 /// as `Lexical` where something in it begins no token. `Memory` says nothing of the text but that it
 /// is within the limit.
 #[tactic(auto, unfolding(lq_grammar::specs::Tokens::is_too_long))]

@@ -8,7 +8,7 @@ ghost use Rattle.lq_lex.specs.Literals as spec;
 use lq_value::Txt;
 use std::alloc::{AllocError, Global};
 
-/// The greatest value that digits may spell: behind a minus sign they spell the least `int`.
+/// The greatest value that digits may spell: after a minus sign they spell the least `int`.
 const LARGEST: u64 = 2147483648;
 
 /// Whether the value of decimal digits is at most 2147483648.
@@ -40,14 +40,14 @@ pub fn int_value(digits: &[u8]) -> Option<i32>
     i32::try_from(value).ok()
 }
 
-/// Where a reader of a text literal stands behind its opening quote.
+/// The state of a reader of a text literal after its opening quote.
 #[derive(Clone, Copy, Debug)]
 enum Place {
     /// Between two characters.
     Plain,
-    /// Behind a backslash.
+    /// After a backslash.
     Backslash,
-    /// Before the first digit behind `\u`.
+    /// Before the first digit after `\u`.
     First,
     /// Before its second, with the value of the first.
     Second(u8),
@@ -81,7 +81,7 @@ fn unit_of(a: u8, b: u8, c: u8, last: char) -> Option<char>
     unit(u32::from(a) * 4096 + u32::from(b) * 256 + u32::from(c) * 16 + u32::from(d))
 }
 
-/// The character that a backslash with `c` behind it spells.
+/// The character that a backslash with `c` after it spells.
 fn simple_escape(c: char) -> Option<char>
     ensures { result ≡ literal.simple_escape c }
 {
@@ -101,8 +101,8 @@ fn simple_escape(c: char) -> Option<char>
     }
 }
 
-/// Where the reader stands behind `c`, which no backslash precedes, and the character that it
-/// stands for.
+/// The state of the reader after `c`, which no backslash precedes, and the character that it
+/// represents.
 fn step_plain(c: char) -> Option<(Place, Option<char>)>
     ensures { option_map spec.step_of result ≡ literal.step_plain c }
 {
@@ -113,7 +113,7 @@ fn step_plain(c: char) -> Option<(Place, Option<char>)>
     }
 }
 
-/// Where the reader stands behind a backslash and `c`, and the character that they spell.
+/// The state of the reader after a backslash and `c`, and the character that they spell.
 fn step_escape(c: char) -> Option<(Place, Option<char>)>
     ensures { option_map spec.step_of result ≡ literal.step_escape c }
 {
@@ -124,7 +124,7 @@ fn step_escape(c: char) -> Option<(Place, Option<char>)>
     }
 }
 
-/// Where the reader stands behind `c`, and the character whose spelling ends there. `None` is a fault.
+/// The state of the reader after `c`, and the character whose spelling ends there. `None` is a fault.
 fn step(place: Place, c: char) -> Option<(Place, Option<char>)>
     ensures { option_map spec.step_of result ≡ literal.step (spec.place_of place) c }
 {
@@ -145,7 +145,7 @@ fn closes(place: Place, c: char) -> bool
     matches!(place, Place::Plain) && c == '"'
 }
 
-/// How many characters the text literal has behind its opening quote, its closing quote among them:
+/// How many characters the text literal has after its opening quote, its closing quote among them:
 /// `None` where it has a fault or no end.
 pub fn length_of_text(behind: &[char]) -> Option<usize>
     ensures { result ≡ literal.length_from literal.plain behind.now }

@@ -1,4 +1,4 @@
-//! Names and the reserved words, which are no names.
+//! Names and the reserved words, which aren't names.
 ghost use Rattle.std.specs.Prelude.{◌≡◌, if◌then◌else◌, true};
 ghost use Rattle.std.specs.Str.{bytes_eq, chars};
 ghost use Rattle.lq_grammar.specs.Tokens as token;
@@ -8,7 +8,7 @@ ghost use Rattle.lq_lex.specs.Letters as spec;
 use crate::letters;
 use lq_grammar::Kind;
 
-/// The reserved words, which are no names.
+/// The reserved words, which aren't names.
 const RESERVED: [(&[u8], Kind); 26] = [
     (b"from", Kind::From),
     (b"where", Kind::Where),
@@ -88,7 +88,7 @@ fn is_reserved(mut table: &[(&[u8], Kind)], name: &[u8]) -> bool
     false
 }
 
-/// Whether a name may have `c` at its start, or behind it.
+/// Whether a name may have `c` at its start, or after it.
 fn fits(is_first: bool, c: char) -> bool
     ensures { result ≡ (if is_first then starts_name c else continues_name c) }
 {
@@ -114,7 +114,7 @@ fn is_word(text: &str) -> bool
 }
 
 /// Whether `text` is a name of the language: it begins with `_` or a character that may start an
-/// identifier (Unicode Standard Annex 31), goes on with characters that may continue one, and is no
+/// identifier (Unicode Standard Annex 31), goes on with characters that may continue one, and isn't a
 /// reserved word.
 #[tactic(auto, using(crate::proofs::Names::name_is))]
 pub fn is_name(text: &str) -> bool

@@ -1,4 +1,4 @@
--- Of a world the meaning of a method takes only what stands where there is none.
+-- Of a world the meaning of a method takes only what is put where there is none.
 use Rattle.std.proofs.Common.{◌≡◌, [], ℤ, Result, Ok, Err, ap, ◌∙◌, refl, sym}
 use Rattle.lq_value.specs.SameAndOrder.{same_values as same_keys}
 use Rattle.lq_value.specs.declared.scalar.Scalar.{Scalar}

@@ -39,7 +39,7 @@ module _ {A : Type 0} (same : A → A → Bool) where
       ∙ ap (λ (seen : List A). if is_old (take n xs) x then firsts_from same seen (drop (n + 1) xs) else x ∷ firsts_from same seen (drop (n + 1) xs))
       (ap (λ (y : A). take n xs ++ y ∷ []) is ∙ sym (take_more xs n x h))
 
-  -- a copy of a new one is put behind those so far, or nothing where it is old
+  -- a copy of a new one is put after those so far, or nothing where it is old
   pub firsts_kept : (made : List A) (xs : List A) (n : ℕ) (x : A) → n < length xs → x ≡ get_or xs n x → is_old (take n xs) x ≡ false
       → (made ++ x ∷ []) ++ firsts_from same (take (n + 1) xs) (drop (n + 1) xs) ≡ made ++ firsts_from same (take n xs) (drop n xs)
   firsts_kept made xs n x h is new =
@@ -64,7 +64,7 @@ module _ {A : Type 0} (same : A → A → Bool) where
     by true rest = rest
     by false rest = ap (λ (ys : List A). x ∷ ys) rest
 
-  -- what is new behind x, too
+  -- what is new after x, too
   new_behind : (seen : List A) (x : A) (ys : List A) → filter (is_new (seen ++ x ∷ [])) ys ≡ filter (is_new seen) (filter (λ y. not (same x y)) ys)
   new_behind seen x [] = refl
   new_behind seen x (y ∷ ys) =
@@ -109,7 +109,7 @@ module _ {A : Type 0} (same : A → A → Bool) where
 
   pub sifted_firsts : (xs : List A) → sifted (new_from same [] xs) xs ≡ first_keys same xs
   sifted_firsts xs = sifted_is [] xs ∙ firsts_are xs
-  -- ---- items kept by what stands beside them
+  -- ---- items kept by what is beside them
 
 module _ {A : Type 0} where
   pub sifted_end : (keeps : List Bool) → sifted {A = A} keeps [] ≡ []

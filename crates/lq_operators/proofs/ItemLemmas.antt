@@ -1,4 +1,4 @@
--- Where the items that an operator asks for stand in a list.
+-- Where the items that an operator asks for are in a list.
 use Rattle.std.proofs.Common.{◌≡◌, ◌∷◌, ◌++◌, ◌<◌, ◌≤◌, List, [], ℕ, zero, suc, Result, Ok, Err, drop, take, length, ap, refl, arith}
 use Rattle.lq_value.specs.declared.value.End.{End}
 use Rattle.lq_value.specs.declared.value.End.TheVariants as end

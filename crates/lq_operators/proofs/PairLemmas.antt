@@ -21,7 +21,7 @@ module _ {A B : Type 0} where
   zip_both ps ks xs e f = (λ i. zip (e i) (f i)) ∙ zip_split ps
 
 module _ {B : Type 0} where
-  -- nothing stands past the end
+  -- nothing is past the end
   none_there : (m : ℕ) (ys : List B) → drop m ys ≡ [] → (slice_get ys m ≡ None) × (drop (suc m) ys ≡ [])
   none_there zero [] h = (refl, refl)
   none_there zero (y ∷ ys) h = absurd (cc h)
@@ -74,7 +74,7 @@ module _ {A B : Type 0} where
         picked_here ks xs m (places_from key (suc m) ls) l y (kept ls ys) at.0 there.0 (picked_from ks ls xs ys (suc m) at.1 there.1) (key l) (test l) refl refl
         ∙ kept_here l y ls ys (test l)
 
--- nothing put behind what is there
+-- nothing put after what is there
 pub none_pushed : {B : Type 0} (made : List B) (o : Option B) → o ≡ None → made ≡ made ++ option_to_list o
 none_pushed {B} made o h = sym (ap (λ (p : Option B). made ++ option_to_list p) h ∙ append-nil made)
 

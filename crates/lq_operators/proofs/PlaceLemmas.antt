@@ -14,14 +14,14 @@ use Rattle.lq_language.specs.Enumerable.{is_among}
 use Rattle.lq_operators.specs.Places.{passes, passes_at, passes_before}
 
 module _ {A : Type 0} where
-  -- what stands at a place, and what stands behind it
+  -- what is at a place, and what comes after it
   pub head_there : (m : ℕ) (ys xs : List A) (x : A) → drop m ys ≡ x ∷ xs → (slice_get ys m ≡ Some x) × (drop (suc m) ys ≡ xs)
   head_there zero [] xs x h = absurd (cc h)
   head_there zero (y ∷ ys) xs x h = (cc h, cc h)
   head_there (suc m) [] xs x h = absurd (cc h)
   head_there (suc m) (y ∷ ys) xs x h = head_there m ys xs x h
 
-  -- What passes has the key, and so stands among the places of the key.
+  -- What passes has the key, and so is among the places of the key.
   module _ (test key : A → Bool) (keyed : (x : A) → test x ≡ true → key x ≡ true) where
     any_here : (f : ℕ → Bool) (m : ℕ) (ps : List ℕ) (x : A) (rest : Bool) → f m ≡ test x → list_any f ps ≡ rest
         → (c b : Bool) → key x ≡ c → test x ≡ b → list_any f (if c then m ∷ ps else ps) ≡ (b || rest)

@@ -1,9 +1,9 @@
--- What an argument stands for where it is no sequence or no number, and what is kept by whether it is among others.
+-- What an argument represents where it isn't a sequence or isn't a number, and what is kept by whether it is among others.
 use Rattle.std.specs.Prelude.{if◌then◌else◌, not, [], Bool, None}
 use Rattle.lq_value.specs.declared.value.Fault.TheVariants as fault
 use Rattle.lq_language.specs.Worlds.{World}
 
--- A world of no tables and no names. Of a world an argument's meaning takes only what stands where there is none, here a null reference.
+-- A world of no tables and no names. Of a world an argument's meaning takes only what is put where there is none, here a null reference.
 abbrev pub nowhere : {R : Type 0} → World R
 nowhere = record { schemas = []; rows = []; session = []; cell = λ r name. None; unknown = fault.NullReference }
 

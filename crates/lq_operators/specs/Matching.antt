@@ -1,4 +1,4 @@
--- What a prepared inner side of a join stands for.
+-- What a prepared inner side of a join represents.
 use Rattle.std.specs.Prelude.{List}
 use Rattle.std.specs.List.{zip}
 use Rattle.lq_value.specs.declared.value.Value.{Value}

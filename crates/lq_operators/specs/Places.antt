@@ -47,11 +47,11 @@ module _ {A : Type 0} where
       if list_any (λ y. same y x) seen then firsts_from same (seen ++ x ∷ []) xs else x ∷ firsts_from same (seen ++ x ∷ []) xs
 
 module _ {A B : Type 0} where
-  -- what stands at a place whose key passes
+  -- what is at a place whose key passes
   abbrev pub picked_at : (A → Bool) → List A → List B → ℕ → List B
   picked_at test ks xs place = if passes_at test ks place then option_to_list (slice_get xs place) else []
 
-  -- what stands at those places whose keys pass
+  -- what is at those places whose keys pass
   abbrev pub picked : (A → Bool) → List A → List B → List ℕ → List B
   picked test ks xs [] = []
   picked test ks xs (place ∷ places) = picked_at test ks xs place ++ picked test ks xs places

@@ -31,13 +31,13 @@ told t (tally.Sum n) e = at_end e (Ok (scalar.Int n))
 told t (tally.Best which best) e = at_end e (best_with which (no_number t) best [])
 
 module _ {R : Type 0} where
-  -- the answer where a tally was made of the items before, on items of this type
+  -- the answer where a tally was built from the items before, on items of this type
   abbrev pub tallied : Ty → Tally → Stream (Value R) → Result Scalar Fault
   tallied t (tally.Count n) s = summed n (map (λ x. pos 1) s.0) s.1
   tallied t (tally.Sum n) s = summed n (numbers s.0) s.1
   tallied t (tally.Best which best) s = at_end s.1 (best_with which (no_number t) best (numbers s.0))
 
-  -- the same behind a step that gave the next tally, or met a fault
+  -- the same after a step that gave the next tally, or met a fault
   abbrev pub goes_on : Ty → Result Tally Fault → Stream (Value R) → Result Scalar Fault
   goes_on t (Ok next) s = tallied t next s
   goes_on t (Err f) s = Err f

@@ -1,4 +1,4 @@
-//! What an argument stands for: a sequence, or a number.
+//! What an argument represents: a sequence, or a number.
 ghost use Rattle.std.specs.Prelude.{◌≡◌};
 ghost use Rattle.lq_value.specs.declared.value.Value.{out-Value};
 ghost use Rattle.lq_language.specs.OperandMeaning.{items_of, on_scalar, stream_of};
@@ -9,7 +9,7 @@ use crate::sequences::Stream;
 use lq_value::{End, Fault, List, RowRef, Scalar, Value};
 use std::alloc::Global;
 
-// The stream of an argument. A fault met in making it is its ending, and so is a null reference where it is no sequence.
+// The stream of an argument. A fault met in making it is its ending, and so is a null reference where it isn't a sequence.
 pub(crate) fn stream_of<R: RowRef>(
     alloc: Global,
     argument: Result<Value<R>, Fault>,
@@ -35,7 +35,7 @@ fn items_of<R: RowRef>(alloc: Global, value: Value<R>) -> Stream<Value<R>>
     }
 }
 
-// The number that an argument is; a null reference where it is none.
+// The number that an argument is; a null reference where it isn't one.
 #[tactic(auto, using(crate::proofs::Opens::layers))]
 pub(crate) fn number_of<R: RowRef>(argument: Result<Value<R>, Fault>) -> Result<i32, Fault>
     ensures { result ≡ on_scalar nowhere argument (number_of {R = R} nowhere) }

@@ -1,4 +1,4 @@
-//! What stands where there is no item.
+//! What is given where there is no item.
 ghost use Rattle.std.specs.Prelude.{◌≡◌};
 ghost use Rattle.lq_language.specs.Meaning.{default_of, no_number};
 

@@ -17,9 +17,9 @@ use lq_language::Given;
 use lq_value::{End, Fault, List, RowRef, Scalar, Value};
 use std::alloc::Global;
 
-/// What a method with an argument makes of items, behind which the source ends so (.NET, Enumerable).
+/// What a method with an argument makes of items, after which the source ends so (.NET, Enumerable).
 /// The argument may be a fault: of a sequence it is the ending of its stream, and else the answer,
-/// before the source is read. An argument that is no sequence or no number, which no typed call has,
+/// before the source is read. An argument that isn't a sequence, or isn't a number, which no typed call has,
 /// is a null reference.
 pub fn given<R: RowRef>(
     alloc: Global,

@@ -51,7 +51,7 @@ pub(crate) fn single<T: Drop>(none: Result<T, Fault>, items: List<T>, end: End) 
     last(none, items, end)
 }
 
-// The item behind so many.
+// The item after so many.
 #[tactic(auto, using(crate::proofs::ItemLemmas::first_behind))]
 pub(crate) fn element_at<T: Drop>(number: i32, items: List<T>, end: End) -> Result<T, Fault>
     ensures { result ≡ element_at number items end }

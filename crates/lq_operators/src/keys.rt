@@ -21,8 +21,8 @@ fn keys_of<R: RowRef>(alloc: Global, values: &[Value<R>]) -> Result<Vec<Key>, Al
     Ok(keys)
 }
 
-// The places of each key among these values. What is the same as a value has its key, and so stands there; but not all that
-// stands there is the same, since what is no key has the key of null.
+// The places of each key among these values. What is the same as a value has its key, and so is there; but not all that
+// is there is the same, since what isn't a key has the key of null.
 pub(crate) fn lookup_of<R: RowRef>(alloc: Global, values: &[Value<R>]) -> Result<Lookup, AllocError>
     ensures { IfOk result (λ lookup. FindsKeys lookup (map key_value values.now)) }
 {

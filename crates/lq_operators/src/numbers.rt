@@ -34,7 +34,7 @@ pub enum Tally {
     Best(Extreme, Option<i32>),
 }
 
-// The number that an item is; null is none.
+// The number that an item is; null isn't one.
 #[tactic(auto, using(crate::proofs::Opens::layers))]
 fn number_in<R: RowRef>(item: &Value<R>) -> Option<i32>
     ensures { result ≡ number_in (out-Value R item.now) }

@@ -65,7 +65,7 @@ fn picked<R: RowRef>(
     Ok(made)
 }
 
-// Puts a copy of the value at a place behind those that are there.
+// Puts a copy of the value at a place after those that are there.
 fn push_at<R: RowRef>(
     alloc: Global,
     made: &mut List<Value<R>>,

@@ -1,4 +1,4 @@
-//! Sequences made of the items of one: turned round, or with a default in the place of none.
+//! Sequences built from the items of one: turned round, or with a default in the place of none.
 ghost use Rattle.std.specs.Prelude.{◌≡◌, IfOk};
 ghost use Rattle.lq_language.specs.Enumerable.{default_if_empty, reversed};
 ghost use Rattle.lq_language.specs.OperandMeaning.{sequence};

@@ -1,4 +1,4 @@
-//! Two sequences as one: behind one another, united, and those items of the first that are in the second, or are not.
+//! Two sequences as one: one after the other, united, and those items of the first that are in the second, or are not.
 ghost use Rattle.std.specs.Prelude.{◌≡◌, ◌++◌, filter, map, IfOk};
 ghost use Rattle.lq_value.specs.Keys.{key_value};
 ghost use Rattle.lq_value.specs.SameAndOrder.{same_values};
@@ -37,7 +37,7 @@ fn appended<T: Drop>(items: List<T>, others: List<T>) -> Result<List<T>, AllocEr
     Ok(List::from_vec(items))
 }
 
-// The distinct items of both, one behind the other.
+// The distinct items of both, one after the other.
 pub(crate) fn union<R: RowRef>(
     alloc: Global,
     first: Stream<Value<R>>,

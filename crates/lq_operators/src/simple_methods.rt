@@ -14,7 +14,7 @@ use lq_language::Simple;
 use lq_value::{End, Fault, List, RowRef, Scalar, Ty, Value};
 use std::alloc::Global;
 
-/// What a method without an argument makes of items of the type `ty`, behind which the source ends so
+/// What a method without an argument makes of items of the type `ty`, after which the source ends so
 /// (.NET, Enumerable): what each reads, where it stops and which fault it meets are as there.
 pub fn simple<R: RowRef>(
     alloc: Global,

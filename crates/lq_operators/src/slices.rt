@@ -4,14 +4,14 @@ ghost use Rattle.lq_language.specs.Enumerable.{as_count, take_first};
 
 use lq_value::{End, List};
 
-// How many items a number stands for: none where it is below 1.
+// How many items a number represents: none where it is below 1.
 pub(crate) fn as_count(number: i32) -> usize
     ensures { result ≡ as_count number }
 {
     if number < 0 { 0 } else { number as usize }
 }
 
-// What stands behind so many items.
+// What comes after so many items.
 pub(crate) fn skip<T: Drop>(count: usize, items: List<T>) -> List<T>
     ensures { result ≡ drop count items }
 {
@@ -21,7 +21,7 @@ pub(crate) fn skip<T: Drop>(count: usize, items: List<T>) -> List<T>
     List::from_vec(items)
 }
 
-// So many items, and how they end: what stands behind the last of them isn't read.
+// So many items, and how they end: what comes after the last of them isn't read.
 #[tactic(auto, using(crate::proofs::ItemLemmas::taken))]
 pub(crate) fn take_first<T: Drop>(count: usize, items: List<T>, end: End) -> (List<T>, End)
     ensures { result ≡ take_first count items end }

@@ -1,4 +1,4 @@
--- The cell under a name stands at the place of the first column of that name.
+-- The cell under a name is at the place of the first column of that name.
 use Rattle.std.proofs.Common.{◌≡◌, ◌+◌, ◌∷◌, if◌then◌else◌, suc, List, [], ℕ, Bool, true, false, Option, Some, None, ap, ◌∙◌, sym, refl, arith, bytes_eq, slice_get, option_and_then}
 use Rattle.std.specs.List.{position_from}
 use Rattle.std.specs.Prelude.{option_map}

@@ -1,4 +1,4 @@
--- A prepared rule decides as the rule that its tree stands for.
+-- A prepared rule decides as the rule that its tree represents.
 use Rattle.std.proofs.Common.{◌≡◌, List, ℕ, true, Result, Ok, Err, ap, ◌∙◌, sym, refl}
 use Rattle.lq_value.specs.declared.scalar.Scalar.{Scalar}
 use Rattle.lq_value.specs.declared.value.Fault.{Fault}

@@ -1,4 +1,4 @@
--- That the trees of total expressions stand for them, form by form.
+-- That the trees of total expressions represent them, form by form.
 use Rattle.std.proofs.Common.{◌≡◌, ◌∷◌, ◌&&◌, ◌||◌, if◌then◌else◌, not, List, [], ℕ, ℤ, Bool, true, false, Option, Some, None, Result, Ok, Err, IfSome, codes, bytes_eq, ap, ◌∙◌, sym, refl, true≢false}
 use Rattle.std.proofs.lemmas.Bool.{and_parts}
 use Rattle.std.proofs.lemmas.Slice.Eq.{bytes_eq-Decides}
@@ -102,7 +102,7 @@ read_known (Err f) cells user = read_fault cells user f
 same_op : (found o : Op) (s t : Scalar) → Some found ≡ Some o → truth fault.NullReference (searched fault.NullReference found s t) ≡ truth fault.NullReference (searched fault.NullReference o s t)
 same_op found o s t is = ap (λ (x : Op). truth fault.NullReference (searched fault.NullReference x s t)) (cc)
 
--- the operator that a method's name tells
+-- the operator that a method's name gives
 abbrev one_of : Bool → Bool → Bool → Option Op
 one_of starts ends contains = if starts then Some op.StartsWith else (if ends then Some op.EndsWith else (if contains then Some op.Contains else None))
 
@@ -341,7 +341,7 @@ module _ (columns : List (List ℕ)) where
         sign_first sign a b p q cells user given (left.same parts.0 cells user) (right.same parts.1 cells user);
   }
 
-  -- what is like the tree of such a sign stands as it does
+  -- what is like the tree of such a sign represents what it does
   pub stands_operation : (sign : Binary) (a b : Expr) (p q o : Prepared) → StandsFor columns a p → StandsFor columns b q
       → ((cells : List Scalar) (user : List ℕ) → read o cells user ≡ read (prepared.Binary sign p q) cells user)
       → StandsFor columns (expr.Node (node.Binary sign a b)) o

@@ -16,7 +16,7 @@ impl PreparedRule {
     ghost use Rattle.lq_security.specs.Totality.{is_total};
     ghost use Rattle.lq_rule.specs.Deciding.{DecidesAs, decides};
 
-    /// Prepares a rule, which is total, for rows with these columns. Copies the texts that stand in it;
+    /// Prepares a rule, which is total, for rows with these columns. Copies the texts that are in it;
     /// on a row it then takes no memory.
     #[tactic(auto, using(crate::proofs::DecidingLemmas::decides_as))]
     pub fn prepare(alloc: Global, columns: &[Txt], rule: &Expr) -> Result<PreparedRule, AllocError>

@@ -1,4 +1,4 @@
--- What a rule is on a row, by its evaluation; a total one makes no text.
+-- What a rule is on a row, by its evaluation; a total one builds no text.
 use Rattle.std.proofs.Common.{◌≡◌, List, ℕ, Bool, true, false, Result, Ok, Err, ap, ◌∙◌, sym, map, arith}
 use Rattle.std.proofs.lemmas.List.{map-id}
 use Rattle.std.specs.Result.{result_unwrap_or}
@@ -25,6 +25,6 @@ rule_decides columns cells user rule total (Err (error.Fault f)) h spares = sym 
 rule_decides columns cells user rule total (Err error.Memory) h spares =
     absurd (let none : sums_in rule ≡ 0 = total_has_no_sum rule ((tells_total rule).0 total) in omega (arith, none, spares))
 
--- names tell themselves
+-- names give themselves
 pub names_themselves : (names : List (List ℕ)) → map (λ (name : List ℕ). name) names ≡ names
 names_themselves names = map-id names

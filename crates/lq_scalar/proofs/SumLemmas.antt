@@ -1,4 +1,4 @@
--- How many `+` stand in an expression, form by form; in a rule that is total stands none.
+-- How many `+` there are in an expression, form by form; in a rule that is total there is none.
 use Rattle.std.proofs.Common.{◌≡◌, ◌+◌, ◌∷◌, List, [], ℕ, ℤ, Bool, true, ap, ap₂, ◌∙◌, refl}
 use Rattle.lq_language.specs.Members.{sole_argument}
 use Rattle.lq_security.specs.Totality.{Claim, Holds, IsTotal, Sure, Total, is_division, sure_coalesce, sure_conditional, sure_text, sure_user, total_and, total_coalesce, total_column, total_comparison, total_conditional, total_division, total_has_value, total_integer, total_minus, total_not, total_null, total_or, total_search, total_text, total_truth, total_user}
@@ -115,6 +115,6 @@ no_sum (sure_coalesce e a b is h k) = ap sums_in is ∙ sums_coalesce a b ∙ tw
 no_sum (sure_conditional e c a b is h k l) =
     ap sums_in is ∙ sums_choice c a b ∙ two (sums_in c) (sums_in a + sums_in b) (no_sum h) (two (sums_in a) (sums_in b) (no_sum k) (no_sum l))
 
--- in a rule that is total stands no `+`
+-- in a rule that is total there is no `+`
 pub total_has_no_sum : (e : Expr) → IsTotal e → sums_in e ≡ 0
 total_has_no_sum e h = no_sum h

@@ -1,4 +1,4 @@
--- What names stand for, as an evaluation finds it.
+-- What names refer to, as an evaluation finds it.
 use Rattle.std.specs.Prelude.{List, ℕ, Option, Some, None, Result, Ok, Err}
 use Rattle.lq_value.specs.declared.scalar.Scalar.{Scalar}
 use Rattle.lq_value.specs.declared.ty.Ty.{Ty}
@@ -41,7 +41,7 @@ abbrev pub row_in : {R : Type 0} → Value-F R (Value R) → Option R
 row_in (Value-F.Row r) = Some r
 row_in layer = None
 
--- the row that a local name stands for
+-- the row that a local name refers to
 abbrev pub row_at : {R : Type 0} → Option (Binding R) → Option R
 row_at None = None
 row_at {R} (Some b) = row_in (out-Value R b.value)
@@ -56,18 +56,18 @@ pub data Shape (R : Type 0) : Type 0 where
   TheRow : Option R → Shape R
   TheScalar : Scalar → Shape R
 
--- the row or scalar that a value is; anything else is none
+-- the row or scalar that a value is; anything else isn't one
 abbrev pub shape_in : {R : Type 0} → Value-F R (Value R) → Result (Shape R) Fault
 shape_in (Value-F.Row r) = Ok (TheRow (Some r))
 shape_in (Value-F.Scalar s) = Ok (TheScalar s)
 shape_in layer = Err fault.NullReference
 
--- the row or scalar that a local name stands for
+-- the row or scalar that a local name refers to
 abbrev pub shape_at : {R : Type 0} → Option (Binding R) → Result (Shape R) Fault
 shape_at None = Err fault.NullReference
 shape_at {R} (Some b) = shape_in (out-Value R b.value)
 
--- what is named, where the name stands for this row if for one
+-- what is named, where the name refers to this row if to one
 abbrev pub shown_named : {R : Type 0} → Option R → Option Named → Result (Shape R) Fault
 shown_named row None = Err fault.NullReference
 shown_named row (Some named.Row) = Ok (TheRow row)

@@ -80,11 +80,11 @@ same_parts v w = Err fault.NullReference
 abbrev pub told_parts : Binary → Option Scalar → Option Scalar → Result Bool Fault
 told_parts sign v w = on_ok (same_parts v w) (λ same. Ok (told sign same))
 
--- what `==` or `!=` tells of two
+-- what `==` or `!=` gives for two
 abbrev pub told_shapes : {R : Type 0} → Binary → Shape R → Shape R → Result Bool Fault
 told_shapes sign v w = told_parts sign (scalar_part v) (scalar_part w)
 
--- an operator that evaluates two scalars, which stand where expressions of these types do
+-- an operator that evaluates two scalars, which are where expressions of these types are
 abbrev pub operated_scalars : Binary → Option Ty → Option Ty → Scalar → Scalar → Result Scalar Fault
 operated_scalars sign t u x y = of_two fault.NullReference (operation_on sign t u x y) x y
 
@@ -108,13 +108,13 @@ truth_of_expression world scope e = on_ok (shape_of world scope e) truth_in
 
 -- ---- what the evaluation answers
 
--- an operand, by the row that a name stands for
+-- an operand, by the row that a name refers to
 abbrev pub shown_operand : {R : Type 0} → Scope R → Operand → Shape R
 shown_operand scope (operand.Row x) = TheRow (row_at (binding_of x.now scope))
 shown_operand scope (operand.Scalar s) = TheScalar (shown_scalar s)
 shown_operand scope (operand.Made t) = TheScalar (scalar.Text t)
 
--- The answer is the row or scalar that is meant, or its fault; or memory was refused for a text, where so many `+` stand.
+-- The answer is the row or scalar that is meant, or its fault; or memory was refused for a text, where there are so many `+`.
 abbrev pub IsOperand : {R : Type 0} → Scope R → ℕ → Result (Shape R) Fault → Result Operand ScalarError → Type 0
 IsOperand scope sums meant (Ok found) = meant ≡ Ok (shown_operand scope found)
 IsOperand scope sums meant (Err (error.Fault f)) = meant ≡ Err f
@@ -136,7 +136,7 @@ IsTruth meant (Ok b) = meant ≡ Ok b
 IsTruth meant (Err (error.Fault f)) = meant ≡ Err f
 IsTruth meant (Err error.Memory) = Unit {0}
 
--- Memory was refused only where so many `+` stand, if any.
+-- Memory was refused only where there are so many `+`, if any.
 abbrev pub IsSparing : {A : Type 0} → ℕ → Result A ScalarError → Type 0
 IsSparing sums (Err error.Memory) = 0 < sums
 IsSparing sums answer = Unit {0}
@@ -145,7 +145,7 @@ IsSparing sums answer = Unit {0}
 abbrev pub IsEvaluated : {R : Type 0} → World R → Scope R → Expr → Result Operand ScalarError → Type 0
 IsEvaluated world scope e found = IsOperand scope (sums_in e) (shape_of world scope e) found
 
--- an operand that is no fault
+-- an operand that isn't a fault
 abbrev pub shown_operands : {R : Type 0} → Scope R → Result Operand Fault → Result (Shape R) Fault
 shown_operands scope (Ok found) = Ok (shown_operand scope found)
 shown_operands scope (Err f) = Err f

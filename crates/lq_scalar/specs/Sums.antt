@@ -1,4 +1,4 @@
--- Where an evaluation may make a text: how many `+` stand in an expression that is evaluated here.
+-- Where an evaluation may build a text: how many `+` there are in an expression that is evaluated here.
 use Rattle.std.specs.Prelude.{◌+◌, ℕ, Option, Some, None}
 use Rattle.lq_language.specs.Members.{sole_argument}
 use Rattle.lq_grammar.specs.declared.syntax.Binary.{Binary}

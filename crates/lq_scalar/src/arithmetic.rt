@@ -8,7 +8,7 @@ use crate::scalar_ref::ScalarRef;
 use lq_language::Op;
 use lq_value::Fault;
 
-/// What an operator of arithmetic gives to two numbers: null, where one is null. None stands for null.
+/// What an operator of arithmetic gives to two numbers: null, where one is null. None represents null.
 pub(crate) fn arithmetic(
     op: Op,
     left: ScalarRef<'_>,

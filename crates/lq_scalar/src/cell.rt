@@ -5,7 +5,7 @@ ghost use Rattle.lq_language.specs.TableRows.{cell_named};
 
 use lq_value::{Column, Scalar, Txt};
 
-/// What tells a column's name: the name itself, or the column.
+/// What gives a column's name: the name itself, or the column.
 pub trait ColumnName {
     ghost use Rattle.std.specs.Prelude.{◌≡◌, List, ℕ};
 

@@ -16,9 +16,9 @@ use std::alloc::Global;
 /// A scalar as it was evaluated.
 #[derive(Drop)]
 pub enum Found<'a> {
-    /// One that stands in a literal, a name or a cell, or is small.
+    /// One that is in a literal, a name or a cell, or is small.
     Borrowed(ScalarRef<'a>),
-    /// A text that was made.
+    /// A text that was built.
     Made(Txt),
 }
 
@@ -38,7 +38,7 @@ impl Found<'_> {
     }
 }
 
-/// The scalar that an expression means where these names stand, or its first fault. Copies no text
+/// The scalar that an expression means under these names, or its first fault. Copies no text
 /// that is there, and takes memory for texts that `+` makes and for nothing else.
 ///
 /// An expression that is a row or a sequence gives NullReference.
@@ -62,7 +62,7 @@ pub fn evaluate<'a, N: Names>(
     }
 }
 
-/// The truth value that a condition means where these names stand, or its first fault. Takes memory
+/// The truth value that a condition means under these names, or its first fault. Takes memory
 /// for texts that `+` makes and for nothing else.
 pub fn truth<N: Names>(alloc: Global, names: &N, condition: &Expr) -> Result<bool, ScalarError>
     ensures meant { IsTruth (truth_of_expression (N.world names.now) (N.scope names.now) condition.now)
@@ -76,7 +76,7 @@ pub fn truth<N: Names>(alloc: Global, names: &N, condition: &Expr) -> Result<boo
     evaluation.truth(condition)
 }
 
-/// The scalar that an expression means where these names stand, as a value of its own, or its first
+/// The scalar that an expression means under these names, as a value of its own, or its first
 /// fault. Takes memory for a text.
 pub fn eval<N: Names>(alloc: Global, expression: &Expr, names: &N) -> Result<Scalar, ScalarError>
     ensures { IsAnswer (scalar_of_expression (N.world names.now) (N.scope names.now)

@@ -25,7 +25,7 @@ fn is_equality(sign: Binary) -> bool
     matches!(sign, Binary::Equal | Binary::NotEqual)
 }
 
-/// What `==` or `!=` tells of two operands, where None stands for a row: scalars by their contents,
+/// What `==` or `!=` gives for two operands, where None represents a row: scalars by their contents,
 /// and a row isn't null.
 fn told_parts(
     sign: Binary,
@@ -45,9 +45,9 @@ fn told_parts(
     }
 }
 
-// What follows takes operands by value, so that a text that was made is let go in one place.
+// What follows takes operands by value, so that a text that was built is let go in one place.
 
-/// What `==` or `!=` tells of two operands.
+/// What `==` or `!=` gives for two operands.
 #[inline(never)]
 fn told<'a>(sign: Binary, left: Operand<'_>, right: Operand<'_>) -> Result<ScalarRef<'a>, Fault>
     requires { is_equality sign ≡ true }
@@ -80,7 +80,7 @@ fn searched<'a>(
     search(method, text.scalar()?, needle.scalar()?)
 }
 
-/// Where expressions are evaluated: what their names stand for, and what makes their texts.
+/// Where expressions are evaluated: what their names refer to, and what makes their texts.
 #[derive(Drop)]
 pub(crate) struct Evaluation<'a, N, T> {
     pub(crate) names: &'a N,
@@ -105,7 +105,7 @@ impl<'a, N: Names, T: Joins> Evaluation<'a, N, T> {
     ghost use Rattle.lq_scalar.specs.Sums.{sum_sign, sums_in, sums_of_argument};
     ghost use Rattle.lq_scalar.specs.Shapes.{IsEvaluated, IsOperand, IsSparing, IsTruth, shape_of_argument, truth_of_expression, scalar_or_fault, member_of_null, member_shape, operated_scalars, scalar_shape, shape_of, shown_operand, shown_operands};
 
-    /// What a name stands for.
+    /// What a name refers to.
     fn named(&self, name: &'a str) -> Result<Operand<'a>, Fault>
         ensures { shown_operands (N.scope self.now.names.now) result
             ≡ shape_at (binding_of name.now (N.scope self.now.names.now)) }
@@ -117,7 +117,7 @@ impl<'a, N: Names, T: Joins> Evaluation<'a, N, T> {
         }
     }
 
-    /// The column of the row that a name stands for.
+    /// The column of the row that a name refers to.
     fn cell(&self, row: &str, column: &str) -> Result<ScalarRef<'a>, Fault>
         ensures { shown_scalars result ≡ scalar_or_fault
             (cell_in (N.world self.now.names.now) column.now

@@ -1,4 +1,4 @@
-//! What the names of an expression stand for, and the types of what it holds.
+//! What the names of an expression refer to, and the types of what it holds.
 ghost use Rattle.std.specs.Prelude.{◌≡◌};
 ghost use Rattle.lq_language.specs.Names.{type_of_column};
 ghost use Rattle.lq_language.specs.OperandTypes.{is_scalar};
@@ -50,7 +50,7 @@ impl ExprType {
     }
 }
 
-/// What a name stands for where an expression is evaluated.
+/// What a name refers to where an expression is evaluated.
 #[derive(Clone, Copy, Drop)]
 pub enum Named<'a> {
     /// A row.
@@ -59,7 +59,7 @@ pub enum Named<'a> {
     Scalar(ScalarRef<'a>),
 }
 
-/// The names of a place: the types that they have, the scalars and rows that they stand for, and
+/// The names of a place: the types that they have, the scalars and rows that they refer to, and
 /// the cells of these rows.
 pub trait Names {
     ghost use Rattle.std.specs.Prelude.{◌≡◌, option_map};
@@ -89,12 +89,12 @@ pub trait Names {
         ensures { option_map shown_type result
             ≡ column_type (world self.now).schemas table column.now };
 
-    /// The row or scalar that a local name stands for.
+    /// The row or scalar that a local name refers to.
     fn named(&self, name: &str) -> Option<Named<'_>>
         ensures { shown_named (row_at (binding_of name.now (scope self.now))) result
             ≡ shape_at (binding_of name.now (scope self.now)) };
 
-    /// The cell of the row that a local name stands for, under the column of this name.
+    /// The cell of the row that a local name refers to, under the column of this name.
     fn cell(&self, row: &str, column: &str) -> Option<&Scalar>
         ensures { option_copied result ≡ cell_in (world self.now) column.now
             (row_at (binding_of row.now (scope self.now))) };

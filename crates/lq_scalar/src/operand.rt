@@ -1,15 +1,15 @@
-//! Operands as they are evaluated: rows by their names, and scalars, borrowed where they stand.
+//! Operands as they are evaluated: rows by their names, and scalars, borrowed where they are.
 use crate::scalar_ref::ScalarRef;
 use lq_value::{Fault, Txt};
 
 /// What an expression is where it is evaluated.
 #[derive(Drop)]
 pub(crate) enum Operand<'a> {
-    /// The row that a local name stands for.
+    /// The row that a local name refers to.
     Row(&'a str),
     /// A scalar, borrowed from a literal, a name or a cell, or small.
     Scalar(ScalarRef<'a>),
-    /// A text that was made.
+    /// A text that was built.
     Made(Txt),
 }
 
@@ -32,7 +32,7 @@ impl Operand<'_> {
         }
     }
 
-    /// The scalar that it is. A row is none, and no typed expression has one where a scalar is asked
+    /// The scalar that it is. A row isn't one, and no typed expression has one where a scalar is asked
     /// for.
     pub(crate) fn scalar(&self) -> Result<ScalarRef<'_>, Fault>
         ensures { shown_scalars result ≡ operand_scalar self.now }
@@ -50,7 +50,7 @@ impl Operand<'_> {
         }
     }
 
-    /// Whether it is null. A row is none.
+    /// Whether it is null. A row isn't.
     pub(crate) fn is_null(&self) -> Result<bool, Fault>
         ensures { result ≡ on_ok (operand_scalar self.now) (λ s. Ok (is_null s)) }
     {

@@ -4,7 +4,7 @@ ghost use Rattle.std.specs.Prelude.{◌≡◌};
 use lq_value::{Scalar, Txt};
 use std::alloc::{AllocError, Global};
 
-/// A scalar as an operand, borrowed from the cell or value that it stands in.
+/// A scalar as an operand, borrowed from the cell or value that it is in.
 #[derive(Clone, Copy, Drop)]
 pub enum ScalarRef<'a> {
     /// Null.

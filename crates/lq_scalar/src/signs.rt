@@ -13,7 +13,7 @@ use lq_language::Op;
 use lq_value::Fault;
 
 /// What a sign between two numbers gives: what they compare as, or their sum and the like. Takes no
-/// memory. `==` and `!=` compare any two of one kind; other operands that are no numbers, which no
+/// memory. `==` and `!=` compare any two of one kind; other operands that aren't numbers, which no
 /// typed expression has here, give NullReference where none is null.
 pub fn operate<'a>(
     operator: Binary,

@@ -17,7 +17,7 @@ use std::alloc::{AllocError, Global};
 pub(crate) trait Joins: Copy {
     ghost use Rattle.std.specs.Prelude.{◌≡◌, ◌++◌, IfOk};
 
-    /// One text behind the other.
+    /// One text after the other.
     fn concatenated(self, left: &str, right: &str) -> Result<Txt, AllocError>
         ensures { IfOk result (λ text. text ≡ left.now ++ right.now) };
 }
@@ -30,7 +30,7 @@ impl Joins for Global {
     }
 }
 
-/// What makes no text: for expressions in which no `+` stands.
+/// What makes no text: for expressions in which there is no `+`.
 #[derive(Clone, Copy, Drop)]
 pub(crate) struct NoTexts;
 
@@ -40,7 +40,7 @@ impl Joins for NoTexts {
     }
 }
 
-/// Two texts, one behind the other; null is taken as empty.
+/// Two texts, one after the other; null is taken as empty.
 pub(crate) fn joined<T: Joins>(
     texts: T,
     left: ScalarRef<'_>,
@@ -84,7 +84,7 @@ fn utf16_units(text: &str) -> Option<i32>
 
 /// Whether a text begins with another, ends with it or has it somewhere, as the operator says (.NET,
 /// `String.StartsWith` and the like, by the bytes of UTF-8). Takes no memory. NullReference where one of
-/// them is no text, and for any other operator.
+/// them isn't a text, and for any other operator.
 pub fn searched(op: Op, text: ScalarRef<'_>, needle: ScalarRef<'_>) -> Result<bool, Fault>
     ensures { result ≡ searched fault.NullReference op (shown_scalar text.entry)
         (shown_scalar needle.entry) }

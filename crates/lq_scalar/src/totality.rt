@@ -9,7 +9,7 @@ ghost use Rattle.lq_grammar.specs.declared.syntax.Expr.TheVariants as expr;
 use crate::comparison::is_comparison;
 use lq_grammar::{Argument, Binary, Expr, Node, Unary};
 
-/// What is known of an expression of a rule by its form. Both are told at once, so that no expression
+/// What is known of an expression of a rule by its form. Both are decided at once, so that no expression
 /// is looked at twice.
 #[derive(Clone, Copy, Drop)]
 struct Strength {

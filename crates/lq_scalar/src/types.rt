@@ -124,7 +124,7 @@ fn joined_type(operator: Binary, left: ExprType, right: ExprType) -> Option<Expr
     }
 }
 
-/// The type of what an operator gives to operands of these types; None where it takes no such.
+/// The type of what an operator gives to operands of these types; None where it doesn't take such.
 fn result_type(operator: Binary, left: ExprType, right: ExprType) -> Option<ExprType>
     ensures { option_map shown_type result
         ≡ operated_type operator (layer_of left) (layer_of right) }
@@ -193,7 +193,7 @@ fn member_type<N: Names>(names: &N, member: &str, operand: ExprType) -> Option<E
     }
 }
 
-/// The type of an expression where these names stand; None where it has none.
+/// The type of an expression under these names; None where it has none.
 #[cycle(types)]
 #[tactic(auto, using(crate::proofs::TypeLaws::types))]
 pub fn type_of<N: Names>(names: &N, expression: &Expr) -> Option<ExprType>

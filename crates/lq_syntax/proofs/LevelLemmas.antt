@@ -8,7 +8,7 @@ use Rattle.lq_grammar.specs.Depth.{Opens, Closes, Weighs, behind_token, is_past,
 use Rattle.lq_syntax.specs.Levels.{IsWithin, levels_of, levels_to}
 use Rattle.lq_syntax.specs.declared.depth.Levels.{Levels}
 
--- a level further in is none of those up to a place
+-- a level further in isn't one of those up to a place
 pub further_in : (weights : List ℕ) (place i x : ℕ) → place < i → levels_to (set weights i x) place ≡ levels_to weights place
 further_in weights zero i x before = ap (λ (w : ℕ). w ∷ []) (get_or-set_other weights i 0 x 0 (λ e. omega (arith, before, e)))
 further_in weights (suc place) i x before =

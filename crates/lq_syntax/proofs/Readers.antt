@@ -1,4 +1,4 @@
--- What is read behind the first token.
+-- What is read after the first token.
 use Rattle.std.proofs.Common.{◌≡◌, ℕ, suc, Bool, true, false, List, [], ◌∷◌, ◌++◌, refl, cond, length, ◌-◌}
 use Rattle.std.specs.Prelude.{Option, Some, None, ◌==◌, slice_get, is_some}
 use Rattle.std.proofs.lemmas.Option.{some_pair_parts}
@@ -125,7 +125,7 @@ module _ (line : List ℕ) (inner : Level → Parser Expr) where
   unfolding continuations after
   a_continuation n rest tokens mid left out into x b begins goes_on named bodied = rw (begins, goes_on) (rw named (rw bodied refl))
 
-  -- one turn over members and methods behind an expression
+  -- one turn over members and methods after an expression
   pub a_member : (n : ℕ) (x : Expr) (tokens mid left : List Token) (dot : Token) (m : List ℕ) → begins_with k.Dot tokens ≡ true → expect k.Dot tokens ≡ Some (dot, mid)
       → name line mid ≡ Some (m, left) → begins_with k.LeftParenthesis left ≡ false → selections line inner (suc n) x tokens ≡ selections line inner n (member_of x m) left
   unfolding selections after

@@ -7,7 +7,7 @@ use Rattle.lq_syntax.specs.declared.error.ParseError.TheVariants as parse
 use Rattle.lq_syntax.specs.declared.error.SyntaxError.{SyntaxError}
 use Rattle.lq_syntax.specs.declared.error.SyntaxError.TheVariants as syntax
 
--- what was read is what the reading function finds, and the tokens behind it are left
+-- what was read is what the reading function finds, and the tokens after it are left
 abbrev pub Reads : {A : Type 0} → Option (A × List Token) → Result A ParseError → List Token → Type 0
 Reads outcome (Ok x) behind = outcome ≡ Some (x, behind)
 Reads outcome (Err parse.Syntax) behind = outcome ≡ None
@@ -25,7 +25,7 @@ abbrev pub syntax_error : ParseError → SyntaxError
 syntax_error parse.Memory = syntax.Memory
 syntax_error parse.Syntax = syntax.Syntax
 
--- the token that comes next; a semicolon ends each statement, so it stands for none
+-- the token that comes next; a semicolon ends each statement, so it represents none
 abbrev pub next_token : List Token → Token
 next_token [] = record { kind = k.Semicolon; start = 0; end = 0 }
 next_token (token ∷ tokens) = token

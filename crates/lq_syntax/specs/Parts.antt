@@ -37,17 +37,17 @@ named_by line None tokens = None
 named_by line (Some token) tokens = if same_kind token.kind k.Name then Some (text_of line token, tokens) else None
 
 module _ (line : List ℕ) (inner : Level → Parser Expr) where
-  -- behind "("
+  -- after "("
   abbrev pub parenthesized : Parser Expr
   parenthesized = inner level.Top >>= (λ x. expect k.RightParenthesis >>= (λ closing. pure x))
 
-  -- behind "Host"
+  -- after "Host"
   abbrev pub host : Parser Expr
   host =
       expect k.Dot >>= (λ dot. name line >>= (λ p. expect k.LeftParenthesis >>= (λ opening. inner level.Conditional >>= (λ x.
       expect k.RightParenthesis >>= (λ closing. pure (expr.Node (node.Host p (x ∷ []))))))))
 
-  -- behind "new"
+  -- after "new"
   abbrev pub record_of : Parser Expr
   record_of = expect k.LeftBrace >>= (λ opening. fields line inner >>= (λ fs. pure (expr.Node (node.New fs))))
 
@@ -59,44 +59,44 @@ module _ (line : List ℕ) (inner : Level → Parser Expr) where
   abbrev pub named_last : Parser (Field Expr)
   named_last tokens = (inner level.Primary >>= (λ x left. field_by line inner x (last_before line inner tokens left) left)) tokens
 
-  -- behind "from"
+  -- after "from"
   abbrev pub from_clause : Parser (Clause Expr)
   from_clause = name line >>= (λ x. source line inner >>= (λ s. pure (clause.From x s)))
 
-  -- behind "join" name "in" cond
+  -- after "join" name "in" cond
   abbrev pub join_behind : List ℕ → Expr → Parser (Clause Expr)
   join_behind x s =
       expect k.On >>= (λ on. inner level.Conditional >>= (λ outer. expect k.Equals >>= (λ equals. inner level.Conditional >>= (λ own. group_name line inner >>= (λ g.
       pure (clause.Join (record { name = x; source = s; outer_key = outer; inner_key = own; into = g })))))))
 
-  -- behind "let"
+  -- after "let"
   abbrev pub let_clause : Parser (Clause Expr)
   let_clause = name line >>= (λ x. expect k.Assign >>= (λ assign. inner level.Conditional >>= (λ v. pure (clause.Let x v))))
 
-  -- behind "var"
+  -- after "var"
   abbrev pub definition : Parser Statement
   definition = name line >>= (λ n. expect k.Assign >>= (λ assign. value_and_end line inner >>= (λ x. pure (statement.Define n x))))
 
-  -- behind a name
+  -- after a name
   abbrev pub assignment : Token → Parser Statement
   assignment token = expect k.Assign >>= (λ assign. value_and_end line inner >>= (λ x. pure (statement.Assign (text_of line token) x)))
 
-  -- behind "as"
+  -- after "as"
   abbrev pub role : Parser Statement
   role = name line >>= (λ r. expect k.Semicolon >>= (λ semicolon. pure (statement.As r)))
 
-  -- behind "insert"
+  -- after "insert"
   abbrev pub insertion : Parser Statement
   insertion =
       name line >>= (λ t. expect k.LeftParenthesis >>= (λ opening. cells line >>= (λ cs. expect k.RightParenthesis >>= (λ closing. expect k.Semicolon >>= (λ semicolon.
       pure (statement.Insert t cs))))))
 
-  -- behind "delete"
+  -- after "delete"
   abbrev pub deletion : Parser Statement
   deletion =
       name line >>= (λ t. name line >>= (λ x. expect k.Arrow >>= (λ arrow. inner level.Conditional >>= (λ c. expect k.Semicolon >>= (λ semicolon. pure (statement.Delete t x c))))))
 
-  -- a clause behind its first word
+  -- a clause after its first word
   abbrev pub clause_behind : Kind → Parser (Clause Expr)
   clause_behind word = found_or_refuse (clause_by line inner word)
 
@@ -106,7 +106,7 @@ module _ (line : List ℕ) (inner : Level → Parser Expr) where
   abbrev pub all_continuations : Parser (List (Continuation Expr))
   all_continuations tokens = continuations line inner (length tokens) [] tokens
 
--- behind a minus sign in a cell
+-- after a minus sign in a cell
 abbrev pub cell_behind_minus : List ℕ → Parser Scalar
 cell_behind_minus line = expect k.Integer >>= (λ digits. cell_below_zero line (decimal_value (text_of line digits)))
 

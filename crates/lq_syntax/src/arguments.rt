@@ -52,7 +52,7 @@ impl<'a, F: Fn(Global, &[u8], &mut Tokens<'_>, usize, Level) -> Result<Expr, Par
         Ok(arguments)
     }
 
-    /// Behind `(`: `[arg {"," arg}] ")"`
+    /// After `(`: `[arg {"," arg}] ")"`
     #[tactic(auto, unfolding(lq_grammar::specs::Parsing::arguments, lq_grammar::specs::Parsing::after))]
     pub fn arguments(&self, tokens: &mut Tokens<'_>) -> Result<List<Argument<Expr>>, ParseError>
         requires { Nests self.now.depth (F.pre self.now.inner) (F.post self.now.inner) }

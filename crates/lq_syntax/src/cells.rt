@@ -21,7 +21,7 @@ fn number(value: Option<i32>) -> Result<Scalar, ParseError>
     }
 }
 
-/// Behind a minus sign: the digits of a number.
+/// After a minus sign: the digits of a number.
 fn below_zero(line: &[u8], tokens: &mut Tokens<'_>) -> Result<Scalar, ParseError>
     ensures { Reads (part.cell_behind_minus line.now tokens.old) result tokens.new }
 {
@@ -29,7 +29,7 @@ fn below_zero(line: &[u8], tokens: &mut Tokens<'_>) -> Result<Scalar, ParseError
     number(literals::negative_of(literals::bytes_of(line, digits)))
 }
 
-/// A cell, behind its first token.
+/// A cell, after its first token.
 fn cell_by(
     alloc: Global,
     line: &[u8],

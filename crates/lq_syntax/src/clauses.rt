@@ -80,7 +80,7 @@ impl<'a, F: Fn(Global, &[u8], &mut Tokens<'_>, usize, Level) -> Result<Expr, Par
         Ok(Some(literals::name(self.alloc, self.line, tokens)?))
     }
 
-    /// Behind `join name "in" cond`: `"on" cond "equals" cond ["into" name]`
+    /// After `join name "in" cond`: `"on" cond "equals" cond ["into" name]`
     fn join_behind(
         &self,
         name: Txt,
@@ -106,7 +106,7 @@ impl<'a, F: Fn(Global, &[u8], &mut Tokens<'_>, usize, Level) -> Result<Expr, Par
         }))
     }
 
-    /// Behind `join`: `name "in" cond "on" cond "equals" cond ["into" name]`
+    /// After `join`: `name "in" cond "on" cond "equals" cond ["into" name]`
     #[tactic(auto, unfolding(lq_grammar::specs::Parsing::join))]
     fn join(&self, tokens: &mut Tokens<'_>) -> Result<Clause<Expr>, ParseError>
         requires { Nests self.now.depth (F.pre self.now.inner) (F.post self.now.inner) }
@@ -118,7 +118,7 @@ impl<'a, F: Fn(Global, &[u8], &mut Tokens<'_>, usize, Level) -> Result<Expr, Par
         self.join_behind(name, source, tokens)
     }
 
-    /// Behind `from`: `name "in" cond`
+    /// After `from`: `name "in" cond`
     fn from_clause(&self, tokens: &mut Tokens<'_>) -> Result<Clause<Expr>, ParseError>
         requires { Nests self.now.depth (F.pre self.now.inner) (F.post self.now.inner) }
         ensures { Reads (part.from_clause self.now.line.now
@@ -128,7 +128,7 @@ impl<'a, F: Fn(Global, &[u8], &mut Tokens<'_>, usize, Level) -> Result<Expr, Par
         Ok(Clause::From(name, self.source(tokens)?))
     }
 
-    /// Behind `let`: `name "=" cond`
+    /// After `let`: `name "=" cond`
     fn let_clause(&self, tokens: &mut Tokens<'_>) -> Result<Clause<Expr>, ParseError>
         requires { Nests self.now.depth (F.pre self.now.inner) (F.post self.now.inner) }
         ensures { Reads (part.let_clause self.now.line.now
@@ -139,7 +139,7 @@ impl<'a, F: Fn(Global, &[u8], &mut Tokens<'_>, usize, Level) -> Result<Expr, Par
         Ok(Clause::Let(name, self.inner(tokens, Level::Conditional)?))
     }
 
-    /// A clause behind its first word, which is of the kind `word`.
+    /// A clause after its first word, which is of the kind `word`.
     fn clause(&self, word: Kind, tokens: &mut Tokens<'_>) -> Result<Clause<Expr>, ParseError>
         requires { Nests self.now.depth (F.pre self.now.inner) (F.post self.now.inner) }
         ensures { Reads (part.clause_behind self.now.line.now

@@ -52,7 +52,7 @@ impl<'a> Tokens<'a> {
         self.rest
     }
 
-    /// The next token, and those behind it.
+    /// The next token, and those after it.
     #[tactic(auto, using(lq_lex::proofs::FrontLaws::head_tail))]
     pub fn next(&self) -> Option<(Token, &'a [Token])>
         ensures { MatchOption result (self.now ≡ []) (λ found. self.now ≡ found.0 ∷ found.1.now) }
@@ -95,7 +95,7 @@ impl<'a> Tokens<'a> {
         }
     }
 
-    /// Whether a token of the kind `first` comes next, and behind it one of the kind `second`.
+    /// Whether a token of the kind `first` comes next, and after it one of the kind `second`.
     #[tactic(auto, using(crate::proofs::Fronts::two_none))]
     pub fn begins_with_two(&self, first: Kind, second: Kind) -> bool
         ensures { result ≡ parsing.begins_with_two first second self.now }
@@ -134,7 +134,7 @@ impl<'a> Tokens<'a> {
         }
     }
 
-    /// Passes over the next token if it is of this kind, and tells whether it was.
+    /// Passes over the next token if it is of this kind, and says whether it was.
     #[tactic(auto, using(crate::proofs::Fronts::eaten))]
     pub fn eat(&mut self, kind: Kind) -> bool
         ensures is { result ≡ parsing.begins_with kind self.old }

@@ -41,7 +41,7 @@ fn effect_of(kind: Kind) -> Effect
 /// The levels at a place, each with one more than the number of its tokens that weigh.
 #[derive(Drop)]
 struct Levels {
-    /// From the outermost to the innermost; what stands behind that is of levels that were closed.
+    /// From the outermost to the innermost; what comes after that is of levels that were closed.
     weights: [u32; 65],
     /// The place of the innermost, which is the number of open brackets.
     innermost: usize,
@@ -118,7 +118,7 @@ impl Levels {
         false
     }
 
-    /// Goes behind a token. Whether the place is past the limits; then the levels are no longer known.
+    /// Goes past a token. Whether the place is past the limits; then the levels are no longer known.
     #[tactic(auto, using(crate::proofs::LevelLemmas::within_limits))]
     fn go_behind(&mut self, effect: Effect) -> bool
         requires { IsWithin self.old }

@@ -17,7 +17,7 @@ impl<'a, F: Fn(Global, &[u8], &mut Tokens<'_>, usize, Level) -> Result<Expr, Par
     'a,
     F,
 > {
-    /// Whether 2147483648 comes next, which behind a minus sign is the least `int`.
+    /// Whether 2147483648 comes next, which after a minus sign is the least `int`.
     #[tactic(auto, using(crate::proofs::Readers::least_none, crate::proofs::Readers::least_some, crate::proofs::Readers::least_other))]
     fn is_least(&self, tokens: &Tokens<'_>) -> bool
         ensures { result ≡ parsing.is_least self.now.line.now
@@ -32,7 +32,7 @@ impl<'a, F: Fn(Global, &[u8], &mut Tokens<'_>, usize, Level) -> Result<Expr, Par
         }
     }
 
-    /// Behind a minus sign: 2147483648 or a unary expression.
+    /// After a minus sign: 2147483648 or a unary expression.
     #[tactic(auto, unfolding(lq_grammar::specs::Parsing::below_zero))]
     fn below_zero(&self, tokens: &mut Tokens<'_>) -> Result<Expr, ParseError>
         requires { Nests self.now.depth (F.pre self.now.inner) (F.post self.now.inner) }

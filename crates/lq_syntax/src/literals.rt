@@ -14,7 +14,7 @@ use lq_lex::{int_value, text_value};
 use lq_value::Txt;
 use std::alloc::Global;
 
-/// The greatest value that digits may spell: behind a minus sign they spell the least `int`.
+/// The greatest value that digits may spell: after a minus sign they spell the least `int`.
 const LARGEST: u32 = 2147483648;
 
 /// The bytes of the line that a token takes.
@@ -92,7 +92,7 @@ pub fn negative_of(digits: &[u8]) -> Option<i32>
     i32::try_from(-i64::from(value)).ok()
 }
 
-/// Whether digits spell 2147483648, which is an `int` behind a minus sign alone.
+/// Whether digits spell 2147483648, which is an `int` after a minus sign alone.
 pub fn is_largest(digits: &[u8]) -> bool
     ensures { result ≡ (decimal_value digits.now == 2147483648) }
 {

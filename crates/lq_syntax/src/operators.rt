@@ -30,7 +30,7 @@ fn infix_of(kind: Kind) -> Option<(usize, Infix)>
     }
 }
 
-/// The operator of a level that a sign stands for.
+/// The operator of a level that a sign represents.
 pub fn operator(level: usize, kind: Kind) -> Option<Infix>
     ensures { result ≡ grammar.operator level kind }
 {

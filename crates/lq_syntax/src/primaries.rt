@@ -20,7 +20,7 @@ impl<'a, F: Fn(Global, &[u8], &mut Tokens<'_>, usize, Level) -> Result<Expr, Par
     'a,
     F,
 > {
-    /// Behind `(`: `top ")"`
+    /// After `(`: `top ")"`
     fn parenthesized(&self, tokens: &mut Tokens<'_>) -> Result<Expr, ParseError>
         requires { Nests self.now.depth (F.pre self.now.inner) (F.post self.now.inner) }
         ensures { Reads (part.parenthesized self.now.line.now
@@ -31,7 +31,7 @@ impl<'a, F: Fn(Global, &[u8], &mut Tokens<'_>, usize, Level) -> Result<Expr, Par
         Ok(x)
     }
 
-    /// Behind `Host`: `"." name "(" cond ")"`
+    /// After `Host`: `"." name "(" cond ")"`
     fn host(&self, tokens: &mut Tokens<'_>) -> Result<Expr, ParseError>
         requires { Nests self.now.depth (F.pre self.now.inner) (F.post self.now.inner) }
         ensures { Reads (part.host self.now.line.now (expression self.now.line.now self.now.depth)
@@ -47,7 +47,7 @@ impl<'a, F: Fn(Global, &[u8], &mut Tokens<'_>, usize, Level) -> Result<Expr, Par
         Ok(Expr::Node(Node::Host(predicate, asked)))
     }
 
-    /// Behind `new`: `"{" [member {"," member} [","]] "}"`
+    /// After `new`: `"{" [member {"," member} [","]] "}"`
     fn record(&self, tokens: &mut Tokens<'_>) -> Result<Expr, ParseError>
         requires { Nests self.now.depth (F.pre self.now.inner) (F.post self.now.inner) }
         ensures { Reads (part.record_of self.now.line.now
@@ -69,7 +69,7 @@ impl<'a, F: Fn(Global, &[u8], &mut Tokens<'_>, usize, Level) -> Result<Expr, Par
         }
     }
 
-    /// A primary expression up to its first dot, behind its first token.
+    /// A primary expression up to its first dot, after its first token.
     fn start_by(&self, token: Token, tokens: &mut Tokens<'_>) -> Result<Expr, ParseError>
         requires { Nests self.now.depth (F.pre self.now.inner) (F.post self.now.inner) }
         ensures { Reads (parsing.start_by self.now.line.now

@@ -29,7 +29,7 @@ impl<'a, F: Fn(Global, &[u8], &mut Tokens<'_>, usize, Level) -> Result<Expr, Par
         Ok(x)
     }
 
-    /// Behind `var`: `name "=" top ";"`
+    /// After `var`: `name "=" top ";"`
     fn definition(&self, tokens: &mut Tokens<'_>) -> Result<Statement, ParseError>
         requires { Nests self.now.depth (F.pre self.now.inner) (F.post self.now.inner) }
         ensures { Reads (part.definition self.now.line.now
@@ -40,7 +40,7 @@ impl<'a, F: Fn(Global, &[u8], &mut Tokens<'_>, usize, Level) -> Result<Expr, Par
         Ok(Statement::Define(name, self.value_and_end(tokens)?))
     }
 
-    /// Behind a name: `"=" top ";"`
+    /// After a name: `"=" top ";"`
     fn assignment(&self, name: Token, tokens: &mut Tokens<'_>) -> Result<Statement, ParseError>
         requires { Nests self.now.depth (F.pre self.now.inner) (F.post self.now.inner) }
         ensures { Reads (part.assignment self.now.line.now
@@ -52,7 +52,7 @@ impl<'a, F: Fn(Global, &[u8], &mut Tokens<'_>, usize, Level) -> Result<Expr, Par
         Ok(Statement::Assign(name, value))
     }
 
-    /// Behind `as`: `name ";"`
+    /// After `as`: `name ";"`
     fn role(&self, tokens: &mut Tokens<'_>) -> Result<Statement, ParseError>
         requires { Nests self.now.depth (F.pre self.now.inner) (F.post self.now.inner) }
         ensures { Reads (part.role self.now.line.now (expression self.now.line.now self.now.depth)
@@ -63,7 +63,7 @@ impl<'a, F: Fn(Global, &[u8], &mut Tokens<'_>, usize, Level) -> Result<Expr, Par
         Ok(Statement::As(role))
     }
 
-    /// Behind `insert`: `name "(" cells ")" ";"`
+    /// After `insert`: `name "(" cells ")" ";"`
     fn insertion(&self, tokens: &mut Tokens<'_>) -> Result<Statement, ParseError>
         requires { Nests self.now.depth (F.pre self.now.inner) (F.post self.now.inner) }
         ensures { Reads (part.insertion self.now.line.now
@@ -77,7 +77,7 @@ impl<'a, F: Fn(Global, &[u8], &mut Tokens<'_>, usize, Level) -> Result<Expr, Par
         Ok(Statement::Insert(table, cells))
     }
 
-    /// Behind `delete`: `name name "=>" cond ";"`
+    /// After `delete`: `name name "=>" cond ";"`
     fn deletion(&self, tokens: &mut Tokens<'_>) -> Result<Statement, ParseError>
         requires { Nests self.now.depth (F.pre self.now.inner) (F.post self.now.inner) }
         ensures { Reads (part.deletion self.now.line.now
@@ -91,7 +91,7 @@ impl<'a, F: Fn(Global, &[u8], &mut Tokens<'_>, usize, Level) -> Result<Expr, Par
         Ok(Statement::Delete(table, row, condition))
     }
 
-    /// A statement behind its first token.
+    /// A statement after its first token.
     fn statement_by(&self, token: Token, tokens: &mut Tokens<'_>) -> Result<Statement, ParseError>
         requires { Nests self.now.depth (F.pre self.now.inner) (F.post self.now.inner) }
         ensures { Reads (parsing.statement_by self.now.line.now

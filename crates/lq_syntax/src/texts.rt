@@ -103,7 +103,7 @@ pub fn parse_statement(alloc: Global, line: &str) -> Result<Option<Statement>, S
 }
 
 /// Reads the rule of a row policy, a conditional expression. White space, line feeds too, and comments may
-/// stand between its tokens.
+/// be between its tokens.
 ///
 /// A text is refused as `TooDeep` and `Syntax` as a line is, also where it has no token. `Memory` says nothing
 /// of the text.

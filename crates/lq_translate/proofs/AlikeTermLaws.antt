@@ -67,7 +67,7 @@ named t n h =
     let found = name_layer (out-Term t) n h in
     (found.0, sym (roll-out-Term t) ∙ ap roll-Term found.1 ∙ rolls-Node (node.Name found.0), found.2)
 
--- a name has the type of what it stands for
+-- a name has the type of what it refers to
 pub names_typed : NamesTyped is_name term_type
 names_typed t n h names s =
     let found = named t n h in
@@ -143,7 +143,7 @@ module _ {R : Type 0} (world : World R) where
   unfolding term_meaning
   term_meaning_call c = para_call (Meaning R) (term_meaning_step world) c
 
-  -- a name means what it stands for
+  -- a name means what it refers to
   names_mean : NamesMean is_name {R = R} (term_meaning world)
   names_mean t n h s v scope =
       let found = named t n h in

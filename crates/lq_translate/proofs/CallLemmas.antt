@@ -1,4 +1,4 @@
--- The last clause of a body is the only one whose call may make the value of a `select`.
+-- The last clause of a body is the only one whose call may produce the value of a `select`.
 use Rattle.std.proofs.Common.{◌≡◌, ◌∷◌, ◌++◌, ◌&&◌, if◌then◌else◌, List, [], map, ℕ, Bool, true, false, not, Option, None, ap, ◌∙◌, refl}
 use Rattle.lq_language.specs.declared.calls.Operator.{Operator}
 use Rattle.lq_grammar.specs.declared.syntax.Clause.{Clause}
@@ -7,7 +7,7 @@ use Rattle.lq_grammar.specs.declared.syntax.Last.{Last}
 use Rattle.lq_translate.specs.Translation.{fused_value, keeps_sole, operators_of, paired_operator, widens, with_clause}
 
 module _ {X : Type 0} (is_name : X → List ℕ → Bool) (n : List ℕ) (d : Clause X) (l : Last X) where
-  -- a clause behind which another stands makes pairs
+  -- a clause that another one follows makes pairs
   pairs_first : (c : Clause X) (xs : List (Clause X)) → fused_value c (xs ++ d ∷ []) l ≡ None
   pairs_first (clause.From m f) [] = refl
   pairs_first (clause.From m f) (x ∷ xs) = refl

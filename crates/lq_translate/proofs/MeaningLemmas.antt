@@ -133,7 +133,7 @@ module _ {R X : Type 0} (is_name : X → List ℕ → Bool) (world : World R) (t
       (λ k. made (λ w. Ok (pair v w)) (matched j k qs)) (λ k. pairs_made p (joined_name j) (entry j) (entry j) refl v (matched j k qs)) (meant j.outer_key (at p v))) s.0 s.1)
       (inner j).0 (inner j).1
 
-  -- ---- a value that a call makes at once
+  -- ---- a value that a call produces at once
 
   abbrev selecting : X → Scope R → Stream (Value R)
   selecting x scope = one (meant x scope)

@@ -35,7 +35,7 @@ pub fits_any : (n : List ℕ) (sole : Bool) (p : Pattern) → Fits n (sole && fa
 fits_any n true p = tt
 fits_any n false p = tt
 
--- the type of an item behind all calls
+-- the type of an item after all calls
 abbrev ended : Option Pattern → Option Ty
 ended found = option_and_then (λ p. if_placed (Some (pattern_type p))) found
 
@@ -113,7 +113,7 @@ module _ {X : Type 0} (is_name : X → List ℕ → Bool) (typed : X → Names �
   paired_in n ops cs l p h None = refl
   paired_in n ops cs l p h (Some t) = h t
 
-  -- one whose call makes the value at once
+  -- one whose call produces the value at once
   fused : (n : List ℕ) (v : X) (p : Pattern) (o : Option Ty)
       → option_and_then (calls_type []) (option_and_then (paired_pattern typed outer p n (paired.Value v)) o)
       ≡ option_and_then (last_at (last.Select v)) (option_and_then (names_after_all typed outer []) (option_map (with_local (names_of outer p) n) o))

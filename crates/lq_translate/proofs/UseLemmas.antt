@@ -31,7 +31,7 @@ module _ {X : Type 0} (is_name : X → List ℕ → Bool) (typed : X → Names �
   abbrev texts : List (Clause X) → Last X → Names → List Use
   texts cs l names = clauses_uses typed uses outer cs l names
 
-  -- behind the last call nothing is used
+  -- after the last call nothing is used
   ended : (us : List Use) (o : Option Pattern) → us ++ under o (operators_uses typed uses outer []) ≡ us
   ended us None = append-nil us
   ended us (Some p) = append-nil us
@@ -87,7 +87,7 @@ module _ {X : Type 0} (is_name : X → List ℕ → Bool) (typed : X → Names �
   paired_in us n ops cs l p h None = append-nil (us ++ [])
   paired_in us n ops cs l p h (Some t) = λ i. append-nil us i ++ h t i
 
-  -- one whose call makes the value at once
+  -- one whose call produces the value at once
   fused : (us : List Use) (n : List ℕ) (v : X) (p : Pattern) (o : Option Ty)
       → (us ++ under o (paired_uses typed uses outer p n (paired.Value v)))
       ++ under (option_and_then (paired_pattern typed outer p n (paired.Value v)) o) (operators_uses typed uses outer [])

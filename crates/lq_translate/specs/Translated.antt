@@ -1,4 +1,4 @@
--- Whole expressions translated: each query, wherever it stands, is replaced by the calls that it stands for.
+-- Whole expressions translated: each query, wherever it is, is replaced by the calls that it is translated to.
 use Rattle.std.specs.Prelude.{List, ℕ, Bool, false}
 use Rattle.std.specs.Str.{bytes_eq}
 use Rattle.lq_language.specs.declared.calls.Call.{Call}
@@ -32,6 +32,6 @@ translated_step (Expr-F.Query q) = term.Call (call_of is_name q)
 unfoldable pub translated : Expr → Term
 translated = fold-Expr Term translated_step
 
--- the calls that a query stands for, with those of the queries in it
+-- the calls that a query is translated to, with those of the queries in it
 abbrev pub translated_query : Query Expr → Call Term
 translated_query q = call_of is_name (map_query translated q)

@@ -18,7 +18,7 @@ use Rattle.lq_translate.specs.Translated.{translated, translated_query}
 use Rattle.lq_translate.specs.Translation.{call_of}
 
 module _ {X : Type 0} (is_name : X → List ℕ → Bool) where
-  -- an expression that is a name has the type of what the name stands for
+  -- an expression that is a name has the type of what the name refers to
   abbrev pub NamesTyped : (X → Names → Option Ty) → Type 0
   NamesTyped typed = (x : X) (n : List ℕ) → is_name x n ≡ true → (names : Names) (t : Ty) → typed x (with_local names n t) ≡ Some t
 

@@ -1,4 +1,4 @@
-//! The calls of a query, whatever stands in it for expressions.
+//! The calls of a query, whatever represents the expressions in it.
 ghost use Rattle.std.specs.Prelude.{◌≡◌, ◌++◌, ◌∷◌, ◌&&◌, [], map, false, true, not, IfOk, OnOk};
 ghost use Rattle.lq_language.specs.declared.calls.Paired.TheVariants as paired;
 ghost use Rattle.lq_grammar.specs.declared.syntax.Last.TheVariants as last;
@@ -9,7 +9,7 @@ use lq_language::{Call, Operator, Paired, Part};
 use lq_value::{List, Txt};
 use std::alloc::{AllocError, Global};
 
-/// What stands for an expression, as far as the translation looks at it.
+/// What represents an expression, as far as the translation looks at it.
 pub trait Named: Drop {
     ghost use Rattle.std.specs.Prelude.{◌≡◌, List, ℕ, Bool};
 
@@ -21,7 +21,7 @@ pub trait Named: Drop {
         ensures { result ≡ naming self.now name.now };
 }
 
-/// The calls that a query stands for, made of its own parts.
+/// The calls that a query is translated to, built from its own parts.
 #[tactic(auto, unfolding(crate::specs::Translation::call_of))]
 pub fn call_of_query<X: Named>(alloc: Global, query: Query<X>) -> Result<Call<X>, AllocError>
     ensures { IfOk result (λ made. made ≡ call_of X.naming query) }
@@ -110,14 +110,14 @@ fn brings_name<X: Drop>(clause: &Clause<X>) -> bool
     !matches!(clause, Clause::Where(_) | Clause::OrderBy(_))
 }
 
-/// Whether a clause's call takes what is made of each pair.
+/// Whether a clause's call takes a result for each pair.
 fn makes_results<X: Drop>(clause: &Clause<X>) -> bool
     ensures { result ≡ has_result clause.now }
 {
     matches!(clause, Clause::From(_, _) | Clause::Join(_))
 }
 
-/// The calls of clauses none of which makes the value of a `select`.
+/// The calls of clauses none of which produces the value of a `select`.
 fn pairing_operators<X: Drop>(
     alloc: Global,
     clauses: Vec<Clause<X>>,
@@ -144,7 +144,7 @@ fn operator_of<X: Drop>(clause: Clause<X>, made: Paired<X>) -> Operator<X>
     }
 }
 
-/// Puts the calls of the last clause and of what ends the body behind the others.
+/// Puts the calls of the last clause and of what ends the body after the others.
 fn push_final<X: Named>(
     made: &mut List<Operator<X>>,
     name: &Txt,
@@ -174,7 +174,7 @@ fn push_final<X: Named>(
     Ok(())
 }
 
-/// Puts the call of what ends a body behind the others.
+/// Puts the call of what ends a body after the others.
 fn push_last<X: Named>(
     made: &mut List<Operator<X>>,
     name: &Txt,
@@ -190,7 +190,7 @@ fn push_last<X: Named>(
     }
 }
 
-/// Puts the call of a `select` behind the others, where there is one.
+/// Puts the call of a `select` after the others, where there is one.
 fn push_select<X: Named>(
     made: &mut List<Operator<X>>,
     name: &Txt,
@@ -207,7 +207,7 @@ fn push_select<X: Named>(
     made.push(Operator::Select(value))
 }
 
-/// Puts the call of a `group` behind the others.
+/// Puts the call of a `group` after the others.
 fn push_group<X: Named>(
     made: &mut List<Operator<X>>,
     name: &Txt,

@@ -1,4 +1,4 @@
-//! Whole expressions translated: a copy of each, in which every query is the calls that it stands for.
+//! Whole expressions translated: a copy of each, in which every query is replaced by the calls that it is translated to.
 ghost use Rattle.std.specs.Prelude.{◌≡◌, IfOk, map};
 ghost use Rattle.lq_language.specs.declared.calls.Term.TheVariants as term;
 ghost use Rattle.lq_grammar.specs.declared.syntax.Expr.TheVariants as expr;
@@ -28,7 +28,7 @@ impl Named for Term {
     }
 }
 
-/// The calls that a query stands for (ECMA-334, query expression translation), with those of the queries in it.
+/// The calls that a query is translated to (ECMA-334, query expression translation), with those of the queries in it.
 ///
 /// Refused where there is no memory for them, and only there.
 #[cycle(translating)]
@@ -39,7 +39,7 @@ pub fn translate(alloc: Global, query: &Query<Expr>) -> Result<Call<Term>, Alloc
     call_of_query(alloc, query)
 }
 
-/// An expression in which each query is the calls that it stands for.
+/// An expression in which each query is replaced by the calls that it is translated to.
 ///
 /// Refused where there is no memory for it, and only there.
 #[cycle(translating)]

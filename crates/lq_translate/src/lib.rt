@@ -1,4 +1,4 @@
-//! Queries as the operator calls that they stand for (ECMA-334, query expression translation).
+//! Queries as the operator calls that they are translated to (ECMA-334, query expression translation).
 //!
 //! `translate` gives exactly the calls that the definition of the translation names. By the laws of
 //! `translation_laws` these calls have the query's type, use the same tables and columns in the same

@@ -4,7 +4,7 @@ ghost use Rattle.lq_translate.specs.TranslationLaws.{CallsMeanAlike, CallsTypedA
 ghost use Rattle.lq_translate.specs.TranslationLaws.{CallsUsedAlike, TermsMeanAlike, TermsTypedAlike, TermsUsedAlike, TypedAlike, UsedAlike};
 
 /// The calls that a query is translated to mean under nested pairs what its clauses mean under names, items and ending alike,
-/// whatever its expressions are and mean, if only a name means what stands there; and they have its type, or none where it has none.
+/// whatever its expressions are and mean, provided that a name means what it refers to; and they have its type, or none where it has none.
 pub fn calls_and_clauses<R, X>()
     ensures meaning { MeansAlike R X }
     ensures typing { TypedAlike X }
@@ -20,7 +20,7 @@ pub fn terms_and_expressions<R>()
 {}
 
 /// The calls that a query is translated to use what its clauses use, tables and columns in the order of the text, whatever its
-/// expressions are, if only a name uses nothing where it is a local one.
+/// expressions are, provided that a name uses nothing where it is a local one.
 pub fn uses_of_calls<X>()
     ensures { UsedAlike X }
 {}

@@ -74,7 +74,7 @@ module _ {R : Type 0} (world : World R) (holds : HoldsRows world) {X : Type 0} (
   abbrev mean : Form → Result (Value R) Fault
   mean f = form_meaning world f slots
 
-  -- what a form means where an item stands in one slot more
+  -- what a form means where an item is in one slot more
   abbrev mean_at : Form → Value R → Result (Value R) Fault
   mean_at f v = form_meaning world f (slots ++ v ∷ [])
 
@@ -126,7 +126,7 @@ module _ {R : Type 0} (world : World R) (holds : HoldsRows world) {X : Type 0} (
       (placed_same _ r found) v item)
       (stream_of world (mean stage.form)) s (stream_back stage s gives))))
 
-  -- a pair of what stands in the item's slot and what a form means
+  -- a pair of what is in the item's slot and what a form means
   pair_item : (p : Pattern) (n : List ℕ) (x : X) (r : Tree) → tree x (with_item places p) ≡ Some r → (v : Value R) → Item p v
       → Agree (Item (With p n r.ty)) (mean_at (form.Pair (form.Slot places.depth) r.form) v) (on_ok (meant x (bind p scope v)) (λ w. Ok (pair v w)))
   pair_item p n x r bound v item =
@@ -172,7 +172,7 @@ module _ {R : Type 0} (world : World R) (holds : HoldsRows world) {X : Type 0} (
 
   -- ---- calls that pair items
 
-  -- two items that stand in two slots more
+  -- two items that are in two slots more
   both_slots : (v w : Value R) → slots ++ v ∷ w ∷ [] ≡ (slots ++ v ∷ []) ++ w ∷ []
   both_slots v w = sym (append_behind slots (v ∷ []) (w ∷ []))
 
@@ -231,7 +231,7 @@ module _ {R : Type 0} (world : World R) (holds : HoldsRows world) {X : Type 0} (
 
   -- ---- joins
 
-  -- what matches stands as the type of the name says
+  -- what matches is as the type of the name says
   finds : (into : Option (List ℕ)) (p : Pattern) (k t u : Ty) → matched_type world.schemas tree places p into t ≡ Some u
       → (key : Value R) (qs : List (Value R × Value R)) → Every (Pair (Val k) (Val t)) qs
       → (matched world (is_some into) key qs ≡ joined_values world typed meant into key qs) × Every (Val u) (matched world (is_some into) key qs)

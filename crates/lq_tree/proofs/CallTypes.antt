@@ -32,13 +32,13 @@ locals_alike : (p : Pattern) (item : Form) (places : List Place)
 locals_alike (One n t) item places = refl
 locals_alike (With p n t) item places = ap (λ locals. (n, t) ∷ locals) (locals_alike p (form.First item) places)
 
--- the names that typing sees where an item stands in one slot more
+-- the names that typing sees where an item is in one slot more
 pub names_alike : (schemas : List Schema) (places : Places) (p : Pattern) → names_of_places schemas (with_item places p)
     ≡ names_of (names_of_places schemas places) p
 names_alike schemas places p =
     ap (λ (locals : List (List ℕ × Ty)). record { tables = schemas; session = map (λ place. place.known) places.session; locals = locals }) (sym (locals_alike p (form.Slot places.depth) places.locals))
 
--- what a stage's items stand for
+-- what a stage's items represent
 abbrev pub pattern_found : Option Stage → Option Pattern
 pattern_found found = option_map (λ stage. stage.pattern) found
 

@@ -55,7 +55,7 @@ module _ (schemas : List Schema) {X : Type 0} (tree : X → Binds) (typed : X �
       used x (with_name (with_item places p) n t) (item_unused (with_item places p) (One n t) (item_unused places p nothing)) r h
       ∙ ap (λ (ns : Names). uses x (with_local ns n t)) (names_alike schemas places p)
 
-  -- what stands behind a call uses what stood before it, and this
+  -- what comes after a call uses what came before it, and this
   abbrev Behind : List Use → Stage → Stage → Type 0
   Behind us stage next = form_uses next.form ≡ form_uses stage.form ++ us
 
@@ -293,7 +293,7 @@ module _ (schemas : List Schema) {X : Type 0} (tree : X → Binds) (typed : X �
       ∙ sym (ap (λ (o : Option Ty). uses c.source names ++ under o (behind c))
       (sym (source_found schemas tree typed alike places c.source) ∙ ap type_found source_there)))))))
     where
-      -- what is used behind the source, where its items are of this type
+      -- what is used after the source, where its items are of this type
       behind : Call X → Ty → List Use
       behind d t =
           under (sole_pattern typed names d.name t)

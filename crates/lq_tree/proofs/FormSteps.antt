@@ -1,4 +1,4 @@
--- A fold of a form is a step over its folded layer; so is what the form means. A sequence is enumerated as the stream that it is made of.
+-- A fold of a form is a step over its folded layer; so is what the form means. A sequence is enumerated as the stream that it consists of.
 use Rattle.std.proofs.Common.{◌≡◌, Ok, ap, ◌∙◌}
 use Rattle.lq_value.specs.declared.value.Value.{Value}
 use Rattle.lq_value.specs.declared.value.Value.TheVariants.{outs-Seq}

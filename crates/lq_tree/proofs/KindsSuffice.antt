@@ -1,4 +1,4 @@
--- What is run on operands of the kinds that are asked of them means the same whatever stands where there is no meaning: by induction over
+-- What is run on operands of the kinds that are asked of them means the same whatever is put where there is no meaning: by induction over
 -- what is run.
 use Rattle.std.proofs.Common.{◌≡◌, ◌∷◌, ◌++◌, ◌&&◌, if◌then◌else◌, List, [], map, ℕ, zero, suc, ℤ, Bool, true, false, Some, Result, Ok, Err, ap, ap₂, ◌∙◌, not, sym, refl, subst, true≢false, option_and_then, option_map, slice_get}
 use Rattle.lq_value.specs.SameAndOrder.{same_values as same_keys}

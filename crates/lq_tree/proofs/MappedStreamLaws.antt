@@ -1,5 +1,5 @@
 -- Steps over items that are replaced, one by one: what a step gives of them is what it gave of the items, replaced. Where a step asks
--- something of an item, the answer for what stands in its place is to be the same.
+-- something of an item, the answer for what replaces it is to be the same.
 use Rattle.std.proofs.Common.{◌≡◌, ◌∷◌, if◌then◌else◌, List, [], filter, map, Bool, true, false, not, Result, Ok, Err, ap, ap₂, ◌∙◌, refl}
 use Rattle.lq_value.specs.declared.scalar.Scalar.{Scalar}
 use Rattle.lq_value.specs.declared.value.End.{End}

@@ -192,7 +192,7 @@ module _ {R : Type 0} (world : World R) (slots : Slots R) where
   second_by a b (Form-F.Literal s) is next = literal_before (mean a) (value.Scalar s) (mean b) next (literal_mean a s is)
   second_by a b layer is next = ap (λ (o : Result (Value R) Fault). on_ok o next) (pair_second a b) ∙ second_twice (mean a) (mean b) next
 
-  -- what stands beside null
+  -- what is beside null
   beside_null : (k l : Ty-F Ty) → (are_null_tests k l || are_comparable k l) ≡ true → is_object k ≡ true → l ≡ Ty-F.Null
   beside_null (Ty-F.Row n) Ty-F.Null h object = refl
   beside_null (Ty-F.Rec ms) Ty-F.Null h object = refl
@@ -219,7 +219,7 @@ module _ {R : Type 0} (world : World R) (slots : Slots R) where
   abbrev Null : Value-F R (Value R)
   Null = Value-F.Scalar scalar.Null
 
-  -- whether a value is null, as `==` with null tells it, from either side
+  -- whether a value is null, as `==` with null decides it, from either side
   abbrev AsksNull : Value R → Type 0
   AsksNull v =
       (same_operands world (out-Value R v) Null ≡ Ok (is_null_value world (out-Value R v))) × (same_operands world Null (out-Value R v)
@@ -238,7 +238,7 @@ module _ {R : Type 0} (world : World R) (slots : Slots R) where
   asks_null v (kind.a_grouped key xs same) = asks_by v _ _ same (outs-value-Group key xs) refl refl
   asks_null v (kind.no_object same) = asks_by v _ _ same (outs-Scalar scalar.Null) refl refl
 
-  -- what two operands tell, where it is known whether they are the same
+  -- what two operands give, where it is known whether they are the same
   told_agree : (sign : Binary) (x : Result (Value R) Fault) (o : Result Bool Fault) (b : Bool) → o ≡ Ok b → x ≡ Ok (truth_value (told sign b))
       → Agree (Val ty.Bool) x (on_ok o (λ same. Ok (truth_value (told sign same))))
   told_agree sign x o b o_is x_is =

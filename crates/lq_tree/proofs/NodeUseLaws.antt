@@ -117,7 +117,7 @@ module _ (schemas : List Schema) where
 
   -- ---- members
 
-  -- a member that is no column
+  -- a member that isn't a column
   plain_used : (a f : Form) → form_uses f ≡ form_uses a → form_uses f ≡ form_uses a ++ []
   plain_used a f same = same ∙ sym (append_none (form_uses a))
 

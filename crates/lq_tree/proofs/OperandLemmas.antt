@@ -227,7 +227,7 @@ equal_taken binary.NotEqual k l h x y are = are
 equal_taken binary.Add k l h x y are = absurd (true≢false (sym h))
 equal_taken sign k l h x y are = absurd (true≢false (sym h))
 
--- ---- what there being a result tells of the operands' types
+-- ---- what the existence of a result says of the operands' types
 
 pub type_of_equality : (sign : Binary) (k l : Ty-F Ty) (r : Ty) → is_equality sign ≡ true → type_of_operation sign k l ≡ Some r
     → ((are_null_tests k l || are_comparable k l) ≡ true) × (ty.Bool ≡ r)
@@ -277,7 +277,7 @@ sign_taken sign k l r a b h = by (is_equality sign) refl where
       (plain.0, plain.1, λ x y x_fits y_fits. equal_taken sign k l same x y (alike_scalars k l alike x y x_fits y_fits))
   by false other = signed other (type_of_computed sign k l r other h)
 
--- what holds of the three searches in a text holds of the one that a name stands for
+-- what holds of the three searches in a text holds of the one that a name refers to
 pub search_holds : (P : Op → Type 0) (o : Op) (m : List ℕ) → search_named m ≡ Some o → P op.StartsWith → P op.EndsWith → P op.Contains → P o
 search_holds P o m h starts ends has = by (bytes_eq m (codes "StartsWith")) (bytes_eq m (codes "EndsWith")) (bytes_eq m (codes "Contains")) h where
   by : (a b c : Bool) → (if a then Some op.StartsWith else (if b then Some op.EndsWith else (if c then Some op.Contains else None))) ≡ Some o → P o

@@ -1,4 +1,4 @@
--- What an item stands for behind a call: where the call is typed, the pattern that its meaning goes on with is the one that its type has.
+-- What an item represents after a call: where the call is typed, the pattern that its meaning goes on with is the one that its type has.
 use Rattle.std.proofs.Common.{◌≡◌, List, ℕ, Option, Some, None, ap, ◌∙◌, sym, subst}
 use Rattle.std.proofs.lemmas.Option.{option_and_then_some, same_Some}
 use Rattle.lq_value.specs.declared.ty.Ty.{Ty}

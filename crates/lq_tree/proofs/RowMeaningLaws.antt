@@ -33,7 +33,7 @@ use Rattle.lq_tree.proofs.MappedMethods.{all_natural, concat_natural, contains_n
 use Rattle.lq_tree.proofs.MappedStreamLaws.{expand_natural, group_natural, join_natural, keys_natural, map_square, ok_alike, ok_by, ok_same, pair_map, select_natural, where_natural}
 use Rattle.lq_tree.proofs.MappedValueLaws.{mapped_Row, mapped_Scalar, mapped_Seq, mapped_layer, mapped_member, mapped_out, same_kept}
 
--- the world over the rows that stand for those of another, whatever its session's names stand for: no form reads these
+-- the world over the rows that represent those of another, whatever its session's names refer to: no form reads these
 abbrev pub over : {R S : Type 0} → (R → S) → World R → List (SessionValue S) → (S → List ℕ → Option Scalar) → World S
 over f world session cell = record { schemas = world.schemas; rows = map (map f) world.rows; session = session; cell = cell; unknown = world.unknown }
 
@@ -350,7 +350,7 @@ module _ {R S : Type 0} (f : R → S) (world : World R) (session : List (Session
       ap (given_meaning b method (w (map m slots))) (stream_follows (x slots) (y (map m slots)) (h slots))
       ∙ given_follows method (stream_of a (x slots)) (z slots) (w (map m slots)) (k slots)
 
-  -- an operator on the stream of what stands first
+  -- an operator on the stream of what comes first
   streamed : (next : Stream (Value R) → Stream (Value R)) (more : Stream (Value S) → Stream (Value S))
       → ((s : Stream (Value R)) → more (stream_map m s) ≡ stream_map m (next s))
       → (o : Result (Value R) Fault) (p : Result (Value S) Fault) → Follows o p

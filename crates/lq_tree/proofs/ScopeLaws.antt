@@ -1,4 +1,4 @@
--- Slots that hold a scope: what a name's place reaches, and what holds where an item stands in one slot more.
+-- Slots that hold a scope: what a name's place reaches, and what holds where an item is in one slot more.
 use Rattle.std.proofs.Common.{◌≡◌, ◌∷◌, ◌++◌, ◌+◌, arith, if◌then◌else◌, List, [], map, ℕ, Bool, true, false, Option, Some, None, Result, Ok, ap, ap₂, ◌∙◌, sym, refl, subst, bytes_eq, length, slice_get}
 use Rattle.lq_value.specs.declared.ty.Ty.{Ty}
 use Rattle.lq_value.specs.declared.ty.Ty.TheVariants as ty
@@ -41,7 +41,7 @@ module _ {R : Type 0} (world : World R) where
   abbrev Val : Ty → Value R → Type 0
   Val = IsValueOf world
 
-  -- ---- what names stand for
+  -- ---- what names refer to
 
   pub locals_same : (slots : Slots R) (places : List Place) (scope : Scope R) → ReachesAll world slots places scope
       → typed_locals scope ≡ map (λ place. (place.name, place.ty)) places
@@ -165,7 +165,7 @@ module _ {R : Type 0} (world : World R) where
       meaning_at world ((slots ++ v ∷ []) ++ more) _ (form.outs-Slot n)
       ∙ ap (λ (k : ℕ). if_there world (slice_get ((slots ++ v ∷ []) ++ more) k)) (sym is) ∙ ap (if_there world) (at_end slots v more)
 
-  -- where an item stands in one slot more
+  -- where an item is in one slot more
   pub item_stands : (slots : Slots R) (places : Places) (scope : Scope R) (p : Pattern) (v : Value R) → Stands slots places scope → IsItem p v
       → Stands (slots ++ v ∷ []) (with_item places p) (bind p scope v)
   item_stands slots places scope p v at item = (

@@ -77,7 +77,7 @@ module _ (schemas : List Schema) where
   still_by true q p o more rest h = h
   still_by false q p o more rest h = rest h
 
-  -- a name that stands before others is found as before
+  -- a name that comes before others is found as before
   found_still : (x : List ℕ) (earlier : List SessionPlace) (place p : SessionPlace) → session_place x earlier ≡ Some p
       → session_place x (earlier ++ place ∷ []) ≡ Some p
   found_still x [] place p h = absurd (none-some p h)
@@ -95,7 +95,7 @@ module _ (schemas : List Schema) where
   last_by true q o more found rest h = absurd (none-some q (sym h))
   last_by false q o more found rest h = rest h
 
-  -- one that stands at the end, where it is none of the others
+  -- one that is at the end, where it is none of the others
   found_last : (x : List ℕ) (earlier : List SessionPlace) (place : SessionPlace) → session_place x earlier ≡ None
       → session_place x (earlier ++ place ∷ []) ≡ (if bytes_eq place.known.name x then Some place else None)
   found_last x [] place h = refl
@@ -103,7 +103,7 @@ module _ (schemas : List Schema) where
       last_by (bytes_eq q.known.name x) q (session_place x earlier) (session_place x (earlier ++ place ∷ []))
       (if bytes_eq place.known.name x then Some place else None) (found_last x earlier place) h
 
-  -- the place of the definition at this number, behind the names that were defined before it
+  -- the place of the definition at this number, after the names that were defined before it
   abbrev placed_there : List SessionPlace → List Definition → ℕ → Option SessionPlace
   placed_there earlier ds i = option_map (placed_as schemas (placed_after schemas earlier (take i ds))) (slice_get ds i)
 
@@ -136,7 +136,7 @@ module _ (schemas : List Schema) where
       (found_last x earlier (placed_as schemas earlier d) none
       ∙ ap (λ (n : List ℕ). if bytes_eq n x then Some (placed_as schemas earlier d) else None) (known_name (known_of earlier) d.name d.defined))
 
-  -- the place of the definition at this number, behind the definitions before it
+  -- the place of the definition at this number, after the definitions before it
   abbrev pub placed_at : List Definition → ℕ → Option SessionPlace
   placed_at ds i = option_map (placed_as schemas (session_places schemas (take i ds))) (slice_get ds i)
 
@@ -181,7 +181,7 @@ module _ (schemas : List Schema) where
   tree_given None = refl
   tree_given (Some tree) = refl
 
-  -- what a named query's place tells is the tree of its expression
+  -- what a named query's place gives is the tree of its expression
   pub named_tree : (earlier : List SessionPlace) (name : List ℕ) (e : Expr) (opened : Opened) (depth : ℕ)
       → tree_of (known_as schemas (known_of earlier) name (of.Query e opened)).ty (defined_form schemas earlier (of.Query e opened) depth)
       ≡ tree_or_null (term_tree schemas (translated e) (places_outside earlier depth))
@@ -223,7 +223,7 @@ places_use schemas definitions all = record {
 
 -- ---- whole statements
 
--- what names tell at the places of a statement
+-- what names say at the places of a statement
 pub statement_names : (schemas : List Schema) (ds : List Definition)
     → names_of_places schemas (statement_places schemas ds) ≡ outer_names schemas (known_names schemas ds)
 statement_names schemas ds = ap (outer_names schemas) (places_known schemas ds)

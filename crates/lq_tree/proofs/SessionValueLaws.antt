@@ -1,4 +1,4 @@
--- The forms of a session's names give the values that these stand for.
+-- The forms of a session's names give the values that these refer to.
 use Rattle.std.proofs.Common.{◌≡◌, ◌∷◌, ◌++◌, List, [], map, ℕ, zero, suc, take, Option, Some, Result, Ok, Err, ap, ◌∙◌, sym, refl, subst, length}
 use Rattle.std.proofs.lemmas.List.{map-append, map-id}
 use Rattle.lq_value.specs.declared.table.Schema.{Schema}
@@ -42,10 +42,10 @@ use Rattle.lq_tree.proofs.RowFormLaws.{means_alike}
 use Rattle.lq_tree.proofs.ScopeLaws.{session_same}
 use Rattle.lq_tree.proofs.TermMeanLaws.{expressions_bound, meanings_same}
 
--- ---- no form reads what the names of the session stand for
+-- ---- no form reads what the names of the session refer to
 
 module _ {R : Type 0} (world : World R) (session : List (SessionValue R)) where
-  -- each row stands for itself
+  -- each row represents itself
   same_rows : OverRows (λ r. r) world (with_session world session)
   same_rows = record {
     schemas = refl;
@@ -127,7 +127,7 @@ module _ {R : Type 0} where
         gives_more (with_session world session) earlier world.session (placed_as world.schemas earlier d) (valued_as world d.name d.defined)
         (gives_still world session earlier world.session gives) (place_gives d is)
 
-  -- what is given behind definitions, where the names have values of their types behind each of these
+  -- what is given after definitions, where the names have values of their types after each of these
   gives_behind : (world : World R) → HoldsRows world → (earlier : List SessionPlace) → GivesAll world earlier world.session → (ds : List Definition)
       → ((n : ℕ) → IsSessionOfValues (world_after world (take n ds))) → AreDefinedAfter world.schemas (session_names world.session) ds
       → GivesAll (world_after world ds) (placed_after world.schemas earlier ds) (world_after world ds).session
@@ -155,7 +155,7 @@ places_give {R} world definitions holds none all =
 
 -- ---- whole statements
 
--- definitions change nothing but what the names of the session stand for
+-- definitions change nothing but what the names of the session refer to
 names_alone : {R : Type 0} (world : World R) (ds : List Definition) → world_after world ds ≡ with_session world (world_after world ds).session
 names_alone world [] = refl
 names_alone world (d ∷ ds) = names_alone (with_session world (world.session ++ valued_as world d.name d.defined ∷ [])) ds

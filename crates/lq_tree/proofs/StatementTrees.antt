@@ -34,7 +34,7 @@ use Rattle.lq_tree.proofs.TermMeanLaws.{call_meanings_same, meanings_same}
 use Rattle.lq_tree.proofs.TermTypeLaws.{call_types_same, types_same}
 use Rattle.lq_tree.proofs.TermUseLaws.{call_uses_same, expression_uses_same}
 
--- where a statement stands, behind its definitions
+-- where a statement is, after its definitions
 module _ {R : Type 0} (world : World R) (ds : List Definition) (holds : HoldsRows world) (none : world.session ≡ []) (all : AreDefined world.schemas ds) where
   abbrev here : World R
   here = with_session world (defining world ds).session
@@ -55,7 +55,7 @@ module _ {R : Type 0} (world : World R) (ds : List Definition) (holds : HoldsRow
 
 -- ---- conditions
 
--- what names tell at the places of a condition
+-- what names say at the places of a condition
 condition_names : (schemas : List Schema) (ds : List Definition) (x : List ℕ) (n : ℕ)
     → names_of_places schemas (condition_places schemas ds x n) ≡ with_local (outer_names schemas (known_names schemas ds)) x (ty.Row n)
 condition_names schemas ds x n = ap (λ (names : Names). with_local names x (ty.Row n)) (statement_names schemas ds)

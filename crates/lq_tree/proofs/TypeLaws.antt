@@ -165,7 +165,7 @@ member_first m (member ∷ members) =
     map_if (λ x. x.1) (bytes_eq m member.0) member (first_with (λ x. bytes_eq m x.0) members)
     ∙ ap (λ (o : Option Ty). if bytes_eq m member.0 then Some member.1 else o) (member_first m members)
 
--- what is made of the one at a position has a type that doesn't depend on the position
+-- what is built from the one at a position has a type that doesn't depend on the position
 at_position : {A : Type 0} (xs : List A) (type_at : A → Ty) (form_at : ℕ → A → Form) (o : Option ℕ)
     → type_found (option_and_then (λ n. option_map (λ x. tree_of (type_at x) (form_at n x)) (slice_get xs n)) o) ≡ option_map type_at (get_at xs o)
 at_position xs type_at form_at None = refl

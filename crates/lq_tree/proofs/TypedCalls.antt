@@ -119,7 +119,7 @@ module _ (schemas : List Schema) {X : Type 0} (tree : X → Binds)
       (source_items (with_slot shapes (shape_of stage.pattern)) (tree f (with_item places stage.pattern)) inner (at_item stage.pattern f) source)
       (paired_typed stage.pattern n inner.ty result made made_there))))))
 
-  -- what stands in the second slot of a join's result
+  -- what is in the second slot of a join's result
   matched_is : (p : Pattern) (into : Option (List ℕ)) (u t : Ty) → matched_type schemas tree places p into u ≡ Some t → matched_items (is_some into) u ≡ t
   matched_is p None u t h = same_Some u t h
   matched_is p (Some g) u t h = when_by _ _ t h (λ fresh is. same_Some (ty.Seq u) t is)

@@ -218,9 +218,9 @@ form_of_field field = record { name = field.name; value = field.value.form }
 abbrev pub fields_tree : List (Field Tree) → Tree
 fields_tree fields = tree_of (ty.Rec (map type_of_field fields)) (form.Record (map form_of_field fields))
 
--- ---- queries: what stands behind a call
+-- ---- queries: what comes after a call
 
--- what its items stand for, and the form that gives them
+-- what its items represent, and the form that gives them
 pub record Stage : Type 0 where
   pub pattern : Pattern
   pub form : Form
@@ -228,7 +228,7 @@ pub record Stage : Type 0 where
 abbrev pub stage_of : Pattern → Form → Stage
 stage_of p f = record { pattern = p; form = f }
 
--- the type of the items behind all calls is any but that of null, and their sequence's one that an expression may have
+-- the type of the items after all calls is any but that of null, and their sequence's one that an expression may have
 abbrev pub items_of_stage : Stage → Option Tree
 items_of_stage stage =
     let t = pattern_type stage.pattern in
@@ -246,17 +246,17 @@ module _ (schemas : List Schema) where
   abbrev pub member_tree : List ℕ → Tree → Option Tree
   member_tree m a = option_map settled_tree (member_layer m a.form (out-Ty a.ty))
 
-  -- a table's rows, else what a name of the session stands for
+  -- a table's rows, else what a name of the session refers to
   abbrev pub global_tree : Places → List ℕ → Option ℕ → Option Tree
   global_tree places x (Some n) = Some (tree_of (ty.Seq (ty.Row n)) (form.Table n))
   global_tree places x None = option_map (λ place. tree_of place.known.ty (place.form places.depth)) (session_place x places.session)
 
-  -- a local name's place, else what the name stands for outside
+  -- a local name's place, else what the name refers to outside
   abbrev pub name_tree : Places → List ℕ → Option Place → Option Tree
   name_tree places x (Some place) = Some (tree_of place.ty place.form)
   name_tree places x None = global_tree places x (table_number x schemas)
 
-  -- ---- what expressions hold: `tree` tells what each of them is bound to
+  -- ---- what expressions hold: `tree` says what each of them is bound to
 
   module _ {X : Type 0} (tree : X → Binds) where
     -- ---- methods
@@ -327,7 +327,7 @@ module _ (schemas : List Schema) where
     abbrev pub if_fresh : Places → Pattern → List ℕ → Option Tree → Option Tree
     if_fresh places p n found = when (is_fresh (names_of_places schemas (with_item places p)) n) found
 
-    -- what a call that pairs items makes of a pair, whose parts stand in two slots
+    -- what a call that pairs items makes of a pair, whose parts are in two slots
     abbrev pub paired_stage : Places → Pattern → List ℕ → Ty → Paired X → Option Stage
     paired_stage places p n t paired.Pair = Some (stage_of (of.With p n t) (form.Pair (form.Slot places.depth) (form.Slot (places.depth + 1))))
     paired_stage places p n t (paired.Value v) =
@@ -417,7 +417,7 @@ module _ (schemas : List Schema) where
     group_stage places key element stage =
         option_and_then (grouped_stage places element stage) (option_and_then keyed_tree (tree key (with_item places stage.pattern)))
 
-    -- what stands behind a call
+    -- what comes after a call
     abbrev pub operator_stage : Places → Operator X → Stage → Option Stage
     operator_stage places (operator.Where c) stage = where_stage places c stage
     operator_stage places (operator.Select v) stage = select_stage places v stage

@@ -42,7 +42,7 @@ TypesOfCalls =
 -- ---- meaning
 
 module _ {R : Type 0} (world : World R) where
-  -- a place stands for a name of the session: its form gives the name's value in any slots
+  -- a place represents a name of the session: its form gives the name's value in any slots
   abbrev pub Gives : SessionPlace → SessionValue R → Type 0
   Gives place s = (place.known ≡ s.known) × ((slots : Slots R) → form_meaning world (place.form (length slots)) slots ≡ Ok s.value)
 
@@ -52,7 +52,7 @@ module _ {R : Type 0} (world : World R) where
   GivesAll places others = ⊥
 
 module _ {R : Type 0} (world : World R) (slots : Slots R) where
-  -- a place stands for a local name: its form reaches the name's value, whatever stands in further slots
+  -- a place represents a local name: its form reaches the name's value, whatever is in further slots
   abbrev pub Reaches : Place → Binding R → Type 0
   Reaches place b = (place.name ≡ b.name) × (place.ty ≡ b.ty) × ((more : Slots R) → form_meaning world place.form (slots ++ more) ≡ Ok b.value)
 

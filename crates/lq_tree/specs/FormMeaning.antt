@@ -116,7 +116,7 @@ module _ {R : Type 0} (world : World R) where
   form_step (Form-F.Record fields) slots = on_ok (members_of fields slots) (λ members. Ok (value.Rec members))
   form_step (Form-F.Pair a b) slots = on_ok (a slots) (λ v. on_ok (b slots) (λ w. Ok (pair v w)))
   form_step (Form-F.Sequence a) slots = Ok (sequence (stream_of world (a slots)))
-  -- operators, each on the stream of what stands first
+  -- operators, each on the stream of what comes first
   form_step (Form-F.Simple method t a) slots = simple_meaning method t (stream_of world (a slots))
   form_step (Form-F.Given method a b) slots = given_meaning world method (b slots) (stream_of world (a slots))
   form_step (Form-F.Where a f) slots = let items = stream_of world (a slots) in as_sequence (where_by (λ v. is_true f (with_item slots v)) items.0 items.1)

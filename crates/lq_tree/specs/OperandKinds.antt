@@ -1,6 +1,6 @@
--- What kind of values the operands of each form are, told by the values alone and not by types. Where a form is run as is said here, no arm
--- of `FormMeaning`, or of what it is made of, is reached that stands for an operand of another kind: those that answer what is unknown, and
--- those that don't ask for it, which are named beside the kind that excludes them.
+-- What kind of values the operands of each form are, decided by the values alone and not by types. Where a form is run as is said here, no
+-- arm of `FormMeaning`, or of what it is built from, is reached that is there for an operand of another kind: those that answer what is
+-- unknown, and those that don't ask for it, which are named beside the kind that excludes them.
 use Rattle.std.specs.Prelude.{◌≡◌, ◌∷◌, ◌++◌, ◌&&◌, ◌||◌, List, [], map, ℕ, Bool, true, false, Some, Ok, slice_get}
 use Rattle.lq_value.specs.SameAndOrder.{IsKey}
 use Rattle.lq_value.specs.declared.scalar.Scalar.{Scalar}
@@ -136,7 +136,7 @@ module _ {R : Type 0} where
 
   -- ---- methods
 
-  -- What a method takes of each item. What is no number is left out of a sum (`numbers`), and what is no key is the same as nothing
+  -- What a method takes of each item. What isn't a number is left out of a sum (`numbers`), and what isn't a key is the same as nothing
   -- (`same_values`).
   abbrev pub Takes : Simple → Value R → Type 0
   Takes simple.Distinct v = IsKey v
@@ -210,7 +210,7 @@ module _ {R : Type 0} (world : World R) where
   matches_in j slots key =
       matched world j.grouped key (with_keys (λ w. form_meaning world j.inner_key (slots ++ w ∷ [])) (stream_of world (form_meaning world j.inner slots))).0
 
-  -- what a sort compares by one key are numbers, texts or truth values: scalars of two kinds stand in the order of their kinds (`order_of`)
+  -- what a sort compares by one key are numbers, texts or truth values: scalars of two kinds are in the order of their kinds (`order_of`)
   abbrev pub SortAlike : List (SortKey Form) → Slots R → Slots R → Type 0
   SortAlike [] slots others = Unit {0}
   SortAlike (k ∷ ks) slots others =

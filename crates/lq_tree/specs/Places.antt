@@ -1,4 +1,4 @@
--- The places of a tree: what each name in scope stands for there, and the form by which its value is reached.
+-- The places of a tree: what each name in scope refers to there, and the form by which its value is reached.
 use Rattle.std.specs.Prelude.{◌∷◌, ◌+◌, if◌then◌else◌, List, [], map, ℕ, Option, Some, None}
 use Rattle.std.specs.Str.{bytes_eq}
 use Rattle.lq_value.specs.declared.table.Schema.{Schema}

@@ -1,4 +1,4 @@
--- What a tree means depends on the rows' cells alone, and not on what stands for a row; and so does what is served.
+-- What a tree means depends on the rows' cells alone, and not on what represents a row; and so does what is served.
 use Rattle.std.specs.Prelude.{◌≡◌, List, map, Result}
 use Rattle.lq_value.specs.declared.scalar.Scalar.{Scalar}
 use Rattle.lq_value.specs.declared.table.Schema.{Schema}

@@ -30,7 +30,7 @@ module _ {R S : Type 0} (f : R → S) where
   mapped = fold-Value R (Value S) mapped_step
 
 -- A world over the rows of another: the schemas are the same, the rows of its tables are those of the other replaced, in their order,
--- and each has the cells of the row that it stands for.
+-- and each has the cells of the row that it represents.
 pub record OverRows {R S : Type 0} (f : R → S) (a : World R) (b : World S) : Type 0 where
   pub schemas : b.schemas ≡ a.schemas
   pub rows : b.rows ≡ map (map f) a.rows

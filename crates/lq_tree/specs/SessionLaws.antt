@@ -37,13 +37,13 @@ PlacesAreKnown = (schemas : List Schema) (definitions : List Definition) → kno
 abbrev pub PlacesUse : Type 0
 PlacesUse = (schemas : List Schema) (definitions : List Definition) → AreDefined schemas definitions → UseWhatIsKnown (statement_places schemas definitions)
 
--- where tables have their rows, each form gives the value that its name stands for
+-- where tables have their rows, each form gives the value that its name refers to
 abbrev pub PlacesGive : Type 0 → Type 0
 PlacesGive R =
     (world : World R) (definitions : List Definition) → HoldsRows world → world.session ≡ [] → AreDefined world.schemas definitions
     → let after = defining world definitions in GivesAll after (session_places world.schemas definitions) after.session
 
--- no form asks what a name of the session stands for: whatever they stand for, it means the same
+-- no form asks what a name of the session refers to: whatever they refer to, it means the same
 abbrev pub ReadsNoSession : Type 0 → Type 0
 ReadsNoSession R =
     (world : World R) (session : List (SessionValue R)) (form : Form) (slots : Slots R)
@@ -58,7 +58,7 @@ TypesOfStatements =
     → option_map (λ tree. tree.ty) (term_tree schemas (translated e) (statement_places schemas definitions))
     ≡ expression_type e (outer_names schemas (known_names schemas definitions))
 
--- the tree means, over the tables alone, what the expression means where the names stand for what was defined
+-- the tree means, over the tables alone, what the expression means where the names refer to what was defined
 abbrev pub MeaningsOfStatements : Type 0 → Type 0
 MeaningsOfStatements R =
     (world : World R) (definitions : List Definition) → HoldsRows world → world.session ≡ [] → AreDefined world.schemas definitions → (e : Expr) (tree : Tree)
@@ -75,7 +75,7 @@ UsesOfStatements =
 -- ---- conditions on the rows of a table
 
 -- the places of a condition: those of a statement, and the local name of a row of this table,
--- which stands in the first slot
+-- which is in the first slot
 abbrev pub condition_places : List Schema → List Definition → List ℕ → ℕ → Places
 condition_places schemas definitions x n = with_name (statement_places schemas definitions) x (ty.Row n)
 
@@ -116,7 +116,7 @@ TypesOfStatementCalls =
     → option_map (λ tree. tree.ty) (call_tree schemas (term_tree schemas) c (statement_places schemas definitions))
     ≡ option_map ty.Seq (call_items term_type c (outer_names schemas (known_names schemas definitions)))
 
--- the tree means, over the tables alone, the sequence of the calls' stream where the names stand for
+-- the tree means, over the tables alone, the sequence of the calls' stream where the names refer to
 -- what was defined
 abbrev pub MeaningsOfStatementCalls : Type 0 → Type 0
 MeaningsOfStatementCalls R =

@@ -1,4 +1,4 @@
--- Where the names of a session stand: a variable is its value, and a named query the tree of its expression, which is bound where the name is
+-- The places of a session's names: a variable is its value, and a named query the tree of its expression, which is bound where the name is
 -- opened, with no local name in scope.
 use Rattle.std.specs.Prelude.{◌∷◌, ◌++◌, List, [], map, ℕ, Option, Some, None}
 use Rattle.lq_value.specs.declared.scalar.Scalar.TheVariants as scalar
@@ -41,7 +41,7 @@ module _ (schemas : List Schema) where
   abbrev pub placed_as : List SessionPlace → Definition → SessionPlace
   placed_as earlier d = record { known = known_as schemas (known_of earlier) d.name d.defined; form = defined_form earlier d.defined }
 
-  -- the places of these names behind those of the names before them
+  -- the places of these names after those of the names before them
   abbrev pub placed_after : List SessionPlace → List Definition → List SessionPlace
   placed_after earlier [] = earlier
   placed_after earlier (d ∷ ds) = placed_after (earlier ++ placed_as earlier d ∷ []) ds
@@ -49,6 +49,6 @@ module _ (schemas : List Schema) where
   unfoldable pub session_places : List Definition → List SessionPlace
   session_places definitions = placed_after [] definitions
 
-  -- the places where a statement stands: the names of the session, and no slot in use
+  -- the places of a statement: the names of the session, and no slot in use
   abbrev pub statement_places : List Definition → Places
   statement_places definitions = places_outside (session_places definitions) 0

@@ -65,7 +65,7 @@ TypedExpressions =
     (schemas : List Schema) (e : Expr) (places : Places) (shapes : List Shape) → AreTyped schemas shapes places → (tree : Tree)
     → term_tree schemas (translated e) places ≡ Some tree → IsTypedForm schemas shapes tree.form (Of tree.ty)
 
--- the places where a statement stands are typed, where each named query has a type
+-- the places of a statement are typed, where each named query has a type
 abbrev pub PlacesAreTyped : Type 0
 PlacesAreTyped =
     (schemas : List Schema) (definitions : List Definition) → AreDefined schemas definitions → AreTyped schemas [] (statement_places schemas definitions)
@@ -102,7 +102,7 @@ StatementsMeetOperands R =
     (world : World R) (definitions : List Definition) → HoldsRows world → AreDefined world.schemas definitions → (e : Expr) (tree : Tree)
     → term_tree world.schemas (translated e) (statement_places world.schemas definitions) ≡ Some tree → MeetsKinds world (Runs tree.form [])
 
--- what is run so means the same whatever stands where there is no meaning: no arm for an operand of another kind that answers it is reached
+-- what is run so means the same whatever is put where there is no meaning: no arm for an operand of another kind that answers it is reached
 abbrev pub KindsSuffice : Type 0 → Type 0
 KindsSuffice R =
     (world : World R) (f : Form) (slots : Slots R) → MeetsKinds world (Runs f slots) → (unknown : Fault)

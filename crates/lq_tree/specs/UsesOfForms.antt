@@ -1,4 +1,4 @@
--- «Uses» of the forms of a typed tree: the tables and columns in it, in the order of the text that it comes from. A group's elements stand
+-- «Uses» of the forms of a typed tree: the tables and columns in it, in the order of the text that it comes from. A group's elements come
 -- in that text before its key.
 use Rattle.std.specs.Prelude.{◌≡◌, ◌∷◌, ◌++◌, List, [], ℕ, flat_map}
 use Rattle.lq_language.specs.ValuesOfTypes.{Every}

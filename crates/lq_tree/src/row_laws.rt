@@ -3,7 +3,7 @@
 ghost use Rattle.lq_tree.specs.RowLaws.{MeansAlikeOverRows, ServesAlikeOverRows, StreamsAlikeOverRows};
 
 /// What a tree means depends on the cells of the rows alone: over rows of another kind that have the
-/// same cells it means the same, with each row replaced by the one that stands for it; the same
+/// same cells it means the same, with each row replaced by the one that represents it; the same
 /// faults come, and the same streams.
 pub fn means_alike_over_rows<R, S>()
     ensures meaning { MeansAlikeOverRows R S }

@@ -23,7 +23,7 @@ pub fn places_give<R>()
     ensures { PlacesGive R }
 {}
 
-/// What a tree means doesn't depend on what the names of the session stand for, as the names in it are
+/// What a tree means doesn't depend on what the names of the session refer to, as the names in it are
 /// resolved.
 pub fn reads_no_session<R>()
     ensures { ReadsNoSession R }
@@ -31,7 +31,7 @@ pub fn reads_no_session<R>()
 
 /// So an expression of a statement is bound to a tree exactly where it has a type among the names of
 /// the session, which is the tree's; the tree means, over the tables alone, what the expression means
-/// where the names stand for what was defined, and it uses the same.
+/// where the names refer to what was defined, and it uses the same.
 pub fn trees_of_statements<R>()
     ensures types { TypesOfStatements }
     ensures meanings { MeaningsOfStatements R }

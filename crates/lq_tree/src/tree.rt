@@ -1,12 +1,12 @@
 //! Typed trees. Locals are values in slots, which are counted from 0 at the outermost lambda: the
-//! body of a lambda has one slot more than what it stands in, or two, where it takes two items.
+//! body of a lambda has one slot more than what it is in, or two, where it takes two items.
 ghost use Rattle.std.specs.Prelude.{◌≡◌};
 
 use lq_grammar::{Field, SortKey};
 use lq_language::{Given, Op, Simple};
 use lq_value::{ColumnNumber, Held, List, Scalar, TableNumber, Ty};
 
-/// The parts of a join, whose outer sequence stands beside it (.NET, `Enumerable.Join` and
+/// The parts of a join, whose outer sequence is given beside it (.NET, `Enumerable.Join` and
 /// `GroupJoin`).
 #[derive(Drop)]
 pub struct Joined<X> {
@@ -16,7 +16,7 @@ pub struct Joined<X> {
     pub outer_key: X,
     /// The key of an inner item, in one slot more.
     pub inner_key: X,
-    /// Whether all matches of an outer item stand together, as one sequence.
+    /// Whether all matches of an outer item come together, as one sequence.
     pub grouped: bool,
     /// What comes of an outer item and its match, or its matches, in two slots more.
     pub result: X,
@@ -63,7 +63,7 @@ pub enum Form {
     Sequence(Held<Form>),
     /// A method without an argument, on items of this type.
     Simple(Simple, Ty, Held<Form>),
-    /// A method on what stands first, with its argument.
+    /// A method on what comes first, with its argument.
     Given(Given, Held<Form>, Held<Form>),
     /// The items on which a condition is true, which has one slot more.
     Where(Held<Form>, Held<Form>),
@@ -74,7 +74,7 @@ pub enum Form {
     /// What comes of each item, in one slot more, and of each item of the sequence that it leads to,
     /// in two.
     SelectMany(Held<Form>, Held<Form>, Held<Form>),
-    /// A join of what stands first.
+    /// A join of what comes first.
     Join(Held<Form>, Held<Joined<Form>>),
     /// The items sorted by keys, in one slot more, the first of which counts most.
     OrderBy(Held<Form>, List<SortKey<Form>>),

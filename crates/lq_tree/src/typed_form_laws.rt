@@ -11,7 +11,7 @@ pub fn trees_are_typed()
     ensures expressions { TypedExpressions }
 {}
 
-/// Where each named query has a type, the places where a statement stands are typed; so the tree of
+/// Where each named query has a type, the places of a statement are typed; so the tree of
 /// its expression is a typed form with no slot in use.
 pub fn statements_are_typed()
     ensures places { PlacesAreTyped }
@@ -26,13 +26,13 @@ pub fn evaluation_keeps_types<R>()
 {}
 
 /// And wherever it is run so, each operand that it meets, in a lambda too, is a fault or of the kind
-/// that is asked of it, told by the values alone: so it is where a statement's tree is run.
+/// that is asked of it, decided by the values alone: so it is where a statement's tree is run.
 pub fn operands_are_of_their_kinds<R>()
     ensures forms { MeetsOperands R }
     ensures statements { StatementsMeetOperands R }
 {}
 
-/// What is run on operands of these kinds means the same whatever stands where there is no meaning: no
+/// What is run on operands of these kinds means the same whatever is put where there is no meaning: no
 /// case of its meaning that answers this for an operand of another kind is reached.
 pub fn kinds_suffice<R>()
     ensures { KindsSuffice R }

@@ -1,4 +1,4 @@
--- What is told of the members of a record's type, over what is told of each one's type.
+-- What is said of the members of a record's type, in terms of what is said of each one's type.
 use Rattle.std.specs.Prelude.{◌∷◌, ◌+◌, ◌&&◌, ◌==◌, List, [], ℕ, Bool, true, false}
 use Rattle.std.specs.Cmp.Lexicographic.{pointwise}
 use Rattle.std.specs.Str.{bytes_eq}
@@ -11,7 +11,7 @@ abbrev pub are_keys : List (List ℕ × Ty) → Bool
 are_keys [] = true
 are_keys (m ∷ ms) = is_key m.1 && are_keys ms
 
--- how many parts the members' types are made of
+-- how many parts the members' types consist of
 abbrev pub member_parts : List (List ℕ × Ty) → ℕ
 member_parts [] = 0
 member_parts (m ∷ ms) = parts_of m.1 + member_parts ms

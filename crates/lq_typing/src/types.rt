@@ -86,7 +86,7 @@ pub fn is_sort_key(ty: &Ty) -> bool
     matches!(ty, Ty::Int | Ty::IntN | Ty::Bool | Ty::Str)
 }
 
-/// Whether the type is any but that of null, which has no place where a value is kept.
+/// Whether the type is any but that of null, which is not allowed where a value is kept.
 #[tactic(auto, using(crate::proofs::TypeLayers::layers))]
 pub fn has_place(ty: &Ty) -> bool
     ensures { result ≡ has_place (out-Ty ty.now) }
@@ -142,7 +142,7 @@ pub fn element_type(ty: Ty) -> Option<Ty>
     }
 }
 
-/// Whether values of the type are told apart by their contents, as keys are (.NET, the default equality comparer): ints,
+/// Whether values of the type are distinguished by their contents, as keys are (.NET, the default equality comparer): ints,
 /// truth values and texts, and records of keys.
 #[cycle(keys)]
 #[tactic(auto, using(crate::proofs::TypeLayers::keys))]
@@ -218,7 +218,7 @@ fn same_members(left: &[(Txt, Ty)], right: &[(Txt, Ty)]) -> bool
     rest.is_empty()
 }
 
-/// Whether values of the first type may stand where those of the second do.
+/// Whether values of the first type may be used where those of the second are.
 pub fn converts(from: &Ty, to: &Ty) -> bool
     ensures { result ≡ converts from.now to.now }
 {

@@ -93,7 +93,7 @@ fn joined_type(sign: Binary, left: &Ty, right: &Ty) -> Option<Ty>
     }
 }
 
-/// The type of what an operator gives to operands of these types; None where it takes no such (ECMA-334, binary operator
+/// The type of what an operator gives to operands of these types; None where it doesn't take such (ECMA-334, binary operator
 /// overload resolution).
 pub fn operated_type(sign: Binary, left: &Ty, right: &Ty) -> Option<Ty>
     ensures { result ≡ type_of_operation sign (out-Ty left.now) (out-Ty right.now) }
@@ -252,7 +252,7 @@ fn has_items(item: &Ty, second: &Ty) -> bool
     }
 }
 
-/// The type of a method on items of the first type, with an argument of the second; None where it takes no such (.NET,
+/// The type of a method on items of the first type, with an argument of the second; None where it doesn't take such (.NET,
 /// Enumerable).
 pub fn given_type(
     alloc: Global,
@@ -276,7 +276,7 @@ pub fn given_type(
     }
 }
 
-/// The type of a method on items of the first type, with a lambda whose body has the second one; None where it takes no
+/// The type of a method on items of the first type, with a lambda whose body has the second one; None where it doesn't take
 /// such (.NET, Enumerable).
 pub fn through_type(
     alloc: Global,

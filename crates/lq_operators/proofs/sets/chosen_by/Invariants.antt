@@ -4,6 +4,6 @@ use Rattle.lq_language.specs.Enumerable.{is_among}
 use Rattle.lq_operators.specs.Arguments.{kept_by}
 use Rattle.lq_operators.proofs.sets.chosen_by.Given as goal
 
--- those that are kept of the items so far stand there
+-- those that are kept of the items so far are there
 abbrev pub invariant-loop-item : goal.invariant-loop-item
 invariant-loop-item g l = l.kept ≡ filter (λ item. kept_by l.wanted (is_among same_values item l.others)) l.yielded
