@@ -18,7 +18,7 @@ use crate::error::TermError;
 use lq_grammar::{Binary, Unary};
 use lq_language::Op;
 use lq_tree::{Form, Tree};
-use lq_typing::{chosen, coalesced, is_bool, is_equality, is_number, is_text, operated_type};
+use lq_typing::{choice_type, coalesced, is_bool, is_equality, is_number, is_text, operated_type};
 use lq_value::{Held, Ty};
 use std::alloc::{AllocError, Global};
 
@@ -329,7 +329,7 @@ fn choice(alloc: Global, condition: Held<Form>, left: Tree, right: Tree) -> Resu
         ty: right_type,
         form: right,
     } = right;
-    let ty = chosen(left_type, right_type).ok_or(TermError::IllTyped)?;
+    let ty = choice_type(left_type, right_type).ok_or(TermError::IllTyped)?;
     let form = choice_form(alloc, condition, left, right)?;
     Ok(Tree { ty, form })
 }

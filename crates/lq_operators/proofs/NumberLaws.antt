@@ -18,7 +18,7 @@ use Rattle.lq_language.specs.Operations.{is_int, on_ok}
 use Rattle.lq_language.specs.Stream.{Stream}
 use Rattle.lq_language.specs.Meaning.{no_number, number_in, numbers, simple_meaning}
 use Rattle.lq_operators.specs.Numbers.{best_more, best_with, sum_more}
-use Rattle.lq_operators.specs.Tallies.{begins, goes_on, tallied, told}
+use Rattle.lq_operators.specs.Tallies.{begins, goes_on, tallied, tally_result}
 use Rattle.lq_operators.specs.declared.numbers.Extreme.{Extreme}
 use Rattle.lq_operators.specs.declared.numbers.Tally.{Tally}
 use Rattle.lq_operators.specs.declared.numbers.Tally.TheVariants as tally
@@ -56,7 +56,7 @@ best_by which none None (Some n) ns = refl
 best_by which none (Some m) None ns = refl
 best_by which none (Some m) (Some n) ns = refl
 
-pub told_is : (R : Type 0) (t : Ty) (k : Tally) (e : End) → told t k e ≡ tallied {R = R} t k ([], e)
+pub told_is : (R : Type 0) (t : Ty) (k : Tally) (e : End) → tally_result t k e ≡ tallied {R = R} t k ([], e)
 told_is R t (tally.Count n) e = refl
 told_is R t (tally.Sum n) e = refl
 told_is R t (tally.Best which best) e = refl
@@ -104,7 +104,7 @@ module _ {R : Type 0} where
       ∙ ap (λ y. tallied t k (y ∷ drop (suc i) items, e)) is ∙ ap (λ l. tallied t k (l, e)) (sym (drop-cons items i x below)) ∙ goes
 
   pub tallied_whole : (t : Ty) (k : Tally) (items : List (Value R)) (i : ℕ) (e : End) (answer all : Result Scalar Fault) → length items ≤ i
-      → answer ≡ told t k e → tallied t k (drop i items, e) ≡ all → answer ≡ all
+      → answer ≡ tally_result t k e → tallied t k (drop i items, e) ≡ all → answer ≡ all
   tallied_whole t k items i e answer all over is goes = is ∙ told_is R t k e ∙ ap (λ l. tallied t k (l, e)) (sym (drop_all i items over)) ∙ goes
 
   -- a method's answer is its tally's

@@ -8,5 +8,5 @@ abbrev pub nowhere : {R : Type 0} → World R
 nowhere = record { schemas = []; rows = []; session = []; cell = λ r name. None; unknown = fault.NullReference }
 
 -- whether an item is kept, where those among the others are wanted, or the rest
-abbrev pub kept_by : Bool → Bool → Bool
-kept_by wanted found = if wanted then found else not found
+abbrev pub is_wanted : Bool → Bool → Bool
+is_wanted wanted found = if wanted then found else not found

@@ -25,10 +25,10 @@ begins simple.Max = Some (tally.Best extreme.Greatest None)
 begins method = None
 
 -- the answer where nothing is left to read
-abbrev pub told : Ty → Tally → End → Result Scalar Fault
-told t (tally.Count n) e = at_end e (Ok (scalar.Int n))
-told t (tally.Sum n) e = at_end e (Ok (scalar.Int n))
-told t (tally.Best which best) e = at_end e (best_with which (no_number t) best [])
+abbrev pub tally_result : Ty → Tally → End → Result Scalar Fault
+tally_result t (tally.Count n) e = at_end e (Ok (scalar.Int n))
+tally_result t (tally.Sum n) e = at_end e (Ok (scalar.Int n))
+tally_result t (tally.Best which best) e = at_end e (best_with which (no_number t) best [])
 
 module _ {R : Type 0} where
   -- the answer where a tally was built from the items before, on items of this type

@@ -16,7 +16,7 @@ pub(crate) fn distinct<R: RowRef>(
     alloc: Global,
     items: List<Value<R>>,
 ) -> Result<List<Value<R>>, AllocError>
-    ensures { IfOk result (λ made. made ≡ first_keys same_values items) }
+    ensures { IfOk result (λ firsts. firsts ≡ first_keys same_values items) }
 {
     let news = news_of(alloc, items.as_slice())?;
     sift(alloc, items, news.as_slice())
@@ -24,7 +24,7 @@ pub(crate) fn distinct<R: RowRef>(
 
 // Of each value whether it is the same as none before it.
 fn news_of<R: RowRef>(alloc: Global, values: &[Value<R>]) -> Result<Vec<bool>, AllocError>
-    ensures { IfOk result (λ made. made.items ≡ new_from same_values [] values.now) }
+    ensures { IfOk result (λ news. news.items ≡ new_from same_values [] values.now) }
 {
     let lookup = lookup_of(alloc, values)?;
     let mut news = Vec::with_capacity(alloc, values.len())?;
@@ -37,19 +37,19 @@ fn news_of<R: RowRef>(alloc: Global, values: &[Value<R>]) -> Result<Vec<bool>, A
 
 // The items with a true beside them.
 fn sift<T: Drop>(alloc: Global, items: List<T>, keeps: &[bool]) -> Result<List<T>, AllocError>
-    ensures { IfOk result (λ made. made ≡ sifted keeps.now items) }
+    ensures { IfOk result (λ selection. selection ≡ sifted keeps.now items) }
 {
-    let mut kept = List::new(alloc);
+    let mut selection = List::new(alloc);
     let mut rest = keeps;
     for item in items.into_vec() {
         if let Some((keep, others)) = rest.split_first() {
             rest = others;
             if *keep {
-                kept.push(item)?;
+                selection.push(item)?;
             }
         }
     }
-    Ok(kept)
+    Ok(selection)
 }
 
 // Copies of the values that are the same as none before them.
@@ -59,7 +59,7 @@ pub(crate) fn copied_firsts<R: RowRef>(
     lookup: &Lookup,
 ) -> Result<List<Value<R>>, AllocError>
     requires { FindsKeys lookup.now (map key_value values.now) }
-    ensures { IfOk result (λ made. made ≡ first_keys same_values values.now) }
+    ensures { IfOk result (λ firsts. firsts ≡ first_keys same_values values.now) }
 {
     let mut firsts = List::new(alloc);
     for (place, value) in values.iter().enumerate() {

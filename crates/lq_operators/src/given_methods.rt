@@ -55,8 +55,8 @@ fn answered<R: RowRef>(
         }
         Given::Contains => {
             let (items, end) = source;
-            let found = contains(&argument?, items.as_slice(), end)?;
-            Ok(Value::Scalar(Scalar::Bool(found)))
+            let answer = contains(&argument?, items.as_slice(), end)?;
+            Ok(Value::Scalar(Scalar::Bool(answer)))
         }
     }
 }

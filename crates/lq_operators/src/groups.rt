@@ -19,7 +19,7 @@ pub fn grouped<R: RowRef>(
     alloc: Global,
     pairs: List<(Value<R>, Value<R>)>,
 ) -> Result<List<Value<R>>, AllocError>
-    ensures { IfOk result (λ made. made ≡ map as_group (groups_of same_values pairs)) }
+    ensures { IfOk result (λ groups. groups ≡ map as_group (groups_of same_values pairs)) }
 {
     let (keys, elements) = split(alloc, pairs)?;
     grouped_by(alloc, keys.as_slice(), elements.as_slice())
@@ -30,7 +30,7 @@ fn grouped_by<R: RowRef>(
     keys: &[Value<R>],
     elements: &[Value<R>],
 ) -> Result<List<Value<R>>, AllocError>
-    ensures { IfOk result (λ made. made
+    ensures { IfOk result (λ groups. groups
         ≡ map (group_at keys.now elements.now) (first_keys same_values keys.now)) }
 {
     let lookup = lookup_of(alloc, keys)?;
@@ -47,7 +47,7 @@ fn groups_of<R: RowRef>(
     lookup: &Lookup,
 ) -> Result<List<Value<R>>, AllocError>
     requires { FindsKeys lookup.now (map key_value keys.now) }
-    ensures { IfOk result (λ made. made ≡ map (group_at keys.now elements.now) firsts) }
+    ensures { IfOk result (λ groups. groups ≡ map (group_at keys.now elements.now) firsts) }
 {
     let mut groups = List::new(alloc);
     for key in firsts.into_vec() {
@@ -64,7 +64,7 @@ fn group<R: RowRef>(
     lookup: &Lookup,
 ) -> Result<Value<R>, AllocError>
     requires { FindsKeys lookup.now (map key_value keys.now) }
-    ensures { IfOk result (λ made. made ≡ group_at keys.now elements.now key) }
+    ensures { IfOk result (λ group. group ≡ group_at keys.now elements.now key) }
 {
     let members = elements_of(alloc, &key, keys, elements, lookup)?;
     Ok(Value::Group(Held::new(alloc, key)?, members))

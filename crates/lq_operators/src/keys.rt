@@ -39,7 +39,7 @@ pub(crate) fn is_among<R: RowRef>(
     lookup: &Lookup,
 ) -> Result<bool, AllocError>
     requires { FindsKeys lookup.now (map key_value values.now) }
-    ensures { IfOk result (λ found. found ≡ is_among same_values value.now values.now) }
+    ensures { IfOk result (λ answer. answer ≡ is_among same_values value.now values.now) }
 {
     let key = key_of(alloc, value)?;
     Ok(is_same_at_one(value, values, lookup.find(&key)))
@@ -77,7 +77,7 @@ pub(crate) fn is_among_before<R: RowRef>(
     lookup: &Lookup,
 ) -> Result<bool, AllocError>
     requires { FindsKeys lookup.now (map key_value values.now) }
-    ensures { IfOk result (λ found. found
+    ensures { IfOk result (λ answer. answer
         ≡ list_any (λ other. same_values other value.now) (take bound values.now)) }
 {
     let key = key_of(alloc, value)?;

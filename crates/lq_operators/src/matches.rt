@@ -29,7 +29,7 @@ impl<R: RowRef> Matches<R> {
     /// The pairs of a key and its item, in their order.
     #[tactic(auto, using(crate::proofs::PairLemmas::zip_both), unfolding(crate::specs::Matching::pairs_of))]
     pub fn build(alloc: Global, pairs: List<(Value<R>, Value<R>)>) -> Result<Matches<R>, AllocError>
-        ensures { IfOk result (λ made. pairs_of made ≡ pairs) }
+        ensures { IfOk result (λ side. pairs_of side ≡ pairs) }
     {
         let (keys, items) = split(alloc, pairs)?;
         let lookup = lookup_of(alloc, keys.as_slice())?;
@@ -44,7 +44,7 @@ impl<R: RowRef> Matches<R> {
     /// null is the same as none; a record with null members is a key as any other.
     #[tactic(auto, unfolding(crate::specs::Matching::pairs_of))]
     pub fn find(&self, alloc: Global, key: &Value<R>) -> Result<List<Value<R>>, AllocError>
-        ensures { IfOk result (λ found. found ≡ matches key.now (pairs_of self.now)) }
+        ensures { IfOk result (λ items. items ≡ matches key.now (pairs_of self.now)) }
     {
         if is_null(key) {
             return Ok(List::new(alloc));

@@ -5,8 +5,8 @@ ghost use Rattle.lq_value.specs.declared.value.Value.{Value, out-Value};
 ghost use Rattle.lq_language.specs.Enumerable.{in_front};
 ghost use Rattle.lq_language.specs.Stream.{Stream};
 ghost use Rattle.lq_language.specs.Meaning.{number_in};
-ghost use Rattle.lq_operators.specs.Numbers.{best_more, chosen, sum_more};
-ghost use Rattle.lq_operators.specs.Tallies.{begins, goes_on, tallied, told};
+ghost use Rattle.lq_operators.specs.Numbers.{best_more, better, sum_more};
+ghost use Rattle.lq_operators.specs.Tallies.{begins, goes_on, tallied, tally_result};
 
 use crate::defaults::no_number;
 use crate::ending::at_end;
@@ -50,8 +50,8 @@ fn number_in<R: RowRef>(item: &Value<R>) -> Option<i32>
 }
 
 // The number itself, or the one that was there.
-fn chosen(extreme: Extreme, best: i32, number: i32) -> i32
-    ensures { result ≡ chosen extreme best number }
+fn better(extreme: Extreme, best: i32, number: i32) -> i32
+    ensures { result ≡ better extreme best number }
 {
     match extreme {
         Extreme::Least if best <= number => best,
@@ -66,7 +66,7 @@ fn best_more(extreme: Extreme, best: Option<i32>, number: Option<i32>) -> Option
     ensures { result ≡ best_more extreme best number }
 {
     match (best, number) {
-        (Some(best), Some(number)) => Some(chosen(extreme, best, number)),
+        (Some(best), Some(number)) => Some(better(extreme, best, number)),
         (None, Some(number)) => Some(number),
         (best, None) => best,
     }
@@ -117,8 +117,8 @@ impl Tally {
     }
 
     /// What the method answers on items of this type, where they end so.
-    pub fn told(self, ty: &Ty, end: End) -> Result<Scalar, Fault>
-        ensures { result ≡ told ty.now self end }
+    pub fn result(self, ty: &Ty, end: End) -> Result<Scalar, Fault>
+        ensures { result ≡ tally_result ty.now self end }
     {
         match self {
             Tally::Count(number) => at_end(end, Ok(Scalar::Int(number))),
@@ -142,5 +142,5 @@ pub(crate) fn tallied<R: RowRef>(
     for item in items {
         tally = tally.with(item)?;
     }
-    tally.told(ty, end)
+    tally.result(ty, end)
 }

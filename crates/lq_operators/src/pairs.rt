@@ -17,8 +17,8 @@ pub(crate) fn split<K: Drop, V: Drop>(
     alloc: Global,
     pairs: List<(K, V)>,
 ) -> Result<(List<K>, List<V>), AllocError>
-    ensures { IfOk result (λ made. (made.0 ≡ map (λ p. p.0) pairs)
-        × (made.1 ≡ map (λ p. p.1) pairs)) }
+    ensures { IfOk result (λ lists. (lists.0 ≡ map (λ p. p.0) pairs)
+        × (lists.1 ≡ map (λ p. p.1) pairs)) }
 {
     let mut firsts = List::new(alloc);
     let mut seconds = List::new(alloc);
@@ -38,7 +38,7 @@ pub(crate) fn elements_of<R: RowRef>(
     lookup: &Lookup,
 ) -> Result<List<Value<R>>, AllocError>
     requires { FindsKeys lookup.now (map key_value keys.now) }
-    ensures { IfOk result (λ made. made
+    ensures { IfOk result (λ elements. elements
         ≡ elements_of same_values key.now (zip keys.now values.now)) }
 {
     let hashed = key_of(alloc, key)?;
@@ -53,29 +53,30 @@ fn picked<R: RowRef>(
     values: &[Value<R>],
     places: &[usize],
 ) -> Result<List<Value<R>>, AllocError>
-    ensures { IfOk result (λ made. made
+    ensures { IfOk result (λ elements. elements
         ≡ picked (same_values key.now) keys.now values.now places.now) }
 {
-    let mut made = List::new(alloc);
+    let mut elements = List::new(alloc);
     for place in places {
         if is_same_at(key, keys, *place) {
-            push_at(alloc, &mut made, values, *place)?;
+            push_at(alloc, &mut elements, values, *place)?;
         }
     }
-    Ok(made)
+    Ok(elements)
 }
 
 // Puts a copy of the value at a place after those that are there.
 fn push_at<R: RowRef>(
     alloc: Global,
-    made: &mut List<Value<R>>,
+    elements: &mut List<Value<R>>,
     values: &[Value<R>],
     place: usize,
 ) -> Result<(), AllocError>
-    ensures { OnOk result (made.new ≡ made.old ++ option_to_list (slice_get values.now place)) }
+    ensures { OnOk result (elements.new ≡ elements.old
+        ++ option_to_list (slice_get values.now place)) }
 {
     match values.get(place) {
-        Some(value) => made.push(copy(alloc, value)?),
+        Some(value) => elements.push(copy(alloc, value)?),
         None => Ok(()),
     }
 }

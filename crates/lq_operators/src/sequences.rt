@@ -37,7 +37,7 @@ pub(crate) fn default_if_empty<T: Drop>(
     items: List<T>,
     end: End,
 ) -> Result<Stream<T>, AllocError>
-    ensures { IfOk result (λ made. made ≡ default_if_empty default items end) }
+    ensures { IfOk result (λ stream. stream ≡ default_if_empty default items end) }
 {
     let mut items = items;
     match end {

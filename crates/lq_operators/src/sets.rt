@@ -3,7 +3,7 @@ ghost use Rattle.std.specs.Prelude.{◌≡◌, ◌++◌, filter, map, IfOk};
 ghost use Rattle.lq_value.specs.Keys.{key_value};
 ghost use Rattle.lq_value.specs.SameAndOrder.{same_values};
 ghost use Rattle.lq_language.specs.Enumerable.{concat, contains, except, intersect, is_among, union};
-ghost use Rattle.lq_operators.specs.Arguments.{kept_by};
+ghost use Rattle.lq_operators.specs.Arguments.{is_wanted};
 ghost use Rattle.lq_operators.specs.Places.{FindsKeys};
 
 use crate::ending::at_end;
@@ -16,7 +16,7 @@ use std::alloc::{AllocError, Global};
 
 // The first, and where it comes to its end the second.
 pub(crate) fn concat<T: Drop>(first: Stream<T>, second: Stream<T>) -> Result<Stream<T>, AllocError>
-    ensures { IfOk result (λ made. made ≡ concat first second) }
+    ensures { IfOk result (λ stream. stream ≡ concat first second) }
 {
     let (items, end) = first;
     match end {
@@ -29,7 +29,7 @@ pub(crate) fn concat<T: Drop>(first: Stream<T>, second: Stream<T>) -> Result<Str
 }
 
 fn appended<T: Drop>(items: List<T>, others: List<T>) -> Result<List<T>, AllocError>
-    ensures { IfOk result (λ made. made ≡ items ++ others) }
+    ensures { IfOk result (λ list. list ≡ items ++ others) }
 {
     let mut items = items.into_vec();
     let mut others = others.into_vec();
@@ -43,7 +43,7 @@ pub(crate) fn union<R: RowRef>(
     first: Stream<Value<R>>,
     second: Stream<Value<R>>,
 ) -> Result<Stream<Value<R>>, AllocError>
-    ensures { IfOk result (λ made. made ≡ union same_values first second) }
+    ensures { IfOk result (λ stream. stream ≡ union same_values first second) }
 {
     let (items, end) = concat(first, second)?;
     Ok((distinct(alloc, items)?, end))
@@ -55,14 +55,14 @@ pub(crate) fn intersect<R: RowRef>(
     first: Stream<Value<R>>,
     second: Stream<Value<R>>,
 ) -> Result<Stream<Value<R>>, AllocError>
-    ensures { IfOk result (λ made. made ≡ intersect same_values first second) }
+    ensures { IfOk result (λ stream. stream ≡ intersect same_values first second) }
 {
     let (others, last) = second;
     match last {
         End::Done => {
             let (items, end) = first;
             let firsts = distinct(alloc, items)?;
-            Ok((chosen(alloc, firsts, others.as_slice(), true)?, end))
+            Ok((filter_among(alloc, firsts, others.as_slice(), true)?, end))
         }
         End::Fault(_) => Ok((List::new(alloc), last)),
     }
@@ -74,34 +74,37 @@ pub(crate) fn except<R: RowRef>(
     first: Stream<Value<R>>,
     second: Stream<Value<R>>,
 ) -> Result<Stream<Value<R>>, AllocError>
-    ensures { IfOk result (λ made. made ≡ except same_values first second) }
+    ensures { IfOk result (λ stream. stream ≡ except same_values first second) }
 {
     let (others, last) = second;
     match last {
         End::Done => {
             let (items, end) = first;
             let candidates = distinct(alloc, items)?;
-            Ok((chosen(alloc, candidates, others.as_slice(), false)?, end))
+            Ok((
+                filter_among(alloc, candidates, others.as_slice(), false)?,
+                end,
+            ))
         }
         End::Fault(_) => Ok((List::new(alloc), last)),
     }
 }
 
 // The items that are among the others, where these are wanted, and else the rest.
-fn chosen<R: RowRef>(
+fn filter_among<R: RowRef>(
     alloc: Global,
     items: List<Value<R>>,
     others: &[Value<R>],
     wanted: bool,
 ) -> Result<List<Value<R>>, AllocError>
-    ensures { IfOk result (λ made. made
-        ≡ filter (λ item. kept_by wanted (is_among same_values item others.now)) items) }
+    ensures { IfOk result (λ selection. selection
+        ≡ filter (λ item. is_wanted wanted (is_among same_values item others.now)) items) }
 {
     let lookup = lookup_of(alloc, others)?;
-    chosen_by(alloc, items, others, &lookup, wanted)
+    filter_by_lookup(alloc, items, others, &lookup, wanted)
 }
 
-fn chosen_by<R: RowRef>(
+fn filter_by_lookup<R: RowRef>(
     alloc: Global,
     items: List<Value<R>>,
     others: &[Value<R>],
@@ -109,23 +112,23 @@ fn chosen_by<R: RowRef>(
     wanted: bool,
 ) -> Result<List<Value<R>>, AllocError>
     requires { FindsKeys lookup.now (map key_value others.now) }
-    ensures { IfOk result (λ made. made
-        ≡ filter (λ item. kept_by wanted (is_among same_values item others.now)) items) }
+    ensures { IfOk result (λ selection. selection
+        ≡ filter (λ item. is_wanted wanted (is_among same_values item others.now)) items) }
 {
-    let mut kept = List::new(alloc);
+    let mut selection = List::new(alloc);
     for item in items.into_vec() {
-        let found = is_among(alloc, &item, others, lookup)?;
-        if kept_by(wanted, found) {
-            kept.push(item)?;
+        let is_present = is_among(alloc, &item, others, lookup)?;
+        if is_wanted(wanted, is_present) {
+            selection.push(item)?;
         }
     }
-    Ok(kept)
+    Ok(selection)
 }
 
-fn kept_by(wanted: bool, found: bool) -> bool
-    ensures { result ≡ kept_by wanted found }
+fn is_wanted(wanted: bool, is_present: bool) -> bool
+    ensures { result ≡ is_wanted wanted is_present }
 {
-    if wanted { found } else { !found }
+    if wanted { is_present } else { !is_present }
 }
 
 // Whether an item is the same as the value.

@@ -17,7 +17,7 @@ use Rattle.lq_language.specs.declared.methods.Given.{Given}
 use Rattle.lq_language.specs.declared.methods.Given.TheVariants as given
 use Rattle.lq_language.specs.declared.methods.Simple.{Simple}
 use Rattle.lq_language.specs.declared.methods.Simple.TheVariants as simple
-use Rattle.lq_operators.specs.Tallies.{begins, goes_on, tallied, told}
+use Rattle.lq_operators.specs.Tallies.{begins, goes_on, tallied, tally_result}
 use Rattle.lq_operators.specs.declared.numbers.Tally.{Tally}
 use Rattle.lq_operators.proofs.NumberLaws.{begun, told_is}
 use Rattle.lq_pipe.specs.Counts.{needed, needed_by, read, up_to}
@@ -88,7 +88,7 @@ module _ {R : Type 0} where
       → ((u : Ty) (s : Stream (Value R)) → tallied u k (in_front x s) ≡ goes_on u (Err f) s) → tallied t k old ≡ all → all ≡ Err f
   tally_stopped t k f old new x all is steps goes = sym goes ∙ ap (tallied t k) is ∙ steps t new
 
-  pub tally_ended : (t : Ty) (k : Tally) (old : Stream (Value R)) (e : End) (all : Result Scalar Fault) → old ≡ ([], e) → tallied t k old ≡ all → told t k e ≡ all
+  pub tally_ended : (t : Ty) (k : Tally) (old : Stream (Value R)) (e : End) (all : Result Scalar Fault) → old ≡ ([], e) → tallied t k old ≡ all → tally_result t k e ≡ all
   tally_ended t k old e all is goes = told_is R t k e ∙ ap (tallied t k) (sym is) ∙ goes
 
 module _ {R : Type 0} (world : World R) where

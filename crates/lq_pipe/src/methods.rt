@@ -177,7 +177,7 @@ impl<'a, R: TableRow> Running<'a, R> {
         loop {
             match self.next_planned(&plan, stage, source, &mut base, slots)? {
                 Step::Item(item) => tally = tally.with(&item)?,
-                Step::End(end) => return Ok(Value::Scalar(tally.told(of, end)?)),
+                Step::End(end) => return Ok(Value::Scalar(tally.result(of, end)?)),
             }
         }
     }

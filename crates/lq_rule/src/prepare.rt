@@ -86,8 +86,8 @@ fn operation(
     left: Prepared,
     right: Prepared,
 ) -> Result<Prepared, AllocError>
-    ensures { IfOk result (λ made. (cells : List Scalar) (user : List ℕ)
-        → read made cells user ≡ read (prepared.Binary sign left right) cells user) }
+    ensures { IfOk result (λ tree. (cells : List Scalar) (user : List ℕ)
+        → read tree cells user ≡ read (prepared.Binary sign left right) cells user) }
 {
     match (left, right) {
         (Prepared::Cell(place), Prepared::Literal(literal)) => {
@@ -103,7 +103,7 @@ fn operation(
 
 /// The text as a scalar of its own.
 fn copied(alloc: Global, text: &Txt) -> Result<Scalar, AllocError>
-    ensures { IfOk result (λ made. made ≡ scalar.Text text.now) }
+    ensures { IfOk result (λ copy. copy ≡ scalar.Text text.now) }
 {
     Ok(Scalar::Text(Txt::from_str(alloc, text.as_str())?))
 }

@@ -100,7 +100,11 @@ fn has_value_in<'a>(scalar: ScalarRef<'_>) -> Result<ScalarRef<'a>, Fault>
 }
 
 /// Whether a text has another in it.
-fn found<'a>(op: Op, text: ScalarRef<'_>, needle: ScalarRef<'_>) -> Result<ScalarRef<'a>, Fault>
+fn text_matches<'a>(
+    op: Op,
+    text: ScalarRef<'_>,
+    needle: ScalarRef<'_>,
+) -> Result<ScalarRef<'a>, Fault>
     ensures { shown_scalars result ≡ truth fault.NullReference
         (searched fault.NullReference op (shown_scalar text.entry) (shown_scalar needle.entry)) }
 {
@@ -158,7 +162,7 @@ impl Prepared {
             Prepared::HasValue(operand) => has_value_in(operand.get().read(cells, user)?),
             Prepared::Search(op, text, needle) => {
                 let text = text.get().read(cells, user)?;
-                found(*op, text, needle.get().read(cells, user)?)
+                text_matches(*op, text, needle.get().read(cells, user)?)
             }
         }
     }

@@ -47,8 +47,8 @@ pub fn evaluate<'a, N: Names>(
     names: &'a N,
     expression: &'a Expr,
 ) -> Result<Found<'a>, ScalarError>
-    ensures meant { IsFound (scalar_of_expression (N.world names.now) (N.scope names.now) expression.now)
-        result }
+    ensures meant { IsFound
+        (scalar_of_expression (N.world names.now) (N.scope names.now) expression.now) result }
     ensures sparing { IsSparing (sums_in expression.now) result }
 {
     let evaluation = Evaluation {
@@ -65,8 +65,8 @@ pub fn evaluate<'a, N: Names>(
 /// The truth value that a condition means under these names, or its first fault. Takes memory
 /// for texts that `+` makes and for nothing else.
 pub fn truth<N: Names>(alloc: Global, names: &N, condition: &Expr) -> Result<bool, ScalarError>
-    ensures meant { IsTruth (truth_of_expression (N.world names.now) (N.scope names.now) condition.now)
-        result }
+    ensures meant { IsTruth
+        (truth_of_expression (N.world names.now) (N.scope names.now) condition.now) result }
     ensures sparing { IsSparing (sums_in condition.now) result }
 {
     let evaluation = Evaluation {

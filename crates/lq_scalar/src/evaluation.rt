@@ -49,13 +49,13 @@ fn told_parts(
 
 /// What `==` or `!=` gives for two operands.
 #[inline(never)]
-fn told<'a>(sign: Binary, left: Operand<'_>, right: Operand<'_>) -> Result<ScalarRef<'a>, Fault>
+fn equality<'a>(sign: Binary, left: Operand<'_>, right: Operand<'_>) -> Result<ScalarRef<'a>, Fault>
     requires { is_equality sign ≡ true }
     ensures { shown_scalars result ≡ truth fault.NullReference
         (told_parts sign (operand_part left.entry) (operand_part right.entry)) }
 {
-    let told = told_parts(sign, left.part(), right.part())?;
-    Ok(ScalarRef::Bool(told))
+    let answer = told_parts(sign, left.part(), right.part())?;
+    Ok(ScalarRef::Bool(answer))
 }
 
 /// The number with the other sign.
@@ -268,7 +268,7 @@ impl<'a, N: Names, T: Joins> Evaluation<'a, N, T> {
             Node::Or(left, right) => self.either(left.get(), right.get()),
             Node::Coalesce(left, right) => self.coalesced(left.get(), right.get()),
             Node::Conditional(condition, left, right) => {
-                self.chosen(condition.get(), left.get(), right.get())
+                self.conditional(condition.get(), left.get(), right.get())
             }
             Node::Host(_, _) | Node::New(_) => Err(ScalarError::Fault(Fault::NullReference)),
         }
@@ -344,7 +344,7 @@ impl<'a, N: Names, T: Joins> Evaluation<'a, N, T> {
         let x = self.operand(left)?;
         if is_equality(sign) {
             let y = self.operand(right)?;
-            return Ok(Operand::Scalar(told(sign, x, y)?));
+            return Ok(Operand::Scalar(equality(sign, x, y)?));
         }
         x.scalar()?;
         let y = self.operand(right)?;
@@ -398,7 +398,7 @@ impl<'a, N: Names, T: Joins> Evaluation<'a, N, T> {
     #[cycle(operands)]
     #[inline(never)]
     #[tactic(auto, using(crate::proofs::ShapeLaws::operands, crate::proofs::ShapeLaws::shape_choice, crate::proofs::SumLemmas::sums_choice))]
-    fn chosen(
+    fn conditional(
         &self,
         condition: &'a Expr,
         left: &'a Expr,

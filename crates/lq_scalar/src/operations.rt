@@ -59,8 +59,8 @@ fn of_two(alloc: Global, op: Op, left: &Scalar, right: &Scalar) -> Result<Scalar
         Op::Equal => Ok(compared_as(Binary::Equal, left, right)?),
         Op::NotEqual => Ok(compared_as(Binary::NotEqual, left, right)?),
         Op::StartsWith | Op::EndsWith | Op::Contains => {
-            let found = searched(op, ScalarRef::of(left), ScalarRef::of(right))?;
-            Ok(Scalar::Bool(found))
+            let answer = searched(op, ScalarRef::of(left), ScalarRef::of(right))?;
+            Ok(Scalar::Bool(answer))
         }
         Op::Not | Op::Minus | Op::HasValue | Op::Value | Op::Length => {
             Err(ScalarError::Fault(Fault::NullReference))

@@ -92,11 +92,11 @@ pub fn searched(op: Op, text: ScalarRef<'_>, needle: ScalarRef<'_>) -> Result<bo
     let (ScalarRef::Text(text), ScalarRef::Text(needle)) = (text, needle) else {
         return Err(Fault::NullReference);
     };
-    found(op, text, needle)
+    text_matches(op, text, needle)
 }
 
 #[tactic(auto, using(crate::proofs::TextLemmas::searches))]
-fn found(op: Op, text: &str, needle: &str) -> Result<bool, Fault>
+fn text_matches(op: Op, text: &str, needle: &str) -> Result<bool, Fault>
     ensures { result ≡ found fault.NullReference op text.now needle.now }
 {
     match op {

@@ -62,7 +62,7 @@ fn coalesced(left: Strength, right: Strength) -> Strength
 }
 
 /// Of `condition ? left : right`.
-fn chosen(condition: Strength, left: Strength, right: Strength) -> Strength
+fn conditional(condition: Strength, left: Strength, right: Strength) -> Strength
     ensures total { result.total ≡ (condition.total && left.total && right.total) }
     ensures sure { result.sure ≡ (condition.total && left.sure && right.sure) }
 {
@@ -125,7 +125,7 @@ fn strength_of_node(node: &Node<Expr>) -> Strength
         Node::Coalesce(left, right) => coalesced(strength_of(left.get()), strength_of(right.get())),
         Node::Conditional(condition, left, right) => {
             let condition = strength_of(condition.get());
-            chosen(condition, strength_of(left.get()), strength_of(right.get()))
+            conditional(condition, strength_of(left.get()), strength_of(right.get()))
         }
         Node::Method(receiver, method, arguments) => match arguments.as_slice() {
             [Argument::Value(argument)] if is_search(method.as_str()) => {

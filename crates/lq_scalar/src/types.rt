@@ -22,26 +22,26 @@ fn is_number(known: ExprType) -> bool
 
 /// Whether there is a type, and it is `bool`.
 #[tactic(auto, using(crate::proofs::TypeLaws::layer_known))]
-fn is_bool(found: Option<ExprType>) -> bool
-    ensures { result ≡ is_bool_type (option_map shown_type found) }
+fn is_bool(expr_type: Option<ExprType>) -> bool
+    ensures { result ≡ is_bool_type (option_map shown_type expr_type) }
 {
-    matches!(found, Some(ExprType::Bool))
+    matches!(expr_type, Some(ExprType::Bool))
 }
 
 /// Whether there is a type, and it is `string`.
 #[tactic(auto, using(crate::proofs::TypeLaws::layer_known))]
-pub(crate) fn is_text(found: Option<ExprType>) -> bool
-    ensures { result ≡ is_text_type (option_map shown_type found) }
+pub(crate) fn is_text(expr_type: Option<ExprType>) -> bool
+    ensures { result ≡ is_text_type (option_map shown_type expr_type) }
 {
-    matches!(found, Some(ExprType::Str))
+    matches!(expr_type, Some(ExprType::Str))
 }
 
 /// Whether there is a type, and it is that of a row.
 #[tactic(auto, using(crate::proofs::TypeLaws::layer_known))]
-pub(crate) fn is_row(found: Option<ExprType>) -> bool
-    ensures { result ≡ is_row_type (option_map shown_type found) }
+pub(crate) fn is_row(expr_type: Option<ExprType>) -> bool
+    ensures { result ≡ is_row_type (option_map shown_type expr_type) }
 {
-    matches!(found, Some(ExprType::Row(_)))
+    matches!(expr_type, Some(ExprType::Row(_)))
 }
 
 /// The type of what operands that are truth values or texts give, where all of them are.
@@ -62,10 +62,10 @@ fn search_type(text: Option<ExprType>, part: Option<ExprType>) -> Option<ExprTyp
 
 /// The type of a number's negative.
 #[tactic(auto, using(crate::proofs::TypeLaws::layer_known))]
-fn negated(found: Option<ExprType>) -> Option<ExprType>
-    ensures { option_map shown_type result ≡ if_number (option_map shown_type found) }
+fn negated(expr_type: Option<ExprType>) -> Option<ExprType>
+    ensures { option_map shown_type result ≡ if_number (option_map shown_type expr_type) }
 {
-    let known = found?;
+    let known = expr_type?;
     is_number(known).then_some(known)
 }
 
@@ -153,7 +153,7 @@ fn coalesced(left: ExprType, right: ExprType) -> Option<ExprType>
 }
 
 /// The type of a choice between two rows, of one table.
-fn chosen_row(left: TableNumber, right: TableNumber) -> Option<ExprType>
+fn conditional_row(left: TableNumber, right: TableNumber) -> Option<ExprType>
     ensures { option_map shown_type result
         ≡ chosen (layer_of (kind.Row left)) (layer_of (kind.Row right)) }
 {
@@ -162,7 +162,7 @@ fn chosen_row(left: TableNumber, right: TableNumber) -> Option<ExprType>
 
 /// The type of a choice between values of these types: one type; `int?` where they are numbers; and
 /// beside null that of the other, where it may be null.
-fn chosen(left: ExprType, right: ExprType) -> Option<ExprType>
+fn conditional_type(left: ExprType, right: ExprType) -> Option<ExprType>
     ensures { option_map shown_type result ≡ chosen (layer_of left) (layer_of right) }
 {
     match (left, right) {
@@ -171,7 +171,7 @@ fn chosen(left: ExprType, right: ExprType) -> Option<ExprType>
         }
         (ExprType::Bool, ExprType::Bool) => Some(ExprType::Bool),
         (ExprType::Str, ExprType::Str) => Some(ExprType::Str),
-        (ExprType::Row(left), ExprType::Row(right)) => chosen_row(left, right),
+        (ExprType::Row(left), ExprType::Row(right)) => conditional_row(left, right),
         (ExprType::IntN | ExprType::Str | ExprType::Row(_), ExprType::Null) => Some(left),
         (ExprType::Null, ExprType::IntN | ExprType::Str | ExprType::Row(_)) => Some(right),
         _ => None,
@@ -243,7 +243,7 @@ fn type_of_node<N: Names>(names: &N, node: &Node<Expr>) -> Option<ExprType>
         }
         Node::Conditional(condition, left, right) if is_bool(type_of(names, condition.get())) => {
             let left = type_of(names, left.get())?;
-            chosen(left, type_of(names, right.get())?)
+            conditional_type(left, type_of(names, right.get())?)
         }
         Node::Conditional(_, _, _) | Node::Host(_, _) | Node::New(_) => None,
     }

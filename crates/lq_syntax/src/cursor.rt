@@ -55,7 +55,7 @@ impl<'a> Tokens<'a> {
     /// The next token, and those after it.
     #[tactic(auto, using(lq_lex::proofs::FrontLaws::head_tail))]
     pub fn next(&self) -> Option<(Token, &'a [Token])>
-        ensures { MatchOption result (self.now ≡ []) (λ found. self.now ≡ found.0 ∷ found.1.now) }
+        ensures { MatchOption result (self.now ≡ []) (λ front. self.now ≡ front.0 ∷ front.1.now) }
     {
         match self.rest {
             [token, behind @ ..] => Some((*token, behind)),

@@ -62,8 +62,9 @@ pub fn parse_tokens(
     requires { tokens_of line.now ≡ Some tokens.now }
     ensures read { ReadsLine (reading_of line.now) result }
     // The tokens of the line spell the tree that is given, within the limits of depth.
-    ensures tree { IfOk result (λ read. IfSome read (λ tree. IsSpelled line.now (part.Line tree))) }
-    ensures none { IfOk result (λ read. IsNone read ↔ (tokens_of line.now ≡ Some [])) }
+    ensures tree { IfOk result (λ statement. IfSome statement
+        (λ tree. IsSpelled line.now (part.Line tree))) }
+    ensures none { IfOk result (λ statement. IsNone statement ↔ (tokens_of line.now ≡ Some [])) }
     ensures too_deep { result ≡ Err SyntaxError.TooDeep → IsPastDepth line.now }
     // Where the line is refused for its syntax, its tokens spell none.
     ensures no_tree { result ≡ Err SyntaxError.Syntax → (tree : Statement)
@@ -92,8 +93,9 @@ fn read_line(alloc: Global, line: &str) -> Result<Option<Statement>, SyntaxError
 pub fn parse_statement(alloc: Global, line: &str) -> Result<Option<Statement>, SyntaxError>
     ensures read { ReadsLine (reading_of line.now) result }
     // The tokens of the line spell the tree that is given, within the limits of depth.
-    ensures tree { IfOk result (λ read. IfSome read (λ tree. IsSpelled line.now (part.Line tree))) }
-    ensures none { IfOk result (λ read. IsNone read ↔ (tokens_of line.now ≡ Some [])) }
+    ensures tree { IfOk result (λ statement. IfSome statement
+        (λ tree. IsSpelled line.now (part.Line tree))) }
+    ensures none { IfOk result (λ statement. IsNone statement ↔ (tokens_of line.now ≡ Some [])) }
     ensures too_deep { result ≡ Err SyntaxError.TooDeep → IsPastDepth line.now }
     // Where the line is refused for its syntax, its tokens spell none.
     ensures no_tree { result ≡ Err SyntaxError.Syntax → (tree : Statement)

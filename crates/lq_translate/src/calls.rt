@@ -24,7 +24,7 @@ pub trait Named: Drop {
 /// The calls that a query is translated to, built from its own parts.
 #[tactic(auto, unfolding(crate::specs::Translation::call_of))]
 pub fn call_of_query<X: Named>(alloc: Global, query: Query<X>) -> Result<Call<X>, AllocError>
-    ensures { IfOk result (λ made. made ≡ call_of X.naming query) }
+    ensures { IfOk result (λ call. call ≡ call_of X.naming query) }
 {
     let Query {
         name,
@@ -47,18 +47,18 @@ fn parts_of<X: Named>(
     alloc: Global,
     rest: List<Continuation<X>>,
 ) -> Result<List<Part<X>>, AllocError>
-    ensures { IfOk result (λ made. made ≡ map (part_of X.naming) rest) }
+    ensures { IfOk result (λ parts. parts ≡ map (part_of X.naming) rest) }
 {
-    let mut made = List::new(alloc);
+    let mut parts = List::new(alloc);
     for next in rest.into_vec() {
-        made.push(part(alloc, next)?)?;
+        parts.push(part(alloc, next)?)?;
     }
-    Ok(made)
+    Ok(parts)
 }
 
 /// The calls of a body that follows by `into`.
 fn part<X: Named>(alloc: Global, next: Continuation<X>) -> Result<Part<X>, AllocError>
-    ensures { IfOk result (λ made. made ≡ part_of X.naming next) }
+    ensures { IfOk result (λ part. part ≡ part_of X.naming next) }
 {
     let Continuation { name, body } = next;
     let operators = operators_of_body(alloc, &name, body)?;
@@ -72,21 +72,21 @@ fn operators_of_body<X: Named>(
     name: &Txt,
     body: Body<X>,
 ) -> Result<List<Operator<X>>, AllocError>
-    ensures { IfOk result (λ made. made ≡ body_operators X.naming name.now body) }
+    ensures { IfOk result (λ operators. operators ≡ body_operators X.naming name.now body) }
 {
     let Body { clauses, last } = body;
     let mut clauses = clauses.into_vec();
     match clauses.pop() {
         None => {
-            let mut made = List::new(alloc);
-            push_last(&mut made, name, false, true, last)?;
-            Ok(made)
+            let mut operators = List::new(alloc);
+            push_last(&mut operators, name, false, true, last)?;
+            Ok(operators)
         }
         Some(final_clause) => {
             let sole = stays_sole(clauses.as_slice());
-            let mut made = pairing_operators(alloc, clauses)?;
-            push_final(&mut made, name, sole, final_clause, last)?;
-            Ok(made)
+            let mut operators = pairing_operators(alloc, clauses)?;
+            push_final(&mut operators, name, sole, final_clause, last)?;
+            Ok(operators)
         }
     }
 }
@@ -122,37 +122,37 @@ fn pairing_operators<X: Drop>(
     alloc: Global,
     clauses: Vec<Clause<X>>,
 ) -> Result<List<Operator<X>>, AllocError>
-    ensures { IfOk result (λ made. made ≡ map paired_operator clauses.items) }
+    ensures { IfOk result (λ operators. operators ≡ map paired_operator clauses.items) }
 {
-    let mut made = List::new(alloc);
+    let mut operators = List::new(alloc);
     for clause in clauses {
-        made.push(operator_of(clause, Paired::Pair))?;
+        operators.push(operator_of(clause, Paired::Pair))?;
     }
-    Ok(made)
+    Ok(operators)
 }
 
 /// The call of a clause; where it pairs items, with what comes of each pair.
-fn operator_of<X: Drop>(clause: Clause<X>, made: Paired<X>) -> Operator<X>
-    ensures { result ≡ clause_operator clause made }
+fn operator_of<X: Drop>(clause: Clause<X>, outcome: Paired<X>) -> Operator<X>
+    ensures { result ≡ clause_operator clause outcome }
 {
     match clause {
-        Clause::From(name, source) => Operator::SelectMany(name, source, made),
+        Clause::From(name, source) => Operator::SelectMany(name, source, outcome),
         Clause::Let(name, value) => Operator::Let(name, value),
         Clause::Where(condition) => Operator::Where(condition),
-        Clause::Join(join) => Operator::Join(join, made),
+        Clause::Join(join) => Operator::Join(join, outcome),
         Clause::OrderBy(keys) => Operator::OrderBy(keys),
     }
 }
 
 /// Puts the calls of the last clause and of what ends the body after the others.
 fn push_final<X: Named>(
-    made: &mut List<Operator<X>>,
+    operators: &mut List<Operator<X>>,
     name: &Txt,
     sole: bool,
     clause: Clause<X>,
     last: Last<X>,
 ) -> Result<(), AllocError>
-    ensures { OnOk result (made.new ≡ made.old
+    ensures { OnOk result (operators.new ≡ operators.old
         ++ operators_of X.naming name.now true sole (clause ∷ []) last) }
 {
     let sole = sole && !brings_name(&clause);
@@ -160,15 +160,15 @@ fn push_final<X: Named>(
     match last {
         Last::Select(value) => {
             if makes {
-                made.push(operator_of(clause, Paired::Value(value)))?;
+                operators.push(operator_of(clause, Paired::Value(value)))?;
             } else {
-                made.push(operator_of(clause, Paired::Pair))?;
-                push_select(made, name, true, sole, value)?;
+                operators.push(operator_of(clause, Paired::Pair))?;
+                push_select(operators, name, true, sole, value)?;
             }
         }
         Last::Group(element, key) => {
-            made.push(operator_of(clause, Paired::Pair))?;
-            push_group(made, name, sole, element, key)?;
+            operators.push(operator_of(clause, Paired::Pair))?;
+            push_group(operators, name, sole, element, key)?;
         }
     }
     Ok(())
@@ -176,50 +176,51 @@ fn push_final<X: Named>(
 
 /// Puts the call of what ends a body after the others.
 fn push_last<X: Named>(
-    made: &mut List<Operator<X>>,
+    operators: &mut List<Operator<X>>,
     name: &Txt,
     used: bool,
     sole: bool,
     last: Last<X>,
 ) -> Result<(), AllocError>
-    ensures { OnOk result (made.new ≡ made.old ++ last_operators X.naming name.now used sole last) }
+    ensures { OnOk result (operators.new ≡ operators.old
+        ++ last_operators X.naming name.now used sole last) }
 {
     match last {
-        Last::Select(value) => push_select(made, name, used, sole, value),
-        Last::Group(element, key) => push_group(made, name, sole, element, key),
+        Last::Select(value) => push_select(operators, name, used, sole, value),
+        Last::Group(element, key) => push_group(operators, name, sole, element, key),
     }
 }
 
 /// Puts the call of a `select` after the others, where there is one.
 fn push_select<X: Named>(
-    made: &mut List<Operator<X>>,
+    operators: &mut List<Operator<X>>,
     name: &Txt,
     used: bool,
     sole: bool,
     value: X,
 ) -> Result<(), AllocError>
-    ensures { OnOk result (made.new ≡ made.old
+    ensures { OnOk result (operators.new ≡ operators.old
         ++ last_operators X.naming name.now used sole (last.Select value)) }
 {
     if used && sole && value.is_name(name) {
         return Ok(());
     }
-    made.push(Operator::Select(value))
+    operators.push(Operator::Select(value))
 }
 
 /// Puts the call of a `group` after the others.
 fn push_group<X: Named>(
-    made: &mut List<Operator<X>>,
+    operators: &mut List<Operator<X>>,
     name: &Txt,
     sole: bool,
     element: X,
     key: X,
 ) -> Result<(), AllocError>
-    ensures { OnOk result (made.new ≡ made.old
+    ensures { OnOk result (operators.new ≡ operators.old
         ++ last_operators X.naming name.now true sole (last.Group element key)) }
 {
     if sole && element.is_name(name) {
-        return made.push(Operator::GroupBy(key, None));
+        return operators.push(Operator::GroupBy(key, None));
     }
-    made.push(Operator::GroupBy(key, Some(element)))
+    operators.push(Operator::GroupBy(key, Some(element)))
 }

@@ -33,7 +33,7 @@ impl Named for Term {
 /// Refused where there is no memory for them, and only there.
 #[cycle(translating)]
 pub fn translate(alloc: Global, query: &Query<Expr>) -> Result<Call<Term>, AllocError>
-    ensures { IfOk result (λ made. made ≡ translated_query query.now) }
+    ensures { IfOk result (λ call. call ≡ translated_query query.now) }
 {
     let query = query_of(alloc, query)?;
     call_of_query(alloc, query)
@@ -45,7 +45,7 @@ pub fn translate(alloc: Global, query: &Query<Expr>) -> Result<Call<Term>, Alloc
 #[cycle(translating)]
 #[tactic(auto, using(crate::proofs::AlikeTermLaws::translated_node))]
 pub fn translate_expression(alloc: Global, expression: &Expr) -> Result<Term, AllocError>
-    ensures { IfOk result (λ made. made ≡ translated expression.now) }
+    ensures { IfOk result (λ translation. translation ≡ translated expression.now) }
 {
     match expression {
         Expr::Node(node) => term_of(alloc, node),
@@ -58,7 +58,7 @@ pub fn translate_expression(alloc: Global, expression: &Expr) -> Result<Term, Al
 #[inline(never)]
 #[tactic(auto, using(crate::proofs::AlikeTermLaws::translated_to_call))]
 fn call_of(alloc: Global, query: &Query<Expr>) -> Result<Term, AllocError>
-    ensures { IfOk result (λ made. made ≡ translated (expr.Query query.now)) }
+    ensures { IfOk result (λ translation. translation ≡ translated (expr.Query query.now)) }
 {
     let call = translate(alloc, query)?;
     Ok(Term::Call(Held::new(alloc, call)?))
@@ -68,14 +68,14 @@ fn call_of(alloc: Global, query: &Query<Expr>) -> Result<Term, AllocError>
 #[cycle(translating)]
 #[inline(never)]
 fn held(alloc: Global, expression: &Expr) -> Result<Held<Term>, AllocError>
-    ensures { IfOk result (λ made. made ≡ translated expression.now) }
+    ensures { IfOk result (λ translation. translation ≡ translated expression.now) }
 {
     Held::new(alloc, translate_expression(alloc, expression)?)
 }
 
 /// A copy of a name or of a text.
 fn copied(alloc: Global, text: &Txt) -> Result<Txt, AllocError>
-    ensures { IfOk result (λ made. made ≡ text.now) }
+    ensures { IfOk result (λ copy. copy ≡ text.now) }
 {
     Txt::from_str(alloc, text.as_str())
 }
@@ -84,7 +84,7 @@ fn copied(alloc: Global, text: &Txt) -> Result<Txt, AllocError>
 /// stack than all forms together: expressions may be many thousand operators deep.
 #[cycle(translating)]
 fn term_of(alloc: Global, form: &Node<Expr>) -> Result<Term, AllocError>
-    ensures { IfOk result (λ made. made ≡ term.Node (map_node translated form.now)) }
+    ensures { IfOk result (λ translation. translation ≡ term.Node (map_node translated form.now)) }
 {
     match form {
         Node::Integer(number) => Ok(Term::Node(Node::Integer(*number))),
@@ -112,14 +112,14 @@ fn term_of(alloc: Global, form: &Node<Expr>) -> Result<Term, AllocError>
 
 #[inline(never)]
 fn text_of(alloc: Global, text: &Txt) -> Result<Term, AllocError>
-    ensures { IfOk result (λ made. made ≡ term.Node (node.Text text.now)) }
+    ensures { IfOk result (λ translation. translation ≡ term.Node (node.Text text.now)) }
 {
     Ok(Term::Node(Node::Text(copied(alloc, text)?)))
 }
 
 #[inline(never)]
 fn name_of(alloc: Global, name: &Txt) -> Result<Term, AllocError>
-    ensures { IfOk result (λ made. made ≡ term.Node (node.Name name.now)) }
+    ensures { IfOk result (λ translation. translation ≡ term.Node (node.Name name.now)) }
 {
     Ok(Term::Node(Node::Name(copied(alloc, name)?)))
 }
@@ -127,7 +127,7 @@ fn name_of(alloc: Global, name: &Txt) -> Result<Term, AllocError>
 #[cycle(translating)]
 #[inline(never)]
 fn member_of(alloc: Global, operand: &Expr, member: &Txt) -> Result<Term, AllocError>
-    ensures { IfOk result (λ made. made
+    ensures { IfOk result (λ translation. translation
         ≡ term.Node (node.Member (translated operand.now) member.now)) }
 {
     let operand = held(alloc, operand)?;
@@ -137,7 +137,8 @@ fn member_of(alloc: Global, operand: &Expr, member: &Txt) -> Result<Term, AllocE
 #[cycle(translating)]
 #[inline(never)]
 fn unary_of(alloc: Global, sign: Unary, operand: &Expr) -> Result<Term, AllocError>
-    ensures { IfOk result (λ made. made ≡ term.Node (node.Unary sign (translated operand.now))) }
+    ensures { IfOk result (λ translation. translation
+        ≡ term.Node (node.Unary sign (translated operand.now))) }
 {
     Ok(Term::Node(Node::Unary(sign, held(alloc, operand)?)))
 }
@@ -145,7 +146,7 @@ fn unary_of(alloc: Global, sign: Unary, operand: &Expr) -> Result<Term, AllocErr
 #[cycle(translating)]
 #[inline(never)]
 fn binary_of(alloc: Global, sign: Binary, left: &Expr, right: &Expr) -> Result<Term, AllocError>
-    ensures { IfOk result (λ made. made
+    ensures { IfOk result (λ translation. translation
         ≡ term.Node (node.Binary sign (translated left.now) (translated right.now))) }
 {
     let left = held(alloc, left)?;
@@ -155,7 +156,7 @@ fn binary_of(alloc: Global, sign: Binary, left: &Expr, right: &Expr) -> Result<T
 #[cycle(translating)]
 #[inline(never)]
 fn and_of(alloc: Global, left: &Expr, right: &Expr) -> Result<Term, AllocError>
-    ensures { IfOk result (λ made. made
+    ensures { IfOk result (λ translation. translation
         ≡ term.Node (node.And (translated left.now) (translated right.now))) }
 {
     let left = held(alloc, left)?;
@@ -165,7 +166,7 @@ fn and_of(alloc: Global, left: &Expr, right: &Expr) -> Result<Term, AllocError>
 #[cycle(translating)]
 #[inline(never)]
 fn or_of(alloc: Global, left: &Expr, right: &Expr) -> Result<Term, AllocError>
-    ensures { IfOk result (λ made. made
+    ensures { IfOk result (λ translation. translation
         ≡ term.Node (node.Or (translated left.now) (translated right.now))) }
 {
     let left = held(alloc, left)?;
@@ -175,7 +176,7 @@ fn or_of(alloc: Global, left: &Expr, right: &Expr) -> Result<Term, AllocError>
 #[cycle(translating)]
 #[inline(never)]
 fn coalesce_of(alloc: Global, left: &Expr, right: &Expr) -> Result<Term, AllocError>
-    ensures { IfOk result (λ made. made
+    ensures { IfOk result (λ translation. translation
         ≡ term.Node (node.Coalesce (translated left.now) (translated right.now))) }
 {
     let left = held(alloc, left)?;
@@ -190,7 +191,7 @@ fn conditional_of(
     left: &Expr,
     right: &Expr,
 ) -> Result<Term, AllocError>
-    ensures { IfOk result (λ made. made
+    ensures { IfOk result (λ translation. translation
         ≡ term.Node (node.Conditional (translated condition.now) (translated left.now)
         (translated right.now))) }
 {
@@ -202,7 +203,7 @@ fn conditional_of(
 #[cycle(translating)]
 #[inline(never)]
 fn host_of(alloc: Global, asked: &List<Expr>, predicate: &Txt) -> Result<Term, AllocError>
-    ensures { IfOk result (λ made. made
+    ensures { IfOk result (λ translation. translation
         ≡ term.Node (node.Host predicate.now (map translated asked.now))) }
 {
     let predicate = copied(alloc, predicate)?;
@@ -212,7 +213,7 @@ fn host_of(alloc: Global, asked: &List<Expr>, predicate: &Txt) -> Result<Term, A
 #[cycle(translating)]
 #[inline(never)]
 fn record_of(alloc: Global, fields: &List<Field<Expr>>) -> Result<Term, AllocError>
-    ensures { IfOk result (λ made. made
+    ensures { IfOk result (λ translation. translation
         ≡ term.Node (node.New (map (map_field translated) fields.now))) }
 {
     Ok(Term::Node(Node::New(fields_of(alloc, fields)?)))
@@ -226,7 +227,7 @@ fn method_of(
     receiver: Held<Term>,
     method: &Txt,
 ) -> Result<Term, AllocError>
-    ensures { IfOk result (λ made. made
+    ensures { IfOk result (λ translation. translation
         ≡ term.Node (node.Method receiver method.now
         (map (map_argument translated) arguments.now))) }
 {
@@ -236,26 +237,26 @@ fn method_of(
 
 #[cycle(translating)]
 fn expressions_of(alloc: Global, expressions: &List<Expr>) -> Result<List<Term>, AllocError>
-    ensures { IfOk result (λ made. made ≡ map translated expressions.now) }
+    ensures { IfOk result (λ terms. terms ≡ map translated expressions.now) }
 {
-    let mut made = List::new(alloc);
+    let mut terms = List::new(alloc);
     for expression in expressions.as_slice() {
-        made.push(translate_expression(alloc, expression)?)?;
+        terms.push(translate_expression(alloc, expression)?)?;
     }
-    Ok(made)
+    Ok(terms)
 }
 
 #[cycle(translating)]
 fn fields_of(alloc: Global, fields: &List<Field<Expr>>) -> Result<List<Field<Term>>, AllocError>
-    ensures { IfOk result (λ made. made ≡ map (map_field translated) fields.now) }
+    ensures { IfOk result (λ translations. translations ≡ map (map_field translated) fields.now) }
 {
-    let mut made = List::new(alloc);
+    let mut translations = List::new(alloc);
     for field in fields.as_slice() {
         let name = copied(alloc, &field.name)?;
         let value = translate_expression(alloc, &field.value)?;
-        made.push(Field { name, value })?;
+        translations.push(Field { name, value })?;
     }
-    Ok(made)
+    Ok(translations)
 }
 
 #[cycle(translating)]
@@ -263,18 +264,19 @@ fn arguments_of(
     alloc: Global,
     arguments: &List<Argument<Expr>>,
 ) -> Result<List<Argument<Term>>, AllocError>
-    ensures { IfOk result (λ made. made ≡ map (map_argument translated) arguments.now) }
+    ensures { IfOk result (λ translations. translations
+        ≡ map (map_argument translated) arguments.now) }
 {
-    let mut made = List::new(alloc);
+    let mut translations = List::new(alloc);
     for argument in arguments.as_slice() {
-        made.push(argument_of(alloc, argument)?)?;
+        translations.push(argument_of(alloc, argument)?)?;
     }
-    Ok(made)
+    Ok(translations)
 }
 
 #[cycle(translating)]
 fn argument_of(alloc: Global, argument: &Argument<Expr>) -> Result<Argument<Term>, AllocError>
-    ensures { IfOk result (λ made. made ≡ map_argument translated argument.now) }
+    ensures { IfOk result (λ translation. translation ≡ map_argument translated argument.now) }
 {
     match argument {
         Argument::Value(value) => Ok(Argument::Value(translate_expression(alloc, value)?)),
@@ -287,7 +289,7 @@ fn argument_of(alloc: Global, argument: &Argument<Expr>) -> Result<Argument<Term
 
 #[cycle(translating)]
 fn query_of(alloc: Global, query: &Query<Expr>) -> Result<Query<Term>, AllocError>
-    ensures { IfOk result (λ made. made ≡ map_query translated query.now) }
+    ensures { IfOk result (λ translation. translation ≡ map_query translated query.now) }
 {
     let name = copied(alloc, &query.name)?;
     let source = translate_expression(alloc, &query.source)?;
@@ -306,20 +308,20 @@ fn rest_of(
     alloc: Global,
     rest: &List<Continuation<Expr>>,
 ) -> Result<List<Continuation<Term>>, AllocError>
-    ensures { IfOk result (λ made. made ≡ map (map_next translated) rest.now) }
+    ensures { IfOk result (λ translations. translations ≡ map (map_next translated) rest.now) }
 {
-    let mut made = List::new(alloc);
+    let mut translations = List::new(alloc);
     for next in rest.as_slice() {
         let name = copied(alloc, &next.name)?;
         let body = body_of(alloc, &next.body)?;
-        made.push(Continuation { name, body })?;
+        translations.push(Continuation { name, body })?;
     }
-    Ok(made)
+    Ok(translations)
 }
 
 #[cycle(translating)]
 fn body_of(alloc: Global, body: &Body<Expr>) -> Result<Body<Term>, AllocError>
-    ensures { IfOk result (λ made. made ≡ map_body translated body.now) }
+    ensures { IfOk result (λ translation. translation ≡ map_body translated body.now) }
 {
     let clauses = clauses_of(alloc, &body.clauses)?;
     let last = last_of(alloc, &body.last)?;
@@ -328,18 +330,18 @@ fn body_of(alloc: Global, body: &Body<Expr>) -> Result<Body<Term>, AllocError>
 
 #[cycle(translating)]
 fn clauses_of(alloc: Global, clauses: &List<Clause<Expr>>) -> Result<List<Clause<Term>>, AllocError>
-    ensures { IfOk result (λ made. made ≡ map (map_clause translated) clauses.now) }
+    ensures { IfOk result (λ translations. translations ≡ map (map_clause translated) clauses.now) }
 {
-    let mut made = List::new(alloc);
+    let mut translations = List::new(alloc);
     for clause in clauses.as_slice() {
-        made.push(clause_of(alloc, clause)?)?;
+        translations.push(clause_of(alloc, clause)?)?;
     }
-    Ok(made)
+    Ok(translations)
 }
 
 #[cycle(translating)]
 fn clause_of(alloc: Global, clause: &Clause<Expr>) -> Result<Clause<Term>, AllocError>
-    ensures { IfOk result (λ made. made ≡ map_clause translated clause.now) }
+    ensures { IfOk result (λ translation. translation ≡ map_clause translated clause.now) }
 {
     match clause {
         Clause::From(name, source) => {
@@ -358,7 +360,7 @@ fn clause_of(alloc: Global, clause: &Clause<Expr>) -> Result<Clause<Term>, Alloc
 
 #[cycle(translating)]
 fn join_of(alloc: Global, join: &Join<Expr>) -> Result<Join<Term>, AllocError>
-    ensures { IfOk result (λ made. made ≡ map_join translated join.now) }
+    ensures { IfOk result (λ translation. translation ≡ map_join translated join.now) }
 {
     let name = copied(alloc, &join.name)?;
     let source = translate_expression(alloc, &join.source)?;
@@ -376,7 +378,7 @@ fn join_of(alloc: Global, join: &Join<Expr>) -> Result<Join<Term>, AllocError>
 
 /// A copy of the name of a `join`'s matches, where it has one.
 fn matches_name(alloc: Global, name: &Option<Txt>) -> Result<Option<Txt>, AllocError>
-    ensures { IfOk result (λ made. made ≡ name.now) }
+    ensures { IfOk result (λ copy. copy ≡ name.now) }
 {
     match name {
         None => Ok(None),
@@ -386,22 +388,22 @@ fn matches_name(alloc: Global, name: &Option<Txt>) -> Result<Option<Txt>, AllocE
 
 #[cycle(translating)]
 fn keys_of(alloc: Global, keys: &List<SortKey<Expr>>) -> Result<List<SortKey<Term>>, AllocError>
-    ensures { IfOk result (λ made. made ≡ map (map_key translated) keys.now) }
+    ensures { IfOk result (λ translations. translations ≡ map (map_key translated) keys.now) }
 {
-    let mut made = List::new(alloc);
+    let mut translations = List::new(alloc);
     for key in keys.as_slice() {
         let value = translate_expression(alloc, &key.value)?;
-        made.push(SortKey {
+        translations.push(SortKey {
             value,
             descending: key.descending,
         })?;
     }
-    Ok(made)
+    Ok(translations)
 }
 
 #[cycle(translating)]
 fn last_of(alloc: Global, last: &Last<Expr>) -> Result<Last<Term>, AllocError>
-    ensures { IfOk result (λ made. made ≡ map_last translated last.now) }
+    ensures { IfOk result (λ translation. translation ≡ map_last translated last.now) }
 {
     match last {
         Last::Select(value) => Ok(Last::Select(translate_expression(alloc, value)?)),

@@ -16,7 +16,7 @@ const MOST_PARTS: usize = 4096;
 /// A copy of a type, equal to it.
 #[cycle(copying)]
 pub fn copy_ty(alloc: Global, ty: &Ty) -> Result<Ty, AllocError>
-    ensures { IfOk result (λ made. made ≡ ty.now) }
+    ensures { IfOk result (λ copy. copy ≡ ty.now) }
 {
     match ty {
         Ty::Int => Ok(Ty::Int),
@@ -36,7 +36,7 @@ pub fn copy_ty(alloc: Global, ty: &Ty) -> Result<Ty, AllocError>
 
 #[cycle(copying)]
 fn copy_members(alloc: Global, members: &List<(Txt, Ty)>) -> Result<List<(Txt, Ty)>, AllocError>
-    ensures { IfOk result (λ made. made ≡ members.now) }
+    ensures { IfOk result (λ copy. copy ≡ members.now) }
 {
     let mut copied = List::new(alloc);
     for (name, ty) in members.as_slice() {

@@ -131,7 +131,7 @@ pub fn coalesced(left: &Ty, right: &Ty) -> Option<Ty>
 
 /// The type of a choice between null and what is of this type, which may be null.
 #[tactic(auto, using(crate::proofs::TypeLayers::layers))]
-fn chosen_beside_null(other: Ty) -> Option<Ty>
+fn choice_beside_null(other: Ty) -> Option<Ty>
     ensures { result ≡ type_of_choice (out-Ty ty.Null) (out-Ty other) }
 {
     match other {
@@ -142,7 +142,7 @@ fn chosen_beside_null(other: Ty) -> Option<Ty>
 
 /// The type of a choice between what is of this record type and what is of the other one, or null.
 #[tactic(auto, using(crate::proofs::TypeLayers::layers))]
-fn chosen_record(members: List<(Txt, Ty)>, right: Ty) -> Option<Ty>
+fn choice_of_record(members: List<(Txt, Ty)>, right: Ty) -> Option<Ty>
     ensures { result ≡ type_of_choice (out-Ty (ty.Rec members)) (out-Ty right) }
 {
     let left = Ty::Rec(members);
@@ -156,7 +156,7 @@ fn chosen_record(members: List<(Txt, Ty)>, right: Ty) -> Option<Ty>
 /// The type of a choice between values of these types: one type; `int?` where they are numbers; and
 /// beside null that of the other, where it may be null (ECMA-334, conditional operator).
 #[tactic(auto, using(crate::proofs::TypeLayers::layers))]
-pub fn chosen(left: Ty, right: Ty) -> Option<Ty>
+pub fn choice_type(left: Ty, right: Ty) -> Option<Ty>
     ensures { result ≡ type_of_choice (out-Ty left) (out-Ty right) }
 {
     match left {
@@ -182,29 +182,29 @@ pub fn chosen(left: Ty, right: Ty) -> Option<Ty>
             Ty::Null => Some(Ty::Row(table)),
             _ => None,
         },
-        Ty::Rec(members) => chosen_record(members, right),
-        Ty::Null => chosen_beside_null(right),
+        Ty::Rec(members) => choice_of_record(members, right),
+        Ty::Null => choice_beside_null(right),
         Ty::Seq(_) | Ty::Group(_, _) => None,
     }
 }
 
 /// The sequence of items of the type.
 fn sequence_of(alloc: Global, item: Ty) -> Result<Ty, AllocError>
-    ensures { IfOk result (λ made. made ≡ ty.Seq item) }
+    ensures { IfOk result (λ sequence. sequence ≡ ty.Seq item) }
 {
     Ok(Ty::Seq(Held::new(alloc, item)?))
 }
 
 /// The sequence of items of the type, which stays as it is.
 fn copied_sequence(alloc: Global, item: &Ty) -> Result<Ty, AllocError>
-    ensures { IfOk result (λ made. made ≡ ty.Seq item.now) }
+    ensures { IfOk result (λ sequence. sequence ≡ ty.Seq item.now) }
 {
     sequence_of(alloc, copy_ty(alloc, item)?)
 }
 
 /// A copy of the type where this holds.
 fn copied_if(alloc: Global, holds: bool, ty: &Ty) -> Result<Option<Ty>, AllocError>
-    ensures { IfOk result (λ made. made ≡ when holds (Some ty.now)) }
+    ensures { IfOk result (λ copy. copy ≡ when holds (Some ty.now)) }
 {
     if !holds {
         return Ok(None);
@@ -214,7 +214,7 @@ fn copied_if(alloc: Global, holds: bool, ty: &Ty) -> Result<Option<Ty>, AllocErr
 
 /// The sequence of items of the type where this holds.
 fn sequence_if(alloc: Global, holds: bool, item: &Ty) -> Result<Option<Ty>, AllocError>
-    ensures { IfOk result (λ made. made ≡ when holds (Some (ty.Seq item.now))) }
+    ensures { IfOk result (λ sequence. sequence ≡ when holds (Some (ty.Seq item.now))) }
 {
     if !holds {
         return Ok(None);
@@ -224,7 +224,7 @@ fn sequence_if(alloc: Global, holds: bool, item: &Ty) -> Result<Option<Ty>, Allo
 
 /// The type of a method without an argument, on items of this type; None where it takes no such items (.NET, Enumerable).
 pub fn simple_type(alloc: Global, method: Simple, item: &Ty) -> Result<Option<Ty>, AllocError>
-    ensures { IfOk result (λ made. made ≡ simple_type method item.now) }
+    ensures { IfOk result (λ method_type. method_type ≡ simple_type method item.now) }
 {
     match method {
         Simple::Distinct => sequence_if(alloc, is_key(item), item),
@@ -260,7 +260,8 @@ pub fn given_type(
     item: &Ty,
     argument: &Ty,
 ) -> Result<Option<Ty>, AllocError>
-    ensures { IfOk result (λ made. made ≡ given_type method item.now (Some argument.now)) }
+    ensures { IfOk result (λ method_type. method_type
+        ≡ given_type method item.now (Some argument.now)) }
 {
     match method {
         Given::Concat => sequence_if(alloc, has_items(item, argument), item),
@@ -284,7 +285,8 @@ pub fn through_type(
     item: &Ty,
     body: &Ty,
 ) -> Result<Option<Ty>, AllocError>
-    ensures { IfOk result (λ made. made ≡ through_type method item.now (Some body.now)) }
+    ensures { IfOk result (λ method_type. method_type
+        ≡ through_type method item.now (Some body.now)) }
 {
     match method {
         Through::Where => sequence_if(alloc, is_bool(body), item),

@@ -8,8 +8,8 @@ use Rattle.lq_operators.proofs.firsts.sift.Goals as goal
 
 pub returns : goal.returns
 returns g c =
-    let so_far : c.loop-item.kept ≡ sifted c.args.keeps.now c.loop-item.yielded =
-    sifted_done c.loop-item.kept c.loop-item.rest.now c.args.keeps.now c.loop-item.yielded (c.loop-item.invariant []) in
+    let so_far : c.loop-item.selection ≡ sifted c.args.keeps.now c.loop-item.yielded =
+    sifted_done c.loop-item.selection c.loop-item.rest.now c.args.keeps.now c.loop-item.yielded (c.loop-item.invariant []) in
     let made = c.into_iter-item-iterator.ensures.into_iter_gives in
     let vector = c.into_vec-item-items.ensures in
     let all = YieldsList-end (YieldsList-from_vec {s = c.into_iter-item-iterator.result} c.args.items (made.0 ∙ vector) (made.1

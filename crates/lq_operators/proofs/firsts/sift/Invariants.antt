@@ -4,4 +4,4 @@ use Rattle.lq_operators.proofs.firsts.sift.Given as goal
 
 -- whatever items follow, those kept so far and those kept of these are all
 abbrev pub invariant-loop-item : goal.invariant-loop-item
-invariant-loop-item g l = (zs : List _) → l.kept ++ sifted l.rest zs ≡ sifted l.keeps (l.yielded ++ zs)
+invariant-loop-item g l = (zs : List _) → l.selection ++ sifted l.rest zs ≡ sifted l.keeps (l.yielded ++ zs)

@@ -14,4 +14,4 @@ loop-item-preserved g c =
 
 pub returns : goal.returns
 returns g c =
-    tallied_whole c.args.ty.now c.loop-item.tally c.args.items.now _ c.args.end _ _ c.loop-item-test.false c.told.ensures c.loop-item.invariant
+    tallied_whole c.args.ty.now c.loop-item.tally c.args.items.now _ c.args.end _ _ c.loop-item-test.false c.result.ensures c.loop-item.invariant

@@ -6,4 +6,4 @@ use Rattle.lq_operators.proofs.pairs.push_at.Goals as goal
 pub returns-in-None : goal.returns-in-None
 returns-in-None g c =
     let past = c.in-None.ensures.lookup in
-    none_pushed c.args.made.now (slice_get c.args.values.now c.args.place) (slice_get_past c.args.values.now c.args.place (omega (arith, past)))
+    none_pushed c.args.elements.now (slice_get c.args.values.now c.args.place) (slice_get_past c.args.values.now c.args.place (omega (arith, past)))

@@ -89,19 +89,19 @@ decreases-call_of l = 10 * goal.size-call_of l + 9
 -- ---- what is copied so far
 
 abbrev pub invariant-expressions_of-loop-expression : goal.invariant-expressions_of-loop-expression
-invariant-expressions_of-loop-expression l = l.made ≡ map translated (take l.expression-index l.expression-items)
+invariant-expressions_of-loop-expression l = l.terms ≡ map translated (take l.expression-index l.expression-items)
 
 abbrev pub invariant-fields_of-loop-field : goal.invariant-fields_of-loop-field
-invariant-fields_of-loop-field l = l.made ≡ map (map_field translated) (take l.field-index l.field-items)
+invariant-fields_of-loop-field l = l.translations ≡ map (map_field translated) (take l.field-index l.field-items)
 
 abbrev pub invariant-arguments_of-loop-argument : goal.invariant-arguments_of-loop-argument
-invariant-arguments_of-loop-argument l = l.made ≡ map (map_argument translated) (take l.argument-index l.argument-items)
+invariant-arguments_of-loop-argument l = l.translations ≡ map (map_argument translated) (take l.argument-index l.argument-items)
 
 abbrev pub invariant-rest_of-loop-next : goal.invariant-rest_of-loop-next
-invariant-rest_of-loop-next l = l.made ≡ map (map_next translated) (take l.next-index l.next-items)
+invariant-rest_of-loop-next l = l.translations ≡ map (map_next translated) (take l.next-index l.next-items)
 
 abbrev pub invariant-clauses_of-loop-clause : goal.invariant-clauses_of-loop-clause
-invariant-clauses_of-loop-clause l = l.made ≡ map (map_clause translated) (take l.clause-index l.clause-items)
+invariant-clauses_of-loop-clause l = l.translations ≡ map (map_clause translated) (take l.clause-index l.clause-items)
 
 abbrev pub invariant-keys_of-loop-key : goal.invariant-keys_of-loop-key
-invariant-keys_of-loop-key l = l.made ≡ map (map_key translated) (take l.key-index l.key-items)
+invariant-keys_of-loop-key l = l.translations ≡ map (map_key translated) (take l.key-index l.key-items)

@@ -34,8 +34,8 @@ decreases-either g l = 4 * max (the_size l.left.now) (the_size l.right.now) + 2
 abbrev pub decreases-coalesced : goal.decreases-coalesced
 decreases-coalesced g l = 4 * max (the_size l.left.now) (the_size l.right.now) + 2
 
-abbrev pub decreases-chosen : goal.decreases-chosen
-decreases-chosen g l = 4 * max (the_size l.condition.now) (max (the_size l.left.now) (the_size l.right.now)) + 2
+abbrev pub decreases-conditional : goal.decreases-conditional
+decreases-conditional g l = 4 * max (the_size l.condition.now) (max (the_size l.left.now) (the_size l.right.now)) + 2
 
 abbrev pub decreases-node : goal.decreases-node
 decreases-node g l = 4 * goal.size-node g l + 3
