@@ -3,6 +3,7 @@ pub mod CallTypes
 pub mod CallUses
 pub mod FormSteps
 pub mod FormUseLaws
+pub mod KindAnswers
 pub mod KindsSuffice
 pub mod MappedItems
 pub mod MappedMethods

@@ -1,6 +1,7 @@
 pub mod Binding
 pub mod BindingLaws
 pub mod FormMeaning
+pub mod KindLaws
 pub mod OperandKinds
 pub mod Places
 pub mod RowLaws

@@ -1,6 +1,6 @@
 -- What kind of values the operands of each form are, decided by the values alone and not by types. Where a form is run as is said here, no
 -- arm of `FormMeaning`, or of what it is built from, is reached that is there for an operand of another kind: those that answer what is
--- unknown, and those that don't ask for it, which are named beside the kind that excludes them.
+-- unknown, and those that don't ask for it, which are named beside the kind that excludes them (`KindLaws`).
 use Rattle.std.specs.Prelude.{◌≡◌, ◌∷◌, ◌++◌, ◌&&◌, ◌||◌, List, [], map, ℕ, Bool, true, false, Some, Ok, slice_get}
 use Rattle.lq_value.specs.SameAndOrder.{IsKey}
 use Rattle.lq_value.specs.declared.scalar.Scalar.{Scalar}

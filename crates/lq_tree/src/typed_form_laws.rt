@@ -1,5 +1,7 @@
 //! Laws of typed forms. Each function's contract is the law that it is named for; the functions
 //! themselves do nothing.
+ghost use Rattle.lq_tree.specs.KindLaws.{DefaultsAreThere, EqualsOneKind, ItemsAreEnumerated, KeysAreSame, NoNumbersAreThere};
+ghost use Rattle.lq_tree.specs.KindLaws.{NullIsNull, NumbersAreRead, OrdersNumbers, PairsHaveParts, SortsOneKind, TakesOneAlike, TakesTwoAlike};
 ghost use Rattle.lq_tree.specs.TypedFormLaws.{KeepsItems, KeepsShapes, KindsSuffice, MeetsOperands, PlacesAreTyped};
 ghost use Rattle.lq_tree.specs.TypedFormLaws.{StatementsMeetOperands, TypedCalls, TypedExpressions, TypedStatements, TypedTrees};
 
@@ -36,4 +38,29 @@ pub fn operands_are_of_their_kinds<R>()
 /// case of its meaning that answers this for an operand of another kind is reached.
 pub fn kinds_suffice<R>()
     ensures { KindsSuffice R }
+{}
+
+/// Operands of these kinds don't meet the answers either that stand for one of another kind and don't
+/// ask what is unknown: a pair is its two parts, two keys are the same by their contents or member by
+/// member, a sort compares two scalars of one kind, all numbers of items are read, what is enumerated
+/// has its own items, and a default is that of a type that has one. Null alone is null.
+pub fn kinds_exclude_others<R>()
+    ensures pairs { PairsHaveParts R }
+    ensures keys { KeysAreSame R }
+    ensures order { SortsOneKind R }
+    ensures numbers { NumbersAreRead R }
+    ensures items { ItemsAreEnumerated R }
+    ensures defaults { DefaultsAreThere R }
+    ensures null { NullIsNull R }
+{}
+
+/// The same of scalars: an operator works on the operands that the laws of operators say it takes; on
+/// these `<` and `==` answer by their contents, and by which of them is null, alone; and the least or
+/// greatest of no number is a fault of `int`, and null of `int?`.
+pub fn kinds_of_scalars()
+    ensures one { TakesOneAlike }
+    ensures two { TakesTwoAlike }
+    ensures less { OrdersNumbers }
+    ensures equal { EqualsOneKind }
+    ensures none { NoNumbersAreThere }
 {}
