@@ -16,7 +16,7 @@ use Rattle.lq_language.specs.declared.calls.Term.TheVariants as term
 use Rattle.lq_grammar.specs.declared.syntax.Join.{Join}
 use Rattle.lq_grammar.specs.declared.syntax.Node.{Node}
 use Rattle.lq_store.specs.Rules.{name_of}
-use Rattle.lq_tree.specs.Binding.{Binds, Stage, call_items_tree, call_tree, global_tree, if_fresh, join_keys, join_stage, joined_stage, matched_type, name_tree, node_tree, query_tree, source_tree, term_tree}
+use Rattle.lq_tree.specs.Binding.{Binds, PipelineForm, call_items_tree, call_tree, global_tree, if_fresh, join_keys, join_stage, joined_stage, matched_type, name_tree, node_tree, query_tree, source_tree, term_tree}
 use Rattle.lq_tree.specs.Places.{Place, Places, with_item}
 use Rattle.lq_tree.specs.declared.tree.Form.{Form}
 use Rattle.lq_tree.specs.declared.tree.Tree.{Tree}
@@ -92,18 +92,18 @@ pub ruleset calls = (call_query)
 
 -- ---- joins
 
-type_by : (made : Form → Form × Form → Ty → Option Stage) (inner : Tree) (keys : Form × Form) (t : Option Ty)
+type_by : (made : Form → Form × Form → Ty → Option PipelineForm) (inner : Tree) (keys : Form × Form) (t : Option Ty)
     → option_and_then (made inner.form keys) t ≡ option_and_then (λ (side : InnerSide). made side.items side.keys side.ty) (option_map (inner_side inner keys) t)
 type_by made inner keys None = refl
 type_by made inner keys (Some t) = refl
 
-keys_by : (made : Form → Form × Form → Ty → Option Stage) (type : Ty → Option Ty) (inner : Tree) (keys : Option (Form × Form))
+keys_by : (made : Form → Form × Form → Ty → Option PipelineForm) (type : Ty → Option Ty) (inner : Tree) (keys : Option (Form × Form))
     → option_and_then (λ ks. option_and_then (made inner.form ks) (type inner.ty)) keys
     ≡ option_and_then (λ (side : InnerSide). made side.items side.keys side.ty) (option_and_then (λ ks. option_map (inner_side inner ks) (type inner.ty)) keys)
 keys_by made type inner None = refl
 keys_by made type inner (Some ks) = type_by made inner ks (type inner.ty)
 
-join_by : (made : Form → Form × Form → Ty → Option Stage) (keys : Ty → Option (Form × Form)) (type : Ty → Option Ty) (inner : Option Tree)
+join_by : (made : Form → Form × Form → Ty → Option PipelineForm) (keys : Ty → Option (Form × Form)) (type : Ty → Option Ty) (inner : Option Tree)
     → option_and_then (λ (x : Tree). option_and_then (λ ks. option_and_then (made x.form ks) (type x.ty)) (keys x.ty)) inner
     ≡ option_and_then (λ (side : InnerSide). made side.items side.keys side.ty) (option_and_then (side_by_keys keys type) inner)
 join_by made keys type None = refl
@@ -115,7 +115,7 @@ type_at schemas tree places p None t = refl
 type_at schemas tree places p (Some g) t = refl
 
 -- a join is its inner side, and what comes of the pairs then
-pub join_by_sides : (schemas : List Schema) (tree : Term → Binds) (places : Places) (j : Join Term) (result : Paired Term) (stage : Stage)
+pub join_by_sides : (schemas : List Schema) (tree : Term → Binds) (places : Places) (j : Join Term) (result : Paired Term) (stage : PipelineForm)
     → join_stage schemas tree places j result stage
     ≡ option_and_then (λ (side : InnerSide). joined_stage schemas tree places j result stage side.items side.keys side.ty) (side_in schemas tree places stage.pattern j)
 join_by_sides schemas tree places j result stage =

@@ -27,7 +27,7 @@ use Rattle.lq_grammar.specs.declared.syntax.Join.{Join}
 use Rattle.lq_grammar.specs.declared.syntax.Node.{Node}
 use Rattle.lq_grammar.specs.declared.syntax.SortKey.{SortKey}
 use Rattle.lq_translate.specs.Translated.{translated}
-use Rattle.lq_tree.specs.Binding.{Binds, Stage, tree_of}
+use Rattle.lq_tree.specs.Binding.{Binds, PipelineForm, tree_of}
 use Rattle.lq_tree.specs.Binding as binding
 use Rattle.lq_tree.specs.Places.{Places, SessionPlace, session_place, with_item, with_name}
 use Rattle.lq_tree.specs.SessionPlaces.{places_outside, session_places, tree_or_null}
@@ -190,7 +190,7 @@ module _ (binder : Binder) (frame : Frame) where
   abbrev pub body_at : List ℕ → List (Operator Term) → Tree → Option Tree
   body_at name operators items = binding.body_tree schemas tree places name operators items
 
-  abbrev pub operator_at : Operator Term → Stage → Option Stage
+  abbrev pub operator_at : Operator Term → PipelineForm → Option PipelineForm
   operator_at operator stage = binding.operator_stage schemas tree places operator stage
 
   abbrev pub group_key_at : Pattern → Term → Option Tree
@@ -199,7 +199,7 @@ module _ (binder : Binder) (frame : Frame) where
   abbrev pub element_at : Pattern → Option Term → Option Tree
   element_at p element = binding.element_tree schemas tree places p element
 
-  abbrev pub groups_at : Option Term → Stage → Tree → Option Stage
+  abbrev pub groups_at : Option Term → PipelineForm → Tree → Option PipelineForm
   groups_at element stage key = binding.grouped_stage schemas tree places element stage key
 
   -- ---- pairs
@@ -212,10 +212,10 @@ module _ (binder : Binder) (frame : Frame) where
   abbrev pub join_source_at : Pattern → Join Term → Option Tree
   join_source_at p join = binding.if_fresh schemas tree places p join.name (source_at join.source)
 
-  abbrev pub pair_at : Pattern → List ℕ → Ty → Paired Term → Option Stage
+  abbrev pub pair_at : Pattern → List ℕ → Ty → Paired Term → Option PipelineForm
   pair_at p name t pair = binding.paired_stage schemas tree places p name t pair
 
-  abbrev pub expanded_at : List ℕ → Paired Term → Stage → Tree → Option Stage
+  abbrev pub expanded_at : List ℕ → Paired Term → PipelineForm → Tree → Option PipelineForm
   expanded_at name pair stage inner = binding.expanded_stage schemas tree places name pair stage inner
 
   abbrev pub join_keys_at : Pattern → Join Term → Ty → Option (Form × Form)
@@ -224,6 +224,6 @@ module _ (binder : Binder) (frame : Frame) where
   abbrev pub inner_side_at : Pattern → Join Term → Option InnerSide
   inner_side_at p join = side_in schemas tree places p join
 
-  abbrev pub joined_at : Join Term → Paired Term → Stage → InnerSide → Option Stage
+  abbrev pub joined_at : Join Term → Paired Term → PipelineForm → InnerSide → Option PipelineForm
   joined_at join pair stage side =
       binding.joined_stage schemas tree places join pair stage side.items side.keys side.ty

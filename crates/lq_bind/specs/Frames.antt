@@ -3,7 +3,7 @@ use Rattle.std.specs.Prelude.{◌||◌, [], List, ℕ, Bool, Option, Result, Ok,
 use Rattle.std.specs.Str.{bytes_eq}
 use Rattle.lq_language.specs.Operators.{Pattern, One, With}
 use Rattle.lq_language.specs.Types.{is_fresh}
-use Rattle.lq_tree.specs.Binding.{Stage, stage_of, tree_of}
+use Rattle.lq_tree.specs.Binding.{PipelineForm, pipeline_of, tree_of}
 use Rattle.lq_tree.specs.Places.{Place, Places, SessionPlace, names_of_places, with_item, with_name}
 use Rattle.lq_tree.specs.SessionPlaces.{places_outside}
 use Rattle.lq_tree.specs.declared.tree.Tree.{Tree}
@@ -50,10 +50,10 @@ abbrev pub is_fresh_in : Places → List ℕ → Bool
 is_fresh_in places name = is_fresh (names_of_places [] places) name
 
 -- the stage that a query has come to
-abbrev pub stage_in : Pipeline → Stage
-stage_in pipeline = stage_of (pattern_in pipeline.variables) pipeline.form
+abbrev pub stage_in : Pipeline → PipelineForm
+stage_in pipeline = pipeline_of (pattern_in pipeline.variables) pipeline.form
 
 -- what `Gives` says, of the stage that a query comes to
-abbrev pub GivesStage : Option Stage → Result Pipeline TermError → Type 0
+abbrev pub GivesStage : Option PipelineForm → Result Pipeline TermError → Type 0
 GivesStage stage (Ok pipeline) = Gives stage (Ok (stage_in pipeline))
 GivesStage stage (Err e) = Gives stage (Err e)

@@ -1,7 +1,7 @@
 //! The trees of operators over the trees of their operands (ECMA-334, operators).
 ghost use Rattle.std.specs.Prelude.{◌≡◌, true, IfOk};
 ghost use Rattle.lq_value.specs.declared.ty.Ty.{out-Ty};
-ghost use Rattle.lq_language.specs.OperandMeaning.{told};
+ghost use Rattle.lq_language.specs.OperandMeaning.{equality_truth};
 ghost use Rattle.lq_language.specs.Operations.{operation_of};
 ghost use Rattle.lq_language.specs.Typing.{type_of_choice};
 ghost use Rattle.lq_grammar.specs.declared.syntax.Unary.TheVariants as unary;
@@ -91,7 +91,7 @@ fn is_literal(form: &Form) -> bool
 
 /// What `==` or `!=` says of operands that are the same.
 fn of_same(sign: Binary) -> bool
-    ensures { result ≡ told sign true }
+    ensures { result ≡ equality_truth sign true }
 {
     !matches!(sign, Binary::NotEqual)
 }
@@ -135,7 +135,7 @@ fn tested_second(
 
 /// Whether what a form means is null, or isn't.
 fn null_test(alloc: Global, sign: Binary, tested: Held<Form>) -> Result<Held<Form>, AllocError>
-    ensures { IfOk result (λ f. f ≡ form.IsNull (told sign true) tested) }
+    ensures { IfOk result (λ f. f ≡ form.IsNull (equality_truth sign true) tested) }
 {
     Held::new(alloc, Form::IsNull(of_same(sign), tested))
 }

@@ -4,7 +4,7 @@ ghost use Rattle.std.specs.Prelude.{◌≡◌, ◌+◌, IfOk, Some};
 ghost use Rattle.lq_value.specs.declared.ty.Ty.TheVariants as ty;
 ghost use Rattle.lq_language.specs.Operators.{One, With, pattern_type, unnamed};
 ghost use Rattle.lq_language.specs.Types.{is_within, when};
-ghost use Rattle.lq_tree.specs.Binding.{items_of_stage, stage_of, tree_of};
+ghost use Rattle.lq_tree.specs.Binding.{items_of_pipeline, pipeline_of, tree_of};
 ghost use Rattle.lq_tree.specs.declared.tree.Form.TheVariants as form;
 ghost use Rattle.lq_bind.specs.Frames.{GivesStage, pattern_in, stage_in};
 ghost use Rattle.lq_bind.specs.Outcomes.{Gives};
@@ -72,7 +72,7 @@ pub(crate) fn sequence(alloc: Global, source: Tree) -> Result<Tree, AllocError>
 /// The items of a body, under its range variable.
 #[tactic(auto, using(crate::proofs::FrameLemmas::patterns))]
 pub(crate) fn start(alloc: Global, name: &Txt, items: Tree) -> Result<Pipeline, AllocError>
-    ensures { IfOk result (λ first. stage_in first ≡ stage_of (One name.now items.ty) items.form) }
+    ensures { IfOk result (λ first. stage_in first ≡ pipeline_of (One name.now items.ty) items.form) }
 {
     let Tree { ty, form } = items;
     let name = Txt::from_str(alloc, name.as_str())?;
@@ -237,7 +237,7 @@ pub(crate) fn join(
     grouped: bool,
     item: Pipeline,
 ) -> Result<Pipeline, AllocError>
-    ensures { IfOk result (λ items. stage_in items ≡ stage_of (pattern_in item.variables)
+    ensures { IfOk result (λ items. stage_in items ≡ pipeline_of (pattern_in item.variables)
         (stages.join_form sides.outer sides.inner sides.keys grouped item.form)) }
 {
     let Pipeline { variables, form } = item;
@@ -252,7 +252,7 @@ pub(crate) fn order_by(
     keys: List<SortKey<Form>>,
 ) -> Result<Pipeline, AllocError>
     ensures { IfOk result (λ items. stage_in items
-        ≡ stage_of (pattern_in pipeline.variables) (form.OrderBy pipeline.form keys)) }
+        ≡ pipeline_of (pattern_in pipeline.variables) (form.OrderBy pipeline.form keys)) }
 {
     let Pipeline { variables, form } = pipeline;
     let form = Held::new(alloc, Form::OrderBy(form, keys))?;
@@ -320,7 +320,7 @@ fn within_sequence(alloc: Global, items: Tree) -> Result<Tree, TermError>
 /// The items behind all calls, where their type is any but that of null, and that of their sequence is
 /// one that an expression may have.
 pub(crate) fn into_items(alloc: Global, pipeline: Pipeline) -> Result<Tree, TermError>
-    ensures { Gives (items_of_stage (stage_in pipeline)) result }
+    ensures { Gives (items_of_pipeline (stage_in pipeline)) result }
 {
     let Pipeline { variables, form } = pipeline;
     let ty = variables.into_type(alloc)?;

@@ -14,7 +14,7 @@ use Rattle.lq_value.specs.declared.value.Fault.{Fault}
 use Rattle.lq_value.specs.declared.value.Value.{Value, out-Value}
 use Rattle.lq_value.specs.declared.value.Value.TheOpen.{Value-F}
 use Rattle.lq_machine.specs.Served.{columns_in, fault_name, group_data, item_data, layer_data, nested_fault, record_data, record_members, row_data, row_members, sequence_data, stream_data, unless_fault, value_data, value_members}
-use Rattle.lq_language.specs.Stream.{Stream, made}
+use Rattle.lq_language.specs.Stream.{Stream, select_each}
 use Rattle.lq_machine.proofs.ServedLaws.{item_out}
 use Rattle.lq_json.specs.Shapes.{cell_data, cells_in, columns_from, data_by, fields_by, fields_from, fields_in, layer_by, member_data, place_in, shape_of, shape_step}
 use Rattle.lq_json.specs.Replies.{served_by, stream_reply}
@@ -215,7 +215,7 @@ module _ {R : Type 0} (schemas : List Schema) (cells_of : R → List Scalar) whe
   shape_makes t = ind-Ty IsMade (λ x y h. subst (λ l. IsMade (roll-Ty l)) h (made_layer y)) t
 
   pub stream_made : (t : Ty) (s : Stream (Value R)) → stream_reply (served_by cells_of (shape_of schemas t) s) ≡ stream_data schemas cells_of t s
-  stream_made t s = ap (λ (f : Value R → Data). stream_reply (made (λ v. unless_fault (nested_fault v) (f v)) s)) (shape_makes t)
+  stream_made t s = ap (λ (f : Value R → Data). stream_reply (select_each (λ v. unless_fault (nested_fault v) (f v)) s)) (shape_makes t)
 
   pub value_made : (t : Ty) (v : Value R) → nested_fault v ≡ None
       → object (put (codes "value") (data_by cells_of (shape_of schemas t) v) no_members) ≡ value_data schemas cells_of t (Ok v)

@@ -6,7 +6,7 @@ use Rattle.lq_value.specs.declared.value.End.{End}
 use Rattle.lq_value.specs.declared.value.Value.{Value}
 use Rattle.lq_machine.specs.States.{schemas_of}
 use Rattle.lq_machine.specs.Served.{assigned_data, defined_data, deleted_data, denied_data, error_data, fault_data, inserted_data, nested_fault, role_data, stream_data, stream_members, unless_fault, value_data}
-use Rattle.lq_language.specs.Stream.{Stream, made}
+use Rattle.lq_language.specs.Stream.{Stream, select_each}
 use Rattle.lq_json.specs.Shapes.{data_by}
 use Rattle.lq_json.specs.Items.{bytes_before, tokens_in}
 use Rattle.lq_json.specs.Texts.{flat}
@@ -35,7 +35,7 @@ module _ {R : Type 0} (cells_of : R → List Scalar) where
 
   -- a stream of values as a shape writes them, up to the first that holds a fault
   abbrev pub served_by : Shape → Stream (Value R) → Stream Data
-  served_by shape s = made (λ v. unless_fault (nested_fault v) (data_by cells_of shape v)) s
+  served_by shape s = select_each (λ v. unless_fault (nested_fault v) (data_by cells_of shape v)) s
 
   -- All items are written after the others that are served, and they end as these do.
   pub record ServesAll (shape : Shape) (items : List (Value R)) (end : End) (old new : ItemsLine) (ended : End) : Type 0 where

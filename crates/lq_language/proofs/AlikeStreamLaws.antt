@@ -7,7 +7,7 @@ use Rattle.lq_value.specs.declared.value.Fault.{Fault}
 use Rattle.lq_language.specs.Arrangement.{Keyed, all_of, arranged, inserted, is_greater, keyed, order_by, order_of_keys, with_key}
 use Rattle.lq_language.specs.ValuesOfTypes.{Every}
 use Rattle.lq_language.specs.Operations.{on_ok}
-use Rattle.lq_language.specs.Stream.{Stream, both, each, elements_of, expand_by, first_keys, group_by, groups_of, join_by, kept, made, on_value, one, select_by, then_ending, then_stream, where_by, whole}
+use Rattle.lq_language.specs.Stream.{Stream, both, each, elements_of, expand_by, first_keys, group_by, groups_of, join_by, item_where, select_each, on_value, one, select_by, then_ending, then_stream, where_by, whole}
 use Rattle.lq_language.proofs.ItemLaws.{every_filter, every_map, every_more, every_none, first_of, others_of}
 
 -- one outcome in both, and a value that passes
@@ -60,7 +60,7 @@ every_one P (Err f) p = every_none P
 pub one_alike : {A : Type 0} (P : A → Type 0) (m n : Result A Fault) → Agree P m n → Alike P (one m) (one n)
 one_alike P m n h = (ap one h.0, every_one P m h.1)
 
-every_kept_one : {A : Type 0} (P : A → Type 0) (o : Result Bool Fault) (x : A) → P x → Every P (kept o x).0
+every_kept_one : {A : Type 0} (P : A → Type 0) (o : Result Bool Fault) (x : A) → P x → Every P (item_where o x).0
 every_kept_one P (Ok true) x p = every_more P x [] p (every_none P)
 every_kept_one P (Ok false) x p = every_none P
 every_kept_one P (Err f) x p = every_none P
@@ -93,13 +93,13 @@ module _ {A B : Type 0} (P : A → Type 0) (Q : B → Type 0) where
   select_alike f g same = each_alike (λ x. one (f x)) (λ x. one (g x)) (λ x p. one_alike Q (f x) (g x) (same x p))
 
 pub where_alike : {A : Type 0} (P : A → Type 0) (c d : A → Result Bool Fault) → ((x : A) → P x → c x ≡ d x) → (s t : Stream A) → Alike P s t → Alike P (where_by c s.0 s.1) (where_by d t.0 t.1)
-where_alike P c d same = each_alike P P (λ x. kept (c x) x) (λ x. kept (d x) x) (λ x p. (ap (λ (o : Result Bool Fault). kept o x) (same x p), every_kept_one P (c x) x p))
+where_alike P c d same = each_alike P P (λ x. item_where (c x) x) (λ x. item_where (d x) x) (λ x p. (ap (λ (o : Result Bool Fault). item_where o x) (same x p), every_kept_one P (c x) x p))
 
 module _ {A V B : Type 0} (P : A → Type 0) (S : V → Type 0) (Q : B → Type 0) where
   pub expand_alike : (f g : A → Stream V) (result other : A → V → Result B Fault) → ((x : A) → P x → Alike S (f x) (g x)) → ((x : A) → P x → (v : V) → S v → Agree Q (result x v) (other x v))
       → (s t : Stream A) → Alike P s t → Alike Q (expand_by f result s.0 s.1) (expand_by g other t.0 t.1)
   expand_alike f g result other same agree =
-      each_alike P Q (λ x. made (result x) (f x)) (λ x. made (other x) (g x)) (λ x p. select_alike S Q (result x) (other x) (agree x p) (f x) (g x) (same x p))
+      each_alike P Q (λ x. select_each (result x) (f x)) (λ x. select_each (other x) (g x)) (λ x p. select_alike S Q (result x) (other x) (agree x p) (f x) (g x) (same x p))
 
   module _ {K I : Type 0} (L : K → Type 0) (J : I → Type 0) where
     pub join_alike : (key other_key : A → Result K Fault) (found other_found : K → List I → List V) (result other : A → V → Result B Fault)
@@ -107,10 +107,10 @@ module _ {A V B : Type 0} (P : A → Type 0) (S : V → Type 0) (Q : B → Type 
         → ((x : A) → P x → (v : V) → S v → Agree Q (result x v) (other x v)) → (inner more : Stream I) → Alike J inner more → (s t : Stream A) → Alike P s t
         → Alike Q (join_by inner key found result s.0 s.1) (join_by more other_key other_found other t.0 t.1)
     join_alike key other_key found other_found result other keys finds results inner more inners s t all =
-        whole_alike J Q (λ qs. each (λ x. on_value (key x) (λ k. made (result x) (found k qs, end.Done))) s.0 s.1)
-        (λ qs. each (λ x. on_value (other_key x) (λ k. made (other x) (other_found k qs, end.Done))) t.0 t.1)
+        whole_alike J Q (λ qs. each (λ x. on_value (key x) (λ k. select_each (result x) (found k qs, end.Done))) s.0 s.1)
+        (λ qs. each (λ x. on_value (other_key x) (λ k. select_each (other x) (other_found k qs, end.Done))) t.0 t.1)
         (λ qs js. each_alike P Q _ _
-        (λ x p. on_value_alike L Q (λ k. made (result x) (found k qs, end.Done)) (λ k. made (other x) (other_found k qs, end.Done))
+        (λ x p. on_value_alike L Q (λ k. select_each (result x) (found k qs, end.Done)) (λ k. select_each (other x) (other_found k qs, end.Done))
         (λ k l. select_alike S Q (result x) (other x) (results x p) (found k qs, end.Done) (other_found k qs, end.Done)
         (ap (λ (vs : List V). (vs, end.Done)) (finds k qs js).0, (finds k qs js).1)) (key x) (other_key x) (keys x p)) s t all) inner more inners
 

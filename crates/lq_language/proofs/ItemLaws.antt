@@ -8,7 +8,7 @@ use Rattle.lq_value.specs.declared.value.End.{End}
 use Rattle.lq_value.specs.declared.value.Fault.{Fault}
 use Rattle.lq_language.specs.Worlds.{Binding, Scope, World, binding_of, typed_locals}
 use Rattle.lq_language.specs.ValuesOfTypes.{Every, IsOf, IsOfScope}
-use Rattle.lq_language.specs.Stream.{Stream, each, kept, one, select_by, then_stream, where_by}
+use Rattle.lq_language.specs.Stream.{Stream, each, item_where, one, select_by, then_stream, where_by}
 use Rattle.lq_language.specs.Names.{local_type, table_number}
 
 -- ---- lists
@@ -44,7 +44,7 @@ pub each_same : {A B : Type 0} (P : A → Type 0) (h k : A → Stream B) → ((x
 each_same P h k same [] e ps = refl
 each_same P h k same (x ∷ xs) e ps = ap₂ then_stream (same x (first_of P x xs ps)) (each_same P h k same xs e (others_of P x xs ps))
 
-one_kept : {A : Type 0} (P : A → Type 0) (x : A) (rest : Stream A) → P x → Every P rest.0 → (o : Result Bool Fault) → Every P (then_stream (kept o x) rest).0
+one_kept : {A : Type 0} (P : A → Type 0) (x : A) (rest : Stream A) → P x → Every P rest.0 → (o : Result Bool Fault) → Every P (then_stream (item_where o x) rest).0
 one_kept P x rest p ps (Ok true) = every_more P x rest.0 p ps
 one_kept P x rest p ps (Ok false) = ps
 one_kept P x rest p ps (Err f) = every_none P

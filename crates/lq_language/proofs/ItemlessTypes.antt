@@ -10,7 +10,7 @@ use Rattle.lq_value.specs.declared.ty.Ty.TheOpen.{Ty-F}
 use Rattle.lq_value.specs.declared.ty.Ty.TheVariants as ty
 use Rattle.lq_value.specs.declared.ty.Ty.TheVariants.{outs-Bool, outs-Int, outs-IntN, outs-Null, outs-Row, outs-Seq, outs-Str}
 use Rattle.lq_language.specs.Names.{column_named, column_type, type_of_column}
-use Rattle.lq_language.specs.OperandTypes.{chosen, coalesced, is_number, item_of, number_type}
+use Rattle.lq_language.specs.OperandTypes.{choice_type_of_layers, coalesced, is_number, item_of, number_type}
 
 -- a type without items
 abbrev pub HasNoItems : Ty → Type 0
@@ -59,7 +59,7 @@ row_has_none : (m : ℕ) (r : Ty) (b : Bool) → (if b then Some (ty.Row m) else
 row_has_none m r true h = has_none (ty.Row m) r (no_items_Row m) h
 row_has_none m r false h = absurd (none-some r h)
 
-pub chosen_has_none : (s t : Ty-F Ty) (r : Ty) → chosen s t ≡ Some r → HasNoItems r
+pub chosen_has_none : (s t : Ty-F Ty) (r : Ty) → choice_type_of_layers s t ≡ Some r → HasNoItems r
 chosen_has_none Ty-F.Int Ty-F.Int r h = has_none ty.Int r no_items_Int h
 chosen_has_none Ty-F.Int Ty-F.IntN r h = has_none ty.IntN r no_items_IntN h
 chosen_has_none Ty-F.IntN Ty-F.Int r h = has_none ty.IntN r no_items_IntN h

@@ -18,7 +18,7 @@ use Rattle.lq_language.specs.ClauseTyping.{body_items, element_type, expression_
 use Rattle.lq_language.specs.EnumerableCalls.{EnumerableCall, By, Plain, With, enumerable_call}
 use Rattle.lq_language.specs.Maps.{map_argument, map_enumerable, map_field, map_node}
 use Rattle.lq_language.specs.Worlds.{Binding, Meaning, Scope, SessionValue, World, binding_of, bound, bound_stream, names_at, or_null, session_names, typed_locals}
-use Rattle.lq_language.specs.OperandMeaning.{is_null, sequence, stream_of, table_value, told, truth_value}
+use Rattle.lq_language.specs.OperandMeaning.{is_null, sequence, stream_of, table_value, equality_truth, truth_value}
 use Rattle.lq_language.specs.ClauseMeaning.{as_group, body_meaning, clause_meaning, clauses_meaning, condition_at, continued, inner_items, is_null_layer, item_type_at, joined_type, joined_values, last_meaning, matches, query_meaning, sort_key_at}
 use Rattle.lq_language.specs.RuleMeaning.{Meant, compared_meaning, operated_meaning}
 use Rattle.lq_language.specs.ValuesOfTypes.{Every, HasCells, HoldsRows, IsScalarOf}
@@ -297,10 +297,10 @@ module _ {R : Type 0} (world : World R) (holds : HoldsRows world) (kept : IsSess
       at_types w = ap₂ (computed_of w op a b scope) (typed_at names a s scope at a_typed) (typed_at names b t scope at b_typed)
 
   told_of : (op : Binary) (o p : Result Bool Fault) → ((b : Bool) × (o ≡ Ok b) × (p ≡ Ok b))
-      → Agree (Val ty.Bool) (on_ok o (λ same. Ok (truth_value (told op same)))) (on_ok p (λ same. Ok (truth_value (told op same))))
+      → Agree (Val ty.Bool) (on_ok o (λ same. Ok (truth_value (equality_truth op same)))) (on_ok p (λ same. Ok (truth_value (equality_truth op same))))
   told_of op o p h =
-      by_equals ty.Bool _ _ _ _ (ap (λ (x : Result Bool Fault). on_ok x (λ same. Ok (truth_value (told op same)))) h.1) (ap (λ (x : Result Bool Fault). on_ok x (λ same. Ok (truth_value (told op same)))) h.2)
-      (agree_ok (Val ty.Bool) (truth_value (told op h.0)) (truth_is world (told op h.0)))
+      by_equals ty.Bool _ _ _ _ (ap (λ (x : Result Bool Fault). on_ok x (λ same. Ok (truth_value (equality_truth op same)))) h.1) (ap (λ (x : Result Bool Fault). on_ok x (λ same. Ok (truth_value (equality_truth op same)))) h.2)
+      (agree_ok (Val ty.Bool) (truth_value (equality_truth op h.0)) (truth_is world (equality_truth op h.0)))
 
   -- ---- methods
 

@@ -10,7 +10,7 @@ use Rattle.lq_language.specs.ClauseTyping.{expression_type}
 use Rattle.lq_language.specs.EnumerableCalls.{enumerable_call}
 use Rattle.lq_language.specs.Members.{is_search}
 use Rattle.lq_language.specs.Names.{Names}
-use Rattle.lq_language.specs.OperandTypes.{chosen, coalesced, if_number, is_equality, number_type, of_operands, operated_type, truth_type}
+use Rattle.lq_language.specs.OperandTypes.{choice_type_of_layers, coalesced, if_number, is_equality, number_type, of_operands, operated_type, truth_type}
 use Rattle.lq_language.specs.RuleTyping.{of_coalesced, of_equality, of_has_value, of_joined, of_length, of_null, of_ordering, of_search, of_text, of_value, of_integer, of_local, of_table, of_column, of_arithmetic, of_minus, of_choice, of_truth, of_not, of_both, of_either, HasRuleType}
 use Rattle.lq_language.specs.RuleTypingLaws.{KeepsRuleTypes}
 use Rattle.lq_language.specs.Typing.{are_null_tests, called_type, search_type, type_of_choice, type_of_conditional, type_of_operation, global_type, type_of_name}
@@ -34,7 +34,7 @@ tested_kept : (tested : Bool) (o : Option Ty) → o ≡ Some ty.Bool → (if tes
 tested_kept true o h = refl
 tested_kept false o h = h
 
-chosen_kept : (s t : Ty-F Ty) (r : Ty) → chosen s t ≡ Some r → type_of_choice s t ≡ Some r
+chosen_kept : (s t : Ty-F Ty) (r : Ty) → choice_type_of_layers s t ≡ Some r → type_of_choice s t ≡ Some r
 chosen_kept (Ty-F.Rec ms) (Ty-F.Rec ns) r h = absurd (none-some r h)
 chosen_kept (Ty-F.Rec ms) Ty-F.Null r h = absurd (none-some r h)
 chosen_kept Ty-F.Null (Ty-F.Rec ms) r h = absurd (none-some r h)

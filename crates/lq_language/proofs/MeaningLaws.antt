@@ -19,7 +19,7 @@ use Rattle.lq_value.specs.declared.value.Value.TheOpen.{Value-F}
 use Rattle.lq_value.specs.declared.value.Value.TheVariants as value
 use Rattle.lq_value.specs.declared.value.Value.TheVariants.{outs-Row as outs-value-Row, outs-Scalar, outs-Seq as outs-value-Seq}
 use Rattle.lq_language.specs.Worlds.{Scope, World, binding_of, names_at}
-use Rattle.lq_language.specs.OperandMeaning.{cell_value, comparand, is_null, items_of, member_value, name_value, null_member, same_values, told, as_value, on_scalar, scalar_of, stream_of, table_value, truth_value}
+use Rattle.lq_language.specs.OperandMeaning.{cell_value, comparand, is_null, items_of, member_value, name_value, null_member, same_values, equality_truth, as_value, on_scalar, scalar_of, stream_of, table_value, truth_value}
 use Rattle.lq_language.specs.RuleMeaning.{compared_meaning, meaning, operated_meaning}
 use Rattle.lq_language.specs.Operations.{negated, of_member, of_one, on_ok, truth_of}
 use Rattle.lq_language.specs.Members.{IsSearch, member_named}
@@ -27,7 +27,7 @@ use Rattle.lq_language.specs.RuleMeaningLaws.{HasRuleMeaning}
 use Rattle.lq_language.specs.ValuesOfTypes.{Every, HasCells, HaveTypes, HoldsRows, IsOf, is_scalar as is_scalar_value, is_row, is_sequence, IsOfScope, IsScalarOf, assuming}
 use Rattle.lq_language.specs.Stream.{Stream}
 use Rattle.lq_language.specs.Names.{Names, column_named, column_type, local_type, table_number, type_of_column}
-use Rattle.lq_language.specs.OperandTypes.{are_comparable, are_joined, chosen, coalesced, is_comparison, is_equality, is_ordering, number_type, is_number, item_of, row_table}
+use Rattle.lq_language.specs.OperandTypes.{are_comparable, are_joined, choice_type_of_layers, coalesced, is_comparison, is_equality, is_ordering, number_type, is_number, item_of, row_table}
 use Rattle.lq_language.specs.RuleTyping.{of_integer, of_local, of_table, of_column, of_text, of_null, of_has_value, of_value, of_length, of_search, of_ordering, of_equality, of_arithmetic, of_joined, of_coalesced, of_minus, of_choice, of_truth, of_not, of_both, of_either, HasRuleType, type_of}
 use Rattle.lq_language.specs.TableRows.{cell_named}
 use Rattle.lq_language.specs.declared.operation.Op.{Op}
@@ -134,16 +134,16 @@ module _ {R : Type 0} (world : World R) (holds : HoldsRows world) (f g : Fault) 
 
   -- `==` on what its operands come to
   abbrev equality_of : World R → Binary → Result (Value-F R (Value R)) Fault → Result (Value-F R (Value R)) Fault → Result (Value R) Fault
-  equality_of w op m k = on_ok m (λ v. on_ok k (λ x. on_ok (same_values w v x) (λ same. Ok (truth_value (told op same)))))
+  equality_of w op m k = on_ok m (λ v. on_ok k (λ x. on_ok (same_values w v x) (λ same. Ok (truth_value (equality_truth op same)))))
 
   equality_outcome : (op : Binary) (s t : Ty) → are_comparable (out-Ty s) (out-Ty t) ≡ true → (m n k l : Result (Value-F R (Value R)) Fault) → AreComparands s m n → AreComparands t k l
       → IsSame world ty.Bool (equality_of left op m k) (equality_of right op n l)
   equality_outcome op s t compares m n k l (same_comparand v fits h i) (same_comparand w more j p) =
       let decided = decides_same world s t v w compares fits more in
-      same_value (truth_value (told op decided.0)) (truth_is_of (told op decided.0)) (ap₂ (equality_of left op) h j ∙ ap telling (decided.1 f)) (ap₂ (equality_of right op) i p ∙ ap telling (decided.1 g))
+      same_value (truth_value (equality_truth op decided.0)) (truth_is_of (equality_truth op decided.0)) (ap₂ (equality_of left op) h j ∙ ap telling (decided.1 f)) (ap₂ (equality_of right op) i p ∙ ap telling (decided.1 g))
     where
       telling : Result Bool Fault → Result (Value R) Fault
-      telling o = on_ok o (λ same. Ok (truth_value (told op same)))
+      telling o = on_ok o (λ same. Ok (truth_value (equality_truth op same)))
   equality_outcome op s t compares m n k l (same_comparand v fits h i) (same_comparand_fault x j p) = same_fault x (ap₂ (equality_of left op) h j) (ap₂ (equality_of right op) i p)
   equality_outcome op s t compares m n k l (same_comparand_fault x h i) others =
       same_fault x (ap (λ (o : Result (Value-F R (Value R)) Fault). equality_of left op o k) h) (ap (λ (o : Result (Value-F R (Value R)) Fault). equality_of right op o l) i)
@@ -432,7 +432,7 @@ module _ {R : Type 0} (world : World R) (holds : HoldsRows world) (f g : Fault) 
       second true = truth_is_same true
       second false = b_means scope at
 
-  means_choice : (names : Names) (c a b : Expr) (s t r : Ty) → chosen (out-Ty s) (out-Ty t) ≡ Some r → Means names c ty.Bool → Means names a s → Means names b t
+  means_choice : (names : Names) (c a b : Expr) (s t r : Ty) → choice_type_of_layers (out-Ty s) (out-Ty t) ≡ Some r → Means names c ty.Bool → Means names a s → Means names b t
       → Means names (expr.Node (node.Conditional c a b)) r
   means_choice names c a b s t r chooses c_means a_means b_means scope at =
       same_outcomes r _ _ _ _ (meaning_choice left c a b scope) (meaning_choice right c a b scope)

@@ -11,7 +11,7 @@ use Rattle.lq_value.specs.declared.scalar.Scalar.TheVariants as scalar
 use Rattle.lq_value.specs.declared.value.Fault.{Fault}
 use Rattle.lq_value.specs.declared.value.Fault.TheVariants as fault
 use Rattle.lq_language.specs.OperationLaws.{AreOfOneKind, Divides, FindsParts, FindsPrefixes, FindsSuffixes, HasSignOf, IsDecided, IsNumber, IsText, IsTruth, Takes}
-use Rattle.lq_language.specs.Operations.{applied, arithmetic, begins_with, checked, computed, divided, ends_in, found, has_in, has_value, is_int, joined, left_over, length_of, negated, on_ok, ordered_by, same_content, searched, truth, truth_of, value_of}
+use Rattle.lq_language.specs.Operations.{applied, arithmetic, begins_with, checked, computed, divided, ends_in, text_matches, has_in, has_value, is_int, joined, left_over, length_of, negated, on_ok, ordered_by, same_content, searched, truth, truth_of, value_of}
 use Rattle.lq_language.specs.declared.operation.Op.{Op}
 use Rattle.lq_language.specs.declared.operation.Op.TheVariants as op
 
@@ -60,7 +60,7 @@ module _ (f g : Fault) where
   joined_alike scalar.Null b h k = absurd k
   joined_alike a b h k = absurd h
 
-  searched_alike : (o : Op) → ((s t : List ℕ) → found f o s t ≡ found g o s t) → (a b : Scalar) → IsText a → IsText b → searched f o a b ≡ searched g o a b
+  searched_alike : (o : Op) → ((s t : List ℕ) → text_matches f o s t ≡ text_matches g o s t) → (a b : Scalar) → IsText a → IsText b → searched f o a b ≡ searched g o a b
   searched_alike o same (scalar.Text s) (scalar.Text t) h k = same s t
   searched_alike o same (scalar.Text s) scalar.Null h k = refl
   searched_alike o same (scalar.Text s) b h k = absurd k

@@ -17,8 +17,8 @@ use Rattle.lq_language.specs.OperandMeaning.{is_null, operation_on}
 use Rattle.lq_language.specs.ValuesOfTypes.{IsScalarOf}
 use Rattle.lq_language.specs.Members.{IsSearch, contains, ends, search_named, starts}
 use Rattle.lq_language.specs.OperationLaws.{IsNumber, IsText, IsTruth}
-use Rattle.lq_language.specs.Operations.{arithmetic, begins_with, checked, computed, divided, ends_in, found, has_in, is_int, left_over, negated, of_one, of_search, of_two, on_ok, operation_of, ordered_by, same_content, searched, truth, utf16_units}
-use Rattle.lq_language.specs.OperandTypes.{are_comparable, are_joined, chosen, coalesced, is_comparison, is_number, is_ordering, is_scalar, is_text, item_of, number_type, row_table}
+use Rattle.lq_language.specs.Operations.{arithmetic, begins_with, checked, computed, divided, ends_in, text_matches, has_in, is_int, left_over, negated, of_one, of_search, of_two, on_ok, operation_of, ordered_by, same_content, searched, truth, utf16_units}
+use Rattle.lq_language.specs.OperandTypes.{are_comparable, are_joined, choice_type_of_layers, coalesced, is_comparison, is_number, is_ordering, is_scalar, is_text, item_of, number_type, row_table}
 use Rattle.lq_language.specs.declared.operation.Op.{Op}
 use Rattle.lq_language.specs.declared.operation.Op.TheVariants as operation
 use Rattle.lq_grammar.specs.declared.syntax.Binary.{Binary}
@@ -390,7 +390,7 @@ joined_given s t h x y f g =
     signed_as Ty-F.Str binary.Add s t x y operation.Concat (joined_operation s t h x y a b) (texts_joined x y a b)
 
 -- a null text faults, and so does a null argument
-texts_searched : (o : Op) → ((x y : List ℕ) → Decides (λ unknown. found unknown o x y)) → (s t : Scalar) → IsText s → IsText t → Gives Ty-F.Bool (λ unknown. truth unknown (searched unknown o s t))
+texts_searched : (o : Op) → ((x y : List ℕ) → Decides (λ unknown. text_matches unknown o x y)) → (s t : Scalar) → IsText s → IsText t → Gives Ty-F.Bool (λ unknown. truth unknown (searched unknown o s t))
 texts_searched o decided (scalar.Text x) (scalar.Text y) a b = truth_given _ (decided x y)
 texts_searched o decided (scalar.Text x) scalar.Null a b = faults fault.NullReference (λ unknown. refl)
 texts_searched o decided (scalar.Text x) t a b = absurd b
@@ -467,7 +467,7 @@ rows_chosen m n r true is h =
 rows_chosen m n r false is h = absurd (none-some r h)
 
 -- both values of a choice are of its type
-pub chosen_widens : (k l : Ty-F Ty) (r : Ty) → chosen k l ≡ Some r → AreWidened k l r
+pub chosen_widens : (k l : Ty-F Ty) (r : Ty) → choice_type_of_layers k l ≡ Some r → AreWidened k l r
 chosen_widens Ty-F.Int Ty-F.Int r h = to_type _ _ Ty-F.Int ty.Int r outs-Int h (itself Ty-F.Int) (itself Ty-F.Int)
 chosen_widens Ty-F.Int Ty-F.IntN r h = to_type _ _ Ty-F.IntN ty.IntN r outs-IntN h int_widens (itself Ty-F.IntN)
 chosen_widens Ty-F.IntN Ty-F.Int r h = to_type _ _ Ty-F.IntN ty.IntN r outs-IntN h (itself Ty-F.IntN) int_widens

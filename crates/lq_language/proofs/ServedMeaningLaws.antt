@@ -19,12 +19,12 @@ use Rattle.lq_language.specs.ClauseTyping.{expression_type, source_type}
 use Rattle.lq_language.specs.EnumerableCalls.{enumerable_call}
 use Rattle.lq_language.specs.Maps.{map_node}
 use Rattle.lq_language.specs.Worlds.{Meaning, Scope, World, names_at, or_null}
-use Rattle.lq_language.specs.OperandMeaning.{as_value, is_null, member_value, name_value, on_comparand, on_scalar, on_truth, same_values, stream_of, table_value, told, truth_value}
+use Rattle.lq_language.specs.OperandMeaning.{as_value, is_null, member_value, name_value, on_comparand, on_scalar, on_truth, same_values, stream_of, table_value, equality_truth, truth_value}
 use Rattle.lq_language.specs.RuleMeaning.{Meant, compared_meaning, meaning, meaning_step, rule_node_meaning, operated_meaning}
 use Rattle.lq_language.specs.ValuesOfTypes.{HoldsRows, IsOf, is_scalar as is_scalar_value, is_row, is_sequence, IsOfScope, assuming}
 use Rattle.lq_language.specs.Members.{is_search, member_named}
 use Rattle.lq_language.specs.Operations.{negated, of_member, on_ok}
-use Rattle.lq_language.specs.Stream.{kept}
+use Rattle.lq_language.specs.Stream.{item_where}
 use Rattle.lq_language.specs.Names.{Names, local_type, table_number}
 use Rattle.lq_language.specs.OperandTypes.{is_equality, is_text, is_text_type, item_of, number_type, row_table, truth_type}
 use Rattle.lq_language.specs.RuleTyping.{of_integer, of_local, of_table, of_column, of_text, of_null, of_has_value, of_value, of_length, of_search, of_ordering, of_equality, of_arithmetic, of_joined, of_coalesced, of_minus, of_choice, of_truth, of_not, of_both, of_either, HasRuleType, type_of}
@@ -133,11 +133,11 @@ module _ {R : Type 0} (world : World R) (holds : HoldsRows world) (unknown : Fau
 
   member_kept : (names : Names) (e a : Expr) (m : List ℕ) (s t : Ty) → e ≡ expr.Node (node.Member a m) → HasRuleType names e t → HasRuleType names a s → item_of (out-Ty t) ≡ None
       → is_known (out-Ty s) ≡ true → IsKept names a s → IsKept names e t
-  member_kept names e a m s t is typed a_typed none known kept scope at =
+  member_kept names e a m s t is typed a_typed none known alike scope at =
       node_kept e (node.Member a m) scope is
       (unsettled t (option_and_then (λ u. type_of_member (names_at world scope) m (out-Ty u)) (expression_type a (names_at world scope))) _
       (sym (type_of_node (node.Member a m) (names_at world scope)) ∙ ap (λ (x : Expr). expression_type x (names_at world scope)) (sym is) ∙ typed_at names e t scope at typed) none
-      ∙ ap (λ (o : Result (Value R) Fault). on_ok o (λ v. value_of_member W (expression_type a (names_at world scope)) m (out-Value R v))) (kept scope at)
+      ∙ ap (λ (o : Result (Value R) Fault). on_ok o (λ v. value_of_member W (expression_type a (names_at world scope)) m (out-Value R v))) (alike scope at)
       ∙ on_ok_same _ _ (served a scope)
       (λ v found. ap (λ (o : Option Ty). value_of_member W o m (out-Value R v)) (typed_at names a s scope at a_typed)
       ∙ member_same s m v known (value_at names a s scope at a_typed v found)
@@ -200,7 +200,7 @@ module _ {R : Type 0} (world : World R) (holds : HoldsRows world) (unknown : Fau
       ∙ ap₂ (equality_meaning W op) (a_kept scope at) (b_kept scope at)
       ∙ comparand_step s (served a scope) s_none (value_at names a s scope at a_typed) _ _
       (λ v v_fits. comparand_step t (served b scope) t_none (value_at names b t scope at b_typed) _ _
-      (λ w w_fits. ap (λ (o : Result Bool Fault). on_ok o (λ equal. Ok (truth_value (told op equal))))
+      (λ w w_fits. ap (λ (o : Result Bool Fault). on_ok o (λ equal. Ok (truth_value (equality_truth op equal))))
       (layers_same (out-Value R v) (out-Value R w) (compared_there s v v_fits) (compared_there t w w_fits))))
       ∙ ap (λ (c : Bool). if c then compared_meaning W op (served a scope) (served b scope)
       else operated_meaning W op (type_of a (names_at world scope)) (type_of b (names_at world scope)) (served a scope) (served b scope)) (sym same))

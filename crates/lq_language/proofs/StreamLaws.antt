@@ -7,7 +7,7 @@ use Rattle.lq_value.specs.declared.value.End.TheVariants as end
 use Rattle.lq_value.specs.declared.value.Fault.{Fault}
 use Rattle.lq_language.specs.Arrangement.{Keyed, all_of, arranged, inserted, is_greater, keyed, order_by, order_of_keys, with_key}
 use Rattle.lq_language.specs.Operations.{on_ok}
-use Rattle.lq_language.specs.Stream.{Stream, both, each, group_by, groups_of, kept, made, on_value, one, then_ending, then_stream, whole}
+use Rattle.lq_language.specs.Stream.{Stream, both, each, group_by, groups_of, item_where, select_each, on_value, one, then_ending, then_stream, whole}
 
 abbrev pub mapped : {A B : Type 0} → (A → B) → Stream A → Stream B
 mapped d s = (map d s.0, s.1)
@@ -60,7 +60,7 @@ each_map b f (x ∷ xs) e = ap (then_stream (f (b x))) (each_map b f xs e)
 pub each_ext : {A B : Type 0} (f g : A → Stream B) → ((x : A) → f x ≡ g x) → (xs : List A) (e : End) → each f xs e ≡ each g xs e
 each_ext f g h xs e = ap (λ k. each k xs e) (λ i x. h x i)
 
-pub kept_mapped : {A B : Type 0} (b : A → B) (o : Result Bool Fault) (x : A) → kept o (b x) ≡ mapped b (kept o x)
+pub kept_mapped : {A B : Type 0} (b : A → B) (o : Result Bool Fault) (x : A) → item_where o (b x) ≡ mapped b (item_where o x)
 kept_mapped b (Ok true) x = refl
 kept_mapped b (Ok false) x = refl
 kept_mapped b (Err f) x = refl
@@ -88,7 +88,7 @@ each_each k f [] e = refl
 each_each k f (x ∷ xs) e = each_then k (f x).0 (f x).1 (each f xs e) ∙ ap (then_stream (each_of k (f x))) (each_each k f xs e)
 
 -- what follows at once on each value that a step makes
-pub each_made : {V B C : Type 0} (k : B → Stream C) (g : V → B) (vs : Stream V) → each_of k (made (λ v. Ok (g v)) vs) ≡ each_of (λ v. k (g v)) vs
+pub each_made : {V B C : Type 0} (k : B → Stream C) (g : V → B) (vs : Stream V) → each_of k (select_each (λ v. Ok (g v)) vs) ≡ each_of (λ v. k (g v)) vs
 each_made k g vs =
     each_each k (λ v. one (Ok (g v))) vs.0 vs.1
     ∙ each_ext (λ v. each_of k (one (Ok (g v)))) (λ v. k (g v)) (λ v. then_nil (k (g v)).0 (k (g v)).1) vs.0 vs.1

@@ -17,7 +17,7 @@ use Rattle.lq_language.specs.OperandMeaning.{is_null, truth_value}
 use Rattle.lq_language.specs.ValuesOfTypes.{IsScalarOf, assuming}
 use Rattle.lq_language.specs.Operations.{same_content}
 use Rattle.lq_language.specs.Types.{same_types}
-use Rattle.lq_language.specs.OperandTypes.{are_comparable, chosen, coalesced, row_table}
+use Rattle.lq_language.specs.OperandTypes.{are_comparable, choice_type_of_layers, coalesced, row_table}
 use Rattle.lq_language.specs.Meaning.{same_operands}
 use Rattle.lq_language.specs.MeaningLaws.{by_group, by_null_record, by_record, by_row, by_scalar, by_sequence}
 use Rattle.lq_language.specs.Typing.{are_null_tests, type_of_choice}
@@ -127,7 +127,7 @@ abbrev is_flat : Ty-F Ty → Bool
 is_flat (Ty-F.Row n) = true
 is_flat layer = is_plain layer
 
-chosen_flat : (k l : Ty-F Ty) (r : Ty) → chosen k l ≡ Some r → (is_flat k ≡ true) × (is_flat l ≡ true)
+chosen_flat : (k l : Ty-F Ty) (r : Ty) → choice_type_of_layers k l ≡ Some r → (is_flat k ≡ true) × (is_flat l ≡ true)
 chosen_flat Ty-F.Int Ty-F.Int r h = (refl, refl)
 chosen_flat Ty-F.Int Ty-F.IntN r h = (refl, refl)
 chosen_flat Ty-F.IntN Ty-F.Int r h = (refl, refl)

@@ -13,7 +13,7 @@ use Rattle.lq_value.specs.declared.ty.Ty.TheVariants as ty
 use Rattle.lq_value.specs.declared.ty.Ty.TheVariants.{outs-Bool, outs-Group, outs-Int, outs-IntN, outs-Null, outs-Rec, outs-Row, outs-Seq, outs-Str}
 use Rattle.lq_language.specs.Types.{element_type, is_within, parts_of, parts_step, same_types, sum_of_members}
 use Rattle.lq_language.specs.Names.{Names, column_named, column_type, local_type, type_of_column, with_local}
-use Rattle.lq_language.specs.OperandTypes.{chosen, coalesced, is_number, number_type}
+use Rattle.lq_language.specs.OperandTypes.{choice_type_of_layers, coalesced, is_number, number_type}
 use Rattle.lq_language.specs.TypingRules.{TypeClaim, Has, Gives, Members, Sorts, Leads, LeadAll, Ends, BodyGives, Continues, QueryGives, IsRight}
 use Rattle.lq_language.specs.TypingRules as rule
 use Rattle.lq_language.specs.Typing.{member_of, type_of_choice}
@@ -71,7 +71,7 @@ row_within : (n : ℕ) (r : Ty) (b : Bool) → (if b then Some (ty.Row n) else N
 row_within n r true h = same_within (ty.Row n) r h (at_layer (ty.Row n) (Ty-F.Row n) (outs-Row n) refl)
 row_within n r false h = absurd (none-some r h)
 
-chosen_within : (k l : Ty-F Ty) (r : Ty) → chosen k l ≡ Some r → is_within r ≡ true
+chosen_within : (k l : Ty-F Ty) (r : Ty) → choice_type_of_layers k l ≡ Some r → is_within r ≡ true
 chosen_within Ty-F.Int Ty-F.Int r h = same_within ty.Int r h (at_layer ty.Int Ty-F.Int outs-Int refl)
 chosen_within Ty-F.Int Ty-F.IntN r h = same_within ty.IntN r h (at_layer ty.IntN Ty-F.IntN outs-IntN refl)
 chosen_within Ty-F.IntN Ty-F.Int r h = same_within ty.IntN r h (at_layer ty.IntN Ty-F.IntN outs-IntN refl)

@@ -16,7 +16,7 @@ use Rattle.lq_language.specs.ClauseTyping.{expression_type, if_within, join_type
 use Rattle.lq_language.specs.Worlds.{Meaning, Scope, World}
 use Rattle.lq_language.specs.OperandMeaning.{stream_of}
 use Rattle.lq_language.specs.ClauseMeaning.{clause_meaning, extended, item_type_at, matches}
-use Rattle.lq_language.specs.Stream.{elements_of, group_by, join_by, made, then_stream, with_keys}
+use Rattle.lq_language.specs.Stream.{elements_of, group_by, join_by, select_each, then_stream, with_keys}
 use Rattle.lq_language.specs.Types.{are_join_keys, has_place, is_key, parts_of}
 use Rattle.lq_language.specs.Names.{Names, local_type, with_local}
 use Rattle.lq_grammar.specs.declared.syntax.Clause.TheVariants as clause
@@ -118,7 +118,7 @@ abbrev pub ReadsSourceAnew : Type 0 → Type 0 → Type 0
 ReadsSourceAnew R X =
     (world : World R) (typed : X → Names → Option Ty) (meant : X → Meaning R) (outer scope : Scope R) (n : List ℕ) (f : X) (scopes : List (Scope R)) (e : End)
     → clause_meaning world typed meant outer (clause.From n f) (scope ∷ scopes, e)
-    ≡ then_stream (made (extended world typed meant n (item_type_at world typed meant f scope) scope) (stream_of world (meant f scope)))
+    ≡ then_stream (select_each (extended world typed meant n (item_type_at world typed meant f scope) scope) (stream_of world (meant f scope)))
     (clause_meaning world typed meant outer (clause.From n f) (scopes, e))
 
 -- a key that is null matches nothing, not even another null

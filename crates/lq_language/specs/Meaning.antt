@@ -18,7 +18,7 @@ use Rattle.lq_language.specs.Enumerable.{all, any, as_count, concat, contains, c
 use Rattle.lq_language.specs.EnumerableCalls.{EnumerableCall, Given, Simple, Through, By, Plain, With, enumerable_call}
 use Rattle.lq_language.specs.EnumerableCalls as of
 use Rattle.lq_language.specs.Worlds.{Binding, Meaning, Scope, SessionValue, World, binding_of, bound, names_at, or_null}
-use Rattle.lq_language.specs.OperandMeaning.{as_value, member_value, on_scalar, same_values, sequence, stream_of, table_value, told, truth_value}
+use Rattle.lq_language.specs.OperandMeaning.{as_value, member_value, on_scalar, same_values, sequence, stream_of, table_value, equality_truth, truth_value}
 use Rattle.lq_language.specs.ClauseMeaning.{condition_at, item_type_at, query_meaning}
 use Rattle.lq_language.specs.RuleMeaning.{Meant, rule_node_meaning}
 use Rattle.lq_language.specs.Members.{search_named, sole_argument}
@@ -176,7 +176,7 @@ module _ {R : Type 0} (world : World R) where
   same_operands v w = same_values world v w
 
   abbrev pub equality_meaning : Binary → Result (Value R) Fault → Result (Value R) Fault → Result (Value R) Fault
-  equality_meaning sign a b = on_ok a (λ v. on_ok b (λ w. on_ok (same_operands (out-Value R v) (out-Value R w)) (λ same. Ok (truth_value (told sign same)))))
+  equality_meaning sign a b = on_ok a (λ v. on_ok b (λ w. on_ok (same_operands (out-Value R v) (out-Value R w)) (λ same. Ok (truth_value (equality_truth sign same)))))
 
   -- An expression of a sequence's type doesn't fault: a fault met in making it is the ending of its stream, before any item.
   abbrev pub settled : Option Ty → Result (Value R) Fault → Result (Value R) Fault

@@ -40,9 +40,9 @@ operation_on binary.Add s t scalar.Null scalar.Null = if is_text_type s || is_te
 operation_on sign s t a b = operation_of sign
 
 -- what `==` or `!=` says of operands that are the same, or aren't
-abbrev pub told : Binary → Bool → Bool
-told binary.NotEqual same = not same
-told sign same = same
+abbrev pub equality_truth : Binary → Bool → Bool
+equality_truth binary.NotEqual same = not same
+equality_truth sign same = same
 
 abbrev pub is_null : Scalar → Bool
 is_null scalar.Null = true

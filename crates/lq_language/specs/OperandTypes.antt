@@ -86,21 +86,21 @@ coalesced s t = None
 
 -- the type of a choice between values of these types: one type of scalars or rows; int? where both are numbers; and with null
 -- the other's, if it may be null
-abbrev pub chosen : Ty-F Ty → Ty-F Ty → Option Ty
-chosen Ty-F.Int Ty-F.Int = Some ty.Int
-chosen Ty-F.Int Ty-F.IntN = Some ty.IntN
-chosen Ty-F.IntN Ty-F.Int = Some ty.IntN
-chosen Ty-F.IntN Ty-F.IntN = Some ty.IntN
-chosen Ty-F.IntN Ty-F.Null = Some ty.IntN
-chosen Ty-F.Null Ty-F.IntN = Some ty.IntN
-chosen Ty-F.Bool Ty-F.Bool = Some ty.Bool
-chosen Ty-F.Str Ty-F.Str = Some ty.Str
-chosen Ty-F.Str Ty-F.Null = Some ty.Str
-chosen Ty-F.Null Ty-F.Str = Some ty.Str
-chosen (Ty-F.Row m) (Ty-F.Row n) = if m == n then Some (ty.Row m) else None
-chosen (Ty-F.Row n) Ty-F.Null = Some (ty.Row n)
-chosen Ty-F.Null (Ty-F.Row n) = Some (ty.Row n)
-chosen s t = None
+abbrev pub choice_type_of_layers : Ty-F Ty → Ty-F Ty → Option Ty
+choice_type_of_layers Ty-F.Int Ty-F.Int = Some ty.Int
+choice_type_of_layers Ty-F.Int Ty-F.IntN = Some ty.IntN
+choice_type_of_layers Ty-F.IntN Ty-F.Int = Some ty.IntN
+choice_type_of_layers Ty-F.IntN Ty-F.IntN = Some ty.IntN
+choice_type_of_layers Ty-F.IntN Ty-F.Null = Some ty.IntN
+choice_type_of_layers Ty-F.Null Ty-F.IntN = Some ty.IntN
+choice_type_of_layers Ty-F.Bool Ty-F.Bool = Some ty.Bool
+choice_type_of_layers Ty-F.Str Ty-F.Str = Some ty.Str
+choice_type_of_layers Ty-F.Str Ty-F.Null = Some ty.Str
+choice_type_of_layers Ty-F.Null Ty-F.Str = Some ty.Str
+choice_type_of_layers (Ty-F.Row m) (Ty-F.Row n) = if m == n then Some (ty.Row m) else None
+choice_type_of_layers (Ty-F.Row n) Ty-F.Null = Some (ty.Row n)
+choice_type_of_layers Ty-F.Null (Ty-F.Row n) = Some (ty.Row n)
+choice_type_of_layers s t = None
 
 -- ---- the same as a function
 
@@ -155,7 +155,7 @@ if_number None = None
 if_number (Some t) = if is_number (out-Ty t) then Some t else None
 
 abbrev pub choice_type : Bool → Option Ty → Option Ty → Option Ty
-choice_type true s t = of_operands chosen s t
+choice_type true s t = of_operands choice_type_of_layers s t
 choice_type false s t = None
 
 -- the member of this name: a column of a row, or a member of an int? or of a text

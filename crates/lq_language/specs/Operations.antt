@@ -153,22 +153,22 @@ module _ (unknown : Fault) where
   length_of s = Err unknown
 
   -- text calls: whether a text has another in it
-  abbrev pub found : Op → List ℕ → List ℕ → Result Bool Fault
-  found op.StartsWith text needle = Ok (begins_with text needle)
-  found op.EndsWith text needle = Ok (ends_in text needle)
-  found op.Contains text needle = Ok (has_in text needle)
-  found other text needle = Err unknown
+  abbrev pub text_matches : Op → List ℕ → List ℕ → Result Bool Fault
+  text_matches op.StartsWith text needle = Ok (begins_with text needle)
+  text_matches op.EndsWith text needle = Ok (ends_in text needle)
+  text_matches op.Contains text needle = Ok (has_in text needle)
+  text_matches other text needle = Err unknown
 
   -- a null text faults, and so does a null argument
   abbrev pub searched : Op → Scalar → Scalar → Result Bool Fault
-  searched o (scalar.Text s) (scalar.Text t) = found o s t
+  searched o (scalar.Text s) (scalar.Text t) = text_matches o s t
   searched o (scalar.Text s) scalar.Null = Err fault.NullReference
   searched o scalar.Null (scalar.Text t) = Err fault.NullReference
   searched o scalar.Null scalar.Null = Err fault.NullReference
   searched o a b = Err unknown
 
   abbrev pub truth : Result Bool Fault → Result Scalar Fault
-  truth found = on_ok found (λ b. Ok (scalar.Bool b))
+  truth text_matches = on_ok text_matches (λ b. Ok (scalar.Bool b))
 
   -- an operator or member of one operand, and of two
   abbrev pub of_one : Op → Scalar → Result Scalar Fault

@@ -18,7 +18,7 @@ use Rattle.lq_grammar.specs.declared.syntax.Node.{Node}
 use Rattle.lq_grammar.specs.declared.syntax.Node.TheVariants as node
 use Rattle.lq_grammar.specs.declared.syntax.Unary.TheVariants as unary
 use Rattle.lq_language.specs.Worlds.{Meaning, Scope, World, binding_of, names_at}
-use Rattle.lq_language.specs.OperandMeaning.{as_value, is_null, member_value, name_value, on_comparand, on_scalar, on_truth, operation_on, same_values, told, truth_value}
+use Rattle.lq_language.specs.OperandMeaning.{as_value, is_null, member_value, name_value, on_comparand, on_scalar, on_truth, operation_on, same_values, equality_truth, truth_value}
 use Rattle.lq_language.specs.ClauseMeaning.{condition_at}
 
 -- ---- expressions
@@ -39,7 +39,7 @@ module _ {R : Type 0} (world : World R) where
 
   -- `==` and `!=`
   abbrev pub compared_meaning : Binary → Result (Value R) Fault → Result (Value R) Fault → Result (Value R) Fault
-  compared_meaning sign a b = on_comparand world a (λ v. on_comparand world b (λ w. on_ok (same_values world v w) (λ same. Ok (truth_value (told sign same)))))
+  compared_meaning sign a b = on_comparand world a (λ v. on_comparand world b (λ w. on_ok (same_values world v w) (λ same. Ok (truth_value (equality_truth sign same)))))
 
 -- An operand beside its meaning: `operand_type` gives its type where it is a scalar or a row, which is all that a node's meaning asks for.
 module _ {R E : Type 0} (world : World R) (operand_type : E → Names → Option Ty) where

@@ -14,7 +14,7 @@ use Rattle.lq_grammar.specs.declared.syntax.Node.{Node}
 use Rattle.lq_grammar.specs.declared.syntax.Node.TheVariants as node
 use Rattle.lq_grammar.specs.declared.syntax.Unary.TheVariants as unary
 use Rattle.lq_language.specs.Names.{Names, column_type, local_type, table_number}
-use Rattle.lq_language.specs.OperandTypes.{are_comparable, are_joined, binary_type, choice_type, chosen, coalesced, if_number, is_bool_type, is_comparison, is_equality, is_number, is_ordering, is_text_type, member_type, number_type, of_operands, truth_type}
+use Rattle.lq_language.specs.OperandTypes.{are_comparable, are_joined, binary_type, choice_type, choice_type_of_layers, coalesced, if_number, is_bool_type, is_comparison, is_equality, is_number, is_ordering, is_text_type, member_type, number_type, of_operands, truth_type}
 
 -- Which types an expression has under given names, rule by rule. Forms that are spelled and have no rule here, queries and names of
 -- the session among them, have theirs in `TypingRules`.
@@ -54,7 +54,7 @@ pub data HasRuleType : Names → Expr → Ty → Type 0 where
   of_coalesced : (names : Names) (e a b : Expr) (s t r : Ty) → e ≡ expr.Node (node.Coalesce a b) → HasRuleType names a s → HasRuleType names b t
       → coalesced (out-Ty s) (out-Ty t) ≡ Some r → HasRuleType names e r
   of_choice : (names : Names) (e c a b : Expr) (s t r : Ty) → e ≡ expr.Node (node.Conditional c a b) → HasRuleType names c ty.Bool
-      → HasRuleType names a s → HasRuleType names b t → chosen (out-Ty s) (out-Ty t) ≡ Some r → HasRuleType names e r
+      → HasRuleType names a s → HasRuleType names b t → choice_type_of_layers (out-Ty s) (out-Ty t) ≡ Some r → HasRuleType names e r
 
 -- a local name's type, else a table's
 abbrev pub name_type : Names → List ℕ → Option Ty → Option Ty

@@ -26,25 +26,25 @@ abbrev pub one : {A : Type 0} → Result A Fault → Stream A
 one (Ok x) = (x ∷ [], end.Done)
 one (Err f) = ([], end.Fault f)
 
--- an item that is kept where its condition is true; a condition that faults ends the stream
-abbrev pub kept : {A : Type 0} → Result Bool Fault → A → Stream A
-kept (Ok b) x = if b then (x ∷ [], end.Done) else ([], end.Done)
-kept (Err f) x = ([], end.Fault f)
+-- an item that is item_where where its condition is true; a condition that faults ends the stream
+abbrev pub item_where : {A : Type 0} → Result Bool Fault → A → Stream A
+item_where (Ok b) x = if b then (x ∷ [], end.Done) else ([], end.Done)
+item_where (Err f) x = ([], end.Fault f)
 
 -- Enumerable.Where and Enumerable.Select
 abbrev pub where_by : {A : Type 0} → (A → Result Bool Fault) → List A → End → Stream A
-where_by condition = each (λ x. kept (condition x) x)
+where_by condition = each (λ x. item_where (condition x) x)
 
 abbrev pub select_by : {A B : Type 0} → (A → Result B Fault) → List A → End → Stream B
 select_by f = each (λ x. one (f x))
 
 -- what comes of each value of a stream
-abbrev pub made : {B V : Type 0} → (V → Result B Fault) → Stream V → Stream B
-made f vs = each (λ v. one (f v)) vs.0 vs.1
+abbrev pub select_each : {B V : Type 0} → (V → Result B Fault) → Stream V → Stream B
+select_each f vs = each (λ v. one (f v)) vs.0 vs.1
 
 -- Enumerable.SelectMany: for each item each value of its stream in turn, which is read again for each item
 abbrev pub expand_by : {A B V : Type 0} → (A → Stream V) → (A → V → Result B Fault) → List A → End → Stream B
-expand_by stream_of result = each (λ x. made (result x) (stream_of x))
+expand_by stream_of result = each (λ x. select_each (result x) (stream_of x))
 
 -- what is read whole before anything comes of it: where it ends in a fault, there is nothing but that fault
 abbrev pub whole : {A B : Type 0} → List A → End → (List A → Stream B) → Stream B
@@ -63,11 +63,11 @@ both (Err f) y = Err f
 
 -- items, each with its key, which is met before the next item
 abbrev pub with_keys : {V K : Type 0} → (V → Result K Fault) → Stream V → Stream (K × V)
-with_keys key vs = made (λ v. both (key v) (Ok v)) vs
+with_keys key vs = select_each (λ v. both (key v) (Ok v)) vs
 
 -- Enumerable.Join and GroupJoin: the inner items and their keys are read whole first; then, for each item, its key and what it matches
 abbrev pub join_by : {A B K Q V : Type 0} → Stream Q → (A → Result K Fault) → (K → List Q → List V) → (A → V → Result B Fault) → List A → End → Stream B
-join_by inner key matches result xs e = whole inner.0 inner.1 (λ qs. each (λ x. on_value (key x) (λ k. made (result x) (matches k qs, end.Done))) xs e)
+join_by inner key matches result xs e = whole inner.0 inner.1 (λ qs. each (λ x. on_value (key x) (λ k. select_each (result x) (matches k qs, end.Done))) xs e)
 
 -- the keys in order of their first appearance
 abbrev pub first_keys : {K : Type 0} → (K → K → Bool) → List K → List K

@@ -10,7 +10,7 @@ use Rattle.lq_language.specs.EnumerableCalls as of
 use Rattle.lq_language.specs.Members.{is_search, sole_argument}
 use Rattle.lq_language.specs.Types.{element_type, fresh_type, if_placed, is_key, is_within, same_types, when}
 use Rattle.lq_language.specs.Names.{Names, local_type, session_name, table_number, with_local}
-use Rattle.lq_language.specs.OperandTypes.{chosen, is_bool_type, is_equality, is_number, is_text_type, member_type, of_operands, operated_type, truth_type}
+use Rattle.lq_language.specs.OperandTypes.{choice_type_of_layers, is_bool_type, is_equality, is_number, is_text_type, member_type, of_operands, operated_type, truth_type}
 use Rattle.lq_language.specs.RuleTyping.{rule_node_type}
 use Rattle.lq_grammar.specs.declared.syntax.Argument.{Argument}
 use Rattle.lq_grammar.specs.declared.syntax.Binary.{Binary}
@@ -50,7 +50,7 @@ abbrev pub type_of_choice : Ty-F Ty → Ty-F Ty → Option Ty
 type_of_choice (Ty-F.Rec ms) (Ty-F.Rec ns) = when (same_types (ty.Rec ms) (ty.Rec ns)) (Some (ty.Rec ms))
 type_of_choice (Ty-F.Rec ms) Ty-F.Null = Some (ty.Rec ms)
 type_of_choice Ty-F.Null (Ty-F.Rec ms) = Some (ty.Rec ms)
-type_of_choice s t = chosen s t
+type_of_choice s t = choice_type_of_layers s t
 
 abbrev pub type_of_conditional : Bool → Option Ty → Option Ty → Option Ty
 type_of_conditional true s t = of_operands type_of_choice s t

@@ -23,5 +23,5 @@ rows_from n [] bounds ps = []
 rows_from n (k ∷ ks) bounds ps = (k, block bounds ps n) ∷ rows_from (suc n) ks bounds ps
 
 -- what a lookup finds for q: nothing for null where nulls are skipped, and else the places of q
-abbrev pub found : Nulls × List (Key × List ℕ) → Key → List ℕ
-found lookup q = if is_kept lookup.0 q then find_in key_is lookup.1 q else []
+abbrev pub places_of : Nulls × List (Key × List ℕ) → Key → List ℕ
+places_of lookup q = if is_kept lookup.0 q then find_in key_is lookup.1 q else []

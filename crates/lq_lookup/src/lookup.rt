@@ -28,13 +28,13 @@ impl Model for Lookup {
 impl Lookup {
     ghost use Rattle.std.specs.Prelude.{◌≡◌, IfOk};
     ghost use Rattle.lq_value.specs.declared.key.Key.{Key as KeyValue};
-    ghost use Rattle.lq_lookup.specs.Found.{found, matches};
+    ghost use Rattle.lq_lookup.specs.Found.{places_of, matches};
 
     /// The lookup of `keys`. Under `Nulls::Skip` a key that is itself null is found nowhere; a record
     /// with null members is a key as any other.
     pub fn build(alloc: Global, keys: &[Key], nulls: Nulls) -> Result<Lookup, AllocError>
         ensures { IfOk result (λ lookup. (q : KeyValue)
-            → found lookup q ≡ matches nulls keys.now q) }
+            → places_of lookup q ≡ matches nulls keys.now q) }
     {
         let rows = Rows::build(alloc, keys)?;
         Ok(Lookup { nulls, rows })
@@ -42,7 +42,7 @@ impl Lookup {
 
     /// The places of `key`, in order. Takes no memory.
     pub fn find(&self, key: &Key) -> &[usize]
-        ensures { result.now ≡ found self.now key.now }
+        ensures { result.now ≡ places_of self.now key.now }
     {
         if is_kept(self.nulls, key) {
             self.rows.find(key)

@@ -25,7 +25,7 @@ use Rattle.lq_machine.specs.Opening.{is_past_opening, opening_of}
 use Rattle.lq_grammar.specs.Reading.{Reading, Nothing, Says, IsNoSyntax, IsTooDeep, reading_of}
 use Rattle.lq_security.specs.Rights.{Denied, denial}
 use Rattle.lq_machine.specs.Served.{assigned_data, defined_data}
-use Rattle.lq_machine.specs.Statements.{Outcome, allowed_by, are_of_columns, are_within_ranges, assigned, assigned_as, assigned_by, assigned_to, assigning, chosen, defined, defined_as, defined_by, defining_also, deleted, evaluated, inserted, is_taken, refused, renewed, row_checked, row_for, row_for_named, rows_of, rows_of_named, rows_removed, taking_role, under_role, with_row, with_scalar, with_table, with_value, without}
+use Rattle.lq_machine.specs.Statements.{Outcome, allowed_by, are_of_columns, are_within_ranges, assigned, assigned_as, assigned_by, assigned_to, assigning, removed_items, defined, defined_as, defined_by, defining_also, deleted, evaluated, inserted, is_taken, refused, renewed, row_checked, row_for, row_for_named, rows_of, rows_of_named, rows_removed, taking_role, under_role, with_row, with_scalar, with_table, with_value, without}
 use Rattle.lq_machine.specs.States.{State, names_in, schemas_of, world_in}
 use Rattle.lq_language.specs.Types.{same_types}
 use Rattle.lq_language.specs.Names.{SessionName, session_name, table_number, with_local}
@@ -287,7 +287,7 @@ module _ (old : State) where
   rows_leave x e n (Some table) is =
       if_leaves (is_bool_type (expression_type e (with_local (names_in old) x (ty.Row n)))) _ _
       (allowed_leaves (denial old.policies old.role (used.Delete n ∷ expression_uses e (with_local (names_in old) x (ty.Row n)))) _
-      (removed_leaves n table is (chosen old x e n table.rows).0 (chosen old x e n table.rows).1))
+      (removed_leaves n table is (removed_items old x e n table.rows).0 (removed_items old x e n table.rows).1))
       (refused_leaves (codes "type"))
 
   named_rows_leave : (x : List ℕ) (e : Expr) (o : Option ℕ) → LeavesNames old (rows_of_named old x e o)

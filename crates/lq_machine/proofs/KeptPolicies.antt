@@ -26,7 +26,7 @@ use Rattle.lq_machine.specs.Opening.{is_past_opening, opening_of}
 use Rattle.lq_machine.specs.Served.{assigned_data, defined_data}
 use Rattle.lq_machine.specs.Output.{Answers, as_machine, no_memory}
 use Rattle.lq_machine.specs.SessionLaws.{KeepsPolicies, StayReadForTables}
-use Rattle.lq_machine.specs.Statements.{Outcome, allowed_by, are_of_columns, are_within_ranges, assigned, assigned_as, assigned_by, assigned_to, assigning, chosen, defined, defined_as, defined_by, defining_also, deleted, evaluated, inserted, is_taken, refused, row_checked, row_for, row_for_named, rows_of, rows_of_named, rows_removed, taking_role, under_role, with_row, with_scalar, with_value, without}
+use Rattle.lq_machine.specs.Statements.{Outcome, allowed_by, are_of_columns, are_within_ranges, assigned, assigned_as, assigned_by, assigned_to, assigning, removed_items, defined, defined_as, defined_by, defining_also, deleted, evaluated, inserted, is_taken, refused, row_checked, row_for, row_for_named, rows_of, rows_of_named, rows_removed, taking_role, under_role, with_row, with_scalar, with_value, without}
 use Rattle.lq_machine.specs.States.{State, names_in, schemas_of, world_in}
 use Rattle.lq_machine.specs.declared.session.Defined.{Defined}
 use Rattle.lq_machine.specs.declared.session.Defined.TheVariants as of
@@ -151,7 +151,7 @@ module _ (old : State) where
   rows_keep x e n (Some table) at =
       if_keeps (is_bool_type (expression_type e (with_local (names_in old) x (ty.Row n)))) _ _
       (allowed_keeps (denial old.policies old.role (used.Delete n ∷ expression_uses e (with_local (names_in old) x (ty.Row n)))) _
-      (removed_keeps n table at (chosen old x e n table.rows).0 (chosen old x e n table.rows).1))
+      (removed_keeps n table at (removed_items old x e n table.rows).0 (removed_items old x e n table.rows).1))
       (refused_keeps (codes "type"))
 
   named_rows_keep : (x : List ℕ) (e : Expr) (o : Option ℕ) → Keeps (rows_of_named old x e o)

@@ -26,7 +26,7 @@ use Rattle.lq_language.specs.ClauseTyping.{expression_type}
 use Rattle.lq_machine.specs.Definitions.{definition_of}
 use Rattle.lq_machine.specs.Opening.{is_past_opening, opening_of}
 use Rattle.lq_security.specs.Rights.{Denied, denial}
-use Rattle.lq_machine.specs.Statements.{Outcome, allowed_by, are_of_columns, are_within_ranges, assigned, assigned_as, assigned_by, assigned_to, chosen, defined, defined_as, defined_by, deleted, evaluated, inserted, is_taken, refused as refusal, row_checked, row_for, row_for_named, rows_of, rows_of_named, rows_removed, taking_role, under_role, with_scalar, with_value, assigning, defining_also}
+use Rattle.lq_machine.specs.Statements.{Outcome, allowed_by, are_of_columns, are_within_ranges, assigned, assigned_as, assigned_by, assigned_to, removed_items, defined, defined_as, defined_by, deleted, evaluated, inserted, is_taken, refused as refusal, row_checked, row_for, row_for_named, rows_of, rows_of_named, rows_removed, taking_role, under_role, with_scalar, with_value, assigning, defining_also}
 use Rattle.lq_language.specs.Names.{table_number, with_local}
 use Rattle.lq_language.specs.OperandTypes.{is_bool_type, is_scalar}
 use Rattle.lq_language.specs.Uses.{expression_uses}
@@ -319,7 +319,7 @@ module _ (old : State) where
   rows_keep x e n (Some table) =
       if_keeps (is_bool_type (expression_type e (with_local (names_in old) x (ty.Row n)))) _ _
       (allowed_keeps (denial old.policies old.role (used.Delete n ∷ expression_uses e (with_local (names_in old) x (ty.Row n)))) _
-      (removed_keeps n table (chosen old x e n table.rows).0 (chosen old x e n table.rows).1))
+      (removed_keeps n table (removed_items old x e n table.rows).0 (removed_items old x e n table.rows).1))
       (refused_keeps (codes "type"))
 
   named_rows_keep : (x : List ℕ) (e : Expr) (o : Option ℕ) → Keeps old (rows_of_named old x e o)

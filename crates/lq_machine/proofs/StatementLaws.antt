@@ -16,7 +16,7 @@ use Rattle.lq_language.specs.ClauseTyping.{expression_type}
 use Rattle.lq_machine.specs.Definitions.{definition_of}
 use Rattle.lq_security.specs.Rights.{Denied, denial}
 use Rattle.lq_machine.specs.Served.{assigned_data, defined_data, deleted_data, denied_data, inserted_data, role_data}
-use Rattle.lq_machine.specs.Statements.{Outcome, allowed_by, are_of_columns, are_within_ranges, assigned, assigned_as, assigned_by, assigned_to, assigning, chosen, defined, defined_as, defined_by, defining_also, deleted, evaluated, faulted, inserted, is_taken, refused, row_checked, row_for, row_for_named, row_within, rows_of, rows_of_named, rows_removed, taking_role, under_role, with_row, with_scalar, with_table, with_value, without}
+use Rattle.lq_machine.specs.Statements.{Outcome, allowed_by, are_of_columns, are_within_ranges, assigned, assigned_as, assigned_by, assigned_to, assigning, removed_items, defined, defined_as, defined_by, defining_also, deleted, evaluated, faulted, inserted, is_taken, refused, row_checked, row_for, row_for_named, row_within, rows_of, rows_of_named, rows_removed, taking_role, under_role, with_row, with_scalar, with_table, with_value, without}
 use Rattle.lq_machine.specs.States.{State, names_in, schemas_of, world_in}
 use Rattle.lq_language.specs.Names.{Names, table_number, with_local}
 use Rattle.lq_language.specs.OperandTypes.{is_bool_type, is_scalar, item_of}
@@ -236,7 +236,7 @@ module _ (old : State) where
 
       module _ (is_condition : is_bool_type (expression_type e names_at_row) ≡ true) where
         abbrev rows_by : Option Denied → Outcome
-        rows_by o = allowed_by old o (rows_removed old n table (chosen old x e n table.rows).0 (chosen old x e n table.rows).1)
+        rows_by o = allowed_by old o (rows_removed old n table (removed_items old x e n table.rows).0 (removed_items old x e n table.rows).1)
 
         deleted_by : (o : Option Denied) → denial old.policies old.role (used.Delete n ∷ expression_uses e names_at_row) ≡ o → deleted old name x e ≡ rows_by o
         deleted_by o is = deleted_of ∙ first_of (is_bool_type (expression_type e names_at_row)) _ _ is_condition ∙ ap rows_by is
@@ -246,11 +246,11 @@ module _ (old : State) where
 
         -- a fault removes nothing
         pub deleted_fault : (f : Fault) → denial old.policies old.role (used.Delete n ∷ expression_uses e names_at_row) ≡ None
-            → (chosen old x e n table.rows).1 ≡ end.Fault f → deleted old name x e ≡ faulted old f
-        deleted_fault f allowed is = deleted_by None allowed ∙ ap (rows_removed old n table (chosen old x e n table.rows).0) is
+            → (removed_items old x e n table.rows).1 ≡ end.Fault f → deleted old name x e ≡ faulted old f
+        deleted_fault f allowed is = deleted_by None allowed ∙ ap (rows_removed old n table (removed_items old x e n table.rows).0) is
 
         pub deleted_rows : (gone : List TableRow) → denial old.policies old.role (used.Delete n ∷ expression_uses e names_at_row) ≡ None
-            → chosen old x e n table.rows ≡ (gone, end.Done) → deleted old name x e ≡ (deleted_data (length gone), with_table old n (without old gone table))
+            → removed_items old x e n table.rows ≡ (gone, end.Done) → deleted old name x e ≡ (deleted_data (length gone), with_table old n (without old gone table))
         deleted_rows gone allowed is = deleted_by None allowed ∙ ap (λ (s : List TableRow × _). rows_removed old n table s.0 s.1) is
 
 pub ruleset of_definitions = (defined_taken, defined_untyped, defined_query, defined_other, defined_denied, defined_fault, defined_scalar)

@@ -23,7 +23,7 @@ use Rattle.lq_language.specs.ClauseMeaning.{condition_at}
 use Rattle.lq_security.specs.Rights.{Denied, denial}
 use Rattle.lq_machine.specs.Served.{denied_data, assigned_data, defined_data}
 use Rattle.lq_machine.specs.SessionLaws.{LooksSame, NumberAlike}
-use Rattle.lq_machine.specs.Statements.{Outcome, allowed_by, are_of_columns, are_within_ranges, assigned, assigned_as, assigned_by, assigned_to, assigning, chosen, defined, defined_as, defined_by, defining_also, deleted, evaluated, if_allowed, inserted, is_taken, refused, renewed, row_checked, row_for, row_for_named, row_put_in, row_within, rows_of, rows_of_named, rows_removed, taking_role, under_role, with_row, with_scalar, with_table, with_value, without}
+use Rattle.lq_machine.specs.Statements.{Outcome, allowed_by, are_of_columns, are_within_ranges, assigned, assigned_as, assigned_by, assigned_to, assigning, removed_items, defined, defined_as, defined_by, defining_also, deleted, evaluated, if_allowed, inserted, is_taken, refused, renewed, row_checked, row_for, row_for_named, row_put_in, row_within, rows_of, rows_of_named, rows_removed, taking_role, under_role, with_row, with_scalar, with_table, with_value, without}
 use Rattle.lq_machine.specs.States.{State, names_in, schemas_of, world_in, world_of}
 use Rattle.lq_language.specs.Stream.{Stream, where_by}
 use Rattle.lq_language.specs.Names.{Names, table_number, with_local}
@@ -260,7 +260,7 @@ module _ (a b : State) (same : LooksSame a b) where
 
     -- ---- `delete`
 
-    chosen_alike : (x : List ℕ) (e : Expr) → chosen a x e n s.rows ≡ chosen b x e n t.rows
+    chosen_alike : (x : List ℕ) (e : Expr) → removed_items a x e n s.rows ≡ removed_items b x e n t.rows
     chosen_alike x e =
         ap₂ (λ (w : World TableRow) (rows : List TableRow). picked w rows) world_alike
         (removable_seen a.policies a.role n s.rows

@@ -17,7 +17,7 @@ use Rattle.lq_value.specs.declared.value.Fault.TheVariants as fault
 use Rattle.lq_value.specs.declared.value.Value.{Value, fold-Value, out-Value}
 use Rattle.lq_value.specs.declared.value.Value.TheOpen.{Value-F}
 use Rattle.lq_language.specs.Operations.{on_ok}
-use Rattle.lq_language.specs.Stream.{Stream, made}
+use Rattle.lq_language.specs.Stream.{Stream, select_each}
 use Rattle.lq_language.specs.declared.rights.Use.{Use}
 use Rattle.lq_language.specs.declared.rights.Use.TheVariants as of
 
@@ -148,7 +148,7 @@ module _ {R : Type 0} (schemas : List Schema) (cells_of : R → List Scalar) (t 
 
   -- a stream of values of a type, which ends before the first one that holds a fault, with that fault
   abbrev pub served_stream : Stream (Value R) → Stream Data
-  served_stream s = made served_item s
+  served_stream s = select_each served_item s
 
   abbrev pub stream_data : Stream (Value R) → Data
   stream_data s = object (stream_members (served_stream s).0 (served_stream s).1)

@@ -193,8 +193,8 @@ module _ (old : State) where
   removable n rows = map (λ row. record { table = n; row = row }) (filter (λ row. visible_to old.policies old.role action.Delete n row.cells) rows)
 
   -- those of them on which the condition is true, up to its first fault; what it queries is as it was before
-  abbrev pub chosen : List ℕ → Expr → ℕ → List Row → Stream TableRow
-  chosen x condition n rows =
+  abbrev pub removed_items : List ℕ → Expr → ℕ → List Row → Stream TableRow
+  removed_items x condition n rows =
       where_by (λ r. condition_at (world_in old) expression_type (expression_meaning (world_in old)) condition (bound x (ty.Row n) [] (value.Row r)))
       (removable n rows) end.Done
 
@@ -210,7 +210,7 @@ module _ (old : State) where
   rows_of x condition n None = refused (codes "type")
   rows_of x condition n (Some table) =
       let names = with_local (names_in old) x (ty.Row n) in
-      let gone = chosen x condition n table.rows in
+      let gone = removed_items x condition n table.rows in
       if is_bool_type (expression_type condition names)
       then if_allowed (used.Delete n ∷ expression_uses condition names) (rows_removed n table gone.0 gone.1)
       else refused (codes "type")

@@ -9,12 +9,12 @@ use Rattle.lq_value.specs.declared.key.Key.{Key}
 use Rattle.lq_value.specs.declared.value.Value.{Value}
 use Rattle.lq_value.specs.declared.value.Value.TheVariants as value
 use Rattle.lq_language.specs.Stream.{elements_of}
-use Rattle.lq_lookup.specs.Found.{found}
+use Rattle.lq_lookup.specs.Found.{places_of}
 use Rattle.lq_lookup.specs.declared.nulls.Nulls.{Nulls}
 
 -- the lookup finds each key's places, null's as well
 abbrev pub FindsKeys : Nulls × List (Key × List ℕ) → List Key → Type 0
-FindsKeys lookup ks = (q : Key) → found lookup q ≡ places (key_is q) ks
+FindsKeys lookup ks = (q : Key) → places_of lookup q ≡ places (key_is q) ks
 
 module _ {A : Type 0} where
   abbrev pub passes : (A → Bool) → Option A → Bool

@@ -7,7 +7,7 @@ use Rattle.lq_value.specs.declared.value.Value.{Value}
 use Rattle.lq_value.specs.declared.value.Value.TheVariants as value
 use Rattle.lq_language.specs.Worlds.{World}
 use Rattle.lq_language.specs.OperandMeaning.{sequence, stream_of}
-use Rattle.lq_language.specs.Stream.{Stream, each, made, on_value, select_by, whole}
+use Rattle.lq_language.specs.Stream.{Stream, each, select_each, on_value, select_by, whole}
 use Rattle.lq_tree.specs.FormMeaning.{Slots, form_meaning, matched, with_item, with_items}
 use Rattle.lq_tree.specs.declared.tree.Form.{Form}
 use Rattle.lq_tree.specs.declared.tree.Joined.{Joined}
@@ -20,18 +20,18 @@ module _ {R : Type 0} (world : World R) (S : Slots R) (x : Value R) (D : Slots R
   -- a slot for an item and one for what it leads to are two slots
   two_slots : (result : Form) (vs : List (Value R)) (e : End)
       → select_by (λ w. form_meaning world result (with_item world (S ++ x ∷ []) w)) vs e
-      ≡ made (λ w. form_meaning world result (with_items world S x w)) (vs, e)
+      ≡ select_each (λ w. form_meaning world result (with_items world S x w)) (vs, e)
   two_slots result vs e = λ i. select_by (λ w. form_meaning world result (append_assoc S (x ∷ []) (w ∷ []) i)) vs e
 
   pub expanded_is : (inner result : Form) (vs vs' : List (Value R)) (e : End) (E : Type 0) (answer : Result (Stream (Value R)) E) → D ≡ S ++ x ∷ []
       → (vs, e) ≡ stream_of world (form_meaning world inner D) → vs' ≡ vs
       → IfOk answer (λ s. s ≡ select_by (λ w. form_meaning world result (with_item world D w)) vs' e)
-      → IfOk answer (λ s. s ≡ made (λ w. form_meaning world result (with_items world S x w)) (stream_of world (form_meaning world inner (with_item world S x))))
+      → IfOk answer (λ s. s ≡ select_each (λ w. form_meaning world result (with_items world S x w)) (stream_of world (form_meaning world inner (with_item world S x))))
   expanded_is inner result vs vs' e E answer slots is same h =
       subst (λ (t : Stream (Value R)). IfOk answer (λ s. s ≡ t))
       (ap (λ l. select_by (λ w. form_meaning world result (with_item world D w)) l e) same
       ∙ ap (λ (d : Slots R). select_by (λ w. form_meaning world result (with_item world d w)) vs e) slots ∙ two_slots result vs e
-      ∙ ap (made (λ w. form_meaning world result (with_items world S x w))) (is ∙ ap (λ (d : Slots R). stream_of world (form_meaning world inner d)) slots)) h
+      ∙ ap (select_each (λ w. form_meaning world result (with_items world S x w))) (is ∙ ap (λ (d : Slots R). stream_of world (form_meaning world inner d)) slots)) h
 
   -- and so are those that are pulled with the item in its slot
   pub expanded_pulled : (inner result : Form) (E : Type 0) (answer : Result (Stream (Value R)) E) → D ≡ S ++ x ∷ []
@@ -42,7 +42,7 @@ module _ {R : Type 0} (world : World R) (S : Slots R) (x : Value R) (D : Slots R
 
   pub matched_is : (result : Form) (vs : List (Value R)) (E : Type 0) (answer : Result (Stream (Value R)) E) → D ≡ S ++ x ∷ []
       → IfOk answer (λ s. s ≡ select_by (λ w. form_meaning world result (with_item world D w)) vs end.Done)
-      → IfOk answer (λ s. s ≡ made (λ w. form_meaning world result (with_items world S x w)) (vs, end.Done))
+      → IfOk answer (λ s. s ≡ select_each (λ w. form_meaning world result (with_items world S x w)) (vs, end.Done))
   matched_is result vs E answer slots h =
       subst (λ (t : Stream (Value R)). IfOk answer (λ s. s ≡ t))
       (ap (λ (d : Slots R). select_by (λ w. form_meaning world result (with_item world d w)) vs end.Done) slots ∙ two_slots result vs end.Done) h
@@ -103,9 +103,9 @@ module _ {R : Type 0} (world : World R) (slots : Slots R) where
   -- what comes of an outer item whose key is met
   pub joined_met : (j : Joined Form) (qs : List (Value R × Value R)) (x k : Value R) (found found' : List (Value R)) (E : Type 0) (answer : Result (Stream (Value R)) E)
       → Ok k ≡ form_meaning world j.outer_key (with_item world slots x) → found ≡ matched world j.grouped k qs → found' ≡ found
-      → IfOk answer (λ s. s ≡ made (λ w. form_meaning world j.result (with_items world slots x w)) (found', end.Done))
+      → IfOk answer (λ s. s ≡ select_each (λ w. form_meaning world j.result (with_items world slots x w)) (found', end.Done))
       → IfOk answer (λ s. s ≡ joined_of world slots j qs x)
   joined_met j qs x k found found' E answer met found_is same h =
       subst (λ (t : Stream (Value R)). IfOk answer (λ s. s ≡ t))
-      (ap (λ l. made (λ w. form_meaning world j.result (with_items world slots x w)) (l, end.Done)) (same ∙ found_is)
-      ∙ ap (λ (m : Result (Value R) Fault). on_value m (λ y. made (λ w. form_meaning world j.result (with_items world slots x w)) (matched world j.grouped y qs, end.Done))) met) h
+      (ap (λ l. select_each (λ w. form_meaning world j.result (with_items world slots x w)) (l, end.Done)) (same ∙ found_is)
+      ∙ ap (λ (m : Result (Value R) Fault). on_value m (λ y. select_each (λ w. form_meaning world j.result (with_items world slots x w)) (matched world j.grouped y qs, end.Done))) met) h

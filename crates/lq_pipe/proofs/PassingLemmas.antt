@@ -7,7 +7,7 @@ use Rattle.lq_value.specs.declared.value.End.TheVariants as end
 use Rattle.lq_value.specs.declared.value.Fault.{Fault}
 use Rattle.lq_value.specs.declared.value.Value.{Value}
 use Rattle.lq_value.specs.declared.value.Value.TheVariants as value
-use Rattle.lq_language.specs.Stream.{Stream, kept, one, then_stream}
+use Rattle.lq_language.specs.Stream.{Stream, item_where, one, then_stream}
 use Rattle.lq_language.specs.Worlds.{World}
 use Rattle.lq_condition.specs.Verdicts.{IsBoth, both_verdicts, verdict}
 use Rattle.lq_condition.specs.declared.condition.Condition.{Condition}
@@ -49,10 +49,10 @@ module _ {R : Type 0} (table_of : R → ℕ) (shown : R → List Scalar) (slots 
   where_met (Some true) None f r s hs hf = tt
   where_met (Some true) (Some true) f r s hs hf =
       ap (λ (z : Stream (Value R)). through_where world slots f z) hs
-      ∙ ap (λ (t : Result Bool Fault). then_stream (kept t (value.Row r)) ([], end.Done)) hf
+      ∙ ap (λ (t : Result Bool Fault). then_stream (item_where t (value.Row r)) ([], end.Done)) hf
   where_met (Some true) (Some false) f r s hs hf =
       ap (λ (z : Stream (Value R)). through_where world slots f z) hs
-      ∙ ap (λ (t : Result Bool Fault). then_stream (kept t (value.Row r)) ([], end.Done)) hf
+      ∙ ap (λ (t : Result Bool Fault). then_stream (item_where t (value.Row r)) ([], end.Done)) hf
 
   where_at : (a f : Form) (table : ℕ) (ca cf c : Condition) → DecidesPassing table_of shown world slots table a ca → Decides table_of shown world slots table f cf
       → IsBoth ca cf c

@@ -8,7 +8,7 @@ use Rattle.lq_value.specs.declared.value.Fault.TheVariants as fault
 use Rattle.lq_value.specs.declared.value.Value.{Value}
 use Rattle.lq_value.specs.declared.value.Value.TheVariants as value
 use Rattle.lq_language.specs.Enumerable.{in_front, take_first}
-use Rattle.lq_language.specs.Stream.{Stream, each, kept, one, select_by, then_ending, then_stream}
+use Rattle.lq_language.specs.Stream.{Stream, each, item_where, one, select_by, then_ending, then_stream}
 use Rattle.lq_language.specs.Worlds.{World}
 use Rattle.lq_language.specs.OperandMeaning.{items_of, sequence, stream_of, table_value}
 use Rattle.lq_tree.specs.FormMeaning.{Slots, form_meaning, is_true, with_item}
@@ -104,7 +104,7 @@ module _ {A B : Type 0} (f : A → Stream B) where
   comes_ended old all made e is comes =
       ap (λ l. (l, e)) (sym (append-nil made)) ∙ ap (λ (s : Stream A). then_ending made end.Done (each f s.0 s.1)) (sym is) ∙ comes
 
--- the same of items that are kept as they are
+-- the same of items that are item_where as they are
 module _ {A : Type 0} where
   pub drained_on : (old new all : Stream A) (x : A) (made more : List A) → old ≡ in_front x new → more ≡ made ++ x ∷ []
       → then_ending made end.Done old ≡ all → then_ending more end.Done new ≡ all
@@ -240,7 +240,7 @@ module _ {R : Type 0} (world : World R) (slots : Slots R) where
       → each (λ x. through_stage world slots st (item_at world slots a x)) s.0 s.1 ≡ through_stage world slots st (items_at world slots a s)
   through_each stage.Plain a s = refl
   through_each (stage.Where c) a s =
-      sym (each_each (λ v. kept (is_true world (form_meaning world c.now) (with_item world slots v)) v) (item_at world slots a) s.0 s.1)
+      sym (each_each (λ v. item_where (is_true world (form_meaning world c.now) (with_item world slots v)) v) (item_at world slots a) s.0 s.1)
   through_each (stage.Select c) a s = sym (each_each (λ v. one (form_meaning world c.now (with_item world slots v))) (item_at world slots a) s.0 s.1)
 
   -- ---- bases of forms

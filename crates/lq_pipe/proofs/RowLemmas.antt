@@ -1,10 +1,10 @@
--- Rows that are kept one by one where a condition is true on them.
+-- Rows that are item_where one by one where a condition is true on them.
 use Rattle.std.proofs.Common.{◌≡◌, ◌∷◌, ◌++◌, ◌+◌, ◌<◌, ◌≤◌, List, [], ℕ, Bool, true, false, Some, Result, Ok, Err, IfSome, ap, sym, subst, append-nil, get_or, length}
 use Rattle.lq_value.specs.declared.scalar.Scalar.{Scalar}
 use Rattle.lq_value.specs.declared.value.End.TheVariants as end
 use Rattle.lq_value.specs.declared.value.Fault.{Fault}
 use Rattle.lq_value.specs.declared.value.Value.TheVariants as value
-use Rattle.lq_language.specs.Stream.{Stream, kept, where_by}
+use Rattle.lq_language.specs.Stream.{Stream, item_where, where_by}
 use Rattle.lq_language.specs.Worlds.{World}
 use Rattle.lq_condition.specs.Verdicts.{verdict}
 use Rattle.lq_condition.specs.declared.condition.Condition.{Condition}
@@ -19,26 +19,26 @@ module _ {A : Type 0} (holds : A → Result Bool Fault) (rows : List A) where
   abbrev all : Stream A
   all = where_by holds rows end.Done
 
-  -- the rows so far, with what is kept of those that are left
+  -- the rows so far, with what is item_where of those that are left
   abbrev pub Keeps : List A → ℕ → Type 0
-  Keeps found i = Goes (λ y. kept (holds y) y) rows end.Done all found i
+  Keeps found i = Goes (λ y. item_where (holds y) y) rows end.Done all found i
 
   pub row_kept : (found more : List A) (i : ℕ) (x : A) → x ≡ get_or rows i x → i < length rows → Ok true ≡ holds x → more ≡ found ++ x ∷ []
       → Keeps found i → Keeps more (i + 1)
   row_kept found more i x is below gives more_is keeps =
-      each_goes (λ y. kept (holds y) y) rows end.Done all found more (x ∷ []) i x is below (ap (λ t. kept t x) (sym gives)) more_is keeps
+      each_goes (λ y. item_where (holds y) y) rows end.Done all found more (x ∷ []) i x is below (ap (λ t. item_where t x) (sym gives)) more_is keeps
 
   pub row_dropped : (found : List A) (i : ℕ) (x : A) → x ≡ get_or rows i x → i < length rows → Ok false ≡ holds x → Keeps found i → Keeps found (i + 1)
   row_dropped found i x is below gives keeps =
-      each_goes (λ y. kept (holds y) y) rows end.Done all found found [] i x is below (ap (λ t. kept t x) (sym gives)) (sym (append-nil found)) keeps
+      each_goes (λ y. item_where (holds y) y) rows end.Done all found found [] i x is below (ap (λ t. item_where t x) (sym gives)) (sym (append-nil found)) keeps
 
   pub rows_stopped : (found : List A) (i : ℕ) (x : A) (f : Fault) → x ≡ get_or rows i x → i < length rows → Err f ≡ holds x → Keeps found i
       → (found, end.Fault f) ≡ all
   rows_stopped found i x f is below gives keeps =
-      each_stops (λ y. kept (holds y) y) rows end.Done all found found [] i x f is below (ap (λ t. kept t x) (sym gives)) (sym (append-nil found)) keeps
+      each_stops (λ y. item_where (holds y) y) rows end.Done all found found [] i x f is below (ap (λ t. item_where t x) (sym gives)) (sym (append-nil found)) keeps
 
   pub rows_ended : (found : List A) (i : ℕ) → length rows ≤ i → Keeps found i → (found, end.Done) ≡ all
-  rows_ended found i over keeps = each_ends (λ y. kept (holds y) y) rows end.Done all found i over keeps
+  rows_ended found i over keeps = each_ends (λ y. item_where (holds y) y) rows end.Done all found i over keeps
 
 pub ruleset keeps_rows = (row_kept, row_dropped, rows_ended)
 

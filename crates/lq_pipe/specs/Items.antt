@@ -7,7 +7,7 @@ use Rattle.lq_value.specs.declared.value.Value.{Value}
 use Rattle.lq_language.specs.Worlds.{World}
 use Rattle.lq_language.specs.OperandMeaning.{stream_of}
 use Rattle.lq_language.specs.ClauseMeaning.{as_group}
-use Rattle.lq_language.specs.Stream.{Stream, both, each, groups_of, made, on_value, select_by}
+use Rattle.lq_language.specs.Stream.{Stream, both, each, groups_of, select_each, on_value, select_by}
 use Rattle.lq_tree.specs.FormMeaning.{Slots, form_meaning, matched, with_item, with_items}
 use Rattle.lq_tree.specs.declared.tree.Form.{Form}
 use Rattle.lq_tree.specs.declared.tree.Joined.{Joined}
@@ -16,7 +16,7 @@ module _ {R : Type 0} (world : World R) (slots : Slots R) where
   -- what comes of an item and of each item of the sequence that it leads to
   abbrev pub expanded_of : Form → Form → Value R → Stream (Value R)
   expanded_of inner result x =
-      made (λ w. form_meaning world result (with_items world slots x w)) (stream_of world (form_meaning world inner (with_item world slots x)))
+      select_each (λ w. form_meaning world result (with_items world slots x w)) (stream_of world (form_meaning world inner (with_item world slots x)))
 
   -- the key and the element of an item
   abbrev pub keyed_of : Form → Form → Value R → Result (Value R × Value R) Fault
@@ -30,7 +30,7 @@ module _ {R : Type 0} (world : World R) (slots : Slots R) where
   abbrev pub joined_of : Joined Form → List (Value R × Value R) → Value R → Stream (Value R)
   joined_of j qs x =
       on_value (form_meaning world j.outer_key (with_item world slots x))
-      (λ k. made (λ w. form_meaning world j.result (with_items world slots x w)) (matched world j.grouped k qs, end.Done))
+      (λ k. select_each (λ w. form_meaning world j.result (with_items world slots x w)) (matched world j.grouped k qs, end.Done))
 
   -- what comes of the items of a stream
   abbrev pub expanded_items : Form → Form → Stream (Value R) → Stream (Value R)
@@ -47,7 +47,7 @@ module _ {R : Type 0} (world : World R) (slots : Slots R) where
 
   -- what comes of an item and of each of what it matches
   abbrev pub matched_items : Form → Value R → List (Value R) → Stream (Value R)
-  matched_items result x found = made (λ w. form_meaning world result (with_items world slots x w)) (found, end.Done)
+  matched_items result x found = select_each (λ w. form_meaning world result (with_items world slots x w)) (found, end.Done)
 
 module _ {R : Type 0} where
   abbrev pub groups_in : List (Value R × Value R) → Stream (Value R)

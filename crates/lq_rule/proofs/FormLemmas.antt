@@ -9,7 +9,7 @@ use Rattle.lq_value.specs.declared.value.Fault.{Fault}
 use Rattle.lq_value.specs.declared.value.Fault.TheVariants as fault
 use Rattle.lq_value.specs.declared.value.Value.TheVariants.{outs-Row, outs-Scalar}
 use Rattle.lq_language.specs.Worlds.{binding_of, names_at}
-use Rattle.lq_language.specs.OperandMeaning.{is_null, is_row_type, told}
+use Rattle.lq_language.specs.OperandMeaning.{is_null, is_row_type, equality_truth}
 use Rattle.lq_language.specs.Members.{is_search, search_named, sole_argument}
 use Rattle.lq_language.specs.Operations.{has_value, negated, of_search, of_two, on_ok, operation_of, same_content, searched, truth, truth_of}
 use Rattle.lq_security.specs.Totality.{is_division, is_divisor, is_natural, is_row, is_sure, is_total, Strength, strength_of}
@@ -264,12 +264,12 @@ module _ (columns : List (List ℕ)) where
       by (Ok x) (Err f) = refl
       by (Err f) q = refl
 
-  equal_shape : (o : Result Bool Fault) → truth_shape (on_ok o (λ same. Ok (told binary.Equal same))) ≡ shown (truth fault.NullReference o)
+  equal_shape : (o : Result Bool Fault) → truth_shape (on_ok o (λ same. Ok (equality_truth binary.Equal same))) ≡ shown (truth fault.NullReference o)
   equal_shape (Ok same) = refl
   equal_shape (Err f) = refl
 
   unequal_shape : (o : Result Bool Fault)
-      → truth_shape (on_ok o (λ same. Ok (told binary.NotEqual same))) ≡ shown (truth fault.NullReference (on_ok o (λ same. Ok (not same))))
+      → truth_shape (on_ok o (λ same. Ok (equality_truth binary.NotEqual same))) ≡ shown (truth fault.NullReference (on_ok o (λ same. Ok (not same))))
   unequal_shape (Ok same) = refl
   unequal_shape (Err f) = refl
 

@@ -22,8 +22,8 @@ use Rattle.lq_language.specs.ClauseMeaning.{condition_at}
 use Rattle.lq_language.specs.ValuesOfTypes.{Every, HasCells, HaveTypes}
 use Rattle.lq_language.specs.Operations.{truth_of}
 use Rattle.lq_machine.specs.States.{State, schemas_of, world_in}
-use Rattle.lq_machine.specs.Statements.{chosen, removable}
-use Rattle.lq_language.specs.Stream.{Stream, kept, then_stream, where_by}
+use Rattle.lq_machine.specs.Statements.{removed_items, removable}
+use Rattle.lq_language.specs.Stream.{Stream, item_where, then_stream, where_by}
 use Rattle.lq_language.specs.TableRows.{TableRow}
 use Rattle.lq_security.specs.Visible.{visible_to}
 use Rattle.lq_language.specs.Meaning.{expression_meaning}
@@ -82,23 +82,23 @@ module _ (s : State) (tables : List (TableRows SeenRow)) (seen : AreSeen s table
         ap (λ (found : Result (Value TableRow) Fault). on_scalar (world s) found (truth_of (world s).unknown))
         (sym (condition_means s seen.kept seen.defined x n e tree is r cells))
 
-    chosen_same : chosen s x e n table.rows ≡ where_by (holds_on (world s) tree.form) (removable s n table.rows) end.Done
+    chosen_same : removed_items s x e n table.rows ≡ where_by (holds_on (world s) tree.form) (removable s n table.rows) end.Done
     unfolding asked
     chosen_same =
         ap (λ (w : World TableRow). where_by (asked w) (removable s n table.rows) end.Done) (is_world s)
-        ∙ each_same (HasCells (world s) n) (λ r. kept (asked (world s) r) r) (λ r. kept (holds_on (world s) tree.form r) r)
-        (λ r cells. ap (λ (o : Result Bool Fault). kept o r) (same_condition r cells)) (removable s n table.rows) end.Done all_have
+        ∙ each_same (HasCells (world s) n) (λ r. item_where (asked (world s) r) r) (λ r. item_where (holds_on (world s) tree.form r) r)
+        (λ r cells. ap (λ (o : Result Bool Fault). item_where o r) (same_condition r cells)) (removable s n table.rows) end.Done all_have
 
 abbrev is_done : End → Bool
 is_done end.Done = true
 is_done (end.Fault f) = false
 
--- what is kept of rows after others comes after what is kept of these
+-- what is item_where of rows after others comes after what is item_where of these
 kept_behind : {A : Type 0} (holds : A → Result Bool Fault) (xs ys : List A) → where_by holds (xs ++ ys) end.Done ≡ then_stream (where_by holds xs end.Done) (where_by holds ys end.Done)
 kept_behind holds [] ys = refl
 kept_behind holds (x ∷ xs) ys =
-    ap (λ (rest : Stream _). then_stream (kept (holds x) x) rest) (kept_behind holds xs ys)
-    ∙ then_assoc (kept (holds x) x).0 (kept (holds x) x).1 (where_by holds xs end.Done).0 (where_by holds xs end.Done).1 (where_by holds ys end.Done)
+    ap (λ (rest : Stream _). then_stream (item_where (holds x) x) rest) (kept_behind holds xs ys)
+    ∙ then_assoc (item_where (holds x) x).0 (item_where (holds x) x).1 (where_by holds xs end.Done).0 (where_by holds xs end.Done).1 (where_by holds ys end.Done)
 
 admitted_behind : (rules : RowRules) (n : ℕ) (xs ys : List Row) → admitted_rows rules n (xs ++ ys) ≡ admitted_rows rules n xs ++ admitted_rows rules n ys
 admitted_behind rules n xs ys =
@@ -168,7 +168,7 @@ module _ (s : State) (tables : List (TableRows SeenRow)) (seen : AreSeen s table
     (admitted_as : (cells : List Scalar) → admits rules cells ≡ visible_to s.policies s.role action.Delete n cells)
     (rows_there : option_map (λ (t : Table). t.rows) (slice_get s.tables n) ≡ Some rows) where
   rows_are : (x : List ℕ) (e : Expr) (table : Table) → slice_get s.tables n ≡ Some table → condition_in s x n e ≡ Some tree
-      → rows_chosen (world_in s) tree.form rules n rows ≡ chosen s x e n table.rows
+      → rows_chosen (world_in s) tree.form rules n rows ≡ removed_items s x e n table.rows
   rows_are x e table there is =
       let same_rows : rows ≡ table.rows = same_Some rows table.rows (sym rows_there ∙ ap (option_map (λ (t : Table). t.rows)) there) in
       ap (λ (w : World TableRow). rows_chosen w tree.form rules n rows) (is_world s)
@@ -179,6 +179,6 @@ module _ (s : State) (tables : List (TableRows SeenRow)) (seen : AreSeen s table
   pub chooses : (result : Result (Vec ℕ Global × End) AllocError)
       → IfOk result (λ found. (found.0.items, found.1) ≡ numbers_then [] (rows_chosen (world_in s) tree.form rules n rows)) → IfOk result (ChoosesRows s n tree)
   chooses (Ok found) is = λ x e table there tree_is.
-      let same : (found.0.items, found.1) ≡ numbers_then [] (chosen s x e n table.rows) = is ∙ ap (numbers_then []) (rows_are x e table there tree_is) in
+      let same : (found.0.items, found.1) ≡ numbers_then [] (removed_items s x e n table.rows) = is ∙ ap (numbers_then []) (rows_are x e table there tree_is) in
       (ap (λ (l : List ℕ × End). l.0) same, ap (λ (l : List ℕ × End). l.1) same)
   chooses (Err e) is = tt

@@ -14,7 +14,7 @@ use Rattle.lq_language.specs.ValuesOfTypes.{IsScalarOf}
 use Rattle.lq_security.specs.Rights.{Denied, denial}
 use Rattle.lq_machine.specs.Served.{denied_data, line_of}
 use Rattle.lq_machine.specs.States.{State, schemas_of, world_in}
-use Rattle.lq_machine.specs.Statements.{Outcome, chosen, evaluated, with_value}
+use Rattle.lq_machine.specs.Statements.{Outcome, removed_items, evaluated, with_value}
 use Rattle.lq_language.specs.Stream.{Stream}
 use Rattle.lq_language.specs.TableRows.{TableRow}
 use Rattle.lq_language.specs.Meaning.{expression_meaning}
@@ -91,4 +91,4 @@ EvaluatesTree s tree found = (e : Expr) → tree_in s e ≡ Some tree → IsEval
 abbrev pub ChoosesRows : State → ℕ → Tree → Vec ℕ Global × End → Type 0
 ChoosesRows s n tree found =
     (x : List ℕ) (e : Expr) (table : Table) → slice_get s.tables n ≡ Some table → condition_in s x n e ≡ Some tree
-    → let rows : Stream TableRow = chosen s x e n table.rows in (found.0.items ≡ map (λ r. r.row.number) rows.0) × (found.1 ≡ rows.1)
+    → let rows : Stream TableRow = removed_items s x e n table.rows in (found.0.items ≡ map (λ r. r.row.number) rows.0) × (found.1 ≡ rows.1)

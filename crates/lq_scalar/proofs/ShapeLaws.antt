@@ -11,7 +11,7 @@ use Rattle.lq_value.specs.declared.value.Value.TheOpen.{Value-F}
 use Rattle.lq_value.specs.declared.value.Value.TheVariants.{outs-Scalar, outs-Seq}
 use Rattle.lq_value.specs.declared.value.Value.TheVariants as value
 use Rattle.lq_language.specs.Worlds.{Binding, Scope, World, binding_of, names_at}
-use Rattle.lq_language.specs.OperandMeaning.{as_value, cell_value, comparand, is_null, member_value, name_value, on_comparand, on_scalar, on_truth, same_values, scalar_of, table_value, told, truth_value}
+use Rattle.lq_language.specs.OperandMeaning.{as_value, cell_value, comparand, is_null, member_value, name_value, on_comparand, on_scalar, on_truth, same_values, scalar_of, table_value, equality_truth, truth_value}
 use Rattle.lq_language.specs.RuleMeaning.{compared_meaning, meaning, operated_meaning, truth_at}
 use Rattle.lq_language.specs.Members.{search_named, sole_argument}
 use Rattle.lq_language.specs.Operations.{negated, of_search, on_ok, truth_of}
@@ -120,14 +120,14 @@ module _ {R : Type 0} (world : World R) where
 
   -- ---- operators
 
-  told_viewed : (sign : Binary) (o : Result Bool Fault) → viewed {R = R} (on_ok o (λ same. Ok (truth_value (told sign same)))) ≡ truth_shape (on_ok o (λ same. Ok (told sign same)))
-  told_viewed sign (Ok same) = viewed_scalar (scalar.Bool (told sign same))
+  told_viewed : (sign : Binary) (o : Result Bool Fault) → viewed {R = R} (on_ok o (λ same. Ok (truth_value (equality_truth sign same)))) ≡ truth_shape (on_ok o (λ same. Ok (equality_truth sign same)))
+  told_viewed sign (Ok same) = viewed_scalar (scalar.Bool (equality_truth sign same))
   told_viewed sign (Err f) = refl
 
   same_viewed : (sign : Binary) (v w : Value-F R (Value R)) (x y : Shape R) → same_values (faulting world) v w ≡ same_parts (scalar_part x) (scalar_part y)
-      → viewed {R = R} (on_ok (same_values (faulting world) v w) (λ same. Ok (truth_value (told sign same)))) ≡ truth_shape {R = R} (told_shapes sign x y)
+      → viewed {R = R} (on_ok (same_values (faulting world) v w) (λ same. Ok (truth_value (equality_truth sign same)))) ≡ truth_shape {R = R} (told_shapes sign x y)
   same_viewed sign v w x y h =
-      told_viewed sign (same_values (faulting world) v w) ∙ ap (λ (o : Result Bool Fault). truth_shape {R = R} (on_ok o (λ same. Ok (told sign same)))) h
+      told_viewed sign (same_values (faulting world) v w) ∙ ap (λ (o : Result Bool Fault). truth_shape {R = R} (on_ok o (λ same. Ok (equality_truth sign same)))) h
 
   scalar_and_row : (s : Scalar) (r : R) → same_values (faulting world) (Value-F.Scalar s) (Value-F.Row r) ≡ same_parts (Some s) None
   scalar_and_row scalar.Null r = refl
@@ -144,7 +144,7 @@ module _ {R : Type 0} (world : World R) where
   compared_viewed : (sign : Binary) (m n : Result (Value R) Fault)
       → viewed (compared_meaning (faulting world) sign m n) ≡ on_ok (viewed m) (λ v. on_ok (viewed n) (λ w. truth_shape (told_shapes sign v w)))
   compared_viewed sign m n =
-      comparand_then m (λ v. on_comparand (faulting world) n (λ w. on_ok (same_values (faulting world) v w) (λ same. Ok (truth_value (told sign same)))))
+      comparand_then m (λ v. on_comparand (faulting world) n (λ w. on_ok (same_values (faulting world) v w) (λ same. Ok (truth_value (equality_truth sign same)))))
       (λ v. on_ok (viewed n) (λ w. truth_shape (told_shapes sign v w)))
       (λ s. comparand_then n _ _ (λ t. same_viewed sign (Value-F.Scalar s) (Value-F.Scalar t) (TheScalar s) (TheScalar t) refl) (λ r. same_viewed sign (Value-F.Scalar s) (Value-F.Row r) (TheScalar s) (TheRow (Some r)) (scalar_and_row s r)))
       (λ r. comparand_then n _ _ (λ t. same_viewed sign (Value-F.Row r) (Value-F.Scalar t) (TheRow (Some r)) (TheScalar t) (row_and_scalar r t)) (λ u. same_viewed sign (Value-F.Row r) (Value-F.Row u) (TheRow (Some r)) (TheRow (Some u)) refl))

@@ -7,7 +7,7 @@ use Rattle.lq_value.specs.declared.value.Fault.{Fault}
 use Rattle.lq_value.specs.declared.value.Fault.TheVariants as fault
 use Rattle.lq_value.specs.declared.value.Value.{out-Value}
 use Rattle.lq_language.specs.Worlds.{Scope, World, binding_of}
-use Rattle.lq_language.specs.OperandMeaning.{is_row_type, operation_on, told}
+use Rattle.lq_language.specs.OperandMeaning.{is_row_type, operation_on, equality_truth}
 use Rattle.lq_language.specs.RuleMeaning.{meaning}
 use Rattle.lq_language.specs.Members.{member_named}
 use Rattle.lq_language.specs.Operations.{of_member, of_two, on_ok, same_content, truth_of}
@@ -78,7 +78,7 @@ same_parts None (Some scalar.Null) = Ok false
 same_parts v w = Err fault.NullReference
 
 abbrev pub told_parts : Binary → Option Scalar → Option Scalar → Result Bool Fault
-told_parts sign v w = on_ok (same_parts v w) (λ same. Ok (told sign same))
+told_parts sign v w = on_ok (same_parts v w) (λ same. Ok (equality_truth sign same))
 
 -- what `==` or `!=` gives for two
 abbrev pub told_shapes : {R : Type 0} → Binary → Shape R → Shape R → Result Bool Fault

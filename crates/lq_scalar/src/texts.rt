@@ -3,7 +3,7 @@
 ghost use Rattle.std.specs.Prelude.{◌≡◌};
 ghost use Rattle.std.specs.Str.{chars};
 ghost use Rattle.lq_value.specs.declared.value.Fault.TheVariants as fault;
-ghost use Rattle.lq_language.specs.Operations.{found, joined, length_of, searched, utf16_units};
+ghost use Rattle.lq_language.specs.Operations.{text_matches, joined, length_of, searched, utf16_units};
 ghost use Rattle.lq_scalar.specs.Operands.{IsText, ints_in, shown_scalar, units_within};
 
 use crate::arithmetic::int_or_overflow;
@@ -97,7 +97,7 @@ pub fn searched(op: Op, text: ScalarRef<'_>, needle: ScalarRef<'_>) -> Result<bo
 
 #[tactic(auto, using(crate::proofs::TextLemmas::searches))]
 fn text_matches(op: Op, text: &str, needle: &str) -> Result<bool, Fault>
-    ensures { result ≡ found fault.NullReference op text.now needle.now }
+    ensures { result ≡ text_matches fault.NullReference op text.now needle.now }
 {
     match op {
         Op::StartsWith => Ok(text.starts_with(needle)),

@@ -2,7 +2,7 @@
 ghost use Rattle.std.specs.Prelude.{◌≡◌, ◌&&◌, option_map};
 ghost use Rattle.lq_language.specs.Worlds.{names_at};
 ghost use Rattle.lq_language.specs.OperandMeaning.{is_row_type};
-ghost use Rattle.lq_language.specs.OperandTypes.{are_comparable, are_joined, chosen, coalesced, if_number, is_bool_type, is_number, is_ordering, is_text_type, joined_type, member_type, number_type, operated_type, truth_type};
+ghost use Rattle.lq_language.specs.OperandTypes.{are_comparable, are_joined, choice_type_of_layers, coalesced, if_number, is_bool_type, is_number, is_ordering, is_text_type, joined_type, member_type, number_type, operated_type, truth_type};
 ghost use Rattle.lq_language.specs.RuleTyping.{type_of};
 ghost use Rattle.lq_grammar.specs.declared.syntax.Expr.TheVariants as expr;
 ghost use Rattle.lq_scalar.specs.Named.{layer_of, shown_type};
@@ -155,7 +155,7 @@ fn coalesced(left: ExprType, right: ExprType) -> Option<ExprType>
 /// The type of a choice between two rows, of one table.
 fn conditional_row(left: TableNumber, right: TableNumber) -> Option<ExprType>
     ensures { option_map shown_type result
-        ≡ chosen (layer_of (kind.Row left)) (layer_of (kind.Row right)) }
+        ≡ choice_type_of_layers (layer_of (kind.Row left)) (layer_of (kind.Row right)) }
 {
     (left == right).then_some(ExprType::Row(left))
 }
@@ -163,7 +163,7 @@ fn conditional_row(left: TableNumber, right: TableNumber) -> Option<ExprType>
 /// The type of a choice between values of these types: one type; `int?` where they are numbers; and
 /// beside null that of the other, where it may be null.
 fn conditional_type(left: ExprType, right: ExprType) -> Option<ExprType>
-    ensures { option_map shown_type result ≡ chosen (layer_of left) (layer_of right) }
+    ensures { option_map shown_type result ≡ choice_type_of_layers (layer_of left) (layer_of right) }
 {
     match (left, right) {
         (ExprType::Int | ExprType::IntN, ExprType::Int | ExprType::IntN) => {

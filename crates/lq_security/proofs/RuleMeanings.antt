@@ -11,7 +11,7 @@ use Rattle.lq_value.specs.declared.value.Value.TheOpen.{Value-F}
 use Rattle.lq_value.specs.declared.value.Value.TheVariants as value
 use Rattle.lq_value.specs.declared.value.Value.TheVariants.{outs-Row as outs-value-Row, outs-Scalar}
 use Rattle.lq_language.specs.Worlds.{Scope, World, names_at}
-use Rattle.lq_language.specs.OperandMeaning.{as_value, cell_value, comparand, is_null, is_row_type, member_value, on_comparand, on_scalar, on_truth, operation_on, same_values, scalar_of, told, truth_value}
+use Rattle.lq_language.specs.OperandMeaning.{as_value, cell_value, comparand, is_null, is_row_type, member_value, on_comparand, on_scalar, on_truth, operation_on, same_values, scalar_of, equality_truth, truth_value}
 use Rattle.lq_language.specs.RuleMeaning.{compared_meaning, meaning, operated_meaning}
 use Rattle.lq_language.specs.Members.{member_named, search_named}
 use Rattle.lq_language.specs.Operations.{negated, of_member, of_search, of_two, on_ok, truth_of}
@@ -101,7 +101,7 @@ module _ (schemas : List Schema) (rows : List (List (List Scalar))) (cell : List
   compared_same : (op : Binary) (o p : Outcome) → compared_meaning table_world op o p ≡ compared_meaning bare op o p
   compared_same op o p =
       on_comparand_same o _ _
-      (λ v. on_comparand_same p _ _ (λ w. ap (λ (r : Result Bool Fault). on_ok r (λ same. Ok (truth_value (told op same)))) (values_same v w)))
+      (λ v. on_comparand_same p _ _ (λ w. ap (λ (r : Result Bool Fault). on_ok r (λ same. Ok (truth_value (equality_truth op same)))) (values_same v w)))
 
   operated_same : (op : Binary) → is_sum op ≡ false → (t u v w : Option Ty) (o p : Outcome) → operated_meaning table_world op t u o p ≡ operated_meaning bare op v w o p
   operated_same op alone t u v w o p =

@@ -15,7 +15,7 @@ use Rattle.lq_language.specs.Members.{IsSearch, is_search}
 use Rattle.lq_language.specs.OperandMeaning.{is_row_type}
 use Rattle.lq_security.specs.Totality.{Claim, Holds, IsTotal, Sure, Total, sure_coalesce, sure_conditional, sure_text, sure_user, total_and, total_coalesce, total_column, total_comparison, total_conditional, total_division, total_has_value, total_integer, total_minus, total_not, total_null, total_or, total_search, total_text, total_truth, total_user}
 use Rattle.lq_language.specs.Names.{Names, column_named, type_of_column}
-use Rattle.lq_language.specs.OperandTypes.{are_comparable, are_joined, binary_type, choice_type, chosen, coalesced, if_number, is_bool_type, is_equality, is_number, is_ordering, is_text, is_text_type, joined_type, member_type, number_type, of_operands, operated_type, result_type, row_table, truth_type}
+use Rattle.lq_language.specs.OperandTypes.{are_comparable, are_joined, binary_type, choice_type, choice_type_of_layers, coalesced, if_number, is_bool_type, is_equality, is_number, is_ordering, is_text, is_text_type, joined_type, member_type, number_type, of_operands, operated_type, result_type, row_table, truth_type}
 use Rattle.lq_language.specs.RuleTyping.{type_of}
 use Rattle.lq_language.specs.Typing.{are_null_tests, called_type, type_of_conditional, type_of_choice, type_of_member, type_of_operation}
 use Rattle.lq_grammar.specs.declared.syntax.Argument.TheVariants as argument
@@ -164,7 +164,7 @@ texts_coalesce None p h = refl
 texts_coalesce (Some s) None h = refl
 texts_coalesce (Some s) (Some t) h = texts_coalesced (out-Ty s) (out-Ty t) h
 
-plain_chosen : (k l : Ty-F Ty) → is_plain k ≡ true → is_plain l ≡ true → IsPlain (chosen k l)
+plain_chosen : (k l : Ty-F Ty) → is_plain k ≡ true → is_plain l ≡ true → IsPlain (choice_type_of_layers k l)
 plain_chosen Ty-F.Int Ty-F.Int a b = plain ty.Int Ty-F.Int outs-Int refl
 plain_chosen Ty-F.Int Ty-F.IntN a b = plain ty.IntN Ty-F.IntN outs-IntN refl
 plain_chosen Ty-F.IntN Ty-F.Int a b = plain ty.IntN Ty-F.IntN outs-IntN refl
@@ -185,7 +185,7 @@ plain_choice true None p a b = refl
 plain_choice true (Some s) None a b = refl
 plain_choice true (Some s) (Some t) a b = plain_chosen (out-Ty s) (out-Ty t) a b
 
-texts_chosen : (k l : Ty-F Ty) → is_text k ≡ true → is_text l ≡ true → AreTexts (chosen k l)
+texts_chosen : (k l : Ty-F Ty) → is_text k ≡ true → is_text l ≡ true → AreTexts (choice_type_of_layers k l)
 texts_chosen Ty-F.Str Ty-F.Str a b = ap is_text outs-Str
 texts_chosen Ty-F.Str l a b = absurd (true≢false (sym b))
 texts_chosen k l a b = absurd (true≢false (sym a))
@@ -227,7 +227,7 @@ binary_alike op None p a b = refl
 binary_alike op (Some s) None a b = refl
 binary_alike op (Some s) (Some t) a b = operated_alike op (out-Ty s) (out-Ty t) a b
 
-chosen_alike : (k l : Ty-F Ty) → is_plain k ≡ true → is_plain l ≡ true → type_of_choice k l ≡ chosen k l
+chosen_alike : (k l : Ty-F Ty) → is_plain k ≡ true → is_plain l ≡ true → type_of_choice k l ≡ choice_type_of_layers k l
 chosen_alike (Ty-F.Rec ms) l a b = absurd (true≢false (sym a))
 chosen_alike k (Ty-F.Rec ms) a b = absurd (true≢false (sym b))
 chosen_alike k l a b = refl

@@ -23,7 +23,7 @@ use Rattle.lq_value.specs.declared.value.Value.TheOpen.{Value-F}
 use Rattle.lq_value.specs.declared.value.Value.TheVariants as value
 use Rattle.lq_value.specs.declared.value.Value.TheVariants.{outs-Row as outs-value-Row, outs-Scalar}
 use Rattle.lq_language.specs.Worlds.{Scope, World, names_at}
-use Rattle.lq_language.specs.OperandMeaning.{as_value, cell_value, comparand, is_null, is_row_type, member_value, on_comparand, on_scalar, on_truth, operation_on, scalar_of, told, truth_value}
+use Rattle.lq_language.specs.OperandMeaning.{as_value, cell_value, comparand, is_null, is_row_type, member_value, on_comparand, on_scalar, on_truth, operation_on, scalar_of, equality_truth, truth_value}
 use Rattle.lq_language.specs.RuleMeaning.{compared_meaning, meaning, operated_meaning}
 use Rattle.lq_language.specs.ValuesOfTypes.{HaveTypes, IsScalarOf}
 use Rattle.lq_language.specs.Members.{IsSearch, contains, ends, is_search, member_named, search_named, starts}
@@ -32,7 +32,7 @@ use Rattle.lq_language.specs.Operations.{begins_with, checked, divided, ends_in,
 use Rattle.lq_security.specs.Totality.{Claim, Holds, Sure, Total, is_division, sure_coalesce, sure_conditional, sure_text, sure_user, total_and, total_coalesce, total_column, total_comparison, total_conditional, total_division, total_has_value, total_integer, total_minus, total_not, total_null, total_or, total_search, total_text, total_truth, total_user}
 use Rattle.lq_security.specs.TotalityLaws.{DecidesRules, is_held, is_held_rule, is_held_step, rule_names}
 use Rattle.lq_language.specs.Names.{Names, column_named, column_type, type_of_column}
-use Rattle.lq_language.specs.OperandTypes.{are_comparable, chosen, choice_type, coalesced, if_number, is_bool_type, is_comparison, is_equality, is_number, is_ordering, is_text_type, joined_type, member_type, number_type, of_operands, operated_type, result_type, row_table, truth_type}
+use Rattle.lq_language.specs.OperandTypes.{are_comparable, choice_type_of_layers, choice_type, coalesced, if_number, is_bool_type, is_comparison, is_equality, is_number, is_ordering, is_text_type, joined_type, member_type, number_type, of_operands, operated_type, result_type, row_table, truth_type}
 use Rattle.lq_language.specs.RuleTyping.{type_of}
 use Rattle.lq_language.specs.TableRows.{cell_named}
 use Rattle.lq_security.specs.Visible.{rule_scope, rule_world}
@@ -113,7 +113,7 @@ text_typed : (o : Option Ty) → is_text_type o ≡ true → o ≡ Some ty.Str
 text_typed None h = absurd (true≢false (sym h))
 text_typed (Some t) h = ap Some (is_text_of t h)
 
-choice_typed : (c : Bool) (o p : Option Ty) (r : Ty) → choice_type c o p ≡ Some r → (c ≡ true) × (of_operands chosen o p ≡ Some r)
+choice_typed : (c : Bool) (o p : Option Ty) (r : Ty) → choice_type c o p ≡ Some r → (c ≡ true) × (of_operands choice_type_of_layers o p ≡ Some r)
 choice_typed false o p r h = absurd (none-some r h)
 choice_typed true o p r h = (refl, h)
 
@@ -353,8 +353,8 @@ module _ {R : Type 0} (world : World R) where
       → o ≡ Ok (value.Scalar x) → p ≡ Ok (value.Scalar y) → (b : Bool) × (compared_meaning world op o p ≡ Ok (truth_value b))
   equality_there op k l compares o p x y x_fits y_fits x_is y_is =
       let same = comparable_same k l compares x y x_fits y_fits in (
-        told op same.0,
-        on_comparand_is x _ x_is ∙ on_comparand_is y _ y_is ∙ ap (λ (r : Result Bool Fault). on_ok r (λ b. Ok (truth_value (told op b)))) (same.1 world.unknown),
+        equality_truth op same.0,
+        on_comparand_is x _ x_is ∙ on_comparand_is y _ y_is ∙ ap (λ (r : Result Bool Fault). on_ok r (λ b. Ok (truth_value (equality_truth op b)))) (same.1 world.unknown),
       )
 
   -- a sign that evaluates two scalars
@@ -552,7 +552,7 @@ module _ (table : List ℕ) (columns : List Column) (cells : List Scalar) (fit :
       let outer = and_parts (is_held_rule c && is_held_rule a) _ (sym (held_node (node.Conditional c a b)) ∙ literals) in
       let inner = and_parts (is_held_rule c) (is_held_rule a) outer.0 in
       let d = truth_there world (test inner.0 ty.Bool (bool_typed (typed c) result.0)) in
-      let operands = operands_there chosen a b t left right (inner.1, outer.1) result.1 in
+      let operands = operands_there choice_type_of_layers a b t left right (inner.1, outer.1) result.1 in
       let widens = chosen_widens (out-Ty operands.left) (out-Ty operands.right) t operands.result in
       comes_as world (meaning_choice world c a b scope ∙ on_truth_is world d.0 _ d.1)
       (by (widened_comes world widens.0.scalars operands.x) (widened_comes world widens.1.scalars operands.y) d.0)

@@ -13,7 +13,7 @@ use Rattle.lq_security.specs.Rights.{Denied, denial}
 use Rattle.lq_machine.specs.DefinitionLaws.{AreDefined}
 use Rattle.lq_machine.specs.Served.{deleted_data, error_data, fault_data, line_of}
 use Rattle.lq_machine.specs.States.{State, names_in, schemas_of}
-use Rattle.lq_machine.specs.Statements.{Outcome, allowed_by, chosen, deleted, if_allowed, refused, rows_of, rows_of_named, rows_removed, with_table, without}
+use Rattle.lq_machine.specs.Statements.{Outcome, allowed_by, removed_items, deleted, if_allowed, refused, rows_of, rows_of_named, rows_removed, with_table, without}
 use Rattle.lq_language.specs.ClauseTyping.{expression_type}
 use Rattle.lq_language.specs.Names.{Names, table_number, with_local}
 use Rattle.lq_language.specs.OperandTypes.{is_bool, is_bool_type}
@@ -64,7 +64,7 @@ module _ (s : State) (name x : List ℕ) (e : Expr) (n : ℕ) (table : Table) (n
   abbrev by_type : Bool → Outcome
   by_type b =
       if b
-      then if_allowed s (used.Delete n ∷ expression_uses e names) (rows_removed s n table (chosen s x e n table.rows).0 (chosen s x e n table.rows).1)
+      then if_allowed s (used.Delete n ∷ expression_uses e names) (rows_removed s n table (removed_items s x e n table.rows).0 (removed_items s x e n table.rows).1)
       else refused s (codes "type")
 
   of_type : (b : Bool) → is_bool_type (expression_type e (with_local (names_in s) x (ty.Row n))) ≡ b → deleted s name x e ≡ by_type b
@@ -82,32 +82,32 @@ module _ (s : State) (name x : List ℕ) (e : Expr) (n : ℕ) (table : Table) (n
 
     module _ (condition : b ≡ true) (defined : AreDefined (schemas_of s.tables) s.definitions) (uses : List Use)
         (are : uses ≡ used.Delete n ∷ (form_uses tree.form ++ [])) where
-      allowed_as : deleted s name x e ≡ if_allowed s uses (rows_removed s n table (chosen s x e n table.rows).0 (chosen s x e n table.rows).1)
+      allowed_as : deleted s name x e ≡ if_allowed s uses (rows_removed s n table (removed_items s x e n table.rows).0 (removed_items s x e n table.rows).1)
       allowed_as =
           of_type true (condition_is s x n e tree is b true t same tells condition)
-          ∙ ap (λ (us : List Use). if_allowed s us (rows_removed s n table (chosen s x e n table.rows).0 (chosen s x e n table.rows).1))
+          ∙ ap (λ (us : List Use). if_allowed s us (rows_removed s n table (removed_items s x e n table.rows).0 (removed_items s x e n table.rows).1))
           (sym (uses_same s defined n tree uses are x e is))
 
       pub unallowed : (why : Stop) → HasRights s uses (Err why) → Stops s (deleted s name x e) why
       unallowed why denied =
-          same_stop s (deleted s name x e) (if_allowed s uses (rows_removed s n table (chosen s x e n table.rows).0 (chosen s x e n table.rows).1)) why allowed_as
-          (stops_denied s uses why (rows_removed s n table (chosen s x e n table.rows).0 (chosen s x e n table.rows).1) denied)
+          same_stop s (deleted s name x e) (if_allowed s uses (rows_removed s n table (removed_items s x e n table.rows).0 (removed_items s x e n table.rows).1)) why allowed_as
+          (stops_denied s uses why (rows_removed s n table (removed_items s x e n table.rows).0 (removed_items s x e n table.rows).1) denied)
 
       module _ (allowed : denial s.policies s.role uses ≡ None) where
-        removed_as : deleted s name x e ≡ rows_removed s n table (chosen s x e n table.rows).0 (chosen s x e n table.rows).1
+        removed_as : deleted s name x e ≡ rows_removed s n table (removed_items s x e n table.rows).0 (removed_items s x e n table.rows).1
         removed_as =
             allowed_as
-            ∙ ap (λ (o : Option Denied). allowed_by s o (rows_removed s n table (chosen s x e n table.rows).0 (chosen s x e n table.rows).1)) allowed
+            ∙ ap (λ (o : Option Denied). allowed_by s o (rows_removed s n table (removed_items s x e n table.rows).0 (removed_items s x e n table.rows).1)) allowed
 
         -- a fault removes nothing
-        pub faults : (f : Fault) (why : Stop) → (chosen s x e n table.rows).1 ≡ end.Fault f → StopsWith (fault_data f) why → Stops s (deleted s name x e) why
+        pub faults : (f : Fault) (why : Stop) → (removed_items s x e n table.rows).1 ≡ end.Fault f → StopsWith (fault_data f) why → Stops s (deleted s name x e) why
         faults f why met so =
-            stops_with s (fault_data f) (deleted s name x e) why (removed_as ∙ ap (rows_removed s n table (chosen s x e n table.rows).0) met) so
+            stops_with s (fault_data f) (deleted s name x e) why (removed_as ∙ ap (rows_removed s n table (removed_items s x e n table.rows).0) met) so
 
-        pub removed : (line numbers : List ℕ) (k count : ℕ) (new : State) → (chosen s x e n table.rows).1 ≡ end.Done
-            → numbers ≡ map (λ r. r.row.number) (chosen s x e n table.rows).0 → k ≡ length numbers → line ≡ line_of (deleted_data k)
+        pub removed : (line numbers : List ℕ) (k count : ℕ) (new : State) → (removed_items s x e n table.rows).1 ≡ end.Done
+            → numbers ≡ map (λ r. r.row.number) (removed_items s x e n table.rows).0 → k ≡ length numbers → line ≡ line_of (deleted_data k)
             → IfSome (slice_get s.tables n) (λ t. (count ≡ count_listed t numbers) × (new ≡ record s { tables = set s.tables n (without_rows t numbers) }))
             → Performs (deleted s name x e) s (Ok line) new
         removed line numbers k count new done are_numbers many so gone =
-            let both = removes s n table (chosen s x e n table.rows).0 (chosen s x e n table.rows).1 line numbers k count new at done are_numbers many so gone in
+            let both = removes s n table (removed_items s x e n table.rows).0 (removed_items s x e n table.rows).1 line numbers k count new at done are_numbers many so gone in
             (both.0 ∙ ap (λ (o : Outcome). line_of o.0) (sym removed_as), both.1 ∙ ap (λ (o : Outcome). o.1) (sym removed_as))

@@ -12,7 +12,7 @@ use Rattle.lq_language.specs.OperandMeaning.{stream_of}
 use Rattle.lq_language.specs.ClauseMeaning.{as_group, body_meaning, body_type_at, clause_meaning, clauses_meaning, condition_at, continued, extended, inner_items, item_type_at, joined_type, joined_values, last_meaning, query_meaning, sort_key_at}
 use Rattle.lq_language.specs.Operations.{on_ok}
 use Rattle.lq_language.specs.Operators.{Pattern, One, With, bind, call_meaning, first, first_member, locals_of, names_of, operator_meaning, operators_meaning, operators_type_at, pair, parts_meaning, result_of, second, second_member, source_type_under, type_under}
-use Rattle.lq_language.specs.Stream.{Stream, each, group_by, kept, made, on_value, one}
+use Rattle.lq_language.specs.Stream.{Stream, each, group_by, item_where, select_each, on_value, one}
 use Rattle.lq_language.specs.Names.{Names}
 use Rattle.lq_language.specs.declared.calls.Operator.{Operator}
 use Rattle.lq_language.specs.declared.calls.Operator.TheVariants as operator
@@ -75,14 +75,14 @@ module _ {R X : Type 0} (is_name : X → List ℕ → Bool) (world : World R) (t
   source_in f scope = stream_of world (meant f scope)
 
   pairs_made : (p : Pattern) (n : List ℕ) (t u : Ty) → t ≡ u → (v : Value R) (vs : Stream (Value R))
-      → made (extended world typed meant n t (at p v)) vs ≡ mapped (at (With p n u)) (made (λ w. Ok (pair v w)) vs)
+      → select_each (extended world typed meant n t (at p v)) vs ≡ mapped (at (With p n u)) (select_each (λ w. Ok (pair v w)) vs)
   pairs_made p n t u h v vs =
       each_alike (at (With p n u)) (λ w. one (Ok (bound n t (at p v) w))) (λ w. one (Ok (pair v w)))
       (λ w. ap (λ (s : Scope R). (s ∷ [], end.Done)) (bound_pair p n t u h v w)) vs.0 vs.1
 
   where_step : (c : X) (p : Pattern) (s : Stream (Value R)) → clause_in (clause.Where c) (mapped (at p) s) ≡ mapped (at p) (call_in (operator.Where c) p s)
   where_step c p s =
-      each_natural (at p) (at p) (λ x. kept (condition_at world typed meant c x) x) (λ v. kept (condition_at world typed meant c (at p v)) v)
+      each_natural (at p) (at p) (λ x. item_where (condition_at world typed meant c x) x) (λ v. item_where (condition_at world typed meant c (at p v)) v)
       (λ v. kept_mapped (at p) (condition_at world typed meant c (at p v)) v) s.0 s.1
 
   order_step : (ks : List (SortKey X)) (p : Pattern) (s : Stream (Value R))
@@ -107,7 +107,7 @@ module _ {R X : Type 0} (is_name : X → List ℕ → Bool) (world : World R) (t
       ≡ mapped (at (With p n (source_type_under world typed meant outer p f))) (call_in (operator.SelectMany n f paired.Pair) p s)
   from_step n f p s =
       each_natural (at p) (at (With p n (source_type_under world typed meant outer p f)))
-      (λ x. made (extended world typed meant n (item_type_at world typed meant f x) x) (source_in f x)) (λ v. made (λ w. Ok (pair v w)) (source_in f (at p v)))
+      (λ x. select_each (extended world typed meant n (item_type_at world typed meant f x) x) (source_in f x)) (λ v. select_each (λ w. Ok (pair v w)) (source_in f (at p v)))
       (λ v. pairs_made p n (item_type_at world typed meant f (at p v)) (source_type_under world typed meant outer p f) (source_same p f v) v (source_in f (at p v))) s.0 s.1
 
   -- the type of the name that a `join` leaves behind
@@ -124,13 +124,13 @@ module _ {R X : Type 0} (is_name : X → List ℕ → Bool) (world : World R) (t
       → clause_in (clause.Join j) (mapped (at p) s) ≡ mapped (at (With p (joined_name j) (entry j))) (call_in (operator.Join j paired.Pair) p s)
   join_step j p s =
       whole_alike (at (With p (joined_name j) (entry j)))
-      (λ qs. each (λ x. on_value (meant j.outer_key x) (λ k. made (extended world typed meant (joined_name j) (entry j) x) (matched j k qs))) (map (at p) s.0) s.1)
-      (λ qs. each (λ v. on_value (meant j.outer_key (at p v)) (λ k. made (λ w. Ok (pair v w)) (matched j k qs))) s.0 s.1)
+      (λ qs. each (λ x. on_value (meant j.outer_key x) (λ k. select_each (extended world typed meant (joined_name j) (entry j) x) (matched j k qs))) (map (at p) s.0) s.1)
+      (λ qs. each (λ v. on_value (meant j.outer_key (at p v)) (λ k. select_each (λ w. Ok (pair v w)) (matched j k qs))) s.0 s.1)
       (λ qs. each_natural (at p) (at (With p (joined_name j) (entry j)))
-      (λ x. on_value (meant j.outer_key x) (λ k. made (extended world typed meant (joined_name j) (entry j) x) (matched j k qs)))
-      (λ v. on_value (meant j.outer_key (at p v)) (λ k. made (λ w. Ok (pair v w)) (matched j k qs)))
-      (λ v. value_alike (at (With p (joined_name j) (entry j))) (λ k. made (extended world typed meant (joined_name j) (entry j) (at p v)) (matched j k qs))
-      (λ k. made (λ w. Ok (pair v w)) (matched j k qs)) (λ k. pairs_made p (joined_name j) (entry j) (entry j) refl v (matched j k qs)) (meant j.outer_key (at p v))) s.0 s.1)
+      (λ x. on_value (meant j.outer_key x) (λ k. select_each (extended world typed meant (joined_name j) (entry j) x) (matched j k qs)))
+      (λ v. on_value (meant j.outer_key (at p v)) (λ k. select_each (λ w. Ok (pair v w)) (matched j k qs)))
+      (λ v. value_alike (at (With p (joined_name j) (entry j))) (λ k. select_each (extended world typed meant (joined_name j) (entry j) (at p v)) (matched j k qs))
+      (λ k. select_each (λ w. Ok (pair v w)) (matched j k qs)) (λ k. pairs_made p (joined_name j) (entry j) (entry j) refl v (matched j k qs)) (meant j.outer_key (at p v))) s.0 s.1)
       (inner j).0 (inner j).1
 
   -- ---- a value that a call produces at once
@@ -139,7 +139,7 @@ module _ {R X : Type 0} (is_name : X → List ℕ → Bool) (world : World R) (t
   selecting x scope = one (meant x scope)
 
   value_made : (p : Pattern) (n : List ℕ) (t u : Ty) → t ≡ u → (x : X) (v : Value R) (vs : Stream (Value R))
-      → each_of (selecting x) (made (extended world typed meant n t (at p v)) vs) ≡ made (result_of world typed meant outer p n u (paired.Value x) v) vs
+      → each_of (selecting x) (select_each (extended world typed meant n t (at p v)) vs) ≡ select_each (result_of world typed meant outer p n u (paired.Value x) v) vs
   value_made p n t u h x v vs =
       each_made (selecting x) (λ w. bound n t (at p v) w) vs
       ∙ ap (λ (s : Ty). each_of (λ w. one (meant x (bound n s (at p v) w))) vs) h
@@ -147,37 +147,37 @@ module _ {R X : Type 0} (is_name : X → List ℕ → Bool) (world : World R) (t
   from_fused : (n : List ℕ) (f x : X) (p : Pattern) (s : Stream (Value R))
       → last_meaning world typed meant (last.Select x) (clause_in (clause.From n f) (mapped (at p) s)) ≡ call_in (operator.SelectMany n f (paired.Value x)) p s
   from_fused n f x p s =
-      each_each (selecting x) (λ y. made (extended world typed meant n (item_type_at world typed meant f y) y) (source_in f y)) (map (at p) s.0) s.1
-      ∙ each_map (at p) (λ y. each_of (selecting x) (made (extended world typed meant n (item_type_at world typed meant f y) y) (source_in f y))) s.0 s.1
-      ∙ each_ext (λ v. each_of (selecting x) (made (extended world typed meant n (item_type_at world typed meant f (at p v)) (at p v)) (source_in f (at p v))))
-      (λ v. made (result_of world typed meant outer p n (source_type_under world typed meant outer p f) (paired.Value x) v) (source_in f (at p v)))
+      each_each (selecting x) (λ y. select_each (extended world typed meant n (item_type_at world typed meant f y) y) (source_in f y)) (map (at p) s.0) s.1
+      ∙ each_map (at p) (λ y. each_of (selecting x) (select_each (extended world typed meant n (item_type_at world typed meant f y) y) (source_in f y))) s.0 s.1
+      ∙ each_ext (λ v. each_of (selecting x) (select_each (extended world typed meant n (item_type_at world typed meant f (at p v)) (at p v)) (source_in f (at p v))))
+      (λ v. select_each (result_of world typed meant outer p n (source_type_under world typed meant outer p f) (paired.Value x) v) (source_in f (at p v)))
       (λ v. value_made p n (item_type_at world typed meant f (at p v)) (source_type_under world typed meant outer p f) (source_same p f v) x v (source_in f (at p v))) s.0 s.1
 
   join_at : (j : Join X) (x : X) (p : Pattern) (qs : List (Value R × Value R)) (v : Value R) (o : Result (Value R) Fault)
-      → each_of (selecting x) (on_value o (λ k. made (extended world typed meant (joined_name j) (entry j) (at p v)) (matched j k qs)))
-      ≡ on_value o (λ k. made (result_of world typed meant outer p (joined_name j) (entry j) (paired.Value x) v) (matched j k qs))
+      → each_of (selecting x) (on_value o (λ k. select_each (extended world typed meant (joined_name j) (entry j) (at p v)) (matched j k qs)))
+      ≡ on_value o (λ k. select_each (result_of world typed meant outer p (joined_name j) (entry j) (paired.Value x) v) (matched j k qs))
   join_at j x p qs v (Ok k) = value_made p (joined_name j) (entry j) (entry j) refl x v (matched j k qs)
   join_at j x p qs v (Err f) = refl
 
   join_over : (j : Join X) (x : X) (p : Pattern) (s : Stream (Value R)) (qs : List (Value R × Value R))
       → each_of (selecting x)
-      (each (λ y. on_value (meant j.outer_key y) (λ k. made (extended world typed meant (joined_name j) (entry j) y) (matched j k qs))) (map (at p) s.0) s.1)
-      ≡ each (λ v. on_value (meant j.outer_key (at p v)) (λ k. made (result_of world typed meant outer p (joined_name j) (entry j) (paired.Value x) v) (matched j k qs))) s.0 s.1
+      (each (λ y. on_value (meant j.outer_key y) (λ k. select_each (extended world typed meant (joined_name j) (entry j) y) (matched j k qs))) (map (at p) s.0) s.1)
+      ≡ each (λ v. on_value (meant j.outer_key (at p v)) (λ k. select_each (result_of world typed meant outer p (joined_name j) (entry j) (paired.Value x) v) (matched j k qs))) s.0 s.1
   join_over j x p s qs =
-      each_each (selecting x) (λ y. on_value (meant j.outer_key y) (λ k. made (extended world typed meant (joined_name j) (entry j) y) (matched j k qs))) (map (at p) s.0) s.1
-      ∙ each_map (at p) (λ y. each_of (selecting x) (on_value (meant j.outer_key y) (λ k. made (extended world typed meant (joined_name j) (entry j) y) (matched j k qs)))) s.0 s.1
-      ∙ each_ext (λ v. each_of (selecting x) (on_value (meant j.outer_key (at p v)) (λ k. made (extended world typed meant (joined_name j) (entry j) (at p v)) (matched j k qs))))
-      (λ v. on_value (meant j.outer_key (at p v)) (λ k. made (result_of world typed meant outer p (joined_name j) (entry j) (paired.Value x) v) (matched j k qs)))
+      each_each (selecting x) (λ y. on_value (meant j.outer_key y) (λ k. select_each (extended world typed meant (joined_name j) (entry j) y) (matched j k qs))) (map (at p) s.0) s.1
+      ∙ each_map (at p) (λ y. each_of (selecting x) (on_value (meant j.outer_key y) (λ k. select_each (extended world typed meant (joined_name j) (entry j) y) (matched j k qs)))) s.0 s.1
+      ∙ each_ext (λ v. each_of (selecting x) (on_value (meant j.outer_key (at p v)) (λ k. select_each (extended world typed meant (joined_name j) (entry j) (at p v)) (matched j k qs))))
+      (λ v. on_value (meant j.outer_key (at p v)) (λ k. select_each (result_of world typed meant outer p (joined_name j) (entry j) (paired.Value x) v) (matched j k qs)))
       (λ v. join_at j x p qs v (meant j.outer_key (at p v))) s.0 s.1
 
   join_fused : (j : Join X) (x : X) (p : Pattern) (s : Stream (Value R))
       → last_meaning world typed meant (last.Select x) (clause_in (clause.Join j) (mapped (at p) s)) ≡ call_in (operator.Join j (paired.Value x)) p s
   join_fused j x p s =
       whole_each (selecting x)
-      (λ qs. each (λ y. on_value (meant j.outer_key y) (λ k. made (extended world typed meant (joined_name j) (entry j) y) (matched j k qs))) (map (at p) s.0) s.1) (inner j).0 (inner j).1
+      (λ qs. each (λ y. on_value (meant j.outer_key y) (λ k. select_each (extended world typed meant (joined_name j) (entry j) y) (matched j k qs))) (map (at p) s.0) s.1) (inner j).0 (inner j).1
       ∙ whole_ext
-      (λ qs. each_of (selecting x) (each (λ y. on_value (meant j.outer_key y) (λ k. made (extended world typed meant (joined_name j) (entry j) y) (matched j k qs))) (map (at p) s.0) s.1))
-      (λ qs. each (λ v. on_value (meant j.outer_key (at p v)) (λ k. made (result_of world typed meant outer p (joined_name j) (entry j) (paired.Value x) v) (matched j k qs))) s.0 s.1)
+      (λ qs. each_of (selecting x) (each (λ y. on_value (meant j.outer_key y) (λ k. select_each (extended world typed meant (joined_name j) (entry j) y) (matched j k qs))) (map (at p) s.0) s.1))
+      (λ qs. each (λ v. on_value (meant j.outer_key (at p v)) (λ k. select_each (result_of world typed meant outer p (joined_name j) (entry j) (paired.Value x) v) (matched j k qs))) s.0 s.1)
       (λ qs. join_over j x p s qs) (inner j).0 (inner j).1
 
   -- ---- what ends a body

@@ -43,7 +43,7 @@ use Rattle.lq_language.proofs.FindingLaws.{map_by, when_by}
 use Rattle.lq_language.proofs.TypedMethodLaws.{scalar_after, stream_alike, truth_same}
 use Rattle.lq_language.proofs.TypingLaws.{is_truth}
 use Rattle.lq_language.proofs.ValueLaws.{gets_ok, scalar_plain, sequence_is}
-use Rattle.lq_tree.specs.Binding.{Binds, Stage, body_tree, call_items_tree, call_tree, condition_tree, element_tree, expanded_stage, gathered, grouped_stage, group_stage, if_fresh, inner_stage, items_of_stage, items_of_tree, join_keys, join_stage, joined_form, joined_stage, key_tree, keyed_tree, keys_of, let_stage, matched_stage, matched_type, operator_stage, order_stage, paired_stage, part_tree, placed_tree, query_tree, select_many_stage, select_stage, sequence_tree, sortable_tree, source_tree, stage_of, tree_of, walk_step, walked, where_stage}
+use Rattle.lq_tree.specs.Binding.{Binds, PipelineForm, body_tree, call_items_tree, call_tree, condition_tree, element_tree, expanded_stage, gathered, grouped_stage, group_stage, if_fresh, inner_stage, items_of_pipeline, items_of_tree, join_keys, join_stage, joined_form, joined_stage, key_tree, keyed_tree, keys_of, let_stage, matched_stage, matched_type, operator_stage, order_stage, paired_stage, part_tree, placed_tree, query_tree, select_many_stage, select_stage, sequence_tree, sortable_tree, source_tree, pipeline_of, tree_of, walk_step, walked, where_stage}
 use Rattle.lq_tree.specs.FormMeaning.{Means, Slots, form_meaning, is_true, matched, sort_key}
 use Rattle.lq_tree.specs.Places.{Places, names_of_places, with_item, with_name}
 use Rattle.lq_tree.specs.declared.tree.Form.{Form}
@@ -85,22 +85,22 @@ module _ {R : Type 0} (world : World R) (holds : HoldsRows world) {X : Type 0} (
   -- ---- streams of forms
 
   -- a stage's form gives this stream, of items of its pattern
-  abbrev Gives : Stage → Stream (Value R) → Type 0
+  abbrev Gives : PipelineForm → Stream (Value R) → Type 0
   Gives stage s = (mean stage.form ≡ Ok (sequence s)) × Every (Item stage.pattern) s.0
 
-  stream_back : (stage : Stage) (s : Stream (Value R)) → Gives stage s → Alike (Item stage.pattern) (stream_of world (mean stage.form)) s
+  stream_back : (stage : PipelineForm) (s : Stream (Value R)) → Gives stage s → Alike (Item stage.pattern) (stream_of world (mean stage.form)) s
   stream_back stage s gives =
       let same = ap (stream_of world) gives.0 ∙ stream_sequence world s in (same, subst (λ (z : Stream (Value R)). Every (Item stage.pattern) z.0) (sym same) gives.1)
 
-  gives_by : (p : Pattern) (f : Form) (z s : Stream (Value R)) → mean f ≡ as_sequence z → Alike (Item p) z s → Gives (stage_of p f) s
+  gives_by : (p : Pattern) (f : Form) (z s : Stream (Value R)) → mean f ≡ as_sequence z → Alike (Item p) z s → Gives (pipeline_of p f) s
   gives_by p f z s is all = (is ∙ ap as_sequence all.0, subst (λ (y : Stream (Value R)). Every (Item p) y.0) all.0 all.1)
 
-  to_stage : (n : Stage) (next : Stage) (s : Stream (Value R)) → n ≡ next → Gives n s → Gives next s
-  to_stage n next s is = subst (λ (x : Stage). Gives x s) is
+  to_stage : (n : PipelineForm) (next : PipelineForm) (s : Stream (Value R)) → n ≡ next → Gives n s → Gives next s
+  to_stage n next s is = subst (λ (x : PipelineForm). Gives x s) is
 
   -- ---- calls with one lambda
 
-  where_means : (c : X) (stage next : Stage) (s : Stream (Value R)) → where_stage world.schemas tree places c stage ≡ Some next → Gives stage s
+  where_means : (c : X) (stage next : PipelineForm) (s : Stream (Value R)) → where_stage world.schemas tree places c stage ≡ Some next → Gives stage s
       → Gives next (where_by (λ v. condition_at world typed meant c (bind stage.pattern scope v)) s.0 s.1)
   where_means c stage next s h gives =
       map_by _ _ next h
@@ -116,7 +116,7 @@ module _ {R : Type 0} (world : World R) (holds : HoldsRows world) {X : Type 0} (
       (in_item c stage.pattern x (bound ∙ same) v item)))
       (stream_of world (mean stage.form)) s (stream_back stage s gives))))))
 
-  select_means : (x : X) (stage next : Stage) (s : Stream (Value R)) → select_stage world.schemas tree places x stage ≡ Some next → Gives stage s
+  select_means : (x : X) (stage next : PipelineForm) (s : Stream (Value R)) → select_stage world.schemas tree places x stage ≡ Some next → Gives stage s
       → Gives next (select_by (lambda world typed meant scope stage.pattern x) s.0 s.1)
   select_means x stage next s h gives =
       map_by _ _ next h
@@ -137,7 +137,7 @@ module _ {R : Type 0} (world : World R) (holds : HoldsRows world) {X : Type 0} (
       (in_item x p r bound v item) in
       (is ∙ all.0, λ u u_is. all.1 u (sym is ∙ u_is))
 
-  let_means : (n : List ℕ) (x : X) (stage next : Stage) (s : Stream (Value R)) → let_stage world.schemas tree places n x stage ≡ Some next → Gives stage s
+  let_means : (n : List ℕ) (x : X) (stage next : PipelineForm) (s : Stream (Value R)) → let_stage world.schemas tree places n x stage ≡ Some next → Gives stage s
       → Gives next (select_by (λ v. on_ok (lambda world typed meant scope stage.pattern x v) (λ w. Ok (pair v w))) s.0 s.1)
   let_means n x stage next s h gives =
       map_by _ _ next h
@@ -176,11 +176,11 @@ module _ {R : Type 0} (world : World R) (holds : HoldsRows world) {X : Type 0} (
   both_slots : (v w : Value R) → slots ++ v ∷ w ∷ [] ≡ (slots ++ v ∷ []) ++ w ∷ []
   both_slots v w = sym (append_behind slots (v ∷ []) (w ∷ []))
 
-  pair_means : (p : Pattern) (n : List ℕ) (t : Ty) (result : Paired X) (made : Stage) → paired_stage world.schemas tree places p n t result ≡ Some made
+  pair_means : (p : Pattern) (n : List ℕ) (t : Ty) (result : Paired X) (made : PipelineForm) → paired_stage world.schemas tree places p n t result ≡ Some made
       → (v : Value R) → Item p v → (w : Value R) → Val t w → Agree (Item made.pattern) (form_meaning world made.form (slots ++ v ∷ w ∷ []))
       (result_of world typed meant scope p n t result v w)
   pair_means p n t paired.Pair made h v item w fits =
-      subst (λ (x : Stage). Agree (Item x.pattern) (form_meaning world x.form (slots ++ v ∷ w ∷ [])) (Ok (pair v w))) (same_Some _ made h)
+      subst (λ (x : PipelineForm). Agree (Item x.pattern) (form_meaning world x.form (slots ++ v ∷ w ∷ [])) (Ok (pair v w))) (same_Some _ made h)
       (is, λ u u_is. (agree_ok (Item (With p n t)) (pair v w) (v, w, refl, item, fits)).1 u (sym is ∙ u_is))
     where
       first_slot : form_meaning world (form.Slot places.depth) (slots ++ v ∷ w ∷ []) ≡ Ok v
@@ -197,7 +197,7 @@ module _ {R : Type 0} (world : World R) (holds : HoldsRows world) {X : Type 0} (
           ∙ ap₂ (λ (k l : Result (Value R) Fault). on_ok k (λ a. on_ok l (λ b. Ok (pair a b)))) first_slot second_slot
   pair_means p n t (paired.Value x) made h v item w fits =
       map_by _ _ made h
-      (λ r found is. subst (λ (y : Stage). Agree (Item y.pattern) (form_meaning world y.form (slots ++ v ∷ w ∷ [])) (result_of world typed meant scope p n t
+      (λ r found is. subst (λ (y : PipelineForm). Agree (Item y.pattern) (form_meaning world y.form (slots ++ v ∷ w ∷ [])) (result_of world typed meant scope p n t
       (paired.Value x) v w)) is
       (subst (λ (z : Slots R). Agree (Val r.ty) (form_meaning world r.form z) (result_of world typed meant scope p n t (paired.Value x) v w))
       (sym (both_slots v w))
@@ -205,7 +205,7 @@ module _ {R : Type 0} (world : World R) (holds : HoldsRows world) {X : Type 0} (
       (item_stands world (slots ++ v ∷ []) (with_item places p) (bind p scope v) (One n t) w (item_stands world slots places scope p v at item) fits) r
       (placed_same _ r found))))
 
-  select_many_means : (n : List ℕ) (x : X) (result : Paired X) (stage next : Stage) (s : Stream (Value R))
+  select_many_means : (n : List ℕ) (x : X) (result : Paired X) (stage next : PipelineForm) (s : Stream (Value R))
       → select_many_stage world.schemas tree places n x result stage ≡ Some next → Gives stage s
       → Gives next (operator_meaning world typed meant scope (operator.SelectMany n x result) stage.pattern s)
   select_many_means n x result stage next s h gives =
@@ -215,7 +215,7 @@ module _ {R : Type 0} (world : World R) (holds : HoldsRows world) {X : Type 0} (
       (λ fresh source. source_by x (with_item places stage.pattern) inner source
       (λ y bound element y_form. map_by _ (paired_stage world.schemas tree places stage.pattern n inner.ty result) next made
       (λ pairs pairs_there is. to_stage _ next _ is
-      (subst (λ (t : Ty). Gives (stage_of pairs.pattern (form.SelectMany stage.form inner.form pairs.form))
+      (subst (λ (t : Ty). Gives (pipeline_of pairs.pattern (form.SelectMany stage.form inner.form pairs.form))
       (expand_by (λ v. stream_of world (lambda world typed meant scope stage.pattern x v)) (result_of world typed meant scope stage.pattern n t result) s.0
       s.1))
       (sym (element_of_type (typed x (names_of (names_at world scope) stage.pattern)) y.ty inner.ty (under_item x stage.pattern y bound) element))
@@ -269,16 +269,16 @@ module _ {R : Type 0} (world : World R) (holds : HoldsRows world) {X : Type 0} (
       bound_at : Ty → Value R → Scope R
       bound_at u v = bound j.name u scope v
 
-  join_pieces : (j : Join X) (result : Paired X) (stage : Stage) (s : Stream (Value R)) (inner y a b : Tree) (t : Ty) (pairs : Stage) → Gives stage s
+  join_pieces : (j : Join X) (result : Paired X) (stage : PipelineForm) (s : Stream (Value R)) (inner y a b : Tree) (t : Ty) (pairs : PipelineForm) → Gives stage s
       → tree j.source places ≡ Some y
       → element_type (out-Ty y.ty) ≡ Some inner.ty → y.form ≡ inner.form → tree j.outer_key (with_item places stage.pattern) ≡ Some a
       → tree j.inner_key (with_name places j.name inner.ty) ≡ Some b
       → matched_type world.schemas tree places stage.pattern j.into inner.ty ≡ Some t → paired_stage world.schemas tree places stage.pattern
       (joined_name j) t result ≡ Some pairs
-      → Gives (stage_of pairs.pattern (joined_form world.schemas tree stage.form inner.form (a.form, b.form) (is_some j.into) pairs.form))
+      → Gives (pipeline_of pairs.pattern (joined_form world.schemas tree stage.form inner.form (a.form, b.form) (is_some j.into) pairs.form))
       (operator_meaning world typed meant scope (operator.Join j result) stage.pattern s)
   join_pieces j result stage s inner y a b t pairs gives bound element y_form outer_bound inner_bound into pairs_there =
-      subst (λ (u : Ty). Gives (stage_of pairs.pattern joined)
+      subst (λ (u : Ty). Gives (pipeline_of pairs.pattern joined)
       (join_by (inner_items world typed meant scope j) (lambda world typed meant scope stage.pattern j.outer_key) (joined_values world typed meant j.into)
       (result_of world typed meant scope stage.pattern (joined_name j) u result) s.0 s.1))
       (sym (ap (joined_type world typed meant j.into) (element_of_type (typed j.source (names_at world scope)) y.ty inner.ty
@@ -298,7 +298,7 @@ module _ {R : Type 0} (world : World R) (holds : HoldsRows world) {X : Type 0} (
       joined : Form
       joined = joined_form world.schemas tree stage.form inner.form (a.form, b.form) (is_some j.into) pairs.form
 
-  join_means : (j : Join X) (result : Paired X) (stage next : Stage) (s : Stream (Value R)) → join_stage world.schemas tree places j result stage ≡ Some next
+  join_means : (j : Join X) (result : Paired X) (stage next : PipelineForm) (s : Stream (Value R)) → join_stage world.schemas tree places j result stage ≡ Some next
       → Gives stage s
       → Gives next (operator_meaning world typed meant scope (operator.Join j result) stage.pattern s)
   join_means j result stage next s h gives =
@@ -315,7 +315,7 @@ module _ {R : Type 0} (world : World R) (holds : HoldsRows world) {X : Type 0} (
       (matched_type world.schemas tree places stage.pattern j.into inner.ty) next behind
       (λ t into last. map_by _ (paired_stage world.schemas tree places stage.pattern (joined_name j) t result) next last
       (λ pairs pairs_there is. to_stage _ next _ is
-      (subst (λ (k : Form × Form). Gives (stage_of pairs.pattern (joined_form world.schemas tree stage.form inner.form k (is_some j.into) pairs.form))
+      (subst (λ (k : Form × Form). Gives (pipeline_of pairs.pattern (joined_form world.schemas tree stage.form inner.form k (is_some j.into) pairs.form))
       (operator_meaning world typed meant scope (operator.Join j result) stage.pattern s)) (same_Some _ keys keys_are)
       (join_pieces j result stage s inner y a b t pairs gives bound element y_form outer_bound inner_bound into pairs_there)))))))))))
 
@@ -377,7 +377,7 @@ module _ {R : Type 0} (world : World R) (holds : HoldsRows world) {X : Type 0} (
       (same.0 xs ps) same.1
   sorted_same p ks fs same xs (end.Fault f) ps = refl
 
-  order_means : (ks : List (SortKey X)) (stage next : Stage) (s : Stream (Value R)) → order_stage world.schemas tree places ks stage ≡ Some next → Gives stage s
+  order_means : (ks : List (SortKey X)) (stage next : PipelineForm) (s : Stream (Value R)) → order_stage world.schemas tree places ks stage ≡ Some next → Gives stage s
       → Gives next (operator_meaning world typed meant scope (operator.OrderBy ks) stage.pattern s)
   order_means ks stage next s h gives =
       map_by _ (gathered (key_tree world.schemas tree (with_item places stage.pattern)) ks) next h
@@ -402,7 +402,7 @@ module _ {R : Type 0} (world : World R) (holds : HoldsRows world) {X : Type 0} (
       (item_value world p v item)))
   element_means p (Some x) r h v item = in_item x p r h v item
 
-  group_means : (key : X) (element : Option X) (stage next : Stage) (s : Stream (Value R)) → group_stage world.schemas tree places key element stage
+  group_means : (key : X) (element : Option X) (stage next : PipelineForm) (s : Stream (Value R)) → group_stage world.schemas tree places key element stage
       ≡ Some next → Gives stage s
       → Gives next (operator_meaning world typed meant scope (operator.GroupBy key element) stage.pattern s)
   group_means key element stage next s h gives =
@@ -422,7 +422,7 @@ module _ {R : Type 0} (world : World R) (holds : HoldsRows world) {X : Type 0} (
 
   -- ---- calls in turn
 
-  operator_means : (op : Operator X) (stage next : Stage) (s : Stream (Value R)) → operator_stage world.schemas tree places op stage ≡ Some next → Gives stage s
+  operator_means : (op : Operator X) (stage next : PipelineForm) (s : Stream (Value R)) → operator_stage world.schemas tree places op stage ≡ Some next → Gives stage s
       → Gives next (operator_meaning world typed meant scope op stage.pattern s)
   operator_means (operator.Where c) stage next s h gives = where_means c stage next s h gives
   operator_means (operator.Select x) stage next s h gives = select_means x stage next s h gives
@@ -432,21 +432,21 @@ module _ {R : Type 0} (world : World R) (holds : HoldsRows world) {X : Type 0} (
   operator_means (operator.OrderBy ks) stage next s h gives = order_means ks stage next s h gives
   operator_means (operator.GroupBy key element) stage next s h gives = group_means key element stage next s h gives
 
-  pattern_is : (op : Operator X) (stage next : Stage) → operator_stage world.schemas tree places op stage ≡ Some next
+  pattern_is : (op : Operator X) (stage next : PipelineForm) → operator_stage world.schemas tree places op stage ≡ Some next
       → pattern_behind world typed meant scope op stage.pattern ≡ next.pattern
   pattern_is op stage next h =
       behind_after world typed meant scope op stage.pattern next.pattern
       (ap (λ (ns : Names). pattern_after typed ns op stage.pattern) (types_at world slots places scope at)
       ∙ sym (operator_found world.schemas tree typed alike places op stage) ∙ ap pattern_found h)
 
-  operators_means : (ops : List (Operator X)) (stage next : Stage) (s : Stream (Value R)) → walked (operator_stage world.schemas tree places) stage ops
+  operators_means : (ops : List (Operator X)) (stage next : PipelineForm) (s : Stream (Value R)) → walked (operator_stage world.schemas tree places) stage ops
       ≡ Some next → Gives stage s
       → Gives next (operators_meaning world typed meant scope ops stage.pattern s)
   operators_means [] stage next s h gives = to_stage stage next s (same_Some stage next h) gives
   operators_means (op ∷ ops) stage next s h gives = by (operator_stage world.schemas tree places op stage) refl h (operators_means ops) where
-    by : (o : Option Stage) → operator_stage world.schemas tree places op stage ≡ o → fold (walk_step (operator_stage world.schemas tree places)) o ops
+    by : (o : Option PipelineForm) → operator_stage world.schemas tree places op stage ≡ o → fold (walk_step (operator_stage world.schemas tree places)) o ops
         ≡ Some next
-        → ((mid last : Stage) (z : Stream (Value R)) → walked (operator_stage world.schemas tree places) mid ops ≡ Some last → Gives mid z
+        → ((mid last : PipelineForm) (z : Stream (Value R)) → walked (operator_stage world.schemas tree places) mid ops ≡ Some last → Gives mid z
         → Gives last (operators_meaning world typed meant scope ops mid.pattern z))
         → Gives next (operators_meaning world typed meant scope (op ∷ ops) stage.pattern s)
     by None is found rest = absurd (none-some next (sym (walk_none (operator_stage world.schemas tree places) ops) ∙ found))
@@ -466,13 +466,13 @@ module _ {R : Type 0} (world : World R) (holds : HoldsRows world) {X : Type 0} (
       → GivesItems r (operators_meaning world typed meant scope ops (One n items.ty) s) × (operators_type_at world typed meant scope ops n items.ty ≡ r.ty)
   body_means n ops items r s h gives =
       when_by (is_fresh (names_of_places world.schemas places) n) _ r h
-      (λ fresh found. option_and_then_some items_of_stage (walked (operator_stage world.schemas tree places) (stage_of (One n items.ty) items.form) ops) r found
+      (λ fresh found. option_and_then_some items_of_pipeline (walked (operator_stage world.schemas tree places) (pipeline_of (One n items.ty) items.form) ops) r found
       (λ stage there ended. when_by (has_place (out-Ty (pattern_type stage.pattern)))
       (when (is_within (ty.Seq (pattern_type stage.pattern))) (Some (tree_of (pattern_type stage.pattern) stage.form))) r ended
       (λ placed last. when_by (is_within (ty.Seq (pattern_type stage.pattern))) (Some (tree_of (pattern_type stage.pattern) stage.form)) r last
       (λ within is. (
         subst (λ (z : Tree). GivesItems z (operators_meaning world typed meant scope ops (One n items.ty) s)) (same_Some _ r is)
-            (let all = operators_means ops (stage_of (One n items.ty) items.form) stage s there gives in (
+            (let all = operators_means ops (pipeline_of (One n items.ty) items.form) stage s there gives in (
               all.0,
               λ k x at_k. item_value world stage.pattern x
                   (all.1 k x at_k),

@@ -17,7 +17,7 @@ use Rattle.lq_language.specs.declared.calls.Paired.TheVariants as paired
 use Rattle.lq_language.specs.declared.calls.Part.{Part}
 use Rattle.lq_grammar.specs.declared.syntax.Join.{Join}
 use Rattle.lq_grammar.specs.declared.syntax.SortKey.{SortKey}
-use Rattle.lq_tree.specs.Binding.{Binds, Stage, body_tree, call_items_tree, call_tree, condition_tree, element_tree, expanded_stage, group_stage, grouped_stage, if_fresh, inner_stage, items_of_stage, items_of_tree, join_stage, joined_stage, key_tree, keyed_tree, keys_of, matched_stage, matched_type, operator_stage, paired_stage, part_tree, placed_tree, query_tree, sequence_tree, sortable_tree, source_tree, stage_of, tree_of, walk_step, walked}
+use Rattle.lq_tree.specs.Binding.{Binds, PipelineForm, body_tree, call_items_tree, call_tree, condition_tree, element_tree, expanded_stage, group_stage, grouped_stage, if_fresh, inner_stage, items_of_pipeline, items_of_tree, join_stage, joined_stage, key_tree, keyed_tree, keys_of, matched_stage, matched_type, operator_stage, paired_stage, part_tree, placed_tree, query_tree, sequence_tree, sortable_tree, source_tree, pipeline_of, tree_of, walk_step, walked}
 use Rattle.lq_tree.specs.Places.{Place, Places, names_of_places, places_of, with_item, with_name}
 use Rattle.lq_tree.specs.declared.tree.Form.{Form}
 use Rattle.lq_tree.specs.declared.tree.Form.TheVariants as form
@@ -39,21 +39,21 @@ names_alike schemas places p =
     ap (λ (locals : List (List ℕ × Ty)). record { tables = schemas; session = map (λ place. place.known) places.session; locals = locals }) (sym (locals_alike p (form.Slot places.depth) places.locals))
 
 -- what a stage's items represent
-abbrev pub pattern_found : Option Stage → Option Pattern
+abbrev pub pattern_found : Option PipelineForm → Option Pattern
 pattern_found found = option_map (λ stage. stage.pattern) found
 
 -- ---- pieces
 
 condition_found : (o : Option Tree) (p : Pattern) (f : Tree → Form)
-    → pattern_found (option_map (λ found. stage_of p (f found)) (option_and_then condition_tree o)) ≡ when (is_bool_type (type_found o)) (Some p)
+    → pattern_found (option_map (λ found. pipeline_of p (f found)) (option_and_then condition_tree o)) ≡ when (is_bool_type (type_found o)) (Some p)
 condition_found None p f = refl
 condition_found (Some x) p f = by (is_bool (out-Ty x.ty)) where
-  by : (b : Bool) → pattern_found (option_map (λ found. stage_of p (f found)) (when b (Some x))) ≡ when b (Some p)
+  by : (b : Bool) → pattern_found (option_map (λ found. pipeline_of p (f found)) (when b (Some x))) ≡ when b (Some p)
   by true = refl
   by false = refl
 
 -- a stage whose pattern follows from a type
-made_found : (o : Option Tree) (g : Ty → Pattern) (f : Tree → Form) → pattern_found (option_map (λ found. stage_of (g found.ty) (f found)) o)
+made_found : (o : Option Tree) (g : Ty → Pattern) (f : Tree → Form) → pattern_found (option_map (λ found. pipeline_of (g found.ty) (f found)) o)
     ≡ option_map g (type_found o)
 made_found None g f = refl
 made_found (Some x) g f = refl
@@ -107,16 +107,16 @@ module _ (schemas : List Schema) {X : Type 0} (tree : X → Binds) (typed : X �
   abbrev PairedAt : Places → Pattern → List ℕ → Paired X → Ty → Option Pattern
   PairedAt places p n result t = paired_pattern typed (names places) p n result t
 
-  expanded_found : (places : Places) (n : List ℕ) (result : Paired X) (stage : Stage) (o : Option Tree)
+  expanded_found : (places : Places) (n : List ℕ) (result : Paired X) (stage : PipelineForm) (o : Option Tree)
       → pattern_found (option_and_then (expanded_stage schemas tree places n result stage) o) ≡ option_and_then (PairedAt places stage.pattern n result)
       (type_found o)
   expanded_found places n result stage o =
       map_then (λ s. s.pattern) (λ found. found.ty) (expanded_stage schemas tree places n result stage) (PairedAt places stage.pattern n result)
-      (λ inner. map_two (λ s. s.pattern) (λ (made : Stage). stage_of made.pattern (form.SelectMany stage.form inner.form made.form))
+      (λ inner. map_two (λ s. s.pattern) (λ (made : PipelineForm). pipeline_of made.pattern (form.SelectMany stage.form inner.form made.form))
       (paired_stage schemas tree places stage.pattern n inner.ty result)
       ∙ paired_found places stage.pattern n inner.ty result) o
 
-  keys_by : (o p : Option Tree) (next : Form × Form → Option Stage) (found : Option Pattern)
+  keys_by : (o p : Option Tree) (next : Form × Form → Option PipelineForm) (found : Option Pattern)
       → ((keys : Form × Form) → pattern_found (next keys) ≡ found)
       → pattern_found (option_and_then next (option_and_then (λ x. option_and_then (keys_of schemas tree x) p) o))
       ≡ when (are_join_keys (type_found o) (type_found p)) found
@@ -128,7 +128,7 @@ module _ (schemas : List Schema) {X : Type 0} (tree : X → Binds) (typed : X �
   keys_by None None next found same = refl
   keys_by None (Some y) next found same = refl
 
-  joined_found : (places : Places) (j : Join X) (result : Paired X) (stage : Stage) (inner : Form) (keys : Form × Form) (o : Option Ty)
+  joined_found : (places : Places) (j : Join X) (result : Paired X) (stage : PipelineForm) (inner : Form) (keys : Form × Form) (o : Option Ty)
       → pattern_found (option_and_then (joined_stage schemas tree places j result stage inner keys) o)
       ≡ option_and_then (PairedAt places stage.pattern (joined_name j) result) o
   joined_found places j result stage inner keys None = refl
@@ -145,7 +145,7 @@ module _ (schemas : List Schema) {X : Type 0} (tree : X → Binds) (typed : X �
   then_when next true o = refl
   then_when next false o = refl
 
-  inner_found : (places : Places) (j : Join X) (result : Paired X) (stage : Stage) (inner : Tree)
+  inner_found : (places : Places) (j : Join X) (result : Paired X) (stage : PipelineForm) (inner : Tree)
       → pattern_found (inner_stage schemas tree places j result stage inner)
       ≡ option_and_then (PairedAt places stage.pattern (joined_name j) result)
       (when (are_join_keys (typed j.outer_key (names_of (names places) stage.pattern)) (typed j.inner_key (with_local (names places) j.name inner.ty)))
@@ -166,7 +166,7 @@ module _ (schemas : List Schema) {X : Type 0} (tree : X → Binds) (typed : X �
   then_then f g None = refl
   then_then f g (Some x) = refl
 
-  join_found : (places : Places) (j : Join X) (result : Paired X) (stage : Stage)
+  join_found : (places : Places) (j : Join X) (result : Paired X) (stage : PipelineForm)
       → pattern_found (join_stage schemas tree places j result stage)
       ≡ option_and_then (PairedAt places stage.pattern (joined_name j) result) (join_type typed (names places) j (names_of (names places) stage.pattern))
   join_found places j result stage =
@@ -187,15 +187,15 @@ module _ (schemas : List Schema) {X : Type 0} (tree : X → Binds) (typed : X �
   -- ---- keys
 
   sorts_by : (places : Places) (ks : List (SortKey X)) (b : Bool) (k : SortKey X) (x : Tree) (p : Pattern) (f : List (SortKey Form) → Form)
-      → pattern_found (option_map (λ keys. stage_of p (f keys)) (option_and_then (λ (y : SortKey Form). option_map (λ ys. y ∷ ys)
+      → pattern_found (option_map (λ keys. pipeline_of p (f keys)) (option_and_then (λ (y : SortKey Form). option_map (λ ys. y ∷ ys)
       (traversed (key_tree schemas tree places) ks))
       (option_map (λ found. record { value = found.form; descending = k.descending }) (when b (Some x)))))
-      ≡ when b (pattern_found (option_map (λ keys. stage_of p (f (record { value = x.form; descending = k.descending } ∷ keys)))
+      ≡ when b (pattern_found (option_map (λ keys. pipeline_of p (f (record { value = x.form; descending = k.descending } ∷ keys)))
       (traversed (key_tree schemas tree places) ks)))
   sorts_by places ks true k x p f = map_in (traversed (key_tree schemas tree places) ks) where
     map_in : (o : Option (List (SortKey Form)))
-        → pattern_found (option_map (λ keys. stage_of p (f keys)) (option_map (λ ys. record { value = x.form; descending = k.descending } ∷ ys) o))
-        ≡ pattern_found (option_map (λ keys. stage_of p (f (record { value = x.form; descending = k.descending } ∷ keys))) o)
+        → pattern_found (option_map (λ keys. pipeline_of p (f keys)) (option_map (λ ys. record { value = x.form; descending = k.descending } ∷ ys) o))
+        ≡ pattern_found (option_map (λ keys. pipeline_of p (f (record { value = x.form; descending = k.descending } ∷ keys))) o)
     map_in None = refl
     map_in (Some ys) = refl
   sorts_by places ks false k x p f = refl
@@ -206,16 +206,16 @@ module _ (schemas : List Schema) {X : Type 0} (tree : X → Binds) (typed : X �
 
   sorts_found : (places : Places) (ks : List (SortKey X)) (p : Pattern) (f : List (SortKey Form) → Form) (ns : Names) → ((x : X) → type_found (tree x places)
       ≡ typed x ns)
-      → pattern_found (option_map (λ keys. stage_of p (f keys)) (traversed (key_tree schemas tree places) ks)) ≡ when (are_sort_keys typed ks ns) (Some p)
+      → pattern_found (option_map (λ keys. pipeline_of p (f keys)) (traversed (key_tree schemas tree places) ks)) ≡ when (are_sort_keys typed ks ns) (Some p)
   sorts_found places [] p f ns same = refl
   sorts_found places (k ∷ ks) p f ns same =
       by (tree k.value places) (λ g. sorts_found places ks p g ns same)
       ∙ ap (λ (o : Option Ty). when (is_sort_key o && are_sort_keys typed ks ns) (Some p)) (same k.value)
     where
       by : (o : Option Tree)
-          → ((g : List (SortKey Form) → Form) → pattern_found (option_map (λ keys. stage_of p (g keys)) (traversed (key_tree schemas tree places) ks))
+          → ((g : List (SortKey Form) → Form) → pattern_found (option_map (λ keys. pipeline_of p (g keys)) (traversed (key_tree schemas tree places) ks))
           ≡ when (are_sort_keys typed ks ns) (Some p))
-          → pattern_found (option_map (λ keys. stage_of p (f keys)) (option_and_then (λ (y : SortKey Form). option_map (λ ys. y ∷ ys)
+          → pattern_found (option_map (λ keys. pipeline_of p (f keys)) (option_and_then (λ (y : SortKey Form). option_map (λ ys. y ∷ ys)
           (traversed (key_tree schemas tree places) ks))
           (option_map (λ found. record { value = found.form; descending = k.descending }) (option_and_then sortable_tree o))))
           ≡ when (is_sort_key (type_found o) && are_sort_keys typed ks ns) (Some p)
@@ -232,7 +232,7 @@ module _ (schemas : List Schema) {X : Type 0} (tree : X → Binds) (typed : X �
   element_found places p None = refl
   element_found places p (Some v) = at_item places p v
 
-  group_found : (places : Places) (key : X) (element : Option X) (stage : Stage)
+  group_found : (places : Places) (key : X) (element : Option X) (stage : PipelineForm)
       → pattern_found (group_stage schemas tree places key element stage)
       ≡ option_map unnamed (group_type typed (typed key (names_of (names places) stage.pattern)) (element_of typed (names places) stage.pattern element))
   group_found places key element stage =
@@ -253,7 +253,7 @@ module _ (schemas : List Schema) {X : Type 0} (tree : X → Binds) (typed : X �
 
   -- ---- a call, and calls in turn
 
-  pub operator_found : (places : Places) (op : Operator X) (stage : Stage)
+  pub operator_found : (places : Places) (op : Operator X) (stage : PipelineForm)
       → pattern_found (operator_stage schemas tree places op stage) ≡ pattern_after typed (names places) op stage.pattern
   operator_found places (operator.Where c) stage =
       condition_found (tree c (with_item places stage.pattern)) stage.pattern _ ∙ ap (λ (o : Option Ty). when (is_bool_type o) (Some stage.pattern))
@@ -273,16 +273,16 @@ module _ (schemas : List Schema) {X : Type 0} (tree : X → Binds) (typed : X �
       ∙ ap (when (is_fresh (names_of (names places) stage.pattern) n)) (source_at_item places stage.pattern v))
   operator_found places (operator.Join j result) stage = join_found places j result stage
   operator_found places (operator.OrderBy ks) stage =
-      ap (λ (o : Option (List (SortKey Form))). pattern_found (option_map (λ keys. stage_of stage.pattern (form.OrderBy stage.form keys)) o))
+      ap (λ (o : Option (List (SortKey Form))). pattern_found (option_map (λ keys. pipeline_of stage.pattern (form.OrderBy stage.form keys)) o))
       (gathered_all (key_tree schemas tree (with_item places stage.pattern)) ks)
       ∙ sorts_found (with_item places stage.pattern) ks stage.pattern (form.OrderBy stage.form) (names_of (names places) stage.pattern)
       (at_item places stage.pattern)
   operator_found places (operator.GroupBy key element) stage = group_found places key element stage
 
-  abbrev ended : Option Stage → Option Ty
-  ended found = option_and_then (λ (stage : Stage). if_placed (Some (pattern_type stage.pattern))) found
+  abbrev ended : Option PipelineForm → Option Ty
+  ended found = option_and_then (λ (stage : PipelineForm). if_placed (Some (pattern_type stage.pattern))) found
 
-  pub operators_found : (places : Places) (ops : List (Operator X)) (o : Option Stage)
+  pub operators_found : (places : Places) (ops : List (Operator X)) (o : Option PipelineForm)
       → ended (fold (walk_step (operator_stage schemas tree places)) o ops) ≡ option_and_then (operators_type typed (names places) ops) (pattern_found o)
   operators_found places [] None = refl
   operators_found places [] (Some stage) = refl
@@ -291,7 +291,7 @@ module _ (schemas : List Schema) {X : Type 0} (tree : X → Binds) (typed : X �
       operators_found places ops (operator_stage schemas tree places op stage) ∙ ap (option_and_then (operators_type typed (names places) ops))
       (operator_found places op stage)
 
-  ended_within : (o : Option Stage) → type_found (option_and_then items_of_stage o) ≡ if_within typed (ended o)
+  ended_within : (o : Option PipelineForm) → type_found (option_and_then items_of_pipeline o) ≡ if_within typed (ended o)
   ended_within None = refl
   ended_within (Some stage) = by (has_place (out-Ty (pattern_type stage.pattern))) where
     by : (b : Bool)
@@ -304,10 +304,10 @@ module _ (schemas : List Schema) {X : Type 0} (tree : X → Binds) (typed : X �
       → type_found (body_tree schemas tree places n ops items) ≡ option_and_then (operators_items typed (names places) ops)
       (sole_pattern typed (names places) n items.ty)
   body_found places n ops items =
-      map_when (λ found. found.ty) (is_fresh (names places) n) (option_and_then items_of_stage (walked (operator_stage schemas tree places)
-      (stage_of (One n items.ty) items.form) ops))
-      ∙ ap (when (is_fresh (names places) n)) (ended_within (walked (operator_stage schemas tree places) (stage_of (One n items.ty) items.form) ops)
-      ∙ ap (if_within typed) (operators_found places ops (Some (stage_of (One n items.ty) items.form))))
+      map_when (λ found. found.ty) (is_fresh (names places) n) (option_and_then items_of_pipeline (walked (operator_stage schemas tree places)
+      (pipeline_of (One n items.ty) items.form) ops))
+      ∙ ap (when (is_fresh (names places) n)) (ended_within (walked (operator_stage schemas tree places) (pipeline_of (One n items.ty) items.form) ops)
+      ∙ ap (if_within typed) (operators_found places ops (Some (pipeline_of (One n items.ty) items.form))))
       ∙ then_when (operators_items typed (names places) ops) (is_fresh (names places) n) (Some (One n items.ty))
 
   pub parts_found : (places : Places) (rest : List (Part X)) (o : Option Tree)

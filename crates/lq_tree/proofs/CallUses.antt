@@ -22,7 +22,7 @@ use Rattle.lq_grammar.specs.declared.syntax.Join.{Join}
 use Rattle.lq_grammar.specs.declared.syntax.SortKey.{SortKey}
 use Rattle.lq_language.specs.Maps.{map_key}
 use Rattle.lq_language.proofs.FindingLaws.{map_by, when_by}
-use Rattle.lq_tree.specs.Binding.{Binds, Stage, body_tree, call_items_tree, call_tree, element_tree, expanded_stage, grouped_stage, if_fresh, inner_stage, items_of_stage, items_of_tree, joined_stage, key_tree, keyed_tree, keys_of, join_keys, matched_stage, matched_type, operator_stage, paired_stage, part_tree, placed_tree, query_tree, sequence_tree, sortable_tree, source_tree, stage_of, walk_step, walked, gathered}
+use Rattle.lq_tree.specs.Binding.{Binds, PipelineForm, body_tree, call_items_tree, call_tree, element_tree, expanded_stage, grouped_stage, if_fresh, inner_stage, items_of_pipeline, items_of_tree, joined_stage, key_tree, keyed_tree, keys_of, join_keys, matched_stage, matched_type, operator_stage, paired_stage, part_tree, placed_tree, query_tree, sequence_tree, sortable_tree, source_tree, pipeline_of, walk_step, walked, gathered}
 use Rattle.lq_tree.specs.Places.{Places, names_of_places, with_item, with_name}
 use Rattle.lq_tree.specs.UsesOfForms.{UseWhatIsKnown, form_uses}
 use Rattle.lq_tree.specs.declared.tree.Form.{Form}
@@ -56,19 +56,19 @@ module _ (schemas : List Schema) {X : Type 0} (tree : X → Binds) (typed : X �
       ∙ ap (λ (ns : Names). uses x (with_local ns n t)) (names_alike schemas places p)
 
   -- what comes after a call uses what came before it, and this
-  abbrev Behind : List Use → Stage → Stage → Type 0
+  abbrev Behind : List Use → PipelineForm → PipelineForm → Type 0
   Behind us stage next = form_uses next.form ≡ form_uses stage.form ++ us
 
   -- ---- calls that pair items
 
-  paired_made : (p : Pattern) (n : List ℕ) (t : Ty) (result : Paired X) (made : Stage) → paired_stage schemas tree places p n t result ≡ Some made
+  paired_made : (p : Pattern) (n : List ℕ) (t : Ty) (result : Paired X) (made : PipelineForm) → paired_stage schemas tree places p n t result ≡ Some made
       → form_uses made.form ≡ paired_uses typed uses names p n result t
   paired_made p n t paired.Pair made h =
-      subst (λ (s : Stage). form_uses s.form ≡ []) (same_Some _ made h)
+      subst (λ (s : PipelineForm). form_uses s.form ≡ []) (same_Some _ made h)
       (of_pair (form.Slot places.depth) (form.Slot (places.depth + 1)) ∙ (λ i. of_slot places.depth i ++ of_slot (places.depth + 1) i))
   paired_made p n t (paired.Value v) made h =
       map_by _ (option_and_then placed_tree (tree v (with_name (with_item places p) n t))) made h
-      (λ found there is. subst (λ (s : Stage). form_uses s.form ≡ uses v (names_of names (With p n t))) is
+      (λ found there is. subst (λ (s : PipelineForm). form_uses s.form ≡ uses v (names_of names (With p n t))) is
       (at_pair p n t v found (kept_by (λ x. has_place (out-Ty x.ty)) _ found there)))
 
   -- the form of a source's items
@@ -78,7 +78,7 @@ module _ (schemas : List Schema) {X : Type 0} (tree : X → Binds) (typed : X �
       option_and_then_some items_of_tree o items h
       (λ x there found. map_by _ (element_type (out-Ty x.ty)) items found (λ t element is. subst (λ (r : Tree). form_uses r.form ≡ us) is (have x there)))
 
-  many_used : (n : List ℕ) (f : X) (result : Paired X) (stage next : Stage) → operator_stage schemas tree places (operator.SelectMany n f result) stage ≡ Some next
+  many_used : (n : List ℕ) (f : X) (result : Paired X) (stage next : PipelineForm) → operator_stage schemas tree places (operator.SelectMany n f result) stage ≡ Some next
       → Behind (operator_uses typed uses names (operator.SelectMany n f result) stage.pattern) stage next
   many_used n f result stage next h =
       option_and_then_some (expanded_stage schemas tree places n result stage)
@@ -99,7 +99,7 @@ module _ (schemas : List Schema) {X : Type 0} (tree : X → Binds) (typed : X �
           ∙ ap (when (is_fresh (names_of names stage.pattern) n)) (source_at_item schemas tree typed alike places stage.pattern f))
           ∙ ap type_found there
 
-  join_used : (j : Join X) (result : Paired X) (stage next : Stage) → operator_stage schemas tree places (operator.Join j result) stage ≡ Some next
+  join_used : (j : Join X) (result : Paired X) (stage next : PipelineForm) → operator_stage schemas tree places (operator.Join j result) stage ≡ Some next
       → Behind (operator_uses typed uses names (operator.Join j result) stage.pattern) stage next
   join_used j result stage next h =
       option_and_then_some (inner_stage schemas tree places j result stage) (if_fresh schemas tree places stage.pattern j.name (source_tree schemas tree j.source places)) next h
@@ -173,7 +173,7 @@ module _ (schemas : List Schema) {X : Type 0} (tree : X → Binds) (typed : X �
   element_used p None r h = subst (λ (x : Tree). form_uses x.form ≡ []) (same_Some _ r h) (of_slot places.depth)
   element_used p (Some v) r h = at_item p v r h
 
-  group_used : (key : X) (element : Option X) (stage next : Stage) → operator_stage schemas tree places (operator.GroupBy key element) stage ≡ Some next
+  group_used : (key : X) (element : Option X) (stage next : PipelineForm) → operator_stage schemas tree places (operator.GroupBy key element) stage ≡ Some next
       → Behind (operator_uses typed uses names (operator.GroupBy key element) stage.pattern) stage next
   group_used key element stage next h =
       option_and_then_some (grouped_stage schemas tree places element stage) (option_and_then keyed_tree (tree key (with_item places stage.pattern))) next h
@@ -186,7 +186,7 @@ module _ (schemas : List Schema) {X : Type 0} (tree : X → Binds) (typed : X �
 
   -- ---- a call, and calls in turn
 
-  operator_used : (op : Operator X) (stage next : Stage) → operator_stage schemas tree places op stage ≡ Some next
+  operator_used : (op : Operator X) (stage next : PipelineForm) → operator_stage schemas tree places op stage ≡ Some next
       → Behind (operator_uses typed uses names op stage.pattern) stage next
   operator_used (operator.Where c) stage next h =
       map_by _ (option_and_then _ (tree c (with_item places stage.pattern))) next h
@@ -216,15 +216,15 @@ module _ (schemas : List Schema) {X : Type 0} (tree : X → Binds) (typed : X �
       (keys_used stage.pattern ks keys (sym (gathered_all (key_tree schemas tree (with_item places stage.pattern)) ks) ∙ there))))
   operator_used (operator.GroupBy key element) stage next h = group_used key element stage next h
 
-  operators_used : (ops : List (Operator X)) (stage last : Stage) → fold (walk_step (operator_stage schemas tree places)) (Some stage) ops ≡ Some last
+  operators_used : (ops : List (Operator X)) (stage last : PipelineForm) → fold (walk_step (operator_stage schemas tree places)) (Some stage) ops ≡ Some last
       → Behind (operators_uses typed uses names ops stage.pattern) stage last
   operators_used [] stage last h = subst (Behind [] stage) (same_Some stage last h) (sym (append_none (form_uses stage.form)))
   operators_used (op ∷ ops) stage last h = by (operator_stage schemas tree places op stage) refl h (λ next. operators_used ops next last) where
-    Rest : Option Stage → Type 0
+    Rest : Option PipelineForm → Type 0
     Rest o = fold (walk_step (operator_stage schemas tree places)) o ops ≡ Some last
 
-    by : (o : Option Stage) → operator_stage schemas tree places op stage ≡ o → Rest o
-        → ((next : Stage) → Rest (Some next) → Behind (operators_uses typed uses names ops next.pattern) next last)
+    by : (o : Option PipelineForm) → operator_stage schemas tree places op stage ≡ o → Rest o
+        → ((next : PipelineForm) → Rest (Some next) → Behind (operators_uses typed uses names ops next.pattern) next last)
         → Behind (operators_uses typed uses names (op ∷ ops) stage.pattern) stage last
     by None there found rest = absurd (none-some last (sym (walk_none (operator_stage schemas tree places) ops) ∙ found))
     by (Some next) there found rest =
@@ -243,11 +243,11 @@ module _ (schemas : List Schema) {X : Type 0} (tree : X → Binds) (typed : X �
       (λ p. operators_uses typed uses names ops p ++ under (operators_items typed names ops p) rest)
   body_used n ops items r rest h =
       when_by (is_fresh names n) _ r h
-      (λ fresh found. option_and_then_some items_of_stage (walked (operator_stage schemas tree places) (stage_of (One n items.ty) items.form) ops) r found
+      (λ fresh found. option_and_then_some items_of_pipeline (walked (operator_stage schemas tree places) (pipeline_of (One n items.ty) items.form) ops) r found
       (λ stage there given. when_by (has_place (out-Ty (pattern_type stage.pattern))) _ r given
       (λ placed more. when_by (is_within (ty.Seq (pattern_type stage.pattern))) _ r more
       (λ within same. ap (λ (x : Tree). form_uses x.form ++ rest r.ty) (sym (same_Some _ r same))
-      ∙ ap (λ us. us ++ rest r.ty) (operators_used ops (stage_of (One n items.ty) items.form) stage there)
+      ∙ ap (λ us. us ++ rest r.ty) (operators_used ops (pipeline_of (One n items.ty) items.form) stage there)
       ∙ append_behind (form_uses items.form) (operators_uses typed uses names ops (One n items.ty)) (rest r.ty)
       ∙ ap (λ us. form_uses items.form ++ us)
       (sym (ap (λ (o : Option Pattern). under o (λ p. operators_uses typed uses names ops p ++ under (operators_items typed names ops p) rest)) (sole fresh)

@@ -20,7 +20,7 @@ use Rattle.lq_language.specs.ClauseMeaning.{as_group}
 use Rattle.lq_language.specs.ValuesOfTypes.{assuming}
 use Rattle.lq_language.specs.Operations.{of_one, of_two, on_ok, truth_of}
 use Rattle.lq_language.specs.Operators.{first, pair, second}
-use Rattle.lq_language.specs.Stream.{Stream, both, each, expand_by, group_by, groups_of, join_by, kept, made, on_value, one, select_by, where_by, whole, with_keys}
+use Rattle.lq_language.specs.Stream.{Stream, both, each, expand_by, group_by, groups_of, join_by, item_where, select_each, on_value, one, select_by, where_by, whole, with_keys}
 use Rattle.lq_language.specs.Meaning.{as_sequence, as_truth, given_meaning, number_of, on_number, simple_meaning}
 use Rattle.lq_language.specs.declared.methods.Given.{Given}
 use Rattle.lq_language.specs.declared.methods.Given.TheVariants as given
@@ -157,12 +157,12 @@ join_in : {A B K Q V : Type 0} (qs : Stream Q) (key key' : A → Result K Fault)
     → ((v : A) (w : V) (k : K) → In xs v → key v ≡ Ok k → In (found k qs.0) w → result' v w ≡ result v w)
     → join_by qs key' found' result' xs e ≡ join_by qs key found result xs e
 join_in {A} {B} {K} {Q} {V} qs key key' found found' result result' xs e keys founds results =
-    same_whole qs.0 qs.1 (λ zs. each (λ x. on_value (key' x) (λ k. made (result' x) (found' k zs, end.Done))) xs e)
-    (λ zs. each (λ x. on_value (key x) (λ k. made (result x) (found k zs, end.Done))) xs e)
-    (each_in (λ x. on_value (key' x) (λ k. made (result' x) (found' k qs.0, end.Done))) (λ x. on_value (key x) (λ k. made (result x) (found k qs.0, end.Done)))
+    same_whole qs.0 qs.1 (λ zs. each (λ x. on_value (key' x) (λ k. select_each (result' x) (found' k zs, end.Done))) xs e)
+    (λ zs. each (λ x. on_value (key x) (λ k. select_each (result x) (found k zs, end.Done))) xs e)
+    (each_in (λ x. on_value (key' x) (λ k. select_each (result' x) (found' k qs.0, end.Done))) (λ x. on_value (key x) (λ k. select_each (result x) (found k qs.0, end.Done)))
     xs e
-    (λ v there. value_same (key' v) (key v) (λ k. made (result' v) (found' k qs.0, end.Done)) (λ k. made (result v) (found k qs.0, end.Done)) (keys v there)
-    (λ k is. ap (λ (ws : List V). made (result' v) (ws, end.Done)) (founds k qs.0)
+    (λ v there. value_same (key' v) (key v) (λ k. select_each (result' v) (found' k qs.0, end.Done)) (λ k. select_each (result v) (found k qs.0, end.Done)) (keys v there)
+    (λ k is. ap (λ (ws : List V). select_each (result' v) (ws, end.Done)) (founds k qs.0)
     ∙ each_in (λ w. one (result' v w)) (λ w. one (result v w)) (found k qs.0) end.Done (λ w w_there. ap one (results v w k there is w_there)))))
 
 all_in : {A : Type 0} (c d : A → Result Bool Fault) (xs : List A) (e : End) → ((v : A) → In xs v → c v ≡ d v) → all c xs e ≡ all d xs e
@@ -254,7 +254,7 @@ module _ {R : Type 0} (world : World R) (unknown : Fault) where
       → ((v : Value R) → In s.0 v → (w : Value R) → d v ≡ Ok w → IsScalarThat is_truth w)
       → where_by (λ v. on_scalar other (c v) (truth_of unknown)) s.0 s.1 ≡ where_by (λ v. on_scalar world (d v) (truth_of world.unknown)) s.0 s.1
   where_same c d s same kinds =
-      each_in _ _ s.0 s.1 (λ v there. ap (λ (o : Result Bool Fault). kept o v) (truth_after (c v) (d v) (same v there) (kinds v there)))
+      each_in _ _ s.0 s.1 (λ v there. ap (λ (o : Result Bool Fault). item_where o v) (truth_after (c v) (d v) (same v there) (kinds v there)))
 
   -- ---- parts of values
 
@@ -441,7 +441,7 @@ module _ {R : Type 0} (world : World R) (unknown : Fault) where
       (stream_same (mean' a slots) (mean a slots) (same h) kinds)
       ∙ each_in _ _ (items a slots) (stream_of world (mean a slots)).1
       (λ v there.
-      ap (made (λ w. mean' result (slots ++ v ∷ w ∷ [])))
+      ap (select_each (λ w. mean' result (slots ++ v ∷ w ∷ [])))
       (stream_same (mean' inner (slots ++ v ∷ [])) (mean inner (slots ++ v ∷ [])) (same (bodies v there)) (inners v there))
       ∙ each_in _ _ (items inner (slots ++ v ∷ [])) (stream_of world (mean inner (slots ++ v ∷ []))).1 (λ w w_there. ap one (same (results v w there w_there))))))
   same (kind.at_join a j slots h kinds k inner_kinds outers outer_keys inners inner_keys results matching) =

@@ -7,7 +7,7 @@ use Rattle.lq_value.specs.declared.value.End.TheVariants as end
 use Rattle.lq_value.specs.declared.value.Fault.{Fault}
 use Rattle.lq_language.specs.Arrangement.{order_by}
 use Rattle.lq_language.specs.Operations.{on_ok}
-use Rattle.lq_language.specs.Stream.{Stream, both, each, elements_of, expand_by, first_keys, group_by, groups_of, join_by, kept, made, on_value, one, select_by, where_by, whole, with_keys}
+use Rattle.lq_language.specs.Stream.{Stream, both, each, elements_of, expand_by, first_keys, group_by, groups_of, join_by, item_where, select_each, on_value, one, select_by, where_by, whole, with_keys}
 use Rattle.lq_tree.specs.Rows.{result_map, stream_map}
 use Rattle.lq_language.proofs.StreamLaws.{each_natural, kept_mapped, order_natural}
 
@@ -80,7 +80,7 @@ select_natural b d f g h xs e = each_natural b d (λ x. one (g x)) (λ x. one (f
 pub where_natural : {A B : Type 0} (b : A → B) (c : A → Result Bool Fault) (k : B → Result Bool Fault) → ((x : A) → k (b x) ≡ c x) → (xs : List A) (e : End)
     → where_by k (map b xs) e ≡ stream_map b (where_by c xs e)
 where_natural b c k h xs e =
-    each_natural b b (λ x. kept (k x) x) (λ x. kept (c x) x) (λ x. ap (λ (o : Result Bool Fault). kept o (b x)) (h x) ∙ kept_mapped b (c x) x) xs e
+    each_natural b b (λ x. item_where (k x) x) (λ x. item_where (c x) x) (λ x. ap (λ (o : Result Bool Fault). item_where o (b x)) (h x) ∙ kept_mapped b (c x) x) xs e
 
 pub expand_natural : {A B V W C D : Type 0} (b : A → B) (v : V → W) (d : C → D) (inner : A → Stream V) (other : B → Stream W)
     → ((x : A) → other (b x) ≡ stream_map v (inner x))
@@ -88,8 +88,8 @@ pub expand_natural : {A B V W C D : Type 0} (b : A → B) (v : V → W) (d : C �
     → (xs : List A) (e : End)
     → expand_by other found (map b xs) e ≡ stream_map d (expand_by inner result xs e)
 expand_natural b v d inner other hi result found hr xs e =
-    each_natural b d (λ x. made (found x) (other x)) (λ x. made (result x) (inner x))
-    (λ x. ap (made (found (b x))) (hi x) ∙ select_natural v d (result x) (found (b x)) (hr x) (inner x).0 (inner x).1) xs e
+    each_natural b d (λ x. select_each (found x) (other x)) (λ x. select_each (result x) (inner x))
+    (λ x. ap (select_each (found (b x))) (hi x) ∙ select_natural v d (result x) (found (b x)) (hr x) (inner x).0 (inner x).1) xs e
 
 -- ---- what is read whole, and what depends on a key
 
@@ -118,13 +118,13 @@ module _ {A B Q W K L V U C D : Type 0} (b : A → B) (q : Q → W) (g : K → L
       → (inner : Stream Q) (xs : List A) (e : End)
       → join_by (stream_map q inner) other found given (map b xs) e ≡ stream_map d (join_by inner key matches result xs e)
   join_natural key other hk matches found hm result given hr inner xs e =
-      whole_natural q d (λ qs. each (λ x. on_value (key x) (λ k. made (result x) (matches k qs, end.Done))) xs e)
-      (λ ws. each (λ x. on_value (other x) (λ l. made (given x) (found l ws, end.Done))) (map b xs) e)
-      (λ qs. each_natural b d (λ x. on_value (other x) (λ l. made (given x) (found l (map q qs), end.Done)))
-      (λ x. on_value (key x) (λ k. made (result x) (matches k qs, end.Done)))
-      (λ x. ap (λ (o : Result L Fault). on_value o (λ l. made (given (b x)) (found l (map q qs), end.Done))) (hk x)
-      ∙ value_natural g d (λ k. made (result x) (matches k qs, end.Done)) (λ l. made (given (b x)) (found l (map q qs), end.Done))
-      (λ k. ap (λ (us : List U). made (given (b x)) (us, end.Done)) (hm k qs) ∙ select_natural v d (result x) (given (b x)) (hr x) (matches k qs) end.Done)
+      whole_natural q d (λ qs. each (λ x. on_value (key x) (λ k. select_each (result x) (matches k qs, end.Done))) xs e)
+      (λ ws. each (λ x. on_value (other x) (λ l. select_each (given x) (found l ws, end.Done))) (map b xs) e)
+      (λ qs. each_natural b d (λ x. on_value (other x) (λ l. select_each (given x) (found l (map q qs), end.Done)))
+      (λ x. on_value (key x) (λ k. select_each (result x) (matches k qs, end.Done)))
+      (λ x. ap (λ (o : Result L Fault). on_value o (λ l. select_each (given (b x)) (found l (map q qs), end.Done))) (hk x)
+      ∙ value_natural g d (λ k. select_each (result x) (matches k qs, end.Done)) (λ l. select_each (given (b x)) (found l (map q qs), end.Done))
+      (λ k. ap (λ (us : List U). select_each (given (b x)) (us, end.Done)) (hm k qs) ∙ select_natural v d (result x) (given (b x)) (hr x) (matches k qs) end.Done)
       (key x)) xs e) inner.0 inner.1
 
 -- ---- keys and groups

@@ -14,7 +14,7 @@ use Rattle.lq_value.specs.declared.value.Value.TheOpen.{Value-F}
 use Rattle.lq_value.specs.declared.value.Value.TheVariants as value
 use Rattle.lq_value.specs.declared.value.Value.TheVariants.{outs-Group as outs-value-Group, outs-Rec as outs-value-Rec, outs-Row as outs-value-Row, outs-Scalar}
 use Rattle.lq_language.specs.Worlds.{World}
-use Rattle.lq_language.specs.OperandMeaning.{as_value, is_null, on_scalar, on_truth, operation_on, scalar_of, told, truth_value}
+use Rattle.lq_language.specs.OperandMeaning.{as_value, is_null, on_scalar, on_truth, operation_on, scalar_of, equality_truth, truth_value}
 use Rattle.lq_language.specs.RuleMeaning.{compared_meaning, operated_meaning}
 use Rattle.lq_language.specs.ValuesOfTypes.{IsScalarOf}
 use Rattle.lq_language.specs.Operations.{negated, of_two, on_ok, operation_of, same_content, truth, truth_of}
@@ -150,7 +150,7 @@ module _ {R : Type 0} (world : World R) (slots : Slots R) where
   abbrev asked : Bool → Value R → Value R
   asked wanted v = let null = is_null_value world (out-Value R v) in truth_value (if wanted then null else not null)
 
-  told_is : (sign : Binary) (b : Bool) → is_equality sign ≡ true → told sign b ≡ (if told sign true then b else not b)
+  told_is : (sign : Binary) (b : Bool) → is_equality sign ≡ true → equality_truth sign b ≡ (if equality_truth sign true then b else not b)
   told_is binary.Equal b h = refl
   told_is binary.NotEqual b h = refl
   told_is sign b h = absurd (true≢false (sym h))
@@ -239,17 +239,17 @@ module _ {R : Type 0} (world : World R) (slots : Slots R) where
   asks_null v (kind.no_object same) = asks_by v _ _ same (outs-Scalar scalar.Null) refl refl
 
   -- what two operands give, where it is known whether they are the same
-  told_agree : (sign : Binary) (x : Result (Value R) Fault) (o : Result Bool Fault) (b : Bool) → o ≡ Ok b → x ≡ Ok (truth_value (told sign b))
-      → Agree (Val ty.Bool) x (on_ok o (λ same. Ok (truth_value (told sign same))))
+  told_agree : (sign : Binary) (x : Result (Value R) Fault) (o : Result Bool Fault) (b : Bool) → o ≡ Ok b → x ≡ Ok (truth_value (equality_truth sign b))
+      → Agree (Val ty.Bool) x (on_ok o (λ same. Ok (truth_value (equality_truth sign same))))
   told_agree sign x o b o_is x_is =
-      subst (λ (p : Result Bool Fault). Agree (Val ty.Bool) x (on_ok p (λ same. Ok (truth_value (told sign same))))) (sym o_is)
-      (same_agree world slots ty.Bool x (Ok (truth_value (told sign b))) x_is (agree_ok (Val ty.Bool) (truth_value (told sign b))
-      (truth_is world (told sign b))))
+      subst (λ (p : Result Bool Fault). Agree (Val ty.Bool) x (on_ok p (λ same. Ok (truth_value (equality_truth sign same))))) (sym o_is)
+      (same_agree world slots ty.Bool x (Ok (truth_value (equality_truth sign b))) x_is (agree_ok (Val ty.Bool) (truth_value (equality_truth sign b))
+      (truth_is world (equality_truth sign b))))
 
   asked_agree : (sign : Binary) (v : Value R) (o : Result Bool Fault) → is_equality sign ≡ true → o ≡ Ok (is_null_value world (out-Value R v))
-      → Agree (Val ty.Bool) (Ok (asked (told sign true) v)) (on_ok o (λ same. Ok (truth_value (told sign same))))
+      → Agree (Val ty.Bool) (Ok (asked (equality_truth sign true) v)) (on_ok o (λ same. Ok (truth_value (equality_truth sign same))))
   asked_agree sign v o same is =
-      told_agree sign (Ok (asked (told sign true) v)) o (is_null_value world (out-Value R v)) is
+      told_agree sign (Ok (asked (equality_truth sign true) v)) o (is_null_value world (out-Value R v)) is
       (ap (λ (b : Bool). Ok (truth_value b)) (sym (told_is sign (is_null_value world (out-Value R v)) same)))
 
   -- scalars
@@ -260,7 +260,7 @@ module _ {R : Type 0} (world : World R) (slots : Slots R) where
   scalars_same (scalar.Text t) y = refl
 
   compared_scalars : (sign : Binary) (x y : Scalar) (b : Bool) → is_equality sign ≡ true → same_content world.unknown x y ≡ Ok b
-      → as_value {R = R} (of_two world.unknown (operation_of sign) x y) ≡ Ok (truth_value (told sign b))
+      → as_value {R = R} (of_two world.unknown (operation_of sign) x y) ≡ Ok (truth_value (equality_truth sign b))
   compared_scalars binary.Equal x y b h is = ap (λ (o : Result Bool Fault). as_value (truth world.unknown o)) is
   compared_scalars binary.NotEqual x y b h is = ap (λ (o : Result Bool Fault). as_value (truth world.unknown (on_ok o (λ same. Ok (not same))))) is
   compared_scalars sign x y b h is = absurd (true≢false (sym h))
@@ -269,7 +269,7 @@ module _ {R : Type 0} (world : World R) (slots : Slots R) where
       → is_plain (out-Ty s) ≡ true → is_plain (out-Ty t) ≡ true → (v w : Value R) → Val s v → Val t w
       → Agree (Val ty.Bool) (on_ok (scalar_of world (out-Value R v)) (λ x. on_ok (scalar_of world (out-Value R w))
       (λ y. as_value (of_two world.unknown (operation_of sign) x y))))
-      (on_ok (same_operands world (out-Value R v) (out-Value R w)) (λ same. Ok (truth_value (told sign same))))
+      (on_ok (same_operands world (out-Value R v) (out-Value R w)) (λ same. Ok (truth_value (equality_truth sign same))))
   scalars_agree sign s t same compares s_plain t_plain v w v_fits w_fits =
       let x = plain_value world s v s_plain v_fits in
       let y = plain_value world t w t_plain w_fits in
@@ -301,7 +301,7 @@ module _ {R : Type 0} (world : World R) (slots : Slots R) where
       (meaning_at world slots _ (form.outs-Binary (operation_of sign) a.form b.form)
       ∙ on_ok_twice (mean a.form) (λ v. scalar_of world (out-Value R v)) (λ x. on_scalar world (mean b.form) (told_scalars sign x)))
       (on_ok_agree (Val a.ty) (Val ty.Bool) (λ v. on_ok (scalar_of world (out-Value R v)) (λ x. on_scalar world (mean b.form) (told_scalars sign x)))
-      (λ v. on_ok n (λ w. on_ok (same_operands world (out-Value R v) (out-Value R w)) (λ same. Ok (truth_value (told sign same)))))
+      (λ v. on_ok n (λ w. on_ok (same_operands world (out-Value R v) (out-Value R w)) (λ same. Ok (truth_value (equality_truth sign same)))))
       (λ v v_fits. let x = plain_value world a.ty v a_plain v_fits in
       same_agree world slots ty.Bool _ _ (turned sign (mean b.form) v x.0 (ap (out-Value R) x.1 ∙ outs-Scalar x.0))
       (on_ok_agree (Val b.ty) (Val ty.Bool) _ _ (λ w w_fits. scalars_agree sign a.ty b.ty same compares a_plain b_plain v w v_fits w_fits)
@@ -311,11 +311,11 @@ module _ {R : Type 0} (world : World R) (slots : Slots R) where
   -- what has members or is grouped, beside null
   object_first : (sign : Binary) (a b : Tree) (m n : Result (Value R) Fault) → is_equality sign ≡ true → is_object (out-Ty a.ty) ≡ true → out-Ty b.ty
       ≡ Ty-F.Null → Means a m → Means b n
-      → Agree (Val ty.Bool) (mean (form.IsNull (told sign true) (tested_first a.form b.form))) (equality_meaning world sign m n)
+      → Agree (Val ty.Bool) (mean (form.IsNull (equality_truth sign true) (tested_first a.form b.form))) (equality_meaning world sign m n)
   object_first sign a b m n same object null first second =
       same_agree world slots ty.Bool _ _
-      (meaning_at world slots _ (form.outs-IsNull (told sign true) (tested_first a.form b.form)) ∙ first_by a.form b.form (out-Form b.form) refl
-      (λ v. Ok (asked (told sign true) v)))
+      (meaning_at world slots _ (form.outs-IsNull (equality_truth sign true) (tested_first a.form b.form)) ∙ first_by a.form b.form (out-Form b.form) refl
+      (λ v. Ok (asked (equality_truth sign true) v)))
       (on_ok_agree (Val a.ty) (Val ty.Bool) _ _ (λ v v_fits. on_ok_agree (Val b.ty) (Val ty.Bool) _ _
       (λ w w_fits. asked_agree sign v _ same
       (ap (λ (x : Value R). same_operands world (out-Value R v) (out-Value R x)) (null_of b.ty w null w_fits) ∙ ap (same_operands world (out-Value R v))
@@ -324,11 +324,11 @@ module _ {R : Type 0} (world : World R) (slots : Slots R) where
 
   object_second : (sign : Binary) (a b : Tree) (m n : Result (Value R) Fault) → is_equality sign ≡ true → is_object (out-Ty b.ty) ≡ true → out-Ty a.ty
       ≡ Ty-F.Null → Means a m → Means b n
-      → Agree (Val ty.Bool) (mean (form.IsNull (told sign true) (tested_second a.form b.form))) (equality_meaning world sign m n)
+      → Agree (Val ty.Bool) (mean (form.IsNull (equality_truth sign true) (tested_second a.form b.form))) (equality_meaning world sign m n)
   object_second sign a b m n same object null first second =
       same_agree world slots ty.Bool _ _
-      (meaning_at world slots _ (form.outs-IsNull (told sign true) (tested_second a.form b.form)) ∙ second_by a.form b.form (out-Form a.form) refl
-      (λ v. Ok (asked (told sign true) v)))
+      (meaning_at world slots _ (form.outs-IsNull (equality_truth sign true) (tested_second a.form b.form)) ∙ second_by a.form b.form (out-Form a.form) refl
+      (λ v. Ok (asked (equality_truth sign true) v)))
       (on_ok_agree (Val a.ty) (Val ty.Bool) _ _ (λ v v_fits. on_ok_agree (Val b.ty) (Val ty.Bool) _ _
       (λ w w_fits. asked_agree sign w _ same
       (ap (λ (x : Value R). same_operands world (out-Value R x) (out-Value R w)) (null_of a.ty v null v_fits)
@@ -341,8 +341,8 @@ module _ {R : Type 0} (world : World R) (slots : Slots R) where
   equality_means sign a b m n same compares first second = by (is_object (out-Ty a.ty)) (is_object (out-Ty b.ty)) refl refl where
     by : (c d : Bool) → is_object (out-Ty a.ty) ≡ c → is_object (out-Ty b.ty) ≡ d
         → Agree (Val ty.Bool)
-        (mean (if c then form.IsNull (told sign true) (tested_first a.form b.form)
-        else (if d then form.IsNull (told sign true) (tested_second a.form b.form) else form.Binary (operation_of sign) a.form b.form)))
+        (mean (if c then form.IsNull (equality_truth sign true) (tested_first a.form b.form)
+        else (if d then form.IsNull (equality_truth sign true) (tested_second a.form b.form) else form.Binary (operation_of sign) a.form b.form)))
         (equality_meaning world sign m n)
     by true d c_is d_is = object_first sign a b m n same c_is (beside_null (out-Ty a.ty) (out-Ty b.ty) compares c_is) first second
     by false true c_is d_is = object_second sign a b m n same d_is (null_before (out-Ty a.ty) (out-Ty b.ty) compares d_is) first second

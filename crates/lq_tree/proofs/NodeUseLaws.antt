@@ -8,7 +8,7 @@ use Rattle.lq_value.specs.declared.ty.Ty.TheOpen.{Ty-F}
 use Rattle.lq_language.specs.ClauseTyping.{source_type}
 use Rattle.lq_language.specs.EnumerableCalls.{EnumerableCall, By, Plain, With, enumerable_call, method_with_lambda, method_with_value, simple_method}
 use Rattle.lq_language.specs.Maps.{map_field}
-use Rattle.lq_language.specs.OperandMeaning.{told}
+use Rattle.lq_language.specs.OperandMeaning.{equality_truth}
 use Rattle.lq_language.specs.ValuesOfTypes.{Every}
 use Rattle.lq_language.specs.Members.{search_named, sole_argument}
 use Rattle.lq_language.specs.Operations.{operation_of}
@@ -75,8 +75,8 @@ second_used a b = by (is_literal (out-Form a)) refl where
 binary_used : (sign : Binary) (a b : Tree) → form_uses (binary_form sign a b) ≡ form_uses a.form ++ form_uses b.form
 binary_used sign a b = by (is_equality sign) (is_object (out-Ty a.ty)) (is_object (out-Ty b.ty)) where
   by : (c d e : Bool)
-      → form_uses (if c then (if d then form.IsNull (told sign true) (tested_first a.form b.form)
-      else (if e then form.IsNull (told sign true) (tested_second a.form b.form) else form.Binary (operation_of sign) a.form b.form))
+      → form_uses (if c then (if d then form.IsNull (equality_truth sign true) (tested_first a.form b.form)
+      else (if e then form.IsNull (equality_truth sign true) (tested_second a.form b.form) else form.Binary (operation_of sign) a.form b.form))
       else form.Binary (operation_at sign (out-Ty a.ty) (out-Ty b.ty)) a.form b.form) ≡ form_uses a.form ++ form_uses b.form
   by true true e = of_is_null _ (tested_first a.form b.form) ∙ first_used a.form b.form
   by true false true = of_is_null _ (tested_second a.form b.form) ∙ second_used a.form b.form

@@ -24,7 +24,7 @@ use Rattle.lq_grammar.specs.declared.syntax.SortKey.{SortKey}
 use Rattle.lq_language.proofs.MethodPullLaws.{call_maps}
 use Rattle.lq_translate.specs.Maps.{map_argument, map_call, map_enumerable, map_field, map_key, map_node, map_operator, map_part}
 use Rattle.lq_translate.proofs.LayerLaws.{fold_call, fold_term_node}
-use Rattle.lq_tree.specs.Binding.{Binds, Stage, body_tree, call_items_tree, call_tree, called_tree, field_tree, fields_tree, gather_step, gathered, items_of_stage, key_tree, method_tree, node_tree, operator_stage, part_tree, query_tree, record_tree, search_form, sequence_tree, settled_tree, source_tree, stage_of, term_tree, tree_step, walked, within_tree}
+use Rattle.lq_tree.specs.Binding.{Binds, PipelineForm, body_tree, call_items_tree, call_tree, called_tree, field_tree, fields_tree, gather_step, gathered, items_of_pipeline, key_tree, method_tree, node_tree, operator_stage, part_tree, query_tree, record_tree, search_form, sequence_tree, settled_tree, source_tree, pipeline_of, term_tree, tree_step, walked, within_tree}
 use Rattle.lq_tree.specs.Places.{Places, names_of_places, with_item}
 use Rattle.lq_tree.specs.declared.tree.Form.TheVariants as form
 use Rattle.lq_tree.specs.declared.tree.Tree.{Tree}
@@ -93,7 +93,7 @@ module _ (schemas : List Schema) {X Y : Type 0} (f : X → Y) (tree : Y → Bind
       ≡ gathered (key_tree schemas before places) ks
   keys_pull places ks = walk_map (map_key f) (gather_step (key_tree schemas tree places)) ks (Some [])
 
-  operator_pull : (places : Places) (op : Operator X) (stage : Stage) → operator_stage schemas tree places (map_operator f op) stage
+  operator_pull : (places : Places) (op : Operator X) (stage : PipelineForm) → operator_stage schemas tree places (map_operator f op) stage
       ≡ operator_stage schemas before places op stage
   operator_pull places (operator.Where c) stage = refl
   operator_pull places (operator.Select v) stage = refl
@@ -103,21 +103,21 @@ module _ (schemas : List Schema) {X Y : Type 0} (f : X → Y) (tree : Y → Bind
   operator_pull places (operator.Join j paired.Pair) stage = refl
   operator_pull places (operator.Join j (paired.Value w)) stage = refl
   operator_pull places (operator.OrderBy ks) stage =
-      ap (option_map (λ keys. stage_of stage.pattern (form.OrderBy stage.form keys))) (keys_pull (with_item places stage.pattern) ks)
+      ap (option_map (λ keys. pipeline_of stage.pattern (form.OrderBy stage.form keys))) (keys_pull (with_item places stage.pattern) ks)
   operator_pull places (operator.GroupBy key None) stage = refl
   operator_pull places (operator.GroupBy key (Some v)) stage = refl
 
-  operators_pull : (places : Places) (ops : List (Operator X)) (start : Stage)
+  operators_pull : (places : Places) (ops : List (Operator X)) (start : PipelineForm)
       → walked (operator_stage schemas tree places) start (map (map_operator f) ops) ≡ walked (operator_stage schemas before places) start ops
   operators_pull places ops start =
       walk_map (map_operator f) (operator_stage schemas tree places) ops (Some start)
-      ∙ ap (λ (step : Operator X → Stage → Option Stage). walked step start ops) (λ i op stage. operator_pull places op stage i)
+      ∙ ap (λ (step : Operator X → PipelineForm → Option PipelineForm). walked step start ops) (λ i op stage. operator_pull places op stage i)
 
   body_pull : (places : Places) (n : List ℕ) (ops : List (Operator X)) (items : Tree)
       → body_tree schemas tree places n (map (map_operator f) ops) items ≡ body_tree schemas before places n ops items
   body_pull places n ops items =
-      ap (λ (o : Option Stage). when (is_fresh (names_of_places schemas places) n) (option_and_then items_of_stage o)) (operators_pull places ops
-      (stage_of (One n items.ty) items.form))
+      ap (λ (o : Option PipelineForm). when (is_fresh (names_of_places schemas places) n) (option_and_then items_of_pipeline o)) (operators_pull places ops
+      (pipeline_of (One n items.ty) items.form))
 
   parts_pull : (places : Places) (rest : List (Part X)) (start : Tree)
       → walked (part_tree schemas tree places) start (map (map_part f) rest) ≡ walked (part_tree schemas before places) start rest

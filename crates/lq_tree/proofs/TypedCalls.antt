@@ -20,7 +20,7 @@ use Rattle.lq_language.specs.declared.calls.Part.{Part}
 use Rattle.lq_grammar.specs.declared.syntax.Join.{Join}
 use Rattle.lq_grammar.specs.declared.syntax.SortKey.{SortKey}
 use Rattle.lq_language.proofs.FindingLaws.{map_by, when_by}
-use Rattle.lq_tree.specs.Binding.{Binds, Stage, body_tree, call_items_tree, call_tree, element_tree, expanded_stage, gathered, grouped_stage, if_fresh, inner_stage, items_of_stage, items_of_tree, joined_stage, key_tree, keyed_tree, keys_of, join_keys, matched_stage, matched_type, operator_stage, paired_stage, part_tree, placed_tree, query_tree, sequence_tree, sortable_tree, source_tree, stage_of, walk_step, walked}
+use Rattle.lq_tree.specs.Binding.{Binds, PipelineForm, body_tree, call_items_tree, call_tree, element_tree, expanded_stage, gathered, grouped_stage, if_fresh, inner_stage, items_of_pipeline, items_of_tree, joined_stage, key_tree, keyed_tree, keys_of, join_keys, matched_stage, matched_type, operator_stage, paired_stage, part_tree, placed_tree, query_tree, sequence_tree, sortable_tree, source_tree, pipeline_of, walk_step, walked}
 use Rattle.lq_tree.specs.Places.{Places, names_of_places, with_item, with_name}
 use Rattle.lq_tree.specs.TypedForms.{Both, Gives, IsTyped, Many, Of, Shape, Sorts, matched_items, shape_of, type_of_shape, with_slot, with_slots}
 use Rattle.lq_tree.specs.TypedForms as rule
@@ -58,17 +58,17 @@ module _ (schemas : List Schema) {X : Type 0} (tree : X → Binds)
   at_item p x r h = typed x (with_item places p) (with_slot shapes (shape_of p)) (item_typed schemas shapes places p known) r h
 
   -- what is in front of a call: its items are such as its pattern says
-  abbrev pub Stands : Stage → Type 0
+  abbrev pub Stands : PipelineForm → Type 0
   Stands stage = Items shapes stage.form (shape_of stage.pattern) × Is shapes stage.form (Of (ty.Seq (pattern_type stage.pattern)))
 
   -- a form that gives a sequence of such items
-  stands_by : (p : Pattern) (f : Form) → Is shapes f (Many (shape_of p)) → Stands (stage_of p f)
+  stands_by : (p : Pattern) (f : Form) → Is shapes f (Many (shape_of p)) → Stands (pipeline_of p f)
   stands_by p f h = (
     rule.by_items shapes f (shape_of p) h,
     subst (λ (t : Ty). Is shapes f (Of (ty.Seq t))) (items_type p) (rule.by_type shapes f (Many (shape_of p)) h),
   )
 
-  from : (made next : Stage) → made ≡ next → Stands made → Stands next
+  from : (made next : PipelineForm) → made ≡ next → Stands made → Stands next
   from made next is = subst Stands is
 
   -- the items of a source
@@ -88,10 +88,10 @@ module _ (schemas : List Schema) {X : Type 0} (tree : X → Binds)
   two_slots : (p : Pattern) (t : Ty) → with_slot (with_slot shapes (shape_of p)) (Of t) ≡ two p t
   two_slots p t = append_behind shapes (shape_of p ∷ []) (Of t ∷ [])
 
-  paired_typed : (p : Pattern) (n : List ℕ) (t : Ty) (result : Paired X) (made : Stage) → paired_stage schemas tree places p n t result ≡ Some made
+  paired_typed : (p : Pattern) (n : List ℕ) (t : Ty) (result : Paired X) (made : PipelineForm) → paired_stage schemas tree places p n t result ≡ Some made
       → Is (two p t) made.form (shape_of made.pattern)
   paired_typed p n t paired.Pair made h =
-      subst (λ (s : Stage). Is (two p t) s.form (shape_of s.pattern)) (same_Some _ made h)
+      subst (λ (s : PipelineForm). Is (two p t) s.form (shape_of s.pattern)) (same_Some _ made h)
       (rule.of_pair (two p t) (form.Slot places.depth) (form.Slot (places.depth + 1)) (shape_of p) (Of t)
       (subst (λ (s : List Shape). Is s (form.Slot places.depth) (shape_of p)) (two_slots p t)
       (slot_typed schemas shapes places.depth (shape_of p) (Of t ∷ []) known.depth))
@@ -101,12 +101,12 @@ module _ (schemas : List Schema) {X : Type 0} (tree : X → Binds)
   paired_typed p n t (paired.Value v) made h =
       map_by _ (option_and_then placed_tree (tree v (with_name (with_item places p) n t))) made h
       (λ found there is. passed_by (λ x. has_place (out-Ty x.ty)) (tree v (with_name (with_item places p) n t)) found there
-      (λ bound placed. subst (λ (s : Stage). Is (two p t) s.form (shape_of s.pattern)) is
+      (λ bound placed. subst (λ (s : PipelineForm). Is (two p t) s.form (shape_of s.pattern)) is
       (subst (λ (s : List Shape). IsTypedTree schemas s found) (two_slots p t)
       (typed v (with_name (with_item places p) n t) (with_slot (with_slot shapes (shape_of p)) (Of t))
       (item_typed schemas (with_slot shapes (shape_of p)) (with_item places p) (One n t) (item_typed schemas shapes places p known)) found bound))))
 
-  many_typed : (n : List ℕ) (f : X) (result : Paired X) (stage next : Stage) → operator_stage schemas tree places (operator.SelectMany n f result) stage ≡ Some next
+  many_typed : (n : List ℕ) (f : X) (result : Paired X) (stage next : PipelineForm) → operator_stage schemas tree places (operator.SelectMany n f result) stage ≡ Some next
       → Stands stage → Stands next
   many_typed n f result stage next h stands =
       option_and_then_some (expanded_stage schemas tree places n result stage)
@@ -124,7 +124,7 @@ module _ (schemas : List Schema) {X : Type 0} (tree : X → Binds)
   matched_is p None u t h = same_Some u t h
   matched_is p (Some g) u t h = when_by _ _ t h (λ fresh is. same_Some (ty.Seq u) t is)
 
-  join_typed : (j : Join X) (result : Paired X) (stage next : Stage) → operator_stage schemas tree places (operator.Join j result) stage ≡ Some next
+  join_typed : (j : Join X) (result : Paired X) (stage next : PipelineForm) → operator_stage schemas tree places (operator.Join j result) stage ≡ Some next
       → Stands stage → Stands next
   join_typed j result stage next h stands =
       option_and_then_some (inner_stage schemas tree places j result stage) (if_fresh schemas tree places stage.pattern j.name (source_tree schemas tree j.source places)) next h
@@ -176,7 +176,7 @@ module _ (schemas : List Schema) {X : Type 0} (tree : X → Binds)
       (slot_typed schemas shapes places.depth (shape_of p) [] known.depth))))
   element_typed p (Some v) r h = at_item p v r h
 
-  group_typed : (key : X) (element : Option X) (stage next : Stage) → operator_stage schemas tree places (operator.GroupBy key element) stage ≡ Some next
+  group_typed : (key : X) (element : Option X) (stage next : PipelineForm) → operator_stage schemas tree places (operator.GroupBy key element) stage ≡ Some next
       → Stands stage → Stands next
   group_typed key element stage next h stands =
       option_and_then_some (grouped_stage schemas tree places element stage) (option_and_then keyed_tree (tree key (with_item places stage.pattern))) next h
@@ -190,7 +190,7 @@ module _ (schemas : List Schema) {X : Type 0} (tree : X → Binds)
 
   -- ---- a call, and calls in turn
 
-  operator_typed : (op : Operator X) (stage next : Stage) → operator_stage schemas tree places op stage ≡ Some next → Stands stage → Stands next
+  operator_typed : (op : Operator X) (stage next : PipelineForm) → operator_stage schemas tree places op stage ≡ Some next → Stands stage → Stands next
   operator_typed (operator.Where c) stage next h stands =
       map_by _ (option_and_then _ (tree c (with_item places stage.pattern))) next h
       (λ found there is. passed_by (λ x. is_bool (out-Ty x.ty)) (tree c (with_item places stage.pattern)) found there
@@ -224,14 +224,14 @@ module _ (schemas : List Schema) {X : Type 0} (tree : X → Binds)
       (keys_typed stage.pattern ks keys (sym (gathered_all (key_tree schemas tree (with_item places stage.pattern)) ks) ∙ there)))))
   operator_typed (operator.GroupBy key element) stage next h stands = group_typed key element stage next h stands
 
-  operators_typed : (ops : List (Operator X)) (stage last : Stage) → fold (walk_step (operator_stage schemas tree places)) (Some stage) ops ≡ Some last
+  operators_typed : (ops : List (Operator X)) (stage last : PipelineForm) → fold (walk_step (operator_stage schemas tree places)) (Some stage) ops ≡ Some last
       → Stands stage → Stands last
   operators_typed [] stage last h stands = subst Stands (same_Some stage last h) stands
   operators_typed (op ∷ ops) stage last h stands = by (operator_stage schemas tree places op stage) refl h (λ next. operators_typed ops next last) where
-    Rest : Option Stage → Type 0
+    Rest : Option PipelineForm → Type 0
     Rest o = fold (walk_step (operator_stage schemas tree places)) o ops ≡ Some last
 
-    by : (o : Option Stage) → operator_stage schemas tree places op stage ≡ o → Rest o → ((next : Stage) → Rest (Some next) → Stands next → Stands last)
+    by : (o : Option PipelineForm) → operator_stage schemas tree places op stage ≡ o → Rest o → ((next : PipelineForm) → Rest (Some next) → Stands next → Stands last)
         → Stands last
     by None there found rest = absurd (none-some last (sym (walk_none (operator_stage schemas tree places) ops) ∙ found))
     by (Some next) there found rest = rest next found (operator_typed op stage next there stands)
@@ -245,11 +245,11 @@ module _ (schemas : List Schema) {X : Type 0} (tree : X → Binds)
   body_typed : (n : List ℕ) (ops : List (Operator X)) (items r : Tree) → body_tree schemas tree places n ops items ≡ Some r → GivesAll items → GivesAll r
   body_typed n ops items r h given =
       when_by (is_fresh (names_of_places schemas places) n) _ r h
-      (λ fresh found. option_and_then_some items_of_stage (walked (operator_stage schemas tree places) (stage_of (One n items.ty) items.form) ops) r found
+      (λ fresh found. option_and_then_some items_of_pipeline (walked (operator_stage schemas tree places) (pipeline_of (One n items.ty) items.form) ops) r found
       (λ stage there more. when_by (has_place (out-Ty (pattern_type stage.pattern))) _ r more
       (λ placed rest. when_by (is_within (ty.Seq (pattern_type stage.pattern))) _ r rest
       (λ within same. subst GivesAll (same_Some _ r same)
-      (operators_typed ops (stage_of (One n items.ty) items.form) stage there
+      (operators_typed ops (pipeline_of (One n items.ty) items.form) stage there
       (rule.by_elements shapes items.form (ty.Seq items.ty) items.ty given (ap element_type (outs-Seq items.ty)), given)).1))))
 
   parts_typed : (rest : List (Part X)) (items last : Tree) → fold (walk_step (part_tree schemas tree places)) (Some items) rest ≡ Some last

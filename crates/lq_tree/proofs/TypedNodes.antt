@@ -9,7 +9,7 @@ use Rattle.lq_value.specs.declared.ty.Ty.TheOpen.{Ty-F}
 use Rattle.lq_value.specs.declared.ty.Ty.TheVariants as ty
 use Rattle.lq_value.specs.declared.ty.Ty.TheVariants.{outs-Bool, outs-Int, outs-Null, outs-Str}
 use Rattle.lq_language.specs.EnumerableCalls.{EnumerableCall, By, Plain, With, enumerable_call}
-use Rattle.lq_language.specs.OperandMeaning.{told}
+use Rattle.lq_language.specs.OperandMeaning.{equality_truth}
 use Rattle.lq_language.specs.ValuesOfTypes.{Every, IsScalarOf}
 use Rattle.lq_language.specs.Members.{search_named, sole_argument}
 use Rattle.lq_language.specs.Operations.{operation_of}
@@ -103,17 +103,17 @@ module _ (schemas : List Schema) where
       by (is_equality sign) (is_object (out-Ty a.ty)) (is_object (out-Ty b.ty)) refl refl refl
     where
       by : (c d e : Bool) → is_equality sign ≡ c → is_object (out-Ty a.ty) ≡ d → is_object (out-Ty b.ty) ≡ e
-          → Typed shapes (if c then (if d then form.IsNull (told sign true) (tested_first a.form b.form)
-          else (if e then form.IsNull (told sign true) (tested_second a.form b.form) else form.Binary (operation_of sign) a.form b.form))
+          → Typed shapes (if c then (if d then form.IsNull (equality_truth sign true) (tested_first a.form b.form)
+          else (if e then form.IsNull (equality_truth sign true) (tested_second a.form b.form) else form.Binary (operation_of sign) a.form b.form))
           else form.Binary (operation_at sign (out-Ty a.ty) (out-Ty b.ty)) a.form b.form) (Of r)
       by true true e c_is d_is e_is =
-          subst (λ (t : Ty). Typed shapes (form.IsNull (told sign true) (tested_first a.form b.form)) (Of t))
+          subst (λ (t : Ty). Typed shapes (form.IsNull (equality_truth sign true) (tested_first a.form b.form)) (Of t))
           (type_of_equality sign (out-Ty a.ty) (out-Ty b.ty) r c_is found).1
-          (rule.of_is_null shapes (told sign true) (tested_first a.form b.form) a.ty (first_typed shapes a.form b.form a.ty b.ty h k) d_is)
+          (rule.of_is_null shapes (equality_truth sign true) (tested_first a.form b.form) a.ty (first_typed shapes a.form b.form a.ty b.ty h k) d_is)
       by true false true c_is d_is e_is =
-          subst (λ (t : Ty). Typed shapes (form.IsNull (told sign true) (tested_second a.form b.form)) (Of t))
+          subst (λ (t : Ty). Typed shapes (form.IsNull (equality_truth sign true) (tested_second a.form b.form)) (Of t))
           (type_of_equality sign (out-Ty a.ty) (out-Ty b.ty) r c_is found).1
-          (rule.of_is_null shapes (told sign true) (tested_second a.form b.form) b.ty (second_typed shapes a.form b.form a.ty b.ty h k) e_is)
+          (rule.of_is_null shapes (equality_truth sign true) (tested_second a.form b.form) b.ty (second_typed shapes a.form b.form a.ty b.ty h k) e_is)
       by true false false c_is d_is e_is =
           subst (λ (o : Op). Typed shapes (form.Binary o a.form b.form) (Of r)) (operation_same sign (out-Ty a.ty) (out-Ty b.ty) c_is)
           (rule.of_sign shapes a.form b.form sign a.ty b.ty r h d_is k e_is found)

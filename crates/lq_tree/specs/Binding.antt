@@ -11,7 +11,7 @@ use Rattle.lq_value.specs.declared.ty.Ty.TheOpen.{Ty-F}
 use Rattle.lq_value.specs.declared.ty.Ty.TheVariants as ty
 use Rattle.lq_language.specs.ClauseTyping.{joined_name}
 use Rattle.lq_language.specs.EnumerableCalls.{EnumerableCall, By, Plain, With, enumerable_call}
-use Rattle.lq_language.specs.OperandMeaning.{told}
+use Rattle.lq_language.specs.OperandMeaning.{equality_truth}
 use Rattle.lq_language.specs.Members.{search_named, sole_argument}
 use Rattle.lq_language.specs.Operations.{operation_of}
 use Rattle.lq_language.specs.Operators.{Pattern, One, pattern_type, unnamed}
@@ -97,8 +97,8 @@ tested_second a b = if is_literal (out-Form a) then b else form.Second (form.Pai
 -- `==` and `!=`
 abbrev pub equality_form : Binary → Tree → Tree → Form
 equality_form sign a b =
-    if is_object (out-Ty a.ty) then form.IsNull (told sign true) (tested_first a.form b.form)
-    else (if is_object (out-Ty b.ty) then form.IsNull (told sign true) (tested_second a.form b.form) else form.Binary (operation_of sign) a.form b.form)
+    if is_object (out-Ty a.ty) then form.IsNull (equality_truth sign true) (tested_first a.form b.form)
+    else (if is_object (out-Ty b.ty) then form.IsNull (equality_truth sign true) (tested_second a.form b.form) else form.Binary (operation_of sign) a.form b.form)
 
 -- `+` joins texts where the type of an operand is that of texts
 abbrev pub operation_at : Binary → Ty-F Ty → Ty-F Ty → Op
@@ -221,16 +221,16 @@ fields_tree fields = tree_of (ty.Rec (map type_of_field fields)) (form.Record (m
 -- ---- queries: what comes after a call
 
 -- what its items represent, and the form that gives them
-pub record Stage : Type 0 where
+pub record PipelineForm : Type 0 where
   pub pattern : Pattern
   pub form : Form
 
-abbrev pub stage_of : Pattern → Form → Stage
-stage_of p f = record { pattern = p; form = f }
+abbrev pub pipeline_of : Pattern → Form → PipelineForm
+pipeline_of p f = record { pattern = p; form = f }
 
 -- the type of the items after all calls is any but that of null, and their sequence's one that an expression may have
-abbrev pub items_of_stage : Stage → Option Tree
-items_of_stage stage =
+abbrev pub items_of_pipeline : PipelineForm → Option Tree
+items_of_pipeline stage =
     let t = pattern_type stage.pattern in
     when (has_place (out-Ty t)) (when (is_within (ty.Seq t)) (Some (tree_of t stage.form)))
 
@@ -328,37 +328,37 @@ module _ (schemas : List Schema) where
     if_fresh places p n found = when (is_fresh (names_of_places schemas (with_item places p)) n) found
 
     -- what a call that pairs items makes of a pair, whose parts are in two slots
-    abbrev pub paired_stage : Places → Pattern → List ℕ → Ty → Paired X → Option Stage
-    paired_stage places p n t paired.Pair = Some (stage_of (of.With p n t) (form.Pair (form.Slot places.depth) (form.Slot (places.depth + 1))))
+    abbrev pub paired_stage : Places → Pattern → List ℕ → Ty → Paired X → Option PipelineForm
+    paired_stage places p n t paired.Pair = Some (pipeline_of (of.With p n t) (form.Pair (form.Slot places.depth) (form.Slot (places.depth + 1))))
     paired_stage places p n t (paired.Value v) =
-        option_map (λ found. stage_of (unnamed found.ty) found.form) (option_and_then placed_tree (tree v (with_name (with_item places p) n t)))
+        option_map (λ found. pipeline_of (unnamed found.ty) found.form) (option_and_then placed_tree (tree v (with_name (with_item places p) n t)))
 
     -- `Where`
-    abbrev pub where_stage : Places → X → Stage → Option Stage
+    abbrev pub where_stage : Places → X → PipelineForm → Option PipelineForm
     where_stage places c stage =
-        option_map (λ found. stage_of stage.pattern (form.Where stage.form found.form))
+        option_map (λ found. pipeline_of stage.pattern (form.Where stage.form found.form))
         (option_and_then condition_tree (tree c (with_item places stage.pattern)))
 
     -- `Select`
-    abbrev pub select_stage : Places → X → Stage → Option Stage
+    abbrev pub select_stage : Places → X → PipelineForm → Option PipelineForm
     select_stage places v stage =
-        option_map (λ found. stage_of (unnamed found.ty) (form.Select stage.form found.form))
+        option_map (λ found. pipeline_of (unnamed found.ty) (form.Select stage.form found.form))
         (option_and_then placed_tree (tree v (with_item places stage.pattern)))
 
     -- `Select` of each item beside one more name's value
-    abbrev pub let_stage : Places → List ℕ → X → Stage → Option Stage
+    abbrev pub let_stage : Places → List ℕ → X → PipelineForm → Option PipelineForm
     let_stage places n f stage =
         option_map
-        (λ found. stage_of (of.With stage.pattern n found.ty)
+        (λ found. pipeline_of (of.With stage.pattern n found.ty)
         (form.Select stage.form (form.Pair (form.Slot places.depth) found.form)))
         (if_fresh places stage.pattern n (option_and_then placed_tree (tree f (with_item places stage.pattern))))
 
     -- `SelectMany`
-    abbrev pub expanded_stage : Places → List ℕ → Paired X → Stage → Tree → Option Stage
+    abbrev pub expanded_stage : Places → List ℕ → Paired X → PipelineForm → Tree → Option PipelineForm
     expanded_stage places n result stage inner =
-        option_map (λ made. stage_of made.pattern (form.SelectMany stage.form inner.form made.form)) (paired_stage places stage.pattern n inner.ty result)
+        option_map (λ made. pipeline_of made.pattern (form.SelectMany stage.form inner.form made.form)) (paired_stage places stage.pattern n inner.ty result)
 
-    abbrev pub select_many_stage : Places → List ℕ → X → Paired X → Stage → Option Stage
+    abbrev pub select_many_stage : Places → List ℕ → X → Paired X → PipelineForm → Option PipelineForm
     select_many_stage places n f result stage =
         option_and_then (expanded_stage places n result stage) (if_fresh places stage.pattern n (source_tree f (with_item places stage.pattern)))
 
@@ -379,19 +379,19 @@ module _ (schemas : List Schema) where
     joined_form source inner keys grouped result =
         form.Join source (record { inner = inner; outer_key = keys.0; inner_key = keys.1; grouped = grouped; result = result })
 
-    abbrev pub joined_stage : Places → Join X → Paired X → Stage → Form → Form × Form → Ty → Option Stage
+    abbrev pub joined_stage : Places → Join X → Paired X → PipelineForm → Form → Form × Form → Ty → Option PipelineForm
     joined_stage places j result stage inner keys t =
-        option_map (λ made. stage_of made.pattern (joined_form stage.form inner keys (is_some j.into) made.form))
+        option_map (λ made. pipeline_of made.pattern (joined_form stage.form inner keys (is_some j.into) made.form))
         (paired_stage places stage.pattern (joined_name j) t result)
 
-    abbrev pub matched_stage : Places → Join X → Paired X → Stage → Tree → Form × Form → Option Stage
+    abbrev pub matched_stage : Places → Join X → Paired X → PipelineForm → Tree → Form × Form → Option PipelineForm
     matched_stage places j result stage inner keys =
         option_and_then (joined_stage places j result stage inner.form keys) (matched_type places stage.pattern j.into inner.ty)
 
-    abbrev pub inner_stage : Places → Join X → Paired X → Stage → Tree → Option Stage
+    abbrev pub inner_stage : Places → Join X → Paired X → PipelineForm → Tree → Option PipelineForm
     inner_stage places j result stage inner = option_and_then (matched_stage places j result stage inner) (join_keys places stage.pattern j inner.ty)
 
-    abbrev pub join_stage : Places → Join X → Paired X → Stage → Option Stage
+    abbrev pub join_stage : Places → Join X → Paired X → PipelineForm → Option PipelineForm
     join_stage places j result stage = option_and_then (inner_stage places j result stage) (if_fresh places stage.pattern j.name (source_tree j.source places))
 
     -- `OrderBy`
@@ -399,26 +399,26 @@ module _ (schemas : List Schema) where
     key_tree places k =
         option_map (λ found. record { value = found.form; descending = k.descending }) (option_and_then sortable_tree (tree k.value places))
 
-    abbrev pub order_stage : Places → List (SortKey X) → Stage → Option Stage
+    abbrev pub order_stage : Places → List (SortKey X) → PipelineForm → Option PipelineForm
     order_stage places ks stage =
-        option_map (λ keys. stage_of stage.pattern (form.OrderBy stage.form keys)) (gathered (key_tree (with_item places stage.pattern)) ks)
+        option_map (λ keys. pipeline_of stage.pattern (form.OrderBy stage.form keys)) (gathered (key_tree (with_item places stage.pattern)) ks)
 
     -- `GroupBy`, whose elements are the items where there is no other
     abbrev pub element_tree : Places → Pattern → Option X → Option Tree
     element_tree places p None = Some (tree_of (pattern_type p) (form.Slot places.depth))
     element_tree places p (Some v) = tree v (with_item places p)
 
-    abbrev pub grouped_stage : Places → Option X → Stage → Tree → Option Stage
+    abbrev pub grouped_stage : Places → Option X → PipelineForm → Tree → Option PipelineForm
     grouped_stage places element stage key =
-        option_map (λ found. stage_of (unnamed (ty.Group key.ty found.ty)) (form.GroupBy stage.form key.form found.form))
+        option_map (λ found. pipeline_of (unnamed (ty.Group key.ty found.ty)) (form.GroupBy stage.form key.form found.form))
         (option_and_then placed_tree (element_tree places stage.pattern element))
 
-    abbrev pub group_stage : Places → X → Option X → Stage → Option Stage
+    abbrev pub group_stage : Places → X → Option X → PipelineForm → Option PipelineForm
     group_stage places key element stage =
         option_and_then (grouped_stage places element stage) (option_and_then keyed_tree (tree key (with_item places stage.pattern)))
 
     -- what comes after a call
-    abbrev pub operator_stage : Places → Operator X → Stage → Option Stage
+    abbrev pub operator_stage : Places → Operator X → PipelineForm → Option PipelineForm
     operator_stage places (operator.Where c) stage = where_stage places c stage
     operator_stage places (operator.Select v) stage = select_stage places v stage
     operator_stage places (operator.Let n f) stage = let_stage places n f stage
@@ -431,7 +431,7 @@ module _ (schemas : List Schema) where
     abbrev pub body_tree : Places → List ℕ → List (Operator X) → Tree → Option Tree
     body_tree places n ops items =
         when (is_fresh (names_of_places schemas places) n)
-        (option_and_then items_of_stage (walked (operator_stage places) (stage_of (One n items.ty) items.form) ops))
+        (option_and_then items_of_pipeline (walked (operator_stage places) (pipeline_of (One n items.ty) items.form) ops))
 
     abbrev pub part_tree : Places → Part X → Tree → Option Tree
     part_tree places part items = body_tree places part.name part.operators items

@@ -3,7 +3,7 @@ ghost use Rattle.std.specs.Prelude.{◌≡◌, ◌&&◌, IfOk, None, Some, optio
 ghost use Rattle.lq_value.specs.declared.ty.Ty.{out-Ty};
 ghost use Rattle.lq_value.specs.declared.ty.Ty.TheVariants as ty;
 ghost use Rattle.lq_language.specs.Types.{are_join_keys, are_widened, when};
-ghost use Rattle.lq_language.specs.OperandTypes.{are_comparable, are_joined, chosen, coalesced, is_equality, is_ordering, joined_type, number_type, operated_type, result_type};
+ghost use Rattle.lq_language.specs.OperandTypes.{are_comparable, are_joined, choice_type_of_layers, coalesced, is_equality, is_ordering, joined_type, number_type, operated_type, result_type};
 ghost use Rattle.lq_language.specs.Typing.{are_null_tests, given_type, if_int, if_same, if_same_keys, simple_type, through_type, type_of_choice, type_of_operation};
 
 use crate::types::{
