@@ -13,7 +13,7 @@ pub enum Input {
     Line(String),
     /// A line of more bytes.
     TooLong,
-    /// A line that is no UTF-8.
+    /// A line that is not UTF-8.
     NoText,
     /// A line for which there was no memory.
     NoMemory,
