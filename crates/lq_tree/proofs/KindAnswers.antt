@@ -1,5 +1,5 @@
 -- What definitions give for operands of the kind that they work on.
-use Rattle.std.proofs.Common.{◌≡◌, ◌↔◌, ◌∷◌, ◌&&◌, ◌||◌, ◌⊎◌, inl, inr, List, [], map, ℕ, ℤ, zero, suc, Bool, true, false, Some, Ok, Err, if◌then◌else◌, ap, ap₂, ◌∙◌, sym, refl, subst, true≢false, bytes_eq, slice_get}
+use Rattle.std.proofs.Common.{◌≡◌, ◌↔◌, ◌∷◌, ◌++◌, ◌&&◌, ◌||◌, ◌⊎◌, inl, inr, List, [], map, ℕ, ℤ, zero, suc, Bool, true, false, Some, Ok, Err, if◌then◌else◌, ap, ap₂, ◌∙◌, sym, refl, subst, true≢false, bytes_eq, slice_get}
 use Rattle.std.specs.Bool.{beq}
 use Rattle.std.specs.Cmp.Lexicographic.{pointwise}
 use Rattle.std.specs.List.{cons_option}
@@ -26,14 +26,20 @@ use Rattle.lq_language.specs.Typing.{has_default, is_int}
 use Rattle.lq_language.specs.OperandTypes.{is_number as is_number_type}
 use Rattle.lq_language.specs.ValuesOfTypes.{Every}
 use Rattle.lq_language.specs.Worlds.{World}
+use Rattle.lq_language.specs.declared.methods.Given.{Given}
+use Rattle.lq_language.specs.declared.methods.Given.TheVariants as given
+use Rattle.lq_language.specs.declared.methods.Simple.{Simple}
+use Rattle.lq_language.specs.declared.methods.Simple.TheVariants as simple
 use Rattle.lq_language.specs.declared.operation.Op.TheVariants as op
 use Rattle.lq_grammar.specs.declared.syntax.SortKey.{SortKey}
-use Rattle.lq_tree.specs.FormMeaning.{form_meaning, is_null_value}
+use Rattle.lq_tree.specs.FormMeaning.{Slots, form_meaning, is_null_value}
 use Rattle.lq_tree.specs.KindLaws as law
 use Rattle.lq_tree.specs.KindLaws.{AreSame, Compares, EnumeratedAs, HaveSameContent, IsDefault, IsOfNoNumber, Keys, Members, ReadAs, Sameness, StandAs}
 use Rattle.lq_tree.specs.OperandKinds as kind
-use Rattle.lq_tree.specs.declared.tree.Form.{Form}
-use Rattle.lq_tree.specs.OperandKinds.{IsEnumerable, IsPair, IsScalarThat, MayBeSame, is_number, is_text, is_truth, takes_one, takes_two}
+use Rattle.lq_tree.specs.declared.tree.Form.{Form, out-Form}
+use Rattle.lq_tree.specs.declared.tree.Form.TheOpen.{Form-F}
+use Rattle.lq_tree.specs.declared.tree.Form.TheVariants as form
+use Rattle.lq_tree.specs.OperandKinds.{Among, Finds, IsEnumerable, IsPair, IsScalarThat, MayBeSame, MeetsKinds, Run, Runs, RunsFields, RunsKeys, items_in, is_number, is_text, is_truth, takes_one, takes_two}
 use Rattle.lq_value.proofs.SamenessLaws.{record_record, same_at, scalar_scalar}
 
 -- ---- operators
@@ -296,3 +302,106 @@ null_is_null R world v = (
   λ h. sym (roll-out-Value R v) ∙ ap (roll-Value R) (null_of_layer world (out-Value R v) h) ∙ rolls-Scalar scalar.Null,
   λ is. ap (is_null_value world) (ap (out-Value R) is ∙ outs-Scalar scalar.Null),
 )
+
+-- ---- what a form is run on
+
+module _ {R : Type 0} (world : World R) where
+  enumerates : (a : Form) (slots : Slots R) → Finds world a slots IsEnumerable → law.IsEnumerated world a slots
+  enumerates a slots kinds v is = enumerated world v (kinds v is)
+
+  all_compared : (vs : List (Value R)) → ((v w : Value R) → Among world vs v → Among world vs w → MayBeSame v w) → law.AreAllCompared world vs
+  all_compared vs may v w here there = same_keys (may v w here there)
+
+  read_by : (method : Simple) (vs : List (Value R)) → ((v : Value R) → Among world vs v → kind.Takes method v)
+      → ((v w : Value R) → Among world vs v → Among world vs w → kind.TakesTwo method v w) → law.IsReadBy world method vs
+  read_by simple.Distinct vs each two = all_compared vs two
+  read_by simple.Sum vs each two = read vs (λ i v there. each v (i, there))
+  read_by simple.Min vs each two = read vs (λ i v there. each v (i, there))
+  read_by simple.Max vs each two = read vs (λ i v there. each v (i, there))
+  read_by method vs each two = tt
+
+  answered : (method : Simple) (t : Ty) → kind.suits method (out-Ty t) ≡ true → law.IsAnswered world method t
+  answered simple.DefaultIfEmpty t suited = default_there (out-Ty t) suited
+  answered simple.FirstOrDefault t suited = default_there (out-Ty t) suited
+  answered simple.SingleOrDefault t suited = default_there (out-Ty t) suited
+  answered simple.Min t suited = none_there (out-Ty t) suited
+  answered simple.Max t suited = none_there (out-Ty t) suited
+  answered method t suited = tt
+
+  argument : (method : Given) (vs : List (Value R)) (w : Value R) → kind.TakesArgument method w
+      → ((v : Value R) → Among world vs v → kind.TakesBeside method w v) → law.IsArgument world method vs w
+  argument given.Concat vs w takes beside = enumerated world w takes
+  argument given.Union vs w takes beside = enumerated world w takes
+  argument given.Intersect vs w takes beside = enumerated world w takes
+  argument given.Except vs w takes beside = enumerated world w takes
+  argument given.Contains vs w takes beside = λ v there. same_keys (beside v there)
+  argument method vs w takes beside = tt
+
+  items_are : (method : Given) (vs : List (Value R)) → ((v w : Value R) → Among world vs v → Among world vs w → kind.TakesTwoItems method v w)
+      → law.AreItems world method vs
+  items_are given.Union vs two = all_compared vs two
+  items_are given.Intersect vs two = all_compared vs two
+  items_are given.Except vs two = all_compared vs two
+  items_are method vs two = tt
+
+  abbrev RunOn : Run R → Type 0
+  RunOn (Runs f slots) = law.IsRunOnKinds world slots (out-Form f)
+  RunOn (RunsFields fields slots) = Unit {0}
+  RunOn (RunsKeys ks slots) = Unit {0}
+
+  at_layer : (slots : Slots R) (own layer : Form-F Form) → own ≡ layer → law.IsRunOnKinds world slots layer → law.IsRunOnKinds world slots own
+  at_layer slots own layer is h = subst (law.IsRunOnKinds world slots) (sym is) h
+
+  runs_on : {r : Run R} → MeetsKinds world r → RunOn r
+  runs_on (kind.at_literal c slots) = at_layer slots _ _ (form.outs-Literal c) tt
+  runs_on (kind.at_slot n slots v there) = at_layer slots _ _ (form.outs-Slot n) tt
+  runs_on (kind.at_table n slots rows there) = at_layer slots _ _ (form.outs-Table n) tt
+  runs_on (kind.at_first a slots h kinds) = at_layer slots _ _ (form.outs-First a) (λ v is. pairs_have_parts R v (kinds v is))
+  runs_on (kind.at_second a slots h kinds) = at_layer slots _ _ (form.outs-Second a) (λ v is. pairs_have_parts R v (kinds v is))
+  runs_on (kind.at_column a n c slots h kinds) = at_layer slots _ _ (form.outs-Column a n c) tt
+  runs_on (kind.at_member a place slots h kinds) = at_layer slots _ _ (form.outs-Member a place) tt
+  runs_on (kind.at_key a slots h kinds) = at_layer slots _ _ (form.outs-Key a) tt
+  runs_on (kind.at_one o a slots h kinds) =
+      at_layer slots _ _ (form.outs-Unary o a) (λ v is. let found = kinds v is in (found.0, found.1, (takes_one_alike o found.0).0 found.2))
+  runs_on (kind.at_two o a b slots h k kinds scalars) =
+      at_layer slots _ _ (form.outs-Binary o a b)
+      (λ v v_is w w_is. let found = kinds v v_is w w_is in (found.0, found.1, found.2, found.3, (takes_two_alike o found.0 found.1).0 found.4))
+  runs_on (kind.at_and a b slots h k truths others) = at_layer slots _ _ (form.outs-And a b) tt
+  runs_on (kind.at_or a b slots h k truths others) = at_layer slots _ _ (form.outs-Or a b) tt
+  runs_on (kind.at_default a b slots h k scalars others) = at_layer slots _ _ (form.outs-Coalesce a b) tt
+  runs_on (kind.at_choice c a b slots h k l truths) = at_layer slots _ _ (form.outs-Conditional c a b) tt
+  runs_on (kind.at_null_test wanted a slots h kinds) = at_layer slots _ _ (form.outs-IsNull wanted a) tt
+  runs_on (kind.at_record fields slots h) = at_layer slots _ _ (form.outs-Record fields) tt
+  runs_on (kind.no_field slots) = tt
+  runs_on (kind.one_field field fields slots h k) = tt
+  runs_on (kind.at_pair a b slots h k) = at_layer slots _ _ (form.outs-Pair a b) tt
+  runs_on (kind.at_sequence a slots h kinds) = at_layer slots _ _ (form.outs-Sequence a) (enumerates a slots kinds)
+  runs_on (kind.at_simple method t a slots h kinds each suited two) =
+      at_layer slots _ _ (form.outs-Simple method t a)
+      (enumerates a slots kinds, read_by method (items_in world a slots) each two, answered method t suited)
+  runs_on (kind.at_given method a b slots h kinds each k takes others beside two) =
+      at_layer slots _ _ (form.outs-Given method a b) (
+        enumerates a slots kinds,
+        λ w is. argument method (items_in world a slots) w (takes w is) (beside w is),
+        items_are method (items_in world a slots ++ items_in world b slots) two,
+      )
+  runs_on (kind.at_where a f slots h kinds bodies truths) = at_layer slots _ _ (form.outs-Where a f) (enumerates a slots kinds)
+  runs_on (kind.at_select a f slots h kinds bodies) = at_layer slots _ _ (form.outs-Select a f) (enumerates a slots kinds)
+  runs_on (kind.at_all a f slots h kinds bodies truths) = at_layer slots _ _ (form.outs-All a f) (enumerates a slots kinds)
+  runs_on (kind.at_expansion a inner result slots h kinds bodies inner_kinds results) =
+      at_layer slots _ _ (form.outs-SelectMany a inner result)
+      (enumerates a slots kinds, λ v there. enumerates inner (slots ++ v ∷ []) (inner_kinds v there))
+  runs_on (kind.at_join a j slots h kinds k inner_kinds outer outer_keys inner inner_keys results may) =
+      at_layer slots _ _ (form.outs-Join a j)
+      (enumerates a slots kinds, enumerates j.inner slots inner_kinds, λ v w here there k k_is l l_is. same_keys (may v w here there k k_is l l_is))
+  runs_on (kind.at_order a ks slots h kinds keys alike) =
+      at_layer slots _ _ (form.outs-OrderBy a ks)
+      (enumerates a slots kinds, λ v w here there. sorts_one_kind R world ks (slots ++ v ∷ []) (slots ++ w ∷ []) (alike v w here there))
+  runs_on (kind.no_key slots) = tt
+  runs_on (kind.one_key k ks slots h scalars others) = tt
+  runs_on (kind.at_grouping a key element slots h kinds keys key_kinds elements may) =
+      at_layer slots _ _ (form.outs-GroupBy a key element)
+      (enumerates a slots kinds, λ v w here there k k_is l l_is. same_keys (may v w here there k k_is l l_is))
+
+pub runs_on_kinds : (R : Type 0) → law.RunsOnKinds R
+runs_on_kinds R world f slots meets = runs_on world meets

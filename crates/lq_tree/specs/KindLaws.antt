@@ -1,6 +1,6 @@
 -- Laws of operands that are of the kind asked of them (`OperandKinds`): what each definition gives that answers for any operand, without
 -- asking what kind it is of. Each relation has the cases of the kind alone, so that no operand of the kind meets the answer for another one.
-use Rattle.std.specs.Prelude.{◌≡◌, ◌↔◌, ◌∷◌, ◌&&◌, List, [], ℕ, ℤ, pos, Bool, true, false, Result, Ok, Err}
+use Rattle.std.specs.Prelude.{◌≡◌, ◌↔◌, ◌∷◌, ◌++◌, ◌&&◌, List, [], ℕ, ℤ, pos, Bool, true, false, Result, Ok, Err}
 use Rattle.std.specs.Bool.{beq}
 use Rattle.std.specs.Cmp.Lexicographic.{slice_cmp}
 use Rattle.std.specs.Ordering.{bool_cmp, int_cmp, int_eq, nat_cmp}
@@ -26,14 +26,18 @@ use Rattle.lq_language.specs.Operators.{first, pair, second}
 use Rattle.lq_language.specs.Stream.{Stream}
 use Rattle.lq_language.specs.ValuesOfTypes.{Every}
 use Rattle.lq_language.specs.Worlds.{World}
+use Rattle.lq_language.specs.declared.methods.Given.{Given}
+use Rattle.lq_language.specs.declared.methods.Given.TheVariants as given
+use Rattle.lq_language.specs.declared.methods.Simple.{Simple}
 use Rattle.lq_language.specs.declared.methods.Simple.TheVariants as simple
 use Rattle.lq_language.specs.declared.operation.Op.{Op}
 use Rattle.lq_language.specs.declared.operation.Op.TheVariants as op
 use Rattle.lq_grammar.specs.declared.syntax.SortKey.{SortKey}
 use Rattle.lq_tree.specs.FormMeaning.{Slots, form_meaning, is_null_value}
-use Rattle.lq_tree.specs.OperandKinds.{IsEnumerable, IsPair, MayBeSame, SortAlike, suits, takes_one, takes_two}
+use Rattle.lq_tree.specs.OperandKinds.{Among, Finds, IsEnumerable, IsPair, MayBeSame, MeetsKinds, Runs, SortAlike, items_in, suits, takes_one, takes_two}
 use Rattle.lq_tree.specs.OperandKinds as kind
-use Rattle.lq_tree.specs.declared.tree.Form.{Form}
+use Rattle.lq_tree.specs.declared.tree.Form.{Form, out-Form}
+use Rattle.lq_tree.specs.declared.tree.Form.TheOpen.{Form-F}
 
 -- ---- operators
 
@@ -130,6 +134,86 @@ pub data IsOfNoNumber : Ty-F Ty → Result Scalar Fault → Type 0 where
   none_of_int : IsOfNoNumber Ty-F.Int (Err fault.InvalidOperation)
   none_of_nullable : IsOfNoNumber Ty-F.IntN (Ok scalar.Null)
 
+-- ---- what a form is run on
+
+module _ {R : Type 0} (world : World R) where
+  -- a form is enumerated as its own items
+  abbrev pub IsEnumerated : Form → Slots R → Type 0
+  IsEnumerated a slots = Finds world a slots (λ v. EnumeratedAs v (items_of world (out-Value R v)))
+
+  -- the keys of a sort give two scalars each that stand in an order
+  abbrev pub KeysStand : List (SortKey Form) → Slots R → Slots R → Type 0
+  KeysStand ks slots others =
+      Every (λ k. (v w : Value R) → form_meaning world k.value slots ≡ Ok v → form_meaning world k.value others ≡ Ok w
+      → (x : Scalar) × (y : Scalar) × (v ≡ value.Scalar x) × (w ≡ value.Scalar y) × StandAs x y (order_of x y)) ks
+
+  -- two keys are compared, and any two of some
+  abbrev pub AreCompared : Value R → Value R → Type 0
+  AreCompared v w = AreSame (Keys v w (same_values v w))
+
+  abbrev pub AreAllCompared : List (Value R) → Type 0
+  AreAllCompared vs = (v w : Value R) → Among world vs v → Among world vs w → AreCompared v w
+
+  -- what a method reads of its items, and what it answers of none
+  abbrev pub IsReadBy : Simple → List (Value R) → Type 0
+  IsReadBy simple.Distinct vs = AreAllCompared vs
+  IsReadBy simple.Sum vs = ReadAs vs (numbers vs)
+  IsReadBy simple.Min vs = ReadAs vs (numbers vs)
+  IsReadBy simple.Max vs = ReadAs vs (numbers vs)
+  IsReadBy method vs = Unit {0}
+
+  abbrev pub IsAnswered : Simple → Ty → Type 0
+  IsAnswered simple.DefaultIfEmpty t = IsDefault {R = R} (out-Ty t) (default_of t)
+  IsAnswered simple.FirstOrDefault t = IsDefault {R = R} (out-Ty t) (default_of t)
+  IsAnswered simple.SingleOrDefault t = IsDefault {R = R} (out-Ty t) (default_of t)
+  IsAnswered simple.Min t = IsOfNoNumber (out-Ty t) (no_number t)
+  IsAnswered simple.Max t = IsOfNoNumber (out-Ty t) (no_number t)
+  IsAnswered method t = Unit {0}
+
+  -- what a method with an argument reads of it, and of the items of both
+  abbrev pub IsArgument : Given → List (Value R) → Value R → Type 0
+  IsArgument given.Concat vs w = EnumeratedAs w (items_of world (out-Value R w))
+  IsArgument given.Union vs w = EnumeratedAs w (items_of world (out-Value R w))
+  IsArgument given.Intersect vs w = EnumeratedAs w (items_of world (out-Value R w))
+  IsArgument given.Except vs w = EnumeratedAs w (items_of world (out-Value R w))
+  IsArgument given.Contains vs w = (v : Value R) → Among world vs v → AreCompared w v
+  IsArgument method vs w = Unit {0}
+
+  abbrev pub AreItems : Given → List (Value R) → Type 0
+  AreItems given.Union vs = AreAllCompared vs
+  AreItems given.Intersect vs = AreAllCompared vs
+  AreItems given.Except vs = AreAllCompared vs
+  AreItems method vs = Unit {0}
+
+  -- Each operand whose kind the meaning of a form doesn't ask for is one of the cases above.
+  abbrev pub IsRunOnKinds : Slots R → Form-F Form → Type 0
+  IsRunOnKinds slots (Form-F.First a) = Finds world a slots (λ v. v ≡ pair (first v) (second v))
+  IsRunOnKinds slots (Form-F.Second a) = Finds world a slots (λ v. v ≡ pair (first v) (second v))
+  IsRunOnKinds slots (Form-F.Unary o a) = Finds world a slots (λ v. (x : Scalar) × (v ≡ value.Scalar x) × Takes o (x ∷ []))
+  IsRunOnKinds slots (Form-F.Binary o a b) =
+      Finds world a slots (λ v. Finds world b slots (λ w. (x : Scalar) × (y : Scalar) × (v ≡ value.Scalar x) × (w ≡ value.Scalar y) × Takes o (x ∷ y ∷ [])))
+  IsRunOnKinds slots (Form-F.Sequence a) = IsEnumerated a slots
+  IsRunOnKinds slots (Form-F.Simple method t a) = IsEnumerated a slots × IsReadBy method (items_in world a slots) × IsAnswered method t
+  IsRunOnKinds slots (Form-F.Given method a b) =
+      IsEnumerated a slots × Finds world b slots (IsArgument method (items_in world a slots)) × AreItems method (items_in world a slots ++ items_in world b slots)
+  IsRunOnKinds slots (Form-F.Where a f) = IsEnumerated a slots
+  IsRunOnKinds slots (Form-F.Select a f) = IsEnumerated a slots
+  IsRunOnKinds slots (Form-F.All a f) = IsEnumerated a slots
+  IsRunOnKinds slots (Form-F.SelectMany a inner result) =
+      IsEnumerated a slots × ((v : Value R) → Among world (items_in world a slots) v → IsEnumerated inner (slots ++ v ∷ []))
+  IsRunOnKinds slots (Form-F.Join a j) =
+      IsEnumerated a slots × IsEnumerated j.inner slots
+      × ((v w : Value R) → Among world (items_in world a slots) v → Among world (items_in world j.inner slots) w
+      → Finds world j.outer_key (slots ++ v ∷ []) (λ k. Finds world j.inner_key (slots ++ w ∷ []) (AreCompared k)))
+  IsRunOnKinds slots (Form-F.OrderBy a ks) =
+      IsEnumerated a slots
+      × ((v w : Value R) → Among world (items_in world a slots) v → Among world (items_in world a slots) w → KeysStand ks (slots ++ v ∷ []) (slots ++ w ∷ []))
+  IsRunOnKinds slots (Form-F.GroupBy a key element) =
+      IsEnumerated a slots
+      × ((v w : Value R) → Among world (items_in world a slots) v → Among world (items_in world a slots) w
+      → Finds world key (slots ++ v ∷ []) (λ k. Finds world key (slots ++ w ∷ []) (AreCompared k)))
+  IsRunOnKinds slots layer = Unit {0}
+
 -- ---- the laws
 
 -- a pair is that of its first part and its second
@@ -140,12 +224,10 @@ PairsHaveParts R = (v : Value R) → IsPair v → v ≡ pair (first v) (second v
 abbrev pub KeysAreSame : Type 0 → Type 0
 KeysAreSame R = (v w : Value R) → MayBeSame v w → AreSame (Keys v w (same_values v w))
 
--- what a sort compares by each of its keys are two scalars that stand as one of these
+-- what a sort compares by each of its keys are two scalars that stand so
 abbrev pub SortsOneKind : Type 0 → Type 0
 SortsOneKind R =
-    (world : World R) (ks : List (SortKey Form)) (slots others : Slots R) → SortAlike world ks slots others
-    → Every (λ k. (v w : Value R) → form_meaning world k.value slots ≡ Ok v → form_meaning world k.value others ≡ Ok w
-    → (x : Scalar) × (y : Scalar) × (v ≡ value.Scalar x) × (w ≡ value.Scalar y) × StandAs x y (order_of x y)) ks
+    (world : World R) (ks : List (SortKey Form)) (slots others : Slots R) → SortAlike world ks slots others → KeysStand world ks slots others
 
 -- of items that Sum, Min or Max takes all numbers are read
 abbrev pub NumbersAreRead : Type 0 → Type 0
@@ -173,3 +255,7 @@ NoNumbersAreThere =
 -- null alone is null
 abbrev pub NullIsNull : Type 0 → Type 0
 NullIsNull R = (world : World R) (v : Value R) → (is_null_value world (out-Value R v) ≡ true) ↔ (v ≡ value.Scalar scalar.Null)
+
+-- so it is wherever a form is run on operands that are of their kinds
+abbrev pub RunsOnKinds : Type 0 → Type 0
+RunsOnKinds R = (world : World R) (f : Form) (slots : Slots R) → MeetsKinds world (Runs f slots) → IsRunOnKinds world slots (out-Form f)

@@ -1,7 +1,7 @@
 //! Laws of typed forms. Each function's contract is the law that it is named for; the functions
 //! themselves do nothing.
 ghost use Rattle.lq_tree.specs.KindLaws.{DefaultsAreThere, EqualsOneKind, ItemsAreEnumerated, KeysAreSame, NoNumbersAreThere};
-ghost use Rattle.lq_tree.specs.KindLaws.{NullIsNull, NumbersAreRead, OrdersNumbers, PairsHaveParts, SortsOneKind, TakesOneAlike, TakesTwoAlike};
+ghost use Rattle.lq_tree.specs.KindLaws.{NullIsNull, NumbersAreRead, OrdersNumbers, PairsHaveParts, RunsOnKinds, SortsOneKind, TakesOneAlike, TakesTwoAlike};
 ghost use Rattle.lq_tree.specs.TypedFormLaws.{KeepsItems, KeepsShapes, KindsSuffice, MeetsOperands, PlacesAreTyped};
 ghost use Rattle.lq_tree.specs.TypedFormLaws.{StatementsMeetOperands, TypedCalls, TypedExpressions, TypedStatements, TypedTrees};
 
@@ -43,7 +43,8 @@ pub fn kinds_suffice<R>()
 /// Operands of these kinds don't meet the answers either that stand for one of another kind and don't
 /// ask what is unknown: a pair is its two parts, two keys are the same by their contents or member by
 /// member, a sort compares two scalars of one kind, all numbers of items are read, what is enumerated
-/// has its own items, and a default is that of a type that has one. Null alone is null.
+/// has its own items, and a default is that of a type that has one. Null alone is null. So it is
+/// wherever a form is run on operands of their kinds.
 pub fn kinds_exclude_others<R>()
     ensures pairs { PairsHaveParts R }
     ensures keys { KeysAreSame R }
@@ -52,6 +53,7 @@ pub fn kinds_exclude_others<R>()
     ensures items { ItemsAreEnumerated R }
     ensures defaults { DefaultsAreThere R }
     ensures null { NullIsNull R }
+    ensures forms { RunsOnKinds R }
 {}
 
 /// The same of scalars: an operator works on the operands that the laws of operators say it takes; on

@@ -21,3 +21,6 @@ returns-clause-null g c = lemma.null_is_null g.row.R.Denot
 
 pub returns-clause-order : goal.returns-clause-order
 returns-clause-order g c = lemma.sorts_one_kind g.row.R.Denot
+
+pub returns-clause-forms : goal.returns-clause-forms
+returns-clause-forms g c = lemma.runs_on_kinds g.row.R.Denot
