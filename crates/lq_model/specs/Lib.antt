@@ -54,6 +54,8 @@ pub use Rattle.lq_machine.specs.Opening
 pub use Rattle.lq_machine.specs.OpeningLaws
 pub use Rattle.lq_machine.specs.Output
 pub use Rattle.lq_machine.specs.Served
+pub use Rattle.lq_machine.specs.ServedTypeLaws
+pub use Rattle.lq_machine.specs.ServedTypes
 pub use Rattle.lq_machine.specs.Serving
 pub use Rattle.lq_machine.specs.SessionLaws
 pub use Rattle.lq_machine.specs.SessionTypes
