@@ -168,7 +168,7 @@ module _ (unknown : Fault) where
   searched o a b = Err unknown
 
   abbrev pub truth : Result Bool Fault → Result Scalar Fault
-  truth text_matches = on_ok text_matches (λ b. Ok (scalar.Bool b))
+  truth answer = on_ok answer (λ b. Ok (scalar.Bool b))
 
   -- an operator or member of one operand, and of two
   abbrev pub of_one : Op → Scalar → Result Scalar Fault

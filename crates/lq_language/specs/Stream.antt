@@ -26,7 +26,7 @@ abbrev pub one : {A : Type 0} → Result A Fault → Stream A
 one (Ok x) = (x ∷ [], end.Done)
 one (Err f) = ([], end.Fault f)
 
--- an item that is item_where where its condition is true; a condition that faults ends the stream
+-- an item that is kept where its condition is true; a condition that faults ends the stream
 abbrev pub item_where : {A : Type 0} → Result Bool Fault → A → Stream A
 item_where (Ok b) x = if b then (x ∷ [], end.Done) else ([], end.Done)
 item_where (Err f) x = ([], end.Fault f)

@@ -104,7 +104,7 @@ module _ {A B : Type 0} (f : A → Stream B) where
   comes_ended old all made e is comes =
       ap (λ l. (l, e)) (sym (append-nil made)) ∙ ap (λ (s : Stream A). then_ending made end.Done (each f s.0 s.1)) (sym is) ∙ comes
 
--- the same of items that are item_where as they are
+-- the same of items that are kept as they are
 module _ {A : Type 0} where
   pub drained_on : (old new all : Stream A) (x : A) (made more : List A) → old ≡ in_front x new → more ≡ made ++ x ∷ []
       → then_ending made end.Done old ≡ all → then_ending more end.Done new ≡ all

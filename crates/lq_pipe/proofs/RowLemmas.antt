@@ -1,4 +1,4 @@
--- Rows that are item_where one by one where a condition is true on them.
+-- Rows that are kept one by one where a condition is true on them.
 use Rattle.std.proofs.Common.{◌≡◌, ◌∷◌, ◌++◌, ◌+◌, ◌<◌, ◌≤◌, List, [], ℕ, Bool, true, false, Some, Result, Ok, Err, IfSome, ap, sym, subst, append-nil, get_or, length}
 use Rattle.lq_value.specs.declared.scalar.Scalar.{Scalar}
 use Rattle.lq_value.specs.declared.value.End.TheVariants as end
@@ -19,7 +19,7 @@ module _ {A : Type 0} (holds : A → Result Bool Fault) (rows : List A) where
   abbrev all : Stream A
   all = where_by holds rows end.Done
 
-  -- the rows so far, with what is item_where of those that are left
+  -- the rows so far, with what is kept of those that are left
   abbrev pub Keeps : List A → ℕ → Type 0
   Keeps found i = Goes (λ y. item_where (holds y) y) rows end.Done all found i
 

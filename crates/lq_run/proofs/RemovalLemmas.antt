@@ -93,7 +93,7 @@ abbrev is_done : End → Bool
 is_done end.Done = true
 is_done (end.Fault f) = false
 
--- what is item_where of rows after others comes after what is item_where of these
+-- what is kept of rows after others comes after what is kept of these
 kept_behind : {A : Type 0} (holds : A → Result Bool Fault) (xs ys : List A) → where_by holds (xs ++ ys) end.Done ≡ then_stream (where_by holds xs end.Done) (where_by holds ys end.Done)
 kept_behind holds [] ys = refl
 kept_behind holds (x ∷ xs) ys =
