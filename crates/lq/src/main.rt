@@ -3,13 +3,13 @@
 #![tactic(auto)]
 
 use lq_options::{Options, options};
-use lq_platform::{Disk, NoFile, report_options, report_words, words};
+use lq_platform::{Disk, NoFile, report_memory, report_options, report_words, words};
 use lq_serve::{Device, finish, load, refuse};
 use lq_session::Session;
 use std::fs::File;
 use std::io::Read;
-use std::mem;
 use std::process::ExitCode;
+use std::{env, mem};
 
 /// Serves the script from where the options say it is.
 fn serve_script(rt: &HostRuntime, script: Option<&str>, session: &mut Session) -> u8 {
@@ -44,9 +44,12 @@ fn serve_options(rt: &HostRuntime, options: &Options) -> u8 {
 }
 
 fn status(rt: &HostRuntime) -> u8 {
-    let words = match words(rt) {
-        Ok(words) => words,
+    let args = match env::args(rt) {
+        Ok(args) => args,
         Err(error) => return report_words(rt, &error),
+    };
+    let Ok(words) = words(rt.alloc(), args) else {
+        return report_memory(rt);
     };
     match options(rt.alloc(), &words) {
         Ok(options) => serve_options(rt, &options),

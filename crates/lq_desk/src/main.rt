@@ -8,11 +8,11 @@ mod script;
 
 use conversation::converse;
 use lq_options::{Options, desk_options};
-use lq_platform::{Disk, report_options, report_words, words};
+use lq_platform::{Disk, report_memory, report_options, report_words, words};
 use lq_prompt::Desk;
 use lq_serve::{Device, load, refuse};
-use std::mem;
 use std::process::ExitCode;
+use std::{env, mem};
 
 /// Loads the tables and the policies, and answers lines. The desk isn't taken apart after that: the program ends, and the system
 /// takes its memory back at once.
@@ -29,9 +29,12 @@ fn serve_options(rt: &HostRuntime, options: &Options) -> u8 {
 }
 
 fn status(rt: &HostRuntime) -> u8 {
-    let words = match words(rt) {
-        Ok(words) => words,
+    let args = match env::args(rt) {
+        Ok(args) => args,
         Err(error) => return report_words(rt, &error),
+    };
+    let Ok(words) = words(rt.alloc(), args) else {
+        return report_memory(rt);
     };
     match desk_options(rt.alloc(), &words) {
         Ok(options) => serve_options(rt, &Options::from(options)),

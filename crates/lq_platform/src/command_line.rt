@@ -1,11 +1,13 @@
 //! The words of the command line, and the reports of what is wrong with them.
-ghost use Rattle.std.specs.Prelude.{◌≡◌, ◌≢◌};
+ghost use Rattle.std.specs.Prelude.{◌≡◌, ◌≢◌, IfOk};
 ghost use Rattle.std.specs.IoError.{error_kind};
+ghost use Rattle.std.specs.Vec.Iter.{into_iter_items};
 ghost use Rattle.std.specs.declared.io.ErrorKind.TheVariants as fault;
 ghost use Rattle.clap.specs.Values.{kind_of};
 ghost use Rattle.clap.specs.declared.error.ErrorKind.TheVariants as usage;
 
 use clap::error::ErrorKind;
+use std::alloc::{AllocError, Global};
 use std::io::Write;
 use std::{env, io};
 
@@ -18,14 +20,11 @@ const USAGE: u8 = 2;
 /// The status for want of memory.
 const NO_MEMORY: u8 = 5;
 
-/// The words of the command line, of which the first is the program's name. What they are is not promised: the standard library says
-/// nothing of those that it finds.
-pub fn words(rt: &HostRuntime) -> io::Result<Vec<String>> {
-    let mut words = Vec::new(rt.alloc());
-    for word in env::args(rt)? {
-        words.push(word)?;
-    }
-    Ok(words)
+/// The words of the command line, all those that were found there, in their order. The first is the program's name.
+pub fn words(alloc: Global, args: env::Args) -> Result<Vec<String>, AllocError>
+    ensures { IfOk result (λ words. words.items ≡ into_iter_items args) }
+{
+    args.collect(alloc)
 }
 
 /// Reports the want of memory, and answers the status for it. A failure to write is passed over: nobody is left to be told.
