@@ -10,15 +10,20 @@ use Rattle.lq_render.specs.declared.layout.Shape.{Shape}
 
 -- ---- replies of one member
 
+-- a reply that names what was defined, assigned or taken
+abbrev pub done_reply : List ℕ → List ℕ → Option (List ℕ)
+done_reply name text =
+    if bytes_eq name (codes "defined") then Some (defined_text text)
+    else if bytes_eq name (codes "assigned") then Some (assigned_text text)
+    else if bytes_eq name (codes "role") then Some (role_text text)
+    else None
+
 -- a reply whose member is a text
 abbrev pub word_reply : List ℕ → List ℕ → Option (List ℕ)
 word_reply name text =
     if bytes_eq name (codes "fault") then Some (fault_text text)
     else if bytes_eq name (codes "error") then Some (error_text text)
-    else if bytes_eq name (codes "defined") then Some (defined_text text)
-    else if bytes_eq name (codes "assigned") then Some (assigned_text text)
-    else if bytes_eq name (codes "role") then Some (role_text text)
-    else None
+    else done_reply name text
 
 -- a reply whose member is a count
 abbrev pub count_reply : List ℕ → ℕ → Option (List ℕ)

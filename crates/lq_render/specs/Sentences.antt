@@ -26,27 +26,36 @@ ending_text name = fault_sentence name ++ codes " (these are the items before it
 
 -- ---- refusals
 
+-- what to do next where what is asked for isn't there, or has no room
+abbrev pub advice_on_data : List ℕ → Option (List ℕ)
+advice_on_data word =
+    if bytes_eq word (codes "memory") then Some (codes "there was not enough memory, and nothing has changed; ask for less at once")
+    else if bytes_eq word (codes "role") then Some (codes "the policy file has no such role; try .roles")
+    else if bytes_eq word (codes "cell") then Some (codes "a value lies outside of its column's range; try .tables")
+    else if bytes_eq word (codes "full") then Some (codes "the table has used up its row numbers; it takes no more rows")
+    else None
+
 -- what to do next, of a refusal under this word; none of another word
 abbrev pub advice : List ℕ → Option (List ℕ)
 advice word =
     if bytes_eq word (codes "syntax") then Some (codes "this is not a statement; the statements are: run E; var N = E; N = E; as R; insert T (..); delete T x => p;")
     else if bytes_eq word (codes "type") then Some (codes "a name is unknown or already in use, a type doesn't fit, or the number of cells is wrong; try .tables and .names")
-    else if bytes_eq word (codes "role") then Some (codes "the policy file has no such role; try .roles")
-    else if bytes_eq word (codes "cell") then Some (codes "a value lies outside of its column's range; try .tables")
-    else if bytes_eq word (codes "full") then Some (codes "the table has used up its row numbers; it takes no more rows")
     else if bytes_eq word (codes "too-deep") then Some (codes "the statement is too long or too deeply nested; give parts of it a name with var")
-    else if bytes_eq word (codes "memory") then Some (codes "there was not enough memory, and nothing has changed; ask for less at once")
-    else None
+    else advice_on_data word
 
 abbrev pub error_text : List ℕ → List ℕ
 error_text word = codes "error: " ++ (unwrap_or (advice word) (escaped_text word) ++ codes "\n")
+
+-- a rule that has a name
+abbrev pub denied_by : List ℕ → List ℕ → List ℕ
+denied_by rule used = codes "denied by " ++ (escaped_text rule ++ (codes ": " ++ (escaped_text used ++ codes "\n")))
 
 -- the rule that denies a use, and the use
 abbrev pub denied_text : List ℕ → List ℕ → List ℕ
 denied_text rule used =
     if bytes_eq rule (codes "no-grant") then codes "denied: no grant covers " ++ (escaped_text used ++ codes "\n")
     else if bytes_eq rule (codes "default-deny") then codes "denied by default: no policy permits this row (" ++ (escaped_text used ++ codes ")\n")
-    else codes "denied by " ++ (escaped_text rule ++ (codes ": " ++ (escaped_text used ++ codes "\n")))
+    else denied_by rule used
 
 -- ---- what was done
 

@@ -4,7 +4,7 @@ ghost use Rattle.serde_json.specs.Find.{as_str};
 ghost use Rattle.serde_json.specs.Read.{read};
 ghost use Rattle.serde_json.specs.View.{members_view, view};
 ghost use Rattle.lq_render.specs.Parts.{all_items, items_in};
-ghost use Rattle.lq_render.specs.Replies.{count_reply, denial, front_of, items_and_fault, line_text, members_reply, pair_reply, plain_reply, sole_reply, text_of_reply, without_floats, word_reply};
+ghost use Rattle.lq_render.specs.Replies.{count_reply, denial, done_reply, front_of, items_and_fault, line_text, members_reply, pair_reply, plain_reply, sole_reply, text_of_reply, without_floats, word_reply};
 ghost use Rattle.lq_render.specs.Types.{schemas_of, shape_of};
 
 use crate::floats::has_float;
@@ -24,20 +24,30 @@ fn word_reply(alloc: Global, name: &str, text: &str) -> Result<Option<String>, A
     ensures { IfOk result (λ reply. option_map string_bytes reply
         ≡ word_reply name.now text.now) }
 {
-    let reply = if name == "fault" {
-        fault_text(alloc, text)?
-    } else if name == "error" {
-        error_text(alloc, text)?
-    } else if name == "defined" {
-        defined_text(alloc, text)?
-    } else if name == "assigned" {
-        assigned_text(alloc, text)?
-    } else if name == "role" {
-        role_text(alloc, text)?
-    } else {
-        return Ok(None);
-    };
-    Ok(Some(reply))
+    if name == "fault" {
+        return Ok(Some(fault_text(alloc, text)?));
+    }
+    if name == "error" {
+        return Ok(Some(error_text(alloc, text)?));
+    }
+    done_reply(alloc, name, text)
+}
+
+/// The text of a reply that names what was defined, assigned or taken; none of what is no such reply.
+fn done_reply(alloc: Global, name: &str, text: &str) -> Result<Option<String>, AllocError>
+    ensures { IfOk result (λ reply. option_map string_bytes reply
+        ≡ done_reply name.now text.now) }
+{
+    if name == "defined" {
+        return Ok(Some(defined_text(alloc, text)?));
+    }
+    if name == "assigned" {
+        return Ok(Some(assigned_text(alloc, text)?));
+    }
+    if name == "role" {
+        return Ok(Some(role_text(alloc, text)?));
+    }
+    Ok(None)
 }
 
 /// The text of a reply whose member is a count; none of what is no such reply.

@@ -1,10 +1,22 @@
 //! The sentences of replies without rows.
-ghost use Rattle.std.specs.Prelude.{◌≡◌, IfOk, option_map, string_bytes};
-ghost use Rattle.lq_render.specs.Sentences.{advice, assigned_text, defined_text, deleted_text, denied_text, ending_text, error_text, fault_sentence, fault_text, inserted_text, reason, role_text, rows_text};
+ghost use Rattle.std.specs.Prelude.{◌≡◌, ◌++◌, IfOk, option_map, string_bytes};
+ghost use Rattle.lq_render.specs.Cells.{escaped_text};
+ghost use Rattle.lq_render.specs.Sentences.{advice, advice_on_data, assigned_text, defined_text, deleted_text, denied_by, denied_text, ending_text, error_text, fault_sentence, fault_text, inserted_text, reason, role_text, rows_text};
 
-use crate::cells::escaped_text;
+use crate::cells::push_escaped;
 use crate::counts::push_count;
 use std::alloc::{AllocError, Global};
+
+/// A sentence with a name in it, whose control characters are escaped.
+fn sentence(alloc: Global, before: &str, name: &str, after: &str) -> Result<String, AllocError>
+    ensures { IfOk result (λ text. string_bytes text
+        ≡ before.now ++ (escaped_text name.now ++ after.now)) }
+{
+    let mut text = String::from_str(alloc, before)?;
+    push_escaped(alloc, &mut text, name)?;
+    text.push_str(after)?;
+    Ok(text)
+}
 
 /// What happened, of a fault of this name; empty of any other.
 fn reason(name: &str) -> &'static str
@@ -25,32 +37,27 @@ fn reason(name: &str) -> &'static str
     }
 }
 
-/// A fault, and what happened.
-fn fault_sentence(alloc: Global, name: &str) -> Result<String, AllocError>
-    ensures { IfOk result (λ text. string_bytes text ≡ fault_sentence name.now) }
+/// A fault, what happened, and what is said behind that.
+fn fault_line(alloc: Global, name: &str, end: &str) -> Result<String, AllocError>
+    ensures { IfOk result (λ text. string_bytes text ≡ fault_sentence name.now ++ end.now) }
 {
-    let reason = reason(name);
-    let name = escaped_text(alloc, name)?;
-    let name = name.as_str();
-    format!(in alloc; "fault: {name}{reason}")
+    let mut text = sentence(alloc, "fault: ", name, reason(name))?;
+    text.push_str(end)?;
+    Ok(text)
 }
 
 /// The line of a fault.
 pub(crate) fn fault_text(alloc: Global, name: &str) -> Result<String, AllocError>
     ensures { IfOk result (λ text. string_bytes text ≡ fault_text name.now) }
 {
-    let mut text = fault_sentence(alloc, name)?;
-    text.push_str("\n")?;
-    Ok(text)
+    fault_line(alloc, name, "\n")
 }
 
 /// The line of a fault under the items before it.
 pub(crate) fn ending_text(alloc: Global, name: &str) -> Result<String, AllocError>
     ensures { IfOk result (λ text. string_bytes text ≡ ending_text name.now) }
 {
-    let mut text = fault_sentence(alloc, name)?;
-    text.push_str(" (these are the items before it)\n")?;
-    Ok(text)
+    fault_line(alloc, name, " (these are the items before it)\n")
 }
 
 /// What to do next, of a refusal under this word; none of another word.
@@ -65,16 +72,25 @@ fn advice(word: &str) -> Option<&'static str>
         Some(
             "a name is unknown or already in use, a type doesn't fit, or the number of cells is wrong; try .tables and .names",
         )
+    } else if word == "too-deep" {
+        Some("the statement is too long or too deeply nested; give parts of it a name with var")
+    } else {
+        advice_on_data(word)
+    }
+}
+
+/// The same where what is asked for isn't there, or has no room.
+fn advice_on_data(word: &str) -> Option<&'static str>
+    ensures { option_map (λ text. text.now) result ≡ advice_on_data word.now }
+{
+    if word == "memory" {
+        Some("there was not enough memory, and nothing has changed; ask for less at once")
     } else if word == "role" {
         Some("the policy file has no such role; try .roles")
     } else if word == "cell" {
         Some("a value lies outside of its column's range; try .tables")
     } else if word == "full" {
         Some("the table has used up its row numbers; it takes no more rows")
-    } else if word == "too-deep" {
-        Some("the statement is too long or too deeply nested; give parts of it a name with var")
-    } else if word == "memory" {
-        Some("there was not enough memory, and nothing has changed; ask for less at once")
     } else {
         None
     }
@@ -84,53 +100,55 @@ fn advice(word: &str) -> Option<&'static str>
 pub(crate) fn error_text(alloc: Global, word: &str) -> Result<String, AllocError>
     ensures { IfOk result (λ text. string_bytes text ≡ error_text word.now) }
 {
-    let word_shown = escaped_text(alloc, word)?;
-    let advice = advice(word).unwrap_or(word_shown.as_str());
-    format!(in alloc; "error: {advice}\n")
+    match advice(word) {
+        Some(advice) => format!(in alloc; "error: {advice}\n"),
+        None => sentence(alloc, "error: ", word, "\n"),
+    }
 }
 
 /// The line of a denial: the rule that denies a use, and the use.
 pub(crate) fn denied_text(alloc: Global, rule: &str, used: &str) -> Result<String, AllocError>
     ensures { IfOk result (λ text. string_bytes text ≡ denied_text rule.now used.now) }
 {
-    let used = escaped_text(alloc, used)?;
-    let used = used.as_str();
     if rule == "no-grant" {
-        return format!(in alloc; "denied: no grant covers {used}\n");
+        return sentence(alloc, "denied: no grant covers ", used, "\n");
     }
     if rule == "default-deny" {
-        return format!(in alloc; "denied by default: no policy permits this row ({used})\n");
+        let before = "denied by default: no policy permits this row (";
+        return sentence(alloc, before, used, ")\n");
     }
-    let rule = escaped_text(alloc, rule)?;
-    let rule = rule.as_str();
-    format!(in alloc; "denied by {rule}: {used}\n")
+    denied_by(alloc, rule, used)
+}
+
+/// The line of a denial by a rule that has a name.
+fn denied_by(alloc: Global, rule: &str, used: &str) -> Result<String, AllocError>
+    ensures { IfOk result (λ text. string_bytes text ≡ denied_by rule.now used.now) }
+{
+    let mut text = sentence(alloc, "denied by ", rule, ": ")?;
+    push_escaped(alloc, &mut text, used)?;
+    text.push_str("\n")?;
+    Ok(text)
 }
 
 /// The line of a definition.
 pub(crate) fn defined_text(alloc: Global, name: &str) -> Result<String, AllocError>
     ensures { IfOk result (λ text. string_bytes text ≡ defined_text name.now) }
 {
-    let name = escaped_text(alloc, name)?;
-    let name = name.as_str();
-    format!(in alloc; "{name} is defined\n")
+    sentence(alloc, "", name, " is defined\n")
 }
 
 /// The line of an assignment.
 pub(crate) fn assigned_text(alloc: Global, name: &str) -> Result<String, AllocError>
     ensures { IfOk result (λ text. string_bytes text ≡ assigned_text name.now) }
 {
-    let name = escaped_text(alloc, name)?;
-    let name = name.as_str();
-    format!(in alloc; "{name} is assigned\n")
+    sentence(alloc, "", name, " is assigned\n")
 }
 
 /// The line of a role.
 pub(crate) fn role_text(alloc: Global, name: &str) -> Result<String, AllocError>
     ensures { IfOk result (λ text. string_bytes text ≡ role_text name.now) }
 {
-    let name = escaped_text(alloc, name)?;
-    let name = name.as_str();
-    format!(in alloc; "the role is {name}\n")
+    sentence(alloc, "the role is ", name, "\n")
 }
 
 /// A number of rows.
