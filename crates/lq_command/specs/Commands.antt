@@ -13,6 +13,23 @@ use Rattle.lq_command.specs.declared.verb.Verb.TheVariants as verb
 
 -- ---- words
 
+-- what runs the desk, explains it or ends it
+abbrev pub session_verb_of : List ℕ → Option Verb
+session_verb_of name =
+    if bytes_eq name (codes ".run") then Some verb.Run
+    else if bytes_eq name (codes ".help") then Some verb.Help
+    else if bytes_eq name (codes ".quit") then Some verb.Quit
+    else None
+
+-- what sets how the desk answers
+abbrev pub setting_verb_of : List ℕ → Option Verb
+setting_verb_of name =
+    if bytes_eq name (codes ".rows") then Some verb.Rows
+    else if bytes_eq name (codes ".json") then Some verb.Json
+    else if bytes_eq name (codes ".time") then Some verb.Time
+    else session_verb_of name
+
+-- what asks about the session, and all others
 abbrev pub verb_of : List ℕ → Option Verb
 verb_of name =
     if bytes_eq name (codes ".tables") then Some verb.Tables
@@ -20,13 +37,7 @@ verb_of name =
     else if bytes_eq name (codes ".names") then Some verb.Names
     else if bytes_eq name (codes ".rights") then Some verb.Rights
     else if bytes_eq name (codes ".why") then Some verb.Why
-    else if bytes_eq name (codes ".rows") then Some verb.Rows
-    else if bytes_eq name (codes ".json") then Some verb.Json
-    else if bytes_eq name (codes ".time") then Some verb.Time
-    else if bytes_eq name (codes ".run") then Some verb.Run
-    else if bytes_eq name (codes ".help") then Some verb.Help
-    else if bytes_eq name (codes ".quit") then Some verb.Quit
-    else None
+    else setting_verb_of name
 
 abbrev pub switch_of : List ℕ → Option Bool
 switch_of word = if bytes_eq word (codes "on") then Some true else if bytes_eq word (codes "off") then Some false else None

@@ -11,7 +11,7 @@ use lq_security::Action;
 const NUMBER_LIMIT: u64 = 1_000_000_000_000_000_000;
 
 /// A command, without the name of the table or the file that it is about.
-#[derive(Clone, Copy, Debug, Drop, Eq, PartialEq)]
+#[derive(Clone, Copy, Drop)]
 pub enum Command {
     /// The tables.
     Tables,
@@ -38,7 +38,7 @@ pub enum Command {
 }
 
 /// What is wrong with a line that begins with a dot.
-#[derive(Clone, Copy, Debug, Drop, Eq, PartialEq)]
+#[derive(Clone, Copy, Drop)]
 pub enum Misuse {
     /// No command has this name.
     Unknown,

@@ -22,7 +22,7 @@ pub enum Input {
 }
 
 /// Why the bytes of a line are not gathered any more.
-#[derive(Clone, Copy, Debug, Drop, Eq, PartialEq)]
+#[derive(Clone, Copy, Drop)]
 enum Fault {
     TooLong,
     Memory,
@@ -38,7 +38,7 @@ pub(crate) struct Draft {
 
 impl Draft {
     ghost use Rattle.std.specs.Prelude.{◌≡◌, ◌∷◌, ◌++◌, ◌==◌, [], List, ℕ};
-    ghost use Rattle.lq_command.specs.Inputs.{IsDraft, IsInput};
+    ghost use Rattle.lq_command.specs.Inputs.{IsDraft, IsInput, is_refused, lacks_memory};
 
     /// A line of which no byte has come.
     pub(crate) fn new(alloc: Global) -> Draft
@@ -73,7 +73,8 @@ impl Draft {
 
     /// The line of the bytes that have come.
     pub(crate) fn finish(self) -> Input
-        ensures { (line : List ℕ) → IsDraft line self → IsInput line result }
+        ensures input { (line : List ℕ) → IsDraft line self → IsInput line result }
+        ensures memory { is_refused result ≡ lacks_memory self }
     {
         match self.fault {
             Some(Fault::TooLong) => Input::TooLong,

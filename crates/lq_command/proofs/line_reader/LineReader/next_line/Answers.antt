@@ -7,12 +7,12 @@ use Rattle.lq_command.proofs.line_reader.LineReader.next_line.Goals as goal
 pub returns-in-Some-eq10 : goal.returns-in-Some-eq10
 returns-in-Some-eq10 g c =
     let feed = subst (GivesByte _ _ _ _) (c.in-Some-eq10.is ∙ ap Some c.in-Some-eq10.field-0-test) c.in_ok-next_byte.ensures in
-    Gathering-ended _ _ _ _ _ _ _ _ c.loop.invariant feed c.finish.ensures
+    Gathering-ended _ _ _ _ _ _ _ _ c.loop.invariant feed c.finish.ensures.input
 
 pub returns-in-None-2 : goal.returns-in-None-2
 returns-in-None-2 g c =
     let none = subst (GivesByte _ _ _ _) c.in-None-2.is c.in_ok-next_byte.ensures in
-    Gathering-last _ _ _ _ _ _ _ _ _ c.loop.invariant none c.is_empty.ensures c.if-is_empty.false c.finish-in-None-2.ensures
+    Gathering-last _ _ _ _ _ _ _ _ _ c.loop.invariant none c.is_empty.ensures c.if-is_empty.false c.finish-in-None-2.ensures.input
 
 pub loop-preserved : goal.loop-preserved
 loop-preserved g c =
