@@ -10,9 +10,9 @@ use Rattle.lq_command.specs.declared.command.Command.TheVariants as command
 use Rattle.lq_command.specs.declared.command.Misuse.{Misuse}
 use Rattle.lq_machine.specs.Machine.{Reply}
 use Rattle.lq_machine.specs.Output.{Answers}
-use Rattle.lq_machine.specs.States.{State}
+use Rattle.lq_machine.specs.States.{State, schemas_of}
 use Rattle.lq_render.specs.Replies.{front_of, line_text}
-use Rattle.lq_render.specs.Types.{schemas_of, shape_of}
+use Rattle.lq_render.specs.Types.{shape_of}
 use Rattle.lq_security.specs.declared.policy.Action.{Action}
 use Rattle.lq_machine.specs.ServedTypes.{line_type}
 use Rattle.lq_store.specs.Rules.{name_of}

@@ -1,12 +1,12 @@
 -- What `.names` shows.
 use Rattle.std.specs.Prelude.{◌∷◌, List, [], ℕ, Option, Some, None, codes, map}
 use Rattle.lq_value.specs.declared.ty.Ty.{Ty}
-use Rattle.lq_machine.specs.States.{State}
+use Rattle.lq_machine.specs.States.{State, schemas_of}
 use Rattle.lq_machine.specs.declared.session.Defined.{Defined}
 use Rattle.lq_machine.specs.declared.session.Defined.TheVariants as of
 use Rattle.lq_machine.specs.declared.session.Definition.{Definition}
 use Rattle.lq_render.specs.Grids.{grid}
-use Rattle.lq_render.specs.Types.{schemas_of, type_text}
+use Rattle.lq_render.specs.Types.{type_text}
 use Rattle.lq_render.specs.declared.grid.Cell.{Cell}
 use Rattle.lq_machine.specs.ServedTypes.{line_type}
 use Rattle.lq_prompt.specs.Grids.{joined, word}

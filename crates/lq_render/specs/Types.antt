@@ -1,21 +1,15 @@
 -- Types as people read them, and the columns that they give a table.
 use Rattle.std.specs.Prelude.{◌∷◌, ◌++◌, List, [], ℕ, Bool, true, false, Option, Some, None, codes, if◌then◌else◌, map, slice_get}
-use Rattle.lq_value.specs.Tables.{Table}
 use Rattle.lq_value.specs.declared.table.Schema.{Schema}
 use Rattle.lq_value.specs.declared.ty.Ty.{Ty, fold-Ty, out-Ty}
 use Rattle.lq_value.specs.declared.ty.Ty.TheOpen.{Ty-F}
+use Rattle.lq_machine.specs.Served.{columns_in}
+use Rattle.lq_machine.specs.States.{schemas_of}
 use Rattle.lq_render.specs.declared.layout.Shape.{Shape}
-
-abbrev pub schemas_of : List Table → List Schema
-schemas_of tables = map (λ table. table.schema) tables
 
 abbrev pub table_name : Option Schema → List ℕ
 table_name None = []
 table_name (Some schema) = schema.name
-
-abbrev pub column_names : Option Schema → List (List ℕ)
-column_names None = []
-column_names (Some schema) = map (λ column. column.name) schema.columns
 
 -- ---- the text of a type
 
@@ -67,7 +61,7 @@ type_text schemas ty = type_part schemas ty false
 
 -- the names of the members of values of a type, in the type's order
 abbrev pub member_names : List Schema → Ty-F Ty → List (List ℕ)
-member_names schemas (Ty-F.Row t) = column_names (slice_get schemas t)
+member_names schemas (Ty-F.Row t) = columns_in (slice_get schemas t)
 member_names schemas (Ty-F.Rec fields) = map (λ field. field.0) fields
 member_names schemas layer = []
 

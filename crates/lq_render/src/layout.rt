@@ -1,7 +1,9 @@
 //! What a reply is shown by: the type of what a statement serves, and the most rows.
 ghost use Rattle.std.specs.Prelude.{◌≡◌, IfOk, map, option_map, slice_get};
 ghost use Rattle.lq_value.specs.declared.ty.Ty.{out-Ty};
-ghost use Rattle.lq_render.specs.Types.{column_names, member_names, schemas_of, shape_in, shape_of};
+ghost use Rattle.lq_machine.specs.Served.{columns_in};
+ghost use Rattle.lq_machine.specs.States.{schemas_of};
+ghost use Rattle.lq_render.specs.Types.{member_names, shape_in, shape_of};
 
 use lq_store::Store;
 use lq_value::{Column, List, TableNumber, Txt, Ty};
@@ -43,7 +45,7 @@ fn names_of_columns(alloc: Global, columns: &[Column]) -> Result<List<Txt>, Allo
 /// The names of the columns of a table; none where there is no such table.
 fn column_names(alloc: Global, store: &Store, table: TableNumber) -> Result<List<Txt>, AllocError>
     ensures { IfOk result (λ names. names
-        ≡ column_names (slice_get (schemas_of store.now) table)) }
+        ≡ columns_in (slice_get (schemas_of store.now) table)) }
 {
     if table as usize >= store.len() {
         return Ok(List::new(alloc));

@@ -5,7 +5,8 @@ ghost use Rattle.serde_json.specs.Read.{read};
 ghost use Rattle.serde_json.specs.View.{members_view, view};
 ghost use Rattle.lq_render.specs.Parts.{all_items, items_in};
 ghost use Rattle.lq_render.specs.Replies.{count_reply, denial, done_reply, front_of, items_and_fault, line_text, members_reply, pair_reply, plain_reply, sole_reply, text_of_reply, without_floats, word_reply};
-ghost use Rattle.lq_render.specs.Types.{schemas_of, shape_of};
+ghost use Rattle.lq_machine.specs.States.{schemas_of};
+ghost use Rattle.lq_render.specs.Types.{shape_of};
 
 use crate::floats::has_float;
 use crate::groups::push_all;

@@ -1,6 +1,7 @@
 //! The texts of types.
 ghost use Rattle.std.specs.Prelude.{◌≡◌, ◌++◌, OnOk, IfOk, false, true, map, slice_get, string_bytes};
-ghost use Rattle.lq_render.specs.Types.{closing, fields_text, opening, schemas_of, separator, table_name, type_part, type_text};
+ghost use Rattle.lq_machine.specs.States.{schemas_of};
+ghost use Rattle.lq_render.specs.Types.{closing, fields_text, opening, separator, table_name, type_part, type_text};
 
 use lq_store::Store;
 use lq_value::{TableNumber, Txt, Ty};

@@ -1,5 +1,6 @@
 use Rattle.std.proofs.Common.{◌≡◌, ◌++◌, true, drop, map, string_bytes}
-use Rattle.lq_render.specs.Types.{fields_text, schemas_of, type_part}
+use Rattle.lq_machine.specs.States.{schemas_of}
+use Rattle.lq_render.specs.Types.{fields_text, type_part}
 use Rattle.lq_render.proofs.types.+types.Given as goal
 
 -- what is there and what is to come is the whole
