@@ -77,7 +77,7 @@ is_found n (With p m t) item = more (bytes_eq m n) (is_found n p (form.First ite
   more true e = refl
   more false e = e
 
-pub ruleset known = (found_in, is_found)
+pub ruleset lookups = (found_in, is_found)
 
 -- typing knows the names that have a place
 pub typed_where_placed : (n : List ℕ) (ps : List Place) → is_some (local_type n (map (λ (place : Place). (place.name, place.ty)) ps)) ≡ is_some (place_of n ps)
@@ -88,4 +88,4 @@ typed_where_placed n (place ∷ ps) = at (bytes_eq place.name n) (typed_where_pl
   at true e = refl
   at false e = e
 
-pub ruleset fresh = (typed_where_placed)
+pub ruleset local_types = (typed_where_placed)

@@ -16,8 +16,8 @@ module _ (schemas : List Schema) where
   abbrev tree_of_place : ℕ → SessionPlace → Tree
   tree_of_place depth place = tree_of place.known.ty (place.form depth)
 
-  abbrev found_tree : ℕ → List Definition × Definition → Tree
-  found_tree depth found = defined_tree schemas (session_places schemas found.0) found.1.defined depth
+  abbrev definition_tree : ℕ → List Definition × Definition → Tree
+  definition_tree depth d = defined_tree schemas (session_places schemas d.0) d.1.defined depth
 
   -- the place of a definition behind others tells its tree
   defined_as : (earlier : List SessionPlace) (name : List ℕ) (d : Defined) (depth : ℕ)
@@ -27,26 +27,26 @@ module _ (schemas : List Schema) where
 
   at_number : (ds : List Definition) (depth : ℕ) (o : Option ℕ)
       → option_map (tree_of_place depth) (option_and_then (placed_at schemas ds) o)
-      ≡ option_map (found_tree depth) (option_and_then (λ i. option_map (λ (d : Definition). (take i ds, d)) (slice_get ds i)) o)
+      ≡ option_map (definition_tree depth) (option_and_then (λ i. option_map (λ (d : Definition). (take i ds, d)) (slice_get ds i)) o)
   at_number ds depth None = refl
   at_number ds depth (Some i) = at (slice_get ds i) where
     at : (o : Option Definition) → option_map (tree_of_place depth) (option_map (placed_as schemas (session_places schemas (take i ds))) o)
-        ≡ option_map (found_tree depth) (option_map (λ (d : Definition). (take i ds, d)) o)
+        ≡ option_map (definition_tree depth) (option_map (λ (d : Definition). (take i ds, d)) o)
     at None = refl
     at (Some d) = ap Some (defined_as (session_places schemas (take i ds)) d.name d.defined depth)
 
-  placed : (name : List ℕ) (ds : List Definition) (depth : ℕ)
-      → session_tree (session_places schemas ds) name depth ≡ option_map (found_tree depth) (defined_before name ds)
-  placed name ds depth =
+  session_name : (name : List ℕ) (ds : List Definition) (depth : ℕ)
+      → session_tree (session_places schemas ds) name depth ≡ option_map (definition_tree depth) (defined_before name ds)
+  session_name name ds depth =
       ap (option_map (tree_of_place depth)) (place_named schemas name ds) ∙ at_number ds depth (first_named (λ (d : Definition). d.name) name ds)
 
   pub name_missing : (name : List ℕ) (ds : List Definition) (depth : ℕ) → None ≡ defined_before name ds
       → session_tree (session_places schemas ds) name depth ≡ None
-  name_missing name ds depth e = placed name ds depth ∙ sym (ap (option_map (found_tree depth)) e)
+  name_missing name ds depth e = session_name name ds depth ∙ sym (ap (option_map (definition_tree depth)) e)
 
   pub name_placed : (name : List ℕ) (ds earlier : List Definition) (d : Definition) (depth : ℕ)
       → ◌≡◌ {A = Option (List Definition × Definition)} (Some (earlier, d)) (defined_before name ds)
       → session_tree (session_places schemas ds) name depth ≡ Some (defined_tree schemas (session_places schemas earlier) d.defined depth)
-  name_placed name ds earlier d depth e = placed name ds depth ∙ sym (ap (option_map (found_tree depth)) e)
+  name_placed name ds earlier d depth e = session_name name ds depth ∙ sym (ap (option_map (definition_tree depth)) e)
 
 pub ruleset places = (name_missing, name_placed)

@@ -66,7 +66,7 @@ pub name_missed : (schemas : List Schema) (places : Places) (name : List ℕ) (p
 name_missed schemas places name None e = refl
 name_missed schemas places name (Some place) e = absurd (none-some (place_tree place) e)
 
-pub ruleset named = (name_found, name_missed)
+pub ruleset local_names = (name_found, name_missed)
 
 -- and a table those of the session
 pub rows_found : (schemas : List Schema) (places : Places) (name : List ℕ) (table : Option ℕ) (rows : Tree) → Some rows ≡ option_map rows_tree table
@@ -92,22 +92,22 @@ pub ruleset calls = (call_query)
 
 -- ---- joins
 
-type_by : (made : Form → Form × Form → Ty → Option PipelineForm) (inner : Tree) (keys : Form × Form) (t : Option Ty)
-    → option_and_then (made inner.form keys) t ≡ option_and_then (λ (side : InnerSide). made side.items side.keys side.ty) (option_map (inner_side inner keys) t)
-type_by made inner keys None = refl
-type_by made inner keys (Some t) = refl
+type_by : (stage_by : Form → Form × Form → Ty → Option PipelineForm) (inner : Tree) (keys : Form × Form) (t : Option Ty)
+    → option_and_then (stage_by inner.form keys) t ≡ option_and_then (λ (side : InnerSide). stage_by side.items side.keys side.ty) (option_map (inner_side inner keys) t)
+type_by stage_by inner keys None = refl
+type_by stage_by inner keys (Some t) = refl
 
-keys_by : (made : Form → Form × Form → Ty → Option PipelineForm) (type : Ty → Option Ty) (inner : Tree) (keys : Option (Form × Form))
-    → option_and_then (λ ks. option_and_then (made inner.form ks) (type inner.ty)) keys
-    ≡ option_and_then (λ (side : InnerSide). made side.items side.keys side.ty) (option_and_then (λ ks. option_map (inner_side inner ks) (type inner.ty)) keys)
-keys_by made type inner None = refl
-keys_by made type inner (Some ks) = type_by made inner ks (type inner.ty)
+keys_by : (stage_by : Form → Form × Form → Ty → Option PipelineForm) (type : Ty → Option Ty) (inner : Tree) (keys : Option (Form × Form))
+    → option_and_then (λ ks. option_and_then (stage_by inner.form ks) (type inner.ty)) keys
+    ≡ option_and_then (λ (side : InnerSide). stage_by side.items side.keys side.ty) (option_and_then (λ ks. option_map (inner_side inner ks) (type inner.ty)) keys)
+keys_by stage_by type inner None = refl
+keys_by stage_by type inner (Some ks) = type_by stage_by inner ks (type inner.ty)
 
-join_by : (made : Form → Form × Form → Ty → Option PipelineForm) (keys : Ty → Option (Form × Form)) (type : Ty → Option Ty) (inner : Option Tree)
-    → option_and_then (λ (x : Tree). option_and_then (λ ks. option_and_then (made x.form ks) (type x.ty)) (keys x.ty)) inner
-    ≡ option_and_then (λ (side : InnerSide). made side.items side.keys side.ty) (option_and_then (side_by_keys keys type) inner)
-join_by made keys type None = refl
-join_by made keys type (Some x) = keys_by made type x (keys x.ty)
+join_by : (stage_by : Form → Form × Form → Ty → Option PipelineForm) (keys : Ty → Option (Form × Form)) (type : Ty → Option Ty) (inner : Option Tree)
+    → option_and_then (λ (x : Tree). option_and_then (λ ks. option_and_then (stage_by x.form ks) (type x.ty)) (keys x.ty)) inner
+    ≡ option_and_then (λ (side : InnerSide). stage_by side.items side.keys side.ty) (option_and_then (side_by_keys keys type) inner)
+join_by stage_by keys type None = refl
+join_by stage_by keys type (Some x) = keys_by stage_by type x (keys x.ty)
 
 type_at : (schemas : List Schema) (tree : Term → Binds) (places : Places) (p : Pattern) (into : Option (List ℕ)) (t : Ty)
     → matched_type schemas tree places p into t ≡ joined_type (with_item places p) into t

@@ -29,19 +29,19 @@ weighs (x ∷ ds) (suc i) d e = let less : weight_of d.defined + weight (take i 
 pub opens_less : (name : List ℕ) (ds earlier : List Definition) (d : Definition)
     → ◌≡◌ {A = Option (List Definition × Definition)} (Some (earlier, d)) (defined_before name ds)
     → weight_of d.defined + 6 + weight earlier < 8 + weight ds
-opens_less name ds earlier d e = numbered (first_named (λ d. d.name) name ds) e where
-  found : (i : ℕ) (o : Option Definition) → o ≡ slice_get ds i → ◌≡◌ {A = Option (List Definition × Definition)} (Some (earlier, d)) (option_map (λ d. (take i ds, d)) o)
+opens_less name ds earlier d e = at_number (first_named (λ d. d.name) name ds) e where
+  at_definition : (i : ℕ) (o : Option Definition) → o ≡ slice_get ds i → ◌≡◌ {A = Option (List Definition × Definition)} (Some (earlier, d)) (option_map (λ d. (take i ds, d)) o)
       → weight_of d.defined + 6 + weight earlier < 8 + weight ds
-  found i None is e = absurd (none-some {A = List Definition × Definition} (earlier, d) (sym e))
-  found i (Some x) is e =
+  at_definition i None is e = absurd (none-some {A = List Definition × Definition} (earlier, d) (sym e))
+  at_definition i (Some x) is e =
       let same = some_pair_parts earlier (take i ds) d x e in
       let less : weight_of x.defined + weight (take i ds) ≤ weight ds = weighs ds i x is in
       rw (same.0, same.1) omega (arith, less)
 
-  numbered : (o : Option ℕ)
+  at_number : (o : Option ℕ)
       → ◌≡◌ {A = Option (List Definition × Definition)} (Some (earlier, d)) (option_and_then (λ i. option_map (λ d. (take i ds, d)) (slice_get ds i)) o)
       → weight_of d.defined + 6 + weight earlier < 8 + weight ds
-  numbered None e = absurd (none-some {A = List Definition × Definition} (earlier, d) (sym e))
-  numbered (Some i) e = found i (slice_get ds i) refl e
+  at_number None e = absurd (none-some {A = List Definition × Definition} (earlier, d) (sym e))
+  at_number (Some i) e = at_definition i (slice_get ds i) refl e
 
 pub ruleset weights = (opens_less)

@@ -29,7 +29,7 @@ use Rattle.lq_grammar.specs.declared.syntax.SortKey.{SortKey}
 use Rattle.lq_translate.specs.Translated.{translated}
 use Rattle.lq_tree.specs.Binding.{Binds, PipelineForm, tree_of}
 use Rattle.lq_tree.specs.Binding as binding
-use Rattle.lq_tree.specs.Places.{Places, SessionPlace, session_place, with_item, with_name}
+use Rattle.lq_tree.specs.Places.{Places, SessionPlace, session_place, with_item}
 use Rattle.lq_tree.specs.SessionPlaces.{places_outside, session_places, tree_or_null}
 use Rattle.lq_tree.specs.declared.tree.Form.{Form}
 use Rattle.lq_tree.specs.declared.tree.Form.TheVariants as form
@@ -123,10 +123,6 @@ module _ (binder : Binder) (frame : Frame) where
   abbrev pub item_tree_at : Pattern → Term → Option Tree
   item_tree_at p term = tree term (with_item places p)
 
-  -- in that of a pair
-  abbrev pub pair_tree_at : Pattern → List ℕ → Ty → Term → Option Tree
-  pair_tree_at p name t term = tree term (with_name (with_item places p) name t)
-
   abbrev pub node_at : Node Term → Option Tree
   node_at node = binding.node_tree schemas tree node places
 
@@ -164,8 +160,8 @@ module _ (binder : Binder) (frame : Frame) where
   called_at name arguments source =
       binding.called_tree schemas tree (enumerable_call name arguments) source places
 
-  abbrev pub enumerable_at : Form → Ty → EnumerableCall Term → Option Tree
-  enumerable_at source t call = binding.enumerable_tree schemas tree places source t call
+  abbrev pub enumerable_at : Tree → EnumerableCall Term → Option Tree
+  enumerable_at items call = binding.enumerable_tree schemas tree places items.form items.ty call
 
   abbrev pub lambda_at : Ty → List ℕ → Term → Option Tree
   lambda_at t parameter body = binding.lambda_tree schemas tree places t parameter body
@@ -192,6 +188,10 @@ module _ (binder : Binder) (frame : Frame) where
 
   abbrev pub operator_at : Operator Term → PipelineForm → Option PipelineForm
   operator_at operator stage = binding.operator_stage schemas tree places operator stage
+
+  abbrev pub let_value_at : Pattern → List ℕ → Term → Option Tree
+  let_value_at p name value =
+      binding.if_fresh schemas tree places p name (option_and_then binding.placed_tree (item_tree_at p value))
 
   abbrev pub group_key_at : Pattern → Term → Option Tree
   group_key_at p key = option_and_then binding.keyed_tree (item_tree_at p key)

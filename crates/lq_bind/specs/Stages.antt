@@ -24,11 +24,9 @@ selected_stage source value =
     option_map (λ v. pipeline_of (unnamed v.ty) (form.Select source v.form)) (placed_tree value)
 
 -- `Select` of each item, which stands in this slot, beside the value of one more name
-abbrev pub widened_stage : PipelineForm → ℕ → List ℕ → Tree → Option PipelineForm
+abbrev pub widened_stage : PipelineForm → ℕ → List ℕ → Tree → PipelineForm
 widened_stage stage item name value =
-    option_map
-    (λ v. pipeline_of (With stage.pattern name v.ty) (form.Select stage.form (form.Pair (form.Slot item) v.form)))
-    (placed_tree value)
+    pipeline_of (With stage.pattern name value.ty) (form.Select stage.form (form.Pair (form.Slot item) value.form))
 
 -- a pair of the items in this slot and in the next one, of which the second has a name
 abbrev pub slots_stage : Pattern → List ℕ → Ty → ℕ → PipelineForm
@@ -46,18 +44,18 @@ join_keys outer inner =
 
 -- `Join` and `GroupJoin`, where this comes of each pair
 abbrev pub join_form : Form → Form → Form × Form → Bool → Form → Form
-join_form source inner keys grouped item = form.Join source (record {
+join_form source inner keys is_grouped item = form.Join source (record {
   inner = inner;
   outer_key = keys.0;
   inner_key = keys.1;
-  grouped = grouped;
+  grouped = is_grouped;
   result = item;
 })
 
 -- `GroupBy`
-abbrev pub groups_stage : Form → Tree → Tree → PipelineForm
-groups_stage source key element =
+abbrev pub groups_of : Form → Tree → Tree → PipelineForm
+groups_of source key element =
     pipeline_of (unnamed (ty.Group key.ty element.ty)) (form.GroupBy source key.form element.form)
 
 abbrev pub grouped_stage : Form → Tree → Tree → Option PipelineForm
-grouped_stage source key element = option_map (groups_stage source key) (placed_tree element)
+grouped_stage source key element = option_map (groups_of source key) (placed_tree element)

@@ -41,9 +41,9 @@ impl Binder<'_> {
         }
     }
 
-    /// The tree of an expression other than a query. Each form that holds expressions has a function of
-    /// its own, which takes less of the stack than all forms together: expressions may be many thousand
-    /// operators deep on their left.
+    /// The tree of an expression other than a query. Each form that holds expressions has a
+    /// function of its own, which takes less of the stack than all forms together: expressions may
+    /// be many thousand operators deep on their left.
     #[cycle(binding)]
     fn node(&self, node: &Node<Term>, frame: &Frame<'_>) -> Result<Tree, TermError>
         ensures { Gives (node_at self.now frame.now node.now) result }
@@ -54,7 +54,7 @@ impl Binder<'_> {
             Node::Bool(truth) => names::truth(self.alloc, *truth),
             Node::Null => names::null(self.alloc),
             Node::Name(name) => self.name(name.as_str(), frame),
-            Node::Member(of, name) => self.member(of.get(), name.as_str(), frame),
+            Node::Member(receiver, name) => self.member(receiver.get(), name.as_str(), frame),
             Node::Unary(sign, operand) => self.unary(operand.get(), *sign, frame),
             Node::Binary(sign, left, right) => {
                 self.operation(left.get(), right.get(), Infix::Sign(*sign), frame)
@@ -69,8 +69,8 @@ impl Binder<'_> {
             }
             Node::Host(_, _) => Err(TermError::IllTyped),
             Node::New(fields) => self.new_record(fields, frame),
-            Node::Method(of, name, arguments) => {
-                self.method_of(arguments, name.as_str(), of.get(), frame)
+            Node::Method(receiver, name, arguments) => {
+                self.method_of(arguments, name.as_str(), receiver.get(), frame)
             }
         }
     }
@@ -78,11 +78,12 @@ impl Binder<'_> {
     /// A member.
     #[cycle(binding)]
     #[inline(never)]
-    fn member(&self, of: &Term, name: &str, frame: &Frame<'_>) -> Result<Tree, TermError>
-        ensures { Gives (node_at self.now frame.now (expression.Member of.now name.now)) result }
+    fn member(&self, receiver: &Term, name: &str, frame: &Frame<'_>) -> Result<Tree, TermError>
+        ensures { Gives (node_at self.now frame.now (expression.Member receiver.now name.now))
+            result }
     {
-        let of = self.term(of, frame)?;
-        members::member(self.alloc, self.store, name, of)
+        let receiver = self.term(receiver, frame)?;
+        members::member(self.alloc, self.store, name, receiver)
     }
 
     /// An operator with one operand.
@@ -187,13 +188,13 @@ impl Binder<'_> {
         &self,
         arguments: &List<Argument<Term>>,
         name: &str,
-        of: &Term,
+        receiver: &Term,
         frame: &Frame<'_>,
     ) -> Result<Tree, TermError>
         ensures { Gives (node_at self.now frame.now
-            (expression.Method of.now name.now arguments.now)) result }
+            (expression.Method receiver.now name.now arguments.now)) result }
     {
-        let of = self.term(of, frame)?;
-        self.method(arguments.as_slice(), name, of, frame)
+        let receiver = self.term(receiver, frame)?;
+        self.method(arguments.as_slice(), name, receiver, frame)
     }
 }

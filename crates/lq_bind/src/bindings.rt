@@ -28,8 +28,8 @@ pub const MOST_RANK: u32 = 8;
 pub struct Scope<'a> {
     /// The tables, whose names are known wherever no local name hides them.
     pub store: &'a Store,
-    /// The names of the session, the oldest first. Each is known wherever neither a local name nor a table
-    /// hides it, and in the named queries that come after it.
+    /// The names of the session, the oldest first. Each is known wherever neither a local name nor
+    /// a table hides it, and in the named queries that come after it.
     pub definitions: &'a [Definition],
     /// How many tokens the statement has, with those of all named queries that it opens; at most
     /// [`MOST_TOKENS`], which are 65,536.
@@ -60,9 +60,10 @@ impl Scope<'_> {
 }
 
 /// The typed tree of the calls of a query: a variable of the session stands as the literal of its
-/// value, and a named query as the tree of its expression, bound anew where the name is opened with the
-/// names that were defined before it. Refuses with `TooDeep` where the statement is past the limits of
-/// opening, with `IllTyped` where the query has no type, in this order, and with `Memory`.
+/// value, and a named query as the tree of its expression, bound anew where the name is opened with
+/// the names that were defined before it. Refuses with `TooDeep` where the statement is past the
+/// limits of opening, with `IllTyped` where the query has no type, in this order, and with
+/// `Memory`.
 #[tactic(auto, using(crate::proofs::FrameLemmas::chains))]
 pub fn bind(alloc: Global, call: &Call<Term>, scope: &Scope<'_>) -> Result<Tree, BindError>
     ensures { IsBound (is_past scope.now.size scope.now.rank)
@@ -76,8 +77,8 @@ pub fn bind(alloc: Global, call: &Call<Term>, scope: &Scope<'_>) -> Result<Tree,
     Ok(scope.binder(alloc).call(call, &Frame::Top(0))?)
 }
 
-/// The typed tree of a term in a statement that is within the limits of opening: refuses with `IllTyped`
-/// where the term has no type, and with `Memory`.
+/// The typed tree of a term in a statement that is within the limits of opening: refuses with
+/// `IllTyped` where the term has no type, and with `Memory`.
 #[tactic(auto, using(crate::proofs::FrameLemmas::chains))]
 pub fn bind_term(alloc: Global, term: &Term, scope: &Scope<'_>) -> Result<Tree, BindError>
     requires { is_past scope.now.size scope.now.rank ≡ false }
@@ -87,9 +88,10 @@ pub fn bind_term(alloc: Global, term: &Term, scope: &Scope<'_>) -> Result<Tree, 
     Ok(scope.binder(alloc).term(term, &Frame::Top(0))?)
 }
 
-/// The typed tree of a term in which `row` is a local name: that of a row of the table of this number,
-/// which stands in the first slot. The tree may be of any type, so that it is a condition on rows where
-/// its type is `bool`. The statement is within the limits, and the refusals are the same.
+/// The typed tree of a term in which `row` is a local name: that of a row of the table of this
+/// number, which stands in the first slot. The tree may be of any type, so that it is a condition
+/// on rows where its type is `bool`. The statement is within the limits, and the refusals are the
+/// same.
 #[tactic(auto, using(crate::proofs::FrameLemmas::chains))]
 pub fn bind_condition(
     alloc: Global,

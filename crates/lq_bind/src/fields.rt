@@ -1,13 +1,15 @@
 //! The trees of records (ECMA-334, anonymous object creation expressions).
-ghost use Rattle.std.specs.Prelude.{◌≡◌, IfOk, map};
+ghost use Rattle.std.specs.Prelude.{◌≡◌, IfOk, Some, map};
 ghost use Rattle.lq_language.specs.Typing.{are_distinct, is_new};
 ghost use Rattle.lq_tree.specs.Binding.{fields_tree, form_of_field, type_of_field};
+ghost use Rattle.lq_bind.specs.Outcomes.{Gives};
 
-use crate::operations::into_form;
+use crate::error::TermError;
+use crate::trees::{into_form, new_tree};
 use lq_grammar::Field;
 use lq_tree::{Form, Tree};
 use lq_typing::copy_ty;
-use lq_value::{Held, List, Txt, Ty};
+use lq_value::{List, Txt, Ty};
 use std::alloc::{AllocError, Global};
 
 /// Whether none of the members has this name.
@@ -69,10 +71,10 @@ fn forms_of(alloc: Global, fields: List<Field<Tree>>) -> Result<List<Field<Form>
 }
 
 /// A record of members that have trees.
-pub(crate) fn record(alloc: Global, fields: List<Field<Tree>>) -> Result<Tree, AllocError>
-    ensures { IfOk result (λ tree. tree ≡ fields_tree fields) }
+pub(crate) fn record(alloc: Global, fields: List<Field<Tree>>) -> Result<Tree, TermError>
+    ensures { Gives (Some (fields_tree fields)) result }
 {
-    let ty = Ty::Rec(types_of(alloc, fields.as_slice())?);
-    let form = Held::new(alloc, Form::Record(forms_of(alloc, fields)?))?;
-    Ok(Tree { ty, form })
+    let types = types_of(alloc, fields.as_slice())?;
+    let forms = forms_of(alloc, fields)?;
+    new_tree(alloc, Ty::Rec(types), Form::Record(forms))
 }

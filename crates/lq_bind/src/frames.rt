@@ -25,7 +25,7 @@ impl<'a> Frame<'a> {
 
     /// These names, and those of an item.
     #[tactic(auto, using(crate::proofs::FrameLemmas::chains))]
-    pub(crate) fn with<'b>(&'b self, variables: &'b Variables) -> Frame<'b>
+    pub(crate) fn with_item<'b>(&'b self, variables: &'b Variables) -> Frame<'b>
         ensures { places_in result ≡ with_item (places_in self.now) (pattern_in variables.now) }
     {
         Frame::Item(self, variables)
@@ -39,8 +39,8 @@ impl<'a> Frame<'a> {
         Frame::Name(self, name, ty)
     }
 
-    /// How many slots are in use. No chain is longer than numbers reach; one that were is refused as
-    /// past all memory.
+    /// How many slots are in use. No chain is longer than numbers reach; one that were is refused
+    /// as past all memory.
     #[tactic(auto, using(crate::proofs::FrameLemmas::chains))]
     pub(crate) fn depth(&self) -> Result<usize, AllocError>
         ensures { IfOk result (λ slots. slots ≡ (places_in self.now).depth) }
@@ -58,27 +58,27 @@ impl<'a> Frame<'a> {
     }
 
     /// Whether the name is a local name.
-    #[tactic(auto, using(crate::proofs::FrameLemmas::chains, crate::proofs::FrameLemmas::known))]
-    fn has(&self, name: &str) -> bool
+    #[tactic(auto, using(crate::proofs::FrameLemmas::chains, crate::proofs::FrameLemmas::lookups))]
+    fn has_name(&self, name: &str) -> bool
         ensures { result ≡ is_some (place_of name.now (places_in self.now).locals) }
     {
         match self {
             Frame::Top(_) => false,
-            Frame::Item(outer, variables) => variables.has(name) || outer.has(name),
-            Frame::Name(outer, local, _) => local.as_str() == name || outer.has(name),
+            Frame::Item(outer, variables) => variables.has_name(name) || outer.has_name(name),
+            Frame::Name(outer, local, _) => local.as_str() == name || outer.has_name(name),
         }
     }
 
     /// Whether the name may be brought in: it is no local name yet (ECMA-334, scopes).
-    #[tactic(auto, using(crate::proofs::FrameLemmas::fresh))]
+    #[tactic(auto, using(crate::proofs::FrameLemmas::local_types))]
     pub(crate) fn is_fresh(&self, name: &str) -> bool
         ensures { result ≡ is_fresh_in (places_in self.now) name.now }
     {
-        !self.has(name)
+        !self.has_name(name)
     }
 
     /// What the name stands for, where it is a local name.
-    #[tactic(auto, using(crate::proofs::FrameLemmas::chains, crate::proofs::FrameLemmas::known))]
+    #[tactic(auto, using(crate::proofs::FrameLemmas::chains, crate::proofs::FrameLemmas::lookups))]
     pub(crate) fn find(&self, alloc: Global, name: &str) -> Result<Option<Tree>, AllocError>
         ensures { IfOk result (λ tree. tree
             ≡ option_map place_tree (place_of name.now (places_in self.now).locals)) }
@@ -86,7 +86,7 @@ impl<'a> Frame<'a> {
         match self {
             Frame::Top(_) => Ok(None),
             Frame::Item(outer, variables) => {
-                if !variables.has(name) {
+                if !variables.has_name(name) {
                     return outer.find(alloc, name);
                 }
                 let slot = Form::Slot(outer.depth()?);

@@ -12,7 +12,6 @@ use lq_grammar::Expr;
 use lq_machine::{Defined, Definition};
 use lq_translate::translate_expression;
 use lq_tree::Tree;
-use std::alloc::AllocError;
 
 /// The number of the definition of this name.
 fn place_of(definitions: &[Definition], name: &str) -> Option<usize>
@@ -45,7 +44,7 @@ fn definition_of<'a>(
 }
 
 impl Binder<'_> {
-    ghost use Rattle.std.specs.Prelude.{◌≡◌, IfOk};
+    ghost use Rattle.std.specs.Prelude.{Some};
     ghost use Rattle.lq_grammar.specs.declared.syntax.Node.TheVariants as expression;
     ghost use Rattle.lq_bind.specs.Bound.{defined_at, global_at, node_at, query_at, session_at};
     ghost use Rattle.lq_bind.specs.Outcomes.{Gives};
@@ -53,7 +52,7 @@ impl Binder<'_> {
     /// What a name stands for: a local name, which hides all others of its spelling.
     #[cycle(binding)]
     #[inline(never)]
-    #[tactic(auto, using(crate::proofs::TermLaws::named))]
+    #[tactic(auto, using(crate::proofs::TermLaws::local_names))]
     pub(crate) fn name(&self, name: &str, frame: &Frame<'_>) -> Result<Tree, TermError>
         ensures { Gives (node_at self.now frame.now (expression.Name name.now)) result }
     {
@@ -63,8 +62,8 @@ impl Binder<'_> {
         self.global(name, frame)
     }
 
-    /// What a name stands for that is no local name: the rows of a table, and else what the session has
-    /// under it.
+    /// What a name stands for that is no local name: the rows of a table, and else what the session
+    /// has under it.
     #[cycle(binding)]
     #[tactic(auto, using(crate::proofs::TermLaws::globals))]
     fn global(&self, name: &str, frame: &Frame<'_>) -> Result<Tree, TermError>
@@ -90,13 +89,17 @@ impl Binder<'_> {
             store: self.store,
             definitions,
         };
-        Ok(earlier.definition(&definition.defined, frame)?)
+        // A definition always has a tree, so that memory alone can be lacking.
+        match earlier.definition(&definition.defined, frame) {
+            Ok(tree) => Ok(tree),
+            Err(_) => Err(TermError::Memory),
+        }
     }
 
     /// What a name stands for that was defined where these names of the session were known.
     #[cycle(binding)]
-    fn definition(&self, defined: &Defined, frame: &Frame<'_>) -> Result<Tree, AllocError>
-        ensures { IfOk result (λ tree. tree ≡ defined_at self.now frame.now defined.now) }
+    fn definition(&self, defined: &Defined, frame: &Frame<'_>) -> Result<Tree, TermError>
+        ensures { Gives (Some (defined_at self.now frame.now defined.now)) result }
     {
         match defined {
             Defined::Variable(ty, value) => names::variable(self.alloc, ty, value),
@@ -104,20 +107,20 @@ impl Binder<'_> {
         }
     }
 
-    /// The tree of a named query's expression, which sees no local name of the place where it is opened;
-    /// that of null, where it has no type there.
+    /// The tree of a named query's expression, which sees no local name of the place where it is
+    /// opened; that of null, where it has no type there.
     #[cycle(binding)]
     #[inline(never)]
     #[tactic(auto, using(crate::proofs::FrameLemmas::chains))]
-    fn named_query(&self, query: &Expr, frame: &Frame<'_>) -> Result<Tree, AllocError>
-        ensures { IfOk result (λ tree. tree ≡ query_at self.now frame.now query.now) }
+    fn named_query(&self, query: &Expr, frame: &Frame<'_>) -> Result<Tree, TermError>
+        ensures { Gives (Some (query_at self.now frame.now query.now)) result }
     {
         let term = translate_expression(self.alloc, query)?;
         let outside = Frame::Top(frame.depth()?);
         match self.term(&term, &outside) {
             Ok(tree) => Ok(tree),
-            Err(TermError::IllTyped) => names::null_tree(self.alloc),
-            Err(TermError::Memory) => Err(AllocError),
+            Err(TermError::IllTyped) => names::null(self.alloc),
+            Err(TermError::Memory) => Err(TermError::Memory),
         }
     }
 }

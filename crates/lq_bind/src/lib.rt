@@ -1,8 +1,9 @@
 //! The binding of terms: each is given its typed tree, or refused where it has no type.
 //!
-//! `bind`, `bind_term` and `bind_condition` give exactly the tree that the definition of binding names
-//! among the tables and the names of a session. They refuse a term as ill-typed exactly where it has no
-//! type, and before that as too deep exactly where the statement opens more than it may.
+//! `bind`, `bind_term` and `bind_condition` give exactly the tree that the definition of binding
+//! names among the tables and the names of a session. They refuse a term as ill-typed exactly where
+//! it has no type; before that, `bind` refuses it as too deep exactly where the statement opens more
+//! than it may.
 #![tactic(auto)]
 
 mod binder;
@@ -21,6 +22,7 @@ mod pairs;
 mod pipelines;
 mod queries;
 mod records;
+mod trees;
 mod type_checks;
 mod variables;
 

@@ -1,5 +1,5 @@
 //! The trees of members (ECMA-334, member access; .NET, `Nullable`, `String` and `IGrouping`).
-ghost use Rattle.std.specs.Prelude.{◌≡◌, IfOk, option_and_then, option_map, slice_get};
+ghost use Rattle.std.specs.Prelude.{◌≡◌, Some, option_and_then, option_map, slice_get};
 ghost use Rattle.std.specs.Option.{option_copied};
 ghost use Rattle.std.specs.List.{position_from};
 ghost use Rattle.std.specs.Str.{bytes_eq};
@@ -13,13 +13,14 @@ ghost use Rattle.lq_tree.specs.declared.tree.Form.TheVariants as form;
 ghost use Rattle.lq_bind.specs.Outcomes.{Gives};
 
 use crate::error::TermError;
+use crate::trees::{new_tree, tree_if};
 use crate::type_checks;
 use lq_language::Op;
 use lq_store::Store;
 use lq_tree::{Form, Tree};
 use lq_typing::copy_ty;
-use lq_value::{Column, ColumnType, Held, List, Schema, TableNumber, Txt, Ty};
-use std::alloc::{AllocError, Global};
+use lq_value::{Column, ColumnType, Held, Schema, TableNumber, Txt, Ty};
+use std::alloc::Global;
 
 /// The type of a column's cells.
 fn type_of_column(ty: ColumnType) -> Ty
@@ -42,24 +43,21 @@ fn column_named(columns: &[Column], name: &str) -> Option<usize>
         .position(|column| column.name.as_str() == name)
 }
 
-/// The cell of a row in the column of this number, which has this type. No table has more columns than
-/// numbers reach; one that had is refused as past all memory.
+/// The cell of a row in the column of this number, which has this type. No table has more columns
+/// than numbers reach; one that had is refused as past all memory.
 fn cell_at(
     alloc: Global,
     row: Held<Form>,
     table: TableNumber,
     number: usize,
     ty: ColumnType,
-) -> Result<Tree, AllocError>
-    ensures { IfOk result (λ cell. cell
-        ≡ tree_of (type_of_column ty) (form.Column row table number)) }
+) -> Result<Tree, TermError>
+    ensures { Gives (Some (tree_of (type_of_column ty) (form.Column row table number))) result }
 {
     let Ok(number) = u16::try_from(number) else {
-        return Err(AllocError);
+        return Err(TermError::Memory);
     };
-    let form = Held::new(alloc, Form::Column(row, table, number))?;
-    let ty = type_of_column(ty);
-    Ok(Tree { ty, form })
+    new_tree(alloc, type_of_column(ty), Form::Column(row, table, number))
 }
 
 /// The type of the column of this number.
@@ -83,7 +81,7 @@ fn column(
     let columns = schema.columns.as_slice();
     let number = column_named(columns, name).ok_or(TermError::IllTyped)?;
     let ty = column_at(columns, number).ok_or(TermError::IllTyped)?;
-    Ok(cell_at(alloc, row, table, number, ty)?)
+    cell_at(alloc, row, table, number, ty)
 }
 
 /// The place of a record's member of this name.
@@ -104,26 +102,25 @@ fn type_at(members: &[(Txt, Ty)], place: usize) -> Option<&Ty>
 }
 
 /// The member of a record in this place, which has this type.
-fn member_at(alloc: Global, of: Held<Form>, place: usize, ty: &Ty) -> Result<Tree, AllocError>
-    ensures { IfOk result (λ member. member ≡ tree_of ty.now (form.Member of place)) }
+fn member_at(alloc: Global, receiver: Held<Form>, place: usize, ty: &Ty) -> Result<Tree, TermError>
+    ensures { Gives (Some (tree_of ty.now (form.Member receiver place))) result }
 {
     let ty = copy_ty(alloc, ty)?;
-    let form = Held::new(alloc, Form::Member(of, place))?;
-    Ok(Tree { ty, form })
+    new_tree(alloc, ty, Form::Member(receiver, place))
 }
 
 /// The member of a record of this name.
 fn record_member(
     alloc: Global,
     name: &str,
-    of: Held<Form>,
+    receiver: Held<Form>,
     members: &[(Txt, Ty)],
 ) -> Result<Tree, TermError>
-    ensures { Gives (record_member_tree name.now of members.now) result }
+    ensures { Gives (record_member_tree name.now receiver members.now) result }
 {
     let place = member_named(members, name).ok_or(TermError::IllTyped)?;
     let ty = type_at(members, place).ok_or(TermError::IllTyped)?;
-    Ok(member_at(alloc, of, place, ty)?)
+    member_at(alloc, receiver, place, ty)
 }
 
 /// A member of an `int?`.
@@ -131,36 +128,29 @@ fn nullable(alloc: Global, name: &str, number: Held<Form>) -> Result<Tree, TermE
     ensures { Gives (nullable_tree name.now number) result }
 {
     if name == "HasValue" {
-        let form = Held::new(alloc, Form::Unary(Op::HasValue, number))?;
-        return Ok(Tree { ty: Ty::Bool, form });
+        return new_tree(alloc, Ty::Bool, Form::Unary(Op::HasValue, number));
     }
-    if name == "Value" {
-        let form = Held::new(alloc, Form::Unary(Op::Value, number))?;
-        return Ok(Tree { ty: Ty::Int, form });
-    }
-    Err(TermError::IllTyped)
+    let form = Form::Unary(Op::Value, number);
+    tree_if(alloc, name == "Value", Ty::Int, form)
 }
 
 /// A member of a text.
 fn text(alloc: Global, name: &str, text: Held<Form>) -> Result<Tree, TermError>
     ensures { Gives (text_tree name.now text) result }
 {
-    if name != "Length" {
-        return Err(TermError::IllTyped);
-    }
-    let form = Held::new(alloc, Form::Unary(Op::Length, text))?;
-    Ok(Tree { ty: Ty::Int, form })
+    tree_if(
+        alloc,
+        name == "Length",
+        Ty::Int,
+        Form::Unary(Op::Length, text),
+    )
 }
 
 /// The key of a group.
 fn group_key(alloc: Global, name: &str, key: Ty, group: Held<Form>) -> Result<Tree, TermError>
     ensures { Gives (group_key_tree name.now key group) result }
 {
-    if name != "Key" {
-        return Err(TermError::IllTyped);
-    }
-    let form = Held::new(alloc, Form::Key(group))?;
-    Ok(Tree { ty: key, form })
+    tree_if(alloc, name == "Key", key, Form::Key(group))
 }
 
 /// The schema of the table of this number.
@@ -188,32 +178,37 @@ fn cell(
     column(alloc, name, table, row, schema)
 }
 
-/// The member of what has this type.
+/// The member of a receiver of this type.
 #[tactic(auto, using(crate::proofs::Layers::types))]
 fn member_of(
     alloc: Global,
     store: &Store,
     name: &str,
-    of: Held<Form>,
+    receiver: Held<Form>,
     ty: Ty,
 ) -> Result<Tree, TermError>
-    ensures { Gives (member_layer (schemas_of store.now) name.now of (out-Ty ty)) result }
+    ensures { Gives (member_layer (schemas_of store.now) name.now receiver (out-Ty ty)) result }
 {
     match ty {
-        Ty::Row(table) => cell(alloc, store, name, table, of),
-        Ty::Rec(members) => record_member(alloc, name, of, members.as_slice()),
-        Ty::Group(key, _) => group_key(alloc, name, key.into_inner(), of),
-        Ty::IntN => nullable(alloc, name, of),
-        Ty::Str => text(alloc, name, of),
+        Ty::Row(table) => cell(alloc, store, name, table, receiver),
+        Ty::Rec(members) => record_member(alloc, name, receiver, members.as_slice()),
+        Ty::Group(key, _) => group_key(alloc, name, key.into_inner(), receiver),
+        Ty::IntN => nullable(alloc, name, receiver),
+        Ty::Str => text(alloc, name, receiver),
         Ty::Int | Ty::Bool | Ty::Null | Ty::Seq(_) => Err(TermError::IllTyped),
     }
 }
 
-/// The member of this name of what a tree means, where its type has one.
-pub(crate) fn member(alloc: Global, store: &Store, name: &str, of: Tree) -> Result<Tree, TermError>
-    ensures { Gives (member_tree (schemas_of store.now) name.now of) result }
+/// The member of this name of what the receiver means, where its type has one.
+pub(crate) fn member(
+    alloc: Global,
+    store: &Store,
+    name: &str,
+    receiver: Tree,
+) -> Result<Tree, TermError>
+    ensures { Gives (member_tree (schemas_of store.now) name.now receiver) result }
 {
-    let Tree { ty, form } = of;
+    let Tree { ty, form } = receiver;
     let member = member_of(alloc, store, name, form, ty)?;
-    Ok(type_checks::settle(alloc, member)?)
+    type_checks::settle(alloc, member)
 }

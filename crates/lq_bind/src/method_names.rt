@@ -1,6 +1,7 @@
 //! Methods by their names (.NET, `Enumerable` and `String`).
 ghost use Rattle.std.specs.Prelude.{◌≡◌};
-ghost use Rattle.lq_language.specs.EnumerableCalls.{by_name, method_with_lambda, method_with_value, simple_method};
+ghost use Rattle.lq_language.specs.EnumerableCalls.{by_name, method_with_lambda};
+ghost use Rattle.lq_language.specs.EnumerableCalls.{method_with_value, simple_method};
 ghost use Rattle.lq_language.specs.Members.{search_named};
 ghost use Rattle.lq_bind.specs.MethodNames.{names_with_lambdas, names_with_values, simple_names};
 
@@ -91,7 +92,7 @@ pub(crate) fn method_with_lambda(name: &str) -> Option<Through>
     with_lambda_by_name(name)
 }
 
-/// The method of this name that looks for a text in another.
+/// The method of this name that looks for one text in another.
 pub(crate) fn search_named(name: &str) -> Option<Op>
     ensures { result ≡ search_named name.now }
 {

@@ -6,9 +6,9 @@ use crate::method_names::{method_with_lambda, method_with_value, search_named, s
 use crate::{method_trees, operations, type_checks};
 use lq_grammar::Argument;
 use lq_language::{Given, Term, Through};
-use lq_tree::{Form, Tree};
+use lq_tree::Tree;
 use lq_typing::is_text;
-use lq_value::{Held, Txt, Ty};
+use lq_value::{Txt, Ty};
 
 impl Binder<'_> {
     ghost use Rattle.std.specs.Prelude.{option_and_then};
@@ -17,23 +17,23 @@ impl Binder<'_> {
     ghost use Rattle.lq_bind.specs.Bound.{method_at, search_at};
     ghost use Rattle.lq_bind.specs.Outcomes.{Gives};
 
-    /// A method of this name of what has this tree.
+    /// A method of this name of what the receiver means.
     #[cycle(binding)]
     #[inline(never)]
     pub(crate) fn method(
         &self,
         arguments: &[Argument<Term>],
         name: &str,
-        of: Tree,
+        receiver: Tree,
         frame: &Frame<'_>,
     ) -> Result<Tree, TermError>
-        ensures { Gives (method_at self.now frame.now name.now arguments.now of) result }
+        ensures { Gives (method_at self.now frame.now name.now arguments.now receiver) result }
     {
-        if is_text(&of.ty) {
-            return self.search(arguments, name, of, frame);
+        if is_text(&receiver.ty) {
+            return self.search(arguments, name, receiver, frame);
         }
-        let tree = self.sequence_method(arguments, name, of, frame)?;
-        Ok(type_checks::settle(self.alloc, tree)?)
+        let tree = self.sequence_method(arguments, name, receiver, frame)?;
+        type_checks::settle(self.alloc, tree)
     }
 
     /// The one argument of a method that takes one and no lambda.
@@ -51,7 +51,7 @@ impl Binder<'_> {
         }
     }
 
-    /// A search in a text.
+    /// A search for one text in another.
     #[cycle(binding)]
     fn search(
         &self,
@@ -63,8 +63,8 @@ impl Binder<'_> {
         ensures { Gives (search_at self.now frame.now name.now arguments.now text) result }
     {
         let op = search_named(name).ok_or(TermError::IllTyped)?;
-        let sought = self.sole_argument(arguments, frame)?;
-        operations::search(self.alloc, op, text, sought)
+        let needle = self.sole_argument(arguments, frame)?;
+        operations::search(self.alloc, op, text, needle)
     }
 
     /// A method of what is enumerated.
@@ -73,41 +73,40 @@ impl Binder<'_> {
         &self,
         arguments: &[Argument<Term>],
         name: &str,
-        of: Tree,
+        receiver: Tree,
         frame: &Frame<'_>,
     ) -> Result<Tree, TermError>
-        ensures { Gives (called_at self.now frame.now name.now arguments.now of) result }
+        ensures { Gives (called_at self.now frame.now name.now arguments.now receiver) result }
     {
-        let Tree { ty, form } = type_checks::items(of)?;
-        let tree = self.items_method(arguments, name, form, ty, frame)?;
+        let items = type_checks::items(receiver)?;
+        let tree = self.items_method(arguments, name, items, frame)?;
         type_checks::within_limit(tree)
     }
 
-    /// A method on items of this type, which the form gives.
+    /// A method on items.
     #[cycle(binding)]
     fn items_method(
         &self,
         arguments: &[Argument<Term>],
         name: &str,
-        source: Held<Form>,
-        item: Ty,
+        items: Tree,
         frame: &Frame<'_>,
     ) -> Result<Tree, TermError>
-        ensures { Gives (option_and_then (enumerable_at self.now frame.now source item)
+        ensures { Gives (option_and_then (enumerable_at self.now frame.now items)
             (enumerable_call name.now arguments.now)) result }
     {
         match arguments {
             [] => {
                 let method = simple_method(name).ok_or(TermError::IllTyped)?;
-                method_trees::plain(self.alloc, method, source, item)
+                method_trees::plain(self.alloc, method, items)
             }
             [Argument::Value(argument)] => {
                 let method = method_with_value(name).ok_or(TermError::IllTyped)?;
-                self.value_method(argument, method, source, item, frame)
+                self.value_method(argument, method, items, frame)
             }
             [Argument::Lambda(parameter, body)] => {
                 let method = method_with_lambda(name).ok_or(TermError::IllTyped)?;
-                self.lambda_method(body, parameter, method, source, item, frame)
+                self.lambda_method(body, parameter, method, items, frame)
             }
             _ => Err(TermError::IllTyped),
         }
@@ -119,15 +118,14 @@ impl Binder<'_> {
         &self,
         argument: &Term,
         method: Given,
-        source: Held<Form>,
-        item: Ty,
+        items: Tree,
         frame: &Frame<'_>,
     ) -> Result<Tree, TermError>
-        ensures { Gives (enumerable_at self.now frame.now source item
+        ensures { Gives (enumerable_at self.now frame.now items
             (With method argument.now)) result }
     {
         let argument = self.term(argument, frame)?;
-        method_trees::with_value(self.alloc, method, source, &item, argument)
+        method_trees::with_value(self.alloc, method, items, argument)
     }
 
     /// A method with a lambda.
@@ -137,15 +135,14 @@ impl Binder<'_> {
         body: &Term,
         parameter: &Txt,
         method: Through,
-        source: Held<Form>,
-        item: Ty,
+        items: Tree,
         frame: &Frame<'_>,
     ) -> Result<Tree, TermError>
-        ensures { Gives (enumerable_at self.now frame.now source item
+        ensures { Gives (enumerable_at self.now frame.now items
             (By method parameter.now body.now)) result }
     {
-        let body = self.lambda(body, parameter, &item, frame)?;
-        method_trees::with_lambda(self.alloc, method, source, item, body)
+        let body = self.lambda(body, parameter, &items.ty, frame)?;
+        method_trees::with_lambda(self.alloc, method, items, body)
     }
 
     /// The body of a lambda, whose parameter has this type and repeats no local name.

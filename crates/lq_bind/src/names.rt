@@ -8,6 +8,7 @@ ghost use Rattle.lq_bind.specs.Bound.{literal_tree, rows_tree};
 ghost use Rattle.lq_bind.specs.Outcomes.{Gives};
 
 use crate::error::TermError;
+use crate::trees::new_tree;
 use lq_store::Store;
 use lq_tree::{Form, Tree};
 use lq_typing::copy_ty;
@@ -15,11 +16,10 @@ use lq_value::{Held, Scalar, Txt, Ty, copy_scalar};
 use std::alloc::{AllocError, Global};
 
 /// A literal of this type.
-fn literal(alloc: Global, ty: Ty, value: Scalar) -> Result<Tree, AllocError>
-    ensures { IfOk result (λ tree. tree ≡ literal_tree ty value) }
+fn literal(alloc: Global, ty: Ty, value: Scalar) -> Result<Tree, TermError>
+    ensures { Gives (Some (literal_tree ty value)) result }
 {
-    let form = Held::new(alloc, Form::Literal(value))?;
-    Ok(Tree { ty, form })
+    new_tree(alloc, ty, Form::Literal(value))
 }
 
 /// An integer.
@@ -27,7 +27,7 @@ fn literal(alloc: Global, ty: Ty, value: Scalar) -> Result<Tree, AllocError>
 pub(crate) fn integer(alloc: Global, number: i32) -> Result<Tree, TermError>
     ensures { Gives (Some (literal_tree ty.Int (scalar.Int number))) result }
 {
-    Ok(literal(alloc, Ty::Int, Scalar::Int(number))?)
+    literal(alloc, Ty::Int, Scalar::Int(number))
 }
 
 /// A text.
@@ -36,7 +36,7 @@ pub(crate) fn text(alloc: Global, text: &Txt) -> Result<Tree, TermError>
     ensures { Gives (Some (literal_tree ty.Str (scalar.Text text.now))) result }
 {
     let text = Txt::from_str(alloc, text.as_str())?;
-    Ok(literal(alloc, Ty::Str, Scalar::Text(text))?)
+    literal(alloc, Ty::Str, Scalar::Text(text))
 }
 
 /// `true` or `false`.
@@ -44,22 +44,15 @@ pub(crate) fn text(alloc: Global, text: &Txt) -> Result<Tree, TermError>
 pub(crate) fn truth(alloc: Global, truth: bool) -> Result<Tree, TermError>
     ensures { Gives (Some (literal_tree ty.Bool (scalar.Bool truth))) result }
 {
-    Ok(literal(alloc, Ty::Bool, Scalar::Bool(truth))?)
+    literal(alloc, Ty::Bool, Scalar::Bool(truth))
 }
 
-/// The tree of null, which also stands for what has no type.
-pub(crate) fn null_tree(alloc: Global) -> Result<Tree, AllocError>
-    ensures { IfOk result (λ tree. tree ≡ literal_tree ty.Null scalar.Null) }
-{
-    literal(alloc, Ty::Null, Scalar::Null)
-}
-
-/// `null`
+/// `null`, which also stands for what has no type.
 #[inline(never)]
 pub(crate) fn null(alloc: Global) -> Result<Tree, TermError>
     ensures { Gives (Some (literal_tree ty.Null scalar.Null)) result }
 {
-    Ok(null_tree(alloc)?)
+    literal(alloc, Ty::Null, Scalar::Null)
 }
 
 /// The rows of the table of this name.
@@ -77,8 +70,8 @@ pub(crate) fn rows(alloc: Global, store: &Store, name: &str) -> Result<Option<Tr
 }
 
 /// A variable of the session, which is its value.
-pub(crate) fn variable(alloc: Global, ty: &Ty, value: &Scalar) -> Result<Tree, AllocError>
-    ensures { IfOk result (λ tree. tree ≡ literal_tree ty.now value.now) }
+pub(crate) fn variable(alloc: Global, ty: &Ty, value: &Scalar) -> Result<Tree, TermError>
+    ensures { Gives (Some (literal_tree ty.now value.now)) result }
 {
     let ty = copy_ty(alloc, ty)?;
     literal(alloc, ty, copy_scalar(alloc, value)?)

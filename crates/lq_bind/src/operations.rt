@@ -1,7 +1,8 @@
 //! The trees of operators over the trees of their operands (ECMA-334, operators).
-ghost use Rattle.std.specs.Prelude.{◌≡◌, true, IfOk};
+ghost use Rattle.std.specs.Prelude.{◌≡◌, ◌&&◌, true, Some};
 ghost use Rattle.lq_value.specs.declared.ty.Ty.{out-Ty};
 ghost use Rattle.lq_language.specs.OperandMeaning.{equality_truth};
+ghost use Rattle.lq_language.specs.OperandTypes.{is_bool};
 ghost use Rattle.lq_language.specs.Operations.{operation_of};
 ghost use Rattle.lq_language.specs.Typing.{type_of_choice};
 ghost use Rattle.lq_grammar.specs.declared.syntax.Unary.TheVariants as unary;
@@ -15,12 +16,13 @@ ghost use Rattle.lq_bind.specs.Outcomes.{Gives};
 ghost use Rattle.lq_bind.specs.Operators.{operation_tree};
 
 use crate::error::TermError;
+use crate::trees::{into_form, new_form, tree_if, typed_tree};
 use lq_grammar::{Binary, Unary};
 use lq_language::Op;
 use lq_tree::{Form, Tree};
 use lq_typing::{choice_type, coalesced, is_bool, is_equality, is_number, is_text, operated_type};
 use lq_value::{Held, Ty};
-use std::alloc::{AllocError, Global};
+use std::alloc::Global;
 
 /// An operator between two operands.
 #[derive(Clone, Copy)]
@@ -33,14 +35,6 @@ pub(crate) enum Infix {
     Or,
     /// `??`
     Coalesce,
-}
-
-/// The form of a tree.
-pub(crate) fn into_form(tree: Tree) -> Held<Form>
-    ensures { result ≡ tree.form }
-{
-    let Tree { form, .. } = tree;
-    form
 }
 
 /// What is done to the operands of a sign.
@@ -73,7 +67,8 @@ fn operation_at(sign: Binary, left: &Ty, right: &Ty) -> Op
     }
 }
 
-/// Whether the type is that of a row, a record or a group, which may be asked only whether it is null.
+/// Whether the type is that of a row, a record or a group, which may be asked only whether it is
+/// null.
 #[tactic(auto, using(crate::proofs::Layers::types))]
 fn is_object(ty: &Ty) -> bool
     ensures { result ≡ is_object (out-Ty ty.now) }
@@ -89,33 +84,22 @@ fn is_literal(form: &Form) -> bool
     matches!(form, Form::Literal(_))
 }
 
-/// What `==` or `!=` says of operands that are the same.
-fn of_same(sign: Binary) -> bool
+/// Whether `==` or `!=` is true of operands that are the same.
+fn is_true_of_same(sign: Binary) -> bool
     ensures { result ≡ equality_truth sign true }
 {
     !matches!(sign, Binary::NotEqual)
 }
 
-/// A pair of two forms, which are both evaluated.
-fn pair(alloc: Global, left: Held<Form>, right: Held<Form>) -> Result<Held<Form>, AllocError>
-    ensures { IfOk result (λ f. f ≡ form.Pair left right) }
-{
-    Held::new(alloc, Form::Pair(left, right))
-}
-
 /// The first operand, which is tested for null beside one that is null.
-fn tested_first(
-    alloc: Global,
-    left: Held<Form>,
-    right: Held<Form>,
-) -> Result<Held<Form>, AllocError>
-    ensures { IfOk result (λ f. f ≡ tested_first left right) }
+fn tested_first(alloc: Global, left: Held<Form>, right: Held<Form>) -> Result<Held<Form>, TermError>
+    ensures { Gives (Some (tested_first left right)) result }
 {
     if is_literal(right.get()) {
         return Ok(left);
     }
-    let pair = pair(alloc, left, right)?;
-    Held::new(alloc, Form::First(pair))
+    let pair = new_form(alloc, Form::Pair(left, right))?;
+    new_form(alloc, Form::First(pair))
 }
 
 /// The second operand, which is tested for null beside one that is null.
@@ -123,33 +107,14 @@ fn tested_second(
     alloc: Global,
     left: Held<Form>,
     right: Held<Form>,
-) -> Result<Held<Form>, AllocError>
-    ensures { IfOk result (λ f. f ≡ tested_second left right) }
+) -> Result<Held<Form>, TermError>
+    ensures { Gives (Some (tested_second left right)) result }
 {
     if is_literal(left.get()) {
         return Ok(right);
     }
-    let pair = pair(alloc, left, right)?;
-    Held::new(alloc, Form::Second(pair))
-}
-
-/// Whether what a form means is null, or isn't.
-fn null_test(alloc: Global, sign: Binary, tested: Held<Form>) -> Result<Held<Form>, AllocError>
-    ensures { IfOk result (λ f. f ≡ form.IsNull (equality_truth sign true) tested) }
-{
-    Held::new(alloc, Form::IsNull(of_same(sign), tested))
-}
-
-/// An operation on two operands.
-fn of_two(
-    alloc: Global,
-    op: Op,
-    left: Held<Form>,
-    right: Held<Form>,
-) -> Result<Held<Form>, AllocError>
-    ensures { IfOk result (λ f. f ≡ form.Binary op left right) }
-{
-    Held::new(alloc, Form::Binary(op, left, right))
+    let pair = new_form(alloc, Form::Pair(left, right))?;
+    new_form(alloc, Form::Second(pair))
 }
 
 /// `==` and `!=`.
@@ -158,18 +123,19 @@ fn equality_form(
     sign: Binary,
     left: Tree,
     right: Tree,
-) -> Result<Held<Form>, AllocError>
-    ensures { IfOk result (λ f. f ≡ equality_form sign left right) }
+) -> Result<Held<Form>, TermError>
+    ensures { Gives (Some (equality_form sign left right)) result }
 {
     if is_object(&left.ty) {
-        let tested = tested_first(alloc, into_form(left), into_form(right))?;
-        return null_test(alloc, sign, tested);
+        let operand = tested_first(alloc, into_form(left), into_form(right))?;
+        return new_form(alloc, Form::IsNull(is_true_of_same(sign), operand));
     }
     if is_object(&right.ty) {
-        let tested = tested_second(alloc, into_form(left), into_form(right))?;
-        return null_test(alloc, sign, tested);
+        let operand = tested_second(alloc, into_form(left), into_form(right))?;
+        return new_form(alloc, Form::IsNull(is_true_of_same(sign), operand));
     }
-    of_two(alloc, operation_of(sign), into_form(left), into_form(right))
+    let op = operation_of(sign);
+    new_form(alloc, Form::Binary(op, into_form(left), into_form(right)))
 }
 
 /// The form of an operator over two operands.
@@ -178,14 +144,14 @@ fn binary_form(
     sign: Binary,
     left: Tree,
     right: Tree,
-) -> Result<Held<Form>, AllocError>
-    ensures { IfOk result (λ f. f ≡ binary_form sign left right) }
+) -> Result<Held<Form>, TermError>
+    ensures { Gives (Some (binary_form sign left right)) result }
 {
     if is_equality(sign) {
         return equality_form(alloc, sign, left, right);
     }
     let op = operation_at(sign, &left.ty, &right.ty);
-    of_two(alloc, op, into_form(left), into_form(right))
+    new_form(alloc, Form::Binary(op, into_form(left), into_form(right)))
 }
 
 /// A sign between two operands.
@@ -197,60 +163,38 @@ fn binary(alloc: Global, sign: Binary, left: Tree, right: Tree) -> Result<Tree, 
     Ok(Tree { ty, form })
 }
 
-/// The form of `&&`.
-fn and_form(alloc: Global, left: Held<Form>, right: Held<Form>) -> Result<Held<Form>, AllocError>
-    ensures { IfOk result (λ f. f ≡ form.And left right) }
+/// Whether both types are that of a truth value.
+fn are_bools(left: &Ty, right: &Ty) -> bool
+    ensures { result ≡ is_bool (out-Ty left.now) && is_bool (out-Ty right.now) }
 {
-    Held::new(alloc, Form::And(left, right))
+    is_bool(left) && is_bool(right)
 }
 
 /// `&&`
 fn and(alloc: Global, left: Tree, right: Tree) -> Result<Tree, TermError>
     ensures { Gives (and_tree left right) result }
 {
-    if !is_bool(&left.ty) || !is_bool(&right.ty) {
-        return Err(TermError::IllTyped);
-    }
-    let form = and_form(alloc, into_form(left), into_form(right))?;
-    Ok(Tree { ty: Ty::Bool, form })
-}
-
-/// The form of `||`.
-fn or_form(alloc: Global, left: Held<Form>, right: Held<Form>) -> Result<Held<Form>, AllocError>
-    ensures { IfOk result (λ f. f ≡ form.Or left right) }
-{
-    Held::new(alloc, Form::Or(left, right))
+    let is_typed = are_bools(&left.ty, &right.ty);
+    let form = Form::And(into_form(left), into_form(right));
+    tree_if(alloc, is_typed, Ty::Bool, form)
 }
 
 /// `||`
 fn or(alloc: Global, left: Tree, right: Tree) -> Result<Tree, TermError>
     ensures { Gives (or_tree left right) result }
 {
-    if !is_bool(&left.ty) || !is_bool(&right.ty) {
-        return Err(TermError::IllTyped);
-    }
-    let form = or_form(alloc, into_form(left), into_form(right))?;
-    Ok(Tree { ty: Ty::Bool, form })
-}
-
-/// The form of `??`.
-fn coalesce_form(
-    alloc: Global,
-    left: Held<Form>,
-    right: Held<Form>,
-) -> Result<Held<Form>, AllocError>
-    ensures { IfOk result (λ f. f ≡ form.Coalesce left right) }
-{
-    Held::new(alloc, Form::Coalesce(left, right))
+    let is_typed = are_bools(&left.ty, &right.ty);
+    let form = Form::Or(into_form(left), into_form(right));
+    tree_if(alloc, is_typed, Ty::Bool, form)
 }
 
 /// `??`
 fn coalesce(alloc: Global, left: Tree, right: Tree) -> Result<Tree, TermError>
     ensures { Gives (coalesce_tree left right) result }
 {
-    let ty = coalesced(&left.ty, &right.ty).ok_or(TermError::IllTyped)?;
-    let form = coalesce_form(alloc, into_form(left), into_form(right))?;
-    Ok(Tree { ty, form })
+    let ty = coalesced(&left.ty, &right.ty);
+    let form = Form::Coalesce(into_form(left), into_form(right));
+    typed_tree(alloc, ty, form)
 }
 
 /// An operator between two operands.
@@ -275,23 +219,22 @@ pub(crate) fn operation(
 fn minus(alloc: Global, operand: Tree) -> Result<Tree, TermError>
     ensures { Gives (unary_tree unary.Minus operand) result }
 {
-    if !is_number(&operand.ty) {
-        return Err(TermError::IllTyped);
-    }
+    let is_typed = is_number(&operand.ty);
     let Tree { ty, form } = operand;
-    let form = Held::new(alloc, Form::Unary(Op::Minus, form))?;
-    Ok(Tree { ty, form })
+    tree_if(alloc, is_typed, ty, Form::Unary(Op::Minus, form))
 }
 
 /// `!` before a truth value.
 fn not(alloc: Global, operand: Tree) -> Result<Tree, TermError>
     ensures { Gives (unary_tree unary.Not operand) result }
 {
-    if !is_bool(&operand.ty) {
-        return Err(TermError::IllTyped);
-    }
-    let form = Held::new(alloc, Form::Unary(Op::Not, into_form(operand)))?;
-    Ok(Tree { ty: Ty::Bool, form })
+    let is_typed = is_bool(&operand.ty);
+    tree_if(
+        alloc,
+        is_typed,
+        Ty::Bool,
+        Form::Unary(Op::Not, into_form(operand)),
+    )
 }
 
 /// An operator with one operand.
@@ -302,18 +245,6 @@ pub(crate) fn unary(alloc: Global, sign: Unary, operand: Tree) -> Result<Tree, T
         Unary::Minus => minus(alloc, operand),
         Unary::Not => not(alloc, operand),
     }
-}
-
-/// The form of a conditional.
-fn choice_form(
-    alloc: Global,
-    condition: Held<Form>,
-    left: Held<Form>,
-    right: Held<Form>,
-) -> Result<Held<Form>, AllocError>
-    ensures { IfOk result (λ f. f ≡ form.Conditional condition left right) }
-{
-    Held::new(alloc, Form::Conditional(condition, left, right))
 }
 
 /// A choice between two operands.
@@ -329,9 +260,8 @@ fn choice(alloc: Global, condition: Held<Form>, left: Tree, right: Tree) -> Resu
         ty: right_type,
         form: right,
     } = right;
-    let ty = choice_type(left_type, right_type).ok_or(TermError::IllTyped)?;
-    let form = choice_form(alloc, condition, left, right)?;
-    Ok(Tree { ty, form })
+    let ty = choice_type(left_type, right_type);
+    typed_tree(alloc, ty, Form::Conditional(condition, left, right))
 }
 
 /// `? :`, with its condition first.
@@ -349,13 +279,11 @@ pub(crate) fn conditional(
     choice(alloc, into_form(condition), left, right)
 }
 
-/// A search in a text.
-pub(crate) fn search(alloc: Global, op: Op, text: Tree, sought: Tree) -> Result<Tree, TermError>
-    ensures { Gives (search_form op text sought) result }
+/// A search for one text in another.
+pub(crate) fn search(alloc: Global, op: Op, text: Tree, needle: Tree) -> Result<Tree, TermError>
+    ensures { Gives (search_form op text needle) result }
 {
-    if !is_text(&sought.ty) {
-        return Err(TermError::IllTyped);
-    }
-    let form = of_two(alloc, op, into_form(text), into_form(sought))?;
-    Ok(Tree { ty: Ty::Bool, form })
+    let is_typed = is_text(&needle.ty);
+    let form = Form::Binary(op, into_form(text), into_form(needle));
+    tree_if(alloc, is_typed, Ty::Bool, form)
 }

@@ -1,5 +1,5 @@
-//! The binding of calls that pair items: `SelectMany`, `Join` and `GroupJoin` (ECMA-334, from and join
-//! clauses).
+//! The binding of calls that pair items: `SelectMany`, `Join` and `GroupJoin` (ECMA-334, from and
+//! join clauses).
 ghost use Rattle.std.specs.Prelude.{◌≡◌, option_map};
 ghost use Rattle.lq_language.specs.ClauseTyping.{joined_name};
 ghost use Rattle.lq_bind.specs.Bound.{inner_side, joined_type};
@@ -28,19 +28,19 @@ pub(crate) struct InnerSide {
     pub(crate) ty: Ty,
 }
 
-/// The type of the name that a join leaves behind: that of an inner item; or with `into` that of the
-/// sequence of the matches, whose name repeats none that is known.
+/// The type of the name that a join leaves behind: that of an inner item; or with `into` that of
+/// the sequence of the matches, whose name repeats none that is known.
 fn joined_type(
     alloc: Global,
     into: &Option<Txt>,
     ty: Ty,
-    scope: &Frame<'_>,
+    frame: &Frame<'_>,
 ) -> Result<Ty, TermError>
-    ensures { Gives (joined_type (places_in scope.now) into.now ty) result }
+    ensures { Gives (joined_type (places_in frame.now) into.now ty) result }
 {
     match into {
         Some(name) => {
-            if !scope.is_fresh(name.as_str()) {
+            if !frame.is_fresh(name.as_str()) {
                 return Err(TermError::IllTyped);
             }
             Ok(Ty::Seq(Held::new(alloc, ty)?))
@@ -55,13 +55,13 @@ fn side_of(
     into: &Option<Txt>,
     inner: Tree,
     keys: (Held<Form>, Held<Form>),
-    scope: &Frame<'_>,
+    frame: &Frame<'_>,
 ) -> Result<InnerSide, TermError>
     ensures { Gives (option_map (inner_side inner keys)
-        (joined_type (places_in scope.now) into.now inner.ty)) result }
+        (joined_type (places_in frame.now) into.now inner.ty)) result }
 {
     let Tree { ty, form: items } = inner;
-    let ty = joined_type(alloc, into, ty, scope)?;
+    let ty = joined_type(alloc, into, ty, frame)?;
     Ok(InnerSide { items, keys, ty })
 }
 
@@ -83,7 +83,8 @@ impl Binder<'_> {
     ghost use Rattle.lq_bind.specs.Frames.{GivesStage, pattern_in, stage_in};
     ghost use Rattle.lq_bind.specs.Outcomes.{Gives};
 
-    /// The inner sequence of `SelectMany`, in the scope of an item; the name repeats none that is known.
+    /// The inner sequence of `SelectMany`, in the scope of an item; the name repeats none that is
+    /// known.
     #[cycle(binding)]
     fn inner_source(
         &self,
@@ -95,7 +96,7 @@ impl Binder<'_> {
         ensures { Gives (inner_at self.now frame.now (pattern_in variables.now) name.now
             source.now) result }
     {
-        let inner = (&*frame).with(&*variables);
+        let inner = (&*frame).with_item(&*variables);
         if !inner.is_fresh(name.as_str()) {
             return Err(TermError::IllTyped);
         }
@@ -115,7 +116,7 @@ impl Binder<'_> {
         ensures { GivesStage (operator_at self.now frame.now
             (query.SelectMany name.now source.now pair.now) (stage_in pipeline)) result }
     {
-        let inner = self.inner_source(source, name, &pipeline.variables, frame)?;
+        let inner = self.inner_source(source, name, pipeline.variables.get(), frame)?;
         self.expand(pair, name, pipeline, inner, frame)
     }
 
@@ -138,7 +139,7 @@ impl Binder<'_> {
         } = pipeline;
         let Tree { ty, form: inner } = inner;
         let item = self.pair(pair, name, ty, variables, frame)?;
-        Ok(pipelines::expand(self.alloc, source, inner, item)?)
+        pipelines::expand(self.alloc, source, inner, item)
     }
 
     /// What comes of a pair.
@@ -148,7 +149,7 @@ impl Binder<'_> {
         pair: &Paired<Term>,
         name: &Txt,
         ty: Ty,
-        variables: Variables,
+        variables: Held<Variables>,
         frame: &Frame<'_>,
     ) -> Result<Pipeline, TermError>
         ensures { GivesStage (pair_at self.now frame.now (pattern_in variables) name.now ty
@@ -157,9 +158,9 @@ impl Binder<'_> {
         match pair {
             Paired::Pair => {
                 let item = frame.depth()?;
-                Ok(pipelines::slots(self.alloc, variables, name, ty, item)?)
+                pipelines::slots(self.alloc, variables, name, ty, item)
             }
-            Paired::Value(value) => self.pair_value(value, name, &ty, &variables, frame),
+            Paired::Value(value) => self.pair_value(value, name, &ty, variables.get(), frame),
         }
     }
 
@@ -176,14 +177,14 @@ impl Binder<'_> {
         ensures { GivesStage (pair_at self.now frame.now (pattern_in variables.now) name.now
             ty.now (paired.Value value.now)) result }
     {
-        let item = (&*frame).with(&*variables);
-        let scope = (&item).with_name(&*name, &*ty);
-        let value = self.term(value, &scope)?;
+        let item = (&*frame).with_item(&*variables);
+        let inner = (&item).with_name(&*name, &*ty);
+        let value = self.term(value, &inner)?;
         pipelines::value(self.alloc, value)
     }
 
-    /// The inner sequence of a join, which sees none of the query's range variables; the name of its
-    /// items repeats none that is known.
+    /// The inner sequence of a join, which sees none of the query's range variables; the name of
+    /// its items repeats none that is known.
     #[cycle(binding)]
     fn join_source(
         &self,
@@ -194,7 +195,8 @@ impl Binder<'_> {
         ensures { Gives (join_source_at self.now frame.now (pattern_in variables.now) join.now)
             result }
     {
-        if !(&*frame).with(&*variables).is_fresh(join.name.as_str()) {
+        let inner = (&*frame).with_item(&*variables);
+        if !inner.is_fresh(join.name.as_str()) {
             return Err(TermError::IllTyped);
         }
         self.source(&join.source, frame)
@@ -213,9 +215,9 @@ impl Binder<'_> {
             ty.now) result }
     {
         let outer = self.item_term(&join.outer_key, variables, frame)?;
-        let scope = (&*frame).with_name(&join.name, &*ty);
-        let inner = self.term(&join.inner_key, &scope)?;
-        pipelines::keys(outer, inner)
+        let item = (&*frame).with_name(&join.name, &*ty);
+        let inner = self.term(&join.inner_key, &item)?;
+        pipelines::join_keys(outer, inner)
     }
 
     /// The inner side of a join.
@@ -231,8 +233,8 @@ impl Binder<'_> {
     {
         let inner = self.join_source(join, variables, frame)?;
         let keys = self.join_keys(join, variables, &inner.ty, frame)?;
-        let scope = (&*frame).with(&*variables);
-        side_of(self.alloc, &join.into, inner, keys, &scope)
+        let item = (&*frame).with_item(&*variables);
+        side_of(self.alloc, &join.into, inner, keys, &item)
     }
 
     /// `Join` or `GroupJoin`, with this inner side.
@@ -256,6 +258,6 @@ impl Binder<'_> {
             keys,
         };
         let item = self.pair(pair, joined_name(join), ty, variables, frame)?;
-        Ok(pipelines::join(self.alloc, sides, join.into.is_some(), item)?)
+        pipelines::join(self.alloc, sides, join.into.is_some(), item)
     }
 }

@@ -11,7 +11,7 @@ ghost use Rattle.lq_bind.specs.Outcomes.{Gives};
 ghost use Rattle.lq_bind.specs.Stages as stages;
 
 use crate::error::TermError;
-use crate::operations::into_form;
+use crate::trees::{into_form, new_form, new_tree};
 use crate::type_checks;
 use crate::variables::{Variables, unnamed};
 use lq_grammar::SortKey;
@@ -23,7 +23,7 @@ use std::alloc::{AllocError, Global};
 /// A query as far as its calls are bound: the form of a sequence, and what its items stand for.
 #[derive(Drop)]
 pub(crate) struct Pipeline {
-    pub(crate) variables: Variables,
+    pub(crate) variables: Held<Variables>,
     pub(crate) form: Held<Form>,
 }
 
@@ -38,35 +38,54 @@ pub(crate) struct Sides {
     pub(crate) keys: (Held<Form>, Held<Form>),
 }
 
-/// A pair of the item in this slot and of what the second form means.
-fn item_beside(alloc: Global, item: usize, second: Held<Form>) -> Result<Held<Form>, AllocError>
-    ensures { IfOk result (λ f. f ≡ form.Pair (form.Slot item) second) }
+/// A query that has come to this form, whose items stand for these variables.
+fn new_pipeline(
+    alloc: Global,
+    variables: Held<Variables>,
+    form: Form,
+) -> Result<Pipeline, TermError>
+    ensures { GivesStage (Some (pipeline_of (pattern_in variables) form)) result }
 {
-    let item = Held::new(alloc, Form::Slot(item))?;
-    Held::new(alloc, Form::Pair(item, second))
+    let form = new_form(alloc, form)?;
+    Ok(Pipeline { variables, form })
+}
+
+/// The form that a query has come to.
+pub(crate) fn into_source(pipeline: Pipeline) -> Held<Form>
+    ensures { result ≡ pipeline.form }
+{
+    let Pipeline { form, .. } = pipeline;
+    form
+}
+
+/// A pair of the item in this slot and of what the second form means.
+fn item_beside(alloc: Global, item: usize, second: Held<Form>) -> Result<Held<Form>, TermError>
+    ensures { Gives (Some (form.Pair (form.Slot item) second)) result }
+{
+    let item = new_form(alloc, Form::Slot(item))?;
+    new_form(alloc, Form::Pair(item, second))
 }
 
 /// Variables with one more.
 #[tactic(auto, using(crate::proofs::FrameLemmas::patterns))]
 fn with_variable(
     alloc: Global,
-    variables: Variables,
+    variables: Held<Variables>,
     name: &Txt,
     ty: Ty,
-) -> Result<Variables, AllocError>
+) -> Result<Held<Variables>, AllocError>
     ensures { IfOk result (λ more. pattern_in more ≡ With (pattern_in variables) name.now ty) }
 {
     let name = Txt::from_str(alloc, name.as_str())?;
-    Ok(Variables::With(Held::new(alloc, variables)?, name, ty))
+    Held::new(alloc, Variables::With(variables, name, ty))
 }
 
 /// The source as a sequence: a fault met in making it is the ending of its stream.
-pub(crate) fn sequence(alloc: Global, source: Tree) -> Result<Tree, AllocError>
-    ensures { IfOk result (λ sequence. sequence ≡ tree_of source.ty (form.Sequence source.form)) }
+pub(crate) fn sequence(alloc: Global, source: Tree) -> Result<Tree, TermError>
+    ensures { Gives (Some (tree_of source.ty (form.Sequence source.form))) result }
 {
     let Tree { ty, form } = source;
-    let form = Held::new(alloc, Form::Sequence(form))?;
-    Ok(Tree { ty, form })
+    new_tree(alloc, ty, Form::Sequence(form))
 }
 
 /// The items of a body, under its range variable.
@@ -76,18 +95,17 @@ pub(crate) fn start(alloc: Global, name: &Txt, items: Tree) -> Result<Pipeline, 
 {
     let Tree { ty, form } = items;
     let name = Txt::from_str(alloc, name.as_str())?;
-    let variables = Variables::One(name, ty);
+    let variables = Held::new(alloc, Variables::One(name, ty))?;
     Ok(Pipeline { variables, form })
 }
 
 /// The item in this slot.
-pub(crate) fn item(alloc: Global, variables: &Variables, slot: usize) -> Result<Tree, AllocError>
-    ensures { IfOk result (λ item. item
-        ≡ tree_of (pattern_type (pattern_in variables.now)) (form.Slot slot)) }
+pub(crate) fn item(alloc: Global, variables: &Variables, slot: usize) -> Result<Tree, TermError>
+    ensures { Gives (Some (tree_of (pattern_type (pattern_in variables.now)) (form.Slot slot)))
+        result }
 {
     let ty = variables.item_type(alloc)?;
-    let form = Held::new(alloc, Form::Slot(slot))?;
-    Ok(Tree { ty, form })
+    new_tree(alloc, ty, Form::Slot(slot))
 }
 
 /// Items that are given by this tree, under no name, where it isn't null by its type.
@@ -109,8 +127,7 @@ pub(crate) fn filter(
 {
     let condition = type_checks::condition(condition)?;
     let Pipeline { variables, form } = pipeline;
-    let form = Held::new(alloc, Form::Where(form, into_form(condition)))?;
-    Ok(Pipeline { variables, form })
+    new_pipeline(alloc, variables, Form::Where(form, into_form(condition)))
 }
 
 /// `Select`, with its value.
@@ -118,21 +135,7 @@ pub(crate) fn select(alloc: Global, source: Held<Form>, tree: Tree) -> Result<Pi
     ensures { GivesStage (stages.selected_stage source tree) result }
 {
     let Pipeline { variables, form } = value(alloc, tree)?;
-    let form = Held::new(alloc, Form::Select(source, form))?;
-    Ok(Pipeline { variables, form })
-}
-
-/// Each item of the source, which stands in this slot, beside what the second form means.
-fn widened_form(
-    alloc: Global,
-    source: Held<Form>,
-    item: usize,
-    second: Held<Form>,
-) -> Result<Held<Form>, AllocError>
-    ensures { IfOk result (λ f. f ≡ form.Select source (form.Pair (form.Slot item) second)) }
-{
-    let pair = item_beside(alloc, item, second)?;
-    Held::new(alloc, Form::Select(source, pair))
+    new_pipeline(alloc, variables, Form::Select(source, form))
 }
 
 /// `Select` of each item, which stands in this slot, beside the value of one more name.
@@ -143,39 +146,40 @@ pub(crate) fn widen(
     item: usize,
     value: Tree,
 ) -> Result<Pipeline, TermError>
-    ensures { GivesStage (stages.widened_stage (stage_in pipeline) item name.now value) result }
+    ensures { GivesStage (Some (stages.widened_stage (stage_in pipeline) item name.now value))
+        result }
 {
-    let Tree { ty, form: second } = type_checks::not_null(value)?;
+    let Tree { ty, form: second } = value;
     let Pipeline {
         variables,
         form: source,
     } = pipeline;
-    let form = widened_form(alloc, source, item, second)?;
     let variables = with_variable(alloc, variables, name, ty)?;
-    Ok(Pipeline { variables, form })
+    let pair = item_beside(alloc, item, second)?;
+    new_pipeline(alloc, variables, Form::Select(source, pair))
 }
 
 /// A pair of what stands in this slot and in the next one.
-fn slots_form(alloc: Global, item: usize) -> Result<Held<Form>, AllocError>
-    ensures { IfOk result (λ f. f ≡ form.Pair (form.Slot item) (form.Slot (item + 1))) }
+fn slots_form(alloc: Global, item: usize) -> Result<Held<Form>, TermError>
+    ensures { Gives (Some (form.Pair (form.Slot item) (form.Slot (item + 1)))) result }
 {
     let Some(next) = item.checked_add(1) else {
-        return Err(AllocError);
+        return Err(TermError::Memory);
     };
-    let next = Held::new(alloc, Form::Slot(next))?;
+    let next = new_form(alloc, Form::Slot(next))?;
     item_beside(alloc, item, next)
 }
 
 /// A pair of the items in this slot and in the next one, of which the second has this name.
 pub(crate) fn slots(
     alloc: Global,
-    variables: Variables,
+    variables: Held<Variables>,
     name: &Txt,
     ty: Ty,
     item: usize,
-) -> Result<Pipeline, AllocError>
-    ensures { IfOk result (λ pair. stage_in pair
-        ≡ stages.slots_stage (pattern_in variables) name.now ty item) }
+) -> Result<Pipeline, TermError>
+    ensures { GivesStage (Some (stages.slots_stage (pattern_in variables) name.now ty item))
+        result }
 {
     let variables = with_variable(alloc, variables, name, ty)?;
     let form = slots_form(alloc, item)?;
@@ -188,17 +192,15 @@ pub(crate) fn expand(
     source: Held<Form>,
     inner: Held<Form>,
     item: Pipeline,
-) -> Result<Pipeline, AllocError>
-    ensures { IfOk result (λ items. stage_in items
-        ≡ stages.expanded_stage source inner (stage_in item)) }
+) -> Result<Pipeline, TermError>
+    ensures { GivesStage (Some (stages.expanded_stage source inner (stage_in item))) result }
 {
     let Pipeline { variables, form } = item;
-    let form = Held::new(alloc, Form::SelectMany(source, inner, form))?;
-    Ok(Pipeline { variables, form })
+    new_pipeline(alloc, variables, Form::SelectMany(source, inner, form))
 }
 
 /// The keys of a join, where they can be compared.
-pub(crate) fn keys(outer: Tree, inner: Tree) -> Result<(Held<Form>, Held<Form>), TermError>
+pub(crate) fn join_keys(outer: Tree, inner: Tree) -> Result<(Held<Form>, Held<Form>), TermError>
     ensures { Gives (stages.join_keys outer inner) result }
 {
     if !are_join_keys(&outer.ty, &inner.ty) {
@@ -211,11 +213,11 @@ pub(crate) fn keys(outer: Tree, inner: Tree) -> Result<(Held<Form>, Held<Form>),
 fn join_form(
     alloc: Global,
     sides: Sides,
-    grouped: bool,
+    is_grouped: bool,
     item: Held<Form>,
-) -> Result<Held<Form>, AllocError>
-    ensures { IfOk result
-        (λ f. f ≡ stages.join_form sides.outer sides.inner sides.keys grouped item) }
+) -> Result<Held<Form>, TermError>
+    ensures { Gives (Some (stages.join_form sides.outer sides.inner sides.keys is_grouped item))
+        result }
 {
     let Sides { outer, inner, keys } = sides;
     let (outer_key, inner_key) = keys;
@@ -223,25 +225,25 @@ fn join_form(
         inner: inner.into_inner(),
         outer_key: outer_key.into_inner(),
         inner_key: inner_key.into_inner(),
-        grouped,
+        grouped: is_grouped,
         result: item.into_inner(),
     };
     let parts = Held::new(alloc, parts)?;
-    Held::new(alloc, Form::Join(outer, parts))
+    new_form(alloc, Form::Join(outer, parts))
 }
 
 /// `Join`, or `GroupJoin` where the matches are grouped: what comes of each pair.
 pub(crate) fn join(
     alloc: Global,
     sides: Sides,
-    grouped: bool,
+    is_grouped: bool,
     item: Pipeline,
-) -> Result<Pipeline, AllocError>
-    ensures { IfOk result (λ items. stage_in items ≡ pipeline_of (pattern_in item.variables)
-        (stages.join_form sides.outer sides.inner sides.keys grouped item.form)) }
+) -> Result<Pipeline, TermError>
+    ensures { GivesStage (Some (pipeline_of (pattern_in item.variables)
+        (stages.join_form sides.outer sides.inner sides.keys is_grouped item.form))) result }
 {
     let Pipeline { variables, form } = item;
-    let form = join_form(alloc, sides, grouped, form)?;
+    let form = join_form(alloc, sides, is_grouped, form)?;
     Ok(Pipeline { variables, form })
 }
 
@@ -250,17 +252,16 @@ pub(crate) fn order_by(
     alloc: Global,
     pipeline: Pipeline,
     keys: List<SortKey<Form>>,
-) -> Result<Pipeline, AllocError>
-    ensures { IfOk result (λ items. stage_in items
-        ≡ pipeline_of (pattern_in pipeline.variables) (form.OrderBy pipeline.form keys)) }
+) -> Result<Pipeline, TermError>
+    ensures { GivesStage (Some (pipeline_of (pattern_in pipeline.variables)
+        (form.OrderBy pipeline.form keys))) result }
 {
     let Pipeline { variables, form } = pipeline;
-    let form = Held::new(alloc, Form::OrderBy(form, keys))?;
-    Ok(Pipeline { variables, form })
+    new_pipeline(alloc, variables, Form::OrderBy(form, keys))
 }
 
 /// Groups that no name stands for, with keys of the first type.
-fn groups_of(alloc: Global, key: Ty, element: Ty) -> Result<Variables, AllocError>
+fn group_variables(alloc: Global, key: Ty, element: Ty) -> Result<Held<Variables>, AllocError>
     ensures { IfOk result (λ variables. pattern_in variables ≡ unnamed (ty.Group key element)) }
 {
     let key = Held::new(alloc, key)?;
@@ -274,8 +275,8 @@ fn groups(
     source: Held<Form>,
     key: Tree,
     element: Tree,
-) -> Result<Pipeline, AllocError>
-    ensures { IfOk result (λ groups. stage_in groups ≡ stages.groups_stage source key element) }
+) -> Result<Pipeline, TermError>
+    ensures { GivesStage (Some (stages.groups_of source key element)) result }
 {
     let Tree {
         ty: key_type,
@@ -285,9 +286,8 @@ fn groups(
         ty: element_type,
         form: element,
     } = element;
-    let form = Held::new(alloc, Form::GroupBy(source, key, element))?;
-    let variables = groups_of(alloc, key_type, element_type)?;
-    Ok(Pipeline { variables, form })
+    let variables = group_variables(alloc, key_type, element_type)?;
+    new_pipeline(alloc, variables, Form::GroupBy(source, key, element))
 }
 
 /// `GroupBy`, with its key and its element, which isn't null by its type.
@@ -300,7 +300,7 @@ pub(crate) fn group_by(
     ensures { GivesStage (stages.grouped_stage source key element) result }
 {
     let element = type_checks::not_null(element)?;
-    Ok(groups(alloc, source, key, element)?)
+    groups(alloc, source, key, element)
 }
 
 /// The items, where the type of their sequence is one that an expression may have.
@@ -317,20 +317,20 @@ fn within_sequence(alloc: Global, items: Tree) -> Result<Tree, TermError>
     Ok(Tree { ty, form })
 }
 
-/// The items behind all calls, where their type is any but that of null, and that of their sequence is
-/// one that an expression may have.
+/// The items behind all calls, where their type is any but that of null, and that of their sequence
+/// is one that an expression may have.
 pub(crate) fn into_items(alloc: Global, pipeline: Pipeline) -> Result<Tree, TermError>
     ensures { Gives (items_of_pipeline (stage_in pipeline)) result }
 {
     let Pipeline { variables, form } = pipeline;
-    let ty = variables.into_type(alloc)?;
+    let ty = variables.into_inner().into_type(alloc)?;
     let items = type_checks::not_null(Tree { ty, form })?;
     within_sequence(alloc, items)
 }
 
 /// A query of these items.
-pub(crate) fn query(alloc: Global, items: Tree) -> Result<Tree, AllocError>
-    ensures { IfOk result (λ query. query ≡ tree_of (ty.Seq items.ty) items.form) }
+pub(crate) fn query(alloc: Global, items: Tree) -> Result<Tree, TermError>
+    ensures { Gives (Some (tree_of (ty.Seq items.ty) items.form)) result }
 {
     let Tree { ty, form } = items;
     let ty = Ty::Seq(Held::new(alloc, ty)?);

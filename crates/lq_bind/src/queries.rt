@@ -14,7 +14,8 @@ impl Binder<'_> {
     ghost use Rattle.lq_language.specs.declared.calls.Operator.TheVariants as query;
     ghost use Rattle.lq_tree.specs.Binding.{walked};
     ghost use Rattle.lq_bind.specs.Bound.{body_at, call_at, element_at, group_key_at, groups_at};
-    ghost use Rattle.lq_bind.specs.Bound.{item_tree_at, items_at, operator_at, part_at, source_at};
+    ghost use Rattle.lq_bind.specs.Bound.{item_tree_at, items_at, let_value_at, operator_at};
+    ghost use Rattle.lq_bind.specs.Bound.{part_at, source_at};
     ghost use Rattle.lq_bind.specs.Frames.{GivesStage, pattern_in, stage_in};
     ghost use Rattle.lq_bind.specs.Outcomes.{Gives};
 
@@ -26,7 +27,7 @@ impl Binder<'_> {
         ensures { Gives (call_at self.now frame.now call.now) result }
     {
         let items = self.items(call, frame)?;
-        Ok(pipelines::query(self.alloc, items)?)
+        pipelines::query(self.alloc, items)
     }
 
     /// The items of a query.
@@ -111,12 +112,12 @@ impl Binder<'_> {
                 self.select_many(pair, source, name, pipeline, frame)
             }
             Operator::Join(join, pair) => {
-                let side = self.inner_side(join, &pipeline.variables, frame)?;
+                let side = self.inner_side(join, pipeline.variables.get(), frame)?;
                 self.join(pair, join, pipeline, side, frame)
             }
             Operator::OrderBy(keys) => self.order_by(keys.as_slice(), pipeline, frame),
             Operator::GroupBy(key, element) => {
-                let key = self.group_key(key, &pipeline.variables, frame)?;
+                let key = self.group_key(key, pipeline.variables.get(), frame)?;
                 self.group_by(element, key, pipeline, frame)
             }
         }
@@ -133,7 +134,7 @@ impl Binder<'_> {
         ensures { Gives (item_tree_at self.now frame.now (pattern_in variables.now) term.now)
             result }
     {
-        let inner = (&*frame).with(&*variables);
+        let inner = (&*frame).with_item(&*variables);
         self.term(term, &inner)
     }
 
@@ -157,7 +158,7 @@ impl Binder<'_> {
         ensures { GivesStage (operator_at self.now frame.now (query.Where condition.now)
             (stage_in pipeline)) result }
     {
-        let condition = self.item_term(condition, &pipeline.variables, frame)?;
+        let condition = self.item_term(condition, pipeline.variables.get(), frame)?;
         pipelines::filter(self.alloc, pipeline, condition)
     }
 
@@ -172,12 +173,31 @@ impl Binder<'_> {
         ensures { GivesStage (operator_at self.now frame.now (query.Select value.now)
             (stage_in pipeline)) result }
     {
-        let value = self.item_term(value, &pipeline.variables, frame)?;
-        let Pipeline { form, .. } = pipeline;
-        pipelines::select(self.alloc, form, value)
+        let value = self.item_term(value, pipeline.variables.get(), frame)?;
+        pipelines::select(self.alloc, pipelines::into_source(pipeline), value)
     }
 
-    /// `let`: `Select` of each item beside one more name's value; the name repeats none that is known.
+    /// The value of `let`, which isn't null by its type; its name repeats none that is known.
+    #[cycle(binding)]
+    fn let_value(
+        &self,
+        value: &Term,
+        name: &Txt,
+        variables: &Variables,
+        frame: &Frame<'_>,
+    ) -> Result<Tree, TermError>
+        ensures { Gives (let_value_at self.now frame.now (pattern_in variables.now) name.now
+            value.now) result }
+    {
+        let inner = (&*frame).with_item(&*variables);
+        if !inner.is_fresh(name.as_str()) {
+            return Err(TermError::IllTyped);
+        }
+        let value = self.term(value, &inner)?;
+        type_checks::not_null(value)
+    }
+
+    /// `let`: `Select` of each item beside one more name's value.
     #[cycle(binding)]
     fn widen(
         &self,
@@ -189,11 +209,8 @@ impl Binder<'_> {
         ensures { GivesStage (operator_at self.now frame.now (query.Let name.now value.now)
             (stage_in pipeline)) result }
     {
-        if !(&*frame).with(&pipeline.variables).is_fresh(name.as_str()) {
-            return Err(TermError::IllTyped);
-        }
         let item = frame.depth()?;
-        let value = self.item_term(value, &pipeline.variables, frame)?;
+        let value = self.let_value(value, name, pipeline.variables.get(), frame)?;
         pipelines::widen(self.alloc, pipeline, name, item, value)
     }
 
@@ -208,9 +225,9 @@ impl Binder<'_> {
         ensures { GivesStage (operator_at self.now frame.now (query.OrderBy keys.now)
             (stage_in pipeline)) result }
     {
-        let inner = (&*frame).with(&pipeline.variables);
+        let inner = (&*frame).with_item(pipeline.variables.get());
         let keys = self.sort_keys(keys, &inner)?;
-        Ok(pipelines::order_by(self.alloc, pipeline, keys)?)
+        pipelines::order_by(self.alloc, pipeline, keys)
     }
 
     /// The key of `GroupBy`.
@@ -241,7 +258,7 @@ impl Binder<'_> {
     {
         match element {
             Some(element) => self.item_term(element, variables, frame),
-            None => Ok(pipelines::item(self.alloc, variables, frame.depth()?)?),
+            None => pipelines::item(self.alloc, variables, frame.depth()?),
         }
     }
 
@@ -257,8 +274,7 @@ impl Binder<'_> {
         ensures { GivesStage (groups_at self.now frame.now element.now (stage_in pipeline) key)
             result }
     {
-        let element = self.element(element, &pipeline.variables, frame)?;
-        let Pipeline { form, .. } = pipeline;
-        pipelines::group_by(self.alloc, form, key, element)
+        let element = self.element(element, pipeline.variables.get(), frame)?;
+        pipelines::group_by(self.alloc, pipelines::into_source(pipeline), key, element)
     }
 }

@@ -3,7 +3,7 @@
 use crate::binder::Binder;
 use crate::error::TermError;
 use crate::frames::Frame;
-use crate::operations::into_form;
+use crate::trees::into_form;
 use crate::{fields, type_checks};
 use lq_grammar::{Field, SortKey};
 use lq_language::Term;

@@ -1,14 +1,14 @@
 //! What is asked of a tree's type where the tree stands.
-ghost use Rattle.std.specs.Prelude.{◌≡◌, IfOk};
+ghost use Rattle.std.specs.Prelude.{Some};
 ghost use Rattle.lq_tree.specs.Binding.{condition_tree, items_of_tree, keyed_tree, placed_tree};
 ghost use Rattle.lq_tree.specs.Binding.{settled_tree, sortable_tree, within_tree};
 ghost use Rattle.lq_bind.specs.Outcomes.{Gives};
 
 use crate::error::TermError;
+use crate::trees::new_tree;
 use lq_tree::{Form, Tree};
 use lq_typing::{element_type, has_place, is_bool, is_key, is_sequence, is_sort_key, is_within};
-use lq_value::Held;
-use std::alloc::{AllocError, Global};
+use std::alloc::Global;
 
 /// The tree, where its type is one that an expression may have: of at most 4,096 parts.
 pub(crate) fn within_limit(tree: Tree) -> Result<Tree, TermError>
@@ -69,15 +69,14 @@ pub(crate) fn items(source: Tree) -> Result<Tree, TermError>
     Ok(Tree { ty, form })
 }
 
-/// The tree as it stands in an expression: that of a sequence doesn't fault, as a fault met in making
-/// it is the ending of its stream.
-pub(crate) fn settle(alloc: Global, tree: Tree) -> Result<Tree, AllocError>
-    ensures { IfOk result (λ settled. settled ≡ settled_tree tree) }
+/// The tree as it stands in an expression: that of a sequence doesn't fault, as a fault met in
+/// making it is the ending of its stream.
+pub(crate) fn settle(alloc: Global, tree: Tree) -> Result<Tree, TermError>
+    ensures { Gives (Some (settled_tree tree)) result }
 {
     if !is_sequence(&tree.ty) {
         return Ok(tree);
     }
     let Tree { ty, form } = tree;
-    let form = Held::new(alloc, Form::Sequence(form))?;
-    Ok(Tree { ty, form })
+    new_tree(alloc, ty, Form::Sequence(form))
 }

@@ -1,4 +1,5 @@
-//! The variables of an item: what it stands for between two calls (ECMA-334, transparent identifiers).
+//! The variables of an item: what it stands for between two calls (ECMA-334, transparent
+//! identifiers).
 ghost use Rattle.std.specs.Prelude.{◌≡◌, [], IfOk, option_map};
 ghost use Rattle.lq_language.specs.Operators.{One, With, pair_type, pattern_type, unnamed};
 ghost use Rattle.lq_tree.specs.Places.{place_of, places_of};
@@ -31,22 +32,23 @@ fn pair_type(alloc: Global, first: Ty, second: Ty) -> Result<Ty, AllocError>
 
 /// The one variable of an item that no name stands for.
 #[tactic(auto, using(crate::proofs::FrameLemmas::patterns))]
-pub(crate) fn unnamed(alloc: Global, ty: Ty) -> Result<Variables, AllocError>
+pub(crate) fn unnamed(alloc: Global, ty: Ty) -> Result<Held<Variables>, AllocError>
     ensures { IfOk result (λ variables. pattern_in variables ≡ unnamed ty) }
 {
-    Ok(Variables::One(Txt::from_str(alloc, "")?, ty))
+    let name = Txt::from_str(alloc, "")?;
+    Held::new(alloc, Variables::One(name, ty))
 }
 
 impl Variables {
     /// Whether the name is that of a variable.
     #[tactic(auto, using(crate::proofs::FrameLemmas::patterns))]
-    pub(crate) fn has(&self, name: &str) -> bool
+    pub(crate) fn has_name(&self, name: &str) -> bool
         ensures { result ≡ is_among name.now (pattern_in self.now) }
     {
         match self {
             Variables::One(variable, _) => variable.as_str() == name,
             Variables::With(others, variable, _) => {
-                variable.as_str() == name || others.get().has(name)
+                variable.as_str() == name || others.get().has_name(name)
             }
         }
     }

@@ -1,12 +1,13 @@
 -- Where an item of a list is refused, the list is; and a join is its inner side, and what comes of the pairs.
-use Rattle.std.proofs.Common.{◌≡◌, rules, List, Err, ap, sym, subst, ◌∙◌, option_and_then}
+use Rattle.std.proofs.Common.{◌≡◌, rules, List, Some, Err, ap, sym, subst, ◌∙◌, option_and_then}
 use Rattle.lq_language.specs.declared.calls.Operator.{Operator}
 use Rattle.lq_language.specs.declared.calls.Term.{Term}
 use Rattle.lq_tree.specs.Binding.{gathered, term_tree, walked}
-use Rattle.lq_bind.specs.Bound.{body_at, field_at, joined_at, operator_at, part_at, places_at, schemas_in, sort_key_at}
-use Rattle.lq_bind.specs.Frames.{GivesStage, stage_in}
+use Rattle.lq_bind.specs.Bound.{body_at, field_at, inner_side_at, joined_at, operator_at, part_at, places_at, schemas_in, sort_key_at}
+use Rattle.lq_bind.specs.Frames.{GivesStage, pattern_in, stage_in}
 use Rattle.lq_bind.specs.Outcomes.{Gives}
 use Rattle.lq_bind.specs.declared.pairs.InnerSide.{InnerSide}
+use Rattle.lq_bind.specs.declared.variables.Variables.{Variables}
 use Rattle.lq_bind.proofs.TermLaws.{join_by_sides}
 use Rattle.lq_bind.proofs.WalkLemmas.{gather_stops, walk_stops}
 use Rattle.lq_bind.proofs.binder.Binder.+binding.Goals as goal
@@ -48,5 +49,6 @@ operator-returns-in_ok-side-in-Join t c =
     ∙ join_by_sides (schemas_in c.args.self.now) (term_tree (schemas_in c.args.self.now)) (places_at c.args.self.now c.args.frame.now) c.in-Join.join c.in-Join.pair
     (stage_in c.args.pipeline)
     ∙ ap (option_and_then (λ (side : InnerSide). joined_at c.args.self.now c.args.frame.now c.in-Join.join c.in-Join.pair (stage_in c.args.pipeline) side))
-    c.in_ok-side-in-Join.ensures))
+    (subst (λ (v : Variables). inner_side_at c.args.self.now c.args.frame.now (pattern_in v) c.in-Join.join ≡ Some c.in_ok-side-in-Join.side)
+    c.get.ensures c.in_ok-side-in-Join.ensures)))
     c.join.ensures

@@ -94,6 +94,9 @@ decreases-filter l = 32 * goal.size-filter l + 5 + weight l.self.now.definitions
 abbrev pub decreases-select : goal.decreases-select
 decreases-select l = 32 * goal.size-select l + 5 + weight l.self.now.definitions.now
 
+abbrev pub decreases-let_value : goal.decreases-let_value
+decreases-let_value l = 32 * goal.size-let_value l + 3 + weight l.self.now.definitions.now
+
 abbrev pub decreases-widen : goal.decreases-widen
 decreases-widen l = 32 * goal.size-widen l + 5 + weight l.self.now.definitions.now
 
@@ -164,7 +167,7 @@ abbrev pub decreases-choice_beside : goal.decreases-choice_beside
 decreases-choice_beside l = 32 * the_size l.right.now + 5 + weight l.self.now.definitions.now
 
 abbrev pub decreases-method_of : goal.decreases-method_of
-decreases-method_of l = 32 * max (goal.size-method_of l) (the_size l.of.now) + 14 + weight l.self.now.definitions.now
+decreases-method_of l = 32 * max (goal.size-method_of l) (the_size l.receiver.now) + 14 + weight l.self.now.definitions.now
 
 -- ---- loops
 
