@@ -1,7 +1,7 @@
 -- What stands before the first space of a text is its first piece.
-use Rattle.std.proofs.Common.{◌≡◌, ◌≢◌, ◌<◌, ◌==◌, ℕ, suc, List, [], ◌∷◌, ◌++◌, false, length, eqb, get_or, filter, ap, refl, arith}
+use Rattle.std.proofs.Common.{◌≡◌, ◌≢◌, ◌<◌, ℕ, suc, List, [], ◌∷◌, ◌++◌, false, length, eqb, get_or, filter, ap, refl, arith}
 use Rattle.std.proofs.lemmas.Bool.{ne_eqb}
-use Rattle.lq_command.specs.Words.{is_some_text, onto_first, pieces_of, words_of}
+use Rattle.lq_command.specs.Words.{is_some_text, pieces_of, words_of}
 
 -- none of these bytes is a space
 abbrev pub LacksSpace : List ℕ → Type 0
