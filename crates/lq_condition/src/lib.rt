@@ -10,3 +10,4 @@ mod condition;
 mod verdicts;
 
 pub use condition::Condition;
+pub use verdicts::compare_numbers;

@@ -19,8 +19,9 @@ pub(crate) fn cell_at(cells: &[Scalar], place: usize) -> Option<&Scalar>
     cells.get(place)
 }
 
-/// What a sign compares two numbers as, if it compares.
-fn comparison(sign: Binary, m: i32, n: i32) -> Option<bool>
+/// What a sign says of two numbers (ECMA-334, relational and equality operators); nothing where it is
+/// a sign of arithmetic.
+pub fn compare_numbers(sign: Binary, m: i32, n: i32) -> Option<bool>
     ensures { IfSome result (λ truth.
         of_two fault.NullReference (operation_of sign) (scalar.Int m) (scalar.Int n)
         ≡ Ok (scalar.Bool truth)) }
@@ -38,14 +39,14 @@ fn comparison(sign: Binary, m: i32, n: i32) -> Option<bool>
     }
 }
 
-/// What a sign compares a cell and a number as, if it compares and both are numbers.
-fn comparison_with(sign: Binary, cell: &Scalar, number: i32) -> Option<bool>
+/// The same of a cell and a number, if the cell holds a number.
+fn compare_with_number(sign: Binary, cell: &Scalar, number: i32) -> Option<bool>
     ensures { IfSome result (λ truth.
         of_two fault.NullReference (operation_of sign) cell.now (scalar.Int number)
         ≡ Ok (scalar.Bool truth)) }
 {
     match cell {
-        Scalar::Int(found) => comparison(sign, *found, number),
+        Scalar::Int(cell) => compare_numbers(sign, *cell, number),
         _ => None,
     }
 }
@@ -61,7 +62,7 @@ fn truth(scalar: ScalarRef<'_>) -> Option<bool>
 }
 
 /// The truth value that a sign gives a cell and a scalar.
-fn operated(sign: Binary, cell: &Scalar, operand: ScalarRef<'_>) -> Option<bool>
+fn operate_on_cell(sign: Binary, cell: &Scalar, operand: ScalarRef<'_>) -> Option<bool>
     ensures { result ≡ unless_fault (on_ok
         (of_two fault.NullReference (operation_of sign) cell.now (shown_scalar operand.entry))
         (truth_of fault.NullReference)) }
@@ -74,10 +75,10 @@ fn operated(sign: Binary, cell: &Scalar, operand: ScalarRef<'_>) -> Option<bool>
 
 /// The same beside a number. It has a frame of its own, so that two numbers are compared without one.
 #[inline(never)]
-fn operated_with(sign: Binary, cell: &Scalar, number: i32) -> Option<bool>
+fn operate_with_number(sign: Binary, cell: &Scalar, number: i32) -> Option<bool>
     ensures { result ≡ sign_verdict sign (Some cell.now) (scalar.Int number) }
 {
-    operated(sign, cell, ScalarRef::Int(number))
+    operate_on_cell(sign, cell, ScalarRef::Int(number))
 }
 
 /// What a sign says of a cell beside a scalar.
@@ -86,7 +87,7 @@ pub(crate) fn literal_verdict(sign: Binary, cell: Option<&Scalar>, literal: &Sca
     ensures { result ≡ sign_verdict sign (option_copied cell.entry) literal.now }
 {
     match cell {
-        Some(cell) => operated(sign, cell, ScalarRef::of(literal)),
+        Some(cell) => operate_on_cell(sign, cell, ScalarRef::of(literal)),
         None => None,
     }
 }
@@ -96,9 +97,9 @@ pub(crate) fn number_verdict(sign: Binary, cell: Option<&Scalar>, number: i32) -
     ensures { result ≡ sign_verdict sign (option_copied cell.entry) (scalar.Int number) }
 {
     match cell {
-        Some(cell) => match comparison_with(sign, cell, number) {
+        Some(cell) => match compare_with_number(sign, cell, number) {
             Some(truth) => Some(truth),
-            None => operated_with(sign, cell, number),
+            None => operate_with_number(sign, cell, number),
         },
         None => None,
     }
@@ -111,7 +112,7 @@ pub(crate) fn search_verdict(op: Op, cell: Option<&Scalar>, needle: &Scalar) -> 
 {
     match cell {
         Some(cell) => match searched(op, ScalarRef::of(cell), ScalarRef::of(needle)) {
-            Ok(found) => Some(found),
+            Ok(truth) => Some(truth),
             Err(_) => None,
         },
         None => None,

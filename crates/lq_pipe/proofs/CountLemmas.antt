@@ -20,7 +20,7 @@ use Rattle.lq_language.specs.declared.methods.Simple.TheVariants as simple
 use Rattle.lq_operators.specs.Tallies.{begins, goes_on, tallied, tally_result}
 use Rattle.lq_operators.specs.declared.numbers.Tally.{Tally}
 use Rattle.lq_operators.proofs.NumberLaws.{begun, told_is}
-use Rattle.lq_pipe.specs.Counts.{needed, needed_by, read, up_to}
+use Rattle.lq_pipe.specs.Counts.{given_limit, value_limit, simple_limit, number_limit}
 use Rattle.lq_pipe.proofs.PullLemmas.{left_opened}
 
 some_is : {A : Type 0} {x y : A} → Some x ≡ Some y → x ≡ y
@@ -50,27 +50,27 @@ module _ {R : Type 0} where
   of_any t [] e = refl
   of_any t (x ∷ xs) e = refl
 
-  read_is : (method : Simple) (n : ℕ) (t : Ty) (s : Stream (Value R)) → read method ≡ Some n → simple_meaning method t (take_first n s.0 s.1) ≡ simple_meaning method t s
-  read_is simple.Any n t s is = ap (λ k. simple_meaning simple.Any t (take_first k s.0 s.1)) (sym (some_is is)) ∙ of_any t s.0 s.1
-  read_is simple.First n t s is = ap (λ k. simple_meaning simple.First t (take_first k s.0 s.1)) (sym (some_is is)) ∙ of_one _ s.0 s.1
-  read_is simple.FirstOrDefault n t s is = ap (λ k. simple_meaning simple.FirstOrDefault t (take_first k s.0 s.1)) (sym (some_is is)) ∙ of_one _ s.0 s.1
-  read_is simple.Single n t s is = ap (λ k. simple_meaning simple.Single t (take_first k s.0 s.1)) (sym (some_is is)) ∙ of_two _ s.0 s.1
-  read_is simple.SingleOrDefault n t s is = ap (λ k. simple_meaning simple.SingleOrDefault t (take_first k s.0 s.1)) (sym (some_is is)) ∙ of_two _ s.0 s.1
-  read_is simple.Distinct n t s is = absurd (none_some is)
-  read_is simple.Reverse n t s is = absurd (none_some is)
-  read_is simple.DefaultIfEmpty n t s is = absurd (none_some is)
-  read_is simple.Count n t s is = absurd (none_some is)
-  read_is simple.Last n t s is = absurd (none_some is)
-  read_is simple.Sum n t s is = absurd (none_some is)
-  read_is simple.Min n t s is = absurd (none_some is)
-  read_is simple.Max n t s is = absurd (none_some is)
+  simple_limit_is : (method : Simple) (n : ℕ) (t : Ty) (s : Stream (Value R)) → simple_limit method ≡ Some n → simple_meaning method t (take_first n s.0 s.1) ≡ simple_meaning method t s
+  simple_limit_is simple.Any n t s is = ap (λ k. simple_meaning simple.Any t (take_first k s.0 s.1)) (sym (some_is is)) ∙ of_any t s.0 s.1
+  simple_limit_is simple.First n t s is = ap (λ k. simple_meaning simple.First t (take_first k s.0 s.1)) (sym (some_is is)) ∙ of_one _ s.0 s.1
+  simple_limit_is simple.FirstOrDefault n t s is = ap (λ k. simple_meaning simple.FirstOrDefault t (take_first k s.0 s.1)) (sym (some_is is)) ∙ of_one _ s.0 s.1
+  simple_limit_is simple.Single n t s is = ap (λ k. simple_meaning simple.Single t (take_first k s.0 s.1)) (sym (some_is is)) ∙ of_two _ s.0 s.1
+  simple_limit_is simple.SingleOrDefault n t s is = ap (λ k. simple_meaning simple.SingleOrDefault t (take_first k s.0 s.1)) (sym (some_is is)) ∙ of_two _ s.0 s.1
+  simple_limit_is simple.Distinct n t s is = absurd (none_some is)
+  simple_limit_is simple.Reverse n t s is = absurd (none_some is)
+  simple_limit_is simple.DefaultIfEmpty n t s is = absurd (none_some is)
+  simple_limit_is simple.Count n t s is = absurd (none_some is)
+  simple_limit_is simple.Last n t s is = absurd (none_some is)
+  simple_limit_is simple.Sum n t s is = absurd (none_some is)
+  simple_limit_is simple.Min n t s is = absurd (none_some is)
+  simple_limit_is simple.Max n t s is = absurd (none_some is)
 
-  pub read_some : (method : Simple) (n : ℕ) (items s : Stream (Value R)) → read method ≡ Some n → items ≡ take_first n s.0 s.1
+  pub simple_some : (method : Simple) (n : ℕ) (items s : Stream (Value R)) → simple_limit method ≡ Some n → items ≡ take_first n s.0 s.1
       → (t : Ty) → simple_meaning method t items ≡ simple_meaning method t s
-  read_some method n items s is taken t = ap (simple_meaning method t) taken ∙ read_is method n t s is
+  simple_some method n items s is taken t = ap (simple_meaning method t) taken ∙ simple_limit_is method n t s is
 
-  pub read_all : (method : Simple) (items s : Stream (Value R)) → items ≡ s → (t : Ty) → simple_meaning method t items ≡ simple_meaning method t s
-  read_all method items s is t = ap (simple_meaning method t) is
+  pub simple_all : (method : Simple) (items s : Stream (Value R)) → items ≡ s → (t : Ty) → simple_meaning method t items ≡ simple_meaning method t s
+  simple_all method items s is t = ap (simple_meaning method t) is
 
   -- ---- tallies
 
@@ -110,31 +110,31 @@ module _ {R : Type 0} (world : World R) where
   of_number : (n : ℤ) (v : Value R) (f : ℤ → Result (Value R) Fault) → out-Value R v ≡ Value-F.Scalar (scalar.Int n) → on_number world (Ok v) f ≡ f n
   of_number n v f is = ap (λ (layer : Value-F R (Value R)). on_ok (on_ok (scalar_of world layer) (number_of world)) f) is
 
-  up_to_is : (method : Given) (m : ℤ) (n : ℕ) (v : Value R) (s : Stream (Value R)) → out-Value R v ≡ Value-F.Scalar (scalar.Int m) → up_to method m ≡ Some n
+  number_limit_is : (method : Given) (m : ℤ) (n : ℕ) (v : Value R) (s : Stream (Value R)) → out-Value R v ≡ Value-F.Scalar (scalar.Int m) → number_limit method m ≡ Some n
       → given_meaning world method (Ok v) (take_first n s.0 s.1) ≡ given_meaning world method (Ok v) s
-  up_to_is given.Take m n v s layer is =
+  number_limit_is given.Take m n v s layer is =
       ap (λ k. given_meaning world given.Take (Ok v) (take_first k s.0 s.1)) (sym (some_is is))
       ∙ of_number m v (λ k. as_sequence (take_first (as_count k) (take_first (as_count m) s.0 s.1).0 (take_first (as_count m) s.0 s.1).1)) layer
       ∙ ap as_sequence (taken_again (as_count m) s.0 s.1)
       ∙ sym (of_number m v (λ k. as_sequence (take_first (as_count k) s.0 s.1)) layer)
-  up_to_is given.ElementAt (pos m) n v s layer is =
+  number_limit_is given.ElementAt (pos m) n v s layer is =
       ap (λ k. given_meaning world given.ElementAt (Ok v) (take_first k s.0 s.1)) (sym (some_is is))
       ∙ of_number (pos m) v (λ k. element_at k (take_first (m + 1) s.0 s.1).0 (take_first (m + 1) s.0 s.1).1) layer
       ∙ behind m s.0 s.1
       ∙ sym (of_number (pos m) v (λ k. element_at k s.0 s.1) layer)
-  up_to_is given.ElementAt (negsuc m) n v s layer is =
+  number_limit_is given.ElementAt (negsuc m) n v s layer is =
       of_number (negsuc m) v (λ k. element_at k (take_first n s.0 s.1).0 (take_first n s.0 s.1).1) layer
       ∙ sym (of_number (negsuc m) v (λ k. element_at k s.0 s.1) layer)
-  up_to_is given.Concat m n v s layer is = absurd (none_some is)
-  up_to_is given.Union m n v s layer is = absurd (none_some is)
-  up_to_is given.Intersect m n v s layer is = absurd (none_some is)
-  up_to_is given.Except m n v s layer is = absurd (none_some is)
-  up_to_is given.Skip m n v s layer is = absurd (none_some is)
-  up_to_is given.Contains m n v s layer is = absurd (none_some is)
+  number_limit_is given.Concat m n v s layer is = absurd (none_some is)
+  number_limit_is given.Union m n v s layer is = absurd (none_some is)
+  number_limit_is given.Intersect m n v s layer is = absurd (none_some is)
+  number_limit_is given.Except m n v s layer is = absurd (none_some is)
+  number_limit_is given.Skip m n v s layer is = absurd (none_some is)
+  number_limit_is given.Contains m n v s layer is = absurd (none_some is)
 
-  by_layer : (method : Given) (n : ℕ) (v : Value R) (s : Stream (Value R)) (layer : Value-F R (Value R)) → out-Value R v ≡ layer → needed_by method layer ≡ Some n
+  by_layer : (method : Given) (n : ℕ) (v : Value R) (s : Stream (Value R)) (layer : Value-F R (Value R)) → out-Value R v ≡ layer → value_limit method layer ≡ Some n
       → given_meaning world method (Ok v) (take_first n s.0 s.1) ≡ given_meaning world method (Ok v) s
-  by_layer method n v s (Value-F.Scalar (scalar.Int m)) is needs = up_to_is method m n v s is needs
+  by_layer method n v s (Value-F.Scalar (scalar.Int m)) is needs = number_limit_is method m n v s is needs
   by_layer method n v s (Value-F.Scalar scalar.Null) is needs = absurd (none_some needs)
   by_layer method n v s (Value-F.Scalar (scalar.Bool b)) is needs = absurd (none_some needs)
   by_layer method n v s (Value-F.Scalar (scalar.Text t)) is needs = absurd (none_some needs)
@@ -143,25 +143,25 @@ module _ {R : Type 0} (world : World R) where
   by_layer method n v s (Value-F.Group k xs) is needs = absurd (none_some needs)
   by_layer method n v s (Value-F.Seq xs e) is needs = absurd (none_some needs)
 
-  needed_is : (method : Given) (argument : Result (Value R) Fault) (n : ℕ) (s : Stream (Value R)) → needed method argument ≡ Some n
+  given_limit_is : (method : Given) (argument : Result (Value R) Fault) (n : ℕ) (s : Stream (Value R)) → given_limit method argument ≡ Some n
       → given_meaning world method argument (take_first n s.0 s.1) ≡ given_meaning world method argument s
-  needed_is method (Ok v) n s is = by_layer method n v s (out-Value R v) refl is
-  needed_is given.Skip (Err f) n s is = refl
-  needed_is given.Take (Err f) n s is = refl
-  needed_is given.ElementAt (Err f) n s is = refl
-  needed_is given.Contains (Err f) n s is = refl
-  needed_is given.Concat (Err f) n s is = absurd (none_some is)
-  needed_is given.Union (Err f) n s is = absurd (none_some is)
-  needed_is given.Intersect (Err f) n s is = absurd (none_some is)
-  needed_is given.Except (Err f) n s is = absurd (none_some is)
+  given_limit_is method (Ok v) n s is = by_layer method n v s (out-Value R v) refl is
+  given_limit_is given.Skip (Err f) n s is = refl
+  given_limit_is given.Take (Err f) n s is = refl
+  given_limit_is given.ElementAt (Err f) n s is = refl
+  given_limit_is given.Contains (Err f) n s is = refl
+  given_limit_is given.Concat (Err f) n s is = absurd (none_some is)
+  given_limit_is given.Union (Err f) n s is = absurd (none_some is)
+  given_limit_is given.Intersect (Err f) n s is = absurd (none_some is)
+  given_limit_is given.Except (Err f) n s is = absurd (none_some is)
 
-  pub needed_some : (method : Given) (argument : Result (Value R) Fault) (n : ℕ) (items s : Stream (Value R)) → needed method argument ≡ Some n
+  pub given_some : (method : Given) (argument : Result (Value R) Fault) (n : ℕ) (items s : Stream (Value R)) → given_limit method argument ≡ Some n
       → items ≡ take_first n s.0 s.1 → given_meaning world method argument items ≡ given_meaning world method argument s
-  needed_some method argument n items s is taken = ap (given_meaning world method argument) taken ∙ needed_is method argument n s is
+  given_some method argument n items s is taken = ap (given_meaning world method argument) taken ∙ given_limit_is method argument n s is
 
-  pub needed_all : (method : Given) (argument : Result (Value R) Fault) (items s : Stream (Value R)) → items ≡ s
+  pub given_all : (method : Given) (argument : Result (Value R) Fault) (items s : Stream (Value R)) → items ≡ s
       → given_meaning world method argument items ≡ given_meaning world method argument s
-  needed_all method argument items s is = ap (given_meaning world method argument) is
+  given_all method argument items s is = ap (given_meaning world method argument) is
 
 module _ {A : Type 0} (same : A → A → Bool) (v : A) where
   -- an item that isn't the value is passed by, and the first that is answers
@@ -177,8 +177,8 @@ module _ {A : Type 0} (same : A → A → Bool) (v : A) where
 
 pub ruleset contains_steps = (contains_on, contains_found)
 
-pub ruleset reads = (read_some, read_all)
+pub ruleset reads = (simple_some, simple_all)
 
-pub ruleset needs = (needed_some, needed_all)
+pub ruleset needs = (given_some, given_all)
 
 pub ruleset tallies = (left_opened, tally_begins, tally_on, tally_stopped, tally_ended)

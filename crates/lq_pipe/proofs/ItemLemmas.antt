@@ -12,7 +12,7 @@ use Rattle.lq_tree.specs.FormMeaning.{Slots, form_meaning, matched, with_item, w
 use Rattle.lq_tree.specs.declared.tree.Form.{Form}
 use Rattle.lq_tree.specs.declared.tree.Joined.{Joined}
 use Rattle.lq_tree.specs.declared.tree.Form.TheVariants as form
-use Rattle.lq_pipe.specs.Items.{expanded_of, groups_in, joined_of, keyed_of, with_key_of}
+use Rattle.lq_pipe.specs.Items.{item_expansion, groups_in, item_join, key_and_element, key_and_item}
 use Rattle.lq_pipe.specs.Pulling.{through_select}
 use Rattle.lq_pipe.proofs.Forms.{form_group_by, form_join, form_select_many}
 
@@ -23,22 +23,22 @@ module _ {R : Type 0} (world : World R) (S : Slots R) (x : Value R) (D : Slots R
       ≡ select_each (λ w. form_meaning world result (with_items world S x w)) (vs, e)
   two_slots result vs e = λ i. select_by (λ w. form_meaning world result (append_assoc S (x ∷ []) (w ∷ []) i)) vs e
 
-  pub expanded_is : (inner result : Form) (vs vs' : List (Value R)) (e : End) (E : Type 0) (answer : Result (Stream (Value R)) E) → D ≡ S ++ x ∷ []
+  pub expansion_of : (inner result : Form) (vs vs' : List (Value R)) (e : End) (E : Type 0) (answer : Result (Stream (Value R)) E) → D ≡ S ++ x ∷ []
       → (vs, e) ≡ stream_of world (form_meaning world inner D) → vs' ≡ vs
       → IfOk answer (λ s. s ≡ select_by (λ w. form_meaning world result (with_item world D w)) vs' e)
       → IfOk answer (λ s. s ≡ select_each (λ w. form_meaning world result (with_items world S x w)) (stream_of world (form_meaning world inner (with_item world S x))))
-  expanded_is inner result vs vs' e E answer slots is same h =
+  expansion_of inner result vs vs' e E answer slots is same h =
       subst (λ (t : Stream (Value R)). IfOk answer (λ s. s ≡ t))
       (ap (λ l. select_by (λ w. form_meaning world result (with_item world D w)) l e) same
       ∙ ap (λ (d : Slots R). select_by (λ w. form_meaning world result (with_item world d w)) vs e) slots ∙ two_slots result vs e
       ∙ ap (select_each (λ w. form_meaning world result (with_items world S x w))) (is ∙ ap (λ (d : Slots R). stream_of world (form_meaning world inner d)) slots)) h
 
   -- and so are those that are pulled with the item in its slot
-  pub expanded_pulled : (inner result : Form) (E : Type 0) (answer : Result (Stream (Value R)) E) → D ≡ S ++ x ∷ []
-      → IfOk answer (λ s. s ≡ through_select world D result (stream_of world (form_meaning world inner D))) → IfOk answer (λ s. s ≡ expanded_of world S inner result x)
-  expanded_pulled inner result E answer slots h =
+  pub expansion_is : (inner result : Form) (E : Type 0) (answer : Result (Stream (Value R)) E) → D ≡ S ++ x ∷ []
+      → IfOk answer (λ s. s ≡ through_select world D result (stream_of world (form_meaning world inner D))) → IfOk answer (λ s. s ≡ item_expansion world S inner result x)
+  expansion_is inner result E answer slots h =
       let all = stream_of world (form_meaning world inner D) in
-      expanded_is inner result all.0 all.0 all.1 E answer slots refl refl h
+      expansion_of inner result all.0 all.0 all.1 E answer slots refl refl h
 
   pub matched_is : (result : Form) (vs : List (Value R)) (E : Type 0) (answer : Result (Stream (Value R)) E) → D ≡ S ++ x ∷ []
       → IfOk answer (λ s. s ≡ select_by (λ w. form_meaning world result (with_item world D w)) vs end.Done)
@@ -49,53 +49,53 @@ module _ {R : Type 0} (world : World R) (S : Slots R) (x : Value R) (D : Slots R
 
 module _ {R : Type 0} (world : World R) (slots : Slots R) where
   pub select_many_answer : (a inner result : Form) (xs xs' : List (Value R)) (e : End) (vs : Stream (Value R)) → (xs, e) ≡ stream_of world (form_meaning world a slots)
-      → xs' ≡ xs → vs ≡ each (expanded_of world slots inner result) xs' e → form_meaning world (form.SelectMany a inner result) slots ≡ Ok (value.Seq vs.0 vs.1)
+      → xs' ≡ xs → vs ≡ each (item_expansion world slots inner result) xs' e → form_meaning world (form.SelectMany a inner result) slots ≡ Ok (value.Seq vs.0 vs.1)
   select_many_answer a inner result xs xs' e vs is xs_is h =
       form_select_many world a inner result slots
-      ∙ ap (λ (s : Stream (Value R)). Ok (sequence (each (expanded_of world slots inner result) s.0 s.1))) (sym is)
-      ∙ ap (λ l. Ok (sequence (each (expanded_of world slots inner result) l e))) (sym xs_is)
+      ∙ ap (λ (s : Stream (Value R)). Ok (sequence (each (item_expansion world slots inner result) s.0 s.1))) (sym is)
+      ∙ ap (λ l. Ok (sequence (each (item_expansion world slots inner result) l e))) (sym xs_is)
       ∙ ap (λ (s : Stream (Value R)). Ok (sequence s)) (sym h)
 
   pub group_by_answer : (a key element : Form) (xs xs' : List (Value R)) (e d : End) (pairs : List (Value R × Value R)) (v : Value R)
-      → (xs, e) ≡ stream_of world (form_meaning world a slots) → xs' ≡ xs → (pairs, d) ≡ select_by (keyed_of world slots key element) xs' e
+      → (xs, e) ≡ stream_of world (form_meaning world a slots) → xs' ≡ xs → (pairs, d) ≡ select_by (key_and_element world slots key element) xs' e
       → v ≡ sequence (whole pairs d groups_in) → form_meaning world (form.GroupBy a key element) slots ≡ Ok v
   group_by_answer a key element xs xs' e d pairs v is xs_is pairs_are h =
       form_group_by world a key element slots
-      ∙ ap (λ (s : Stream (Value R)). Ok (sequence (whole (select_by (keyed_of world slots key element) s.0 s.1).0 (select_by (keyed_of world slots key element) s.0 s.1).1 groups_in))) (sym is)
-      ∙ ap (λ l. Ok (sequence (whole (select_by (keyed_of world slots key element) l e).0 (select_by (keyed_of world slots key element) l e).1 groups_in))) (sym xs_is)
+      ∙ ap (λ (s : Stream (Value R)). Ok (sequence (whole (select_by (key_and_element world slots key element) s.0 s.1).0 (select_by (key_and_element world slots key element) s.0 s.1).1 groups_in))) (sym is)
+      ∙ ap (λ l. Ok (sequence (whole (select_by (key_and_element world slots key element) l e).0 (select_by (key_and_element world slots key element) l e).1 groups_in))) (sym xs_is)
       ∙ ap (λ (s : Stream (Value R × Value R)). Ok (sequence (whole s.0 s.1 groups_in))) (sym pairs_are)
       ∙ ap (λ w. Ok w) (sym h)
 
   -- the inner items with their keys, and then what comes of the outer ones
   abbrev joined_by : Joined Form → Stream (Value R × Value R) → List (Value R) → End → Stream (Value R)
-  joined_by j inner xs e = whole inner.0 inner.1 (λ qs. each (joined_of world slots j qs) xs e)
+  joined_by j inner xs e = whole inner.0 inner.1 (λ qs. each (item_join world slots j qs) xs e)
 
   join_is : (a : Form) (j : Joined Form) (xs xs' ys ys' : List (Value R)) (e d : End) (inner : Stream (Value R × Value R))
       → (xs, e) ≡ stream_of world (form_meaning world a slots) → xs' ≡ xs → (ys, d) ≡ stream_of world (form_meaning world j.inner slots) → ys' ≡ ys
-      → inner ≡ select_by (with_key_of world slots j.inner_key) ys' d
+      → inner ≡ select_by (key_and_item world slots j.inner_key) ys' d
       → form_meaning world (form.Join a j) slots ≡ Ok (sequence (joined_by j inner xs' e))
   join_is a j xs xs' ys ys' e d inner is xs_is inner_is ys_is h =
       form_join world a j slots
-      ∙ ap (λ (s : Stream (Value R)). Ok (sequence (joined_by j (select_by (with_key_of world slots j.inner_key) (stream_of world (form_meaning world j.inner slots)).0 (stream_of world (form_meaning world j.inner slots)).1) s.0 s.1))) (sym is)
-      ∙ ap (λ l. Ok (sequence (joined_by j (select_by (with_key_of world slots j.inner_key) (stream_of world (form_meaning world j.inner slots)).0 (stream_of world (form_meaning world j.inner slots)).1) l e))) (sym xs_is)
-      ∙ ap (λ (s : Stream (Value R)). Ok (sequence (joined_by j (select_by (with_key_of world slots j.inner_key) s.0 s.1) xs' e))) (sym inner_is)
-      ∙ ap (λ l. Ok (sequence (joined_by j (select_by (with_key_of world slots j.inner_key) l d) xs' e))) (sym ys_is)
+      ∙ ap (λ (s : Stream (Value R)). Ok (sequence (joined_by j (select_by (key_and_item world slots j.inner_key) (stream_of world (form_meaning world j.inner slots)).0 (stream_of world (form_meaning world j.inner slots)).1) s.0 s.1))) (sym is)
+      ∙ ap (λ l. Ok (sequence (joined_by j (select_by (key_and_item world slots j.inner_key) (stream_of world (form_meaning world j.inner slots)).0 (stream_of world (form_meaning world j.inner slots)).1) l e))) (sym xs_is)
+      ∙ ap (λ (s : Stream (Value R)). Ok (sequence (joined_by j (select_by (key_and_item world slots j.inner_key) s.0 s.1) xs' e))) (sym inner_is)
+      ∙ ap (λ l. Ok (sequence (joined_by j (select_by (key_and_item world slots j.inner_key) l d) xs' e))) (sym ys_is)
       ∙ ap (λ (s : Stream (Value R × Value R)). Ok (sequence (joined_by j s xs' e))) (sym h)
 
   pub join_answer : (a : Form) (j : Joined Form) (xs xs' ys ys' : List (Value R)) (e d c : End) (pairs qs : List (Value R × Value R)) (vs : Stream (Value R))
       → (xs, e) ≡ stream_of world (form_meaning world a slots) → xs' ≡ xs → (ys, d) ≡ stream_of world (form_meaning world j.inner slots) → ys' ≡ ys
-      → (pairs, c) ≡ select_by (with_key_of world slots j.inner_key) ys' d → c ≡ end.Done → qs ≡ pairs
-      → vs ≡ each (joined_of world slots j qs) xs' e
+      → (pairs, c) ≡ select_by (key_and_item world slots j.inner_key) ys' d → c ≡ end.Done → qs ≡ pairs
+      → vs ≡ each (item_join world slots j qs) xs' e
       → form_meaning world (form.Join a j) slots ≡ Ok (value.Seq vs.0 vs.1)
   join_answer a j xs xs' ys ys' e d c pairs qs vs is xs_is inner_is ys_is pairs_are done qs_are h =
       join_is a j xs xs' ys ys' e d (pairs, c) is xs_is inner_is ys_is pairs_are
       ∙ ap (λ k. Ok (sequence (joined_by j (pairs, k) xs' e))) done
-      ∙ ap (λ l. Ok (sequence (each (joined_of world slots j l) xs' e))) (sym qs_are)
+      ∙ ap (λ l. Ok (sequence (each (item_join world slots j l) xs' e))) (sym qs_are)
       ∙ ap (λ (s : Stream (Value R)). Ok (sequence s)) (sym h)
 
   pub join_stops : (a : Form) (j : Joined Form) (xs ys ys' : List (Value R)) (e d c : End) (pairs : List (Value R × Value R)) (f : Fault) (v : Value R)
       → (xs, e) ≡ stream_of world (form_meaning world a slots) → (ys, d) ≡ stream_of world (form_meaning world j.inner slots) → ys' ≡ ys
-      → (pairs, c) ≡ select_by (with_key_of world slots j.inner_key) ys' d → c ≡ end.Fault f
+      → (pairs, c) ≡ select_by (key_and_item world slots j.inner_key) ys' d → c ≡ end.Fault f
       → v ≡ sequence ([], end.Fault f) → form_meaning world (form.Join a j) slots ≡ Ok v
   join_stops a j xs ys ys' e d c pairs f v is inner_is ys_is pairs_are stops h =
       join_is a j xs xs ys ys' e d (pairs, c) is refl inner_is ys_is pairs_are ∙ ap (λ k. Ok (sequence (joined_by j (pairs, k) xs e))) stops ∙ ap (λ w. Ok w) (sym h)
@@ -104,7 +104,7 @@ module _ {R : Type 0} (world : World R) (slots : Slots R) where
   pub joined_met : (j : Joined Form) (qs : List (Value R × Value R)) (x k : Value R) (found found' : List (Value R)) (E : Type 0) (answer : Result (Stream (Value R)) E)
       → Ok k ≡ form_meaning world j.outer_key (with_item world slots x) → found ≡ matched world j.grouped k qs → found' ≡ found
       → IfOk answer (λ s. s ≡ select_each (λ w. form_meaning world j.result (with_items world slots x w)) (found', end.Done))
-      → IfOk answer (λ s. s ≡ joined_of world slots j qs x)
+      → IfOk answer (λ s. s ≡ item_join world slots j qs x)
   joined_met j qs x k found found' E answer met found_is same h =
       subst (λ (t : Stream (Value R)). IfOk answer (λ s. s ≡ t))
       (ap (λ l. select_each (λ w. form_meaning world j.result (with_items world slots x w)) (l, end.Done)) (same ∙ found_is)

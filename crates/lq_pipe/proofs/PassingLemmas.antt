@@ -21,29 +21,29 @@ use Rattle.lq_pipe.specs.Pulling.{item_at, item_if, last_if, through_select, thr
 use Rattle.lq_pipe.specs.Running.{truth_in}
 use Rattle.lq_pipe.specs.declared.stages.Stage.{Stage}
 use Rattle.lq_pipe.specs.declared.stages.Stage.TheVariants as stage
-use Rattle.lq_pipe.proofs.PreparedLemmas.{met}
+use Rattle.lq_pipe.proofs.PreparedLemmas.{Meets}
 use Rattle.lq_pipe.proofs.PullLemmas.{sequence_item, table_item, where_item}
 
 module _ {R : Type 0} (table_of : R → ℕ) (shown : R → List Scalar) (slots : Slots R) (world : World R) where
   -- ---- rows that pass
 
-  abbrev comes : Option Bool → R → Stream (Value R) → Type 0
-  comes t r s = IfSome t (λ b. s ≡ item_if b (value.Row r))
+  abbrev Comes : Option Bool → R → Stream (Value R) → Type 0
+  Comes t r s = IfSome t (λ b. s ≡ item_if b (value.Row r))
 
-  come : (t t' : Option Bool) (r : R) (s : Stream (Value R)) → t' ≡ t → comes t r s → comes t' r s
-  come t t' r s is h = subst (λ o. comes o r s) (sym is) h
+  comes_by : (t t' : Option Bool) (r : R) (s : Stream (Value R)) → t' ≡ t → Comes t r s → Comes t' r s
+  comes_by t t' r s is h = subst (λ o. Comes o r s) (sym is) h
 
   pub passing_silent : (table : ℕ) (f : Form) → DecidesPassing table_of shown world slots table f condition.Silent
-  passing_silent table f = record { at = λ r is. come None (verdict condition.Silent (shown r)) r _ (verdict_silent (shown r)) tt }
+  passing_silent table f = record { at = λ r is. comes_by None (verdict condition.Silent (shown r)) r _ (verdict_silent (shown r)) tt }
 
   pub passing_table : (table n : ℕ) → DecidesPassing table_of shown world slots table (form.Table n) (condition.Constant true)
-  passing_table table n = record { at = λ r is. come (Some true) (verdict (condition.Constant true) (shown r)) r _ (verdict_constant (shown r) true) (table_item world slots n (value.Row r)) }
+  passing_table table n = record { at = λ r is. comes_by (Some true) (verdict (condition.Constant true) (shown r)) r _ (verdict_constant (shown r) true) (table_item world slots n (value.Row r)) }
 
   pub passing_sequence : (table : ℕ) (a : Form) (c : Condition) → DecidesPassing table_of shown world slots table a c → DecidesPassing table_of shown world slots table (form.Sequence a) c
-  passing_sequence table a c passing = record { at = λ r is. subst (λ s. comes (verdict c (shown r)) r s) (sym (sequence_item world slots a (value.Row r))) (passing.at r is) }
+  passing_sequence table a c passing = record { at = λ r is. subst (λ s. Comes (verdict c (shown r)) r s) (sym (sequence_item world slots a (value.Row r))) (passing.at r is) }
 
-  where_met : (ta tf : Option Bool) (f : Form) (r : R) (s : Stream (Value R)) → comes ta r s → met tf (truth_in world (form_meaning world f (with_item world slots (value.Row r))))
-      → comes (both_verdicts ta tf) r (through_where world slots f s)
+  where_met : (ta tf : Option Bool) (f : Form) (r : R) (s : Stream (Value R)) → Comes ta r s → Meets tf (truth_in world (form_meaning world f (with_item world slots (value.Row r))))
+      → Comes (both_verdicts ta tf) r (through_where world slots f s)
   where_met None tf f r s hs hf = tt
   where_met (Some false) tf f r s hs hf = ap (λ (z : Stream (Value R)). through_where world slots f z) hs
   where_met (Some true) None f r s hs hf = tt
@@ -56,24 +56,24 @@ module _ {R : Type 0} (table_of : R → ℕ) (shown : R → List Scalar) (slots 
 
   where_at : (a f : Form) (table : ℕ) (ca cf c : Condition) → DecidesPassing table_of shown world slots table a ca → Decides table_of shown world slots table f cf
       → IsBoth ca cf c
-      → (r : R) → table_of r ≡ table → comes (verdict c (shown r)) r (through_where world slots f (item_at world slots a (value.Row r)))
+      → (r : R) → table_of r ≡ table → Comes (verdict c (shown r)) r (through_where world slots f (item_at world slots a (value.Row r)))
   where_at a f table ca cf c passing decides both r here =
-      come _ (verdict c (shown r)) r _ (both.at (shown r)) (where_met (verdict ca (shown r)) (verdict cf (shown r)) f r _ (passing.at r here) (decides.at r here))
+      comes_by _ (verdict c (shown r)) r _ (both.at (shown r)) (where_met (verdict ca (shown r)) (verdict cf (shown r)) f r _ (passing.at r here) (decides.at r here))
 
   pub passing_where : (a f : Form) (table : ℕ) (ca cf c : Condition) → DecidesPassing table_of shown world slots table a ca → Decides table_of shown world slots table f cf
       → IsBoth ca cf c
       → DecidesPassing table_of shown world slots table (form.Where a f) c
   passing_where a f table ca cf c passing decides both = record {
     at = λ r here.
-        subst (λ s. comes (verdict c (shown r)) r s) (sym (where_item world slots a f (value.Row r))) (where_at a f table ca cf c passing decides both r here);
+        subst (λ s. Comes (verdict c (shown r)) r s) (sym (where_item world slots a f (value.Row r))) (where_at a f table ca cf c passing decides both r here);
   }
 
   -- ---- stages
 
-  abbrev says : Option Bool → Stage → R → Stream (Value R) → Type 0
-  says t st r s = IfSome t (λ b. through_stage world slots st s ≡ last_if world slots b st (value.Row r))
+  abbrev Says : Option Bool → Stage → R → Stream (Value R) → Type 0
+  Says t st r s = IfSome t (λ b. through_stage world slots st s ≡ last_if world slots b st (value.Row r))
 
-  plain_met : (t : Option Bool) (r : R) (s : Stream (Value R)) → comes t r s → says t stage.Plain r s
+  plain_met : (t : Option Bool) (r : R) (s : Stream (Value R)) → Comes t r s → Says t stage.Plain r s
   plain_met None r s h = tt
   plain_met (Some true) r s h = h
   plain_met (Some false) r s h = h
@@ -82,7 +82,7 @@ module _ {R : Type 0} (table_of : R → ℕ) (shown : R → List Scalar) (slots 
       → DecidesStage table_of shown world slots stage.Plain source table c
   stage_plain source table c passing = record { at = λ r here. plain_met (verdict c (shown r)) r _ (passing.at r here) }
 
-  select_met : (t : Option Bool) (r : R) (s : Stream (Value R)) (body : Bor Form) → comes t r s → says t (stage.Select body) r s
+  select_met : (t : Option Bool) (r : R) (s : Stream (Value R)) (body : Bor Form) → Comes t r s → Says t (stage.Select body) r s
   select_met None r s body h = tt
   select_met (Some true) r s body h = ap (λ (z : Stream (Value R)). through_select world slots body.now z) h
   select_met (Some false) r s body h = ap (λ (z : Stream (Value R)). through_select world slots body.now z) h
@@ -91,7 +91,7 @@ module _ {R : Type 0} (table_of : R → ℕ) (shown : R → List Scalar) (slots 
       → DecidesStage table_of shown world slots (stage.Select body) source table c
   stage_select body source table c passing = record { at = λ r here. select_met (verdict c (shown r)) r _ body (passing.at r here) }
 
-  where_last : (t : Option Bool) (r : R) (s : Stream (Value R)) (body : Bor Form) → comes t r (through_where world slots body.now s) → says t (stage.Where body) r s
+  where_last : (t : Option Bool) (r : R) (s : Stream (Value R)) (body : Bor Form) → Comes t r (through_where world slots body.now s) → Says t (stage.Where body) r s
   where_last None r s body h = tt
   where_last (Some true) r s body h = h
   where_last (Some false) r s body h = h
@@ -106,7 +106,7 @@ module _ {R : Type 0} (table_of : R → ℕ) (shown : R → List Scalar) (slots 
 
   pub stage_silent : (st : Stage) (source : Form) (table : ℕ) → DecidesStage table_of shown world slots st source table condition.Silent
   stage_silent st source table = record {
-    at = λ r is. subst (λ t. says t st r (item_at world slots source (value.Row r))) (sym (verdict_silent (shown r))) tt;
+    at = λ r is. subst (λ t. Says t st r (item_at world slots source (value.Row r))) (sym (verdict_silent (shown r))) tt;
   }
 
   -- ---- plans
@@ -115,7 +115,7 @@ module _ {R : Type 0} (table_of : R → ℕ) (shown : R → List Scalar) (slots 
       → table_of r ≡ table → verdict c (shown r) ≡ Some b
       → last_if world slots b st (value.Row r) ≡ through_stage world slots st (item_at world slots source (value.Row r))
   plan_decides st source table c r b decides here is =
-      sym (subst (λ t. says t st r (item_at world slots source (value.Row r))) is (decides.at r here))
+      sym (subst (λ t. Says t st r (item_at world slots source (value.Row r))) is (decides.at r here))
 
   cell_meant : (place : Option ℕ) (table : ℕ) (body : Form) (r : R) (s : Scalar) → IfSome place (λ p. IsCell table_of shown world slots table body p) → table_of r ≡ table
       → option_and_then (slice_get (shown r)) place ≡ Some s → form_meaning world body (with_item world slots (value.Row r)) ≡ Ok (value.Scalar s)

@@ -1,5 +1,5 @@
 -- What is prepared of a form says what the form means.
-use Rattle.std.proofs.Common.{◌≡◌, ◌∷◌, ◌++◌, ◌+◌, if◌then◌else◌, List, [], ℕ, Bool, true, false, Option, Some, None, Result, Ok, Err, IfSome, ap, ◌∙◌, sym, refl, subst, slice_get, length}
+use Rattle.std.proofs.Common.{◌≡◌, ◌∷◌, if◌then◌else◌, List, [], ℕ, Bool, true, false, Option, Some, None, Result, Ok, Err, IfSome, ap, ◌∙◌, sym, refl, subst, slice_get, length}
 use Rattle.std.specs.Prelude.{option_and_then}
 use Rattle.lq_value.specs.declared.scalar.Scalar.{Scalar}
 use Rattle.lq_value.specs.declared.value.Fault.{Fault}
@@ -29,8 +29,8 @@ use Rattle.lq_pipe.proofs.SlotLemmas.{found_before, found_next}
 use Rattle.lq_pipe.proofs.TruthLemmas.{truth_binary, truth_both, truth_either, truth_two}
 
 -- where something is said, it is what is meant
-abbrev pub met : Option Bool → Result Bool Fault → Type 0
-met t m = IfSome t (λ b. m ≡ Ok b)
+abbrev pub Meets : Option Bool → Result Bool Fault → Type 0
+Meets t m = IfSome t (λ b. m ≡ Ok b)
 
 truth_found : (r : Result Bool Fault) → on_ok (truth fault.NullReference r) (truth_of fault.NullReference) ≡ r
 truth_found (Ok b) = refl
@@ -96,19 +96,19 @@ module _ {R : Type 0} (table_of : R → ℕ) (shown : R → List Scalar) (slots 
 
     -- ---- conditions
 
-    of_result : (m found : Result Bool Fault) → m ≡ found → met (unless_fault found) m
+    of_result : (m found : Result Bool Fault) → m ≡ found → Meets (unless_fault found) m
     of_result m (Ok b) is = is
     of_result m (Err f) is = tt
 
-    moved : (t t' : Option Bool) (m : Result Bool Fault) → t' ≡ t → met t m → met t' m
-    moved t t' m is h = subst (λ o. met o m) (sym is) h
+    moved : (t t' : Option Bool) (m : Result Bool Fault) → t' ≡ t → Meets t m → Meets t' m
+    moved t t' m is h = subst (λ o. Meets o m) (sym is) h
 
     pub decides_silent : (table : ℕ) (f : Form) → Decides table_of shown world slots table f condition.Silent
     decides_silent table f = record { at = λ r is. moved None (verdict condition.Silent (shown r)) _ (verdict_silent (shown r)) tt }
 
     sign_met : (sign : Binary) (o : Op) (a b : Form) (vs : Slots R) (found : Option Scalar) (s : Scalar) → world.unknown ≡ fault.NullReference → o ≡ operation_of sign
         → IfSome found (λ x. form_meaning world a vs ≡ Ok (value.Scalar x)) → form_meaning world b vs ≡ Ok (value.Scalar s)
-        → met (sign_verdict sign found s) (truth_in world (form_meaning world (form.Binary o a b) vs))
+        → Meets (sign_verdict sign found s) (truth_in world (form_meaning world (form.Binary o a b) vs))
     sign_met sign o a b vs None s known is left right = tt
     sign_met sign o a b vs (Some x) s known is left right =
         of_result _ _ (truth_binary world sign o a b vs x s is left right ∙ ap (λ u. on_ok (of_two u (operation_of sign) x s) (truth_of u)) known)
@@ -126,7 +126,7 @@ module _ {R : Type 0} (table_of : R → ℕ) (shown : R → List Scalar) (slots 
     search_met : (o : Op) (a b : Form) (vs : Slots R) (found : Option Scalar) (s : Scalar) → world.unknown ≡ fault.NullReference
         → ((x y : Scalar) → on_ok (of_two fault.NullReference o x y) (truth_of fault.NullReference) ≡ searched fault.NullReference o x y)
         → IfSome found (λ x. form_meaning world a vs ≡ Ok (value.Scalar x)) → form_meaning world b vs ≡ Ok (value.Scalar s)
-        → met (search_verdict o found s) (truth_in world (form_meaning world (form.Binary o a b) vs))
+        → Meets (search_verdict o found s) (truth_in world (form_meaning world (form.Binary o a b) vs))
     search_met o a b vs None s known same left right = tt
     search_met o a b vs (Some x) s known same left right =
         of_result _ _ (truth_two world o a b vs x s left right ∙ ap (λ u. on_ok (of_two u o x s) (truth_of u)) known ∙ same x s)
@@ -138,22 +138,22 @@ module _ {R : Type 0} (table_of : R → ℕ) (shown : R → List Scalar) (slots 
         → Decides table_of shown world slots table (form.Binary o a b) c
     decides_search o o' a b table place s c known is same cell constant says = record {
       at = λ r here.
-          subst (λ p. met (verdict c (shown r)) (truth_in world (form_meaning world (form.Binary p a b) (with_item world slots (value.Row r))))) is
+          subst (λ p. Meets (verdict c (shown r)) (truth_in world (form_meaning world (form.Binary p a b) (with_item world slots (value.Row r))))) is
           (moved (search_verdict o' (slice_get (shown r) place) s) (verdict c (shown r)) _ (says.at (shown r))
           (search_met o' a b (with_item world slots (value.Row r)) (slice_get (shown r) place) s known same (cell.at r here) (constant.at (value.Row r))));
     }
 
-    both_met : (ta tb : Option Bool) (ma mb m : Result Bool Fault) → met ta ma → met tb mb → m ≡ on_ok ma (λ x. if x then mb else Ok false)
-        → met (both_verdicts ta tb) m
+    both_met : (ta tb : Option Bool) (ma mb m : Result Bool Fault) → Meets ta ma → Meets tb mb → m ≡ on_ok ma (λ x. if x then mb else Ok false)
+        → Meets (both_verdicts ta tb) m
     both_met None tb ma mb m ha hb is = tt
-    both_met (Some true) tb ma mb m ha hb is = subst (λ z. met tb z) (sym (is ∙ ap (λ (r : Result Bool Fault). on_ok r (λ x. if x then mb else Ok false)) ha)) hb
+    both_met (Some true) tb ma mb m ha hb is = subst (λ z. Meets tb z) (sym (is ∙ ap (λ (r : Result Bool Fault). on_ok r (λ x. if x then mb else Ok false)) ha)) hb
     both_met (Some false) tb ma mb m ha hb is = is ∙ ap (λ (r : Result Bool Fault). on_ok r (λ x. if x then mb else Ok false)) ha
 
-    either_met : (ta tb : Option Bool) (ma mb m : Result Bool Fault) → met ta ma → met tb mb → m ≡ on_ok ma (λ x. if x then Ok true else mb)
-        → met (either_verdict ta tb) m
+    either_met : (ta tb : Option Bool) (ma mb m : Result Bool Fault) → Meets ta ma → Meets tb mb → m ≡ on_ok ma (λ x. if x then Ok true else mb)
+        → Meets (either_verdict ta tb) m
     either_met None tb ma mb m ha hb is = tt
     either_met (Some true) tb ma mb m ha hb is = is ∙ ap (λ (r : Result Bool Fault). on_ok r (λ x. if x then Ok true else mb)) ha
-    either_met (Some false) tb ma mb m ha hb is = subst (λ z. met tb z) (sym (is ∙ ap (λ (r : Result Bool Fault). on_ok r (λ x. if x then Ok true else mb)) ha)) hb
+    either_met (Some false) tb ma mb m ha hb is = subst (λ z. Meets tb z) (sym (is ∙ ap (λ (r : Result Bool Fault). on_ok r (λ x. if x then Ok true else mb)) ha)) hb
 
     pub decides_both : (a b : Form) (table : ℕ) (ca cb c : Condition) → Decides table_of shown world slots table a ca → Decides table_of shown world slots table b cb
         → IsBoth ca cb c

@@ -1,5 +1,5 @@
 -- Items that are pulled one by one.
-use Rattle.std.proofs.Common.{◌≡◌, ◌∷◌, ◌++◌, ◌<◌, List, [], ℕ, zero, suc, Bool, Option, Some, None, Result, Ok, Err, ap, ◌∙◌, sym, refl, append_assoc, append-nil, length, map, reverse, slice_get, arith, true, true≢false}
+use Rattle.std.proofs.Common.{◌≡◌, ◌∷◌, ◌++◌, ◌<◌, List, [], ℕ, zero, suc, Option, Some, None, Result, Ok, Err, ap, ◌∙◌, sym, refl, append_assoc, append-nil, length, map, reverse, slice_get, arith, true, true≢false}
 use Rattle.std.proofs.lemmas.List.{reverse-append, reverse-reverse}
 use Rattle.lq_value.specs.declared.value.End.{End}
 use Rattle.lq_value.specs.declared.value.End.TheVariants as end
@@ -16,7 +16,7 @@ use Rattle.lq_tree.specs.declared.tree.Form.{Form, map-Form, out-Form, para-roll
 use Rattle.lq_tree.specs.declared.tree.Form.TheOpen.{Form-F}
 use Rattle.lq_tree.specs.declared.tree.Form.TheVariants as form
 use Rattle.lq_tree.specs.declared.tree.Form.TheViews.{roll-out-Form}
-use Rattle.lq_pipe.specs.Pulling.{base_stream, end_of, item_at, item_step, items_at, pulled, remaining, rows_or_none, through_select, through_stage, through_where}
+use Rattle.lq_pipe.specs.Pulling.{base_stream, end_of, item_at, item_step, items_at, stream_behind, rest_behind, rows_or_none, through_select, through_stage, through_where}
 use Rattle.lq_pipe.specs.Stages.{IsStageOver, is_base, is_base_step}
 use Rattle.lq_pipe.specs.declared.bases.Base.{Base}
 use Rattle.lq_pipe.specs.declared.stages.Stage.{Stage}
@@ -165,12 +165,12 @@ module _ {R : Type 0} (world : World R) (slots : Slots R) where
   abbrev layer_items : Form-F Form → Passes
   layer_items layer = item_step world slots (map-Form Form (Form × Passes) (λ f. (f, item_at world slots f)) layer)
 
-  rolled : (layer : Form-F Form) (x : Value R) → item_at world slots (roll-Form layer) x ≡ layer_items layer x
+  roll_item : (layer : Form-F Form) (x : Value R) → item_at world slots (roll-Form layer) x ≡ layer_items layer x
   unfolding item_at
-  rolled layer x = ap (λ (m : Passes). m x) (para-roll-Form Passes (item_step world slots) layer)
+  roll_item layer x = ap (λ (m : Passes). m x) (para-roll-Form Passes (item_step world slots) layer)
 
   item_out : (f : Form) (x : Value R) → item_at world slots f x ≡ layer_items (out-Form f) x
-  item_out f x = ap (λ g. item_at world slots g x) (sym (roll-out-Form f)) ∙ rolled (out-Form f) x
+  item_out f x = ap (λ g. item_at world slots g x) (sym (roll-out-Form f)) ∙ roll_item (out-Form f) x
 
   at : (f : Form) (layer : Form-F Form) (x : Value R) → out-Form f ≡ layer → item_at world slots f x ≡ layer_items layer x
   at f layer x h = item_out f x ∙ ap (λ l. layer_items l x) h
@@ -227,7 +227,7 @@ module _ {R : Type 0} (world : World R) (slots : Slots R) where
   items f = stream_of world (form_meaning world f slots)
 
   -- the items of a form that is a stage are those that come of its source's
-  pub stage_items : (st : Stage) (f a : Form) → IsStageOver f st a → pulled world slots st a ≡ items f
+  pub stage_items : (st : Stage) (f a : Form) → IsStageOver f st a → stream_behind world slots st a ≡ items f
   stage_items stage.Plain f a is =
       sym (ap items is ∙ ap (stream_of world) (form_sequence world a slots) ∙ stream_sequence (items a))
   stage_items (stage.Where c) f a is =
@@ -271,7 +271,7 @@ module _ {R : Type 0} (world : World R) (slots : Slots R) where
 
   -- what is left of an opened base is all that is pulled
   pub left_opened : (st : Stage) (a : Form) (b : Base R) → items_at world slots a (base_stream b) ≡ items a
-      → remaining world slots st a b ≡ pulled world slots st a
+      → rest_behind world slots st a b ≡ stream_behind world slots st a
   left_opened st a b opened = through_each st a (base_stream b) ∙ ap (through_stage world slots st) opened
 
 -- ---- where a loop begins

@@ -17,18 +17,18 @@ use Rattle.lq_pipe.specs.Running.{truth_in}
 use Rattle.lq_pipe.proofs.Forms.{binary_of, form_both, form_either}
 
 module _ {R : Type 0} (world : World R) where
-  told : (b : Bool) → truth_in world (Ok (truth_value b)) ≡ Ok b
-  told b = ap (λ layer. on_ok (scalar_of world layer) (truth_of world.unknown)) (value.outs-Scalar (scalar.Bool b))
+  truth_of_value : (b : Bool) → truth_in world (Ok (truth_value b)) ≡ Ok b
+  truth_of_value b = ap (λ layer. on_ok (scalar_of world layer) (truth_of world.unknown)) (value.outs-Scalar (scalar.Bool b))
 
   both_of : (t : Result Bool Fault) (b : Result (Value R) Fault)
       → truth_in world (on_ok t (λ x. if x then b else Ok (truth_value false))) ≡ on_ok t (λ x. if x then truth_in world b else Ok false)
   both_of (Ok true) b = refl
-  both_of (Ok false) b = told false
+  both_of (Ok false) b = truth_of_value false
   both_of (Err f) b = refl
 
   either_of : (t : Result Bool Fault) (b : Result (Value R) Fault)
       → truth_in world (on_ok t (λ x. if x then Ok (truth_value true) else b)) ≡ on_ok t (λ x. if x then Ok true else truth_in world b)
-  either_of (Ok true) b = told true
+  either_of (Ok true) b = truth_of_value true
   either_of (Ok false) b = refl
   either_of (Err f) b = refl
 

@@ -11,34 +11,34 @@ use Rattle.lq_language.specs.declared.methods.Simple.{Simple}
 use Rattle.lq_language.specs.declared.methods.Simple.TheVariants as simple
 
 -- the first item decides, or it is a second one that is a fault; every other method reads its source whole
-abbrev pub read : Simple → Option ℕ
-read simple.Any = Some 1
-read simple.First = Some 1
-read simple.FirstOrDefault = Some 1
-read simple.Single = Some 2
-read simple.SingleOrDefault = Some 2
-read method = None
+abbrev pub simple_limit : Simple → Option ℕ
+simple_limit simple.Any = Some 1
+simple_limit simple.First = Some 1
+simple_limit simple.FirstOrDefault = Some 1
+simple_limit simple.Single = Some 2
+simple_limit simple.SingleOrDefault = Some 2
+simple_limit method = None
 
 -- the items up to a number, or up to the place that it is
-abbrev pub up_to : Given → ℤ → Option ℕ
-up_to given.Take n = Some (as_count n)
-up_to given.ElementAt (pos n) = Some (n + 1)
-up_to given.ElementAt (negsuc n) = Some 0
-up_to method n = None
+abbrev pub number_limit : Given → ℤ → Option ℕ
+number_limit given.Take n = Some (as_count n)
+number_limit given.ElementAt (pos n) = Some (n + 1)
+number_limit given.ElementAt (negsuc n) = Some 0
+number_limit method n = None
 
 -- an argument that is a fault is the answer of these, and nothing is read
-abbrev pub needed_at_fault : Given → Option ℕ
-needed_at_fault given.Skip = Some 0
-needed_at_fault given.Take = Some 0
-needed_at_fault given.ElementAt = Some 0
-needed_at_fault given.Contains = Some 0
-needed_at_fault method = None
+abbrev pub fault_limit : Given → Option ℕ
+fault_limit given.Skip = Some 0
+fault_limit given.Take = Some 0
+fault_limit given.ElementAt = Some 0
+fault_limit given.Contains = Some 0
+fault_limit method = None
 
 module _ {R : Type 0} where
-  abbrev pub needed_by : Given → Value-F R (Value R) → Option ℕ
-  needed_by method (Value-F.Scalar (scalar.Int n)) = up_to method n
-  needed_by method layer = None
+  abbrev pub value_limit : Given → Value-F R (Value R) → Option ℕ
+  value_limit method (Value-F.Scalar (scalar.Int n)) = number_limit method n
+  value_limit method layer = None
 
-  abbrev pub needed : Given → Result (Value R) Fault → Option ℕ
-  needed method (Ok v) = needed_by method (out-Value R v)
-  needed method (Err f) = needed_at_fault method
+  abbrev pub given_limit : Given → Result (Value R) Fault → Option ℕ
+  given_limit method (Ok v) = value_limit method (out-Value R v)
+  given_limit method (Err f) = fault_limit method

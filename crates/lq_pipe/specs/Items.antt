@@ -14,40 +14,40 @@ use Rattle.lq_tree.specs.declared.tree.Joined.{Joined}
 
 module _ {R : Type 0} (world : World R) (slots : Slots R) where
   -- what comes of an item and of each item of the sequence that it leads to
-  abbrev pub expanded_of : Form → Form → Value R → Stream (Value R)
-  expanded_of inner result x =
+  abbrev pub item_expansion : Form → Form → Value R → Stream (Value R)
+  item_expansion inner result x =
       select_each (λ w. form_meaning world result (with_items world slots x w)) (stream_of world (form_meaning world inner (with_item world slots x)))
 
   -- the key and the element of an item
-  abbrev pub keyed_of : Form → Form → Value R → Result (Value R × Value R) Fault
-  keyed_of key element x = both (form_meaning world key (with_item world slots x)) (form_meaning world element (with_item world slots x))
+  abbrev pub key_and_element : Form → Form → Value R → Result (Value R × Value R) Fault
+  key_and_element key element x = both (form_meaning world key (with_item world slots x)) (form_meaning world element (with_item world slots x))
 
   -- an inner item with its key
-  abbrev pub with_key_of : Form → Value R → Result (Value R × Value R) Fault
-  with_key_of key x = both (form_meaning world key (with_item world slots x)) (Ok x)
+  abbrev pub key_and_item : Form → Value R → Result (Value R × Value R) Fault
+  key_and_item key x = both (form_meaning world key (with_item world slots x)) (Ok x)
 
   -- what comes of an outer item and of what its key matches
-  abbrev pub joined_of : Joined Form → List (Value R × Value R) → Value R → Stream (Value R)
-  joined_of j qs x =
+  abbrev pub item_join : Joined Form → List (Value R × Value R) → Value R → Stream (Value R)
+  item_join j qs x =
       on_value (form_meaning world j.outer_key (with_item world slots x))
       (λ k. select_each (λ w. form_meaning world j.result (with_items world slots x w)) (matched world j.grouped k qs, end.Done))
 
   -- what comes of the items of a stream
-  abbrev pub expanded_items : Form → Form → Stream (Value R) → Stream (Value R)
-  expanded_items inner result s = each (expanded_of inner result) s.0 s.1
+  abbrev pub stream_expansion : Form → Form → Stream (Value R) → Stream (Value R)
+  stream_expansion inner result s = each (item_expansion inner result) s.0 s.1
 
-  abbrev pub keyed_items : Form → Form → Stream (Value R) → Stream (Value R × Value R)
-  keyed_items key element s = select_by (keyed_of key element) s.0 s.1
+  abbrev pub keys_and_elements : Form → Form → Stream (Value R) → Stream (Value R × Value R)
+  keys_and_elements key element s = select_by (key_and_element key element) s.0 s.1
 
-  abbrev pub items_with_keys : Form → Stream (Value R) → Stream (Value R × Value R)
-  items_with_keys key s = select_by (with_key_of key) s.0 s.1
+  abbrev pub keys_and_items : Form → Stream (Value R) → Stream (Value R × Value R)
+  keys_and_items key s = select_by (key_and_item key) s.0 s.1
 
-  abbrev pub joined_items : Joined Form → List (Value R × Value R) → Stream (Value R) → Stream (Value R)
-  joined_items j qs s = each (joined_of j qs) s.0 s.1
+  abbrev pub stream_join : Joined Form → List (Value R × Value R) → Stream (Value R) → Stream (Value R)
+  stream_join j qs s = each (item_join j qs) s.0 s.1
 
   -- what comes of an item and of each of what it matches
-  abbrev pub matched_items : Form → Value R → List (Value R) → Stream (Value R)
-  matched_items result x found = select_each (λ w. form_meaning world result (with_items world slots x w)) (found, end.Done)
+  abbrev pub item_matches : Form → Value R → List (Value R) → Stream (Value R)
+  item_matches result x found = select_each (λ w. form_meaning world result (with_items world slots x w)) (found, end.Done)
 
 module _ {R : Type 0} where
   abbrev pub groups_in : List (Value R × Value R) → Stream (Value R)

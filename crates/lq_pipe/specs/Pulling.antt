@@ -83,12 +83,12 @@ module _ {R : Type 0} (world : World R) (slots : Slots R) where
   items_at f items = each (item_at f) items.0 items.1
 
   -- the items that are still to come of a source behind its last stage
-  abbrev pub remaining : Stage → Form → Base R → Stream (Value R)
-  remaining st source b = each (λ x. through_stage st (item_at source x)) (base_stream b).0 (base_stream b).1
+  abbrev pub rest_behind : Stage → Form → Base R → Stream (Value R)
+  rest_behind st source b = each (λ x. through_stage st (item_at source x)) (base_stream b).0 (base_stream b).1
 
   -- and all of them
-  abbrev pub pulled : Stage → Form → Stream (Value R)
-  pulled st source = through_stage st (stream_of world (form_meaning world source slots))
+  abbrev pub stream_behind : Stage → Form → Stream (Value R)
+  stream_behind st source = through_stage st (stream_of world (form_meaning world source slots))
 
   -- what comes of an item at a stage whose condition is true of it, and of one that is dropped there or before
   abbrev pub last : Stage → Value R → Stream (Value R)

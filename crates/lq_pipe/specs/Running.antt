@@ -51,8 +51,8 @@ module _ {R : Type 0} (world : World R) where
   truth_in found = on_ok (scalar_in found) (truth_of world.unknown)
 
   -- what a form gives of an item, and whether it is true of it
-  abbrev pub of_item : Form → Slots R → Value R → Result (Value R) Fault
-  of_item form slots v = form_meaning world form (with_item world (values_in slots) v)
+  abbrev pub value_of_item : Form → Slots R → Value R → Result (Value R) Fault
+  value_of_item form slots v = form_meaning world form (with_item world (values_in slots) v)
 
   abbrev pub holds_of : Form → Slots R → Value R → Result Bool Fault
   holds_of form slots v = is_true world (form_meaning world form) (with_item world (values_in slots) v)

@@ -16,13 +16,13 @@ impl<'a, R: TableRow> Running<'a, R> {
     ghost use Rattle.lq_language.specs.Stream.{whole};
     ghost use Rattle.lq_language.specs.Arrangement.{all_of};
     ghost use Rattle.lq_language.specs.OperandMeaning.{sequence};
-    ghost use Rattle.lq_pipe.specs.Items.{expanded_items, expanded_of, items_with_keys, joined_items, joined_of, keyed_items, keyed_of, matched_items, with_key_of};
+    ghost use Rattle.lq_pipe.specs.Items.{stream_expansion, item_expansion, keys_and_items, stream_join, item_join, keys_and_elements, key_and_element, item_matches, key_and_item};
     ghost use Rattle.lq_operators.specs.Matching.{pairs_of};
     ghost use Rattle.lq_operators.specs.Answers.{IsAnswer};
     ghost use Rattle.lq_tree.specs.declared.tree.Form.TheVariants as form;
     ghost use Rattle.lq_pipe.specs.Arrangements.{columns_of, key_at, sorted_by};
     ghost use Rattle.lq_pipe.specs.Running.{Answers, items_meant, meant};
-    ghost use Rattle.lq_pipe.specs.Pulling.{StepsTo, remaining};
+    ghost use Rattle.lq_pipe.specs.Pulling.{StepsTo, rest_behind};
     ghost use Rattle.lq_pipe.specs.Runs.{world};
     ghost use Rattle.lq_pipe.specs.Slots.{values_in};
     ghost use Rattle.lq_pipe.specs.declared.stages.Stage.TheVariants as stage;
@@ -54,7 +54,7 @@ impl<'a, R: TableRow> Running<'a, R> {
         item: &Value<R>,
         slots: &Slots<'_, R>,
     ) -> Result<(List<Value<R>>, End), AllocError>
-        ensures { IfOk result (λ s. s ≡ expanded_of (world self.now)
+        ensures { IfOk result (λ s. s ≡ item_expansion (world self.now)
             (values_in slots.now) inner.now body.now item.now) }
     {
         let deeper = (&*slots).with(&*item);
@@ -71,21 +71,21 @@ impl<'a, R: TableRow> Running<'a, R> {
         slots: &Slots<'_, R>,
     ) -> Result<(List<Value<R>>, End), AllocError>
         ensures { IfOk result (λ items.
-            items ≡ expanded_items (world self.now) (values_in slots.now) inner.now body.now
+            items ≡ stream_expansion (world self.now) (values_in slots.now) inner.now body.now
             (items_meant (world self.now) source.now slots.now)) }
     {
         let mut base = self.open(source, slots)?;
-        let mut made = List::new(self.alloc);
+        let mut values = List::new(self.alloc);
         loop {
             match self.next(&Stage::Plain, source, &mut base, slots)? {
                 Step::Item(item) => {
-                    let (values, ending) = self.expand_item(inner, body, &item, slots)?;
-                    made = sequences::append(made, values)?;
+                    let (further, ending) = self.expand_item(inner, body, &item, slots)?;
+                    values = sequences::append(values, further)?;
                     if let End::Fault(fault) = ending {
-                        return Ok((made, End::Fault(fault)));
+                        return Ok((values, End::Fault(fault)));
                     }
                 }
-                Step::End(end) => return Ok((made, end)),
+                Step::End(end) => return Ok((values, end)),
             }
         }
     }
@@ -117,11 +117,11 @@ impl<'a, R: TableRow> Running<'a, R> {
         item: &Value<R>,
         slots: &Slots<'_, R>,
     ) -> Result<Result<(Value<R>, Value<R>), Fault>, AllocError>
-        ensures { IfOk result (λ found. found ≡ keyed_of (world self.now)
+        ensures { IfOk result (λ pair. pair ≡ key_and_element (world self.now)
             (values_in slots.now) key.now element.now item.now) }
     {
-        match self.of_item(key, item, slots)? {
-            Ok(key) => match self.of_item(element, item, slots)? {
+        match self.value_of_item(key, item, slots)? {
+            Ok(key) => match self.value_of_item(element, item, slots)? {
                 Ok(element) => Ok(Ok((key, element))),
                 Err(fault) => Ok(Err(fault)),
             },
@@ -141,10 +141,10 @@ impl<'a, R: TableRow> Running<'a, R> {
         slots: &Slots<'_, R>,
     ) -> Result<Result<(Value<R>, Value<R>), End>, AllocError>
         ensures { IfOk result (λ pair. StepsTo
-            (keyed_items (world self.now) (values_in slots.now) key.now element.now
-            (remaining (world self.now) (values_in slots.now) stage.Plain source.now base.old)) pair
-            (keyed_items (world self.now) (values_in slots.now) key.now element.now
-            (remaining (world self.now) (values_in slots.now) stage.Plain source.now base.new))) }
+            (keys_and_elements (world self.now) (values_in slots.now) key.now element.now
+            (rest_behind (world self.now) (values_in slots.now) stage.Plain source.now base.old)) pair
+            (keys_and_elements (world self.now) (values_in slots.now) key.now element.now
+            (rest_behind (world self.now) (values_in slots.now) stage.Plain source.now base.new))) }
     {
         match self.next(&Stage::Plain, source, base, slots)? {
             Step::Item(item) => match self.key_pair(key, element, &item, slots)? {
@@ -166,15 +166,15 @@ impl<'a, R: TableRow> Running<'a, R> {
         slots: &Slots<'_, R>,
     ) -> Result<(List<(Value<R>, Value<R>)>, End), AllocError>
         ensures { IfOk result (λ pairs.
-            pairs ≡ keyed_items (world self.now) (values_in slots.now) key.now element.now
+            pairs ≡ keys_and_elements (world self.now) (values_in slots.now) key.now element.now
             (items_meant (world self.now) source.now slots.now)) }
     {
         let mut base = self.open(source, slots)?;
-        let mut made = List::new(self.alloc);
+        let mut pairs = List::new(self.alloc);
         loop {
             match self.next_key_pair(source, key, element, &mut base, slots)? {
-                Ok(pair) => made.push(pair)?,
-                Err(end) => return Ok((made, end)),
+                Ok(pair) => pairs.push(pair)?,
+                Err(end) => return Ok((pairs, end)),
             }
         }
     }
@@ -210,10 +210,10 @@ impl<'a, R: TableRow> Running<'a, R> {
         item: Value<R>,
         slots: &Slots<'_, R>,
     ) -> Result<Result<(Value<R>, Value<R>), Fault>, AllocError>
-        ensures { IfOk result (λ found. found ≡ with_key_of (world self.now)
+        ensures { IfOk result (λ pair. pair ≡ key_and_item (world self.now)
             (values_in slots.now) key.now item) }
     {
-        match self.of_item(key, &item, slots)? {
+        match self.value_of_item(key, &item, slots)? {
             Ok(key) => Ok(Ok((key, item))),
             Err(fault) => Ok(Err(fault)),
         }
@@ -230,10 +230,10 @@ impl<'a, R: TableRow> Running<'a, R> {
         slots: &Slots<'_, R>,
     ) -> Result<Result<(Value<R>, Value<R>), End>, AllocError>
         ensures { IfOk result (λ pair. StepsTo
-            (items_with_keys (world self.now) (values_in slots.now) key.now
-            (remaining (world self.now) (values_in slots.now) stage.Plain source.now base.old)) pair
-            (items_with_keys (world self.now) (values_in slots.now) key.now
-            (remaining (world self.now) (values_in slots.now) stage.Plain source.now base.new))) }
+            (keys_and_items (world self.now) (values_in slots.now) key.now
+            (rest_behind (world self.now) (values_in slots.now) stage.Plain source.now base.old)) pair
+            (keys_and_items (world self.now) (values_in slots.now) key.now
+            (rest_behind (world self.now) (values_in slots.now) stage.Plain source.now base.new))) }
     {
         match self.next(&Stage::Plain, source, base, slots)? {
             Step::Item(item) => match self.inner_pair(key, item, slots)? {
@@ -254,15 +254,15 @@ impl<'a, R: TableRow> Running<'a, R> {
         slots: &Slots<'_, R>,
     ) -> Result<(List<(Value<R>, Value<R>)>, End), AllocError>
         ensures { IfOk result (λ pairs.
-            pairs ≡ items_with_keys (world self.now) (values_in slots.now) key.now
+            pairs ≡ keys_and_items (world self.now) (values_in slots.now) key.now
             (items_meant (world self.now) source.now slots.now)) }
     {
         let mut base = self.open(source, slots)?;
-        let mut made = List::new(self.alloc);
+        let mut pairs = List::new(self.alloc);
         loop {
             match self.next_inner_pair(source, key, &mut base, slots)? {
-                Ok(pair) => made.push(pair)?,
-                Err(end) => return Ok((made, end)),
+                Ok(pair) => pairs.push(pair)?,
+                Err(end) => return Ok((pairs, end)),
             }
         }
     }
@@ -276,13 +276,13 @@ impl<'a, R: TableRow> Running<'a, R> {
         item: &Value<R>,
         slots: &Slots<'_, R>,
     ) -> Result<(List<Value<R>>, End), AllocError>
-        ensures { IfOk result (λ s. s ≡ joined_of (world self.now) (values_in slots.now) joined.now
+        ensures { IfOk result (λ s. s ≡ item_join (world self.now) (values_in slots.now) joined.now
             (pairs_of matches.now) item.now) }
     {
-        match self.of_item(&joined.outer_key, item, slots)? {
+        match self.value_of_item(&joined.outer_key, item, slots)? {
             Ok(key) => {
-                let found = sequences::match_items(self.alloc, joined.grouped, &key, matches)?;
-                self.match_item(&joined.result, found.as_slice(), item, slots)
+                let inner = sequences::match_items(self.alloc, joined.grouped, &key, matches)?;
+                self.match_item(&joined.result, inner.as_slice(), item, slots)
             }
             Err(fault) => Ok((List::new(self.alloc), End::Fault(fault))),
         }
@@ -293,15 +293,15 @@ impl<'a, R: TableRow> Running<'a, R> {
     fn match_item(
         &self,
         body: &Form,
-        found: &[Value<R>],
+        inner: &[Value<R>],
         item: &Value<R>,
         slots: &Slots<'_, R>,
     ) -> Result<(List<Value<R>>, End), AllocError>
         ensures { IfOk result (λ items. items
-            ≡ matched_items (world self.now) (values_in slots.now) body.now item.now found.now) }
+            ≡ item_matches (world self.now) (values_in slots.now) body.now item.now inner.now) }
     {
         let deeper = (&*slots).with(&*item);
-        self.select_all(body, found, End::Done, &deeper)
+        self.select_all(body, inner, End::Done, &deeper)
     }
 
     /// What comes of each item of an outer source, up to the first fault.
@@ -314,22 +314,22 @@ impl<'a, R: TableRow> Running<'a, R> {
         slots: &Slots<'_, R>,
     ) -> Result<(List<Value<R>>, End), AllocError>
         ensures { IfOk result (λ items.
-            items ≡ joined_items (world self.now) (values_in slots.now) joined.now
+            items ≡ stream_join (world self.now) (values_in slots.now) joined.now
             (pairs_of matches.now)
             (items_meant (world self.now) source.now slots.now)) }
     {
         let mut base = self.open(source, slots)?;
-        let mut made = List::new(self.alloc);
+        let mut values = List::new(self.alloc);
         loop {
             match self.next(&Stage::Plain, source, &mut base, slots)? {
                 Step::Item(item) => {
-                    let (values, ending) = self.join_item(joined, matches, &item, slots)?;
-                    made = sequences::append(made, values)?;
+                    let (further, ending) = self.join_item(joined, matches, &item, slots)?;
+                    values = sequences::append(values, further)?;
                     if let End::Fault(fault) = ending {
-                        return Ok((made, End::Fault(fault)));
+                        return Ok((values, End::Fault(fault)));
                     }
                 }
-                Step::End(end) => return Ok((made, end)),
+                Step::End(end) => return Ok((values, end)),
             }
         }
     }
@@ -394,12 +394,12 @@ impl<'a, R: TableRow> Running<'a, R> {
         ensures { Answers
             (columns_of (world self.now) (values_in slots.now) keys.now items.now) result }
     {
-        let mut made = List::new(self.alloc);
+        let mut columns = List::new(self.alloc);
         for key in keys.as_slice() {
             let column = self.key_column(&key.value, items, slots)?;
-            made.push(column)?;
+            columns.push(column)?;
         }
-        Ok(made)
+        Ok(columns)
     }
 
     /// A key of each item, up to the first fault.
@@ -413,12 +413,12 @@ impl<'a, R: TableRow> Running<'a, R> {
         ensures { Answers
             (all_of (key_at (world self.now) (values_in slots.now) key.now) items.now) result }
     {
-        let mut made = List::new(self.alloc);
+        let mut column = List::new(self.alloc);
         for item in items {
-            let found = self.sort_key(key, item, slots)?;
-            made.push(found)?;
+            let scalar = self.sort_key(key, item, slots)?;
+            column.push(scalar)?;
         }
-        Ok(made)
+        Ok(column)
     }
 
     /// A key of an item.

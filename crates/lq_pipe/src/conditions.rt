@@ -77,8 +77,8 @@ impl<'a, R: TableRow> Running<'a, R> {
         right: &Form,
         slots: &Slots<'_, R>,
     ) -> Option<Result<bool, RunError>>
-        ensures { IfSome result (λ found. Answers (truth_in (world self.now)
-            (meant (world self.now) (form.Binary op left.now right.now) slots.now)) found) }
+        ensures { IfSome result (λ truth. Answers (truth_in (world self.now)
+            (meant (world self.now) (form.Binary op left.now right.now) slots.now)) truth) }
     {
         let sign = scalars::sign_of(op)?;
         let left = self.scalar_ref(left, slots)?;
@@ -100,7 +100,7 @@ impl<'a, R: TableRow> Running<'a, R> {
             (meant (world self.now) (form.Binary op left.now right.now) slots.now)) result }
     {
         match (&*self).truth_of_refs(op, &*left, &*right, &*slots) {
-            Some(found) => found,
+            Some(truth) => truth,
             None => scalars::truth_in(self.binary(op, left, right, slots)?),
         }
     }

@@ -1,15 +1,15 @@
 //! How many items a method reads at most.
 ghost use Rattle.std.specs.Prelude.{◌≡◌};
 ghost use Rattle.lq_value.specs.declared.value.Value.{out-Value};
-ghost use Rattle.lq_pipe.specs.Counts.{needed, needed_at_fault, needed_by, read, up_to};
+ghost use Rattle.lq_pipe.specs.Counts.{given_limit, fault_limit, value_limit, simple_limit, number_limit};
 
 use lq_language::{Given, Simple};
 use lq_value::{Fault, RowRef, Scalar, Value};
 
 /// So many items are read by a method without an argument, where there is a limit to them: the
 /// first decides, or it is a second one that is a fault.
-pub(crate) fn read(method: Simple) -> Option<usize>
-    ensures { result ≡ read method }
+pub(crate) fn simple_limit(method: Simple) -> Option<usize>
+    ensures { result ≡ simple_limit method }
 {
     match method {
         Simple::Any | Simple::First | Simple::FirstOrDefault => Some(1),
@@ -19,8 +19,8 @@ pub(crate) fn read(method: Simple) -> Option<usize>
 }
 
 /// The items up to a number, or up to the place that it is.
-fn up_to(method: Given, number: i32) -> Option<usize>
-    ensures { result ≡ up_to method number }
+fn number_limit(method: Given, number: i32) -> Option<usize>
+    ensures { result ≡ number_limit method number }
 {
     match method {
         Given::Take => Some(if number < 0 { 0 } else { number as usize }),
@@ -31,19 +31,19 @@ fn up_to(method: Given, number: i32) -> Option<usize>
 
 /// The same by a value, if it is a number.
 #[tactic(auto, using(crate::proofs::PartLemmas::layers))]
-fn needed_by<R: RowRef>(method: Given, argument: &Value<R>) -> Option<usize>
-    ensures { result ≡ needed_by method (out-Value R argument.now) }
+fn value_limit<R: RowRef>(method: Given, argument: &Value<R>) -> Option<usize>
+    ensures { result ≡ value_limit method (out-Value R argument.now) }
 {
     match argument {
-        Value::Scalar(Scalar::Int(number)) => up_to(method, *number),
+        Value::Scalar(Scalar::Int(number)) => number_limit(method, *number),
         Value::Scalar(_) => None,
         Value::Row(_) | Value::Rec(_) | Value::Group(_, _) | Value::Seq(_, _) => None,
     }
 }
 
 /// No item is read where the argument is a fault that is the answer.
-fn needed_at_fault(method: Given) -> Option<usize>
-    ensures { result ≡ needed_at_fault method }
+fn fault_limit(method: Given) -> Option<usize>
+    ensures { result ≡ fault_limit method }
 {
     match method {
         Given::Skip | Given::Take | Given::ElementAt | Given::Contains => Some(0),
@@ -52,11 +52,14 @@ fn needed_at_fault(method: Given) -> Option<usize>
 }
 
 /// So many items are read by a method with this argument, where there is a limit to them.
-pub(crate) fn needed<R: RowRef>(method: Given, argument: &Result<Value<R>, Fault>) -> Option<usize>
-    ensures { result ≡ needed method argument.now }
+pub(crate) fn given_limit<R: RowRef>(
+    method: Given,
+    argument: &Result<Value<R>, Fault>,
+) -> Option<usize>
+    ensures { result ≡ given_limit method argument.now }
 {
     match argument {
-        Ok(value) => needed_by(method, value),
-        Err(_) => needed_at_fault(method),
+        Ok(value) => value_limit(method, value),
+        Err(_) => fault_limit(method),
     }
 }

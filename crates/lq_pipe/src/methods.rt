@@ -1,5 +1,5 @@
 //! The running of methods of sequences.
-use crate::counts::{needed, read};
+use crate::counts::{given_limit, simple_limit};
 use crate::running::Running;
 use crate::slots::Slots;
 use crate::stages::{Stage, Step, stage_of};
@@ -23,8 +23,8 @@ impl<'a, R: TableRow> Running<'a, R> {
     ghost use Rattle.lq_operators.specs.Tallies.{tallied};
     ghost use Rattle.lq_language.specs.Meaning.{as_truth, given_meaning, simple_meaning};
     ghost use Rattle.lq_tree.specs.declared.tree.Form.TheVariants as form;
-    ghost use Rattle.lq_pipe.specs.Pulling.{pulled};
-    ghost use Rattle.lq_pipe.specs.Running.{holds_of, items_meant, meant, of_item};
+    ghost use Rattle.lq_pipe.specs.Pulling.{stream_behind};
+    ghost use Rattle.lq_pipe.specs.Running.{holds_of, items_meant, meant, value_of_item};
     ghost use Rattle.lq_pipe.specs.Runs.{world};
     ghost use Rattle.lq_pipe.specs.Slots.{values_in};
 
@@ -105,7 +105,7 @@ impl<'a, R: TableRow> Running<'a, R> {
         slots: &Slots<'_, R>,
     ) -> Result<Value<R>, RunError>
         ensures { IsAnswer (simple_meaning method of.now
-            (pulled (world self.now) (values_in slots.now) stage.now source.now)) result }
+            (stream_behind (world self.now) (values_in slots.now) stage.now source.now)) result }
     {
         match Tally::of(method) {
             Some(tally) => self.tally(tally, of, stage, source, slots),
@@ -124,16 +124,16 @@ impl<'a, R: TableRow> Running<'a, R> {
         slots: &Slots<'_, R>,
     ) -> Result<Value<R>, RunError>
         ensures { IsAnswer (simple_meaning method of.now
-            (pulled (world self.now) (values_in slots.now) stage.now source.now)) result }
+            (stream_behind (world self.now) (values_in slots.now) stage.now source.now)) result }
     {
-        let (items, end) = self.read_items(method, stage, source, slots)?;
+        let (items, end) = self.read_simple(method, stage, source, slots)?;
         simple(self.alloc, method, of, items, end)
     }
 
     /// The items that such a method reads, and how they end as far as it reads them.
     #[cycle(running)]
     #[tactic(auto, using(crate::proofs::CountLemmas::reads))]
-    fn read_items(
+    fn read_simple(
         &self,
         method: Simple,
         stage: &Stage<'_>,
@@ -142,9 +142,9 @@ impl<'a, R: TableRow> Running<'a, R> {
     ) -> Result<(List<Value<R>>, End), AllocError>
         ensures { IfOk result (λ items. (t : Ty) → simple_meaning method t items
             ≡ simple_meaning method t
-            (pulled (world self.now) (values_in slots.now) stage.now source.now)) }
+            (stream_behind (world self.now) (values_in slots.now) stage.now source.now)) }
     {
-        match read(method) {
+        match simple_limit(method) {
             Some(count) => {
                 let items = self.take(count, stage, source, slots)?;
                 Ok(items)
@@ -169,13 +169,13 @@ impl<'a, R: TableRow> Running<'a, R> {
         slots: &Slots<'_, R>,
     ) -> Result<Value<R>, RunError>
         ensures { IsAnswer (as_value (tallied of.now tally
-            (pulled (world self.now) (values_in slots.now) stage.now source.now))) result }
+            (stream_behind (world self.now) (values_in slots.now) stage.now source.now))) result }
     {
         let plan = self.plan(stage, source, slots)?;
         let mut base = self.open(source, slots)?;
         let mut tally = tally;
         loop {
-            match self.next_planned(&plan, stage, source, &mut base, slots)? {
+            match self.next_by_plan(&plan, stage, source, &mut base, slots)? {
                 Step::Item(item) => tally = tally.with(&item)?,
                 Step::End(end) => return Ok(Value::Scalar(tally.result(of, end)?)),
             }
@@ -230,7 +230,7 @@ impl<'a, R: TableRow> Running<'a, R> {
         ensures { IsAnswer (given_meaning (world self.now) method argument
             (items_meant (world self.now) source.now slots.now)) result }
     {
-        let (items, end) = self.needed_items(method, &argument, source, slots)?;
+        let (items, end) = self.read_given(method, &argument, source, slots)?;
         given(self.alloc, method, argument, items, end)
     }
 
@@ -267,13 +267,13 @@ impl<'a, R: TableRow> Running<'a, R> {
         let plan = self.plan(&Stage::Plain, source, slots)?;
         let mut base = self.open(source, slots)?;
         loop {
-            match self.next_planned(&plan, &Stage::Plain, source, &mut base, slots)? {
+            match self.next_by_plan(&plan, &Stage::Plain, source, &mut base, slots)? {
                 Step::Item(item) => {
                     if same(value, &item) {
                         return Ok(parts::truth(true));
                     }
                 }
-                Step::End(end) => return parts::no_item_at_end(end),
+                Step::End(end) => return parts::false_at_end(end),
             }
         }
     }
@@ -281,7 +281,7 @@ impl<'a, R: TableRow> Running<'a, R> {
     /// The items that such a method reads, and how they end as far as it reads them.
     #[cycle(running)]
     #[tactic(auto, using(crate::proofs::CountLemmas::needs))]
-    fn needed_items(
+    fn read_given(
         &self,
         method: Given,
         argument: &Result<Value<R>, Fault>,
@@ -292,7 +292,7 @@ impl<'a, R: TableRow> Running<'a, R> {
             ≡ given_meaning (world self.now) method argument.now
             (items_meant (world self.now) source.now slots.now)) }
     {
-        match needed(method, argument) {
+        match given_limit(method, argument) {
             Some(count) => {
                 let items = self.take(count, &Stage::Plain, source, slots)?;
                 Ok(items)
@@ -325,7 +325,7 @@ impl<'a, R: TableRow> Running<'a, R> {
                     Ok(false) => return Ok(parts::truth(false)),
                     Err(fault) => return Err(RunError::Fault(fault)),
                 },
-                Step::End(end) => return parts::truth_at_end(end),
+                Step::End(end) => return parts::true_at_end(end),
             }
         }
     }
@@ -346,14 +346,14 @@ impl<'a, R: TableRow> Running<'a, R> {
 
     /// What a form gives of an item.
     #[cycle(running)]
-    pub(crate) fn of_item(
+    pub(crate) fn value_of_item(
         &self,
         body: &Form,
         item: &Value<R>,
         slots: &Slots<'_, R>,
     ) -> Result<Result<Value<R>, Fault>, AllocError>
         ensures { IfOk result (λ value.
-            value ≡ of_item (world self.now) body.now slots.now item.now) }
+            value ≡ value_of_item (world self.now) body.now slots.now item.now) }
     {
         sequences::value_or_fault(self.evaluate(body, &(&*slots).with(&*item)))
     }
@@ -368,15 +368,15 @@ impl<'a, R: TableRow> Running<'a, R> {
         slots: &Slots<'_, R>,
     ) -> Result<(List<Value<R>>, End), AllocError>
         ensures { IfOk result (λ values.
-            values ≡ select_by (of_item (world self.now) body.now slots.now) items.now end) }
+            values ≡ select_by (value_of_item (world self.now) body.now slots.now) items.now end) }
     {
-        let mut made = List::new(self.alloc);
+        let mut values = List::new(self.alloc);
         for item in items {
-            match self.of_item(body, item, slots)? {
-                Ok(value) => made.push(value)?,
-                Err(fault) => return Ok((made, End::Fault(fault))),
+            match self.value_of_item(body, item, slots)? {
+                Ok(value) => values.push(value)?,
+                Err(fault) => return Ok((values, End::Fault(fault))),
             }
         }
-        Ok((made, end))
+        Ok((values, end))
     }
 }

@@ -48,8 +48,8 @@ impl<'a, R: TableRow> Running<'a, R> {
         right: &Form,
         slots: &Slots<'_, R>,
     ) -> Option<Result<Value<R>, RunError>>
-        ensures { IfSome result (λ found. IsAnswer (meant (world self.now)
-            (form.Binary op left.now right.now) slots.now) found) }
+        ensures { IfSome result (λ value. IsAnswer (meant (world self.now)
+            (form.Binary op left.now right.now) slots.now) value) }
     {
         let left = self.scalar_ref(left, slots)?;
         let right = self.scalar_ref(right, slots)?;
@@ -70,8 +70,8 @@ impl<'a, R: TableRow> Running<'a, R> {
         ensures { IsAnswer
             (meant (world self.now) (form.Binary op left.now right.now) slots.now) result }
     {
-        if let Some(found) = (&*self).binary_of_refs(op, &*left, &*right, &*slots) {
-            return found;
+        if let Some(value) = (&*self).binary_of_refs(op, &*left, &*right, &*slots) {
+            return value;
         }
         let left = self.scalar(left, slots)?;
         self.binary_right(op, left, right, slots)
@@ -197,12 +197,12 @@ impl<'a, R: TableRow> Running<'a, R> {
         ensures { Answers (members_of (world self.now)
             (map (field_means (world self.now)) fields.now) (values_in slots.now)) result }
     {
-        let mut made = List::new(self.alloc);
+        let mut members = List::new(self.alloc);
         for field in fields.as_slice() {
             let value = self.evaluate(&field.value, slots)?;
-            parts::push_member(self.alloc, &mut made, &field.name, value)?;
+            parts::push_member(self.alloc, &mut members, &field.name, value)?;
         }
-        Ok(made)
+        Ok(members)
     }
 
     /// A pair, the left part of which is evaluated first.

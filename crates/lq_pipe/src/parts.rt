@@ -48,7 +48,7 @@ pub(crate) fn pair<R: RowRef>(
     left: Value<R>,
     right: Value<R>,
 ) -> Result<Value<R>, AllocError>
-    ensures { IfOk result (λ made. made ≡ pair left right) }
+    ensures { IfOk result (λ v. v ≡ pair left right) }
 {
     let mut members = List::new(alloc);
     members.push((Txt::from_str(alloc, "")?, left))?;
@@ -106,7 +106,7 @@ pub(crate) fn truth<R: RowRef>(truth: bool) -> Value<R>
 }
 
 /// False where the items come to their end, or the fault that ends them.
-pub(crate) fn no_item_at_end<R: RowRef>(end: End) -> Result<Value<R>, RunError>
+pub(crate) fn false_at_end<R: RowRef>(end: End) -> Result<Value<R>, RunError>
     ensures { IsAnswer (as_truth (at_end end (Ok false))) result }
 {
     match end {
@@ -116,7 +116,7 @@ pub(crate) fn no_item_at_end<R: RowRef>(end: End) -> Result<Value<R>, RunError>
 }
 
 /// True where the items come to their end, or the fault that ends them.
-pub(crate) fn truth_at_end<R: RowRef>(end: End) -> Result<Value<R>, RunError>
+pub(crate) fn true_at_end<R: RowRef>(end: End) -> Result<Value<R>, RunError>
     ensures { IsAnswer (as_truth (at_end end (Ok true))) result }
 {
     match end {

@@ -16,7 +16,7 @@ impl<'a, R: TableRow> Running<'a, R> {
     ghost use Rattle.lq_value.specs.declared.value.End.TheVariants as end;
     ghost use Rattle.lq_language.specs.OperandMeaning.{stream_of, table_value};
     ghost use Rattle.lq_language.specs.Enumerable.{take_first};
-    ghost use Rattle.lq_pipe.specs.Pulling.{Steps, base_stream, end_of, item_at, items_at, last, outcome_stream, pulled, remaining, rows_or_none, through_select, through_stage, through_where};
+    ghost use Rattle.lq_pipe.specs.Pulling.{Steps, base_stream, end_of, item_at, items_at, last, outcome_stream, stream_behind, rest_behind, rows_or_none, through_select, through_stage, through_where};
     ghost use Rattle.lq_pipe.specs.Running.{items_meant};
     ghost use Rattle.lq_pipe.specs.Runs.{PlansCells, PlansConditions, world};
     ghost use Rattle.lq_pipe.specs.Slots.{values_in};
@@ -195,7 +195,7 @@ impl<'a, R: TableRow> Running<'a, R> {
             ≡ through_select (world self.now) (values_in slots.now) body.now
             (item.now ∷ [], end.Done)) }
     {
-        match self.of_item(body, item, slots)? {
+        match self.value_of_item(body, item, slots)? {
             Ok(value) => Ok(Outcome::Item(value)),
             Err(fault) => Ok(Outcome::Fault(fault)),
         }
@@ -212,8 +212,8 @@ impl<'a, R: TableRow> Running<'a, R> {
         slots: &Slots<'_, R>,
     ) -> Result<Step<R>, AllocError>
         ensures { IfOk result (λ step. Steps
-            (remaining (world self.now) (values_in slots.now) stage.now source.now base.old) step
-            (remaining (world self.now) (values_in slots.now) stage.now source.now base.new)) }
+            (rest_behind (world self.now) (values_in slots.now) stage.now source.now base.old) step
+            (rest_behind (world self.now) (values_in slots.now) stage.now source.now base.new)) }
     {
         loop {
             match base.next() {
@@ -256,7 +256,7 @@ impl<'a, R: TableRow> Running<'a, R> {
     /// goes the general way.
     #[cycle(running)]
     #[tactic(auto, using(crate::proofs::PassingLemmas::plan_decides))]
-    fn pass_planned(
+    fn pass_by_plan(
         &self,
         plan: &Plan,
         stage: &Stage<'_>,
@@ -281,7 +281,7 @@ impl<'a, R: TableRow> Running<'a, R> {
     /// they end.
     #[cycle(running)]
     #[inline(never)]
-    fn next_by_plan(
+    fn next_of_rows(
         &self,
         plan: &Plan,
         stage: &Stage<'_>,
@@ -292,12 +292,12 @@ impl<'a, R: TableRow> Running<'a, R> {
         requires conditions { PlansConditions self.now slots.now stage.now source.now plan.now }
         requires cells { PlansCells self.now slots.now stage.now plan.now }
         ensures { IfOk result (λ step. Steps
-            (remaining (world self.now) (values_in slots.now) stage.now source.now base.old) step
-            (remaining (world self.now) (values_in slots.now) stage.now source.now base.new)) }
+            (rest_behind (world self.now) (values_in slots.now) stage.now source.now base.old) step
+            (rest_behind (world self.now) (values_in slots.now) stage.now source.now base.new)) }
     {
         loop {
             match base.next_row() {
-                Some(row) => match self.pass_planned(plan, stage, source, &row, slots)? {
+                Some(row) => match self.pass_by_plan(plan, stage, source, &row, slots)? {
                     Outcome::Item(item) => return Ok(Step::Item(item)),
                     Outcome::Dropped => {}
                     Outcome::Fault(met) => return Ok(Step::End(End::Fault(met))),
@@ -311,7 +311,7 @@ impl<'a, R: TableRow> Running<'a, R> {
     /// has no frame of its own, so that a plan that says nothing costs nothing.
     #[cycle(running)]
     #[inline(always)]
-    pub(crate) fn next_planned(
+    pub(crate) fn next_by_plan(
         &self,
         plan: &Plan,
         stage: &Stage<'_>,
@@ -322,13 +322,13 @@ impl<'a, R: TableRow> Running<'a, R> {
         requires conditions { PlansConditions self.now slots.now stage.now source.now plan.now }
         requires cells { PlansCells self.now slots.now stage.now plan.now }
         ensures { IfOk result (λ step. Steps
-            (remaining (world self.now) (values_in slots.now) stage.now source.now base.old) step
-            (remaining (world self.now) (values_in slots.now) stage.now source.now base.new)) }
+            (rest_behind (world self.now) (values_in slots.now) stage.now source.now base.old) step
+            (rest_behind (world self.now) (values_in slots.now) stage.now source.now base.new)) }
     {
         if plan.is_silent() {
             return self.next(stage, source, base, slots);
         }
-        self.next_by_plan(plan, stage, source, base, slots)
+        self.next_of_rows(plan, stage, source, base, slots)
     }
 
     /// All items of a source behind its last stage, and how they end.
@@ -342,13 +342,13 @@ impl<'a, R: TableRow> Running<'a, R> {
         slots: &Slots<'_, R>,
     ) -> Result<(List<Value<R>>, End), AllocError>
         ensures { IfOk result (λ items.
-            items ≡ pulled (world self.now) (values_in slots.now) stage.now source.now) }
+            items ≡ stream_behind (world self.now) (values_in slots.now) stage.now source.now) }
     {
         let plan = self.plan(stage, source, slots)?;
         let mut base = self.open(source, slots)?;
         let mut items = List::new(self.alloc);
         loop {
-            match self.next_planned(&plan, stage, source, &mut base, slots)? {
+            match self.next_by_plan(&plan, stage, source, &mut base, slots)? {
                 Step::Item(item) => items.push(item)?,
                 Step::End(end) => return Ok((items, end)),
             }
@@ -367,15 +367,15 @@ impl<'a, R: TableRow> Running<'a, R> {
         slots: &Slots<'_, R>,
     ) -> Result<(List<Value<R>>, End), AllocError>
         ensures { IfOk result (λ items. items ≡ take_first count
-            (pulled (world self.now) (values_in slots.now) stage.now source.now).0
-            (pulled (world self.now) (values_in slots.now) stage.now source.now).1) }
+            (stream_behind (world self.now) (values_in slots.now) stage.now source.now).0
+            (stream_behind (world self.now) (values_in slots.now) stage.now source.now).1) }
     {
         let plan = self.plan(stage, source, slots)?;
         let mut base = self.open(source, slots)?;
         let mut items = List::new(self.alloc);
         let mut wanted = count;
         while wanted > 0 {
-            match self.next_planned(&plan, stage, source, &mut base, slots)? {
+            match self.next_by_plan(&plan, stage, source, &mut base, slots)? {
                 Step::Item(item) => items.push(item)?,
                 Step::End(end) => return Ok((items, end)),
             }

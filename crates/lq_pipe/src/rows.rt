@@ -34,8 +34,8 @@ impl<'a, R: TableRow> Running<'a, R> {
     }
 
     /// Whether any condition is true on a row, which stands in its first slot.
-    fn evaluate_on(&self, condition: &Form, row: &R) -> Result<Result<bool, Fault>, AllocError>
-        ensures { IfOk result (λ found. found ≡ holds_on (world self.now) condition.now row.now) }
+    fn evaluate_row(&self, condition: &Form, row: &R) -> Result<Result<bool, Fault>, AllocError>
+        ensures { IfOk result (λ truth. truth ≡ holds_on (world self.now) condition.now row.now) }
     {
         self.holds(condition, &Value::Row(*row), &Slots::Empty)
     }
@@ -49,30 +49,30 @@ impl<'a, R: TableRow> Running<'a, R> {
         row: &R,
     ) -> Result<Result<bool, Fault>, AllocError>
         requires { DecidesRows self.now plan.now.table condition.now plan.now.condition }
-        ensures { IfOk result (λ found. found ≡ holds_on (world self.now) condition.now row.now) }
+        ensures { IfOk result (λ truth. truth ≡ holds_on (world self.now) condition.now row.now) }
     {
         match plan.verdict(row) {
             Some(truth) => Ok(Ok(truth)),
-            None => self.evaluate_on(condition, row),
+            None => self.evaluate_row(condition, row),
         }
     }
 
     /// Those of the rows on which a condition is true, up to its first fault.
     #[tactic(auto, using(crate::proofs::RowLemmas::keeps_rows))]
     fn filter_rows(&self, condition: &Form, rows: &[R]) -> Result<(Vec<R>, End), AllocError>
-        ensures { IfOk result (λ found. (found.0.items, found.1)
+        ensures { IfOk result (λ selection. (selection.0.items, selection.1)
             ≡ rows_true (world self.now) condition.now rows.now) }
     {
         let plan = self.row_plan(condition, rows)?;
-        let mut found = Vec::new(self.alloc);
+        let mut selection = Vec::new(self.alloc);
         for row in rows {
             match self.holds_on(&plan, condition, row)? {
-                Ok(true) => found.push(*row)?,
+                Ok(true) => selection.push(*row)?,
                 Ok(false) => {}
-                Err(fault) => return Ok((found, End::Fault(fault))),
+                Err(fault) => return Ok((selection, End::Fault(fault))),
             }
         }
-        Ok((found, End::Done))
+        Ok((selection, End::Done))
     }
 }
 

@@ -12,6 +12,7 @@ ghost use Rattle.lq_operators.specs.Answers.{IsAnswer};
 ghost use Rattle.lq_scalar.specs.Operands.{IsAnswer as IsScalar, shown_scalar};
 ghost use Rattle.lq_pipe.specs.Running.{Answers};
 
+use lq_condition::compare_numbers;
 use lq_grammar::Binary;
 use lq_language::Op;
 use lq_operators::RunError;
@@ -57,24 +58,7 @@ fn truth_of_ref(scalar: ScalarRef<'_>) -> Result<bool, RunError>
     }
 }
 
-/// What a sign compares two numbers as, if it compares.
-fn compare_numbers(sign: Binary, m: i32, n: i32) -> Option<bool>
-    ensures { IfSome result (λ truth. of_two fault.NullReference (operation_of sign) (scalar.Int m)
-        (scalar.Int n) ≡ Ok (scalar.Bool truth)) }
-{
-    match sign {
-        Binary::Less => Some(m < n),
-        Binary::Greater => Some(n < m),
-        Binary::LessOrEqual => Some(m <= n),
-        Binary::GreaterOrEqual => Some(n <= m),
-        Binary::Equal => Some(m == n),
-        Binary::NotEqual => Some(m != n),
-        Binary::Multiply | Binary::Divide | Binary::Remainder | Binary::Add | Binary::Subtract =>
-            None,
-    }
-}
-
-/// The same of two scalars, if both are numbers.
+/// What a sign compares two scalars as, if it compares and both are numbers.
 fn compare_scalars(sign: Binary, left: &Scalar, right: &Scalar) -> Option<bool>
     ensures { IfSome result (λ truth. of_two fault.NullReference
         (operation_of sign) left.now right.now ≡ Ok (scalar.Bool truth)) }
@@ -116,12 +100,12 @@ pub(crate) fn truth_in<R: RowRef>(value: Value<R>) -> Result<bool, RunError>
 
 /// The truth value or the fault that was found, where memory wasn't refused.
 pub(crate) fn truth_or_fault(
-    found: Result<bool, RunError>,
+    answer: Result<bool, RunError>,
 ) -> Result<Result<bool, Fault>, AllocError>
-    ensures { (meant : Result Bool Fault) → Answers meant found
-        → IfOk result (λ told. told ≡ meant) }
+    ensures { (meant : Result Bool Fault) → Answers meant answer
+        → IfOk result (λ truth. truth ≡ meant) }
 {
-    match found {
+    match answer {
         Ok(truth) => Ok(Ok(truth)),
         Err(RunError::Fault(fault)) => Ok(Err(fault)),
         Err(RunError::Memory) => Err(AllocError),
@@ -139,11 +123,11 @@ pub(crate) fn is_null(scalar: &Scalar) -> bool
 }
 
 /// A scalar as a value, or why there is none.
-fn as_value<R: RowRef>(found: Result<Scalar, ScalarError>) -> Result<Value<R>, RunError>
-    ensures { (meant : Result Scalar Fault) → IsScalar meant found
+fn as_value<R: RowRef>(answer: Result<Scalar, ScalarError>) -> Result<Value<R>, RunError>
+    ensures { (meant : Result Scalar Fault) → IsScalar meant answer
         → IsAnswer (as_value meant) result }
 {
-    match found {
+    match answer {
         Ok(scalar) => Ok(Value::Scalar(scalar)),
         Err(ScalarError::Fault(fault)) => Err(RunError::Fault(fault)),
         Err(ScalarError::Memory) => Err(RunError::Memory),
@@ -204,7 +188,7 @@ fn of_search<R: RowRef>(op: Op, text: &Scalar, needle: &Scalar) -> Result<Value<
         (searched fault.NullReference op text.now needle.now))) result }
 {
     match searched(op, ScalarRef::of(text), ScalarRef::of(needle)) {
-        Ok(found) => Ok(Value::Scalar(Scalar::Bool(found))),
+        Ok(truth) => Ok(Value::Scalar(Scalar::Bool(truth))),
         Err(fault) => Err(RunError::Fault(fault)),
     }
 }

@@ -35,13 +35,13 @@ fn items<R: RowRef>(alloc: Global, value: Value<R>) -> (List<Value<R>>, End)
 /// The stream of what was found: a fault that was met is its ending.
 pub(crate) fn stream<R: RowRef>(
     alloc: Global,
-    found: Result<Value<R>, RunError>,
+    answer: Result<Value<R>, RunError>,
 ) -> Result<(List<Value<R>>, End), AllocError>
     ensures { (world : World R) (meant : Result (Value R) Fault) → world.unknown
-        ≡ fault.NullReference → IsAnswer meant found
+        ≡ fault.NullReference → IsAnswer meant answer
         → IfOk result (λ s. s ≡ stream_of world meant) }
 {
-    match found {
+    match answer {
         Ok(value) => Ok(items(alloc, value)),
         Err(RunError::Fault(fault)) => Ok((List::new(alloc), End::Fault(fault))),
         Err(RunError::Memory) => Err(AllocError),
@@ -50,12 +50,12 @@ pub(crate) fn stream<R: RowRef>(
 
 /// The value or the fault that was found, where memory wasn't refused.
 pub(crate) fn value_or_fault<R: RowRef>(
-    found: Result<Value<R>, RunError>,
+    answer: Result<Value<R>, RunError>,
 ) -> Result<Result<Value<R>, Fault>, AllocError>
-    ensures { (meant : Result (Value R) Fault) → IsAnswer meant found
-        → IfOk result (λ settled. settled ≡ meant) }
+    ensures { (meant : Result (Value R) Fault) → IsAnswer meant answer
+        → IfOk result (λ value. value ≡ meant) }
 {
-    match found {
+    match answer {
         Ok(value) => Ok(Ok(value)),
         Err(RunError::Fault(fault)) => Ok(Err(fault)),
         Err(RunError::Memory) => Err(AllocError),
@@ -75,7 +75,7 @@ pub(crate) fn groups<R: RowRef>(
     pairs: List<(Value<R>, Value<R>)>,
     end: End,
 ) -> Result<Value<R>, AllocError>
-    ensures { IfOk result (λ made. made ≡ sequence (whole pairs end groups_in)) }
+    ensures { IfOk result (λ v. v ≡ sequence (whole pairs end groups_in)) }
 {
     match end {
         End::Done => Ok(Value::Seq(grouped(alloc, pairs)?, End::Done)),
@@ -90,15 +90,15 @@ pub(crate) fn match_items<R: RowRef>(
     key: &Value<R>,
     matches: &Matches<R>,
 ) -> Result<List<Value<R>>, AllocError>
-    ensures { (world : World R) → IfOk result (λ found. found
+    ensures { (world : World R) → IfOk result (λ items. items
         ≡ matched world grouped key.now (pairs_of matches.now)) }
 {
-    let found = matches.find(alloc, key)?;
+    let items = matches.find(alloc, key)?;
     if !grouped {
-        return Ok(found);
+        return Ok(items);
     }
     let mut one = List::new(alloc);
-    one.push(Value::Seq(found, End::Done))?;
+    one.push(Value::Seq(items, End::Done))?;
     Ok(one)
 }
 

@@ -29,14 +29,14 @@ impl<'a, R: RowRef> Slots<'a, R> {
     /// behind the last slot it stands.
     #[tactic(auto, using(crate::proofs::SlotLemmas::chains, crate::proofs::SlotLemmas::places))]
     fn find(&self, number: usize) -> Result<&Value<R>, usize>
-        ensures found { IfOk result (λ v. slice_get (values_in self.now) number ≡ Some v.now) }
+        ensures value { IfOk result (λ v. slice_get (values_in self.now) number ≡ Some v.now) }
         ensures past { IfErr result (λ n. number ≡ length (values_in self.now) + n) }
     {
         match self {
             Slots::Empty => Err(number),
-            Slots::With(outer, value) => match outer.find(number) {
-                Ok(found) => Ok(found),
-                Err(0) => Ok(value),
+            Slots::With(outer, last) => match outer.find(number) {
+                Ok(value) => Ok(value),
+                Err(0) => Ok(last),
                 Err(past) => Err(past - 1),
             },
         }

@@ -36,7 +36,7 @@ fn columns<'a, R: TableRow>(tables: &[TableRows<'a, R>], table: TableNumber) -> 
         (slice_get (schemas_in tables.now) table) }
 {
     match tables.get(table as usize) {
-        Some(found) => found.schema.columns.as_slice(),
+        Some(entry) => entry.schema.columns.as_slice(),
         None => &[],
     }
 }
@@ -50,8 +50,8 @@ pub(crate) fn column_name<'a, R: TableRow>(
     ensures { option_map (λ name. name.now) result ≡ name_of_column
         (schemas_in tables.now) table column }
 {
-    let found = tables.get(table as usize)?;
-    let column = found.schema.columns.as_slice().get(column as usize)?;
+    let entry = tables.get(table as usize)?;
+    let column = entry.schema.columns.as_slice().get(column as usize)?;
     Some(column.name.as_str())
 }
 

@@ -7,9 +7,9 @@ use Rattle.lq_operators.specs.Matching.{pairs_of}
 use Rattle.lq_pipe.specs.Arrangements.{column_of, columns_of, key_at}
 use Rattle.lq_pipe.specs.Slots.{values_in}
 use Rattle.lq_pipe.proofs.ArrangementLemmas.{all_goes, all_stops, counted_answer, key_answer, order_by_answer, sorted_answer}
-use Rattle.lq_pipe.proofs.ItemLemmas.{expanded_pulled, group_by_answer, join_answer, join_stops, joined_met, matched_is, select_many_answer}
-use Rattle.lq_pipe.specs.Running.{Answers, holds_of, of_item, scalar_in, truth_in}
-use Rattle.lq_pipe.specs.Pulling.{Steps, remaining}
+use Rattle.lq_pipe.proofs.ItemLemmas.{expansion_is, group_by_answer, join_answer, join_stops, joined_met, matched_is, select_many_answer}
+use Rattle.lq_pipe.specs.Running.{Answers, holds_of, value_of_item, scalar_in, truth_in}
+use Rattle.lq_pipe.specs.Pulling.{Steps, rest_behind}
 use Rattle.lq_pipe.specs.declared.stages.Step.TheVariants as step
 use Rattle.lq_pipe.specs.Runs.{world}
 use Rattle.lq_pipe.proofs.PullLemmas.{stage_items, taken_ended}
@@ -30,9 +30,9 @@ evaluate-returns-in-All g t c =
     all_answer (world c.args.self.now) c.args.form.now c.in-All.source c.in-All.condition c.get-in-All.result.now c.get-in-All-2.result.now (values_in c.args.slots.now)
     c.all.result c.in-All.is c.get-in-All.ensures c.get-in-All-2.ensures c.all.ensures
 
-pub of_item-returns : goal.of_item-returns
-of_item-returns g t c =
-    c.value_or_fault.ensures (of_item (world c.args.self.now) c.args.body.now c.args.slots.now c.args.item.now)
+pub value_of_item-returns : goal.value_of_item-returns
+value_of_item-returns g t c =
+    c.value_or_fault.ensures (value_of_item (world c.args.self.now) c.args.body.now c.args.slots.now c.args.item.now)
     (subst (λ vs. IsAnswer (form_meaning (world c.args.self.now) c.args.body.now vs) c.evaluate.result) c.with.ensures
     c.evaluate.ensures)
 
@@ -54,12 +54,12 @@ members-loop-field-preserved g t c =
 
 pub select_all-loop-item-preserved : goal.select_all-loop-item-preserved
 select_all-loop-item-preserved g t c =
-    select_goes (of_item (world c.args.self.now) c.args.body.now c.args.slots.now) c.args.items.now c.args.end _ c.loop-item.made _ _ _ _
+    select_goes (value_of_item (world c.args.self.now) c.args.body.now c.args.slots.now) c.args.items.now c.args.end _ c.loop-item.values _ _ _ _
     c.item-item.is c.loop-item-test.true (sym c.in-Ok.is ∙ c.in_ok-value.ensures) c.in_ok-push-in-Ok.ensures.ok c.loop-item.invariant
 
 pub select_all-returns-in-Err : goal.select_all-returns-in-Err
 select_all-returns-in-Err g t c =
-    select_stops (of_item (world c.args.self.now) c.args.body.now c.args.slots.now) c.args.items.now c.args.end _ c.loop-item.made _ _ _
+    select_stops (value_of_item (world c.args.self.now) c.args.body.now c.args.slots.now) c.args.items.now c.args.end _ c.loop-item.values _ _ _
     c.item-item.is c.loop-item-test.true (sym c.in-Err.is ∙ c.in_ok-value.ensures) c.loop-item.invariant
 
 pub match_item-returns : goal.match_item-returns
@@ -76,10 +76,10 @@ group_by-returns g t c =
     let all = (stream_of (world c.args.self.now) (form_meaning (world c.args.self.now) c.args.source.now (values_in c.args.slots.now))) in
     group_by_answer (world c.args.self.now) (values_in c.args.slots.now) c.args.source.now c.args.key.now c.args.element.now all.0 all.0 all.1 _ _ _ refl refl c.in_ok-pairs.ensures c.in_ok-groups.ensures
 
-pub join_item-returns-in_ok-found-in-Ok : goal.join_item-returns-in_ok-found-in-Ok
-join_item-returns-in_ok-found-in-Ok g t c =
+pub join_item-returns-in_ok-inner-in-Ok : goal.join_item-returns-in_ok-inner-in-Ok
+join_item-returns-in_ok-inner-in-Ok g t c =
     joined_met (world c.args.self.now) (values_in c.args.slots.now) c.args.joined.now (pairs_of c.args.matches.now) c.args.item.now _ _ _ _ c.match_item.result
-    (sym c.in-Ok.is ∙ c.in_ok-key.ensures) (c.in_ok-found-in-Ok.ensures (world c.args.self.now)) c.as_slice.ensures c.match_item.ensures
+    (sym c.in-Ok.is ∙ c.in_ok-key.ensures) (c.in_ok-inner-in-Ok.ensures (world c.args.self.now)) c.as_slice.ensures c.match_item.ensures
 
 pub order_by-returns : goal.order_by-returns
 order_by-returns g t c =
@@ -96,7 +96,7 @@ sort-returns g t c =
 
 pub key_columns-returns-in_err-column : goal.key_columns-returns-in_err-column
 key_columns-returns-in_err-column g t c =
-    let stops = all_stops (column_of (world c.args.self.now) (values_in c.args.slots.now) c.args.items.now) _ _ c.loop-key.made _ _
+    let stops = all_stops (column_of (world c.args.self.now) (values_in c.args.slots.now) c.args.items.now) _ _ c.loop-key.columns _ _
     c.key-item.is c.loop-key-test.true c.loop-key.invariant c.in_err-column.field-0.0 c.in_err-column.ensures in
     let same : c.from_residual.result ≡ Err c.in_err-column.field-0.0 = search rules in
     subst (λ r. Answers (columns_of (world c.args.self.now) (values_in c.args.slots.now) c.args.keys.now c.args.items.now) r) (sym same)
@@ -104,12 +104,12 @@ key_columns-returns-in_err-column g t c =
 
 pub key_column-loop-item-preserved : goal.key_column-loop-item-preserved
 key_column-loop-item-preserved g t c =
-    all_goes (key_at (world c.args.self.now) (values_in c.args.slots.now) c.args.key.now) c.args.items.now _ c.loop-item.made _ _ _ _
-    c.item-item.is c.loop-item-test.true c.in_ok-found.ensures c.in_ok-push.ensures.ok c.loop-item.invariant
+    all_goes (key_at (world c.args.self.now) (values_in c.args.slots.now) c.args.key.now) c.args.items.now _ c.loop-item.column _ _ _ _
+    c.item-item.is c.loop-item-test.true c.in_ok-scalar.ensures c.in_ok-push.ensures.ok c.loop-item.invariant
 
 pub key_columns-loop-key-preserved : goal.key_columns-loop-key-preserved
 key_columns-loop-key-preserved g t c =
-    all_goes (column_of (world c.args.self.now) (values_in c.args.slots.now) c.args.items.now) _ _ c.loop-key.made _ _ _ _
+    all_goes (column_of (world c.args.self.now) (values_in c.args.slots.now) c.args.items.now) _ _ c.loop-key.columns _ _ _ _
     c.key-item.is c.loop-key-test.true c.in_ok-column.ensures c.in_ok-push.ensures.ok c.loop-key.invariant
 
 pub sort_key-returns : goal.sort_key-returns
@@ -136,7 +136,7 @@ join-returns-in-Fault g t c =
 
 pub expand_item-returns : goal.expand_item-returns
 expand_item-returns g t c =
-    expanded_pulled (world c.args.self.now) (values_in c.args.slots.now) c.args.item.now _ c.args.inner.now c.args.body.now _ c.drain.result c.with-deeper.ensures c.drain.ensures
+    expansion_is (world c.args.self.now) (values_in c.args.slots.now) c.args.item.now _ c.args.inner.now c.args.body.now _ c.drain.result c.with-deeper.ensures c.drain.ensures
 
 pub simple-returns-in-Some : goal.simple-returns-in-Some
 simple-returns-in-Some g t c =
@@ -161,8 +161,8 @@ given_items-returns g t c =
 pub take-returns-in-End : goal.take-returns-in-End
 take-returns-in-End g t c =
     let w = world c.args.self.now in
-    let old = remaining w (values_in c.args.slots.now) c.args.stage.now c.args.source.now c.loop-wanted.base in
-    let new = remaining w (values_in c.args.slots.now) c.args.stage.now c.args.source.now c.next_planned.new.base in
+    let old = rest_behind w (values_in c.args.slots.now) c.args.stage.now c.args.source.now c.loop-wanted.base in
+    let new = rest_behind w (values_in c.args.slots.now) c.args.stage.now c.args.source.now c.next_by_plan.new.base in
     let ended : Steps old (step.End c.in-End.end) new = subst (λ s. Steps old s new) c.in-End.is c.in_ok-item.ensures in
     let some : 0 < c.loop-wanted.wanted = omega (arith, c.loop-wanted-test.true) in
     taken_ended old _ c.loop-wanted.items c.in-End.end c.loop-wanted.wanted ended some c.loop-wanted.invariant

@@ -12,10 +12,10 @@ use Rattle.lq_tree.specs.FormMeaning.{members_of}
 use Rattle.lq_operators.specs.Matching.{pairs_of}
 use Rattle.lq_operators.specs.Tallies.{tallied}
 use Rattle.lq_pipe.specs.Arrangements.{column_of, key_at}
-use Rattle.lq_pipe.specs.Items.{expanded_items, expanded_of, items_with_keys, joined_items, joined_of, keyed_items}
+use Rattle.lq_pipe.specs.Items.{stream_expansion, item_expansion, keys_and_items, stream_join, item_join, keys_and_elements}
 use Rattle.lq_pipe.specs.Lists.{field_means}
-use Rattle.lq_pipe.specs.Pulling.{base_stream, pulled, remaining}
-use Rattle.lq_pipe.specs.Running.{holds_of, items_meant, of_item}
+use Rattle.lq_pipe.specs.Pulling.{base_stream, stream_behind, rest_behind}
+use Rattle.lq_pipe.specs.Running.{holds_of, items_meant, value_of_item}
 use Rattle.lq_pipe.specs.Slots.{values_in}
 use Rattle.lq_pipe.specs.Runs.{world}
 use Rattle.lq_pipe.specs.declared.stages.Stage.TheVariants as stage
@@ -48,8 +48,8 @@ decreases-truth_of_two g l = 32 * max (the_size l.left.now) (the_size l.right.no
 abbrev pub decreases-value_ref : goal.decreases-value_ref
 decreases-value_ref g l = 32 * the_size l.form.now + 2
 
-abbrev pub decreases-of_item : goal.decreases-of_item
-decreases-of_item g l = 32 * the_size l.body.now + 2
+abbrev pub decreases-value_of_item : goal.decreases-value_of_item
+decreases-value_of_item g l = 32 * the_size l.body.now + 2
 
 abbrev pub decreases-select_all : goal.decreases-select_all
 decreases-select_all g l = 32 * the_size l.body.now + 4
@@ -219,11 +219,11 @@ decreases-take g l = 32 * max (the_size l.source.now) (stage_size l.stage.now) +
 abbrev pub decreases-tally : goal.decreases-tally
 decreases-tally g l = 32 * max (the_size l.source.now) (stage_size l.stage.now) + 16
 
-abbrev pub decreases-read_items : goal.decreases-read_items
-decreases-read_items g l = 32 * max (the_size l.source.now) (stage_size l.stage.now) + 18
+abbrev pub decreases-read_simple : goal.decreases-read_simple
+decreases-read_simple g l = 32 * max (the_size l.source.now) (stage_size l.stage.now) + 18
 
-abbrev pub decreases-needed_items : goal.decreases-needed_items
-decreases-needed_items g l = 32 * the_size l.source.now + 17
+abbrev pub decreases-read_given : goal.decreases-read_given
+decreases-read_given g l = 32 * the_size l.source.now + 17
 
 abbrev pub decreases-simple_items : goal.decreases-simple_items
 decreases-simple_items g l = 32 * max (the_size l.source.now) (stage_size l.stage.now) + 20
@@ -231,14 +231,14 @@ decreases-simple_items g l = 32 * max (the_size l.source.now) (stage_size l.stag
 abbrev pub decreases-pass_last : goal.decreases-pass_last
 decreases-pass_last g l = 32 * stage_size l.stage.now + 5
 
-abbrev pub decreases-pass_planned : goal.decreases-pass_planned
-decreases-pass_planned g l = 32 * max (the_size l.source.now) (stage_size l.stage.now) + 13
+abbrev pub decreases-pass_by_plan : goal.decreases-pass_by_plan
+decreases-pass_by_plan g l = 32 * max (the_size l.source.now) (stage_size l.stage.now) + 13
+
+abbrev pub decreases-next_of_rows : goal.decreases-next_of_rows
+decreases-next_of_rows g l = 32 * max (the_size l.source.now) (stage_size l.stage.now) + 14
 
 abbrev pub decreases-next_by_plan : goal.decreases-next_by_plan
-decreases-next_by_plan g l = 32 * max (the_size l.source.now) (stage_size l.stage.now) + 14
-
-abbrev pub decreases-next_planned : goal.decreases-next_planned
-decreases-next_planned g l = 32 * max (the_size l.source.now) (stage_size l.stage.now) + 15
+decreases-next_by_plan g l = 32 * max (the_size l.source.now) (stage_size l.stage.now) + 15
 
 abbrev pub decreases-has_item : goal.decreases-has_item
 decreases-has_item g l = 32 * the_size l.source.now + 16
@@ -257,8 +257,8 @@ decreases-given_value g l = 32 * the_size l.source.now + 19
 -- what was made, and what comes of the items that are left
 abbrev pub invariant-select_all-loop-item : goal.invariant-select_all-loop-item
 invariant-select_all-loop-item g l =
-    Goes (λ v. one (of_item (world l.fn.self) l.fn.body l.fn.slots v)) l.items l.fn.end
-    (select_by (of_item (world l.fn.self) l.fn.body l.fn.slots) l.items l.fn.end) l.made l.item-index
+    Goes (λ v. one (value_of_item (world l.fn.self) l.fn.body l.fn.slots v)) l.items l.fn.end
+    (select_by (value_of_item (world l.fn.self) l.fn.body l.fn.slots) l.items l.fn.end) l.values l.item-index
 
 -- the members so far, and those that are left
 abbrev pub invariant-members-loop-field : goal.invariant-members-loop-field
@@ -266,20 +266,20 @@ invariant-members-loop-field g l =
     on_ok
     (members_of (world l.fn.self)
     (map (field_means (world l.fn.self)) (drop l.field-index l.field-items)) (values_in l.fn.slots))
-    (λ ms. Ok (l.made ++ ms))
+    (λ ms. Ok (l.members ++ ms))
     ≡ members_of (world l.fn.self)
     (map (field_means (world l.fn.self)) l.field-items) (values_in l.fn.slots)
 
 -- the keys so far, and those of the items that are left
 abbrev pub invariant-key_column-loop-item : goal.invariant-key_column-loop-item
 invariant-key_column-loop-item g l =
-    on_ok (all_of (key_at (world l.fn.self) (values_in l.fn.slots) l.fn.key) (drop l.item-index l.items)) (λ ks. Ok (l.made ++ ks))
+    on_ok (all_of (key_at (world l.fn.self) (values_in l.fn.slots) l.fn.key) (drop l.item-index l.items)) (λ ks. Ok (l.column ++ ks))
     ≡ all_of (key_at (world l.fn.self) (values_in l.fn.slots) l.fn.key) l.items
 
 -- the columns so far, and those of the keys that are left
 abbrev pub invariant-key_columns-loop-key : goal.invariant-key_columns-loop-key
 invariant-key_columns-loop-key g l =
-    on_ok (all_of (column_of (world l.fn.self) (values_in l.fn.slots) l.fn.items) (drop l.key-index l.key-items)) (λ cs. Ok (l.made ++ cs))
+    on_ok (all_of (column_of (world l.fn.self) (values_in l.fn.slots) l.fn.items) (drop l.key-index l.key-items)) (λ cs. Ok (l.columns ++ cs))
     ≡ all_of (column_of (world l.fn.self) (values_in l.fn.slots) l.fn.items) l.key-items
 
 -- ---- loops that pull
@@ -287,36 +287,36 @@ invariant-key_columns-loop-key g l =
 -- what is left at a stage is what was left before, an item that was dropped aside
 abbrev pub invariant-next-loop-item : goal.invariant-next-loop-item
 invariant-next-loop-item g l =
-    remaining (world l.fn.self) (values_in l.fn.slots) l.fn.stage l.fn.source l.base
-    ≡ remaining (world l.fn.self) (values_in l.fn.slots) l.fn.stage l.fn.source l.fn.base
+    rest_behind (world l.fn.self) (values_in l.fn.slots) l.fn.stage l.fn.source l.base
+    ≡ rest_behind (world l.fn.self) (values_in l.fn.slots) l.fn.stage l.fn.source l.fn.base
 
 abbrev pub decreases-next-loop-item : goal.decreases-next-loop-item
 decreases-next-loop-item g l = length (base_stream l.base).0
 
-abbrev pub invariant-next_by_plan-loop-row : goal.invariant-next_by_plan-loop-row
-invariant-next_by_plan-loop-row g l =
-    remaining (world l.fn.self) (values_in l.fn.slots) l.fn.stage l.fn.source l.base
-    ≡ remaining (world l.fn.self) (values_in l.fn.slots) l.fn.stage l.fn.source l.fn.base
+abbrev pub invariant-next_of_rows-loop-row : goal.invariant-next_of_rows-loop-row
+invariant-next_of_rows-loop-row g l =
+    rest_behind (world l.fn.self) (values_in l.fn.slots) l.fn.stage l.fn.source l.base
+    ≡ rest_behind (world l.fn.self) (values_in l.fn.slots) l.fn.stage l.fn.source l.fn.base
 
-abbrev pub decreases-next_by_plan-loop-row : goal.decreases-next_by_plan-loop-row
-decreases-next_by_plan-loop-row g l = length (base_stream l.base).0
+abbrev pub decreases-next_of_rows-loop-row : goal.decreases-next_of_rows-loop-row
+decreases-next_of_rows-loop-row g l = length (base_stream l.base).0
 
 -- the items so far, and those that are left
 abbrev pub invariant-drain-loop-items : goal.invariant-drain-loop-items
 invariant-drain-loop-items g l =
-    then_ending l.items end.Done (remaining (world l.fn.self) (values_in l.fn.slots) l.fn.stage l.fn.source l.base)
-    ≡ pulled (world l.fn.self) (values_in l.fn.slots) l.fn.stage l.fn.source
+    then_ending l.items end.Done (rest_behind (world l.fn.self) (values_in l.fn.slots) l.fn.stage l.fn.source l.base)
+    ≡ stream_behind (world l.fn.self) (values_in l.fn.slots) l.fn.stage l.fn.source
 
 abbrev pub decreases-drain-loop-items : goal.decreases-drain-loop-items
-decreases-drain-loop-items g l = length (remaining (world l.fn.self) (values_in l.fn.slots) l.fn.stage l.fn.source l.base).0
+decreases-drain-loop-items g l = length (rest_behind (world l.fn.self) (values_in l.fn.slots) l.fn.stage l.fn.source l.base).0
 
 abbrev pub invariant-take-loop-wanted : goal.invariant-take-loop-wanted
 invariant-take-loop-wanted g l =
     then_ending l.items end.Done
-    (take_first l.wanted (remaining (world l.fn.self) (values_in l.fn.slots) l.fn.stage l.fn.source l.base).0
-    (remaining (world l.fn.self) (values_in l.fn.slots) l.fn.stage l.fn.source l.base).1)
-    ≡ take_first l.fn.count (pulled (world l.fn.self) (values_in l.fn.slots) l.fn.stage l.fn.source).0
-    (pulled (world l.fn.self) (values_in l.fn.slots) l.fn.stage l.fn.source).1
+    (take_first l.wanted (rest_behind (world l.fn.self) (values_in l.fn.slots) l.fn.stage l.fn.source l.base).0
+    (rest_behind (world l.fn.self) (values_in l.fn.slots) l.fn.stage l.fn.source l.base).1)
+    ≡ take_first l.fn.count (stream_behind (world l.fn.self) (values_in l.fn.slots) l.fn.stage l.fn.source).0
+    (stream_behind (world l.fn.self) (values_in l.fn.slots) l.fn.stage l.fn.source).1
 
 abbrev pub decreases-take-loop-wanted : goal.decreases-take-loop-wanted
 decreases-take-loop-wanted g l = l.wanted
@@ -324,57 +324,57 @@ decreases-take-loop-wanted g l = l.wanted
 -- the tally so far comes to the same over the items that are left
 abbrev pub invariant-tally-loop-base : goal.invariant-tally-loop-base
 invariant-tally-loop-base g l =
-    tallied l.fn.of l.tally (remaining (world l.fn.self) (values_in l.fn.slots) l.fn.stage l.fn.source l.base)
-    ≡ tallied l.fn.of l.fn.tally (pulled (world l.fn.self) (values_in l.fn.slots) l.fn.stage l.fn.source)
+    tallied l.fn.of l.tally (rest_behind (world l.fn.self) (values_in l.fn.slots) l.fn.stage l.fn.source l.base)
+    ≡ tallied l.fn.of l.fn.tally (stream_behind (world l.fn.self) (values_in l.fn.slots) l.fn.stage l.fn.source)
 
 abbrev pub decreases-tally-loop-base : goal.decreases-tally-loop-base
-decreases-tally-loop-base g l = length (remaining (world l.fn.self) (values_in l.fn.slots) l.fn.stage l.fn.source l.base).0
+decreases-tally-loop-base g l = length (rest_behind (world l.fn.self) (values_in l.fn.slots) l.fn.stage l.fn.source l.base).0
 
 abbrev pub invariant-all-loop-base : goal.invariant-all-loop-base
 invariant-all-loop-base g l =
-    all (holds_of (world l.fn.self) l.fn.condition l.fn.slots) (remaining (world l.fn.self) (values_in l.fn.slots) stage.Plain l.fn.source l.base).0 (remaining (world l.fn.self) (values_in l.fn.slots) stage.Plain l.fn.source l.base).1
+    all (holds_of (world l.fn.self) l.fn.condition l.fn.slots) (rest_behind (world l.fn.self) (values_in l.fn.slots) stage.Plain l.fn.source l.base).0 (rest_behind (world l.fn.self) (values_in l.fn.slots) stage.Plain l.fn.source l.base).1
     ≡ all (holds_of (world l.fn.self) l.fn.condition l.fn.slots) (items_meant (world l.fn.self) l.fn.source l.fn.slots).0 (items_meant (world l.fn.self) l.fn.source l.fn.slots).1
 
 abbrev pub decreases-all-loop-base : goal.decreases-all-loop-base
-decreases-all-loop-base g l = length (remaining (world l.fn.self) (values_in l.fn.slots) stage.Plain l.fn.source l.base).0
+decreases-all-loop-base g l = length (rest_behind (world l.fn.self) (values_in l.fn.slots) stage.Plain l.fn.source l.base).0
 
 -- what the items that are left answer is what all answer
 abbrev pub invariant-has_item-loop-base : goal.invariant-has_item-loop-base
 invariant-has_item-loop-base g l =
     contains same_values l.fn.value
-    (remaining (world l.fn.self) (values_in l.fn.slots) stage.Plain l.fn.source l.base).0
-    (remaining (world l.fn.self) (values_in l.fn.slots) stage.Plain l.fn.source l.base).1
+    (rest_behind (world l.fn.self) (values_in l.fn.slots) stage.Plain l.fn.source l.base).0
+    (rest_behind (world l.fn.self) (values_in l.fn.slots) stage.Plain l.fn.source l.base).1
     ≡ contains same_values l.fn.value (items_meant (world l.fn.self) l.fn.source l.fn.slots).0
     (items_meant (world l.fn.self) l.fn.source l.fn.slots).1
 
 abbrev pub decreases-has_item-loop-base : goal.decreases-has_item-loop-base
 decreases-has_item-loop-base g l =
-    length (remaining (world l.fn.self) (values_in l.fn.slots) stage.Plain l.fn.source l.base).0
+    length (rest_behind (world l.fn.self) (values_in l.fn.slots) stage.Plain l.fn.source l.base).0
 
-abbrev pub invariant-expand-loop-made : goal.invariant-expand-loop-made
-invariant-expand-loop-made g l =
-    Comes (expanded_of (world l.fn.self) (values_in l.fn.slots) l.fn.inner l.fn.body) (remaining (world l.fn.self) (values_in l.fn.slots) stage.Plain l.fn.source l.base) (expanded_items (world l.fn.self) (values_in l.fn.slots) l.fn.inner l.fn.body (items_meant (world l.fn.self) l.fn.source l.fn.slots)) l.made
+abbrev pub invariant-expand-loop-values : goal.invariant-expand-loop-values
+invariant-expand-loop-values g l =
+    Comes (item_expansion (world l.fn.self) (values_in l.fn.slots) l.fn.inner l.fn.body) (rest_behind (world l.fn.self) (values_in l.fn.slots) stage.Plain l.fn.source l.base) (stream_expansion (world l.fn.self) (values_in l.fn.slots) l.fn.inner l.fn.body (items_meant (world l.fn.self) l.fn.source l.fn.slots)) l.values
 
-abbrev pub decreases-expand-loop-made : goal.decreases-expand-loop-made
-decreases-expand-loop-made g l = length (remaining (world l.fn.self) (values_in l.fn.slots) stage.Plain l.fn.source l.base).0
+abbrev pub decreases-expand-loop-values : goal.decreases-expand-loop-values
+decreases-expand-loop-values g l = length (rest_behind (world l.fn.self) (values_in l.fn.slots) stage.Plain l.fn.source l.base).0
 
-abbrev pub invariant-key_pairs-loop-made : goal.invariant-key_pairs-loop-made
-invariant-key_pairs-loop-made g l =
-    then_ending l.made end.Done (keyed_items (world l.fn.self) (values_in l.fn.slots) l.fn.key l.fn.element (remaining (world l.fn.self) (values_in l.fn.slots) stage.Plain l.fn.source l.base)) ≡ keyed_items (world l.fn.self) (values_in l.fn.slots) l.fn.key l.fn.element (items_meant (world l.fn.self) l.fn.source l.fn.slots)
+abbrev pub invariant-key_pairs-loop-pairs : goal.invariant-key_pairs-loop-pairs
+invariant-key_pairs-loop-pairs g l =
+    then_ending l.pairs end.Done (keys_and_elements (world l.fn.self) (values_in l.fn.slots) l.fn.key l.fn.element (rest_behind (world l.fn.self) (values_in l.fn.slots) stage.Plain l.fn.source l.base)) ≡ keys_and_elements (world l.fn.self) (values_in l.fn.slots) l.fn.key l.fn.element (items_meant (world l.fn.self) l.fn.source l.fn.slots)
 
-abbrev pub decreases-key_pairs-loop-made : goal.decreases-key_pairs-loop-made
-decreases-key_pairs-loop-made g l = length (keyed_items (world l.fn.self) (values_in l.fn.slots) l.fn.key l.fn.element (remaining (world l.fn.self) (values_in l.fn.slots) stage.Plain l.fn.source l.base)).0
+abbrev pub decreases-key_pairs-loop-pairs : goal.decreases-key_pairs-loop-pairs
+decreases-key_pairs-loop-pairs g l = length (keys_and_elements (world l.fn.self) (values_in l.fn.slots) l.fn.key l.fn.element (rest_behind (world l.fn.self) (values_in l.fn.slots) stage.Plain l.fn.source l.base)).0
 
-abbrev pub invariant-inner_pairs-loop-made : goal.invariant-inner_pairs-loop-made
-invariant-inner_pairs-loop-made g l =
-    then_ending l.made end.Done (items_with_keys (world l.fn.self) (values_in l.fn.slots) l.fn.key (remaining (world l.fn.self) (values_in l.fn.slots) stage.Plain l.fn.source l.base)) ≡ items_with_keys (world l.fn.self) (values_in l.fn.slots) l.fn.key (items_meant (world l.fn.self) l.fn.source l.fn.slots)
+abbrev pub invariant-inner_pairs-loop-pairs : goal.invariant-inner_pairs-loop-pairs
+invariant-inner_pairs-loop-pairs g l =
+    then_ending l.pairs end.Done (keys_and_items (world l.fn.self) (values_in l.fn.slots) l.fn.key (rest_behind (world l.fn.self) (values_in l.fn.slots) stage.Plain l.fn.source l.base)) ≡ keys_and_items (world l.fn.self) (values_in l.fn.slots) l.fn.key (items_meant (world l.fn.self) l.fn.source l.fn.slots)
 
-abbrev pub decreases-inner_pairs-loop-made : goal.decreases-inner_pairs-loop-made
-decreases-inner_pairs-loop-made g l = length (items_with_keys (world l.fn.self) (values_in l.fn.slots) l.fn.key (remaining (world l.fn.self) (values_in l.fn.slots) stage.Plain l.fn.source l.base)).0
+abbrev pub decreases-inner_pairs-loop-pairs : goal.decreases-inner_pairs-loop-pairs
+decreases-inner_pairs-loop-pairs g l = length (keys_and_items (world l.fn.self) (values_in l.fn.slots) l.fn.key (rest_behind (world l.fn.self) (values_in l.fn.slots) stage.Plain l.fn.source l.base)).0
 
-abbrev pub invariant-join_outer-loop-made : goal.invariant-join_outer-loop-made
-invariant-join_outer-loop-made g l =
-    Comes (joined_of (world l.fn.self) (values_in l.fn.slots) l.fn.joined (pairs_of l.fn.matches)) (remaining (world l.fn.self) (values_in l.fn.slots) stage.Plain l.fn.source l.base) (joined_items (world l.fn.self) (values_in l.fn.slots) l.fn.joined (pairs_of l.fn.matches) (items_meant (world l.fn.self) l.fn.source l.fn.slots)) l.made
+abbrev pub invariant-join_outer-loop-values : goal.invariant-join_outer-loop-values
+invariant-join_outer-loop-values g l =
+    Comes (item_join (world l.fn.self) (values_in l.fn.slots) l.fn.joined (pairs_of l.fn.matches)) (rest_behind (world l.fn.self) (values_in l.fn.slots) stage.Plain l.fn.source l.base) (stream_join (world l.fn.self) (values_in l.fn.slots) l.fn.joined (pairs_of l.fn.matches) (items_meant (world l.fn.self) l.fn.source l.fn.slots)) l.values
 
-abbrev pub decreases-join_outer-loop-made : goal.decreases-join_outer-loop-made
-decreases-join_outer-loop-made g l = length (remaining (world l.fn.self) (values_in l.fn.slots) stage.Plain l.fn.source l.base).0
+abbrev pub decreases-join_outer-loop-values : goal.decreases-join_outer-loop-values
+decreases-join_outer-loop-values g l = length (rest_behind (world l.fn.self) (values_in l.fn.slots) stage.Plain l.fn.source l.base).0

@@ -6,5 +6,5 @@ use Rattle.lq_pipe.proofs.running.Running.filter_rows.Goals as goal
 
 pub returns-in-Err : goal.returns-in-Err
 returns-in-Err g c =
-    rows_stopped (holds_on (world c.args.self.now) c.args.condition.now) c.args.rows.now c.loop-row.found.items _ _ _
+    rows_stopped (holds_on (world c.args.self.now) c.args.condition.now) c.args.rows.now c.loop-row.selection.items _ _ _
     c.row-item.is c.loop-row-test.true (sym c.in-Err.is ∙ c.in_ok-holds_on.ensures) c.loop-row.invariant

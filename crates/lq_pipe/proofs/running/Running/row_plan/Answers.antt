@@ -1,4 +1,4 @@
-use Rattle.std.proofs.Common.{IfOk, subst}
+use Rattle.std.proofs.Common.{subst}
 use Rattle.lq_pipe.specs.Prepared.{Decides}
 use Rattle.lq_pipe.specs.Runs.{world}
 use Rattle.lq_pipe.proofs.SlotLemmas.{no_values}
