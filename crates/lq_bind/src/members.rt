@@ -199,7 +199,9 @@ fn member_of(
     }
 }
 
-/// The member of this name of what the receiver means, where its type has one.
+/// The member of this name of what the receiver means, where its type has one. It isn't inlined: members of
+/// members are thousands deep, and what is needed here would be on the stack for each of them.
+#[inline(never)]
 pub(crate) fn member(
     alloc: Global,
     store: &Store,
