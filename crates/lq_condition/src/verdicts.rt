@@ -1,8 +1,9 @@
 //! What a sign or a search says of one cell.
-ghost use Rattle.std.specs.Prelude.{◌≡◌, Ok, Some, slice_get, IfSome};
+ghost use Rattle.std.specs.Prelude.{◌≡◌, None, Ok, Some, false, slice_get, IfSome};
 ghost use Rattle.std.specs.Option.{option_copied};
 ghost use Rattle.lq_value.specs.declared.scalar.Scalar.TheVariants as scalar;
 ghost use Rattle.lq_value.specs.declared.value.Fault.TheVariants as fault;
+ghost use Rattle.lq_language.specs.OperandTypes.{is_comparison};
 ghost use Rattle.lq_language.specs.Operations.{of_two, on_ok, operation_of, searched, truth_of};
 ghost use Rattle.lq_scalar.specs.Operands.{shown_scalar};
 ghost use Rattle.lq_condition.specs.Verdicts.{search_verdict, sign_verdict, unless_fault};
@@ -19,12 +20,13 @@ pub(crate) fn cell_at(cells: &[Scalar], place: usize) -> Option<&Scalar>
     cells.get(place)
 }
 
-/// What a sign says of two numbers (ECMA-334, relational and equality operators); nothing where it is
-/// a sign of arithmetic.
+/// What a sign says of two numbers (ECMA-334, relational and equality operators); nothing exactly where
+/// it doesn't compare, but is one of arithmetic.
 pub fn compare_numbers(sign: Binary, m: i32, n: i32) -> Option<bool>
-    ensures { IfSome result (λ truth.
+    ensures truth { IfSome result (λ truth.
         of_two fault.NullReference (operation_of sign) (scalar.Int m) (scalar.Int n)
         ≡ Ok (scalar.Bool truth)) }
+    ensures none { result ≡ None → is_comparison sign ≡ false }
 {
     match sign {
         Binary::Less => Some(m < n),
