@@ -5,14 +5,14 @@ use Rattle.std.specs.List.{list_any}
 use Rattle.std.proofs.lemmas.List.{drop_more}
 use Rattle.lq_security.specs.Visible.{goes_by_after, memberships_after}
 use Rattle.lq_security.specs.declared.policy.Role.{Role}
-use Rattle.lq_policy.specs.Memberships.{TellMemberships, goes_by_marks, is_in, is_marked}
+use Rattle.lq_policy.specs.Memberships.{DecideMemberships, goes_by_marks, is_in, is_marked}
 use Rattle.lq_policy.specs.declared.role_set.RoleSet.{RoleSet}
 
 -- The roles that the roles before these have, and the sets that decide them.
 pub record AreSoFar (roles left : List Role) (sets : List RoleSet) : Type 0 where
   pub earlier : List (List ℕ)
   pub as_many : length earlier ≡ length sets
-  pub told : TellMemberships earlier sets
+  pub told : DecideMemberships earlier sets
   pub rest : memberships_after earlier left ≡ memberships_after [] roles
 
 -- ---- numbers in lists
@@ -33,7 +33,7 @@ any_same p q same (x ∷ xs) = ap (λ b. b || list_any p xs) (same x) ∙ ap (λ
 
 -- the roles that the next role has, as the sets so far and its own decide
 next_told : (earlier : List (List ℕ)) (sets : List RoleSet) (role : Role) (set : RoleSet) (n : ℕ)
-    → TellMemberships earlier sets
+    → DecideMemberships earlier sets
     → ((n : ℕ) → is_marked set n ≡ list_any (λ other. goes_by_marks other (slice_get sets other) n) role.member_of)
     → is_in (goes_by_after earlier role) n ≡ (length earlier == n) || is_marked set n
 next_told earlier sets role set n told groups =
@@ -57,9 +57,9 @@ told_at_the_end (e ∷ earlier) (s ∷ sets) numbers set (suc role) long =
 
 told_more : (earlier : List (List ℕ)) (sets : List RoleSet) (role : Role) (set : RoleSet)
     → length earlier ≡ length sets
-    → TellMemberships earlier sets
+    → DecideMemberships earlier sets
     → ((n : ℕ) → is_marked set n ≡ list_any (λ other. goes_by_marks other (slice_get sets other) n) role.member_of)
-    → TellMemberships (earlier ++ goes_by_after earlier role ∷ []) (sets ++ set ∷ [])
+    → DecideMemberships (earlier ++ goes_by_after earlier role ∷ []) (sets ++ set ∷ [])
 told_more earlier sets role set long told groups number n =
     elim (told_at_the_end earlier sets (goes_by_after earlier role) set number long) [
       | inl same ↦ ap (λ (numbers : List ℕ). is_in numbers n) same.0 ∙ told number n ∙ ap (λ (found : Option RoleSet). goes_by_marks number found n) (sym same.1)
@@ -92,5 +92,5 @@ one_more_at roles at role sets set pushed within is more so_far groups =
     let here = subst (λ (rest : List Role). AreSoFar roles rest sets) left so_far in
     subst (λ (found : List RoleSet). AreSoFar roles (drop (at + 1) roles) found) (sym more) (one_more roles role (drop (at + 1) roles) sets set here groups)
 
-pub all_told : (roles : List Role) (sets : List RoleSet) → AreSoFar roles [] sets → TellMemberships (memberships_after [] roles) sets
-all_told roles sets so_far = subst (λ (earlier : List (List ℕ)). TellMemberships earlier sets) so_far.rest so_far.told
+pub all_told : (roles : List Role) (sets : List RoleSet) → AreSoFar roles [] sets → DecideMemberships (memberships_after [] roles) sets
+all_told roles sets so_far = subst (λ (earlier : List (List ℕ)). DecideMemberships earlier sets) so_far.rest so_far.told

@@ -4,7 +4,7 @@ use Rattle.std.specs.List.{list_any}
 use Rattle.std.proofs.lemmas.Bool.{eq-eqb, eqb-true, or_cases, or_right}
 use Rattle.lq_security.specs.Visible.{goes_by, is_named, memberships_after}
 use Rattle.lq_security.specs.declared.policy.Role.{Role}
-use Rattle.lq_policy.specs.Memberships.{TellMemberships, goes_by_marks, is_in, is_marked}
+use Rattle.lq_policy.specs.Memberships.{DecideMemberships, goes_by_marks, is_in, is_marked}
 use Rattle.lq_policy.specs.Roles.{IsAnyNumber, goes_by_name}
 use Rattle.lq_policy.specs.declared.role_set.RoleSet.{RoleSet}
 
@@ -59,26 +59,26 @@ found_other test marked numbers role told is false any =
 
 -- the numbers of the roles that a role has, as its set gives them
 told_of : (roles : List Role) (sets : List RoleSet) (role : ℕ) (set : RoleSet)
-    → TellMemberships (memberships_after [] roles) sets → slice_get sets role ≡ Some set
+    → DecideMemberships (memberships_after [] roles) sets → slice_get sets role ≡ Some set
     → (n : ℕ) → is_in (goes_by roles role) n ≡ (role == n) || is_marked set n
 unfolding goes_by
 told_of roles sets role set told is n = told role n ∙ ap (λ (found : Option RoleSet). goes_by_marks role found n) is
 
 pub own_name : (roles : List Role) (sets : List RoleSet) (role : ℕ) (name : List ℕ) (set : RoleSet)
-    → TellMemberships (memberships_after [] roles) sets → slice_get sets role ≡ Some set
+    → DecideMemberships (memberships_after [] roles) sets → slice_get sets role ≡ Some set
     → is_named name (slice_get roles role) ≡ true → goes_by_name roles role name ≡ true
 own_name roles sets role name set told is named =
     found_itself (λ n. is_named name (slice_get roles n)) (is_marked set) (goes_by roles role) role (told_of roles sets role set told is) named
 
 pub other_name : (roles : List Role) (sets : List RoleSet) (role : ℕ) (name : List ℕ) (set : RoleSet)
-    → TellMemberships (memberships_after [] roles) sets → slice_get sets role ≡ Some set
+    → DecideMemberships (memberships_after [] roles) sets → slice_get sets role ≡ Some set
     → is_named name (slice_get roles role) ≡ false
     → (answer : Bool) → IsAnyNumber (λ n. is_marked set n && is_named name (slice_get roles n)) answer → goes_by_name roles role name ≡ answer
 other_name roles sets role name set told is named answer any =
     found_other (λ n. is_named name (slice_get roles n)) (is_marked set) (goes_by roles role) role (told_of roles sets role set told is) named answer any
 
 pub untold_name : (roles : List Role) (sets : List RoleSet) (role : ℕ) (name : List ℕ)
-    → TellMemberships (memberships_after [] roles) sets → slice_get sets role ≡ None → goes_by_name roles role name ≡ false
+    → DecideMemberships (memberships_after [] roles) sets → slice_get sets role ≡ None → goes_by_name roles role name ≡ false
 unfolding goes_by
 untold_name roles sets role name told is =
     any_nowhere (λ n. is_named name (slice_get roles n)) (goes_by roles role)

@@ -18,5 +18,5 @@ goes_by_marks role None n = false
 goes_by_marks role (Some set) n = (role == n) || is_marked set n
 
 -- The sets of roles decide which roles each of them has.
-abbrev pub TellMemberships : List (List ℕ) → List RoleSet → Type 0
-TellMemberships memberships sets = (role n : ℕ) → is_in (slice_index_or memberships role []) n ≡ goes_by_marks role (slice_get sets role) n
+abbrev pub DecideMemberships : List (List ℕ) → List RoleSet → Type 0
+DecideMemberships memberships sets = (role n : ℕ) → is_in (slice_index_or memberships role []) n ≡ goes_by_marks role (slice_get sets role) n

@@ -3,7 +3,7 @@ ghost use Rattle.std.specs.Prelude.{◌≡◌, [], true, IfOk};
 ghost use Rattle.std.specs.List.{AllZip};
 ghost use Rattle.lq_security.specs.Visible.{is_same_action, memberships_after};
 ghost use Rattle.lq_policy.specs.Guards.{IsGuarded};
-ghost use Rattle.lq_policy.specs.Memberships.{TellMemberships};
+ghost use Rattle.lq_policy.specs.Memberships.{DecideMemberships};
 ghost use Rattle.lq_policy.specs.Rules.{are_rules_total, is_policy_total, is_rule_total};
 
 use crate::access::{Access, RoleId};
@@ -53,10 +53,10 @@ impl Model for Policies {
     ghost use Rattle.std.specs.List.{AllZip};
     ghost use Rattle.lq_security.specs.Visible.{memberships_after};
     ghost use Rattle.lq_policy.specs.Guards.{IsGuarded};
-    ghost use Rattle.lq_policy.specs.Memberships.{TellMemberships};
+    ghost use Rattle.lq_policy.specs.Memberships.{DecideMemberships};
     ghost use Rattle.lq_policy.specs.RoleRights.{TellsRights};
 
-    ghost invariant = { λ p. TellMemberships (memberships_after [] p.parts.roles) p.groups.items
+    ghost invariant = { λ p. DecideMemberships (memberships_after [] p.parts.roles) p.groups.items
         × AllZip (IsGuarded p.parts.tables) p.parts.policies p.guards.items
         × TellsRights p.parts p.rights };
 }
@@ -100,7 +100,7 @@ pub(crate) fn is_same_action(a: Action, b: Action) -> bool
 fn prepared(alloc: Global, parts: &PolicyParts) -> Result<(Vec<RoleSet>, Vec<Guard>), AllocError>
     requires { are_rules_total parts.now.policies ≡ true }
     ensures groups { IfOk result (λ pair.
-        TellMemberships (memberships_after [] parts.now.roles) pair.0.items) }
+        DecideMemberships (memberships_after [] parts.now.roles) pair.0.items) }
     ensures guards { IfOk result (λ pair.
         AllZip (IsGuarded parts.now.tables) parts.now.policies pair.1.items) }
 {

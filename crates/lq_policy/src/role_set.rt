@@ -3,7 +3,7 @@ ghost use Rattle.std.specs.Prelude.{◌≡◌, [], ℕ, slice_get, IfOk};
 ghost use Rattle.std.specs.List.{list_any};
 ghost use Rattle.std.specs.Option.{option_copied};
 ghost use Rattle.lq_security.specs.Visible.{is_named, memberships_after};
-ghost use Rattle.lq_policy.specs.Memberships.{TellMemberships, goes_by_marks, is_marked};
+ghost use Rattle.lq_policy.specs.Memberships.{DecideMemberships, goes_by_marks, is_marked};
 ghost use Rattle.lq_policy.specs.Roles.{goes_by_name};
 
 use lq_security::Role;
@@ -129,7 +129,7 @@ fn groups_of(alloc: Global, member_of: &[usize], sets: &[RoleSet]) -> Result<Rol
 
 /// For each role, the roles that it has besides itself, by any chain of memberships.
 pub(crate) fn memberships(alloc: Global, roles: &[Role]) -> Result<Vec<RoleSet>, AllocError>
-    ensures { IfOk result (λ sets. TellMemberships (memberships_after [] roles.now) sets.items) }
+    ensures { IfOk result (λ sets. DecideMemberships (memberships_after [] roles.now) sets.items) }
 {
     let mut sets = Vec::new(alloc);
     for role in roles {
@@ -155,7 +155,7 @@ fn role_of(roles: &[Role], role: usize) -> Option<&Role>
 
 /// Whether this role has, as the sets give its roles, one of this name.
 pub(crate) fn goes_by(roles: &[Role], sets: &[RoleSet], role: usize, name: &str) -> bool
-    requires { TellMemberships (memberships_after [] roles.now) sets.now }
+    requires { DecideMemberships (memberships_after [] roles.now) sets.now }
     ensures { result ≡ goes_by_name roles.now role name.now }
 {
     let Some(set) = set_of(sets, role) else {

@@ -36,7 +36,7 @@ use Rattle.lq_grammar.specs.declared.syntax.Unary.TheVariants as unary
 use Rattle.lq_security.proofs.RuleTypeLaws.{total_no_row}
 use Rattle.lq_security.proofs.TotalityLaws.{has_sure_argument, is_total_binary, node_with, row_name, strength_and, strength_binary, strength_coalesce, strength_conditional, strength_host, strength_member, strength_method, strength_minus, strength_name, strength_new, strength_not, strength_or, strength_query, tells_total}
 use Rattle.lq_scalar.specs.Named.{Shape, TheRow, shape_at, shape_in}
-use Rattle.lq_scalar.specs.Shapes.{member_of_scalar, member_shape, operated_scalars, scalar_in, scalar_or_fault, scalar_shape, shape_of, told_parts, told_shapes, truth_in, truth_shape}
+use Rattle.lq_scalar.specs.Shapes.{member_of_scalar, member_shape, operated_scalars, scalar_in, scalar_or_fault, scalar_shape, shape_of, equality_of_parts, equality_of_shapes, truth_in, truth_shape}
 use Rattle.lq_scalar.proofs.ShapeLaws.{shape_binary, shape_both, shape_choice, shape_coalesce, shape_either, shape_integer, shape_member, shape_method, shape_minus, shape_name, shape_not, shape_null, shape_text, shape_truth}
 use Rattle.lq_rule.specs.Standing.{StandsFor, integer_in, known}
 use Rattle.lq_rule.specs.Reading.{on_truth, read}
@@ -251,14 +251,14 @@ module _ (columns : List (List ℕ)) where
 
   -- `==` and `!=`, of operands that aren't rows
   compared_first : (sign : Binary) (o p : Result RuleShape Fault) (r q : Result Scalar Fault) → o ≡ shown r → p ≡ shown q
-      → ((x y : Scalar) → truth_shape (told_parts sign (Some x) (Some y)) ≡ shown (of_two fault.NullReference (operation_of sign) x y))
-      → on_ok o (λ v. on_ok p (λ w. truth_shape (told_shapes sign v w))) ≡ shown (on_ok r (λ x. on_ok q (λ y. of_two fault.NullReference (operation_of sign) x y)))
+      → ((x y : Scalar) → truth_shape (equality_of_parts sign (Some x) (Some y)) ≡ shown (of_two fault.NullReference (operation_of sign) x y))
+      → on_ok o (λ v. on_ok p (λ w. truth_shape (equality_of_shapes sign v w))) ≡ shown (on_ok r (λ x. on_ok q (λ y. of_two fault.NullReference (operation_of sign) x y)))
   compared_first sign o p r q left right h =
-      ap (λ (u : Result RuleShape Fault). on_ok u (λ v. on_ok p (λ w. truth_shape (told_shapes sign v w)))) left
-      ∙ ap (λ (u : Result RuleShape Fault). on_ok (shown r) (λ v. on_ok u (λ w. truth_shape (told_shapes sign v w)))) right
+      ap (λ (u : Result RuleShape Fault). on_ok u (λ v. on_ok p (λ w. truth_shape (equality_of_shapes sign v w)))) left
+      ∙ ap (λ (u : Result RuleShape Fault). on_ok (shown r) (λ v. on_ok u (λ w. truth_shape (equality_of_shapes sign v w)))) right
       ∙ by r q
     where
-      by : (r q : Result Scalar Fault) → on_ok (shown r) (λ v. on_ok (shown q) (λ w. truth_shape (told_shapes sign v w)))
+      by : (r q : Result Scalar Fault) → on_ok (shown r) (λ v. on_ok (shown q) (λ w. truth_shape (equality_of_shapes sign v w)))
           ≡ shown (on_ok r (λ x. on_ok q (λ y. of_two fault.NullReference (operation_of sign) x y)))
       by (Ok x) (Ok y) = h x y
       by (Ok x) (Err f) = refl
@@ -292,7 +292,7 @@ module _ (columns : List (List ℕ)) where
       place = names_at (rule_world columns) (rule_scope cells user)
 
       compared_signs : Binary → Result RuleShape Fault
-      compared_signs s = on_ok (shape_on cells user a) (λ v. on_ok (shape_on cells user b) (λ w. truth_shape (told_shapes s v w)))
+      compared_signs s = on_ok (shape_on cells user a) (λ v. on_ok (shape_on cells user b) (λ w. truth_shape (equality_of_shapes s v w)))
 
       operated_signs : Binary → Result RuleShape Fault
       operated_signs s =
@@ -302,7 +302,7 @@ module _ (columns : List (List ℕ)) where
       found : Binary → Result RuleShape Fault
       found s = shown (on_ok (read p cells user) (λ x. on_ok (read q cells user) (λ y. of_two fault.NullReference (operation_of s) x y)))
 
-      compared : (s : Binary) → ((x y : Scalar) → truth_shape (told_parts s (Some x) (Some y)) ≡ shown (of_two fault.NullReference (operation_of s) x y))
+      compared : (s : Binary) → ((x y : Scalar) → truth_shape (equality_of_parts s (Some x) (Some y)) ≡ shown (of_two fault.NullReference (operation_of s) x y))
           → compared_signs s ≡ found s
       compared s h = compared_first s (shape_on cells user a) (shape_on cells user b) (read p cells user) (read q cells user) left right h
 

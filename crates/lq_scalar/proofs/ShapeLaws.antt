@@ -31,7 +31,7 @@ use Rattle.lq_language.proofs.FormLaws.{argument_meaning, meaning_binary, meanin
 use Rattle.lq_scalar.specs.declared.operand.Operand.{Operand}
 use Rattle.lq_scalar.specs.declared.operand.Operand.TheVariants as operand
 use Rattle.lq_scalar.specs.Named.{Shape, TheRow, TheScalar, shape_at, shape_in}
-use Rattle.lq_scalar.specs.Shapes.{faulting, member_of_null, member_shape, named_member, operand_part, operand_scalar, operated_scalars, same_parts, scalar_part, shown_operand, scalar_in, scalar_or_fault, scalar_shape, shape_of, shape_of_argument, told_shapes, truth_in, truth_of_expression, truth_shape}
+use Rattle.lq_scalar.specs.Shapes.{faulting, member_of_null, member_shape, named_member, operand_part, operand_scalar, operated_scalars, same_parts, scalar_part, shown_operand, scalar_in, scalar_or_fault, scalar_shape, shape_of, shape_of_argument, equality_of_shapes, truth_in, truth_of_expression, truth_shape}
 
 -- the row or scalar that a value is, or the fault in its place
 abbrev pub viewed : {R : Type 0} → Result (Value R) Fault → Result (Shape R) Fault
@@ -125,7 +125,7 @@ module _ {R : Type 0} (world : World R) where
   told_viewed sign (Err f) = refl
 
   same_viewed : (sign : Binary) (v w : Value-F R (Value R)) (x y : Shape R) → same_values (faulting world) v w ≡ same_parts (scalar_part x) (scalar_part y)
-      → viewed {R = R} (on_ok (same_values (faulting world) v w) (λ same. Ok (truth_value (equality_truth sign same)))) ≡ truth_shape {R = R} (told_shapes sign x y)
+      → viewed {R = R} (on_ok (same_values (faulting world) v w) (λ same. Ok (truth_value (equality_truth sign same)))) ≡ truth_shape {R = R} (equality_of_shapes sign x y)
   same_viewed sign v w x y h =
       told_viewed sign (same_values (faulting world) v w) ∙ ap (λ (o : Result Bool Fault). truth_shape {R = R} (on_ok o (λ same. Ok (equality_truth sign same)))) h
 
@@ -142,10 +142,10 @@ module _ {R : Type 0} (world : World R) where
   row_and_scalar r (scalar.Text t) = refl
 
   compared_viewed : (sign : Binary) (m n : Result (Value R) Fault)
-      → viewed (compared_meaning (faulting world) sign m n) ≡ on_ok (viewed m) (λ v. on_ok (viewed n) (λ w. truth_shape (told_shapes sign v w)))
+      → viewed (compared_meaning (faulting world) sign m n) ≡ on_ok (viewed m) (λ v. on_ok (viewed n) (λ w. truth_shape (equality_of_shapes sign v w)))
   compared_viewed sign m n =
       comparand_then m (λ v. on_comparand (faulting world) n (λ w. on_ok (same_values (faulting world) v w) (λ same. Ok (truth_value (equality_truth sign same)))))
-      (λ v. on_ok (viewed n) (λ w. truth_shape (told_shapes sign v w)))
+      (λ v. on_ok (viewed n) (λ w. truth_shape (equality_of_shapes sign v w)))
       (λ s. comparand_then n _ _ (λ t. same_viewed sign (Value-F.Scalar s) (Value-F.Scalar t) (TheScalar s) (TheScalar t) refl) (λ r. same_viewed sign (Value-F.Scalar s) (Value-F.Row r) (TheScalar s) (TheRow (Some r)) (scalar_and_row s r)))
       (λ r. comparand_then n _ _ (λ t. same_viewed sign (Value-F.Row r) (Value-F.Scalar t) (TheRow (Some r)) (TheScalar t) (row_and_scalar r t)) (λ u. same_viewed sign (Value-F.Row r) (Value-F.Row u) (TheRow (Some r)) (TheRow (Some u)) refl))
 
@@ -207,7 +207,7 @@ module _ {R : Type 0} (world : World R) (scope : Scope R) where
 
   -- `==` and `!=`, and the signs of which both operands are scalars
   abbrev pub compared_shape : Binary → Expr → Expr → Result (Shape R) Fault
-  compared_shape sign a b = on_ok (shape_of world scope a) (λ v. on_ok (shape_of world scope b) (λ w. truth_shape (told_shapes sign v w)))
+  compared_shape sign a b = on_ok (shape_of world scope a) (λ v. on_ok (shape_of world scope b) (λ w. truth_shape (equality_of_shapes sign v w)))
 
   abbrev pub operated_shape : Binary → Expr → Expr → Result (Shape R) Fault
   operated_shape sign a b =
@@ -284,12 +284,12 @@ module _ {R : Type 0} (world : World R) (scope : Scope R) where
 pub part_shown : {R : Type 0} (scope : Scope R) (found : Operand) → scalar_part (shown_operand scope found) ≡ operand_part found
 part_shown scope (operand.Row x) = refl
 part_shown scope (operand.Scalar s) = refl
-part_shown scope (operand.Made t) = refl
+part_shown scope (operand.Text t) = refl
 
 pub scalar_shown : {R : Type 0} (scope : Scope R) (found : Operand) → scalar_in (shown_operand scope found) ≡ operand_scalar found
 scalar_shown scope (operand.Row x) = refl
 scalar_shown scope (operand.Scalar s) = refl
-scalar_shown scope (operand.Made t) = refl
+scalar_shown scope (operand.Text t) = refl
 
 -- the equations, and how operands are read
 pub ruleset shapes = (shape_integer, shape_text, shape_truth, shape_null, shape_name, shape_member, shape_method, shape_binary, shape_minus, shape_not, shape_both, shape_either, shape_coalesce, shape_choice, shape_host, shape_record, shape_query, part_shown, scalar_shown)

@@ -18,8 +18,8 @@ use Rattle.lq_scalar.specs.Operands.{shown_scalar}
 use Rattle.lq_scalar.specs.Sums.{sums_in}
 use Rattle.lq_scalar.specs.declared.error.ScalarError.{ScalarError}
 use Rattle.lq_scalar.specs.declared.error.ScalarError.TheVariants as error
-use Rattle.lq_scalar.specs.declared.evaluated.Found.{Found}
-use Rattle.lq_scalar.specs.declared.evaluated.Found.TheVariants as found
+use Rattle.lq_scalar.specs.declared.evaluated.EvaluatedScalar.{EvaluatedScalar}
+use Rattle.lq_scalar.specs.declared.evaluated.EvaluatedScalar.TheVariants as evaluated
 use Rattle.lq_scalar.specs.declared.operand.Operand.{Operand}
 use Rattle.lq_scalar.specs.declared.operand.Operand.TheVariants as operand
 
@@ -77,12 +77,12 @@ same_parts (Some scalar.Null) None = Ok false
 same_parts None (Some scalar.Null) = Ok false
 same_parts v w = Err fault.NullReference
 
-abbrev pub told_parts : Binary → Option Scalar → Option Scalar → Result Bool Fault
-told_parts sign v w = on_ok (same_parts v w) (λ same. Ok (equality_truth sign same))
+abbrev pub equality_of_parts : Binary → Option Scalar → Option Scalar → Result Bool Fault
+equality_of_parts sign v w = on_ok (same_parts v w) (λ same. Ok (equality_truth sign same))
 
 -- what `==` or `!=` gives for two
-abbrev pub told_shapes : {R : Type 0} → Binary → Shape R → Shape R → Result Bool Fault
-told_shapes sign v w = told_parts sign (scalar_part v) (scalar_part w)
+abbrev pub equality_of_shapes : {R : Type 0} → Binary → Shape R → Shape R → Result Bool Fault
+equality_of_shapes sign v w = equality_of_parts sign (scalar_part v) (scalar_part w)
 
 -- an operator that evaluates two scalars, which are where expressions of these types are
 abbrev pub operated_scalars : Binary → Option Ty → Option Ty → Scalar → Scalar → Result Scalar Fault
@@ -112,7 +112,7 @@ truth_of_expression world scope e = on_ok (shape_of world scope e) truth_in
 abbrev pub shown_operand : {R : Type 0} → Scope R → Operand → Shape R
 shown_operand scope (operand.Row x) = TheRow (row_at (binding_of x.now scope))
 shown_operand scope (operand.Scalar s) = TheScalar (shown_scalar s)
-shown_operand scope (operand.Made t) = TheScalar (scalar.Text t)
+shown_operand scope (operand.Text t) = TheScalar (scalar.Text t)
 
 -- The answer is the row or scalar that is meant, or its fault; or memory was refused for a text, where there are so many `+`.
 abbrev pub IsOperand : {R : Type 0} → Scope R → ℕ → Result (Shape R) Fault → Result Operand ScalarError → Type 0
@@ -120,15 +120,15 @@ IsOperand scope sums meant (Ok found) = meant ≡ Ok (shown_operand scope found)
 IsOperand scope sums meant (Err (error.Fault f)) = meant ≡ Err f
 IsOperand scope sums meant (Err error.Memory) = 0 < sums
 
-abbrev pub found_scalar : Found → Scalar
-found_scalar (found.Borrowed s) = shown_scalar s
-found_scalar (found.Made t) = scalar.Text t
+abbrev pub evaluated_scalar : EvaluatedScalar → Scalar
+evaluated_scalar (evaluated.Borrowed s) = shown_scalar s
+evaluated_scalar (evaluated.Text t) = scalar.Text t
 
 -- the same of a scalar
-abbrev pub IsFound : Result Scalar Fault → Result Found ScalarError → Type 0
-IsFound meant (Ok s) = meant ≡ Ok (found_scalar s)
-IsFound meant (Err (error.Fault f)) = meant ≡ Err f
-IsFound meant (Err error.Memory) = Unit {0}
+abbrev pub IsEvaluatedScalar : Result Scalar Fault → Result EvaluatedScalar ScalarError → Type 0
+IsEvaluatedScalar meant (Ok s) = meant ≡ Ok (evaluated_scalar s)
+IsEvaluatedScalar meant (Err (error.Fault f)) = meant ≡ Err f
+IsEvaluatedScalar meant (Err error.Memory) = Unit {0}
 
 -- the same of a truth value
 abbrev pub IsTruth : Result Bool Fault → Result Bool ScalarError → Type 0
@@ -154,7 +154,7 @@ shown_operands scope (Err f) = Err f
 abbrev pub operand_part : Operand → Option Scalar
 operand_part (operand.Row x) = None
 operand_part (operand.Scalar s) = Some (shown_scalar s)
-operand_part (operand.Made t) = Some (scalar.Text t)
+operand_part (operand.Text t) = Some (scalar.Text t)
 
 abbrev pub operand_scalar : Operand → Result Scalar Fault
 operand_scalar found = scalar_or_fault (operand_part found)

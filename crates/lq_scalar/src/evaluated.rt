@@ -2,7 +2,7 @@
 ghost use Rattle.std.specs.Prelude.{◌≡◌};
 ghost use Rattle.lq_scalar.specs.Operands.{IsAnswer};
 ghost use Rattle.lq_scalar.specs.Sums.{sums_in};
-ghost use Rattle.lq_scalar.specs.Shapes.{IsFound, IsSparing, IsTruth, scalar_of_expression, truth_of_expression};
+ghost use Rattle.lq_scalar.specs.Shapes.{IsEvaluatedScalar, IsSparing, IsTruth, scalar_of_expression, truth_of_expression};
 
 use crate::error::ScalarError;
 use crate::evaluation::Evaluation;
@@ -15,25 +15,25 @@ use std::alloc::Global;
 
 /// A scalar as it was evaluated.
 #[derive(Drop)]
-pub enum Found<'a> {
+pub enum EvaluatedScalar<'a> {
     /// One that is in a literal, a name or a cell, or is small.
     Borrowed(ScalarRef<'a>),
     /// A text that was built.
-    Made(Txt),
+    Text(Txt),
 }
 
-impl Found<'_> {
+impl EvaluatedScalar<'_> {
     ghost use Rattle.std.specs.Prelude.{◌≡◌};
     ghost use Rattle.lq_scalar.specs.Operands.{shown_scalar};
-    ghost use Rattle.lq_scalar.specs.Shapes.{found_scalar};
+    ghost use Rattle.lq_scalar.specs.Shapes.{evaluated_scalar};
 
     /// The scalar, borrowed.
     pub fn scalar(&self) -> ScalarRef<'_>
-        ensures { shown_scalar result ≡ found_scalar self.now }
+        ensures { shown_scalar result ≡ evaluated_scalar self.now }
     {
         match self {
-            Found::Borrowed(scalar) => *scalar,
-            Found::Made(text) => ScalarRef::Text(text.as_str()),
+            EvaluatedScalar::Borrowed(scalar) => *scalar,
+            EvaluatedScalar::Text(text) => ScalarRef::Text(text.as_str()),
         }
     }
 }
@@ -46,8 +46,8 @@ pub fn evaluate<'a, N: Names>(
     alloc: Global,
     names: &'a N,
     expression: &'a Expr,
-) -> Result<Found<'a>, ScalarError>
-    ensures meant { IsFound
+) -> Result<EvaluatedScalar<'a>, ScalarError>
+    ensures meant { IsEvaluatedScalar
         (scalar_of_expression (N.world names.now) (N.scope names.now) expression.now) result }
     ensures sparing { IsSparing (sums_in expression.now) result }
 {
@@ -57,8 +57,8 @@ pub fn evaluate<'a, N: Names>(
     };
     match evaluation.operand(expression)? {
         Operand::Row(_) => Err(ScalarError::Fault(Fault::NullReference)),
-        Operand::Scalar(scalar) => Ok(Found::Borrowed(scalar)),
-        Operand::Made(text) => Ok(Found::Made(text)),
+        Operand::Scalar(scalar) => Ok(EvaluatedScalar::Borrowed(scalar)),
+        Operand::Text(text) => Ok(EvaluatedScalar::Text(text)),
     }
 }
 
@@ -89,6 +89,6 @@ pub fn eval<N: Names>(alloc: Global, expression: &Expr, names: &N) -> Result<Sca
     match evaluation.operand(expression)? {
         Operand::Row(_) => Err(ScalarError::Fault(Fault::NullReference)),
         Operand::Scalar(scalar) => Ok(scalar.copied(alloc)?),
-        Operand::Made(text) => Ok(Scalar::Text(text)),
+        Operand::Text(text) => Ok(Scalar::Text(text)),
     }
 }

@@ -5,7 +5,7 @@ ghost use Rattle.lq_language.specs.Members.{search_named};
 ghost use Rattle.lq_language.specs.Operations.{negated, of_search, on_ok, truth};
 ghost use Rattle.lq_language.specs.OperandTypes.{is_equality};
 ghost use Rattle.lq_scalar.specs.Operands.{shown_scalar, shown_scalars};
-ghost use Rattle.lq_scalar.specs.Shapes.{operand_part, operand_scalar, told_parts};
+ghost use Rattle.lq_scalar.specs.Shapes.{operand_part, operand_scalar, equality_of_parts};
 
 use crate::comparison::compared;
 use crate::error::ScalarError;
@@ -27,13 +27,13 @@ fn is_equality(sign: Binary) -> bool
 
 /// What `==` or `!=` gives for two operands, where None represents a row: scalars by their contents,
 /// and a row isn't null.
-fn told_parts(
+fn equality_of_parts(
     sign: Binary,
     left: Option<ScalarRef<'_>>,
     right: Option<ScalarRef<'_>>,
 ) -> Result<bool, Fault>
     requires { is_equality sign ≡ true }
-    ensures { result ≡ told_parts sign (option_map shown_scalar left.entry)
+    ensures { result ≡ equality_of_parts sign (option_map shown_scalar left.entry)
         (option_map shown_scalar right.entry) }
 {
     match (left, right) {
@@ -52,9 +52,9 @@ fn told_parts(
 fn equality<'a>(sign: Binary, left: Operand<'_>, right: Operand<'_>) -> Result<ScalarRef<'a>, Fault>
     requires { is_equality sign ≡ true }
     ensures { shown_scalars result ≡ truth fault.NullReference
-        (told_parts sign (operand_part left.entry) (operand_part right.entry)) }
+        (equality_of_parts sign (operand_part left.entry) (operand_part right.entry)) }
 {
-    let answer = told_parts(sign, left.part(), right.part())?;
+    let answer = equality_of_parts(sign, left.part(), right.part())?;
     Ok(ScalarRef::Bool(answer))
 }
 
@@ -158,7 +158,7 @@ impl<'a, N: Names, T: Joins> Evaluation<'a, N, T> {
             Operand::Row(row) => self.cell(row, member),
             Operand::Scalar(ScalarRef::Null) => self.member_of_null(operand, member),
             Operand::Scalar(scalar) => member_of(scalar, member),
-            Operand::Made(text) => member_of(ScalarRef::Text(text.as_str()), member),
+            Operand::Text(text) => member_of(ScalarRef::Text(text.as_str()), member),
         }
     }
 
@@ -180,7 +180,7 @@ impl<'a, N: Names, T: Joins> Evaluation<'a, N, T> {
             (N.scope self.now.names.now))) scalar.Null scalar.Null)) result }
     {
         if self.is_text(left) || self.is_text(right) {
-            Ok(Operand::Made(joined(self.texts, ScalarRef::Null, ScalarRef::Null)?))
+            Ok(Operand::Text(joined(self.texts, ScalarRef::Null, ScalarRef::Null)?))
         } else {
             Ok(Operand::Scalar(ScalarRef::Null))
         }
@@ -203,7 +203,7 @@ impl<'a, N: Names, T: Joins> Evaluation<'a, N, T> {
     {
         match (sign, x, y) {
             (Binary::Add, ScalarRef::Text(_), _) | (Binary::Add, _, ScalarRef::Text(_)) => {
-                Ok(Operand::Made(joined(self.texts, x, y)?))
+                Ok(Operand::Text(joined(self.texts, x, y)?))
             }
             (Binary::Add, ScalarRef::Null, ScalarRef::Null) => self.sum_of_nulls(left, right),
             _ => Ok(Operand::Scalar(operate(sign, x, y)?)),

@@ -24,7 +24,7 @@ mod types;
 
 pub use cell::{ColumnName, cell_named};
 pub use error::ScalarError;
-pub use evaluated::{Found, eval, evaluate, truth};
+pub use evaluated::{EvaluatedScalar, eval, evaluate, truth};
 pub use lq_language::Op;
 pub use members::has_value;
 pub use names::{ExprType, Named, Names};

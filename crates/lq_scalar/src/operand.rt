@@ -10,7 +10,7 @@ pub(crate) enum Operand<'a> {
     /// A scalar, borrowed from a literal, a name or a cell, or small.
     Scalar(ScalarRef<'a>),
     /// A text that was built.
-    Made(Txt),
+    Text(Txt),
 }
 
 impl Operand<'_> {
@@ -28,7 +28,7 @@ impl Operand<'_> {
         match self {
             Operand::Row(_) => None,
             Operand::Scalar(scalar) => Some(*scalar),
-            Operand::Made(text) => Some(ScalarRef::Text(text.as_str())),
+            Operand::Text(text) => Some(ScalarRef::Text(text.as_str())),
         }
     }
 
