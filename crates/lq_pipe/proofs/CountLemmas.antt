@@ -7,7 +7,7 @@ use Rattle.lq_value.specs.declared.value.End.{End}
 use Rattle.lq_value.specs.declared.value.Fault.{Fault}
 use Rattle.lq_value.specs.declared.value.Value.{Value, out-Value}
 use Rattle.lq_value.specs.declared.value.Value.TheOpen.{Value-F}
-use Rattle.lq_language.specs.Enumerable.{as_count, contains, element_at, first, in_front, item_behind, single, take_first}
+use Rattle.lq_language.specs.Enumerable.{all, as_count, contains, element_at, first, in_front, item_behind, single, take_first}
 use Rattle.lq_language.specs.Worlds.{World}
 use Rattle.lq_language.specs.OperandMeaning.{as_value, scalar_of}
 use Rattle.lq_language.specs.Operations.{on_ok}
@@ -20,8 +20,9 @@ use Rattle.lq_language.specs.declared.methods.Simple.TheVariants as simple
 use Rattle.lq_operators.specs.Tallies.{begins, goes_on, tallied, tally_result}
 use Rattle.lq_operators.specs.declared.numbers.Tally.{Tally}
 use Rattle.lq_operators.proofs.NumberLaws.{begun, told_is}
-use Rattle.lq_pipe.specs.Counts.{given_limit, value_limit, simple_limit, number_limit}
-use Rattle.lq_pipe.proofs.PullLemmas.{left_opened}
+use Rattle.lq_plan.specs.Counts.{given_limit, value_limit, simple_limit, number_limit, read_first}
+use Rattle.lq_plan.proofs.PullLaws.{left_opened}
+use Rattle.lq_pipe.proofs.PullLemmas.{fewer}
 
 some_is : {A : Type 0} {x y : A} → Some x ≡ Some y → x ≡ y
 some_is {A} {x} is = ap (λ (o : Option A). get_or_else o) is where
@@ -65,12 +66,14 @@ module _ {R : Type 0} where
   simple_limit_is simple.Min n t s is = absurd (none_some is)
   simple_limit_is simple.Max n t s is = absurd (none_some is)
 
-  pub simple_some : (method : Simple) (n : ℕ) (items s : Stream (Value R)) → simple_limit method ≡ Some n → items ≡ take_first n s.0 s.1
-      → (t : Ty) → simple_meaning method t items ≡ simple_meaning method t s
-  simple_some method n items s is taken t = ap (simple_meaning method t) taken ∙ simple_limit_is method n t s is
+  simple_by : (method : Simple) (l : Option ℕ) (t : Ty) (items s : Stream (Value R)) → simple_limit method ≡ l → items ≡ read_first l s
+      → simple_meaning method t items ≡ simple_meaning method t s
+  simple_by method (Some n) t items s is read = ap (simple_meaning method t) read ∙ simple_limit_is method n t s is
+  simple_by method None t items s is read = ap (simple_meaning method t) read
 
-  pub simple_all : (method : Simple) (items s : Stream (Value R)) → items ≡ s → (t : Ty) → simple_meaning method t items ≡ simple_meaning method t s
-  simple_all method items s is t = ap (simple_meaning method t) is
+  pub simple_read : (method : Simple) (l : Option ℕ) (t : Ty) (items s : Stream (Value R)) → l ≡ simple_limit method → items ≡ read_first l s
+      → simple_meaning method t items ≡ simple_meaning method t s
+  simple_read method l t items s is read = simple_by method l t items s (sym is) read
 
   -- ---- tallies
 
@@ -155,13 +158,14 @@ module _ {R : Type 0} (world : World R) where
   given_limit_is given.Intersect (Err f) n s is = absurd (none_some is)
   given_limit_is given.Except (Err f) n s is = absurd (none_some is)
 
-  pub given_some : (method : Given) (argument : Result (Value R) Fault) (n : ℕ) (items s : Stream (Value R)) → given_limit method argument ≡ Some n
-      → items ≡ take_first n s.0 s.1 → given_meaning world method argument items ≡ given_meaning world method argument s
-  given_some method argument n items s is taken = ap (given_meaning world method argument) taken ∙ given_limit_is method argument n s is
-
-  pub given_all : (method : Given) (argument : Result (Value R) Fault) (items s : Stream (Value R)) → items ≡ s
+  given_by : (method : Given) (argument : Result (Value R) Fault) (l : Option ℕ) (items s : Stream (Value R)) → given_limit method argument ≡ l → items ≡ read_first l s
       → given_meaning world method argument items ≡ given_meaning world method argument s
-  given_all method argument items s is = ap (given_meaning world method argument) is
+  given_by method argument (Some n) items s is read = ap (given_meaning world method argument) read ∙ given_limit_is method argument n s is
+  given_by method argument None items s is read = ap (given_meaning world method argument) read
+
+  pub given_read : (method : Given) (argument : Result (Value R) Fault) (l : Option ℕ) (items s : Stream (Value R)) → l ≡ given_limit method argument → items ≡ read_first l s
+      → given_meaning world method argument items ≡ given_meaning world method argument s
+  given_read method argument l items s is read = given_by method argument l items s (sym is) read
 
 module _ {A : Type 0} (same : A → A → Bool) (v : A) where
   -- an item that isn't the value is passed by, and the first that is answers
@@ -175,10 +179,15 @@ module _ {A : Type 0} (same : A → A → Bool) (v : A) where
   contains_found old new x all is found goes =
       sym goes ∙ ap (λ (s : Stream A). contains same v s.0 s.1) is ∙ ap (λ (b : Bool). if b then Ok true else contains same v new.0 new.1) found
 
-pub ruleset contains_steps = (contains_on, contains_found)
+  pub contains_begins : (left all : Stream A) → left ≡ all → contains same v left.0 left.1 ≡ contains same v all.0 all.1
+  contains_begins left all is = ap (λ (s : Stream A). contains same v s.0 s.1) is
 
-pub ruleset reads = (simple_some, simple_all)
+module _ {A : Type 0} (holds : A → Result Bool Fault) where
+  pub all_begins : (left whole : Stream A) → left ≡ whole → all holds left.0 left.1 ≡ all holds whole.0 whole.1
+  all_begins left whole is = ap (λ (s : Stream A). all holds s.0 s.1) is
 
-pub ruleset needs = (given_some, given_all)
+pub ruleset contains_steps = (left_opened, contains_begins, contains_on, contains_found, fewer)
 
-pub ruleset tallies = (left_opened, tally_begins, tally_on, tally_stopped, tally_ended)
+pub ruleset all_steps = (left_opened, all_begins, fewer)
+
+pub ruleset tallies = (left_opened, tally_begins, tally_on, tally_stopped, tally_ended, fewer)

@@ -1,5 +1,5 @@
 -- What comes of an item in a slot of its own, and of each item of what it leads to.
-use Rattle.std.proofs.Common.{◌≡◌, ◌∷◌, ◌++◌, List, [], Result, Ok, ap, ◌∙◌, sym, refl, subst, append_assoc, IfOk}
+use Rattle.std.proofs.Common.{◌≡◌, ◌∷◌, ◌++◌, List, [], Bor, Some, None, Result, Ok, ap, ◌∙◌, sym, refl, subst, append_assoc, IfOk}
 use Rattle.lq_value.specs.declared.value.End.{End}
 use Rattle.lq_value.specs.declared.value.End.TheVariants as end
 use Rattle.lq_value.specs.declared.value.Fault.{Fault}
@@ -12,9 +12,10 @@ use Rattle.lq_tree.specs.FormMeaning.{Slots, form_meaning, matched, with_item, w
 use Rattle.lq_tree.specs.declared.tree.Form.{Form}
 use Rattle.lq_tree.specs.declared.tree.Joined.{Joined}
 use Rattle.lq_tree.specs.declared.tree.Form.TheVariants as form
-use Rattle.lq_pipe.specs.Items.{item_expansion, groups_in, item_join, key_and_element, key_and_item}
-use Rattle.lq_pipe.specs.Pulling.{through_select}
-use Rattle.lq_pipe.proofs.Forms.{form_group_by, form_join, form_select_many}
+use Rattle.lq_plan.specs.Groups.{groups_in}
+use Rattle.lq_pipe.specs.Items.{item_expansion, item_join, keys_and_elements}
+use Rattle.lq_plan.specs.Pulling.{through_select}
+use Rattle.lq_plan.proofs.FormLaws.{form_group_by, form_join, form_select_many}
 
 module _ {R : Type 0} (world : World R) (S : Slots R) (x : Value R) (D : Slots R) where
   -- a slot for an item and one for what it leads to are two slots
@@ -48,57 +49,54 @@ module _ {R : Type 0} (world : World R) (S : Slots R) (x : Value R) (D : Slots R
       (ap (λ (d : Slots R). select_by (λ w. form_meaning world result (with_item world d w)) vs end.Done) slots ∙ two_slots result vs end.Done) h
 
 module _ {R : Type 0} (world : World R) (slots : Slots R) where
-  pub select_many_answer : (a inner result : Form) (xs xs' : List (Value R)) (e : End) (vs : Stream (Value R)) → (xs, e) ≡ stream_of world (form_meaning world a slots)
-      → xs' ≡ xs → vs ≡ each (item_expansion world slots inner result) xs' e → form_meaning world (form.SelectMany a inner result) slots ≡ Ok (value.Seq vs.0 vs.1)
-  select_many_answer a inner result xs xs' e vs is xs_is h =
+  pub select_many_answer : (a inner result : Form) (s vs : Stream (Value R)) → s ≡ stream_of world (form_meaning world a slots)
+      → vs ≡ each (item_expansion world slots inner result) s.0 s.1 → form_meaning world (form.SelectMany a inner result) slots ≡ Ok (value.Seq vs.0 vs.1)
+  select_many_answer a inner result s vs is h =
       form_select_many world a inner result slots
-      ∙ ap (λ (s : Stream (Value R)). Ok (sequence (each (item_expansion world slots inner result) s.0 s.1))) (sym is)
-      ∙ ap (λ l. Ok (sequence (each (item_expansion world slots inner result) l e))) (sym xs_is)
-      ∙ ap (λ (s : Stream (Value R)). Ok (sequence s)) (sym h)
+      ∙ ap (λ (t : Stream (Value R)). Ok (sequence (each (item_expansion world slots inner result) t.0 t.1))) (sym is)
+      ∙ ap (λ (t : Stream (Value R)). Ok (sequence t)) (sym h)
 
-  pub group_by_answer : (a key element : Form) (xs xs' : List (Value R)) (e d : End) (pairs : List (Value R × Value R)) (v : Value R)
-      → (xs, e) ≡ stream_of world (form_meaning world a slots) → xs' ≡ xs → (pairs, d) ≡ select_by (key_and_element world slots key element) xs' e
-      → v ≡ sequence (whole pairs d groups_in) → form_meaning world (form.GroupBy a key element) slots ≡ Ok v
-  group_by_answer a key element xs xs' e d pairs v is xs_is pairs_are h =
-      form_group_by world a key element slots
-      ∙ ap (λ (s : Stream (Value R)). Ok (sequence (whole (select_by (key_and_element world slots key element) s.0 s.1).0 (select_by (key_and_element world slots key element) s.0 s.1).1 groups_in))) (sym is)
-      ∙ ap (λ l. Ok (sequence (whole (select_by (key_and_element world slots key element) l e).0 (select_by (key_and_element world slots key element) l e).1 groups_in))) (sym xs_is)
-      ∙ ap (λ (s : Stream (Value R × Value R)). Ok (sequence (whole s.0 s.1 groups_in))) (sym pairs_are)
+  pub group_by_answer : (a key : Form) (element : Bor Form) (s : Stream (Value R)) (d : End) (pairs : List (Value R × Value R)) (v : Value R)
+      → s ≡ stream_of world (form_meaning world a slots) → (pairs, d) ≡ keys_and_elements world slots key (Some element) s
+      → v ≡ sequence (whole pairs d groups_in) → form_meaning world (form.GroupBy a key element.now) slots ≡ Ok v
+  group_by_answer a key element s d pairs v is pairs_are h =
+      form_group_by world a key element.now slots
+      ∙ ap (λ (t : Stream (Value R)). Ok (sequence (whole (keys_and_elements world slots key (Some element) t).0 (keys_and_elements world slots key (Some element) t).1 groups_in))) (sym is)
+      ∙ ap (λ (t : Stream (Value R × Value R)). Ok (sequence (whole t.0 t.1 groups_in))) (sym pairs_are)
       ∙ ap (λ w. Ok w) (sym h)
 
   -- the inner items with their keys, and then what comes of the outer ones
-  abbrev joined_by : Joined Form → Stream (Value R × Value R) → List (Value R) → End → Stream (Value R)
-  joined_by j inner xs e = whole inner.0 inner.1 (λ qs. each (item_join world slots j qs) xs e)
+  abbrev joined_by : Joined Form → Stream (Value R × Value R) → Stream (Value R) → Stream (Value R)
+  joined_by j inner outer = whole inner.0 inner.1 (λ qs. each (item_join world slots j qs) outer.0 outer.1)
 
-  join_is : (a : Form) (j : Joined Form) (xs xs' ys ys' : List (Value R)) (e d : End) (inner : Stream (Value R × Value R))
-      → (xs, e) ≡ stream_of world (form_meaning world a slots) → xs' ≡ xs → (ys, d) ≡ stream_of world (form_meaning world j.inner slots) → ys' ≡ ys
-      → inner ≡ select_by (key_and_item world slots j.inner_key) ys' d
-      → form_meaning world (form.Join a j) slots ≡ Ok (sequence (joined_by j inner xs' e))
-  join_is a j xs xs' ys ys' e d inner is xs_is inner_is ys_is h =
+  join_is : (a : Form) (j : Joined Form) (outer inner : Stream (Value R)) (pairs : Stream (Value R × Value R))
+      → outer ≡ stream_of world (form_meaning world a slots) → inner ≡ stream_of world (form_meaning world j.inner slots)
+      → pairs ≡ keys_and_elements world slots j.inner_key None inner
+      → form_meaning world (form.Join a j) slots ≡ Ok (sequence (joined_by j pairs outer))
+  join_is a j outer inner pairs outer_is inner_is h =
       form_join world a j slots
-      ∙ ap (λ (s : Stream (Value R)). Ok (sequence (joined_by j (select_by (key_and_item world slots j.inner_key) (stream_of world (form_meaning world j.inner slots)).0 (stream_of world (form_meaning world j.inner slots)).1) s.0 s.1))) (sym is)
-      ∙ ap (λ l. Ok (sequence (joined_by j (select_by (key_and_item world slots j.inner_key) (stream_of world (form_meaning world j.inner slots)).0 (stream_of world (form_meaning world j.inner slots)).1) l e))) (sym xs_is)
-      ∙ ap (λ (s : Stream (Value R)). Ok (sequence (joined_by j (select_by (key_and_item world slots j.inner_key) s.0 s.1) xs' e))) (sym inner_is)
-      ∙ ap (λ l. Ok (sequence (joined_by j (select_by (key_and_item world slots j.inner_key) l d) xs' e))) (sym ys_is)
-      ∙ ap (λ (s : Stream (Value R × Value R)). Ok (sequence (joined_by j s xs' e))) (sym h)
+      ∙ ap (λ (t : Stream (Value R)). Ok (sequence (joined_by j (keys_and_elements world slots j.inner_key None (stream_of world (form_meaning world j.inner slots))) t))) (sym outer_is)
+      ∙ ap (λ (t : Stream (Value R)). Ok (sequence (joined_by j (keys_and_elements world slots j.inner_key None t) outer))) (sym inner_is)
+      ∙ ap (λ (t : Stream (Value R × Value R)). Ok (sequence (joined_by j t outer))) (sym h)
 
-  pub join_answer : (a : Form) (j : Joined Form) (xs xs' ys ys' : List (Value R)) (e d c : End) (pairs qs : List (Value R × Value R)) (vs : Stream (Value R))
-      → (xs, e) ≡ stream_of world (form_meaning world a slots) → xs' ≡ xs → (ys, d) ≡ stream_of world (form_meaning world j.inner slots) → ys' ≡ ys
-      → (pairs, c) ≡ select_by (key_and_item world slots j.inner_key) ys' d → c ≡ end.Done → qs ≡ pairs
-      → vs ≡ each (item_join world slots j qs) xs' e
+  pub join_answer : (a : Form) (j : Joined Form) (outer inner vs : Stream (Value R)) (c : End) (pairs qs : List (Value R × Value R))
+      → outer ≡ stream_of world (form_meaning world a slots) → inner ≡ stream_of world (form_meaning world j.inner slots)
+      → (pairs, c) ≡ keys_and_elements world slots j.inner_key None inner → c ≡ end.Done → qs ≡ pairs
+      → vs ≡ each (item_join world slots j qs) outer.0 outer.1
       → form_meaning world (form.Join a j) slots ≡ Ok (value.Seq vs.0 vs.1)
-  join_answer a j xs xs' ys ys' e d c pairs qs vs is xs_is inner_is ys_is pairs_are done qs_are h =
-      join_is a j xs xs' ys ys' e d (pairs, c) is xs_is inner_is ys_is pairs_are
-      ∙ ap (λ k. Ok (sequence (joined_by j (pairs, k) xs' e))) done
-      ∙ ap (λ l. Ok (sequence (each (item_join world slots j l) xs' e))) (sym qs_are)
+  join_answer a j outer inner vs c pairs qs outer_is inner_is pairs_are done qs_are h =
+      join_is a j outer inner (pairs, c) outer_is inner_is pairs_are
+      ∙ ap (λ k. Ok (sequence (joined_by j (pairs, k) outer))) done
+      ∙ ap (λ l. Ok (sequence (each (item_join world slots j l) outer.0 outer.1))) (sym qs_are)
       ∙ ap (λ (s : Stream (Value R)). Ok (sequence s)) (sym h)
 
-  pub join_stops : (a : Form) (j : Joined Form) (xs ys ys' : List (Value R)) (e d c : End) (pairs : List (Value R × Value R)) (f : Fault) (v : Value R)
-      → (xs, e) ≡ stream_of world (form_meaning world a slots) → (ys, d) ≡ stream_of world (form_meaning world j.inner slots) → ys' ≡ ys
-      → (pairs, c) ≡ select_by (key_and_item world slots j.inner_key) ys' d → c ≡ end.Fault f
+  pub join_stops : (a : Form) (j : Joined Form) (inner : Stream (Value R)) (c : End) (pairs : List (Value R × Value R)) (f : Fault) (v : Value R)
+      → inner ≡ stream_of world (form_meaning world j.inner slots)
+      → (pairs, c) ≡ keys_and_elements world slots j.inner_key None inner → c ≡ end.Fault f
       → v ≡ sequence ([], end.Fault f) → form_meaning world (form.Join a j) slots ≡ Ok v
-  join_stops a j xs ys ys' e d c pairs f v is inner_is ys_is pairs_are stops h =
-      join_is a j xs xs ys ys' e d (pairs, c) is refl inner_is ys_is pairs_are ∙ ap (λ k. Ok (sequence (joined_by j (pairs, k) xs e))) stops ∙ ap (λ w. Ok w) (sym h)
+  join_stops a j inner c pairs f v inner_is pairs_are stops h =
+      join_is a j (stream_of world (form_meaning world a slots)) inner (pairs, c) refl inner_is pairs_are
+      ∙ ap (λ k. Ok (sequence (joined_by j (pairs, k) (stream_of world (form_meaning world a slots))))) stops ∙ ap (λ w. Ok w) (sym h)
 
   -- what comes of an outer item whose key is met
   pub joined_met : (j : Joined Form) (qs : List (Value R × Value R)) (x k : Value R) (found found' : List (Value R)) (E : Type 0) (answer : Result (Stream (Value R)) E)

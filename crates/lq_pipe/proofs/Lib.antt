@@ -1,14 +1,8 @@
-pub mod ArrangementLemmas
-pub mod CellLemmas
+pub mod AnswerLemmas
 pub mod CountLemmas
-pub mod Forms
 pub mod ItemLemmas
-pub mod PartLemmas
-pub mod PassingLemmas
-pub mod PreparedLemmas
+pub mod KeyLemmas
 pub mod PullLemmas
 pub mod RowLemmas
-pub mod SlotLemmas
-pub mod StageSizes
+pub mod Sizes
 pub mod StreamLemmas
-pub mod TruthLemmas

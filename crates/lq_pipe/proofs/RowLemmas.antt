@@ -1,18 +1,16 @@
 -- Rows that are kept one by one where a condition is true on them.
-use Rattle.std.proofs.Common.{◌≡◌, ◌∷◌, ◌++◌, ◌+◌, ◌<◌, ◌≤◌, List, [], ℕ, Bool, true, false, Some, Result, Ok, Err, IfSome, ap, sym, subst, append-nil, get_or, length}
+use Rattle.std.proofs.Common.{◌≡◌, ◌∷◌, ◌++◌, ◌+◌, ◌<◌, ◌≤◌, List, [], ℕ, Bool, true, false, Some, Result, Ok, Err, ap, sym, append-nil, get_or, length}
 use Rattle.lq_value.specs.declared.scalar.Scalar.{Scalar}
 use Rattle.lq_value.specs.declared.value.End.TheVariants as end
 use Rattle.lq_value.specs.declared.value.Fault.{Fault}
-use Rattle.lq_value.specs.declared.value.Value.TheVariants as value
 use Rattle.lq_language.specs.Stream.{Stream, item_where, where_by}
 use Rattle.lq_language.specs.Worlds.{World}
-use Rattle.lq_condition.specs.Verdicts.{verdict}
-use Rattle.lq_condition.specs.declared.condition.Condition.{Condition}
-use Rattle.lq_tree.specs.FormMeaning.{form_meaning}
 use Rattle.lq_tree.specs.declared.tree.Form.{Form}
 use Rattle.lq_pipe.specs.Conditions.{holds_on}
-use Rattle.lq_pipe.specs.Prepared.{Decides}
-use Rattle.lq_pipe.specs.Running.{truth_in}
+use Rattle.lq_plan.specs.PlannedRows.{row_verdict}
+use Rattle.lq_plan.specs.Prepared.{Decides}
+use Rattle.lq_plan.specs.declared.plans.Plan.{Plan}
+use Rattle.lq_plan.proofs.PlanLaws.{row_meant}
 use Rattle.lq_pipe.proofs.StreamLemmas.{Goes, each_ends, each_goes, each_stops}
 
 module _ {A : Type 0} (holds : A → Result Bool Fault) (rows : List A) where
@@ -42,10 +40,8 @@ module _ {A : Type 0} (holds : A → Result Bool Fault) (rows : List A) where
 
 pub ruleset keeps_rows = (row_kept, row_dropped, rows_ended)
 
--- what a condition says of a row is what it is there
+-- what a plan says of a row is what the condition is there
 module _ {R : Type 0} (table_of : R → ℕ) (shown : R → List Scalar) (world : World R) where
-  pub row_decided : (table : ℕ) (condition : Form) (c : Condition) (r : R) (b : Bool)
-      → Decides table_of shown world [] table condition c → table_of r ≡ table → verdict c (shown r) ≡ Some b
+  pub row_decided : (plan : Plan) (condition : Form) (r : R) (b : Bool) → Decides table_of shown world [] plan.table condition plan.condition → row_verdict table_of shown plan r ≡ Some b
       → Ok b ≡ holds_on world condition r
-  row_decided table condition c r b decides here is =
-      sym (subst (λ t. IfSome t (λ b. truth_in world (form_meaning world condition (value.Row r ∷ [])) ≡ Ok b)) is (decides.at r here))
+  row_decided plan condition r b decides is = sym (row_meant table_of shown world [] plan condition r b decides is)

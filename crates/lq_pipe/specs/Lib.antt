@@ -1,12 +1,4 @@
-pub mod Arrangements
 pub mod Conditions
-pub mod Counts
 pub mod Items
-pub mod Lists
-pub mod Prepared
-pub mod Pulling
-pub mod Running
 pub mod Runs
-pub mod Slots
-pub mod Stages
-pub mod Worlds
+pub mod Steps

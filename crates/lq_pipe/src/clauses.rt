@@ -1,31 +1,27 @@
 //! The running of what several sequences or keys take part in.
-use crate::bases::Base;
 use crate::running::Running;
-use crate::slots::Slots;
-use crate::stages::{Stage, Step};
-use crate::tables::TableRow;
-use crate::{arrangements, sequences};
 use lq_grammar::SortKey;
 use lq_operators::{Matches, RunError};
+use lq_plan::{Base, Pipe, Slots, Stage, TableRow, arrangements, sequences};
 use lq_tree::{Form, Joined};
 use lq_value::{End, Fault, List, Scalar, Value};
 use std::alloc::AllocError;
 
 impl<'a, R: TableRow> Running<'a, R> {
     ghost use Rattle.std.specs.Prelude.{◌≡◌, IfOk, Ok};
-    ghost use Rattle.lq_language.specs.Stream.{whole};
     ghost use Rattle.lq_language.specs.Arrangement.{all_of};
+    ghost use Rattle.lq_language.specs.Stream.{whole};
     ghost use Rattle.lq_language.specs.OperandMeaning.{sequence};
-    ghost use Rattle.lq_pipe.specs.Items.{stream_expansion, item_expansion, keys_and_items, stream_join, item_join, keys_and_elements, key_and_element, item_matches, key_and_item};
     ghost use Rattle.lq_operators.specs.Matching.{pairs_of};
     ghost use Rattle.lq_operators.specs.Answers.{IsAnswer};
     ghost use Rattle.lq_tree.specs.declared.tree.Form.TheVariants as form;
-    ghost use Rattle.lq_pipe.specs.Arrangements.{columns_of, key_at, sorted_by};
-    ghost use Rattle.lq_pipe.specs.Running.{Answers, items_meant, meant};
-    ghost use Rattle.lq_pipe.specs.Pulling.{StepsTo, rest_behind};
-    ghost use Rattle.lq_pipe.specs.Runs.{world};
-    ghost use Rattle.lq_pipe.specs.Slots.{values_in};
-    ghost use Rattle.lq_pipe.specs.declared.stages.Stage.TheVariants as stage;
+    ghost use Rattle.lq_plan.specs.Arrangements.{columns_of, key_at, sorted_by};
+    ghost use Rattle.lq_plan.specs.Meanings.{Answers, items_meant, meant};
+    ghost use Rattle.lq_plan.specs.Pipes.{all_items, items_left};
+    ghost use Rattle.lq_plan.specs.Slots.{values_in};
+    ghost use Rattle.lq_pipe.specs.Items.{element_of, item_expansion, item_join, item_matches, key_and_element, keys_and_elements, stream_expansion, stream_join};
+    ghost use Rattle.lq_pipe.specs.Runs.{IsPlanned, world};
+    ghost use Rattle.lq_pipe.specs.Steps.{Steps};
 
     /// What comes of each item and of each item of what it leads to.
     #[cycle(running)]
@@ -41,7 +37,8 @@ impl<'a, R: TableRow> Running<'a, R> {
             (meant (world self.now) (form.SelectMany source.now inner.now body.now) slots.now)
             result }
     {
-        let (values, end) = self.expand(source, inner, body, slots)?;
+        let pipe = self.sources.pipe_of(source, slots)?;
+        let (values, end) = self.expand(&pipe, inner, body, slots)?;
         Ok(Value::Seq(values, end))
     }
 
@@ -58,34 +55,37 @@ impl<'a, R: TableRow> Running<'a, R> {
             (values_in slots.now) inner.now body.now item.now) }
     {
         let deeper = (&*slots).with(&*item);
-        self.drain(&Stage::Select(body), inner, &deeper)
+        let pipe = self.sources.pipe(Stage::Select(body), inner, &deeper)?;
+        self.read(None, &pipe, &deeper)
     }
 
-    /// The same of each item of a source, up to the first fault.
+    /// The same of each item of a pipe, up to the first fault.
     #[cycle(running)]
+    #[tactic(auto, using(crate::proofs::PullLemmas::expands))]
     fn expand(
         &self,
-        source: &Form,
+        pipe: &Pipe<'_>,
         inner: &Form,
         body: &Form,
         slots: &Slots<'_, R>,
     ) -> Result<(List<Value<R>>, End), AllocError>
+        requires { IsPlanned self.now slots.now pipe.now }
         ensures { IfOk result (λ items.
             items ≡ stream_expansion (world self.now) (values_in slots.now) inner.now body.now
-            (items_meant (world self.now) source.now slots.now)) }
+            (all_items (world self.now) (values_in slots.now) pipe.now)) }
     {
-        let mut base = self.open(source, slots)?;
-        let mut values = List::new(self.alloc);
+        let mut base = self.open(pipe.source, slots)?;
+        let mut values = List::new(self.sources.alloc);
         loop {
-            match self.next(&Stage::Plain, source, &mut base, slots)? {
-                Step::Item(item) => {
+            match self.next(pipe, &mut base, slots)? {
+                Ok(item) => {
                     let (further, ending) = self.expand_item(inner, body, &item, slots)?;
                     values = sequences::append(values, further)?;
                     if let End::Fault(fault) = ending {
                         return Ok((values, End::Fault(fault)));
                     }
                 }
-                Step::End(end) => return Ok((values, end)),
+                Err(end) => return Ok((values, end)),
             }
         }
     }
@@ -104,8 +104,42 @@ impl<'a, R: TableRow> Running<'a, R> {
             (meant (world self.now) (form.GroupBy source.now key.now element.now) slots.now)
             result }
     {
-        let (pairs, end) = self.key_pairs(source, key, element, slots)?;
-        Ok(sequences::groups(self.alloc, pairs, end)?)
+        let (pairs, end) = self.keys_of(source, key, Some(element), slots)?;
+        Ok(sequences::groups(self.sources.alloc, pairs, end)?)
+    }
+
+    /// The keys of the items of a source with their elements, up to the first fault.
+    #[cycle(running)]
+    fn keys_of(
+        &self,
+        source: &Form,
+        key: &Form,
+        element: Option<&Form>,
+        slots: &Slots<'_, R>,
+    ) -> Result<(List<(Value<R>, Value<R>)>, End), AllocError>
+        ensures { IfOk result (λ pairs.
+            pairs ≡ keys_and_elements (world self.now) (values_in slots.now) key.now element.entry
+            (items_meant (world self.now) source.now slots.now)) }
+    {
+        let pipe = self.sources.pipe_of(source, slots)?;
+        self.key_pairs(&pipe, key, element, slots)
+    }
+
+    /// What a lambda gives of an item; without one, the item.
+    #[cycle(running)]
+    fn element(
+        &self,
+        body: Option<&Form>,
+        item: Value<R>,
+        slots: &Slots<'_, R>,
+    ) -> Result<Result<Value<R>, Fault>, AllocError>
+        ensures { IfOk result (λ element. element
+            ≡ element_of (world self.now) (values_in slots.now) body.entry item) }
+    {
+        match body {
+            Some(body) => self.value_of_item(body, &item, slots),
+            None => Ok(Ok(item)),
+        }
     }
 
     /// The key of an item, and then its element.
@@ -113,15 +147,15 @@ impl<'a, R: TableRow> Running<'a, R> {
     fn key_pair(
         &self,
         key: &Form,
-        element: &Form,
-        item: &Value<R>,
+        element: Option<&Form>,
+        item: Value<R>,
         slots: &Slots<'_, R>,
     ) -> Result<Result<(Value<R>, Value<R>), Fault>, AllocError>
         ensures { IfOk result (λ pair. pair ≡ key_and_element (world self.now)
-            (values_in slots.now) key.now element.now item.now) }
+            (values_in slots.now) key.now element.entry item) }
     {
-        match self.value_of_item(key, item, slots)? {
-            Ok(key) => match self.value_of_item(element, item, slots)? {
+        match self.value_of_item(key, &item, slots)? {
+            Ok(key) => match self.element(element, item, slots)? {
                 Ok(element) => Ok(Ok((key, element))),
                 Err(fault) => Ok(Err(fault)),
             },
@@ -129,50 +163,52 @@ impl<'a, R: TableRow> Running<'a, R> {
         }
     }
 
-    /// The key of the next item of a source, and its element; or how they end.
+    /// The key of the next item of a pipe, and its element; or how they end.
     #[cycle(running)]
     #[tactic(auto, using(crate::proofs::PullLemmas::selects))]
     fn next_key_pair(
         &self,
-        source: &Form,
+        pipe: &Pipe<'_>,
         key: &Form,
-        element: &Form,
+        element: Option<&Form>,
         base: &mut Base<'a, R>,
         slots: &Slots<'_, R>,
     ) -> Result<Result<(Value<R>, Value<R>), End>, AllocError>
-        ensures { IfOk result (λ pair. StepsTo
-            (keys_and_elements (world self.now) (values_in slots.now) key.now element.now
-            (rest_behind (world self.now) (values_in slots.now) stage.Plain source.now base.old)) pair
-            (keys_and_elements (world self.now) (values_in slots.now) key.now element.now
-            (rest_behind (world self.now) (values_in slots.now) stage.Plain source.now base.new))) }
+        requires { IsPlanned self.now slots.now pipe.now }
+        ensures { IfOk result (λ pair. Steps
+            (keys_and_elements (world self.now) (values_in slots.now) key.now element.entry
+            (items_left (world self.now) (values_in slots.now) pipe.now base.old)) pair
+            (keys_and_elements (world self.now) (values_in slots.now) key.now element.entry
+            (items_left (world self.now) (values_in slots.now) pipe.now base.new))) }
     {
-        match self.next(&Stage::Plain, source, base, slots)? {
-            Step::Item(item) => match self.key_pair(key, element, &item, slots)? {
+        match self.next(pipe, base, slots)? {
+            Ok(item) => match self.key_pair(key, element, item, slots)? {
                 Ok(pair) => Ok(Ok(pair)),
                 Err(fault) => Ok(Err(End::Fault(fault))),
             },
-            Step::End(end) => Ok(Err(end)),
+            Err(end) => Ok(Err(end)),
         }
     }
 
-    /// The keys of the items of a source with their elements, up to the first fault.
+    /// The same of the items of a pipe.
     #[cycle(running)]
     #[tactic(auto, using(crate::proofs::PullLemmas::keeps))]
     fn key_pairs(
         &self,
-        source: &Form,
+        pipe: &Pipe<'_>,
         key: &Form,
-        element: &Form,
+        element: Option<&Form>,
         slots: &Slots<'_, R>,
     ) -> Result<(List<(Value<R>, Value<R>)>, End), AllocError>
+        requires { IsPlanned self.now slots.now pipe.now }
         ensures { IfOk result (λ pairs.
-            pairs ≡ keys_and_elements (world self.now) (values_in slots.now) key.now element.now
-            (items_meant (world self.now) source.now slots.now)) }
+            pairs ≡ keys_and_elements (world self.now) (values_in slots.now) key.now element.entry
+            (all_items (world self.now) (values_in slots.now) pipe.now)) }
     {
-        let mut base = self.open(source, slots)?;
-        let mut pairs = List::new(self.alloc);
+        let mut base = self.open(pipe.source, slots)?;
+        let mut pairs = List::new(self.sources.alloc);
         loop {
-            match self.next_key_pair(source, key, element, &mut base, slots)? {
+            match self.next_key_pair(pipe, key, element, &mut base, slots)? {
                 Ok(pair) => pairs.push(pair)?,
                 Err(end) => return Ok((pairs, end)),
             }
@@ -191,79 +227,15 @@ impl<'a, R: TableRow> Running<'a, R> {
         ensures { IsAnswer
             (meant (world self.now) (form.Join source.now joined.now) slots.now) result }
     {
-        let (pairs, pairs_end) = self.inner_pairs(&joined.inner, &joined.inner_key, slots)?;
+        let (pairs, pairs_end) = self.keys_of(&joined.inner, &joined.inner_key, None, slots)?;
         match pairs_end {
             End::Done => {
-                let matches = Matches::build(self.alloc, pairs)?;
-                let (values, end) = self.join_outer(joined, &matches, source, slots)?;
+                let matches = Matches::build(self.sources.alloc, pairs)?;
+                let outer = self.sources.pipe_of(source, slots)?;
+                let (values, end) = self.join_items(joined, &matches, &outer, slots)?;
                 Ok(Value::Seq(values, end))
             }
-            End::Fault(fault) => Ok(sequences::fault_sequence(self.alloc, fault)),
-        }
-    }
-
-    /// An inner item with its key.
-    #[cycle(running)]
-    fn inner_pair(
-        &self,
-        key: &Form,
-        item: Value<R>,
-        slots: &Slots<'_, R>,
-    ) -> Result<Result<(Value<R>, Value<R>), Fault>, AllocError>
-        ensures { IfOk result (λ pair. pair ≡ key_and_item (world self.now)
-            (values_in slots.now) key.now item) }
-    {
-        match self.value_of_item(key, &item, slots)? {
-            Ok(key) => Ok(Ok((key, item))),
-            Err(fault) => Ok(Err(fault)),
-        }
-    }
-
-    /// The next item of an inner source with its key, or how they end.
-    #[cycle(running)]
-    #[tactic(auto, using(crate::proofs::PullLemmas::selects))]
-    fn next_inner_pair(
-        &self,
-        source: &Form,
-        key: &Form,
-        base: &mut Base<'a, R>,
-        slots: &Slots<'_, R>,
-    ) -> Result<Result<(Value<R>, Value<R>), End>, AllocError>
-        ensures { IfOk result (λ pair. StepsTo
-            (keys_and_items (world self.now) (values_in slots.now) key.now
-            (rest_behind (world self.now) (values_in slots.now) stage.Plain source.now base.old)) pair
-            (keys_and_items (world self.now) (values_in slots.now) key.now
-            (rest_behind (world self.now) (values_in slots.now) stage.Plain source.now base.new))) }
-    {
-        match self.next(&Stage::Plain, source, base, slots)? {
-            Step::Item(item) => match self.inner_pair(key, item, slots)? {
-                Ok(pair) => Ok(Ok(pair)),
-                Err(fault) => Ok(Err(End::Fault(fault))),
-            },
-            Step::End(end) => Ok(Err(end)),
-        }
-    }
-
-    /// The items of an inner source with their keys, up to the first fault.
-    #[cycle(running)]
-    #[tactic(auto, using(crate::proofs::PullLemmas::keeps))]
-    fn inner_pairs(
-        &self,
-        source: &Form,
-        key: &Form,
-        slots: &Slots<'_, R>,
-    ) -> Result<(List<(Value<R>, Value<R>)>, End), AllocError>
-        ensures { IfOk result (λ pairs.
-            pairs ≡ keys_and_items (world self.now) (values_in slots.now) key.now
-            (items_meant (world self.now) source.now slots.now)) }
-    {
-        let mut base = self.open(source, slots)?;
-        let mut pairs = List::new(self.alloc);
-        loop {
-            match self.next_inner_pair(source, key, &mut base, slots)? {
-                Ok(pair) => pairs.push(pair)?,
-                Err(end) => return Ok((pairs, end)),
-            }
+            End::Fault(fault) => Ok(sequences::fault_sequence(self.sources.alloc, fault)),
         }
     }
 
@@ -281,10 +253,15 @@ impl<'a, R: TableRow> Running<'a, R> {
     {
         match self.value_of_item(&joined.outer_key, item, slots)? {
             Ok(key) => {
-                let inner = sequences::match_items(self.alloc, joined.grouped, &key, matches)?;
+                let inner = sequences::match_items(
+                    self.sources.alloc,
+                    joined.grouped,
+                    &key,
+                    matches,
+                )?;
                 self.match_item(&joined.result, inner.as_slice(), item, slots)
             }
-            Err(fault) => Ok((List::new(self.alloc), End::Fault(fault))),
+            Err(fault) => Ok((List::new(self.sources.alloc), End::Fault(fault))),
         }
     }
 
@@ -304,32 +281,34 @@ impl<'a, R: TableRow> Running<'a, R> {
         self.select_all(body, inner, End::Done, &deeper)
     }
 
-    /// What comes of each item of an outer source, up to the first fault.
+    /// What comes of each outer item of a pipe, up to the first fault.
     #[cycle(running)]
-    fn join_outer(
+    #[tactic(auto, using(crate::proofs::PullLemmas::expands))]
+    fn join_items(
         &self,
         joined: &Joined<Form>,
         matches: &Matches<R>,
-        source: &Form,
+        pipe: &Pipe<'_>,
         slots: &Slots<'_, R>,
     ) -> Result<(List<Value<R>>, End), AllocError>
+        requires { IsPlanned self.now slots.now pipe.now }
         ensures { IfOk result (λ items.
             items ≡ stream_join (world self.now) (values_in slots.now) joined.now
             (pairs_of matches.now)
-            (items_meant (world self.now) source.now slots.now)) }
+            (all_items (world self.now) (values_in slots.now) pipe.now)) }
     {
-        let mut base = self.open(source, slots)?;
-        let mut values = List::new(self.alloc);
+        let mut base = self.open(pipe.source, slots)?;
+        let mut values = List::new(self.sources.alloc);
         loop {
-            match self.next(&Stage::Plain, source, &mut base, slots)? {
-                Step::Item(item) => {
+            match self.next(pipe, &mut base, slots)? {
+                Ok(item) => {
                     let (further, ending) = self.join_item(joined, matches, &item, slots)?;
                     values = sequences::append(values, further)?;
                     if let End::Fault(fault) = ending {
                         return Ok((values, End::Fault(fault)));
                     }
                 }
-                Step::End(end) => return Ok((values, end)),
+                Err(end) => return Ok((values, end)),
             }
         }
     }
@@ -346,7 +325,8 @@ impl<'a, R: TableRow> Running<'a, R> {
         ensures { IsAnswer
             (meant (world self.now) (form.OrderBy source.now keys.now) slots.now) result }
     {
-        let (items, end) = self.drain(&Stage::Plain, source, slots)?;
+        let pipe = self.sources.pipe_of(source, slots)?;
+        let (items, end) = self.read(None, &pipe, slots)?;
         Ok(self.arrange(keys, items, end, slots)?)
     }
 
@@ -364,7 +344,7 @@ impl<'a, R: TableRow> Running<'a, R> {
     {
         match end {
             End::Done => self.sort(keys, items, slots),
-            End::Fault(fault) => Ok(sequences::fault_sequence(self.alloc, fault)),
+            End::Fault(fault) => Ok(sequences::fault_sequence(self.sources.alloc, fault)),
         }
     }
 
@@ -380,7 +360,7 @@ impl<'a, R: TableRow> Running<'a, R> {
             (values_in slots.now) keys.now items)) }
     {
         let columns = self.key_columns(keys, items.as_slice(), slots);
-        arrangements::sort_by(self.alloc, keys.as_slice(), columns, items)
+        arrangements::sort_by(self.sources.alloc, keys.as_slice(), columns, items)
     }
 
     /// The first key of all items, then the next of all, up to the first fault.
@@ -394,7 +374,7 @@ impl<'a, R: TableRow> Running<'a, R> {
         ensures { Answers
             (columns_of (world self.now) (values_in slots.now) keys.now items.now) result }
     {
-        let mut columns = List::new(self.alloc);
+        let mut columns = List::new(self.sources.alloc);
         for key in keys.as_slice() {
             let column = self.key_column(&key.value, items, slots)?;
             columns.push(column)?;
@@ -413,7 +393,7 @@ impl<'a, R: TableRow> Running<'a, R> {
         ensures { Answers
             (all_of (key_at (world self.now) (values_in slots.now) key.now) items.now) result }
     {
-        let mut column = List::new(self.alloc);
+        let mut column = List::new(self.sources.alloc);
         for item in items {
             let scalar = self.sort_key(key, item, slots)?;
             column.push(scalar)?;

@@ -1,16 +1,13 @@
 //! Conditions: truth values, which are evaluated without a value of their own.
 use crate::running::Running;
-use crate::scalars;
-use crate::slots::Slots;
-use crate::tables::TableRow;
 use lq_language::Op;
 use lq_operators::RunError;
+use lq_plan::{Slots, TableRow, scalars};
 use lq_tree::Form;
 
 impl<'a, R: TableRow> Running<'a, R> {
-    ghost use Rattle.std.specs.Prelude.{IfSome};
     ghost use Rattle.lq_tree.specs.declared.tree.Form.TheVariants as form;
-    ghost use Rattle.lq_pipe.specs.Running.{Answers, meant, truth_in};
+    ghost use Rattle.lq_plan.specs.Meanings.{Answers, meant, truth_in};
     ghost use Rattle.lq_pipe.specs.Runs.{world};
 
     /// The truth value that a form means.
@@ -33,7 +30,7 @@ impl<'a, R: TableRow> Running<'a, R> {
     /// Whether both are true; the second is evaluated only where the first is.
     #[cycle(running)]
     #[inline(never)]
-    #[tactic(auto, using(crate::proofs::TruthLemmas::truth_both))]
+    #[tactic(auto, using(lq_plan::proofs::TruthLaws::truth_both))]
     fn truth_of_both(
         &self,
         left: &Form,
@@ -52,7 +49,7 @@ impl<'a, R: TableRow> Running<'a, R> {
     /// Whether one is true; the second is evaluated only where the first isn't.
     #[cycle(running)]
     #[inline(never)]
-    #[tactic(auto, using(crate::proofs::TruthLemmas::truth_either))]
+    #[tactic(auto, using(lq_plan::proofs::TruthLaws::truth_either))]
     fn truth_of_either(
         &self,
         left: &Form,
@@ -68,24 +65,6 @@ impl<'a, R: TableRow> Running<'a, R> {
         }
     }
 
-    /// The truth value that an operator gives to two operands, if both stand where they are read.
-    #[tactic(auto, using(crate::proofs::TruthLemmas::truth_binary))]
-    fn truth_of_refs(
-        &self,
-        op: Op,
-        left: &Form,
-        right: &Form,
-        slots: &Slots<'_, R>,
-    ) -> Option<Result<bool, RunError>>
-        ensures { IfSome result (λ truth. Answers (truth_in (world self.now)
-            (meant (world self.now) (form.Binary op left.now right.now) slots.now)) truth) }
-    {
-        let sign = scalars::sign_of(op)?;
-        let left = self.scalar_ref(left, slots)?;
-        let right = self.scalar_ref(right, slots)?;
-        Some(scalars::truth_of_sign(sign, left, right))
-    }
-
     /// The truth value that an operator gives to two operands.
     #[cycle(running)]
     #[inline(never)]
@@ -99,7 +78,7 @@ impl<'a, R: TableRow> Running<'a, R> {
         ensures { Answers (truth_in (world self.now)
             (meant (world self.now) (form.Binary op left.now right.now) slots.now)) result }
     {
-        match (&*self).truth_of_refs(op, &*left, &*right, &*slots) {
+        match self.sources.truth_of_refs(op, &*left, &*right, &*slots) {
             Some(truth) => truth,
             None => scalars::truth_in(self.binary(op, left, right, slots)?),
         }

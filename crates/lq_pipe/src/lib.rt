@@ -4,28 +4,15 @@
 //! `rows_where` the rows on which a condition is true, up to its first fault.
 #![tactic(auto)]
 
-mod arrangements;
-mod bases;
 mod clauses;
 mod conditions;
-mod counts;
 mod methods;
 mod operations;
-mod parts;
-mod planning;
-mod plans;
 mod pulling;
 mod rows;
 mod running;
-mod scalars;
-mod sequences;
-mod slots;
-mod stages;
-mod tables;
 mod trees;
-mod value_refs;
 
-pub use lq_operators::RunError;
+pub use lq_plan::{RunError, TableRow, TableRows};
 pub use rows::rows_where;
-pub use tables::{TableRow, TableRows};
 pub use trees::{run, value};

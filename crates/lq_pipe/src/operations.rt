@@ -1,31 +1,29 @@
 //! The running of operators, and of what makes one value of several.
 use crate::running::Running;
-use crate::slots::Slots;
-use crate::tables::TableRow;
-use crate::{parts, scalars};
 use lq_grammar::Field;
 use lq_language::Op;
 use lq_operators::RunError;
+use lq_plan::{Slots, TableRow, parts, scalars};
 use lq_tree::Form;
 use lq_value::{List, Scalar, Txt, Value};
 
 impl<'a, R: TableRow> Running<'a, R> {
-    ghost use Rattle.std.specs.Prelude.{IfSome, Ok, map};
+    ghost use Rattle.std.specs.Prelude.{Ok, map};
     ghost use Rattle.lq_value.specs.declared.value.Fault.TheVariants as fault;
     ghost use Rattle.lq_language.specs.OperandMeaning.{as_value, on_scalar};
     ghost use Rattle.lq_language.specs.Operations.{of_two};
     ghost use Rattle.lq_operators.specs.Answers.{IsAnswer};
     ghost use Rattle.lq_tree.specs.FormMeaning.{members_of};
-    ghost use Rattle.lq_pipe.specs.Lists.{field_means};
+    ghost use Rattle.lq_plan.specs.Lists.{field_means};
     ghost use Rattle.lq_tree.specs.declared.tree.Form.TheVariants as form;
-    ghost use Rattle.lq_pipe.specs.Running.{Answers, meant};
+    ghost use Rattle.lq_plan.specs.Meanings.{Answers, meant};
     ghost use Rattle.lq_pipe.specs.Runs.{world};
-    ghost use Rattle.lq_pipe.specs.Slots.{values_in};
+    ghost use Rattle.lq_plan.specs.Slots.{values_in};
 
     /// What an operator gives to one operand.
     #[cycle(running)]
     #[inline(never)]
-    #[tactic(auto, using(crate::proofs::Forms::form_unary))]
+    #[tactic(auto, using(lq_plan::proofs::FormLaws::form_unary))]
     pub(crate) fn unary(
         &self,
         op: Op,
@@ -35,31 +33,13 @@ impl<'a, R: TableRow> Running<'a, R> {
         ensures { IsAnswer (meant (world self.now) (form.Unary op operand.now) slots.now) result }
     {
         let operand = self.scalar(operand, slots)?;
-        scalars::of_one(self.alloc, op, operand)
-    }
-
-    /// What an operator gives to two operands, if both stand where they are read.
-    #[inline(never)]
-    #[tactic(auto, using(crate::proofs::Forms::binary_of))]
-    fn binary_of_refs(
-        &self,
-        op: Op,
-        left: &Form,
-        right: &Form,
-        slots: &Slots<'_, R>,
-    ) -> Option<Result<Value<R>, RunError>>
-        ensures { IfSome result (λ value. IsAnswer (meant (world self.now)
-            (form.Binary op left.now right.now) slots.now) value) }
-    {
-        let left = self.scalar_ref(left, slots)?;
-        let right = self.scalar_ref(right, slots)?;
-        Some(scalars::of_two(self.alloc, op, left, right))
+        scalars::of_one(self.sources.alloc, op, operand)
     }
 
     /// What an operator gives to two operands, the left one of which is evaluated first.
     #[cycle(running)]
     #[inline(never)]
-    #[tactic(auto, using(crate::proofs::Forms::form_binary))]
+    #[tactic(auto, using(lq_plan::proofs::FormLaws::form_binary))]
     pub(crate) fn binary(
         &self,
         op: Op,
@@ -70,7 +50,7 @@ impl<'a, R: TableRow> Running<'a, R> {
         ensures { IsAnswer
             (meant (world self.now) (form.Binary op left.now right.now) slots.now) result }
     {
-        if let Some(value) = (&*self).binary_of_refs(op, &*left, &*right, &*slots) {
+        if let Some(value) = self.sources.binary_of_refs(op, &*left, &*right, &*slots) {
             return value;
         }
         let left = self.scalar(left, slots)?;
@@ -92,13 +72,13 @@ impl<'a, R: TableRow> Running<'a, R> {
             (λ t. as_value (of_two fault.NullReference op left t))) result }
     {
         let right = self.scalar(right, slots)?;
-        scalars::of_two(self.alloc, op, &left, &right)
+        scalars::of_two(self.sources.alloc, op, &left, &right)
     }
 
     /// Whether both are true; the second is evaluated only where the first is.
     #[cycle(running)]
     #[inline(never)]
-    #[tactic(auto, using(crate::proofs::Forms::form_both))]
+    #[tactic(auto, using(lq_plan::proofs::FormLaws::form_both))]
     pub(crate) fn both(
         &self,
         left: &Form,
@@ -117,7 +97,7 @@ impl<'a, R: TableRow> Running<'a, R> {
     /// Whether one is true; the second is evaluated only where the first isn't.
     #[cycle(running)]
     #[inline(never)]
-    #[tactic(auto, using(crate::proofs::Forms::form_either))]
+    #[tactic(auto, using(lq_plan::proofs::FormLaws::form_either))]
     pub(crate) fn either(
         &self,
         left: &Form,
@@ -135,7 +115,7 @@ impl<'a, R: TableRow> Running<'a, R> {
     /// The first, or the second in place of null.
     #[cycle(running)]
     #[inline(never)]
-    #[tactic(auto, using(crate::proofs::Forms::form_coalesce))]
+    #[tactic(auto, using(lq_plan::proofs::FormLaws::form_coalesce))]
     pub(crate) fn coalesce(
         &self,
         left: &Form,
@@ -155,7 +135,7 @@ impl<'a, R: TableRow> Running<'a, R> {
     /// The one that the condition chooses; the other is not evaluated.
     #[cycle(running)]
     #[inline(never)]
-    #[tactic(auto, using(crate::proofs::Forms::form_choice))]
+    #[tactic(auto, using(lq_plan::proofs::FormLaws::form_choice))]
     pub(crate) fn choose(
         &self,
         condition: &Form,
@@ -176,7 +156,7 @@ impl<'a, R: TableRow> Running<'a, R> {
     /// A record.
     #[cycle(running)]
     #[inline(never)]
-    #[tactic(auto, using(crate::proofs::Forms::form_record))]
+    #[tactic(auto, using(lq_plan::proofs::FormLaws::form_record))]
     pub(crate) fn record(
         &self,
         fields: &List<Field<Form>>,
@@ -197,10 +177,10 @@ impl<'a, R: TableRow> Running<'a, R> {
         ensures { Answers (members_of (world self.now)
             (map (field_means (world self.now)) fields.now) (values_in slots.now)) result }
     {
-        let mut members = List::new(self.alloc);
+        let mut members = List::new(self.sources.alloc);
         for field in fields.as_slice() {
             let value = self.evaluate(&field.value, slots)?;
-            parts::push_member(self.alloc, &mut members, &field.name, value)?;
+            parts::push_member(self.sources.alloc, &mut members, &field.name, value)?;
         }
         Ok(members)
     }
@@ -208,7 +188,7 @@ impl<'a, R: TableRow> Running<'a, R> {
     /// A pair, the left part of which is evaluated first.
     #[cycle(running)]
     #[inline(never)]
-    #[tactic(auto, using(crate::proofs::Forms::form_pair))]
+    #[tactic(auto, using(lq_plan::proofs::FormLaws::form_pair))]
     pub(crate) fn pair(
         &self,
         left: &Form,
@@ -220,6 +200,6 @@ impl<'a, R: TableRow> Running<'a, R> {
     {
         let left = self.evaluate(left, slots)?;
         let right = self.evaluate(right, slots)?;
-        Ok(parts::pair(self.alloc, left, right)?)
+        Ok(parts::pair(self.sources.alloc, left, right)?)
     }
 }

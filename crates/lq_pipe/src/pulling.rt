@@ -1,71 +1,38 @@
 //! The pulling of items: one by one from a base, each through the conditions and lambdas above it.
-use crate::bases::Base;
-use crate::plans::Plan;
 use crate::running::Running;
-use crate::slots::Slots;
-use crate::stages::{Outcome, Stage, Step, stage_of};
-use crate::tables::TableRow;
+use lq_plan::{
+    Base, Outcome, Pipe, Pulled, Slots, Stage, TableRow, counts, has_no_stage, sequences, stage_of,
+};
 use lq_tree::Form;
-use lq_value::{End, Fault, List, TableNumber, Value, copy_scalar};
+use lq_value::{End, List, Value, copy_scalar};
 use std::alloc::AllocError;
 
 impl<'a, R: TableRow> Running<'a, R> {
-    ghost use Rattle.std.specs.Prelude.{◌≡◌, ◌∷◌, [], List, true, IfOk, slice_get};
-    ghost use Rattle.lq_value.specs.declared.value.Value.{Value};
+    ghost use Rattle.std.specs.Prelude.{◌≡◌, ◌∷◌, [], Some, true, IfOk};
     ghost use Rattle.lq_value.specs.declared.value.Value.TheVariants as value;
     ghost use Rattle.lq_value.specs.declared.value.End.TheVariants as end;
-    ghost use Rattle.lq_language.specs.OperandMeaning.{stream_of, table_value};
-    ghost use Rattle.lq_language.specs.Enumerable.{take_first};
-    ghost use Rattle.lq_pipe.specs.Pulling.{Steps, base_stream, end_of, item_at, items_at, last, outcome_stream, stream_behind, rest_behind, rows_or_none, through_select, through_stage, through_where};
-    ghost use Rattle.lq_pipe.specs.Running.{items_meant};
-    ghost use Rattle.lq_pipe.specs.Runs.{PlansCells, PlansConditions, world};
-    ghost use Rattle.lq_pipe.specs.Slots.{values_in};
-    ghost use Rattle.lq_pipe.specs.Worlds.{rows_in};
-
-    /// The rows of a table; none of a table that isn't there.
-    #[tactic(auto, using(crate::proofs::PartLemmas::places))]
-    fn rows_at(&self, number: TableNumber) -> &'a [R]
-        ensures { result.now ≡ rows_or_none (slice_get (rows_in self.now.tables.now) number) }
-    {
-        match self.tables.get(number as usize) {
-            Some(table) => table.rows,
-            None => &[],
-        }
-    }
-
-    /// How the rows of a table end: with a fault where it isn't there.
-    #[tactic(auto, using(crate::proofs::PartLemmas::places))]
-    fn end_at(&self, number: TableNumber) -> End
-        ensures { result ≡ end_of (slice_get (rows_in self.now.tables.now) number) }
-    {
-        match self.tables.get(number as usize) {
-            Some(_) => End::Done,
-            None => End::Fault(Fault::NullReference),
-        }
-    }
-
-    /// The rows of a table, where they stand; or the fault of a table that isn't there.
-    #[tactic(auto, using(crate::proofs::PullLemmas::rows_found))]
-    fn rows_of(&self, number: TableNumber) -> Base<'a, R>
-        ensures { base_stream result ≡ stream_of (world self.now)
-            (table_value (world self.now) (slice_get (world self.now).rows number)) }
-    {
-        let rows = self.rows_at(number);
-        Base::of_rows(self.alloc, rows, self.end_at(number))
-    }
+    ghost use Rattle.lq_plan.specs.Counts.{read_first};
+    ghost use Rattle.lq_plan.specs.Meanings.{items_meant};
+    ghost use Rattle.lq_plan.specs.Pipes.{all_items, items_left};
+    ghost use Rattle.lq_plan.specs.PlannedRows.{IsPulled, pulled_value, row_verdict};
+    ghost use Rattle.lq_plan.specs.Pulling.{base_stream, item_at, items_at, last, outcome_stream, through_select, through_stage};
+    ghost use Rattle.lq_plan.specs.Slots.{values_in};
+    ghost use Rattle.lq_pipe.specs.Runs.{IsPlanned, world};
+    ghost use Rattle.lq_pipe.specs.Steps.{Steps};
 
     /// The items of a form, as a base of their own.
     #[cycle(running)]
     #[inline(never)]
-    #[tactic(auto, using(crate::proofs::PullLemmas::table_opened))]
+    #[tactic(auto, using(lq_plan::proofs::PullLaws::table_opened))]
     fn base_of(&self, form: &Form, slots: &Slots<'_, R>) -> Result<Base<'a, R>, AllocError>
         ensures { IfOk result (λ base.
             base_stream base ≡ items_meant (world self.now) form.now slots.now) }
     {
         match form {
-            Form::Table(number) => Ok(self.rows_of(*number)),
+            Form::Table(number) => Ok(self.sources.rows_of(*number)),
             _ => {
-                let (items, end) = self.stream(form, slots)?;
+                let value = self.evaluate(form, slots);
+                let (items, end) = sequences::stream(self.sources.alloc, value)?;
                 Ok(Base::of_items(items, end))
             }
         }
@@ -74,7 +41,7 @@ impl<'a, R: TableRow> Running<'a, R> {
     /// The base of a form: what stands below its conditions and lambdas.
     #[cycle(running)]
     #[inline(never)]
-    #[tactic(auto, using(crate::proofs::PullLemmas::opens))]
+    #[tactic(auto, using(lq_plan::proofs::PullLaws::opens))]
     pub(crate) fn open(&self, form: &Form, slots: &Slots<'_, R>) -> Result<Base<'a, R>, AllocError>
         ensures { IfOk result (λ base.
             items_at (world self.now) (values_in slots.now) form.now (base_stream base)
@@ -86,26 +53,9 @@ impl<'a, R: TableRow> Running<'a, R> {
         }
     }
 
-    /// Whether an item of the base is one of the form, since no condition and no lambda stands between.
-    /// Where it isn't said, `pass` finds out for each item.
-    #[tactic(auto, using(crate::proofs::PullLemmas::base_items))]
-    fn is_base(&self, form: &Form) -> bool
-        ensures { (values : List (Value R)) (item : Value R) → result ≡ true
-            → item_at (world self.now) values form.now item ≡ (item ∷ [], end.Done) }
-    {
-        match stage_of(form) {
-            Some((Stage::Plain, source)) => match stage_of(source) {
-                Some(_) => false,
-                None => true,
-            },
-            Some(_) => false,
-            None => true,
-        }
-    }
-
     /// What an item of the base becomes at a form.
     #[cycle(running)]
-    #[tactic(auto, using(crate::proofs::PullLemmas::passes))]
+    #[tactic(auto, using(lq_plan::proofs::PullLaws::passes))]
     fn pass(
         &self,
         form: &Form,
@@ -122,8 +72,9 @@ impl<'a, R: TableRow> Running<'a, R> {
         }
     }
 
-    /// What an item of the base becomes at a source and the stage behind it.
+    /// What an item of the base becomes at a source and the stage after it.
     #[cycle(running)]
+    #[tactic(auto, using(lq_plan::proofs::PullLaws::bare_item))]
     fn pass_through(
         &self,
         stage: &Stage<'_>,
@@ -135,7 +86,7 @@ impl<'a, R: TableRow> Running<'a, R> {
             ≡ through_stage (world self.now) (values_in slots.now) stage.now
             (item_at (world self.now) (values_in slots.now) source.now item)) }
     {
-        if self.is_base(source) {
+        if has_no_stage(source) {
             return Ok(self.pass_stage(stage, item, slots)?);
         }
         match self.pass(source, item, slots)? {
@@ -145,7 +96,7 @@ impl<'a, R: TableRow> Running<'a, R> {
         }
     }
 
-    /// What an item becomes at a stage.
+    /// What an item becomes at a stage: it is kept where a condition is true of it.
     #[cycle(running)]
     fn pass_stage(
         &self,
@@ -159,27 +110,12 @@ impl<'a, R: TableRow> Running<'a, R> {
     {
         match stage {
             Stage::Plain => Ok(Outcome::Item(item)),
-            Stage::Where(condition) => self.pass_where(condition, item, slots),
+            Stage::Where(condition) => match self.holds(condition, &item, slots)? {
+                Ok(true) => Ok(Outcome::Item(item)),
+                Ok(false) => Ok(Outcome::Dropped),
+                Err(fault) => Ok(Outcome::Fault(fault)),
+            },
             Stage::Select(body) => self.pass_select(body, &item, slots),
-        }
-    }
-
-    /// An item, if a condition is true of it.
-    #[cycle(running)]
-    fn pass_where(
-        &self,
-        condition: &Form,
-        item: Value<R>,
-        slots: &Slots<'_, R>,
-    ) -> Result<Outcome<R>, AllocError>
-        ensures { IfOk result (λ outcome. outcome_stream outcome
-            ≡ through_where (world self.now) (values_in slots.now) condition.now
-            (item ∷ [], end.Done)) }
-    {
-        match self.holds(condition, &item, slots)? {
-            Ok(true) => Ok(Outcome::Item(item)),
-            Ok(false) => Ok(Outcome::Dropped),
-            Err(fault) => Ok(Outcome::Fault(fault)),
         }
     }
 
@@ -201,185 +137,107 @@ impl<'a, R: TableRow> Running<'a, R> {
         }
     }
 
-    /// The next item of a source behind its last stage, or how they end.
+    /// What comes of a row that passes the conditions above its table, at the stage of a pipe: a lambda
+    /// gives the cell that was planned, if there is one.
     #[cycle(running)]
-    #[inline(never)]
-    pub(crate) fn next(
+    #[tactic(auto, using(crate::proofs::PullLemmas::row_selected))]
+    fn pass_row(
         &self,
-        stage: &Stage<'_>,
-        source: &Form,
-        base: &mut Base<'a, R>,
-        slots: &Slots<'_, R>,
-    ) -> Result<Step<R>, AllocError>
-        ensures { IfOk result (λ step. Steps
-            (rest_behind (world self.now) (values_in slots.now) stage.now source.now base.old) step
-            (rest_behind (world self.now) (values_in slots.now) stage.now source.now base.new)) }
-    {
-        loop {
-            match base.next() {
-                Step::Item(item) => match self.pass_through(stage, source, item, slots)? {
-                    Outcome::Item(item) => return Ok(Step::Item(item)),
-                    Outcome::Dropped => {}
-                    Outcome::Fault(fault) => return Ok(Step::End(End::Fault(fault))),
-                },
-                Step::End(end) => return Ok(Step::End(end)),
-            }
-        }
-    }
-
-    /// What comes of a row that has passed the conditions above its table, at the last stage.
-    #[cycle(running)]
-    #[tactic(auto, using(crate::proofs::PassingLemmas::selects_cell))]
-    fn pass_last(
-        &self,
-        plan: &Plan,
-        stage: &Stage<'_>,
+        pipe: &Pipe<'_>,
         row: &R,
         slots: &Slots<'_, R>,
     ) -> Result<Outcome<R>, AllocError>
-        requires table { R.table_of row.now ≡ plan.now.table }
-        requires cells { PlansCells self.now slots.now stage.now plan.now }
+        requires planned { IsPlanned self.now slots.now pipe.now }
+        requires passes { row_verdict R.table_of R.shown pipe.now.plan row.now ≡ Some true }
         ensures { IfOk result (λ outcome. outcome_stream outcome
-            ≡ last (world self.now) (values_in slots.now) stage.now (value.Row row.now)) }
+            ≡ last (world self.now) (values_in slots.now) pipe.now.stage (value.Row row.now)) }
     {
-        match stage {
+        match pipe.stage {
             Stage::Plain => Ok(Outcome::Item(Value::Row(*row))),
             Stage::Where(_) => Ok(Outcome::Item(Value::Row(*row))),
-            Stage::Select(body) => match plan.cell(row) {
-                Some(cell) => Ok(Outcome::Item(Value::Scalar(copy_scalar(self.alloc, cell)?))),
+            Stage::Select(body) => match pipe.plan.cell(row) {
+                Some(cell) => Ok(Outcome::Item(Value::Scalar(copy_scalar(
+                    self.sources.alloc,
+                    cell,
+                )?))),
                 None => self.pass_select(body, &Value::Row(*row), slots),
             },
         }
     }
 
-    /// What a row becomes at a source and the stage after it. Where the plan says nothing of it, it
-    /// goes the general way.
+    /// What comes of what was pulled by the plan of a pipe, at its stage.
     #[cycle(running)]
-    #[tactic(auto, using(crate::proofs::PassingLemmas::plan_decides))]
-    fn pass_by_plan(
+    #[tactic(auto, using(lq_plan::proofs::PlanLaws::row_says))]
+    fn pass_pulled(
         &self,
-        plan: &Plan,
-        stage: &Stage<'_>,
-        source: &Form,
-        row: &R,
+        pipe: &Pipe<'_>,
+        pulled: Pulled<R>,
         slots: &Slots<'_, R>,
     ) -> Result<Outcome<R>, AllocError>
-        requires conditions { PlansConditions self.now slots.now stage.now source.now plan.now }
-        requires cells { PlansCells self.now slots.now stage.now plan.now }
+        requires planned { IsPlanned self.now slots.now pipe.now }
+        requires pulled { IsPulled R.table_of R.shown pipe.now.plan pulled }
         ensures { IfOk result (λ outcome. outcome_stream outcome
-            ≡ through_stage (world self.now) (values_in slots.now) stage.now
-            (item_at (world self.now) (values_in slots.now) source.now (value.Row row.now))) }
+            ≡ through_stage (world self.now) (values_in slots.now) pipe.now.stage
+            (item_at (world self.now) (values_in slots.now) pipe.now.source.now
+            (pulled_value pulled))) }
     {
-        match plan.verdict(row) {
-            Some(false) => Ok(Outcome::Dropped),
-            Some(true) => self.pass_last(plan, stage, row, slots),
-            None => self.pass_through(stage, source, Value::Row(*row), slots),
+        match pulled {
+            Pulled::Row(row) => self.pass_row(pipe, &row, slots),
+            Pulled::Item(item) => self.pass_through(&pipe.stage, pipe.source, item, slots),
         }
     }
 
-    /// The next item of a source after its last stage, by a plan that says something of rows, or how
-    /// they end.
+    /// The next item of a pipe, or how they end.
     #[cycle(running)]
     #[inline(never)]
-    fn next_of_rows(
+    #[tactic(auto, using(crate::proofs::PullLemmas::next_steps))]
+    pub(crate) fn next(
         &self,
-        plan: &Plan,
-        stage: &Stage<'_>,
-        source: &Form,
+        pipe: &Pipe<'_>,
         base: &mut Base<'a, R>,
         slots: &Slots<'_, R>,
-    ) -> Result<Step<R>, AllocError>
-        requires conditions { PlansConditions self.now slots.now stage.now source.now plan.now }
-        requires cells { PlansCells self.now slots.now stage.now plan.now }
+    ) -> Result<Result<Value<R>, End>, AllocError>
+        requires { IsPlanned self.now slots.now pipe.now }
         ensures { IfOk result (λ step. Steps
-            (rest_behind (world self.now) (values_in slots.now) stage.now source.now base.old) step
-            (rest_behind (world self.now) (values_in slots.now) stage.now source.now base.new)) }
+            (items_left (world self.now) (values_in slots.now) pipe.now base.old) step
+            (items_left (world self.now) (values_in slots.now) pipe.now base.new)) }
     {
         loop {
-            match base.next_row() {
-                Some(row) => match self.pass_by_plan(plan, stage, source, &row, slots)? {
-                    Outcome::Item(item) => return Ok(Step::Item(item)),
+            match base.pull(&pipe.plan) {
+                Ok(pulled) => match self.pass_pulled(pipe, pulled, slots)? {
+                    Outcome::Item(item) => return Ok(Ok(item)),
                     Outcome::Dropped => {}
-                    Outcome::Fault(met) => return Ok(Step::End(End::Fault(met))),
+                    Outcome::Fault(fault) => return Ok(Err(End::Fault(fault))),
                 },
-                None => return self.next(stage, source, base, slots),
+                Err(end) => return Ok(Err(end)),
             }
         }
     }
 
-    /// The next item of a source after its last stage, for which there is a plan, or how they end. It
-    /// has no frame of its own, so that a plan that says nothing costs nothing.
-    #[cycle(running)]
-    #[inline(always)]
-    pub(crate) fn next_by_plan(
-        &self,
-        plan: &Plan,
-        stage: &Stage<'_>,
-        source: &Form,
-        base: &mut Base<'a, R>,
-        slots: &Slots<'_, R>,
-    ) -> Result<Step<R>, AllocError>
-        requires conditions { PlansConditions self.now slots.now stage.now source.now plan.now }
-        requires cells { PlansCells self.now slots.now stage.now plan.now }
-        ensures { IfOk result (λ step. Steps
-            (rest_behind (world self.now) (values_in slots.now) stage.now source.now base.old) step
-            (rest_behind (world self.now) (values_in slots.now) stage.now source.now base.new)) }
-    {
-        if plan.is_silent() {
-            return self.next(stage, source, base, slots);
-        }
-        self.next_of_rows(plan, stage, source, base, slots)
-    }
-
-    /// All items of a source behind its last stage, and how they end.
+    /// The items of a pipe up to a limit, where there is one, and how they end as far as they are read:
+    /// nothing is pulled after the last of them.
     #[cycle(running)]
     #[inline(never)]
-    #[tactic(auto, using(crate::proofs::PullLemmas::drains))]
-    pub(crate) fn drain(
+    #[tactic(auto, using(crate::proofs::PullLemmas::reads))]
+    pub(crate) fn read(
         &self,
-        stage: &Stage<'_>,
-        source: &Form,
+        limit: Option<usize>,
+        pipe: &Pipe<'_>,
         slots: &Slots<'_, R>,
     ) -> Result<(List<Value<R>>, End), AllocError>
-        ensures { IfOk result (λ items.
-            items ≡ stream_behind (world self.now) (values_in slots.now) stage.now source.now) }
+        requires { IsPlanned self.now slots.now pipe.now }
+        ensures { IfOk result (λ items. items ≡ read_first limit
+            (all_items (world self.now) (values_in slots.now) pipe.now)) }
     {
-        let plan = self.plan(stage, source, slots)?;
-        let mut base = self.open(source, slots)?;
-        let mut items = List::new(self.alloc);
-        loop {
-            match self.next_by_plan(&plan, stage, source, &mut base, slots)? {
-                Step::Item(item) => items.push(item)?,
-                Step::End(end) => return Ok((items, end)),
+        let mut base = self.open(pipe.source, slots)?;
+        let mut items = List::new(self.sources.alloc);
+        let mut left = limit;
+        while let Some(less) = counts::one_less(left) {
+            match self.next(pipe, &mut base, slots)? {
+                Ok(item) => items.push(item)?,
+                Err(end) => return Ok((items, end)),
             }
-        }
-    }
-
-    /// So many of these items, and how they end: nothing is pulled behind the last of them.
-    #[cycle(running)]
-    #[inline(never)]
-    #[tactic(auto, using(crate::proofs::PullLemmas::takes))]
-    pub(crate) fn take(
-        &self,
-        count: usize,
-        stage: &Stage<'_>,
-        source: &Form,
-        slots: &Slots<'_, R>,
-    ) -> Result<(List<Value<R>>, End), AllocError>
-        ensures { IfOk result (λ items. items ≡ take_first count
-            (stream_behind (world self.now) (values_in slots.now) stage.now source.now).0
-            (stream_behind (world self.now) (values_in slots.now) stage.now source.now).1) }
-    {
-        let plan = self.plan(stage, source, slots)?;
-        let mut base = self.open(source, slots)?;
-        let mut items = List::new(self.alloc);
-        let mut wanted = count;
-        while wanted > 0 {
-            match self.next_by_plan(&plan, stage, source, &mut base, slots)? {
-                Step::Item(item) => items.push(item)?,
-                Step::End(end) => return Ok((items, end)),
-            }
-            wanted -= 1;
+            left = less;
         }
         Ok((items, End::Done))
     }

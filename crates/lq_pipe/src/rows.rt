@@ -1,12 +1,10 @@
 //! Rows on which a condition is true.
 ghost use Rattle.std.specs.Prelude.{◌≡◌, IfOk};
 ghost use Rattle.lq_pipe.specs.Conditions.{rows_true};
-ghost use Rattle.lq_pipe.specs.Worlds.{HaveDistinctColumns, schemas_in, world_of};
+ghost use Rattle.lq_plan.specs.Worlds.{HaveDistinctColumns, schemas_in, world_of};
 
-use crate::plans::Plan;
 use crate::running::Running;
-use crate::slots::Slots;
-use crate::tables::{TableRow, TableRows};
+use lq_plan::{Plan, Slots, Sources, TableRow, TableRows};
 use lq_tree::{Form, Tree};
 use lq_value::{End, Fault, Value};
 use std::alloc::{AllocError, Global};
@@ -14,24 +12,7 @@ use std::alloc::{AllocError, Global};
 impl<'a, R: TableRow> Running<'a, R> {
     ghost use Rattle.std.specs.Prelude.{◌≡◌, IfOk};
     ghost use Rattle.lq_pipe.specs.Conditions.{holds_on, rows_true};
-    ghost use Rattle.lq_pipe.specs.Runs.{DecidesRows, world};
-
-    /// What a condition says of the rows, found out once.
-    fn row_plan(&self, condition: &Form, rows: &[R]) -> Result<Plan, AllocError>
-        ensures { IfOk result (λ plan.
-            DecidesRows self.now plan.table condition.now plan.condition) }
-    {
-        let table = match rows.first() {
-            Some(row) => row.table(),
-            None => 0,
-        };
-        let condition = self.condition(condition, table, &Slots::Empty)?;
-        Ok(Plan {
-            table,
-            condition,
-            place: None,
-        })
-    }
+    ghost use Rattle.lq_pipe.specs.Runs.{PlansRows, world};
 
     /// Whether any condition is true on a row, which stands in its first slot.
     fn evaluate_row(&self, condition: &Form, row: &R) -> Result<Result<bool, Fault>, AllocError>
@@ -48,7 +29,7 @@ impl<'a, R: TableRow> Running<'a, R> {
         condition: &Form,
         row: &R,
     ) -> Result<Result<bool, Fault>, AllocError>
-        requires { DecidesRows self.now plan.now.table condition.now plan.now.condition }
+        requires { PlansRows self.now condition.now plan.now }
         ensures { IfOk result (λ truth. truth ≡ holds_on (world self.now) condition.now row.now) }
     {
         match plan.verdict(row) {
@@ -63,8 +44,8 @@ impl<'a, R: TableRow> Running<'a, R> {
         ensures { IfOk result (λ selection. (selection.0.items, selection.1)
             ≡ rows_true (world self.now) condition.now rows.now) }
     {
-        let plan = self.row_plan(condition, rows)?;
-        let mut selection = Vec::new(self.alloc);
+        let plan = self.sources.plan_rows(condition, rows)?;
+        let mut selection = Vec::new(self.sources.alloc);
         for row in rows {
             match self.holds_on(&plan, condition, row)? {
                 Ok(true) => selection.push(*row)?,
@@ -90,6 +71,7 @@ pub fn rows_where<'a, R: TableRow>(
     ensures { IfOk result (λ found. (found.0.items, found.1)
         ≡ rows_true (world_of R.table_of R.shown tables.now) condition.now.form rows.now) }
 {
-    let running = Running { alloc, tables };
+    let sources = Sources::new(alloc, tables);
+    let running = Running { sources };
     running.filter_rows(condition.form.get(), rows)
 }

@@ -3,20 +3,18 @@ ghost use Rattle.std.specs.Prelude.{◌≡◌, [], IfOk};
 ghost use Rattle.lq_language.specs.OperandMeaning.{stream_of};
 ghost use Rattle.lq_operators.specs.Answers.{IsAnswer};
 ghost use Rattle.lq_tree.specs.FormMeaning.{form_meaning};
-ghost use Rattle.lq_pipe.specs.Worlds.{HaveDistinctColumns, schemas_in, world_of};
+ghost use Rattle.lq_plan.specs.Worlds.{HaveDistinctColumns, schemas_in, world_of};
 
 use crate::running::Running;
-use crate::sequences;
-use crate::slots::Slots;
-use crate::tables::{TableRow, TableRows};
 use lq_operators::RunError;
+use lq_plan::{Slots, Sources, TableRow, TableRows, sequences};
 use lq_tree::Tree;
 use lq_value::{End, List, Value};
 use std::alloc::{AllocError, Global};
 
 /// The value of a typed tree over these tables, or its first fault (ECMA-334, expressions; .NET,
 /// `Enumerable`). `Memory` where none was left.
-#[tactic(auto, using(crate::proofs::SlotLemmas::no_values))]
+#[tactic(auto, using(lq_plan::proofs::SlotLaws::no_values))]
 pub fn value<'a, R: TableRow>(
     alloc: Global,
     tree: &Tree,
@@ -26,7 +24,8 @@ pub fn value<'a, R: TableRow>(
     ensures { IsAnswer
         (form_meaning (world_of R.table_of R.shown tables.now) tree.now.form []) result }
 {
-    let running = Running { alloc, tables };
+    let sources = Sources::new(alloc, tables);
+    let running = Running { sources };
     running.evaluate(tree.form.get(), &Slots::Empty)
 }
 

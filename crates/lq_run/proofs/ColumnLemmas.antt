@@ -13,8 +13,8 @@ use Rattle.lq_store.specs.Rules.{are_distinct as keep_distinct}
 use Rattle.lq_language.specs.ValuesOfTypes.{Every}
 use Rattle.lq_machine.specs.States.{State}
 use Rattle.lq_language.specs.Typing.{are_distinct, is_new}
-use Rattle.lq_pipe.specs.Worlds.{HaveDistinctColumns, schemas_in}
-use Rattle.lq_pipe.specs.declared.tables.TableRows.{TableRows}
+use Rattle.lq_plan.specs.Worlds.{HaveDistinctColumns, schemas_in}
+use Rattle.lq_plan.specs.declared.tables.TableRows.{TableRows}
 use Rattle.lq_run.specs.SeenRows.{AreSeen}
 use Rattle.lq_run.specs.declared.seen.SeenRow.{SeenRow}
 

@@ -41,7 +41,7 @@ use Rattle.lq_tree.proofs.MappedValueLaws.{mapped_Row}
 use Rattle.lq_tree.proofs.RowFormLaws.{means_alike}
 use Rattle.lq_tree.proofs.RowMeaningLaws.{condition_like}
 use Rattle.lq_pipe.specs.Conditions.{holds_on, rows_true}
-use Rattle.lq_pipe.specs.declared.tables.TableRows.{TableRows}
+use Rattle.lq_plan.specs.declared.tables.TableRows.{TableRows}
 use Rattle.lq_policy.specs.RowRules.{admits}
 use Rattle.lq_policy.specs.declared.row_rules.RowRules.{RowRules}
 use Rattle.lq_run.specs.Removals.{numbers_then, rows_chosen}

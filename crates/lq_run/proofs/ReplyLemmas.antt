@@ -22,7 +22,7 @@ use Rattle.lq_tree.specs.FormMeaning.{form_meaning}
 use Rattle.lq_tree.specs.UsesOfForms.{form_uses}
 use Rattle.lq_tree.specs.declared.tree.Tree.{Tree}
 use Rattle.lq_tree.proofs.SessionPlaceLaws.{types_of_statements, uses_of_statements}
-use Rattle.lq_pipe.specs.declared.tables.TableRows.{TableRows}
+use Rattle.lq_plan.specs.declared.tables.TableRows.{TableRows}
 use Rattle.lq_run.specs.Replies.{IsTreeOf, ServesTree}
 use Rattle.lq_run.specs.SeenRows.{AreSeen, cells_in, shown_row}
 use Rattle.lq_run.specs.Statements.{FindsTree, HasRights, tree_in}

@@ -28,7 +28,7 @@ use Rattle.lq_tree.proofs.MappedValueLaws.{mapped_layer, mapped_out}
 use Rattle.lq_tree.proofs.RowFormLaws.{means_alike}
 use Rattle.lq_tree.proofs.ScopeLaws.{append_none}
 use Rattle.lq_tree.proofs.SessionPlaceLaws.{uses_of_statements}
-use Rattle.lq_pipe.specs.declared.tables.TableRows.{TableRows}
+use Rattle.lq_plan.specs.declared.tables.TableRows.{TableRows}
 use Rattle.lq_run.specs.SeenRows.{AreSeen, shown_row}
 use Rattle.lq_run.specs.Statements.{EvaluatesTree, HasRights, IsEvaluated, Yields, YieldsTree, is_of_scalars, scalar_in, tree_in}
 use Rattle.lq_run.specs.Stops.{Stops, StopsWith}

@@ -10,8 +10,8 @@ use Rattle.lq_store.specs.Rules.{IsTable}
 use Rattle.lq_machine.specs.DefinitionLaws.{AreDefined}
 use Rattle.lq_machine.specs.States.{State, schemas_of, seen_by_role}
 use Rattle.lq_language.specs.ValuesOfTypes.{Every}
-use Rattle.lq_pipe.specs.Worlds.{rows_in, schemas_in}
-use Rattle.lq_pipe.specs.declared.tables.TableRows.{TableRows}
+use Rattle.lq_plan.specs.Worlds.{rows_in, schemas_in}
+use Rattle.lq_plan.specs.declared.tables.TableRows.{TableRows}
 use Rattle.lq_run.specs.SeenRows.{AreSeen, row_lists, shown_row, shown_rows}
 use Rattle.lq_run.specs.declared.seen.SeenRow.{SeenRow}
 

@@ -32,8 +32,8 @@ use Rattle.lq_tree.specs.declared.tree.Tree.{Tree}
 use Rattle.lq_tree.proofs.ScopeLaws.{Stands, item_stands}
 use Rattle.lq_tree.proofs.SessionValueLaws.{defines_names_alone, means_without, meanings_of_statements, places_give}
 use Rattle.lq_tree.proofs.TermMeanLaws.{meanings_same}
-use Rattle.lq_pipe.specs.Worlds.{world_of as world_of_tables}
-use Rattle.lq_pipe.specs.declared.tables.TableRows.{TableRows}
+use Rattle.lq_plan.specs.Worlds.{world_of as world_of_tables}
+use Rattle.lq_plan.specs.declared.tables.TableRows.{TableRows}
 use Rattle.lq_run.specs.SeenRows.{AreSeen, cells_in, number_in, shown_row}
 use Rattle.lq_run.specs.Statements.{condition_in, tree_in}
 use Rattle.lq_run.specs.declared.seen.SeenRow.{SeenRow}

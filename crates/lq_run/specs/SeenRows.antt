@@ -12,8 +12,8 @@ use Rattle.lq_security.specs.Visible.{visible_to}
 use Rattle.lq_security.specs.declared.policy.Action.{Action}
 use Rattle.lq_policy.specs.RowRules.{admits}
 use Rattle.lq_policy.specs.declared.row_rules.RowRules.{RowRules}
-use Rattle.lq_pipe.specs.Worlds.{rows_in, schemas_in}
-use Rattle.lq_pipe.specs.declared.tables.TableRows.{TableRows}
+use Rattle.lq_plan.specs.Worlds.{rows_in, schemas_in}
+use Rattle.lq_plan.specs.declared.tables.TableRows.{TableRows}
 use Rattle.lq_run.specs.declared.seen.SeenRow.{SeenRow}
 
 abbrev pub shown_row : SeenRow → TableRow

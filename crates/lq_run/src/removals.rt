@@ -38,7 +38,7 @@ fn add_numbers(numbers: &mut Vec<u64>, rows: &[SeenRow<'_>]) -> Result<(), Alloc
 impl<'a> Choice<'a, '_> {
     ghost use Rattle.std.specs.Prelude.{◌≡◌, [], IfOk};
     ghost use Rattle.lq_machine.specs.States.{world_in};
-    ghost use Rattle.lq_pipe.specs.Worlds.{HaveDistinctColumns, schemas_in};
+    ghost use Rattle.lq_plan.specs.Worlds.{HaveDistinctColumns, schemas_in};
     ghost use Rattle.lq_run.specs.Removals.{numbers_then, rows_chosen};
     ghost use Rattle.lq_run.specs.SeenRows.{AreSeen};
 

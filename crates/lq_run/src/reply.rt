@@ -3,7 +3,7 @@ ghost use Rattle.std.specs.Prelude.{◌≡◌, [], codes, IfOk};
 ghost use Rattle.lq_machine.specs.States.{schemas_of};
 ghost use Rattle.lq_machine.specs.Served.{error_data, line_of, stream_data, value_data};
 ghost use Rattle.lq_language.specs.OperandMeaning.{stream_of};
-ghost use Rattle.lq_pipe.specs.Worlds.{HaveDistinctColumns, schemas_in, world_of};
+ghost use Rattle.lq_plan.specs.Worlds.{HaveDistinctColumns, schemas_in, world_of};
 ghost use Rattle.lq_tree.specs.FormMeaning.{form_meaning};
 ghost use Rattle.lq_run.specs.TreeReply.{tree_data};
 

@@ -1,7 +1,7 @@
 //! The tables of a state, with the rows that a role sees of them.
 ghost use Rattle.std.specs.Prelude.{◌≡◌, map, IfOk};
 ghost use Rattle.lq_machine.specs.States.{seen_by_role};
-ghost use Rattle.lq_pipe.specs.Worlds.{HaveDistinctColumns, schemas_in};
+ghost use Rattle.lq_plan.specs.Worlds.{HaveDistinctColumns, schemas_in};
 ghost use Rattle.lq_run.specs.SeenRows.{AreSeen, shown_rows};
 
 use crate::seen::SeenRow;

@@ -1,5 +1,5 @@
 use Rattle.std.proofs.Common.{refl}
-use Rattle.lq_pipe.specs.Worlds.{world_of}
+use Rattle.lq_plan.specs.Worlds.{world_of}
 use Rattle.lq_pipe.proofs.trees.run.Goals as goal
 
 pub returns : goal.returns

@@ -2,7 +2,7 @@
 use Rattle.std.proofs.Common.{◌∙◌, List, ap, option_map, slice_get, subst, sym}
 use Rattle.lq_security.specs.Visible.{visible_to}
 use Rattle.lq_security.specs.declared.policy.Action.TheVariants as action
-use Rattle.lq_pipe.specs.declared.tables.TableRows.{TableRows}
+use Rattle.lq_plan.specs.declared.tables.TableRows.{TableRows}
 use Rattle.lq_run.specs.SeenRows.{AreSeen}
 use Rattle.lq_run.specs.declared.seen.SeenRow.{SeenRow}
 use Rattle.lq_run.proofs.RemovalLemmas.{chooses}

@@ -4,8 +4,8 @@ use Rattle.std.proofs.lemmas.Result.{IfOk-weaker}
 use Rattle.lq_value.specs.Tables.{Table}
 use Rattle.lq_machine.specs.States.{schemas_of}
 use Rattle.lq_machine.specs.Served.{line_of}
-use Rattle.lq_pipe.specs.Worlds.{world_of}
-use Rattle.lq_pipe.specs.declared.tables.TableRows.{TableRows}
+use Rattle.lq_plan.specs.Worlds.{world_of}
+use Rattle.lq_plan.specs.declared.tables.TableRows.{TableRows}
 use Rattle.lq_run.specs.Replies.{ServesTree}
 use Rattle.lq_run.specs.SeenRows.{AreSeen, cells_in, number_in}
 use Rattle.lq_run.specs.TreeReply.{tree_data}

@@ -1,6 +1,6 @@
 -- What the tree gives over the rows that the role sees is what the machine makes of the expression.
 use Rattle.std.proofs.Common.{List, subst, sym}
-use Rattle.lq_pipe.specs.declared.tables.TableRows.{TableRows}
+use Rattle.lq_plan.specs.declared.tables.TableRows.{TableRows}
 use Rattle.lq_run.specs.SeenRows.{AreSeen}
 use Rattle.lq_run.specs.declared.seen.SeenRow.{SeenRow}
 use Rattle.lq_run.proofs.ScalarLemmas.{yields_fault, yields_other, yields_scalar}

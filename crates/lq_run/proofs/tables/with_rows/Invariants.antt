@@ -1,5 +1,5 @@
 use Rattle.std.proofs.Common.{◌≡◌, ◌-◌, length, map, take}
-use Rattle.lq_pipe.specs.Worlds.{rows_in, schemas_in}
+use Rattle.lq_plan.specs.Worlds.{rows_in, schemas_in}
 use Rattle.lq_run.specs.SeenRows.{row_lists}
 use Rattle.lq_run.proofs.TableLemmas.{KeptBelow}
 use Rattle.lq_run.proofs.tables.with_rows.Given as goal

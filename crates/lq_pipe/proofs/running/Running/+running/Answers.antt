@@ -1,24 +1,26 @@
-use Rattle.std.proofs.Common.{◌≡◌, ◌<◌, Err, arith, refl, rules, subst, sym, ◌∙◌}
+use Rattle.std.proofs.Common.{◌≡◌, [], Ok, Err, IfErr, IfOk, ap, refl, rules, subst, sym, true, ◌∙◌}
 use Rattle.lq_operators.specs.Answers.{IsAnswer}
-use Rattle.lq_language.specs.OperandMeaning.{stream_of}
-use Rattle.lq_language.specs.Meaning.{simple_meaning}
-use Rattle.lq_tree.specs.FormMeaning.{form_meaning}
 use Rattle.lq_operators.specs.Matching.{pairs_of}
-use Rattle.lq_pipe.specs.Arrangements.{column_of, columns_of, key_at}
-use Rattle.lq_pipe.specs.Slots.{values_in}
-use Rattle.lq_pipe.proofs.ArrangementLemmas.{all_goes, all_stops, counted_answer, key_answer, order_by_answer, sorted_answer}
-use Rattle.lq_pipe.proofs.ItemLemmas.{expansion_is, group_by_answer, join_answer, join_stops, joined_met, matched_is, select_many_answer}
-use Rattle.lq_pipe.specs.Running.{Answers, holds_of, value_of_item, scalar_in, truth_in}
-use Rattle.lq_pipe.specs.Pulling.{Steps, rest_behind}
-use Rattle.lq_pipe.specs.declared.stages.Step.TheVariants as step
+use Rattle.lq_language.specs.Enumerable.{all, in_front}
+use Rattle.lq_language.specs.Meaning.{as_truth, simple_meaning}
+use Rattle.lq_language.specs.OperandMeaning.{sequence}
+use Rattle.lq_tree.specs.FormMeaning.{form_meaning}
+use Rattle.lq_plan.specs.Arrangements.{column_of, columns_of, key_at}
+use Rattle.lq_plan.specs.Meanings.{Answers, holds_of, value_of_item, scalar_in, truth_in}
+use Rattle.lq_plan.specs.PlannedRows.{IsPulled, kept_stream, pulled_value}
+use Rattle.lq_plan.specs.Pulling.{outcome_stream}
+use Rattle.lq_plan.specs.Slots.{values_in}
+use Rattle.lq_plan.proofs.PlanLaws.{row_says}
+use Rattle.lq_plan.proofs.PullLaws.{stage_items}
+use Rattle.lq_pipe.specs.Items.{keys_and_elements}
 use Rattle.lq_pipe.specs.Runs.{world}
-use Rattle.lq_pipe.proofs.PullLemmas.{stage_items, taken_ended}
-use Rattle.lq_pipe.proofs.Forms.{all_answer, given_answer, is_null_answer, members_goes}
+use Rattle.lq_pipe.proofs.AnswerLemmas.{all_answer, given_answer, members_goes, select_answer, where_answer}
+use Rattle.lq_pipe.proofs.CountLemmas.{given_read, simple_read}
+use Rattle.lq_pipe.proofs.ItemLemmas.{expansion_is, group_by_answer, join_answer, join_stops, joined_met, matched_is, select_many_answer}
+use Rattle.lq_pipe.proofs.KeyLemmas.{all_goes, all_stops, counted_answer, key_answer, order_by_answer, sorted_answer}
+use Rattle.lq_pipe.proofs.PullLemmas.{comes, next_ended, next_fault, next_item}
 use Rattle.lq_pipe.proofs.StreamLemmas.{select_goes, select_stops}
 use Rattle.lq_pipe.proofs.running.Running.+running.Goals as goal
-
-pub stream-returns : goal.stream-returns
-stream-returns g t c = c.stream.ensures (world c.args.self.now) _ refl c.evaluate.ensures
 
 pub scalar-returns-in_ok-evaluate-in-None : goal.scalar-returns-in_ok-evaluate-in-None
 scalar-returns-in_ok-evaluate-in-None g t c =
@@ -35,11 +37,6 @@ value_of_item-returns g t c =
     c.value_or_fault.ensures (value_of_item (world c.args.self.now) c.args.body.now c.args.slots.now c.args.item.now)
     (subst (λ vs. IsAnswer (form_meaning (world c.args.self.now) c.args.body.now vs) c.evaluate.result) c.with.ensures
     c.evaluate.ensures)
-
-pub is_null-returns : goal.is_null-returns
-is_null-returns g t c =
-    is_null_answer (world c.args.self.now) c.args.wanted c.args.operand.now _ _ _ _ c.in_ok-operand.ensures
-    c.get.ensures (c.is_null_as-truth.ensures (world c.args.self.now))
 
 pub holds-returns : goal.holds-returns
 holds-returns g t c =
@@ -66,24 +63,10 @@ pub match_item-returns : goal.match_item-returns
 match_item-returns g t c =
     matched_is (world c.args.self.now) (values_in c.args.slots.now) c.args.item.now _ c.args.body.now _ _ c.select_all.result c.with-deeper.ensures c.select_all.ensures
 
-pub select_many-returns : goal.select_many-returns
-select_many-returns g t c =
-    let all = (stream_of (world c.args.self.now) (form_meaning (world c.args.self.now) c.args.source.now (values_in c.args.slots.now))) in
-    select_many_answer (world c.args.self.now) (values_in c.args.slots.now) c.args.source.now c.args.inner.now c.args.body.now all.0 all.0 all.1 _ refl refl c.in_ok-values.ensures
-
-pub group_by-returns : goal.group_by-returns
-group_by-returns g t c =
-    let all = (stream_of (world c.args.self.now) (form_meaning (world c.args.self.now) c.args.source.now (values_in c.args.slots.now))) in
-    group_by_answer (world c.args.self.now) (values_in c.args.slots.now) c.args.source.now c.args.key.now c.args.element.now all.0 all.0 all.1 _ _ _ refl refl c.in_ok-pairs.ensures c.in_ok-groups.ensures
-
 pub join_item-returns-in_ok-inner-in-Ok : goal.join_item-returns-in_ok-inner-in-Ok
 join_item-returns-in_ok-inner-in-Ok g t c =
     joined_met (world c.args.self.now) (values_in c.args.slots.now) c.args.joined.now (pairs_of c.args.matches.now) c.args.item.now _ _ _ _ c.match_item.result
     (sym c.in-Ok.is ∙ c.in_ok-key.ensures) (c.in_ok-inner-in-Ok.ensures (world c.args.self.now)) c.as_slice.ensures c.match_item.ensures
-
-pub order_by-returns : goal.order_by-returns
-order_by-returns g t c =
-    order_by_answer (world c.args.self.now) (values_in c.args.slots.now) c.args.source.now c.args.keys.now _ _ _ c.in_ok-items.ensures c.in_ok-arrange.ensures
 
 pub sort-sort_by-requires : goal.sort-sort_by-requires
 sort-sort_by-requires g t c =
@@ -121,48 +104,99 @@ truth_of_two-returns-in_ok-binary-in-None g t c =
     subst (λ m. Answers (truth_in (world c.args.self.now) m) c.truth_in.result) (sym c.in_ok-binary-in-None.ensures)
     (c.truth_in.ensures (world c.args.self.now) refl)
 
-pub join-returns-in_ok-values-in-Done : goal.join-returns-in_ok-values-in-Done
-join-returns-in_ok-values-in-Done g t c =
-    let all = (stream_of (world c.args.self.now) (form_meaning (world c.args.self.now) c.args.source.now (values_in c.args.slots.now))) in
-    let inner = (stream_of (world c.args.self.now) (form_meaning (world c.args.self.now) c.args.joined.now.inner (values_in c.args.slots.now))) in
-    join_answer (world c.args.self.now) (values_in c.args.slots.now) c.args.source.now c.args.joined.now all.0 all.0 inner.0 inner.0 all.1 inner.1 _ _ _ (c.in_ok-values-in-Done.values, c.in_ok-values-in-Done.end)
-    refl refl refl refl c.in_ok-pairs.ensures c.in-Done.is c.in_ok-matches-in-Done.ensures c.in_ok-values-in-Done.ensures
-
-pub join-returns-in-Fault : goal.join-returns-in-Fault
-join-returns-in-Fault g t c =
-    let all = (stream_of (world c.args.self.now) (form_meaning (world c.args.self.now) c.args.source.now (values_in c.args.slots.now))) in
-    let inner = (stream_of (world c.args.self.now) (form_meaning (world c.args.self.now) c.args.joined.now.inner (values_in c.args.slots.now))) in
-    join_stops (world c.args.self.now) (values_in c.args.slots.now) c.args.source.now c.args.joined.now all.0 inner.0 inner.0 all.1 inner.1 _ _ _ _ refl refl refl c.in_ok-pairs.ensures c.in-Fault.is c.fault_sequence.ensures
+pub select_many-returns : goal.select_many-returns
+select_many-returns g t c =
+    select_many_answer (world c.args.self.now) (values_in c.args.slots.now) c.args.source.now c.args.inner.now c.args.body.now _ _ c.in_ok-pipe.ensures.items c.in_ok-values.ensures
 
 pub expand_item-returns : goal.expand_item-returns
 expand_item-returns g t c =
-    expansion_is (world c.args.self.now) (values_in c.args.slots.now) c.args.item.now _ c.args.inner.now c.args.body.now _ c.drain.result c.with-deeper.ensures c.drain.ensures
+    expansion_is (world c.args.self.now) (values_in c.args.slots.now) c.args.item.now _ c.args.inner.now c.args.body.now _ c.read.result c.with-deeper.ensures
+    (subst (λ s. IfOk c.read.result (λ items. items ≡ s)) c.in_ok-pipe.ensures.items c.read.ensures)
 
-pub simple-returns-in-Some : goal.simple-returns-in-Some
-simple-returns-in-Some g t c =
-    let w = world c.args.self.now in
-    subst (λ s. IsAnswer (simple_meaning c.args.method c.args.of.now s) c.simple_behind.result)
-    (stage_items w (values_in c.args.slots.now) c.in-Some.stage c.args.source.now c.in-Some.source.now c.in-Some.ensures.stage) c.simple_behind.ensures
+pub sequence-returns : goal.sequence-returns
+sequence-returns g t c = ap (λ s. Ok (sequence s)) (sym (c.in_ok-items.ensures ∙ c.in_ok-pipe.ensures.items))
 
-pub simple_items-returns : goal.simple_items-returns
-simple_items-returns g t c =
-    subst (λ m. IsAnswer m c.simple.result) (c.in_ok-items.ensures c.args.of.now) c.simple.ensures
+pub simple-returns-in_ok-pipe-in-Some : goal.simple-returns-in_ok-pipe-in-Some
+simple-returns-in_ok-pipe-in-Some g t c =
+    subst (λ s. IsAnswer (simple_meaning c.args.method c.args.of.now s) c.simple_items.result)
+    (c.in_ok-pipe-in-Some.ensures.items ∙ stage_items (world c.args.self.now) (values_in c.args.slots.now) c.in-Some.stage c.args.source.now c.in-Some.source.now c.in-Some.ensures.stage) c.simple_items.ensures
+
+pub simple_items-returns-in_ok-items-in-None : goal.simple_items-returns-in_ok-items-in-None
+simple_items-returns-in_ok-items-in-None g t c =
+    subst (λ m. IsAnswer m c.simple.result) (simple_read c.args.method _ c.args.of.now _ _ c.simple_limit.ensures c.in_ok-items-in-None.ensures) c.simple.ensures
 
 pub given-returns : goal.given-returns
 given-returns g t c =
-    let all = (stream_of (world c.args.self.now) (form_meaning (world c.args.self.now) c.args.source.now (values_in c.args.slots.now))) in
-    given_answer (world c.args.self.now) c.args.method c.args.source.now c.args.argument.now (values_in c.args.slots.now) _ all c.given_value.result (c.in_ok-argument.ensures _ c.evaluate.ensures) refl
-    c.given_value.ensures
+    given_answer (world c.args.self.now) c.args.method c.args.source.now c.args.argument.now (values_in c.args.slots.now) _ _ c.given_items.result (c.in_ok-argument.ensures _ c.evaluate.ensures) c.in_ok-pipe.ensures.items
+    c.given_items.ensures
 
-pub given_items-returns : goal.given_items-returns
-given_items-returns g t c =
-    subst (λ m. IsAnswer m c.given.result) c.in_ok-items.ensures (c.given.ensures (world c.args.self.now) refl)
+pub all-returns : goal.all-returns
+all-returns g t c =
+    subst (λ s. IsAnswer (as_truth (all (holds_of (world c.args.self.now) c.args.condition.now c.args.slots.now) s.0 s.1)) c.all_hold.result) c.in_ok-pipe.ensures.items c.all_hold.ensures
 
-pub take-returns-in-End : goal.take-returns-in-End
-take-returns-in-End g t c =
-    let w = world c.args.self.now in
-    let old = rest_behind w (values_in c.args.slots.now) c.args.stage.now c.args.source.now c.loop-wanted.base in
-    let new = rest_behind w (values_in c.args.slots.now) c.args.stage.now c.args.source.now c.next_by_plan.new.base in
-    let ended : Steps old (step.End c.in-End.end) new = subst (λ s. Steps old s new) c.in-End.is c.in_ok-item.ensures in
-    let some : 0 < c.loop-wanted.wanted = omega (arith, c.loop-wanted-test.true) in
-    taken_ended old _ c.loop-wanted.items c.in-End.end c.loop-wanted.wanted ended some c.loop-wanted.invariant
+pub evaluate-returns-in-Where : goal.evaluate-returns-in-Where
+evaluate-returns-in-Where g t c =
+    where_answer (world c.args.self.now) c.args.form.now c.in-Where.of c.get-in-Where-2.result.now c.in-Where.test c.get-in-Where.result (values_in c.args.slots.now)
+    c.sequence-in-Where.result c.in-Where.is c.get-in-Where-2.ensures c.get-in-Where.ensures c.sequence-in-Where.ensures
+
+pub evaluate-returns-in-Select : goal.evaluate-returns-in-Select
+evaluate-returns-in-Select g t c =
+    select_answer (world c.args.self.now) c.args.form.now c.in-Select.of c.get-in-Select-2.result.now c.in-Select.body c.get-in-Select.result (values_in c.args.slots.now)
+    c.sequence-in-Select.result c.in-Select.is c.get-in-Select-2.ensures c.get-in-Select.ensures c.sequence-in-Select.ensures
+
+pub base_of-returns-in_ok-items-in_default : goal.base_of-returns-in_ok-items-in_default
+base_of-returns-in_ok-items-in_default g t c =
+    c.of_items.ensures ∙ c.in_ok-items-in_default.ensures (world c.args.self.now) _ refl c.evaluate-value.ensures
+
+pub order_by-returns : goal.order_by-returns
+order_by-returns g t c =
+    order_by_answer (world c.args.self.now) (values_in c.args.slots.now) c.args.source.now c.args.keys.now _ _ _ _ c.in_ok-pipe.ensures.items c.in_ok-items.ensures c.in_ok-arrange.ensures
+
+pub keys_of-returns : goal.keys_of-returns
+keys_of-returns g t c =
+    subst (λ s. IfOk c.key_pairs.result (λ pairs. pairs ≡ keys_and_elements (world c.args.self.now) (values_in c.args.slots.now) c.args.key.now c.args.element s)) c.in_ok-pipe.ensures.items c.key_pairs.ensures
+
+pub group_by-returns : goal.group_by-returns
+group_by-returns g t c =
+    group_by_answer (world c.args.self.now) (values_in c.args.slots.now) c.args.source.now c.args.key.now c.args.element _ _ _ _ refl c.in_ok-pairs.ensures c.in_ok-groups.ensures
+
+pub join-returns-in_ok-values-in-Done : goal.join-returns-in_ok-values-in-Done
+join-returns-in_ok-values-in-Done g t c =
+    join_answer (world c.args.self.now) (values_in c.args.slots.now) c.args.source.now c.args.joined.now _ _ (c.in_ok-values-in-Done.values, c.in_ok-values-in-Done.end) _ _ _
+    c.in_ok-outer-in-Done.ensures.items refl c.in_ok-pairs.ensures c.in-Done.is c.in_ok-matches-in-Done.ensures c.in_ok-values-in-Done.ensures
+
+pub join-returns-in-Fault : goal.join-returns-in-Fault
+join-returns-in-Fault g t c =
+    join_stops (world c.args.self.now) (values_in c.args.slots.now) c.args.source.now c.args.joined.now _ _ _ _ _ refl c.in_ok-pairs.ensures c.in-Fault.is c.fault_sequence.ensures
+
+pub given_items-returns-in_ok-items-in_default : goal.given_items-returns-in_ok-items-in_default
+given_items-returns-in_ok-items-in_default g t c =
+    subst (λ m. IsAnswer m c.given.result) (given_read (world c.args.self.now) c.args.method c.args.argument _ _ _ c.given_limit.ensures c.in_ok-items-in_default.ensures) (c.given.ensures (world c.args.self.now) refl)
+
+pub simple-returns-in_ok-pipe-in-None : goal.simple-returns-in_ok-pipe-in-None
+simple-returns-in_ok-pipe-in-None g t c =
+    subst (λ s. IsAnswer (simple_meaning c.args.method c.args.of.now s) c.simple_items-in-None.result) c.in_ok-pipe-in-None.ensures.items c.simple_items-in-None.ensures
+
+pub pass_pulled-returns-in-Row : goal.pass_pulled-returns-in-Row
+pass_pulled-returns-in-Row g t c =
+    let passes = subst (λ p. IsPulled g.R.TableRow.table_of g.R.RowRef.shown c.args.pipe.now.plan p) c.in-Row.is c.requires.pulled in
+    let says = row_says g.R.TableRow.table_of g.R.RowRef.shown (world c.args.self.now) (values_in c.args.slots.now) c.args.pipe.now.stage c.args.pipe.now.source.now c.args.pipe.now.plan c.requires.planned c.in-Row.row true passes in
+    subst (λ p. IfOk c.pass_row.result (λ o. outcome_stream o ≡ comes g.R.TableRow.table_of g.R.RowRef.shown (world c.args.self.now) (values_in c.args.slots.now) c.args.pipe.now (pulled_value p))) (sym c.in-Row.is)
+    (subst (λ s. IfOk c.pass_row.result (λ o. outcome_stream o ≡ s)) (sym says) c.pass_row.ensures)
+
+pub next-returns-in-Item : goal.next-returns-in-Item
+next-returns-in-Item g t c =
+    next_item g.R.TableRow.table_of g.R.RowRef.shown (world c.args.self.now) (values_in c.args.slots.now) c.args.pipe.now c.args.base.now c.loop-pulled.base c.pull.new.self _ _ c.requires c.loop-pulled.invariant
+    (subst (λ r. IfOk r (λ p. kept_stream g.R.TableRow.table_of g.R.RowRef.shown c.args.pipe.now.plan c.loop-pulled.base ≡ in_front (pulled_value p) (kept_stream g.R.TableRow.table_of g.R.RowRef.shown c.args.pipe.now.plan c.pull.new.self))) c.in-Ok.is c.pull.ensures.item)
+    (subst (λ o. outcome_stream o ≡ comes g.R.TableRow.table_of g.R.RowRef.shown (world c.args.self.now) (values_in c.args.slots.now) c.args.pipe.now (pulled_value c.in-Ok.pulled)) c.in-Item.is c.in_ok-item-in-Ok.ensures)
+
+pub next-returns-in-Fault : goal.next-returns-in-Fault
+next-returns-in-Fault g t c =
+    next_fault g.R.TableRow.table_of g.R.RowRef.shown (world c.args.self.now) (values_in c.args.slots.now) c.args.pipe.now c.args.base.now c.loop-pulled.base c.pull.new.self _ _ c.requires c.loop-pulled.invariant
+    (subst (λ r. IfOk r (λ p. kept_stream g.R.TableRow.table_of g.R.RowRef.shown c.args.pipe.now.plan c.loop-pulled.base ≡ in_front (pulled_value p) (kept_stream g.R.TableRow.table_of g.R.RowRef.shown c.args.pipe.now.plan c.pull.new.self))) c.in-Ok.is c.pull.ensures.item)
+    (subst (λ o. outcome_stream o ≡ comes g.R.TableRow.table_of g.R.RowRef.shown (world c.args.self.now) (values_in c.args.slots.now) c.args.pipe.now (pulled_value c.in-Ok.pulled)) c.in-Fault.is c.in_ok-item-in-Ok.ensures)
+
+pub next-returns-in-Err : goal.next-returns-in-Err
+next-returns-in-Err g t c =
+    next_ended g.R.TableRow.table_of g.R.RowRef.shown (world c.args.self.now) (values_in c.args.slots.now) c.args.pipe.now c.args.base.now c.loop-pulled.base _ c.requires c.loop-pulled.invariant
+    (subst (λ r. IfErr r (λ e. kept_stream g.R.TableRow.table_of g.R.RowRef.shown c.args.pipe.now.plan c.loop-pulled.base ≡ ([], e))) c.in-Err.is c.pull.ensures.end)

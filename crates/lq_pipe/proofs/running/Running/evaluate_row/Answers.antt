@@ -2,7 +2,7 @@ use Rattle.std.proofs.Common.{◌≡◌, IfOk, subst}
 use Rattle.lq_value.specs.declared.value.Value.TheVariants as value
 use Rattle.lq_tree.specs.FormMeaning.{form_meaning, is_true, with_item}
 use Rattle.lq_pipe.specs.Runs.{world}
-use Rattle.lq_pipe.proofs.SlotLemmas.{no_values}
+use Rattle.lq_plan.proofs.SlotLaws.{no_values}
 use Rattle.lq_pipe.proofs.running.Running.evaluate_row.Goals as goal
 
 pub returns : goal.returns

@@ -1,0 +1,12 @@
+pub mod ArrangementLaws
+pub mod ArrangementLemmas
+pub mod BaseLemmas
+pub mod CellLemmas
+pub mod FormLaws
+pub mod PartLemmas
+pub mod PassingLemmas
+pub mod PlanLaws
+pub mod PreparedLemmas
+pub mod PullLaws
+pub mod SlotLaws
+pub mod TruthLaws

@@ -1,0 +1,11 @@
+use Rattle.std.proofs.Common.{◌≡◌, Ok, ap, subst, sym, ◌∙◌}
+use Rattle.lq_language.specs.OperandMeaning.{truth_value}
+use Rattle.lq_plan.specs.Parts.{part_of}
+use Rattle.lq_plan.specs.Plans.{world}
+use Rattle.lq_plan.proofs.sources.Sources.part.Goals as goal
+
+pub returns-in-IsNull : goal.returns-in-IsNull
+returns-in-IsNull g c =
+    let w = world c.args.self.now in
+    subst (λ p. part_of w p c.args.value.now ≡ Ok c.truth.result) (sym c.in-IsNull.is)
+    (ap (λ b. Ok (truth_value b)) (sym (c.is_null_as.ensures w)) ∙ ap Ok (sym c.truth.ensures))

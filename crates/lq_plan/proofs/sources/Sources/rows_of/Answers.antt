@@ -1,0 +1,8 @@
+use Rattle.std.proofs.Common.{[], refl}
+use Rattle.lq_plan.specs.Plans.{world}
+use Rattle.lq_plan.proofs.PullLaws.{rows_found}
+use Rattle.lq_plan.proofs.sources.Sources.rows_of.Goals as goal
+
+pub returns : goal.returns
+returns g c =
+    rows_found (world c.args.self.now) [] _ _ _ _ refl c.rows_at-rows.ensures c.end_at.ensures c.of_rows.ensures

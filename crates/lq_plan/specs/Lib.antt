@@ -1,0 +1,14 @@
+pub mod Arrangements
+pub mod Counts
+pub mod Groups
+pub mod Lists
+pub mod Meanings
+pub mod Parts
+pub mod Pipes
+pub mod PlannedRows
+pub mod Plans
+pub mod Prepared
+pub mod Pulling
+pub mod Slots
+pub mod Stages
+pub mod Worlds

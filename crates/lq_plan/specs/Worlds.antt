@@ -1,0 +1,33 @@
+-- What a tree reads: the schemas and rows of the tables that it is given, and the cells of rows by the names of their columns.
+use Rattle.std.specs.Prelude.{◌≡◌, List, [], map, ℕ, true, slice_get}
+use Rattle.lq_value.specs.declared.scalar.Scalar.{Scalar}
+use Rattle.lq_value.specs.declared.table.Schema.{Schema}
+use Rattle.lq_value.specs.declared.value.Fault.TheVariants as fault
+use Rattle.lq_language.specs.Worlds.{World}
+use Rattle.lq_language.specs.ValuesOfTypes.{Every}
+use Rattle.lq_machine.specs.Served.{columns_in}
+use Rattle.lq_language.specs.TableRows.{cell_named}
+use Rattle.lq_language.specs.Typing.{are_distinct}
+use Rattle.lq_plan.specs.declared.tables.TableRows.{TableRows}
+
+module _ {R : Type 0} where
+  abbrev pub schemas_in : List (TableRows R) → List Schema
+  schemas_in tables = map (λ t. t.schema.now) tables
+
+  abbrev pub rows_in : List (TableRows R) → List (List R)
+  rows_in tables = map (λ t. t.rows.now) tables
+
+  -- what is read, where rows tell the numbers of their tables and their cells; the fault stands where an expression has no meaning
+  abbrev pub world_of : (R → ℕ) → (R → List Scalar) → List (TableRows R) → World R
+  world_of table_of shown tables =
+      record {
+        schemas = schemas_in tables;
+        rows = rows_in tables;
+        session = [];
+        cell = λ r. cell_named (columns_in (slice_get (schemas_in tables) (table_of r))) (shown r);
+        unknown = fault.NullReference;
+      }
+
+-- no two columns of a table have the same name, so that a name stands for one column
+abbrev pub HaveDistinctColumns : List Schema → Type 0
+HaveDistinctColumns schemas = Every (λ schema. are_distinct (map (λ column. column.name) schema.columns) ≡ true) schemas

@@ -1,0 +1,96 @@
+//! Bases: the rows of a table or the items of a sequence, which are taken one by one.
+ghost use Rattle.std.specs.Prelude.{[], map};
+ghost use Rattle.lq_value.specs.declared.value.Value.TheVariants as value;
+
+use crate::plans::Plan;
+use crate::tables::TableRow;
+use lq_value::{End, List, RowRef, Value};
+use std::alloc::Global;
+
+/// Where items come from: rows of a table, where they stand, or items that were made. The next of
+/// these stands last.
+#[derive(Drop)]
+pub struct Base<'a, R> {
+    rows: &'a [R],
+    items: Vec<Value<R>>,
+    end: End,
+}
+
+/// What is taken from a base by a plan.
+#[derive(Drop)]
+pub enum Pulled<R> {
+    /// A row of the plan's table that passes the conditions above it.
+    Row(R),
+    /// An item of which the plan says nothing.
+    Item(Value<R>),
+}
+
+impl<'a, R: RowRef> Base<'a, R> {
+    ghost use Rattle.std.specs.Prelude.{◌≡◌};
+    ghost use Rattle.lq_plan.specs.Pulling.{base_stream};
+
+    /// The rows of a table, behind which they end so.
+    #[tactic(auto, using(crate::proofs::BaseLemmas::rows_alone))]
+    pub(crate) fn of_rows(alloc: Global, rows: &'a [R], end: End) -> Base<'a, R>
+        ensures { base_stream result ≡ (map value.Row rows.now, end) }
+    {
+        let items = Vec::new(alloc);
+        Base { rows, items, end }
+    }
+
+    /// Items that were made, and how they end. Takes no memory.
+    #[tactic(auto, using(crate::proofs::BaseLemmas::turned))]
+    pub fn of_items(items: List<Value<R>>, end: End) -> Base<'a, R>
+        ensures { base_stream result ≡ (items, end) }
+    {
+        let mut items = items.into_vec();
+        items.reverse();
+        let rows: &[R] = &[];
+        Base { rows, items, end }
+    }
+}
+
+impl<'a, R: TableRow> Base<'a, R> {
+    ghost use Rattle.std.specs.Prelude.{◌≡◌, [], IfOk, IfErr};
+    ghost use Rattle.lq_language.specs.Enumerable.{in_front};
+    ghost use Rattle.lq_plan.specs.PlannedRows.{IsPulled, kept_stream, pulled_value};
+
+    /// The next item that was made, or how they end, where no row is left.
+    #[inline]
+    #[tactic(auto, using(crate::proofs::BaseLemmas::last_kept))]
+    fn pull_item(&mut self, plan: &Plan) -> Result<Pulled<R>, End>
+        requires { self.old.rows.now ≡ [] }
+        ensures item { IfOk result (λ pulled. kept_stream R.table_of R.shown plan.now self.old
+            ≡ in_front (pulled_value pulled) (kept_stream R.table_of R.shown plan.now self.new)) }
+        ensures planned { IfOk result (IsPulled R.table_of R.shown plan.now) }
+        ensures end { IfErr result (λ e. kept_stream R.table_of R.shown plan.now self.old
+            ≡ ([], e)) }
+    {
+        match self.items.pop() {
+            Some(item) => Ok(Pulled::Item(item)),
+            None => Err(self.end),
+        }
+    }
+
+    /// The next row that passes by a plan, or the next item of which the plan says nothing, or how the
+    /// items end. Rows of which the plan says that they don't pass are left out. Takes no memory.
+    #[inline]
+    #[tactic(auto, using(crate::proofs::BaseLemmas::pulls))]
+    pub fn pull(&mut self, plan: &Plan) -> Result<Pulled<R>, End>
+        ensures item { IfOk result (λ pulled. kept_stream R.table_of R.shown plan.now self.old
+            ≡ in_front (pulled_value pulled) (kept_stream R.table_of R.shown plan.now self.new)) }
+        ensures planned { IfOk result (IsPulled R.table_of R.shown plan.now) }
+        ensures end { IfErr result (λ e. kept_stream R.table_of R.shown plan.now self.old
+            ≡ ([], e)) }
+    {
+        while let [row, further @ ..] = self.rows {
+            self.rows = further;
+            match plan.verdict(row) {
+                Some(true) => return Ok(Pulled::Row(*row)),
+                Some(false) => {}
+                None => return Ok(Pulled::Item(Value::Row(*row))),
+            }
+        }
+        self.pull_item(plan)
+    }
+}

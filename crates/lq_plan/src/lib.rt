@@ -1,0 +1,31 @@
+//! What the running of a typed tree stands on: everything that evaluates no form.
+//!
+//! `Sources` are the tables that forms are run over, and `Slots` the values that lambdas take, borrowed
+//! where they stand. A `Base` holds items that are pulled one by one; a `Plan` is what is found out once
+//! about the rows of a table, for the conditions and the lambda above it; and a `Pipe` is what is pulled
+//! by one. The modules have what is done to the values, the scalars and the items that are there: parts of
+//! values, operators between scalars, sequences, limits of methods, and arrangements by keys.
+#![tactic(auto)]
+
+pub mod arrangements;
+mod bases;
+pub mod counts;
+pub mod parts;
+mod pipes;
+mod planning;
+mod plans;
+pub mod scalars;
+pub mod sequences;
+mod slots;
+mod sources;
+mod stages;
+mod tables;
+
+pub use bases::{Base, Pulled};
+pub use lq_operators::RunError;
+pub use pipes::Pipe;
+pub use plans::Plan;
+pub use slots::Slots;
+pub use sources::{Sources, part_ref};
+pub use stages::{Outcome, Stage, has_no_stage, stage_of};
+pub use tables::{TableRow, TableRows};
