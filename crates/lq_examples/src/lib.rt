@@ -6,5 +6,3 @@
 mod devices;
 #[cfg(test)]
 mod loads;
-#[cfg(test)]
-mod table_files;

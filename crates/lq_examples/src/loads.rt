@@ -1,5 +1,5 @@
-//! Starting: which files are read, and up to where, and the lines of what is refused. What is there after a start is shown by the built
-//! program (tests/cli).
+//! Starting: which files are read, and up to where. What is refused, and what is there after a start, is shown by the built program
+//! (tests/cli).
 use crate::devices::{Fault, names_of, taking};
 use lq_options::Options;
 use lq_serve::{Device, FileError, FileRead, Files, MemoryFiles, StartError, load, refuse};
@@ -8,17 +8,12 @@ use std::alloc::Global;
 use std::process::Abort;
 use std::test::Fail;
 
-const FILES: [(&str, &[u8]); 11] = [
+const FILES: [(&str, &[u8]); 6] = [
     ("no.toml", b"role = ["),
     ("none.toml", b""),
     ("t.csv", b"c:int\n1\n2\n"),
     ("data/old/u.csv", b"a:int,b:int\n-1,7\n"),
     ("v", b"c:int\n"),
-    ("data/t.csv", b"a:int,b:int\n1\n"),
-    ("none.csv", b""),
-    ("twice.csv", b"a:int,a:int"),
-    ("cell.csv", b"a:int\nx\n"),
-    ("csv/.csv", b"a:int\n"),
     ("1.csv", b"a:int\n"),
 ];
 
@@ -136,32 +131,6 @@ fn the_first_bytes_of_a_file_are_read(rt: HostRuntime) -> Result<(), Fail> {
     }
     assert!(rt; files.read("t", 1).err() == Some(FileError::Read));
     assert_eq!(rt; files.readings().len(), 5);
-    Ok(())
-}
-
-// Table files, and the line of the first fault.
-const FIRST_FAULTS: [(&[&str], &str); 12] = [
-    (&["data/1.csv"], "lq: data/1.csv: name"),
-    (&["csv/.csv"], "lq: csv/.csv: name"),
-    (&["t.csv.csv"], "lq: t.csv.csv: name"),
-    (&["data/"], "lq: data/: name"),
-    (&["t.csv", "old/w.csv"], "lq: old/w.csv: read"),
-    (&["t.csv", "data/t.csv"], "lq: data/t.csv: csv"),
-    (&["none.csv", "1"], "lq: none.csv: header"),
-    (&["twice.csv"], "lq: twice.csv: duplicate-name"),
-    (&["cell.csv"], "lq: cell.csv: cell 2 1"),
-    (&["v", "t.csv", "v", "1"], "lq: v: duplicate-table"),
-    (&["u.csv", "1.csv"], "lq: u.csv: read"),
-    (&["1.csv", "u.csv"], "lq: 1.csv: name"),
-];
-
-#[test]
-fn the_first_fault_is_reported(rt: HostRuntime) -> Result<(), Fail> {
-    let mut files = folder(rt.alloc());
-    for (words, line) in &FIRST_FAULTS {
-        let options = options_of(rt.alloc(), "low", "no.toml", words)?;
-        assert_refused(&rt, rt.alloc(), &mut files, &options, line);
-    }
     Ok(())
 }
 
