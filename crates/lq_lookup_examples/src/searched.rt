@@ -1,7 +1,7 @@
 //! Random lists of values: what is found by their keys is what a plain search by sameness finds.
 use crate::keys::{NoRow, Random, keys_of, value};
 use lq_lookup::{Groups, Lookup, Nulls, distinct};
-use lq_value::{Scalar, Value, copy_key, key_of, same};
+use lq_value::{Key, Scalar, Value, copy_key, key_of, same};
 use std::alloc::{AllocError, Global};
 use std::test::Fail;
 
@@ -9,30 +9,42 @@ fn is_null(value: &Value<NoRow>) -> bool {
     matches!(value, Value::Scalar(Scalar::Null))
 }
 
-// The places of the values that are the same as one of them.
-fn searched(
-    alloc: Global,
-    values: &[Value<NoRow>],
-    wanted: &Value<NoRow>,
-) -> Result<Vec<usize>, AllocError> {
-    let mut places = Vec::new(alloc);
+// Whether these are the places of the values that are the same as one of them, in their order.
+fn are_searched(values: &[Value<NoRow>], wanted: &Value<NoRow>, places: &[usize]) -> bool {
+    let mut left = places;
     for (place, value) in values.iter().enumerate() {
         if same(value, wanted) {
-            places.push(place)?;
+            match left {
+                [first, others @ ..] if *first == place => left = others,
+                _ => return false,
+            }
         }
     }
-    Ok(places)
+    left.is_empty()
 }
 
-// The places of the values that are the same as none before them.
-fn searched_firsts(alloc: Global, values: &[Value<NoRow>]) -> Result<Vec<usize>, AllocError> {
-    let mut firsts = Vec::new(alloc);
-    for (place, value) in values.iter().enumerate() {
-        if !values.iter().take(place).any(|other| same(other, value)) {
-            firsts.push(place)?;
+fn is_among(values: &[Value<NoRow>], wanted: &Value<NoRow>) -> bool {
+    for value in values {
+        if same(value, wanted) {
+            return true;
         }
     }
-    Ok(firsts)
+    false
+}
+
+// Whether these are the places of the values that are the same as none before them.
+fn are_firsts(values: &[Value<NoRow>], places: &[usize]) -> bool {
+    let mut left = places;
+    for (place, value) in values.iter().enumerate() {
+        if is_among(values.get(..place).unwrap_or(&[]), value) {
+            continue;
+        }
+        match left {
+            [first, others @ ..] if *first == place => left = others,
+            _ => return false,
+        }
+    }
+    left.is_empty()
 }
 
 fn random_values(alloc: Global, random: &mut Random) -> Result<Vec<Value<NoRow>>, AllocError> {
@@ -43,77 +55,131 @@ fn random_values(alloc: Global, random: &mut Random) -> Result<Vec<Value<NoRow>>
     Ok(values)
 }
 
-// Whether a lookup finds what is searched, also for a value that may not be there.
-fn finds(alloc: Global, values: &[Value<NoRow>], random: &mut Random) -> Result<bool, AllocError> {
-    let keys = keys_of(alloc, values)?;
-    let keeping = Lookup::build(alloc, keys.as_slice(), Nulls::Keep)?;
-    let skipping = Lookup::build(alloc, keys.as_slice(), Nulls::Skip)?;
-    let other = value(alloc, random)?;
-    let mut right = finds_one(alloc, &keeping, &skipping, values, &other)?;
-    for wanted in values {
-        right = right && finds_one(alloc, &keeping, &skipping, values, wanted)?;
-    }
-    Ok(right)
+// A lookup that keeps null, and one that skips it.
+#[derive(Drop)]
+struct Lookups {
+    keeping: Lookup,
+    skipping: Lookup,
+}
+
+fn built(alloc: Global, keys: &[Key]) -> Result<Lookups, AllocError> {
+    Ok(Lookups {
+        keeping: Lookup::build(alloc, keys, Nulls::Keep)?,
+        skipping: Lookup::build(alloc, keys, Nulls::Skip)?,
+    })
 }
 
 // Whether both lookups find what is searched for one value, but the second nothing for null.
-fn finds_one(
+fn finds_by(lookups: &Lookups, values: &[Value<NoRow>], wanted: &Value<NoRow>, key: &Key) -> bool {
+    let kept = lookups.keeping.find(key);
+    let skipped = if is_null(wanted) { &[] } else { kept };
+    are_searched(values, wanted, kept) && lookups.skipping.find(key) == skipped
+}
+
+// The same by a copy of its key.
+fn finds(
     alloc: Global,
-    keeping: &Lookup,
-    skipping: &Lookup,
+    lookups: &Lookups,
     values: &[Value<NoRow>],
     wanted: &Value<NoRow>,
 ) -> Result<bool, AllocError> {
-    let key = copy_key(alloc, &key_of(alloc, wanted)?)?;
-    let places = searched(alloc, values, wanted)?;
-    let skipped = if is_null(wanted) {
-        &[]
-    } else {
-        places.as_slice()
-    };
-    Ok(keeping.find(&key) == places.as_slice() && skipping.find(&key) == skipped)
+    let key = copied_key(alloc, wanted)?;
+    Ok(finds_by(lookups, values, wanted, &key))
 }
 
-// Whether the distinct places are those of the first values, and the groups these values, each with what is searched.
-fn groups(alloc: Global, values: &[Value<NoRow>]) -> Result<bool, AllocError> {
-    let keys = keys_of(alloc, values)?;
-    let groups = Groups::build(alloc, keys.as_slice())?;
-    let firsts = searched_firsts(alloc, values)?;
-    let mut right = distinct(alloc, keys.as_slice())?.as_slice() == firsts.as_slice()
-        && groups.len() == firsts.len()
-        && groups.get(firsts.len()).is_none();
-    for (number, first) in firsts.iter().enumerate() {
-        if let (Some(value), Some(wanted)) = (values.get(*first), keys.get(*first)) {
-            let places = searched(alloc, values, value)?;
-            match groups.get(number) {
-                Some((key, found)) => {
-                    right = right && *key == *wanted && found == places.as_slice();
-                }
-                None => right = false,
-            }
+fn copied_key(alloc: Global, value: &Value<NoRow>) -> Result<Key, AllocError> {
+    let key = key_of(alloc, value)?;
+    copy_key(alloc, &key)
+}
+
+fn finds_each(
+    alloc: Global,
+    lookups: &Lookups,
+    values: &[Value<NoRow>],
+) -> Result<bool, AllocError> {
+    for wanted in values {
+        if !finds(alloc, lookups, values, wanted)? {
+            return Ok(false);
         }
     }
-    Ok(right)
+    Ok(true)
 }
 
-#[test]
-fn lookups_find_what_is_searched(rt: HostRuntime) -> Result<(), Fail> {
-    let alloc = rt.alloc();
-    let mut random = Random { state: 20261123 };
-    for _ in 0..500u32 {
-        let values = random_values(alloc, &mut random)?;
-        assert!(rt; finds(alloc, values.as_slice(), &mut random)?);
+// Whether each value is found, and one that may not be there.
+fn finds_all(
+    alloc: Global,
+    keys: &[Key],
+    values: &[Value<NoRow>],
+    other: &Value<NoRow>,
+) -> Result<bool, AllocError> {
+    let lookups = built(alloc, keys)?;
+    Ok(finds(alloc, &lookups, values, other)? && finds_each(alloc, &lookups, values)?)
+}
+
+// Whether a group is of the key and the places of the value at a place.
+fn is_group(
+    group: Option<(&Key, &[usize])>,
+    keys: &[Key],
+    values: &[Value<NoRow>],
+    place: usize,
+) -> bool {
+    match (group, keys.get(place), values.get(place)) {
+        (Some((key, found)), Some(wanted), Some(value)) => {
+            *key == *wanted && are_searched(values, value, found)
+        }
+        _ => false,
     }
-    Ok(())
+}
+
+fn are_groups(groups: &Groups, keys: &[Key], values: &[Value<NoRow>], firsts: &[usize]) -> bool {
+    for (number, first) in firsts.iter().enumerate() {
+        if !is_group(groups.get(number), keys, values, *first) {
+            return false;
+        }
+    }
+    groups.len() == firsts.len() && groups.get(firsts.len()).is_none()
+}
+
+// Whether the groups are these values, each with what is searched.
+fn groups(
+    alloc: Global,
+    keys: &[Key],
+    values: &[Value<NoRow>],
+    firsts: &[usize],
+) -> Result<bool, AllocError> {
+    let groups = Groups::build(alloc, keys)?;
+    Ok(are_groups(&groups, keys, values, firsts))
+}
+
+// Whether the distinct places are those of the first values, and the groups these values.
+fn tells_apart(alloc: Global, keys: &[Key], values: &[Value<NoRow>]) -> Result<bool, AllocError> {
+    let firsts = distinct(alloc, keys)?;
+    Ok(are_firsts(values, firsts.as_slice()) && groups(alloc, keys, values, firsts.as_slice())?)
+}
+
+fn is_right_of(
+    alloc: Global,
+    values: &[Value<NoRow>],
+    other: &Value<NoRow>,
+) -> Result<bool, AllocError> {
+    let keys = keys_of(alloc, values)?;
+    Ok(
+        finds_all(alloc, keys.as_slice(), values, other)?
+            && tells_apart(alloc, keys.as_slice(), values)?,
+    )
+}
+
+fn is_right(alloc: Global, random: &mut Random) -> Result<bool, AllocError> {
+    let values = random_values(alloc, random)?;
+    let other = value(alloc, random)?;
+    is_right_of(alloc, values.as_slice(), &other)
 }
 
 #[test]
-fn groups_are_what_is_searched(rt: HostRuntime) -> Result<(), Fail> {
-    let alloc = rt.alloc();
-    let mut random = Random { state: 7 };
-    for _ in 0..500u32 {
-        let values = random_values(alloc, &mut random)?;
-        assert!(rt; groups(alloc, values.as_slice())?);
+fn what_is_found_is_what_is_searched(rt: HostRuntime) -> Result<(), Fail> {
+    let mut random = Random { state: 20261123 };
+    for _ in 0..1_000u32 {
+        assert!(rt; is_right(rt.alloc(), &mut random)?);
     }
     Ok(())
 }
