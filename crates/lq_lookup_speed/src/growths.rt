@@ -20,75 +20,148 @@ impl RowRef for NoRow {
 /// Whether each answer is the one that is expected.
 pub(crate) fn right(alloc: Global) -> Result<bool, AllocError> {
     let keys = keys(alloc)?;
-    let looked_up = right_lookups(alloc, keys.as_slice())?;
-    let grouped = right_groups(alloc, keys.as_slice())?;
-    let firsts = distinct(alloc, keys.as_slice())?;
-    let ordered = right_order(alloc)?;
-    Ok(looked_up && grouped && firsts.as_slice() == [0, 1, 2, 6].as_slice() && ordered)
+    Ok(are_right(alloc, keys.as_slice())? && right_order(alloc)?)
 }
 
-// Null, 1, a record of null and a text, 1, null, that record, and the text.
+fn are_right(alloc: Global, keys: &[Key]) -> Result<bool, AllocError> {
+    Ok(
+        right_lookup(alloc, keys, Nulls::Skip, &[])?
+            && right_lookup(alloc, keys, Nulls::Keep, &[0, 4])?
+            && right_groups(alloc, keys)?
+            && right_firsts(alloc, keys)?,
+    )
+}
+
+// What a key is made of.
+#[derive(Clone, Copy)]
+enum Part {
+    Null,
+    One,
+    Text,
+    // A record of null and a record of null and a text.
+    Record,
+}
+
+const PARTS: [Part; 7] = [
+    Part::Null,
+    Part::One,
+    Part::Record,
+    Part::One,
+    Part::Null,
+    Part::Record,
+    Part::Text,
+];
+
 fn keys(alloc: Global) -> Result<Vec<Key>, AllocError> {
     let mut keys = Vec::new(alloc);
-    keys.push(Key::Null)?;
-    keys.push(Key::Int(1))?;
-    keys.push(record_key(alloc)?)?;
-    keys.push(Key::Int(1))?;
-    keys.push(Key::Null)?;
-    keys.push(record_key(alloc)?)?;
-    keys.push(key_of::<NoRow>(alloc, &Value::Scalar(some_text(alloc)?))?)?;
+    for part in &PARTS {
+        keys.push(key(alloc, *part)?)?;
+    }
     Ok(keys)
+}
+
+fn key(alloc: Global, part: Part) -> Result<Key, AllocError> {
+    let value = value(alloc, part)?;
+    copied_key(alloc, &value)
+}
+
+// A copy of the key of a value.
+fn copied_key(alloc: Global, value: &Value<NoRow>) -> Result<Key, AllocError> {
+    let key = key_of(alloc, value)?;
+    copy_key(alloc, &key)
+}
+
+fn value(alloc: Global, part: Part) -> Result<Value<NoRow>, AllocError> {
+    match part {
+        Part::Null => Ok(Value::Scalar(Scalar::Null)),
+        Part::One => Ok(Value::Scalar(Scalar::Int(1))),
+        Part::Text => text_value(alloc),
+        Part::Record => record(alloc, record(alloc, text_value(alloc)?)?),
+    }
+}
+
+fn text_value(alloc: Global) -> Result<Value<NoRow>, AllocError> {
+    Ok(Value::Scalar(some_text(alloc)?))
 }
 
 fn some_text(alloc: Global) -> Result<Scalar, AllocError> {
     Ok(Scalar::Text(Txt::from_str(alloc, "text")?))
 }
 
-// A copy of the key of a record that holds null and a record.
-fn record_key(alloc: Global) -> Result<Key, AllocError> {
-    let mut inner = List::new(alloc);
-    inner.push((Txt::from_str(alloc, "a")?, Value::Scalar(some_text(alloc)?)))?;
-    let mut members: List<(Txt, Value<NoRow>)> = List::new(alloc);
+// A record of null and this value.
+fn record(alloc: Global, value: Value<NoRow>) -> Result<Value<NoRow>, AllocError> {
+    let mut members = List::new(alloc);
     members.push((Txt::from_str(alloc, "a")?, Value::Scalar(Scalar::Null)))?;
-    members.push((Txt::from_str(alloc, "b")?, Value::Rec(inner)))?;
-    copy_key(alloc, &key_of(alloc, &Value::Rec(members))?)
+    members.push((Txt::from_str(alloc, "b")?, value))?;
+    Ok(Value::Rec(members))
 }
 
-fn right_lookups(alloc: Global, keys: &[Key]) -> Result<bool, AllocError> {
-    let record = record_key(alloc)?;
-    let skipping = Lookup::build(alloc, keys, Nulls::Skip)?;
-    let keeping = Lookup::build(alloc, keys, Nulls::Keep)?;
-    Ok(
-        skipping.find(&Key::Null).is_empty()
-            && skipping.find(&record) == [2, 5].as_slice()
-            && keeping.find(&Key::Null) == [0, 4].as_slice()
-            && keeping.find(&Key::Int(1)) == [1, 3].as_slice()
-            && keeping.find(&Key::Int(2)).is_empty(),
-    )
+// Whether a lookup finds null at these places, and the other keys at theirs.
+fn right_lookup(
+    alloc: Global,
+    keys: &[Key],
+    nulls: Nulls,
+    null_places: &[usize],
+) -> Result<bool, AllocError> {
+    let lookup = Lookup::build(alloc, keys, nulls)?;
+    Ok(finds(&lookup, keys, null_places) && lookup.find(&Key::Int(2)).is_empty())
+}
+
+fn finds(lookup: &Lookup, keys: &[Key], null_places: &[usize]) -> bool {
+    match keys {
+        [null, one, record, ..] => {
+            lookup.find(null) == null_places
+                && lookup.find(one) == [1, 3].as_slice()
+                && lookup.find(record) == [2, 5].as_slice()
+        }
+        _ => false,
+    }
 }
 
 fn right_groups(alloc: Global, keys: &[Key]) -> Result<bool, AllocError> {
     let groups = Groups::build(alloc, keys)?;
+    Ok(are_groups(&groups))
+}
+
+fn are_groups(groups: &Groups) -> bool {
     let first = matches!(groups.get(0), Some((Key::Null, places)) if places == [0, 4].as_slice());
     let second =
         matches!(groups.get(1), Some((Key::Int(1), places)) if places == [1, 3].as_slice());
-    Ok(groups.len() == 4 && first && second)
+    groups.len() == 4 && first && second
+}
+
+fn right_firsts(alloc: Global, keys: &[Key]) -> Result<bool, AllocError> {
+    let firsts = distinct(alloc, keys)?;
+    Ok(firsts.as_slice() == [0, 1, 2, 6].as_slice())
 }
 
 // By an int that ascends, and by a text that descends.
 fn right_order(alloc: Global) -> Result<bool, AllocError> {
-    let mut lists = Vec::new(alloc);
-    lists.push(list(alloc, Scalar::Int(1), some_text(alloc)?)?)?;
-    lists.push(list(alloc, Scalar::Null, Scalar::Null)?)?;
-    lists.push(list(alloc, Scalar::Int(1), Scalar::Null)?)?;
-    lists.push(list(alloc, Scalar::Null, some_text(alloc)?)?)?;
-    let places = stable_order(alloc, lists.as_slice(), &[false, true])?;
+    let lists = lists(alloc)?;
+    is_arranged(alloc, lists.as_slice())
+}
+
+fn is_arranged(alloc: Global, lists: &[List<Scalar>]) -> Result<bool, AllocError> {
+    let places = stable_order(alloc, lists, &[false, true])?;
     Ok(places.as_slice() == [3, 1, 0, 2].as_slice())
 }
 
-fn list(alloc: Global, first: Scalar, second: Scalar) -> Result<List<Scalar>, AllocError> {
+fn lists(alloc: Global) -> Result<Vec<List<Scalar>>, AllocError> {
+    let mut lists = Vec::new(alloc);
+    for (is_one, has_text) in &[(true, true), (false, false), (true, false), (false, true)] {
+        lists.push(list(alloc, *is_one, *has_text)?)?;
+    }
+    Ok(lists)
+}
+
+// One or null, and a text or null.
+fn list(alloc: Global, is_one: bool, has_text: bool) -> Result<List<Scalar>, AllocError> {
     let mut list = List::new(alloc);
-    list.push(first)?;
-    list.push(second)?;
+    list.push(if is_one { Scalar::Int(1) } else { Scalar::Null })?;
+    if has_text {
+        list.push(some_text(alloc)?)?;
+    } else {
+        list.push(Scalar::Null)?;
+    }
     Ok(list)
 }

@@ -51,21 +51,29 @@ fn text_keys(alloc: Global) -> Result<Vec<Key>, AllocError> {
     Ok(keys)
 }
 
-// Lists of keys: a text, an int, or two ints of which the first is one of a thousand.
+// The first key of a list: a text, an int, or one of a thousand ints.
+fn first_key(alloc: Global, subject: &str, number: u32) -> Result<Scalar, AllocError> {
+    match subject {
+        "text_order" => Ok(Scalar::Text(text(alloc, number)?)),
+        "int_order" => Ok(Scalar::Int(int(number))),
+        _ => Ok(Scalar::Int(int(number % 1_000))),
+    }
+}
+
+// A list of keys: a text, an int, or two ints of which the first is one of a thousand.
+fn list(alloc: Global, subject: &str, number: u32) -> Result<List<Scalar>, AllocError> {
+    let mut list = List::new(alloc);
+    list.push(first_key(alloc, subject, number)?)?;
+    if subject == "two_order" {
+        list.push(Scalar::Int(int(number)))?;
+    }
+    Ok(list)
+}
+
 fn lists(alloc: Global, subject: &str) -> Result<Vec<List<Scalar>>, AllocError> {
     let mut lists = Vec::with_capacity(alloc, COUNT as usize)?;
     for place in 0..COUNT {
-        let number = scattered(place);
-        let mut list = List::new(alloc);
-        match subject {
-            "text_order" => list.push(Scalar::Text(text(alloc, number)?))?,
-            "int_order" => list.push(Scalar::Int(int(number)))?,
-            _ => {
-                list.push(Scalar::Int(int(number % 1_000)))?;
-                list.push(Scalar::Int(int(number)))?;
-            }
-        }
-        lists.push(list)?;
+        lists.push(list(alloc, subject, scattered(place))?)?;
     }
     Ok(lists)
 }
@@ -79,62 +87,99 @@ fn found(lookup: &Lookup, keys: &[Key]) -> usize {
     count
 }
 
+// How many places a lookup finds for the first key, or for all.
+fn asked(lookup: &Lookup, keys: &[Key], what: &str) -> usize {
+    match keys {
+        [first, ..] if what == "build" => lookup.find(first).len(),
+        _ => found(lookup, keys),
+    }
+}
+
 fn looked_up(alloc: Global, keys: &[Key], what: &str) -> Result<usize, AllocError> {
     if what == "make" {
         return Ok(keys.len());
     }
     let lookup = Lookup::build(alloc, keys, Nulls::Keep)?;
-    if what == "build" {
-        return Ok(lookup.find(&Key::Int(0)).len());
-    }
-    Ok(found(&lookup, keys))
+    Ok(asked(&lookup, keys, what))
 }
 
-fn grouped(alloc: Global, what: &str) -> Result<usize, AllocError> {
-    let keys = int_keys(alloc, 1_000)?;
+fn grouped(alloc: Global, keys: &[Key], what: &str) -> Result<usize, AllocError> {
     if what == "make" {
         return Ok(keys.len());
     }
-    Ok(Groups::build(alloc, keys.as_slice())?.len())
+    let groups = Groups::build(alloc, keys)?;
+    Ok(groups.len())
 }
 
-fn ordered(alloc: Global, subject: &str, what: &str) -> Result<usize, AllocError> {
-    let lists = lists(alloc, subject)?;
+fn ordered(
+    alloc: Global,
+    lists: &[List<Scalar>],
+    subject: &str,
+    what: &str,
+) -> Result<usize, AllocError> {
     if what == "make" {
         return Ok(lists.len());
     }
-    let places = match subject {
-        "two_order" => stable_order(alloc, lists.as_slice(), &[false, true])?,
-        _ => stable_order(alloc, lists.as_slice(), &[false])?,
+    let descending: &[bool] = if subject == "two_order" {
+        &[false, true]
+    } else {
+        &[false]
     };
+    let places = stable_order(alloc, lists, descending)?;
     Ok(places.len())
+}
+
+fn ints_done(alloc: Global, what: &str) -> Result<usize, AllocError> {
+    let keys = int_keys(alloc, 0)?;
+    looked_up(alloc, keys.as_slice(), what)
+}
+
+fn texts_done(alloc: Global, what: &str) -> Result<usize, AllocError> {
+    let keys = text_keys(alloc)?;
+    looked_up(alloc, keys.as_slice(), what)
+}
+
+fn groups_done(alloc: Global, what: &str) -> Result<usize, AllocError> {
+    let keys = int_keys(alloc, 1_000)?;
+    grouped(alloc, keys.as_slice(), what)
+}
+
+fn orders_done(alloc: Global, subject: &str, what: &str) -> Result<usize, AllocError> {
+    let lists = lists(alloc, subject)?;
+    ordered(alloc, lists.as_slice(), subject, what)
 }
 
 fn done(alloc: Global, subject: &str, what: &str) -> Result<usize, AllocError> {
     match subject {
-        "ints" => looked_up(alloc, int_keys(alloc, 0)?.as_slice(), what),
-        "texts" => looked_up(alloc, text_keys(alloc)?.as_slice(), what),
-        "groups" => grouped(alloc, what),
-        _ => ordered(alloc, subject, what),
+        "ints" => ints_done(alloc, what),
+        "texts" => texts_done(alloc, what),
+        "groups" => groups_done(alloc, what),
+        _ => orders_done(alloc, subject, what),
     }
 }
 
-fn status(rt: &HostRuntime) -> io::Result<u8> {
+// Does what the words say, and answers whether all is right.
+fn is_right(alloc: Global, subject: &str, what: &str) -> Result<bool, AllocError> {
+    if subject == "growths" {
+        return growths::right(alloc);
+    }
+    let _ = done(alloc, subject, what)?;
+    Ok(true)
+}
+
+fn run(rt: &HostRuntime) -> io::Result<bool> {
     let mut words = env::args(rt)?;
     let _ = words.next();
-    if let (Some(subject), Some(what)) = (words.next(), words.next()) {
-        if subject.as_str() == "growths" {
-            return Ok(u8::from(!growths::right(rt.alloc())?));
-        }
-        let _ = done(rt.alloc(), subject.as_str(), what.as_str())?;
-        return Ok(0);
+    match (words.next(), words.next()) {
+        (Some(subject), Some(what)) => Ok(is_right(rt.alloc(), &subject, &what)?),
+        _ => Ok(true),
     }
-    Ok(0)
 }
 
 fn main(rt: HostRuntime) -> ExitCode {
-    match status(&rt) {
-        Ok(status) => ExitCode::from(status),
+    match run(&rt) {
+        Ok(true) => ExitCode::SUCCESS,
+        Ok(false) => ExitCode::FAILURE,
         Err(_) => ExitCode::from(5),
     }
 }
