@@ -3,7 +3,7 @@
 use Rattle.std.proofs.Common.{◌≡◌, ◌≤◌, ◌<◌, ◌∷◌, ◌+◌, ◌*◌, List, [], ℕ, zero, suc, take, slice_get, Option, Some, None, arith, option_and_then, option_map, ap, refl, sym}
 use Rattle.std.proofs.lemmas.Option.{none-some, same_Some, some_pair_parts}
 use Rattle.lq_value.specs.Tables.{first_named}
-use Rattle.lq_language.proofs.calls.Term.TheLaws.{the_size}
+use Rattle.lq_language.specs.declared.calls.Term.{size-Term}
 use Rattle.lq_machine.specs.declared.session.Defined.{Defined}
 use Rattle.lq_machine.specs.declared.session.Defined.TheVariants as of
 use Rattle.lq_machine.specs.declared.session.Definition.{Definition}
@@ -12,7 +12,7 @@ use Rattle.lq_bind.specs.Bound.{defined_before}
 
 abbrev pub weight_of : Defined → ℕ
 weight_of (of.Variable t s) = 0
-weight_of (of.Query e opened) = 32 * the_size (translated e)
+weight_of (of.Query e opened) = 32 * size-Term (translated e)
 
 pub weight : List Definition → ℕ
 weight [] = 0

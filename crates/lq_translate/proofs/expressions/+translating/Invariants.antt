@@ -1,6 +1,6 @@
 -- What each function goes down by: the depth of what it copies, and at one depth the part of a tree that it copies.
 use Rattle.std.proofs.Common.{◌≡◌, ◌+◌, ◌*◌, map, max, take}
-use Rattle.lq_grammar.proofs.syntax.Expr.TheLaws.{the_size}
+use Rattle.lq_grammar.specs.declared.syntax.Expr.{size-Expr}
 use Rattle.lq_translate.specs.Maps.{map_argument, map_clause, map_field, map_key, map_next}
 use Rattle.lq_translate.specs.Translated.{translated}
 use Rattle.lq_translate.proofs.expressions.+translating.Given as goal
@@ -60,19 +60,19 @@ abbrev pub decreases-unary_of : goal.decreases-unary_of
 decreases-unary_of l = 10 * goal.size-unary_of l + 2
 
 abbrev pub decreases-binary_of : goal.decreases-binary_of
-decreases-binary_of l = 10 * max (the_size l.left.now) (the_size l.right.now) + 2
+decreases-binary_of l = 10 * max (size-Expr l.left.now) (size-Expr l.right.now) + 2
 
 abbrev pub decreases-and_of : goal.decreases-and_of
-decreases-and_of l = 10 * max (the_size l.left.now) (the_size l.right.now) + 2
+decreases-and_of l = 10 * max (size-Expr l.left.now) (size-Expr l.right.now) + 2
 
 abbrev pub decreases-or_of : goal.decreases-or_of
-decreases-or_of l = 10 * max (the_size l.left.now) (the_size l.right.now) + 2
+decreases-or_of l = 10 * max (size-Expr l.left.now) (size-Expr l.right.now) + 2
 
 abbrev pub decreases-coalesce_of : goal.decreases-coalesce_of
-decreases-coalesce_of l = 10 * max (the_size l.left.now) (the_size l.right.now) + 2
+decreases-coalesce_of l = 10 * max (size-Expr l.left.now) (size-Expr l.right.now) + 2
 
 abbrev pub decreases-conditional_of : goal.decreases-conditional_of
-decreases-conditional_of l = 10 * max (the_size l.condition.now) (max (the_size l.left.now) (the_size l.right.now)) + 2
+decreases-conditional_of l = 10 * max (size-Expr l.condition.now) (max (size-Expr l.left.now) (size-Expr l.right.now)) + 2
 
 abbrev pub decreases-host_of : goal.decreases-host_of
 decreases-host_of l = 10 * goal.size-host_of l + 5

@@ -1,14 +1,14 @@
 use Rattle.std.proofs.Common.{◌≡◌, ◌+◌, ◌*◌, ◌++◌, drop, flat_map, max}
-use Rattle.lq_value.proofs.ty.Ty.TheLaws.{the_size}
+use Rattle.lq_value.specs.declared.ty.Ty.{size-Ty}
 use Rattle.lq_machine.specs.States.{schemas_of}
 use Rattle.lq_language.specs.Uses.{shown_columns}
 use Rattle.lq_use.proofs.shown.+showing.Given as goal
 
 abbrev pub decreases-add_columns : goal.decreases-add_columns
-decreases-add_columns l = 4 * the_size l.ty.now
+decreases-add_columns l = 4 * size-Ty l.ty.now
 
 abbrev pub decreases-add_both : goal.decreases-add_both
-decreases-add_both l = 4 * max (the_size l.key.now) (the_size l.item.now) + 1
+decreases-add_both l = 4 * max (size-Ty l.key.now) (size-Ty l.item.now) + 1
 
 abbrev pub decreases-add_members : goal.decreases-add_members
 decreases-add_members l = 4 * goal.size-add_members l + 1

@@ -1,7 +1,7 @@
 -- What each function of the binding goes down by: the depth of what it binds, and at one depth how far the function stands from `term`; and
 -- what each loop keeps.
 use Rattle.std.proofs.Common.{◌+◌, ◌*◌, max}
-use Rattle.lq_language.proofs.calls.Term.TheLaws.{the_size}
+use Rattle.lq_language.specs.declared.calls.Term.{size-Term}
 use Rattle.lq_translate.specs.Translated.{translated}
 use Rattle.lq_tree.specs.Binding.{gather_step, gathered, walked}
 use Rattle.lq_bind.specs.Bound.{field_at, operator_at, part_at, sort_key_at}
@@ -29,7 +29,7 @@ abbrev pub decreases-definition : goal.decreases-definition
 decreases-definition l = weight_of l.defined.now + 6 + weight l.self.now.definitions.now
 
 abbrev pub decreases-named_query : goal.decreases-named_query
-decreases-named_query l = 32 * the_size (translated l.query.now) + 4 + weight l.self.now.definitions.now
+decreases-named_query l = 32 * size-Term (translated l.query.now) + 4 + weight l.self.now.definitions.now
 
 abbrev pub decreases-member : goal.decreases-member
 decreases-member l = 32 * goal.size-member l + 5 + weight l.self.now.definitions.now
@@ -137,7 +137,7 @@ abbrev pub decreases-pair_value : goal.decreases-pair_value
 decreases-pair_value l = 32 * goal.size-pair_value l + 5 + weight l.self.now.definitions.now
 
 abbrev pub decreases-select_many : goal.decreases-select_many
-decreases-select_many l = 32 * max (goal.size-select_many l) (the_size l.source.now) + 20 + weight l.self.now.definitions.now
+decreases-select_many l = 32 * max (goal.size-select_many l) (size-Term l.source.now) + 20 + weight l.self.now.definitions.now
 
 abbrev pub decreases-join : goal.decreases-join
 decreases-join l = 32 * goal.size-join l + 12 + weight l.self.now.definitions.now
@@ -152,22 +152,22 @@ abbrev pub decreases-inner_side : goal.decreases-inner_side
 decreases-inner_side l = 32 * goal.size-inner_side l + 10 + weight l.self.now.definitions.now
 
 abbrev pub decreases-operation : goal.decreases-operation
-decreases-operation l = 32 * max (the_size l.left.now) (the_size l.right.now) + 6 + weight l.self.now.definitions.now
+decreases-operation l = 32 * max (size-Term l.left.now) (size-Term l.right.now) + 6 + weight l.self.now.definitions.now
 
 abbrev pub decreases-operation_beside : goal.decreases-operation_beside
-decreases-operation_beside l = 32 * the_size l.right.now + 5 + weight l.self.now.definitions.now
+decreases-operation_beside l = 32 * size-Term l.right.now + 5 + weight l.self.now.definitions.now
 
 abbrev pub decreases-conditional : goal.decreases-conditional
-decreases-conditional l = 32 * max (the_size l.condition.now) (max (the_size l.left.now) (the_size l.right.now)) + 7 + weight l.self.now.definitions.now
+decreases-conditional l = 32 * max (size-Term l.condition.now) (max (size-Term l.left.now) (size-Term l.right.now)) + 7 + weight l.self.now.definitions.now
 
 abbrev pub decreases-choice : goal.decreases-choice
-decreases-choice l = 32 * max (the_size l.left.now) (the_size l.right.now) + 6 + weight l.self.now.definitions.now
+decreases-choice l = 32 * max (size-Term l.left.now) (size-Term l.right.now) + 6 + weight l.self.now.definitions.now
 
 abbrev pub decreases-choice_beside : goal.decreases-choice_beside
-decreases-choice_beside l = 32 * the_size l.right.now + 5 + weight l.self.now.definitions.now
+decreases-choice_beside l = 32 * size-Term l.right.now + 5 + weight l.self.now.definitions.now
 
 abbrev pub decreases-method_of : goal.decreases-method_of
-decreases-method_of l = 32 * max (goal.size-method_of l) (the_size l.receiver.now) + 14 + weight l.self.now.definitions.now
+decreases-method_of l = 32 * max (goal.size-method_of l) (size-Term l.receiver.now) + 14 + weight l.self.now.definitions.now
 
 -- ---- loops
 

@@ -7,7 +7,7 @@ use Rattle.lq_language.specs.Enumerable.{all, contains}
 use Rattle.lq_language.specs.Stream.{one, select_by, then_ending}
 use Rattle.lq_value.specs.SameAndOrder.{same_values}
 use Rattle.lq_value.specs.declared.value.End.TheVariants as end
-use Rattle.lq_tree.proofs.tree.Form.TheLaws.{the_size}
+use Rattle.lq_tree.specs.declared.tree.Form.{size-Form}
 use Rattle.lq_tree.specs.FormMeaning.{members_of}
 use Rattle.lq_operators.specs.Matching.{pairs_of}
 use Rattle.lq_operators.specs.Tallies.{tallied}
@@ -26,55 +26,55 @@ use Rattle.lq_pipe.proofs.StreamLemmas.{Goes}
 use Rattle.lq_pipe.proofs.running.Running.+running.Given as goal
 
 abbrev pub decreases-evaluate : goal.decreases-evaluate
-decreases-evaluate g l = 32 * the_size l.form.now
+decreases-evaluate g l = 32 * size-Form l.form.now
 
 abbrev pub decreases-scalar : goal.decreases-scalar
-decreases-scalar g l = 32 * the_size l.form.now + 2
+decreases-scalar g l = 32 * size-Form l.form.now + 2
 
 abbrev pub decreases-truth : goal.decreases-truth
-decreases-truth g l = 32 * the_size l.form.now + 4
+decreases-truth g l = 32 * size-Form l.form.now + 4
 
 abbrev pub decreases-truth_of_both : goal.decreases-truth_of_both
-decreases-truth_of_both g l = 32 * max (the_size l.left.now) (the_size l.right.now) + 10
+decreases-truth_of_both g l = 32 * max (size-Form l.left.now) (size-Form l.right.now) + 10
 
 abbrev pub decreases-truth_of_either : goal.decreases-truth_of_either
-decreases-truth_of_either g l = 32 * max (the_size l.left.now) (the_size l.right.now) + 10
+decreases-truth_of_either g l = 32 * max (size-Form l.left.now) (size-Form l.right.now) + 10
 
 abbrev pub decreases-truth_of_two : goal.decreases-truth_of_two
-decreases-truth_of_two g l = 32 * max (the_size l.left.now) (the_size l.right.now) + 12
+decreases-truth_of_two g l = 32 * max (size-Form l.left.now) (size-Form l.right.now) + 12
 
 abbrev pub decreases-value_of_item : goal.decreases-value_of_item
-decreases-value_of_item g l = 32 * the_size l.body.now + 2
+decreases-value_of_item g l = 32 * size-Form l.body.now + 2
 
 abbrev pub decreases-select_all : goal.decreases-select_all
-decreases-select_all g l = 32 * the_size l.body.now + 4
+decreases-select_all g l = 32 * size-Form l.body.now + 4
 
 abbrev pub decreases-holds : goal.decreases-holds
-decreases-holds g l = 32 * the_size l.condition.now + 6
+decreases-holds g l = 32 * size-Form l.condition.now + 6
 
 abbrev pub decreases-all : goal.decreases-all
-decreases-all g l = 32 * max (the_size l.source.now) (the_size l.condition.now) + 18
+decreases-all g l = 32 * max (size-Form l.source.now) (size-Form l.condition.now) + 18
 
 abbrev pub decreases-unary : goal.decreases-unary
-decreases-unary g l = 32 * the_size l.operand.now + 10
+decreases-unary g l = 32 * size-Form l.operand.now + 10
 
 abbrev pub decreases-binary : goal.decreases-binary
-decreases-binary g l = 32 * max (the_size l.left.now) (the_size l.right.now) + 10
+decreases-binary g l = 32 * max (size-Form l.left.now) (size-Form l.right.now) + 10
 
 abbrev pub decreases-binary_right : goal.decreases-binary_right
-decreases-binary_right g l = 32 * the_size l.right.now + 8
+decreases-binary_right g l = 32 * size-Form l.right.now + 8
 
 abbrev pub decreases-both : goal.decreases-both
-decreases-both g l = 32 * max (the_size l.left.now) (the_size l.right.now) + 10
+decreases-both g l = 32 * max (size-Form l.left.now) (size-Form l.right.now) + 10
 
 abbrev pub decreases-either : goal.decreases-either
-decreases-either g l = 32 * max (the_size l.left.now) (the_size l.right.now) + 10
+decreases-either g l = 32 * max (size-Form l.left.now) (size-Form l.right.now) + 10
 
 abbrev pub decreases-coalesce : goal.decreases-coalesce
-decreases-coalesce g l = 32 * max (the_size l.left.now) (the_size l.right.now) + 10
+decreases-coalesce g l = 32 * max (size-Form l.left.now) (size-Form l.right.now) + 10
 
 abbrev pub decreases-choose : goal.decreases-choose
-decreases-choose g l = 32 * max (the_size l.condition.now) (max (the_size l.left.now) (the_size l.right.now)) + 10
+decreases-choose g l = 32 * max (size-Form l.condition.now) (max (size-Form l.left.now) (size-Form l.right.now)) + 10
 
 abbrev pub decreases-members : goal.decreases-members
 decreases-members g l = 32 * goal.size-members g l + 10
@@ -83,52 +83,52 @@ abbrev pub decreases-record : goal.decreases-record
 decreases-record g l = 32 * goal.size-record g l + 12
 
 abbrev pub decreases-pair : goal.decreases-pair
-decreases-pair g l = 32 * max (the_size l.left.now) (the_size l.right.now) + 10
+decreases-pair g l = 32 * max (size-Form l.left.now) (size-Form l.right.now) + 10
 
 abbrev pub decreases-sequence : goal.decreases-sequence
-decreases-sequence g l = 32 * max (the_size l.source.now) (stage_size l.stage) + 18
+decreases-sequence g l = 32 * max (size-Form l.source.now) (stage_size l.stage) + 18
 
 abbrev pub decreases-simple : goal.decreases-simple
-decreases-simple g l = 32 * the_size l.source.now + 24
+decreases-simple g l = 32 * size-Form l.source.now + 24
 
 abbrev pub decreases-given : goal.decreases-given
-decreases-given g l = 32 * max (the_size l.source.now) (the_size l.argument.now) + 20
+decreases-given g l = 32 * max (size-Form l.source.now) (size-Form l.argument.now) + 20
 
 abbrev pub decreases-expand_item : goal.decreases-expand_item
-decreases-expand_item g l = 32 * max (the_size l.inner.now) (the_size l.body.now) + 18
+decreases-expand_item g l = 32 * max (size-Form l.inner.now) (size-Form l.body.now) + 18
 
 abbrev pub decreases-expand : goal.decreases-expand
-decreases-expand g l = 32 * max (pipe_size l.pipe.now) (max (the_size l.inner.now) (the_size l.body.now)) + 20
+decreases-expand g l = 32 * max (pipe_size l.pipe.now) (max (size-Form l.inner.now) (size-Form l.body.now)) + 20
 
 abbrev pub decreases-select_many : goal.decreases-select_many
-decreases-select_many g l = 32 * max (the_size l.source.now) (max (the_size l.inner.now) (the_size l.body.now)) + 22
+decreases-select_many g l = 32 * max (size-Form l.source.now) (max (size-Form l.inner.now) (size-Form l.body.now)) + 22
 
 abbrev pub decreases-key_pair : goal.decreases-key_pair
-decreases-key_pair g l = 32 * max (the_size l.key.now) (body_size l.element) + 4
+decreases-key_pair g l = 32 * max (size-Form l.key.now) (body_size l.element) + 4
 
 abbrev pub decreases-next_key_pair : goal.decreases-next_key_pair
-decreases-next_key_pair g l = 32 * max (pipe_size l.pipe.now) (max (the_size l.key.now) (body_size l.element)) + 16
+decreases-next_key_pair g l = 32 * max (pipe_size l.pipe.now) (max (size-Form l.key.now) (body_size l.element)) + 16
 
 abbrev pub decreases-key_pairs : goal.decreases-key_pairs
-decreases-key_pairs g l = 32 * max (pipe_size l.pipe.now) (max (the_size l.key.now) (body_size l.element)) + 18
+decreases-key_pairs g l = 32 * max (pipe_size l.pipe.now) (max (size-Form l.key.now) (body_size l.element)) + 18
 
 abbrev pub decreases-match_item : goal.decreases-match_item
-decreases-match_item g l = 32 * the_size l.body.now + 6
+decreases-match_item g l = 32 * size-Form l.body.now + 6
 
 abbrev pub decreases-join_item : goal.decreases-join_item
 decreases-join_item g l = 32 * goal.size-join_item g l + 8
 
 abbrev pub decreases-join : goal.decreases-join
-decreases-join g l = 32 * max (goal.size-join g l) (the_size l.source.now) + 20
+decreases-join g l = 32 * max (goal.size-join g l) (size-Form l.source.now) + 20
 
 abbrev pub decreases-group_by : goal.decreases-group_by
-decreases-group_by g l = 32 * max (the_size l.source.now) (max (the_size l.key.now) (the_size l.element.now)) + 20
+decreases-group_by g l = 32 * max (size-Form l.source.now) (max (size-Form l.key.now) (size-Form l.element.now)) + 20
 
 abbrev pub decreases-sort_key : goal.decreases-sort_key
-decreases-sort_key g l = 32 * the_size l.key.now + 4
+decreases-sort_key g l = 32 * size-Form l.key.now + 4
 
 abbrev pub decreases-key_column : goal.decreases-key_column
-decreases-key_column g l = 32 * the_size l.key.now + 6
+decreases-key_column g l = 32 * size-Form l.key.now + 6
 
 abbrev pub decreases-key_columns : goal.decreases-key_columns
 decreases-key_columns g l = 32 * goal.size-key_columns g l + 8
@@ -137,25 +137,25 @@ abbrev pub decreases-sort : goal.decreases-sort
 decreases-sort g l = 32 * goal.size-sort g l + 10
 
 abbrev pub decreases-order_by : goal.decreases-order_by
-decreases-order_by g l = 32 * max (goal.size-order_by g l) (the_size l.source.now) + 18
+decreases-order_by g l = 32 * max (goal.size-order_by g l) (size-Form l.source.now) + 18
 
 abbrev pub decreases-base_of : goal.decreases-base_of
-decreases-base_of g l = 32 * the_size l.form.now + 4
+decreases-base_of g l = 32 * size-Form l.form.now + 4
 
 abbrev pub decreases-open : goal.decreases-open
-decreases-open g l = 32 * the_size l.form.now + 6
+decreases-open g l = 32 * size-Form l.form.now + 6
 
 abbrev pub decreases-pass : goal.decreases-pass
-decreases-pass g l = 32 * the_size l.form.now
+decreases-pass g l = 32 * size-Form l.form.now
 
 abbrev pub decreases-pass_select : goal.decreases-pass_select
-decreases-pass_select g l = 32 * the_size l.body.now + 4
+decreases-pass_select g l = 32 * size-Form l.body.now + 4
 
 abbrev pub decreases-pass_stage : goal.decreases-pass_stage
 decreases-pass_stage g l = 32 * stage_size l.stage.now + 10
 
 abbrev pub decreases-pass_through : goal.decreases-pass_through
-decreases-pass_through g l = 32 * max (the_size l.source.now) (stage_size l.stage.now) + 12
+decreases-pass_through g l = 32 * max (size-Form l.source.now) (stage_size l.stage.now) + 12
 
 abbrev pub decreases-next : goal.decreases-next
 decreases-next g l = 32 * pipe_size l.pipe.now + 14
@@ -170,7 +170,7 @@ abbrev pub decreases-contains : goal.decreases-contains
 decreases-contains g l = 32 * pipe_size l.pipe.now + 17
 
 abbrev pub decreases-part : goal.decreases-part
-decreases-part g l = 32 * the_size l.form.now + 10
+decreases-part g l = 32 * size-Form l.form.now + 10
 
 abbrev pub decreases-simple_items : goal.decreases-simple_items
 decreases-simple_items g l = 32 * pipe_size l.pipe.now + 18
@@ -182,7 +182,7 @@ abbrev pub decreases-given_items : goal.decreases-given_items
 decreases-given_items g l = 32 * pipe_size l.pipe.now + 18
 
 abbrev pub decreases-all_hold : goal.decreases-all_hold
-decreases-all_hold g l = 32 * max (pipe_size l.pipe.now) (the_size l.condition.now) + 16
+decreases-all_hold g l = 32 * max (pipe_size l.pipe.now) (size-Form l.condition.now) + 16
 
 abbrev pub decreases-element : goal.decreases-element
 decreases-element g l = 32 * body_size l.body + 3
@@ -197,7 +197,7 @@ abbrev pub decreases-pass_pulled : goal.decreases-pass_pulled
 decreases-pass_pulled g l = 32 * pipe_size l.pipe.now + 13
 
 abbrev pub decreases-keys_of : goal.decreases-keys_of
-decreases-keys_of g l = 32 * max (the_size l.source.now) (max (the_size l.key.now) (body_size l.element)) + 19
+decreases-keys_of g l = 32 * max (size-Form l.source.now) (max (size-Form l.key.now) (body_size l.element)) + 19
 
 abbrev pub decreases-arrange : goal.decreases-arrange
 decreases-arrange g l = 32 * goal.size-arrange g l + 12
