@@ -8,6 +8,7 @@
 
 mod binder;
 mod bindings;
+mod columns;
 mod error;
 mod fields;
 mod frames;
@@ -22,6 +23,7 @@ mod pairs;
 mod pipelines;
 mod queries;
 mod records;
+mod signs;
 mod trees;
 mod type_checks;
 mod variables;

@@ -8,13 +8,12 @@ ghost use Rattle.lq_json.specs.Shapes.{data_by};
 ghost use Rattle.lq_json.specs.Replies.{ServesAll, reply_data, served_by, stream_reply};
 ghost use Rattle.lq_json.specs.Texts.{tokens_of};
 
-use crate::denial::denied_line;
 use crate::fault::{fault_name, nested_fault};
 use crate::items::ItemsLine;
 use crate::line::Line;
 use crate::shape::{Shape, shape_of};
 use crate::sole::{count_line, word_line};
-use crate::write::write;
+use crate::{denial, write};
 use json::Writer;
 use lq_language::Use;
 use lq_store::Store;
@@ -76,7 +75,7 @@ pub fn reply_line<R: RowRef>(alloc: Global, reply: &Reply<'_, R>) -> Result<Line
         Reply::Value { store, ty, value } => value_line(alloc, store, ty, value),
         Reply::Fault(fault) => word_line(alloc, "fault", fault_name(*fault)),
         Reply::Error(word) => word_line(alloc, "error", word),
-        Reply::Denied { store, rule, used } => denied_line(alloc, store, rule, *used),
+        Reply::Denied { store, rule, used } => denial::denied_line(alloc, store, rule, *used),
         Reply::Defined(name) => word_line(alloc, "defined", name),
         Reply::Assigned(name) => word_line(alloc, "assigned", name),
         Reply::Role(name) => word_line(alloc, "role", name),
@@ -148,7 +147,7 @@ fn write_value<R: RowRef>(
 {
     out.begin_object()?;
     out.key("value")?;
-    write(shape, value, out)?;
+    write::write(shape, value, out)?;
     out.end_object()
 }
 

@@ -18,6 +18,7 @@ mod role_rights;
 mod role_set;
 mod roles;
 mod row_rules;
+mod totality;
 mod use_set;
 
 pub use access::RoleId;
@@ -25,5 +26,6 @@ pub use error::PolicyError;
 pub use explaining::{ExplainedPolicy, Explanation};
 pub use lq_language::Use;
 pub use lq_security::Action;
-pub use policies::{Policies, are_rules_total};
+pub use policies::Policies;
 pub use row_rules::RowRules;
+pub use totality::are_rules_total;

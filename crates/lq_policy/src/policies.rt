@@ -4,7 +4,7 @@ ghost use Rattle.std.specs.List.{AllZip};
 ghost use Rattle.lq_security.specs.Visible.{is_same_action, memberships_after};
 ghost use Rattle.lq_policy.specs.Guards.{IsGuarded};
 ghost use Rattle.lq_policy.specs.Memberships.{DecideMemberships};
-ghost use Rattle.lq_policy.specs.Rules.{are_rules_total, is_policy_total, is_rule_total};
+ghost use Rattle.lq_policy.specs.Rules.{are_rules_total};
 
 use crate::access::{Access, RoleId};
 use crate::admission::Admission;
@@ -14,9 +14,7 @@ use crate::guard::{Guard, guards, rule_at};
 use crate::role_rights::RoleRights;
 use crate::role_set::{RoleSet, goes_by, memberships};
 use crate::row_rules::{RowRules, Ruled, Verdict};
-use lq_grammar::Expr;
 use lq_rule::PreparedRule;
-use lq_scalar::is_total;
 use lq_security::{Action, Policy, PolicyParts};
 use lq_value::{Scalar, TableNumber, Txt};
 use std::alloc::{AllocError, Global};
@@ -59,34 +57,6 @@ impl Model for Policies {
     ghost invariant = { λ p. DecideMemberships (memberships_after [] p.parts.roles) p.groups.items
         × AllZip (IsGuarded p.parts.tables) p.parts.policies p.guards.items
         × TellsRights p.parts p.rights };
-}
-
-/// Whether the rule, if it is there, is total by its form.
-fn is_rule_total(rule: &Option<Expr>) -> bool
-    ensures { result ≡ is_rule_total rule.now }
-{
-    match rule {
-        Some(rule) => is_total(rule),
-        None => true,
-    }
-}
-
-/// Whether each rule of the policy is total by its form.
-fn is_policy_total(policy: &Policy) -> bool
-    ensures { result ≡ is_policy_total policy.now }
-{
-    is_rule_total(&policy.using) && is_rule_total(&policy.check)
-}
-
-/// Whether each rule of the policies is total by its form.
-pub fn are_rules_total(parts: &PolicyParts) -> bool
-    ensures { result ≡ are_rules_total parts.now.policies }
-{
-    parts
-        .policies
-        .as_slice()
-        .iter()
-        .all(|policy| is_policy_total(policy))
 }
 
 /// Whether two actions are the same.

@@ -8,13 +8,12 @@ ghost use Rattle.lq_policyfile.specs.Names.{role_names};
 ghost use Rattle.lq_policyfile.specs.Outcome.{Answers, Refuses};
 ghost use Rattle.lq_policyfile.specs.RuleChecks as rules;
 
-use crate::duplicates::has_no_duplicates;
 use crate::entry::FileEntries;
 use crate::error::PolicyFileError;
-use crate::names::are_names_known;
 use crate::parts::parts_of;
 use crate::rule_checks::{are_rules_total, are_rules_typed};
 use crate::shape::entries_of;
+use crate::{duplicates, names};
 use lq_policy::{Policies, PolicyError};
 use lq_security::PolicyParts;
 use lq_store::Store;
@@ -31,10 +30,10 @@ fn check(alloc: Global, store: &Store, file: &FileEntries) -> Result<(), PolicyF
     ensures distinct { OnOk result (are_new [] (role_names file.now.roles) ≡ true) }
     ensures total { OnOk result (rules.are_rules_total file.now.policies ≡ true) }
 {
-    if !are_names_known(alloc, store, file)? {
+    if !names::are_names_known(alloc, store, file)? {
         return Err(PolicyFileError::UnknownName);
     }
-    if !has_no_duplicates(alloc, file)? {
+    if !duplicates::has_no_duplicates(alloc, file)? {
         return Err(PolicyFileError::Duplicate);
     }
     if !are_rules_typed(store, file.policies.as_slice()) {

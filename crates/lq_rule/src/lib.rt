@@ -4,6 +4,7 @@
 //! (`PreparedRule::prepare`, `holds`); asking it takes no memory.
 #![tactic(auto)]
 
+mod literals;
 mod prepare;
 mod prepared;
 mod rule;

@@ -1,22 +1,18 @@
 //! Total rules, prepared form by form.
 ghost use Rattle.std.specs.Prelude.{◌≡◌, IfOk, IfSome, List, ℕ, Some, true};
 ghost use Rattle.lq_value.specs.declared.scalar.Scalar.{Scalar};
-ghost use Rattle.lq_value.specs.declared.scalar.Scalar.TheVariants as scalar;
-ghost use Rattle.lq_value.specs.declared.value.Fault.TheVariants as fault;
 ghost use Rattle.lq_language.specs.Members.{is_search, search_named, sole_argument};
-ghost use Rattle.lq_language.specs.Operations.{negated};
 ghost use Rattle.lq_security.specs.Totality.{is_row};
 ghost use Rattle.lq_language.specs.TableRows.{cell_named};
 ghost use Rattle.lq_grammar.specs.declared.syntax.Expr.{out-Expr};
 ghost use Rattle.lq_grammar.specs.declared.syntax.Expr.TheVariants as expr;
 ghost use Rattle.lq_grammar.specs.declared.syntax.Node.TheVariants as node;
-ghost use Rattle.lq_grammar.specs.declared.syntax.Unary.TheVariants as unary;
-ghost use Rattle.lq_scalar.specs.Operands.{int_or_overflow};
 ghost use Rattle.lq_scalar.specs.Shapes.{scalar_or_fault};
 ghost use Rattle.lq_rule.specs.Reading.{place_of, read};
-ghost use Rattle.lq_rule.specs.Standing.{StandsFor, integer_in, known};
+ghost use Rattle.lq_rule.specs.Standing.{StandsFor};
 ghost use Rattle.lq_rule.specs.declared.prepared.Prepared.TheVariants as prepared;
 
+use crate::literals::{copied, negative};
 use crate::prepared::Prepared;
 use lq_grammar::{Argument, Binary, Expr, Node, Unary};
 use lq_language::Op;
@@ -99,13 +95,6 @@ fn operation(
             Held::new(alloc, right)?,
         )),
     }
-}
-
-/// The text as a scalar of its own.
-fn copied(alloc: Global, text: &Txt) -> Result<Scalar, AllocError>
-    ensures { IfOk result (λ copy. copy ≡ scalar.Text text.now) }
-{
-    Ok(Scalar::Text(Txt::from_str(alloc, text.as_str())?))
 }
 
 /// A member: a column of the row, or else whether an `int?` has a value.
@@ -200,47 +189,6 @@ fn place_of(columns: &[Txt], name: &str) -> Option<usize>
     ensures { result ≡ place_of columns.now name.now }
 {
     columns.iter().position(|column| column.as_str() == name)
-}
-
-/// The number with the other sign. A total rule has a minus sign before literals alone.
-#[tactic(auto, using(crate::proofs::FormLemmas::stands_negative, crate::proofs::FormLemmas::stands_no_negative))]
-fn negative(operand: &Expr) -> Prepared
-    ensures { (columns : List (List ℕ))
-        → StandsFor columns (expr.Node (node.Unary unary.Minus operand.now)) result }
-{
-    match integer_in(operand) {
-        Some(number) => negative_of(number),
-        None => Prepared::Fault(Fault::NullReference),
-    }
-}
-
-/// A number with the other sign.
-#[tactic(auto, using(lq_scalar::proofs::NumberLaws::checked_is))]
-fn negative_of(number: i32) -> Prepared
-    ensures { result ≡ known (negated fault.NullReference (scalar.Int number)) }
-{
-    int_or_overflow(number.checked_neg())
-}
-
-/// An int; None is one that no int holds.
-fn int_or_overflow(number: Option<i32>) -> Prepared
-    ensures { result ≡ known (int_or_overflow number) }
-{
-    match number {
-        Some(number) => Prepared::Literal(Scalar::Int(number)),
-        None => Prepared::Fault(Fault::Overflow),
-    }
-}
-
-/// The number of an integer literal.
-#[tactic(auto, using(crate::proofs::FormLemmas::layers))]
-fn integer_in(expression: &Expr) -> Option<i32>
-    ensures { result ≡ integer_in (out-Expr expression.now) }
-{
-    match expression {
-        Expr::Node(Node::Integer(number)) => Some(*number),
-        _ => None,
-    }
 }
 
 /// The operator that a method that looks for a text is.

@@ -1,7 +1,7 @@
 -- The literal's number, with the other sign.
 use Rattle.std.proofs.Common.{rules, sym, ◌∙◌, of_z, to_z, w32}
 use Rattle.lq_rule.proofs.FormLemmas.{stands_negative}
-use Rattle.lq_rule.proofs.prepare.negative.Goals as goal
+use Rattle.lq_rule.proofs.literals.negative.Goals as goal
 
 pub returns-in-Some : goal.returns-in-Some
 returns-in-Some c columns =
