@@ -1,5 +1,5 @@
 -- Lists that are gone through with something in hand, item by item, where an item may be refused.
-use Rattle.std.proofs.Common.{◌≡◌, ◌∷◌, ◌++◌, ◌+◌, ◌<◌, ◌≤◌, List, [], ℕ, suc, Option, Some, Err, ap, ◌∙◌, sym, subst, drop, drop-cons, get_or, length, arith, option_map}
+use Rattle.std.proofs.Common.{◌≡◌, ◌∷◌, ◌++◌, ◌+◌, ◌<◌, ◌≤◌, List, [], ℕ, suc, Option, Some, None, Err, ap, ◌∙◌, sym, subst, drop, drop-cons, get_or, length, arith, option_map}
 use Rattle.std.proofs.lemmas.List.{drop_all}
 use Rattle.std.specs.List.{fold}
 use Rattle.lq_tree.specs.Binding.{gather_step, walk_step}
@@ -34,6 +34,11 @@ module _ {A S : Type 0} (step : A → S → Option S) (xs : List A) (all : Optio
   -- behind the last item
   pub walk_ends : (s : S) (i : ℕ) → length xs ≤ i → Walks s i → all ≡ Some s
   walk_ends s i over walks = sym walks ∙ ap (λ l. fold (walk_step step) (Some s) l) (drop_all i xs over)
+
+-- where a part is refused, so is what comes of it
+pub stops_beyond : {A B : Type 0} (result : Option A → Option B) (part : Option A) → result None ≡ None → (e : TermError) → Gives part (Err e) → Gives (result part) (Err e)
+stops_beyond result part nothing term.Memory none = tt
+stops_beyond result part nothing term.IllTyped none = ap result none ∙ nothing
 
 -- the same where the results are put behind one another
 module _ {A B : Type 0} (result : A → Option B) (xs : List A) (all : Option (List B)) where

@@ -1,6 +1,6 @@
 -- What terms and their parts are bound to, over the tables of a store and the names of a session that a binder knows, and the local names of
 -- a frame.
-use Rattle.std.specs.Prelude.{List, ℕ, Option, Some, None, take, slice_get, option_and_then, option_map}
+use Rattle.std.specs.Prelude.{List, ℕ, Bool, Option, Some, None, take, slice_get, option_and_then, option_map}
 use Rattle.lq_value.specs.Tables.{first_named}
 use Rattle.lq_value.specs.declared.scalar.Scalar.{Scalar}
 use Rattle.lq_value.specs.declared.table.Schema.{Schema}
@@ -10,9 +10,7 @@ use Rattle.lq_machine.specs.States.{schemas_of}
 use Rattle.lq_machine.specs.declared.session.Defined.{Defined}
 use Rattle.lq_machine.specs.declared.session.Defined.TheVariants as of
 use Rattle.lq_machine.specs.declared.session.Definition.{Definition}
-use Rattle.lq_language.specs.EnumerableCalls.{EnumerableCall, enumerable_call}
-use Rattle.lq_language.specs.Members.{sole_argument}
-use Rattle.lq_language.specs.Names.{table_number}
+use Rattle.lq_language.specs.EnumerableCalls.{EnumerableCall}
 use Rattle.lq_language.specs.Operators.{Pattern}
 use Rattle.lq_language.specs.Types.{when}
 use Rattle.lq_language.specs.declared.calls.Call.{Call}
@@ -69,6 +67,17 @@ query_tree schemas earlier e depth =
 abbrev pub defined_tree : List Schema → List SessionPlace → Defined → ℕ → Tree
 defined_tree schemas earlier (of.Variable t s) depth = literal_tree t s
 defined_tree schemas earlier (of.Query e opened) depth = query_tree schemas earlier e depth
+
+-- ---- parts of records and of `orderby`
+
+-- a member with this value
+abbrev pub member_of : List ℕ → Tree → Option (Field Tree)
+member_of name value = option_map (λ found. record { name = name; value = found }) (binding.placed_tree value)
+
+-- a key with this value
+abbrev pub sort_key_of : Bool → Tree → Option (SortKey Form)
+sort_key_of is_descending value =
+    option_map (λ found. record { value = found.form; descending = is_descending }) (binding.sortable_tree value)
 
 -- ---- joins
 
@@ -131,19 +140,12 @@ module _ (binder : Binder) (frame : Frame) where
 
   -- ---- names
 
-  -- a name that is no local name
-  abbrev pub global_at : List ℕ → Option Tree
-  global_at name = binding.global_tree schemas places name (table_number name schemas)
-
-  -- and none of a table
+  -- a name that is no local name and none of a table
   abbrev pub session_at : List ℕ → Option Tree
   session_at name = session_tree (session_in binder) name (places_in frame).depth
 
   abbrev pub defined_at : Defined → Tree
   defined_at defined = defined_tree schemas (session_in binder) defined (places_in frame).depth
-
-  abbrev pub query_at : Expr → Tree
-  query_at e = query_tree schemas (session_in binder) e (places_in frame).depth
 
   -- ---- methods and records
 
@@ -153,18 +155,8 @@ module _ (binder : Binder) (frame : Frame) where
   abbrev pub search_at : List ℕ → List (Argument Term) → Tree → Option Tree
   search_at name arguments text = binding.search_tree schemas tree name arguments text places
 
-  abbrev pub argument_at : List (Argument Term) → Option Tree
-  argument_at arguments = option_and_then tree_at (sole_argument arguments)
-
-  abbrev pub called_at : List ℕ → List (Argument Term) → Tree → Option Tree
-  called_at name arguments source =
-      binding.called_tree schemas tree (enumerable_call name arguments) source places
-
   abbrev pub enumerable_at : Tree → EnumerableCall Term → Option Tree
   enumerable_at items call = binding.enumerable_tree schemas tree places items.form items.ty call
-
-  abbrev pub lambda_at : Ty → List ℕ → Term → Option Tree
-  lambda_at t parameter body = binding.lambda_tree schemas tree places t parameter body
 
   abbrev pub field_at : Field Term → Option (Field Tree)
   field_at field = binding.field_tree schemas tree places field

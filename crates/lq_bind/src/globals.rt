@@ -8,7 +8,6 @@ use crate::binder::Binder;
 use crate::error::TermError;
 use crate::frames::Frame;
 use crate::names;
-use lq_grammar::Expr;
 use lq_machine::{Defined, Definition};
 use lq_translate::translate_expression;
 use lq_tree::Tree;
@@ -46,29 +45,20 @@ fn definition_of<'a>(
 impl Binder<'_> {
     ghost use Rattle.std.specs.Prelude.{Some};
     ghost use Rattle.lq_grammar.specs.declared.syntax.Node.TheVariants as expression;
-    ghost use Rattle.lq_bind.specs.Bound.{defined_at, global_at, node_at, query_at, session_at};
+    ghost use Rattle.lq_bind.specs.Bound.{defined_at, node_at, session_at};
     ghost use Rattle.lq_bind.specs.Outcomes.{Gives};
 
-    /// What a name stands for: a local name, which hides all others of its spelling.
+    /// What a name stands for: a local name, which hides all others of its spelling; else the rows
+    /// of a table; and else what the session has under it.
     #[cycle(binding)]
     #[inline(never)]
-    #[tactic(auto, using(crate::proofs::TermLaws::local_names))]
+    #[tactic(auto, using(crate::proofs::TermLaws::local_names, crate::proofs::TermLaws::globals))]
     pub(crate) fn name(&self, name: &str, frame: &Frame<'_>) -> Result<Tree, TermError>
         ensures { Gives (node_at self.now frame.now (expression.Name name.now)) result }
     {
         if let Some(local) = frame.find(self.alloc, name)? {
             return Ok(local);
         }
-        self.global(name, frame)
-    }
-
-    /// What a name stands for that is no local name: the rows of a table, and else what the session
-    /// has under it.
-    #[cycle(binding)]
-    #[tactic(auto, using(crate::proofs::TermLaws::globals))]
-    fn global(&self, name: &str, frame: &Frame<'_>) -> Result<Tree, TermError>
-        ensures { Gives (global_at self.now frame.now name.now) result }
-    {
         if let Some(rows) = names::rows(self.alloc, self.store, name)? {
             return Ok(rows);
         }
@@ -96,31 +86,26 @@ impl Binder<'_> {
         }
     }
 
-    /// What a name stands for that was defined where these names of the session were known.
+    /// What a name stands for that was defined where these names of the session were known: the
+    /// value of a variable; or the tree of a named query's expression, which sees no local name of
+    /// the place where it is opened, and that of null, where it has no type there.
     #[cycle(binding)]
+    #[inline(never)]
+    #[tactic(auto, using(crate::proofs::FrameLemmas::chains))]
     fn definition(&self, defined: &Defined, frame: &Frame<'_>) -> Result<Tree, TermError>
         ensures { Gives (Some (defined_at self.now frame.now defined.now)) result }
     {
         match defined {
             Defined::Variable(ty, value) => names::variable(self.alloc, ty, value),
-            Defined::Query(query, _) => self.named_query(query, frame),
-        }
-    }
-
-    /// The tree of a named query's expression, which sees no local name of the place where it is
-    /// opened; that of null, where it has no type there.
-    #[cycle(binding)]
-    #[inline(never)]
-    #[tactic(auto, using(crate::proofs::FrameLemmas::chains))]
-    fn named_query(&self, query: &Expr, frame: &Frame<'_>) -> Result<Tree, TermError>
-        ensures { Gives (Some (query_at self.now frame.now query.now)) result }
-    {
-        let term = translate_expression(self.alloc, query)?;
-        let outside = Frame::Top(frame.depth()?);
-        match self.term(&term, &outside) {
-            Ok(tree) => Ok(tree),
-            Err(TermError::IllTyped) => names::null(self.alloc),
-            Err(TermError::Memory) => Err(TermError::Memory),
+            Defined::Query(query, _) => {
+                let term = translate_expression(self.alloc, query)?;
+                let outside = Frame::Top(frame.depth()?);
+                match self.term(&term, &outside) {
+                    Ok(tree) => Ok(tree),
+                    Err(TermError::IllTyped) => names::null(self.alloc),
+                    Err(TermError::Memory) => Err(TermError::Memory),
+                }
+            }
         }
     }
 }

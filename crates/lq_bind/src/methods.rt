@@ -5,16 +5,15 @@ use crate::frames::Frame;
 use crate::method_names::{method_with_lambda, method_with_value, search_named, simple_method};
 use crate::{method_trees, operations, type_checks};
 use lq_grammar::Argument;
-use lq_language::{Given, Term, Through};
+use lq_language::{Term, Through};
 use lq_tree::Tree;
 use lq_typing::is_text;
-use lq_value::{Txt, Ty};
+use lq_value::Txt;
 
 impl Binder<'_> {
     ghost use Rattle.std.specs.Prelude.{option_and_then};
-    ghost use Rattle.lq_language.specs.EnumerableCalls.{By, With, enumerable_call};
-    ghost use Rattle.lq_bind.specs.Bound.{argument_at, called_at, enumerable_at, lambda_at};
-    ghost use Rattle.lq_bind.specs.Bound.{method_at, search_at};
+    ghost use Rattle.lq_language.specs.EnumerableCalls.{By, enumerable_call};
+    ghost use Rattle.lq_bind.specs.Bound.{enumerable_at, method_at, search_at};
     ghost use Rattle.lq_bind.specs.Outcomes.{Gives};
 
     /// A method of this name of what the receiver means.
@@ -32,23 +31,10 @@ impl Binder<'_> {
         if is_text(&receiver.ty) {
             return self.search(arguments, name, receiver, frame);
         }
-        let tree = self.sequence_method(arguments, name, receiver, frame)?;
+        let items = type_checks::items(receiver)?;
+        let tree = self.items_method(arguments, name, items, frame)?;
+        let tree = type_checks::within_limit(tree)?;
         type_checks::settle(self.alloc, tree)
-    }
-
-    /// The one argument of a method that takes one and no lambda.
-    #[cycle(binding)]
-    fn sole_argument(
-        &self,
-        arguments: &[Argument<Term>],
-        frame: &Frame<'_>,
-    ) -> Result<Tree, TermError>
-        ensures { Gives (argument_at self.now frame.now arguments.now) result }
-    {
-        match arguments {
-            [Argument::Value(value)] => self.term(value, frame),
-            _ => Err(TermError::IllTyped),
-        }
     }
 
     /// A search for one text in another.
@@ -63,24 +49,13 @@ impl Binder<'_> {
         ensures { Gives (search_at self.now frame.now name.now arguments.now text) result }
     {
         let op = search_named(name).ok_or(TermError::IllTyped)?;
-        let needle = self.sole_argument(arguments, frame)?;
-        operations::search(self.alloc, op, text, needle)
-    }
-
-    /// A method of what is enumerated.
-    #[cycle(binding)]
-    fn sequence_method(
-        &self,
-        arguments: &[Argument<Term>],
-        name: &str,
-        receiver: Tree,
-        frame: &Frame<'_>,
-    ) -> Result<Tree, TermError>
-        ensures { Gives (called_at self.now frame.now name.now arguments.now receiver) result }
-    {
-        let items = type_checks::items(receiver)?;
-        let tree = self.items_method(arguments, name, items, frame)?;
-        type_checks::within_limit(tree)
+        match arguments {
+            [Argument::Value(needle)] => {
+                let needle = self.term(needle, frame)?;
+                operations::search(self.alloc, op, text, needle)
+            }
+            _ => Err(TermError::IllTyped),
+        }
     }
 
     /// A method on items.
@@ -102,7 +77,8 @@ impl Binder<'_> {
             }
             [Argument::Value(argument)] => {
                 let method = method_with_value(name).ok_or(TermError::IllTyped)?;
-                self.value_method(argument, method, items, frame)
+                let argument = self.term(argument, frame)?;
+                method_trees::with_value(self.alloc, method, items, argument)
             }
             [Argument::Lambda(parameter, body)] => {
                 let method = method_with_lambda(name).ok_or(TermError::IllTyped)?;
@@ -112,23 +88,7 @@ impl Binder<'_> {
         }
     }
 
-    /// A method with an argument.
-    #[cycle(binding)]
-    fn value_method(
-        &self,
-        argument: &Term,
-        method: Given,
-        items: Tree,
-        frame: &Frame<'_>,
-    ) -> Result<Tree, TermError>
-        ensures { Gives (enumerable_at self.now frame.now items
-            (With method argument.now)) result }
-    {
-        let argument = self.term(argument, frame)?;
-        method_trees::with_value(self.alloc, method, items, argument)
-    }
-
-    /// A method with a lambda.
+    /// A method with a lambda, whose parameter stands for an item and repeats no local name.
     #[cycle(binding)]
     fn lambda_method(
         &self,
@@ -141,25 +101,11 @@ impl Binder<'_> {
         ensures { Gives (enumerable_at self.now frame.now items
             (By method parameter.now body.now)) result }
     {
-        let body = self.lambda(body, parameter, &items.ty, frame)?;
-        method_trees::with_lambda(self.alloc, method, items, body)
-    }
-
-    /// The body of a lambda, whose parameter has this type and repeats no local name.
-    #[cycle(binding)]
-    fn lambda(
-        &self,
-        body: &Term,
-        parameter: &Txt,
-        item: &Ty,
-        frame: &Frame<'_>,
-    ) -> Result<Tree, TermError>
-        ensures { Gives (lambda_at self.now frame.now item.now parameter.now body.now) result }
-    {
         if !frame.is_fresh(parameter.as_str()) {
             return Err(TermError::IllTyped);
         }
-        let inner = (&*frame).with_name(&*parameter, &*item);
-        self.term(body, &inner)
+        let inner = (&*frame).with_name(&*parameter, &items.ty);
+        let body = self.term(body, &inner)?;
+        method_trees::with_lambda(self.alloc, method, items, body)
     }
 }

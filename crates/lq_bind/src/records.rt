@@ -1,5 +1,8 @@
 //! The binding of records and of the keys of `orderby` (ECMA-334, anonymous object creation
 //! expressions and orderby clauses).
+ghost use Rattle.lq_bind.specs.Bound.{member_of, sort_key_of};
+ghost use Rattle.lq_bind.specs.Outcomes.{Gives};
+
 use crate::binder::Binder;
 use crate::error::TermError;
 use crate::frames::Frame;
@@ -9,6 +12,27 @@ use lq_grammar::{Field, SortKey};
 use lq_language::Term;
 use lq_tree::{Form, Tree};
 use lq_value::{List, Txt};
+use std::alloc::Global;
+
+/// A member of a record with this value, which is not null by its type.
+fn member(alloc: Global, name: &Txt, value: Tree) -> Result<Field<Tree>, TermError>
+    ensures { Gives (member_of name.now value) result }
+{
+    let value = type_checks::not_null(value)?;
+    let name = Txt::from_str(alloc, name.as_str())?;
+    Ok(Field { name, value })
+}
+
+/// A key of `orderby` with this value, which is of a type that it sorts by.
+fn sort_key(is_descending: bool, value: Tree) -> Result<SortKey<Form>, TermError>
+    ensures { Gives (sort_key_of is_descending value) result }
+{
+    let value = type_checks::sort_key(value)?;
+    Ok(SortKey {
+        value: into_form(value).into_inner(),
+        descending: is_descending,
+    })
+}
 
 impl Binder<'_> {
     ghost use Rattle.lq_grammar.specs.declared.syntax.Node.TheVariants as expression;
@@ -44,21 +68,11 @@ impl Binder<'_> {
     {
         let mut members = List::new(self.alloc);
         for field in fields {
-            let member = self.field(field, frame)?;
+            let value = self.term(&field.value, frame)?;
+            let member = member(self.alloc, &field.name, value)?;
             members.push(member)?;
         }
         Ok(members)
-    }
-
-    /// A member of a record, which is not null by its type.
-    #[cycle(binding)]
-    fn field(&self, field: &Field<Term>, frame: &Frame<'_>) -> Result<Field<Tree>, TermError>
-        ensures { Gives (field_at self.now frame.now field.now) result }
-    {
-        let value = self.term(&field.value, frame)?;
-        let value = type_checks::not_null(value)?;
-        let name = Txt::from_str(self.alloc, field.name.as_str())?;
-        Ok(Field { name, value })
     }
 
     /// The keys of `orderby`.
@@ -72,22 +86,10 @@ impl Binder<'_> {
     {
         let mut forms = List::new(self.alloc);
         for key in keys {
-            let form = self.sort_key(key, frame)?;
+            let value = self.term(&key.value, frame)?;
+            let form = sort_key(key.descending, value)?;
             forms.push(form)?;
         }
         Ok(forms)
-    }
-
-    /// A key of `orderby`, which is of a type that it sorts by.
-    #[cycle(binding)]
-    fn sort_key(&self, key: &SortKey<Term>, frame: &Frame<'_>) -> Result<SortKey<Form>, TermError>
-        ensures { Gives (sort_key_at self.now frame.now key.now) result }
-    {
-        let value = self.term(&key.value, frame)?;
-        let value = type_checks::sort_key(value)?;
-        Ok(SortKey {
-            value: into_form(value).into_inner(),
-            descending: key.descending,
-        })
     }
 }

@@ -2,7 +2,6 @@
 -- what each loop keeps.
 use Rattle.std.proofs.Common.{◌+◌, ◌*◌, max}
 use Rattle.lq_language.specs.declared.calls.Term.{size-Term}
-use Rattle.lq_translate.specs.Translated.{translated}
 use Rattle.lq_tree.specs.Binding.{gather_step, gathered, walked}
 use Rattle.lq_bind.specs.Bound.{field_at, operator_at, part_at, sort_key_at}
 use Rattle.lq_bind.specs.Frames.{stage_in}
@@ -19,17 +18,11 @@ decreases-node l = 32 * goal.size-node l + 31 + weight l.self.now.definitions.no
 abbrev pub decreases-name : goal.decreases-name
 decreases-name l = 12 + weight l.self.now.definitions.now
 
-abbrev pub decreases-global : goal.decreases-global
-decreases-global l = 10 + weight l.self.now.definitions.now
-
 abbrev pub decreases-session_name : goal.decreases-session_name
 decreases-session_name l = 8 + weight l.self.now.definitions.now
 
 abbrev pub decreases-definition : goal.decreases-definition
 decreases-definition l = weight_of l.defined.now + 6 + weight l.self.now.definitions.now
-
-abbrev pub decreases-named_query : goal.decreases-named_query
-decreases-named_query l = 32 * size-Term (translated l.query.now) + 4 + weight l.self.now.definitions.now
 
 abbrev pub decreases-member : goal.decreases-member
 decreases-member l = 32 * goal.size-member l + 5 + weight l.self.now.definitions.now
@@ -43,32 +36,17 @@ decreases-new_record l = 32 * goal.size-new_record l + 8 + weight l.self.now.def
 abbrev pub decreases-fields : goal.decreases-fields
 decreases-fields l = 32 * goal.size-fields l + 6 + weight l.self.now.definitions.now
 
-abbrev pub decreases-field : goal.decreases-field
-decreases-field l = 32 * goal.size-field l + 4 + weight l.self.now.definitions.now
-
 abbrev pub decreases-method : goal.decreases-method
 decreases-method l = 32 * goal.size-method l + 12 + weight l.self.now.definitions.now
 
 abbrev pub decreases-search : goal.decreases-search
 decreases-search l = 32 * goal.size-search l + 10 + weight l.self.now.definitions.now
 
-abbrev pub decreases-sequence_method : goal.decreases-sequence_method
-decreases-sequence_method l = 32 * goal.size-sequence_method l + 10 + weight l.self.now.definitions.now
-
 abbrev pub decreases-items_method : goal.decreases-items_method
 decreases-items_method l = 32 * goal.size-items_method l + 9 + weight l.self.now.definitions.now
 
-abbrev pub decreases-sole_argument : goal.decreases-sole_argument
-decreases-sole_argument l = 32 * goal.size-sole_argument l + 5 + weight l.self.now.definitions.now
-
-abbrev pub decreases-value_method : goal.decreases-value_method
-decreases-value_method l = 32 * goal.size-value_method l + 5 + weight l.self.now.definitions.now
-
 abbrev pub decreases-lambda_method : goal.decreases-lambda_method
 decreases-lambda_method l = 32 * goal.size-lambda_method l + 5 + weight l.self.now.definitions.now
-
-abbrev pub decreases-lambda : goal.decreases-lambda
-decreases-lambda l = 32 * goal.size-lambda l + 3 + weight l.self.now.definitions.now
 
 abbrev pub decreases-call : goal.decreases-call
 decreases-call l = 32 * goal.size-call l + 31 + weight l.self.now.definitions.now
@@ -117,9 +95,6 @@ decreases-order_by l = 32 * goal.size-order_by l + 12 + weight l.self.now.defini
 
 abbrev pub decreases-sort_keys : goal.decreases-sort_keys
 decreases-sort_keys l = 32 * goal.size-sort_keys l + 10 + weight l.self.now.definitions.now
-
-abbrev pub decreases-sort_key : goal.decreases-sort_key
-decreases-sort_key l = 32 * goal.size-sort_key l + 8 + weight l.self.now.definitions.now
 
 abbrev pub decreases-element : goal.decreases-element
 decreases-element l = 32 * goal.size-element l + 8 + weight l.self.now.definitions.now
