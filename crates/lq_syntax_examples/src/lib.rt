@@ -1,7 +1,9 @@
-//! Tests of tokens, of trees and of total rules, by the public calls that give them. They are here
+//! Tests of tokens, of trees, of total rules and of the calls that queries stand for, by the public calls that give them. They are here
 //! and not in the crates that they test: a crate without tests is proved once.
 #![tactic(auto)]
 
+#[cfg(test)]
+mod queries;
 #[cfg(test)]
 mod rules;
 #[cfg(test)]

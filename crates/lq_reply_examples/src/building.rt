@@ -58,11 +58,13 @@ pub(crate) fn store(rt: &impl Abort, alloc: Global) -> Result<Store, AllocError>
     Ok(store)
 }
 
-fn sequence(alloc: Global, item: Ty) -> Result<Ty, AllocError> {
+/// The type of a sequence of such items.
+pub(crate) fn sequence(alloc: Global, item: Ty) -> Result<Ty, AllocError> {
     Ok(Ty::Seq(Held::new(alloc, item)?))
 }
 
-fn group(alloc: Global, key: Ty, element: Ty) -> Result<Ty, AllocError> {
+/// The type of a group of such elements.
+pub(crate) fn group(alloc: Global, key: Ty, element: Ty) -> Result<Ty, AllocError> {
     Ok(Ty::Group(Held::new(alloc, key)?, Held::new(alloc, element)?))
 }
 
@@ -87,20 +89,45 @@ pub(crate) fn ty(alloc: Global, served: Served) -> Result<Option<Ty>, AllocError
     Ok(Some(ty))
 }
 
-/// What is read of a line.
-pub(crate) fn shown(
+// What is read of a line by its type. The functions that own a store or a type are apart: what costs most to prove of a test is that it
+// frees these wherever it can end.
+fn text_of<'a>(
+    alloc: Global,
+    store: &'a Store,
+    ty: Option<&'a Ty>,
+    most_rows: usize,
+    line: &[u8],
+) -> Result<String, AllocError> {
+    let layout = Layout {
+        ty,
+        store,
+        most_rows,
+    };
+    reply_text(alloc, line, &layout)
+}
+
+fn shown(
+    alloc: Global,
+    store: &Store,
+    served: Served,
+    most_rows: usize,
+    line: &[u8],
+) -> Result<String, AllocError> {
+    let ty = ty(alloc, served)?;
+    text_of(alloc, store, ty.as_ref(), most_rows, line)
+}
+
+/// This is to be read of a line.
+pub(crate) fn assert_shown(
     rt: &impl Abort,
     alloc: Global,
     served: Served,
     most_rows: usize,
     line: &[u8],
-) -> Result<String, AllocError> {
+    expected: &str,
+) -> Result<(), AllocError> {
     let store = store(rt, alloc)?;
-    let ty = ty(alloc, served)?;
-    let layout = Layout {
-        ty: ty.as_ref(),
-        store: &store,
-        most_rows,
-    };
-    reply_text(alloc, line, &layout)
+    let text = shown(alloc, &store, served, most_rows, line)?;
+    assert!(rt; text.as_str() == expected, "{text}and not\n{expected}");
+    Ok(())
 }

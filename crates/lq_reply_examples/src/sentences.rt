@@ -1,5 +1,5 @@
 //! Replies without rows, and lines that aren't replies.
-use crate::building::{Served, shown};
+use crate::building::{Served, assert_shown};
 use std::test::Fail;
 
 /// Lines, and what is read of them.
@@ -95,21 +95,29 @@ const CASES: [(&str, &str); 32] = [
 
 #[test]
 fn sentences(rt: HostRuntime) -> Result<(), Fail> {
-    let alloc = rt.alloc();
     for (line, expected) in &CASES {
-        let text = shown(&rt, alloc, Served::Unknown, 10, line.as_bytes())?;
-        if text.as_str() != *expected {
-            println!(rt; "{line}gives\n{text}and not\n{expected}")?;
-        }
-        assert!(rt; text.as_str() == *expected);
+        assert_shown(
+            &rt,
+            rt.alloc(),
+            Served::Unknown,
+            10,
+            line.as_bytes(),
+            expected,
+        )?;
     }
     Ok(())
 }
 
 #[test]
 fn bytes_that_are_no_text(rt: HostRuntime) -> Result<(), Fail> {
-    let alloc = rt.alloc();
-    let text = shown(&rt, alloc, Served::Unknown, 10, &[0xff, 0xfe])?;
-    assert!(rt; text.as_str() == "the reply is no text in UTF-8\n");
+    let expected = "the reply is no text in UTF-8\n";
+    assert_shown(
+        &rt,
+        rt.alloc(),
+        Served::Unknown,
+        10,
+        &[0xff, 0xfe],
+        expected,
+    )?;
     Ok(())
 }

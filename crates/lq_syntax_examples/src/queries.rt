@@ -1,13 +1,13 @@
 //! The calls that queries are translated to, each query spelled as a script has it.
 use lq_grammar::{Expr, Query, Statement};
 use lq_language::{Call, Operator, Paired, Term};
-use lq_syntax::{SyntaxError, parse_statement};
+use lq_syntax::parse_statement;
 use lq_translate::translate;
 use std::alloc::{AllocError, Global};
 use std::test::Fail;
 
 /// Queries, each with its calls, and with those of what follows by the first `into`.
-const QUERIES: [(&str, &[&str], &[&str]); 18] = [
+const QUERIES: [(&str, &[&str], &[&str]); 17] = [
     ("run from x in t select x;", &["Select"], &[]),
     ("run from x in t where x.a select x;", &["Where"], &[]),
     (
@@ -77,11 +77,6 @@ const QUERIES: [(&str, &[&str], &[&str]); 18] = [
         &["GroupBy"],
         &["Select"],
     ),
-    (
-        "run from x in (from y in t where y.a select y) select x;",
-        &["Select"],
-        &[],
-    ),
 ];
 
 // A call by its name, with what it makes of pairs.
@@ -111,86 +106,73 @@ fn are_named(operators: &[Operator<Term>], words: &[&str]) -> bool {
             .all(|(operator, word)| word_of(operator) == *word)
 }
 
-fn is_made_of(call: &Call<Term>, words: &[&str], behind: &[&str]) -> bool {
-    are_named(call.operators.as_slice(), words)
+// Whether this is the call of these operators, or no call where there are none.
+fn is_call_of(source: &Term, words: &[&str]) -> bool {
+    match source {
+        Term::Call(call) => are_named(call.get().operators.as_slice(), words),
+        Term::Node(_) => words.is_empty(),
+    }
+}
+
+/// The calls that a query is translated to: those that its source is, its own, and those behind the first `into`.
+#[derive(Clone, Copy)]
+struct Calls<'a> {
+    within: &'a [&'a str],
+    own: &'a [&'a str],
+    behind: &'a [&'a str],
+}
+
+fn is_made_of(call: &Call<Term>, calls: Calls<'_>) -> bool {
+    is_call_of(&call.source, calls.within)
+        && are_named(call.operators.as_slice(), calls.own)
         && match call.rest.as_slice() {
-            [] => behind.is_empty(),
-            [part, ..] => are_named(part.operators.as_slice(), behind),
+            [] => calls.behind.is_empty(),
+            [part, ..] => are_named(part.operators.as_slice(), calls.behind),
         }
 }
 
-// Whether a query is translated to these calls. A function of its own, like the next four: what costs most to prove of a test is that
+// Whether a query is translated to these calls. A function of its own, like the next two: what costs most to prove of a test is that
 // it frees a tree.
-fn has_calls(
-    alloc: Global,
-    query: &Query<Expr>,
-    words: &[&str],
-    behind: &[&str],
-) -> Result<bool, AllocError> {
-    Ok(is_made_of(&translate(alloc, query)?, words, behind))
+fn has_calls(alloc: Global, query: &Query<Expr>, calls: Calls<'_>) -> Result<bool, AllocError> {
+    Ok(is_made_of(&translate(alloc, query)?, calls))
 }
 
-fn has_where_within(alloc: Global, query: &Query<Expr>) -> Result<bool, AllocError> {
-    Ok(holds_where(&translate(alloc, query)?.source))
-}
-
-// The query that a statement runs.
-fn query_of(statement: &Statement) -> Option<&Query<Expr>> {
+// Whether a statement runs such a query.
+fn runs_calls(alloc: Global, statement: &Statement, calls: Calls<'_>) -> Result<bool, AllocError> {
     match statement {
-        Statement::Run(Expr::Query(query)) => Some(query.get()),
-        _ => None,
+        Statement::Run(Expr::Query(query)) => has_calls(alloc, query.get(), calls),
+        _ => Ok(false),
     }
 }
 
-// Whether the line is a query that is translated to these calls.
-fn is_translated(
-    alloc: Global,
-    line: &str,
-    words: &[&str],
-    behind: &[&str],
-) -> Result<bool, SyntaxError> {
+fn is_translated(alloc: Global, line: &str, calls: Calls<'_>) -> Result<bool, Fail> {
     match parse_statement(alloc, line)? {
-        Some(statement) => Ok(query_of(&statement).is_some_and(|query| matches!(
-            has_calls(alloc, query, words, behind),
-            Ok(true)
-        ))),
+        Some(statement) => Ok(runs_calls(alloc, &statement, calls)?),
         None => Ok(false),
-    }
-}
-
-// Whether the source of the line's query is itself a call, whose only operator is a `Where`.
-fn is_nested(alloc: Global, line: &str) -> Result<bool, SyntaxError> {
-    match parse_statement(alloc, line)? {
-        Some(statement) => Ok(query_of(&statement).is_some_and(|query| matches!(
-            has_where_within(alloc, query),
-            Ok(true)
-        ))),
-        None => Ok(false),
-    }
-}
-
-fn holds_where(source: &Term) -> bool {
-    match source {
-        Term::Call(call) => are_named(call.get().operators.as_slice(), &["Where"]),
-        Term::Node(_) => false,
     }
 }
 
 #[test]
 fn queries_stand_for_calls(rt: HostRuntime) -> Result<(), Fail> {
-    for (line, words, behind) in &QUERIES {
-        assert!(rt; is_translated(rt.alloc(), line, words, behind)?, "{line}");
+    for (line, own, behind) in &QUERIES {
+        let calls = Calls {
+            within: &[],
+            own,
+            behind,
+        };
+        assert!(rt; is_translated(rt.alloc(), line, calls)?, "{line}");
     }
     Ok(())
 }
 
 #[test]
 fn inner_queries_are_translated_in_place(rt: HostRuntime) -> Result<(), Fail> {
-    assert!(rt;
-        is_nested(
-            rt.alloc(),
-            "run from x in (from y in t where y.a select y) select x;"
-        )?
-    );
+    let line = "run from x in (from y in t where y.a select y) select x;";
+    let calls = Calls {
+        within: &["Where"],
+        own: &["Select"],
+        behind: &[],
+    };
+    assert!(rt; is_translated(rt.alloc(), line, calls)?);
     Ok(())
 }

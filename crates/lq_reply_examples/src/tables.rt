@@ -1,5 +1,6 @@
 //! Items and values as tables and lists.
-use crate::building::{Served, shown};
+use crate::building::{Served, assert_shown};
+use std::alloc::{AllocError, Global};
 use std::test::Fail;
 
 /// Lines that serve such a type, the most rows, and what is read of them.
@@ -110,27 +111,41 @@ const CASES: [(Served, usize, &str, &str); 18] = [
 
 #[test]
 fn items_and_values(rt: HostRuntime) -> Result<(), Fail> {
-    let alloc = rt.alloc();
     for (served, most_rows, line, expected) in &CASES {
-        let text = shown(&rt, alloc, *served, *most_rows, line.as_bytes())?;
-        if text.as_str() != *expected {
-            println!(rt; "{line}gives\n{text}and not\n{expected}")?;
-        }
-        assert!(rt; text.as_str() == *expected);
+        assert_shown(
+            &rt,
+            rt.alloc(),
+            *served,
+            *most_rows,
+            line.as_bytes(),
+            expected,
+        )?;
     }
     Ok(())
 }
 
-/// More than a thousand items are left out.
-#[test]
-fn thousands_of_items(rt: HostRuntime) -> Result<(), Fail> {
-    let alloc = rt.alloc();
+// A line of 4,216 items.
+fn long_line(alloc: Global) -> Result<String, AllocError> {
     let mut line = String::from_str(alloc, "{\"items\":[0")?;
     for _ in 0..4215 {
         line.push_str(",1")?;
     }
     line.push_str("]}\n")?;
-    let text = shown(&rt, alloc, Served::Numbers, 5, line.as_bytes())?;
-    assert!(rt; text.as_str() == "0\n1\n1\n1\n1\n… 4,211 more\n");
+    Ok(line)
+}
+
+/// More than a thousand items are left out.
+#[test]
+fn thousands_of_items(rt: HostRuntime) -> Result<(), Fail> {
+    let line = long_line(rt.alloc())?;
+    let expected = "0\n1\n1\n1\n1\n… 4,211 more\n";
+    assert_shown(
+        &rt,
+        rt.alloc(),
+        Served::Numbers,
+        5,
+        line.as_bytes(),
+        expected,
+    )?;
     Ok(())
 }
