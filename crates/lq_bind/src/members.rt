@@ -17,7 +17,7 @@ use lq_language::Op;
 use lq_store::Store;
 use lq_tree::{Form, Tree};
 use lq_typing::copy_ty;
-use lq_value::{Held, TableNumber, Txt, Ty};
+use lq_value::{Held, Txt, Ty};
 use std::alloc::Global;
 
 /// The place of a record's member of this name.
