@@ -1,76 +1,100 @@
 //! What expressions without names mean, and which rules hold on a row, each spelled as a script or a policy has it. Operators row by row
 //! are shown by the built program (tests/cli).
 use crate::tables::cells;
-use crate::values::spelled;
-use lq_scalar::{Cells, ExprType, Named, Names, Op, ScalarError, apply, eval, holds, is_total};
+use lq_grammar::Expr;
+use lq_scalar::{
+    Cells, ExprType, Named, Names, Op, ScalarError, ScalarRef, apply, eval, holds, is_total,
+};
 use lq_syntax::parse_rule;
-use lq_value::{Fault, Scalar, TableNumber, Txt};
+use lq_value::{Fault, Scalar, TableNumber, Txt, order};
 use std::alloc::{AllocError, Global};
+use std::cmp::Ordering;
 use std::test::Fail;
 
-/// Expressions, each with its scalar as a row spells it or its fault.
-const EXPRESSIONS: [(&str, &str); 40] = [
-    ("1 - 2 - 3", "-4"),
-    ("7 / -2 * 2 + 7 % -2", "-5"),
-    ("-2147483648 / -1", "Overflow"),
-    ("-2147483648 % -1", "Overflow"),
-    ("- -2147483648", "Overflow"),
-    ("1 / 0 + 2147483647 * 2", "DivideByZero"),
-    ("2147483647 * 2 + 1 / 0", "Overflow"),
-    ("false && 1 / 0 == 0", "false"),
-    ("true || 1 / 0 == 0", "true"),
-    ("1 / 0 == 0 && false", "DivideByZero"),
-    ("!(1 < 2)", "false"),
-    ("true ? 1 : 1 / 0", "1"),
-    ("false ? 1 : 1 / 0", "DivideByZero"),
-    ("true ? \"a\" : null", "'a'"),
-    ("false ? \"a\" : null", "null"),
-    ("null == null", "true"),
-    ("1 == null", "false"),
-    ("null != 1", "true"),
-    ("\"a\" == \"a\"", "true"),
-    ("\"a\" == null", "false"),
-    ("true != false", "true"),
-    ("null == 1 / 0", "DivideByZero"),
-    ("\"a\" + \"b\"", "'ab'"),
-    ("\"a\" + null", "'a'"),
-    ("null + \"a\"", "'a'"),
-    ("(false ? \"a\" : null) + null", "''"),
-    ("(false ? \"a\" : null) + (false ? \"b\" : null)", "''"),
-    ("(false ? \"a\" : null) ?? \"b\"", "'b'"),
-    ("\"a\" ?? (1 / 0 == 0 ? \"b\" : \"c\")", "'a'"),
-    ("\"a\u{1f600}\".Length", "3"),
-    ("(false ? \"a\" : null).Length", "NullReference"),
-    ("(\"a\" + \"b\").Length", "2"),
-    ("\"abc\".StartsWith(\"\")", "true"),
-    ("\"abc\".StartsWith(\"abcd\")", "false"),
-    ("\"abc\".EndsWith(\"bc\")", "true"),
-    ("\"abc\".Contains(\"c\" + \"\")", "true"),
-    ("\"\".Contains(\"\")", "true"),
-    ("(false ? \"a\" : null).Contains(\"a\")", "NullReference"),
-    ("\"a\".Contains(false ? \"a\" : null)", "NullReference"),
+/// Expressions, each with its scalar or its fault.
+const EXPRESSIONS: [(&str, Result<ScalarRef<'static>, Fault>); 40] = [
+    ("1 - 2 - 3", Ok(ScalarRef::Int(-4))),
+    ("7 / -2 * 2 + 7 % -2", Ok(ScalarRef::Int(-5))),
+    ("-2147483648 / -1", Err(Fault::Overflow)),
+    ("-2147483648 % -1", Err(Fault::Overflow)),
+    ("- -2147483648", Err(Fault::Overflow)),
+    ("1 / 0 + 2147483647 * 2", Err(Fault::DivideByZero)),
+    ("2147483647 * 2 + 1 / 0", Err(Fault::Overflow)),
+    ("false && 1 / 0 == 0", Ok(ScalarRef::Bool(false))),
+    ("true || 1 / 0 == 0", Ok(ScalarRef::Bool(true))),
+    ("1 / 0 == 0 && false", Err(Fault::DivideByZero)),
+    ("!(1 < 2)", Ok(ScalarRef::Bool(false))),
+    ("true ? 1 : 1 / 0", Ok(ScalarRef::Int(1))),
+    ("false ? 1 : 1 / 0", Err(Fault::DivideByZero)),
+    ("true ? \"a\" : null", Ok(ScalarRef::Text("a"))),
+    ("false ? \"a\" : null", Ok(ScalarRef::Null)),
+    ("null == null", Ok(ScalarRef::Bool(true))),
+    ("1 == null", Ok(ScalarRef::Bool(false))),
+    ("null != 1", Ok(ScalarRef::Bool(true))),
+    ("\"a\" == \"a\"", Ok(ScalarRef::Bool(true))),
+    ("\"a\" == null", Ok(ScalarRef::Bool(false))),
+    ("true != false", Ok(ScalarRef::Bool(true))),
+    ("null == 1 / 0", Err(Fault::DivideByZero)),
+    ("\"a\" + \"b\"", Ok(ScalarRef::Text("ab"))),
+    ("\"a\" + null", Ok(ScalarRef::Text("a"))),
+    ("null + \"a\"", Ok(ScalarRef::Text("a"))),
+    ("(false ? \"a\" : null) + null", Ok(ScalarRef::Text(""))),
+    (
+        "(false ? \"a\" : null) + (false ? \"b\" : null)",
+        Ok(ScalarRef::Text("")),
+    ),
+    ("(false ? \"a\" : null) ?? \"b\"", Ok(ScalarRef::Text("b"))),
+    (
+        "\"a\" ?? (1 / 0 == 0 ? \"b\" : \"c\")",
+        Ok(ScalarRef::Text("a")),
+    ),
+    ("\"a\u{1f600}\".Length", Ok(ScalarRef::Int(3))),
+    ("(false ? \"a\" : null).Length", Err(Fault::NullReference)),
+    ("(\"a\" + \"b\").Length", Ok(ScalarRef::Int(2))),
+    ("\"abc\".StartsWith(\"\")", Ok(ScalarRef::Bool(true))),
+    ("\"abc\".StartsWith(\"abcd\")", Ok(ScalarRef::Bool(false))),
+    ("\"abc\".EndsWith(\"bc\")", Ok(ScalarRef::Bool(true))),
+    ("\"abc\".Contains(\"c\" + \"\")", Ok(ScalarRef::Bool(true))),
+    ("\"\".Contains(\"\")", Ok(ScalarRef::Bool(true))),
+    (
+        "(false ? \"a\" : null).Contains(\"a\")",
+        Err(Fault::NullReference),
+    ),
+    (
+        "\"a\".Contains(false ? \"a\" : null)",
+        Err(Fault::NullReference),
+    ),
     (
         "(false ? \"a\" : null).Contains(1 / 0 == 0 ? \"a\" : \"b\")",
-        "DivideByZero",
+        Err(Fault::DivideByZero),
     ),
 ];
 
+type Pair = [ScalarRef<'static>; 2];
+
+const ANN_OF_3: Pair = [ScalarRef::Text("ann"), ScalarRef::Int(3)];
+
+const BOB_OF_3: Pair = [ScalarRef::Text("bob"), ScalarRef::Int(3)];
+
+const NOBODY_OF_3: Pair = [ScalarRef::Null, ScalarRef::Int(3)];
+
+const ANN_OF_NONE: Pair = [ScalarRef::Text("ann"), ScalarRef::Null];
+
 /// Total rules on a row whose columns are named `name` and `boss`, for the user ann: the cells, the rule, and whether it holds.
-const RULES: [(&str, &str, &str, bool); 9] = [
-    ("'ann'", "3", "row.name == user", true),
-    ("'bob'", "3", "row.name == user", false),
-    ("null", "3", "row.name == user", false),
-    ("'ann'", "null", "row.boss == null", true),
-    ("'ann'", "null", "row.boss.HasValue", false),
-    ("'ann'", "3", "row.boss.HasValue && row.boss < 4", true),
-    ("'ann'", "null", "(row.boss ?? 7) / 2 == 3", true),
+const RULES: [(Pair, &str, bool); 9] = [
+    (ANN_OF_3, "row.name == user", true),
+    (BOB_OF_3, "row.name == user", false),
+    (NOBODY_OF_3, "row.name == user", false),
+    (ANN_OF_NONE, "row.boss == null", true),
+    (ANN_OF_NONE, "row.boss.HasValue", false),
+    (ANN_OF_3, "row.boss.HasValue && row.boss < 4", true),
+    (ANN_OF_NONE, "(row.boss ?? 7) / 2 == 3", true),
     (
-        "'ann'",
-        "3",
+        ANN_OF_3,
         "user.StartsWith(\"a\") && (row.name ?? \"\").EndsWith(\"nn\")",
         true,
     ),
-    ("'ann'", "3", "row.salary > 0", false),
+    (ANN_OF_3, "row.salary > 0", false),
 ];
 
 /// No names at all.
@@ -109,59 +133,89 @@ impl Names for NoNames {
     }
 }
 
-// The result as a row spells it.
-fn word_of(alloc: Global, found: &Result<Scalar, ScalarError>) -> Result<String, AllocError> {
-    match found {
-        Ok(Scalar::Null) => String::from_str(alloc, "null"),
-        Ok(Scalar::Int(number)) => format!(in alloc; "{number}"),
-        Ok(Scalar::Bool(truth)) => format!(in alloc; "{truth}"),
-        Ok(Scalar::Text(text)) => format!(in alloc; "'{}'", text.as_str()),
-        Err(ScalarError::Fault(fault)) => format!(in alloc; "{fault:?}"),
-        Err(ScalarError::Memory) => Err(AllocError),
+// Whether the scalar is this one.
+fn is_scalar(alloc: Global, scalar: &Scalar, other: ScalarRef<'_>) -> Result<bool, AllocError> {
+    Ok(order(scalar, &other.copied(alloc)?) == Ordering::Equal)
+}
+
+// Whether what was found is the expected scalar or fault.
+fn is_expected(
+    alloc: Global,
+    found: &Result<Scalar, ScalarError>,
+    expected: Result<ScalarRef<'_>, Fault>,
+) -> Result<bool, AllocError> {
+    match (found, expected) {
+        (Ok(scalar), Ok(other)) => is_scalar(alloc, scalar, other),
+        (Err(ScalarError::Fault(fault)), Err(expected)) => Ok(*fault == expected),
+        _ => Ok(false),
     }
 }
 
-fn meant(alloc: Global, text: &str) -> Result<String, Fail> {
+fn means(alloc: Global, text: &str, expected: Result<ScalarRef<'_>, Fault>) -> Result<bool, Fail> {
     let expression = parse_rule(alloc, text)?;
-    Ok(word_of(alloc, &eval(alloc, &expression, &NoNames))?)
-}
-
-// Whether a rule, which must be total, holds on the row for ann.
-fn holds_for_ann(alloc: Global, name: &str, boss: &str, text: &str) -> Result<bool, Fail> {
-    let rule = parse_rule(alloc, text)?;
-    if !is_total(&rule) {
-        return Err(Fail::from("the rule may fault"));
-    }
-    let columns = [Txt::from_str(alloc, "name")?, Txt::from_str(alloc, "boss")?];
-    let cells = [spelled(alloc, name)?, spelled(alloc, boss)?];
-    let row = Cells {
-        columns: &columns,
-        cells: &cells,
-    };
-    Ok(holds(&rule, row, "ann"))
+    Ok(is_expected(alloc, &eval(alloc, &expression, &NoNames), expected)?)
 }
 
 #[test]
 fn expressions_are_evaluated(rt: HostRuntime) -> Result<(), Fail> {
     for (text, expected) in &EXPRESSIONS {
-        assert!(rt; meant(rt.alloc(), text)?.as_str() == *expected);
+        assert!(rt; means(rt.alloc(), text, *expected)?, "{text}");
     }
     Ok(())
 }
 
+// The names of the columns.
+fn columns(alloc: Global) -> Result<Vec<Txt>, AllocError> {
+    let mut columns = Vec::new(alloc);
+    for name in &["name", "boss"] {
+        columns.push(Txt::from_str(alloc, name)?)?;
+    }
+    Ok(columns)
+}
+
+// Whether a rule is total, and is true or false on a row for ann, as expected. A function of its own, like the next two: what costs
+// most to prove of a test is that it frees values wherever it can end.
+fn is_so_on(rule: &Expr, columns: &[Txt], cells: &[Scalar], expected: bool) -> bool {
+    is_total(rule) && holds(rule, Cells { columns, cells }, "ann") == expected
+}
+
+fn is_so_on_row(
+    alloc: Global,
+    rule: &Expr,
+    row: &[ScalarRef<'_>],
+    expected: bool,
+) -> Result<bool, AllocError> {
+    let columns = columns(alloc)?;
+    let cells = cells(alloc, row)?;
+    Ok(is_so_on(rule, &columns, &cells, expected))
+}
+
+fn is_so(alloc: Global, row: &[ScalarRef<'_>], text: &str, expected: bool) -> Result<bool, Fail> {
+    let rule = parse_rule(alloc, text)?;
+    Ok(is_so_on_row(alloc, &rule, row, expected)?)
+}
+
 #[test]
 fn rules_are_read_on_a_row(rt: HostRuntime) -> Result<(), Fail> {
-    for (name, boss, text, expected) in &RULES {
-        assert!(rt; holds_for_ann(rt.alloc(), name, boss, text)? == *expected);
+    for (row, text, expected) in &RULES {
+        assert!(rt; is_so(rt.alloc(), row, text, *expected)?, "{text}");
     }
     Ok(())
 }
 
 // Operators with operands that no typed expression has.
-const UNTYPED: [(Op, &str); 3] = [(Op::Less, "'a' 'b'"), (Op::Add, "1"), (Op::Add, "")];
+const UNTYPED: [(Op, &[ScalarRef<'static>]); 3] = [
+    (Op::Less, &[ScalarRef::Text("a"), ScalarRef::Text("b")]),
+    (Op::Add, &[ScalarRef::Int(1)]),
+    (Op::Add, &[]),
+];
 
-fn is_without_a_value(alloc: Global, op: Op, words: &str) -> Result<bool, AllocError> {
-    let operands = cells(alloc, words)?;
+fn is_without_a_value(
+    alloc: Global,
+    op: Op,
+    operands: &[ScalarRef<'_>],
+) -> Result<bool, AllocError> {
+    let operands = cells(alloc, operands)?;
     Ok(matches!(
         apply(alloc, op, operands.as_slice()),
         Err(ScalarError::Fault(Fault::NullReference))
@@ -170,8 +224,11 @@ fn is_without_a_value(alloc: Global, op: Op, words: &str) -> Result<bool, AllocE
 
 #[test]
 fn operands_of_no_operator_have_no_value(rt: HostRuntime) -> Result<(), Fail> {
-    for (op, words) in &UNTYPED {
-        assert!(rt; is_without_a_value(rt.alloc(), *op, words)?, "{words}");
+    for (number, (op, operands)) in UNTYPED.iter().enumerate() {
+        assert!(rt;
+            is_without_a_value(rt.alloc(), *op, operands)?,
+            "operands {number}"
+        );
     }
     Ok(())
 }

@@ -1,24 +1,20 @@
 //! What policies decide where the built program doesn't ask (tests/cli has the other decisions): rows for each action and table, also a
 //! table that isn't there, for roles of other policies, and for memberships that no file has.
-use crate::tables::rows_of;
+ghost use Rattle.std.specs.Prelude.{◌≡◌, true};
+ghost use Rattle.lq_policy.specs.Rules.{are_rules_total};
+
+use crate::tables::cells;
+use lq_grammar::Expr;
 use lq_load::table_from_csv;
-use lq_policy::{Action, Policies, are_rules_total};
+use lq_policy::{Action, Policies, RoleId, are_rules_total};
 use lq_policyfile::policies_from_toml;
+use lq_scalar::ScalarRef;
 use lq_security::{Policy, PolicyParts, Role, TablePart};
-use lq_store::{Row, Store};
+use lq_store::Store;
 use lq_syntax::parse_rule;
 use lq_value::{List, Scalar, TableNumber, Txt};
 use std::alloc::{AllocError, Global};
 use std::test::Fail;
-
-/// The tables: only the first has row security.
-const TABLES: [(&str, &str); 2] = [
-    (
-        "employees",
-        "name:string,dept:int,year:int\nann,10,2000\nbob,10,1999\ncyd,20,1996\ndan,30,1900\n",
-    ),
-    ("depts", "id:int\n"),
-];
 
 const EMPLOYEES: &str = r#"
 role = [{name = "dan"}, {name = "eve"}, {name = "root", bypass = true},
@@ -37,114 +33,6 @@ table = [{name = "employees", row_security = true}]
 policy = [{name = "all", table = "employees", using = "row.dept >= 0"}]
 "#;
 
-pub(crate) fn store(alloc: Global) -> Result<Store, Fail> {
-    let mut store = Store::new(alloc);
-    for (name, text) in &TABLES {
-        let table = table_from_csv(alloc, Txt::from_str(alloc, name)?, text.as_bytes())?;
-        if store.add(table).is_err() {
-            return Err(Fail::from("a table is refused"));
-        }
-    }
-    Ok(store)
-}
-
-pub(crate) fn policies(alloc: Global, store: &Store, file: &str) -> Result<Policies, Fail> {
-    match policies_from_toml(alloc, file.as_bytes(), store) {
-        Ok(policies) => Ok(policies),
-        Err(_) => Err(Fail::from("the policies are refused")),
-    }
-}
-
-// Whether a role may act on a row of a table, as the policies and as the rules that are worked out once say alike (none: they
-// differ, or the first policies don't have the role).
-fn sees(
-    alloc: Global,
-    roles: &Policies,
-    name: &str,
-    policies: &Policies,
-    asked: (Action, TableNumber),
-    cells: &[Scalar],
-) -> Result<Option<bool>, AllocError> {
-    let (action, table) = asked;
-    let Some(role) = roles.role(name) else {
-        return Ok(None);
-    };
-    let is_visible = policies.visible(role, action, table, cells);
-    let is_admitted = policies.rules_for(alloc, role, action, table)?.admit(cells);
-    Ok(if is_visible == is_admitted {
-        Some(is_visible)
-    } else {
-        None
-    })
-}
-
-/// Each role, and which of the four employees it may read, insert and delete.
-const SEEN: [(&str, [bool; 4]); 5] = [
-    ("dan", [true, true, false, false]),
-    ("eve", [false, false, false, false]),
-    ("root", [true, true, true, true]),
-    ("kim", [true, true, false, false]),
-    ("aid", [false, false, false, false]),
-];
-
-const ACTIONS: [Action; 3] = [Action::Select, Action::Insert, Action::Delete];
-
-// Whether a role may do each action with exactly these rows of the first table, with any of the second, and with none of a
-// table that isn't there.
-fn sees_exactly(
-    alloc: Global,
-    policies: &Policies,
-    name: &str,
-    rows: &[Row],
-    seen: &[bool],
-) -> Result<bool, AllocError> {
-    let mut right = true;
-    for action in &ACTIONS {
-        for (row, is_seen) in rows.iter().zip(seen) {
-            let cells = row.cells.as_slice();
-            right = right
-                && sees(alloc, policies, name, policies, (*action, 0), cells)? == Some(*is_seen)
-                && sees(alloc, policies, name, policies, (*action, 1), cells)? == Some(true)
-                && sees(alloc, policies, name, policies, (*action, 2), cells)? == Some(false);
-        }
-    }
-    Ok(right)
-}
-
-#[test]
-fn rules_admit_what_is_visible(rt: HostRuntime) -> Result<(), Fail> {
-    let store = store(rt.alloc())?;
-    let policies = policies(rt.alloc(), &store, EMPLOYEES)?;
-    let rows = rows_of(&rt, &store, 0);
-    for (name, seen) in &SEEN {
-        assert!(rt;
-            sees_exactly(rt.alloc(), &policies, name, rows, seen)?,
-            "{name}"
-        );
-    }
-    if let Some(dan) = policies.role("dan") {
-        assert!(rt; policies.check(dan, 2, &[]) == Err("default-deny"));
-    }
-    Ok(())
-}
-
-#[test]
-fn a_role_of_other_policies_sees_nothing(rt: HostRuntime) -> Result<(), Fail> {
-    let store = store(rt.alloc())?;
-    let others = policies(rt.alloc(), &store, EMPLOYEES)?;
-    let policies = policies(rt.alloc(), &store, WITHOUT_ROLES)?;
-    for row in rows_of(&rt, &store, 0) {
-        let cells = row.cells.as_slice();
-        for (table, expected) in &[(0, false), (1, true)] {
-            let asked = (Action::Select, *table);
-            assert!(rt;
-                sees(rt.alloc(), &others, "dan", &policies, asked, cells)? == Some(*expected)
-            );
-        }
-    }
-    Ok(())
-}
-
 const BY_ACTION: &str = r#"
 role = [{name = "dan"}]
 table = [{name = "employees", row_security = true}]
@@ -156,30 +44,241 @@ policy = [
 ]
 "#;
 
-// Rows are read with a dept below 3, removed from 2 to 2, and put in from 3 to 5.
-#[test]
-fn each_action_has_its_policies(rt: HostRuntime) -> Result<(), Fail> {
-    let store = store(rt.alloc())?;
-    let policies = policies(rt.alloc(), &store, BY_ACTION)?;
-    for dept in 0..9 {
-        let cells = [Scalar::Null, Scalar::Int(dept), Scalar::Int(9)];
-        let expected = [dept < 3, dept > 2 && dept < 6, dept == 2];
-        for (action, is_seen) in ACTIONS.iter().zip(&expected) {
-            assert!(rt;
-                sees(
-                    rt.alloc(),
-                    &policies,
-                    "dan",
-                    &policies,
-                    (*action, 0),
-                    &cells
-                )? == Some(*is_seen),
-                "{dept}"
-            );
+/// Which of these policies. The tables below name them so: a text in a table makes the proof of what reads the table as long as the text.
+#[derive(Clone, Copy)]
+enum File {
+    People,
+    Roleless,
+    Actions,
+}
+
+fn text_of(file: File) -> &'static str {
+    match file {
+        File::People => EMPLOYEES,
+        File::Roleless => WITHOUT_ROLES,
+        File::Actions => BY_ACTION,
+    }
+}
+
+/// Rows of the first table: the name, the dept and the year.
+const ROWS: [(Option<&str>, i32, i32); 13] = [
+    (Some("ann"), 10, 2000),
+    (Some("bob"), 10, 1999),
+    (Some("cyd"), 20, 1996),
+    (Some("dan"), 30, 1900),
+    (None, 0, 9),
+    (None, 1, 9),
+    (None, 2, 9),
+    (None, 3, 9),
+    (None, 4, 9),
+    (None, 5, 9),
+    (None, 6, 9),
+    (None, 7, 9),
+    (None, 8, 9),
+];
+
+// Which of these rows a role may act on.
+const ALL: &[u8] = b"+++++++++++++";
+
+const NONE: &[u8] = b"-------------";
+
+const TEN: &[u8] = b"++-----------";
+
+const ACTIONS: [Action; 3] = [Action::Select, Action::Insert, Action::Delete];
+
+/// Policies that have a role, its name, the policies that are asked, and which rows the role may read, insert and delete.
+const DECISIONS: [(File, &str, File, [&[u8]; 3]); 7] = [
+    (File::People, "dan", File::People, [TEN, TEN, TEN]),
+    (File::People, "eve", File::People, [NONE, NONE, NONE]),
+    (File::People, "root", File::People, [ALL, ALL, ALL]),
+    (File::People, "kim", File::People, [TEN, TEN, TEN]),
+    (File::People, "aid", File::People, [NONE, NONE, NONE]),
+    // A role of other policies.
+    (File::People, "dan", File::Roleless, [NONE, NONE, NONE]),
+    // Rows are read with a dept below 3, put in from 3 to 5, and removed where they are read and the dept is above 1.
+    (
+        File::Actions,
+        "dan",
+        File::Actions,
+        [b"----+++------", b"-------+++---", b"------+------"],
+    ),
+];
+
+// Puts an empty table into a store.
+fn add(alloc: Global, store: &mut Store, name: &str, header: &str) -> Result<(), Fail> {
+    let table = table_from_csv(alloc, Txt::from_str(alloc, name)?, header.as_bytes())?;
+    match store.add(table) {
+        Ok(_) => Ok(()),
+        Err(_) => Err(Fail::from("a table is refused")),
+    }
+}
+
+// The tables of the policies, of which only the first has row security.
+fn add_tables(alloc: Global, store: &mut Store) -> Result<(), Fail> {
+    add(alloc, store, "employees", "name:string,dept:int,year:int\n")?;
+    add(alloc, store, "depts", "id:int\n")
+}
+
+fn store(alloc: Global) -> Result<Store, Fail> {
+    let mut store = Store::new(alloc);
+    add_tables(alloc, &mut store)?;
+    Ok(store)
+}
+
+pub(crate) fn policies(alloc: Global, store: &Store, file: &str) -> Result<Policies, Fail> {
+    match policies_from_toml(alloc, file.as_bytes(), store) {
+        Ok(policies) => Ok(policies),
+        Err(_) => Err(Fail::from("the policies are refused")),
+    }
+}
+
+fn policies_of(alloc: Global, file: File) -> Result<Policies, Fail> {
+    let store = store(alloc)?;
+    policies(alloc, &store, text_of(file))
+}
+
+fn role_of(alloc: Global, file: File, name: &str) -> Result<Option<RoleId>, Fail> {
+    let policies = policies_of(alloc, file)?;
+    Ok(policies.role(name))
+}
+
+/// What a role does with a row of a table.
+#[derive(Clone, Copy)]
+struct Access {
+    role: RoleId,
+    action: Action,
+    table: TableNumber,
+}
+
+// Whether a role may, or may not, act on a row, as the policies and as the rules that are worked out once say alike. The functions that
+// own policies, rules or cells are apart: what costs most to prove of a test is that it frees them wherever it can end.
+fn is_decided(
+    alloc: Global,
+    policies: &Policies,
+    access: Access,
+    cells: &[Scalar],
+    expected: bool,
+) -> Result<bool, AllocError> {
+    let Access {
+        role,
+        action,
+        table,
+    } = access;
+    let rules = policies.rules_for(alloc, role, action, table)?;
+    Ok(rules.admit(cells) == expected && policies.visible(role, action, table, cells) == expected)
+}
+
+fn is_row_decided(
+    alloc: Global,
+    policies: &Policies,
+    access: Access,
+    row: &[ScalarRef<'_>],
+    expected: bool,
+) -> Result<bool, AllocError> {
+    let cells = cells(alloc, row)?;
+    is_decided(alloc, policies, access, &cells, expected)
+}
+
+// Whether the role may act on one of those rows, or may not. Of the other tables, the second has no row security, and the third isn't there:
+// the cells don't matter.
+fn is_person_decided(
+    alloc: Global,
+    policies: &Policies,
+    access: Access,
+    person: (Option<&str>, i32, i32),
+    expected: bool,
+) -> Result<bool, AllocError> {
+    let (name, dept, year) = person;
+    let name = match name {
+        Some(name) => ScalarRef::Text(name),
+        None => ScalarRef::Null,
+    };
+    let row = [name, ScalarRef::Int(dept), ScalarRef::Int(year)];
+    is_row_decided(alloc, policies, access, &row, expected)
+}
+
+// Whether the role may act on those rows that have a plus, and on no other.
+fn are_rows_decided(
+    alloc: Global,
+    policies: &Policies,
+    access: Access,
+    marks: &[u8],
+) -> Result<bool, AllocError> {
+    for (person, mark) in ROWS.iter().zip(marks) {
+        if !is_person_decided(alloc, policies, access, *person, *mark == b'+')? {
+            return Ok(false);
         }
+    }
+    Ok(true)
+}
+
+// The same of the first table, and whether the role may do so with every row of the second, and with none of a table that isn't
+// there, into which nobody may put a row.
+fn are_tables_decided(
+    alloc: Global,
+    policies: &Policies,
+    role: RoleId,
+    action: Action,
+    marks: &[u8],
+) -> Result<bool, AllocError> {
+    for (table, marks) in &[(0, marks), (1, ALL), (2, NONE)] {
+        let access = Access {
+            role,
+            action,
+            table: *table,
+        };
+        if !are_rows_decided(alloc, policies, access, marks)? {
+            return Ok(false);
+        }
+    }
+    Ok(policies.check(role, 2, &[]) == Err("default-deny"))
+}
+
+fn is_action_decided(
+    alloc: Global,
+    file: File,
+    role: RoleId,
+    action: Action,
+    marks: &[u8],
+) -> Result<bool, Fail> {
+    let policies = policies_of(alloc, file)?;
+    Ok(are_tables_decided(alloc, &policies, role, action, marks)?)
+}
+
+fn are_actions_decided(
+    alloc: Global,
+    file: File,
+    role: RoleId,
+    decisions: &[&[u8]],
+) -> Result<bool, Fail> {
+    for (action, marks) in ACTIONS.iter().zip(decisions) {
+        if !is_action_decided(alloc, file, role, *action, marks)? {
+            return Ok(false);
+        }
+    }
+    Ok(true)
+}
+
+#[test]
+fn rules_admit_what_is_visible(rt: HostRuntime) -> Result<(), Fail> {
+    for (number, (roles, name, file, decisions)) in DECISIONS.iter().enumerate() {
+        let role = role_of(rt.alloc(), *roles, name)?.ok_or("there is no such role")?;
+        assert!(rt;
+            are_actions_decided(rt.alloc(), *file, role, decisions)?,
+            "decisions {number}"
+        );
     }
     Ok(())
 }
+
+/// Roles, each with the numbers of those that it is a member of, and whether it sees the row that a policy shows to b. A number that isn't
+/// smaller than the role's own names nothing, like one that no role has.
+const MEMBERS: [(&str, &[usize], bool); 4] = [
+    ("a", &[0, 1, 1_000], false),
+    ("b", &[], true),
+    ("c", &[1_000, 2, 1, 3], true),
+    ("d", &[0, 3], false),
+];
 
 fn one<T: Drop>(alloc: Global, item: T) -> Result<List<T>, AllocError> {
     let mut list = List::new(alloc);
@@ -187,67 +286,130 @@ fn one<T: Drop>(alloc: Global, item: T) -> Result<List<T>, AllocError> {
     Ok(list)
 }
 
-// Roles of which each is a member of both roles two and one before it, the first of itself, and of one that isn't there: there are
-// more chains than could be walked.
-fn ladder(alloc: Global) -> Result<List<Role>, AllocError> {
-    let mut roles = List::new(alloc);
-    for number in 0..90usize {
-        let mut member_of = one(alloc, 1_000)?;
-        member_of.push(number.saturating_sub(1))?;
-        member_of.push(number.saturating_sub(2))?;
-        roles.push(Role {
-            name: Txt::from_string(format!(in alloc; "step{number}")?),
-            member_of,
-            bypass: false,
-        })?;
+fn numbers(alloc: Global, numbers: &[usize]) -> Result<List<usize>, AllocError> {
+    let mut list = List::new(alloc);
+    for number in numbers {
+        list.push(*number)?;
     }
-    Ok(roles)
+    Ok(list)
 }
 
-// A policy that shows the rows whose c is 1 to the first of those roles.
-fn policy(alloc: Global) -> Result<Policy, Fail> {
-    Ok(Policy {
-        name: Txt::from_str(alloc, "first")?,
+fn member(alloc: Global, name: &str, groups: &[usize]) -> Result<Role, AllocError> {
+    Ok(Role {
+        name: Txt::from_str(alloc, name)?,
+        member_of: numbers(alloc, groups)?,
+        bypass: false,
+    })
+}
+
+fn add_members(alloc: Global, parts: &mut PolicyParts) -> Result<(), AllocError> {
+    for (name, groups, _) in &MEMBERS {
+        parts.roles.push(member(alloc, name, groups)?)?;
+    }
+    Ok(())
+}
+
+fn add_table(alloc: Global, parts: &mut PolicyParts) -> Result<(), AllocError> {
+    let columns = one(alloc, Txt::from_str(alloc, "c")?)?;
+    parts.tables.push(TablePart {
+        columns,
+        secured: true,
+    })
+}
+
+fn policy(alloc: Global, to: List<Txt>, rule: Expr) -> Policy {
+    Policy {
+        name: Txt::from_string(String::new(alloc)),
         table: 0,
         restrictive: false,
         for_all: true,
         action: Action::Select,
-        to: one(alloc, Txt::from_str(alloc, "step0")?)?,
-        using: Some(parse_rule(alloc, "row.c == 1")?),
+        to,
+        using: Some(rule),
         check: None,
-    })
+    }
 }
 
-fn ladder_policies(alloc: Global) -> Result<Policies, Fail> {
-    let table = TablePart {
-        columns: one(alloc, Txt::from_str(alloc, "c")?)?,
-        secured: true,
-    };
-    let parts = PolicyParts {
-        roles: ladder(alloc)?,
-        tables: one(alloc, table)?,
-        policies: one(alloc, policy(alloc)?)?,
+fn add_policy(alloc: Global, parts: &mut PolicyParts) -> Result<(), Fail> {
+    let to = one(alloc, Txt::from_str(alloc, "b")?)?;
+    let rule = parse_rule(alloc, "row.c == 1")?;
+    parts.policies.push(policy(alloc, to, rule))?;
+    Ok(())
+}
+
+fn fill(alloc: Global, parts: &mut PolicyParts) -> Result<(), Fail> {
+    add_members(alloc, parts)?;
+    add_table(alloc, parts)?;
+    add_policy(alloc, parts)
+}
+
+fn members_parts(alloc: Global) -> Result<PolicyParts, Fail> {
+    let mut parts = PolicyParts {
+        roles: List::new(alloc),
+        tables: List::new(alloc),
+        policies: List::new(alloc),
         grants: List::new(alloc),
         withholds: List::new(alloc),
     };
-    if !are_rules_total(&parts) {
-        return Err(Fail::from("a rule may fault"));
-    }
+    fill(alloc, &mut parts)?;
+    Ok(parts)
+}
+
+fn built(alloc: Global, parts: PolicyParts) -> Result<Policies, Fail>
+    requires { are_rules_total parts.policies ≡ true }
+{
     match Policies::build(alloc, parts) {
         Ok(policies) => Ok(policies),
         Err(_) => Err(Fail::from("the policies are refused")),
     }
 }
 
-#[test]
-fn memberships_are_worked_out_once(rt: HostRuntime) -> Result<(), Fail> {
-    let policies = ladder_policies(rt.alloc())?;
-    for (cell, is_seen) in &[(1, true), (2, false)] {
-        let asked = (Action::Select, 0);
-        let cells = [Scalar::Int(*cell)];
-        assert!(rt;
-            sees(rt.alloc(), &policies, "step89", &policies, asked, &cells)? == Some(*is_seen)
-        );
+fn members_policies(alloc: Global) -> Result<Policies, Fail> {
+    let parts = members_parts(alloc)?;
+    if are_rules_total(&parts) {
+        built(alloc, parts)
+    } else {
+        Err(Fail::from("a rule may fault"))
     }
+}
+
+// Whether the role of this name sees a row whose c is 1, or doesn't, and sees none whose c is 2.
+fn is_seen(
+    alloc: Global,
+    policies: &Policies,
+    name: &str,
+    expected: bool,
+) -> Result<bool, AllocError> {
+    let Some(role) = policies.role(name) else {
+        return Ok(false);
+    };
+    let access = Access {
+        role,
+        action: Action::Select,
+        table: 0,
+    };
+    Ok(
+        is_row_decided(alloc, policies, access, &[ScalarRef::Int(1)], expected)?
+            && is_row_decided(alloc, policies, access, &[ScalarRef::Int(2)], false)?,
+    )
+}
+
+fn are_seen(alloc: Global, policies: &Policies) -> Result<bool, AllocError> {
+    for (name, _, expected) in &MEMBERS {
+        if !is_seen(alloc, policies, name, *expected)? {
+            return Ok(false);
+        }
+    }
+    Ok(true)
+}
+
+fn are_members_seen(alloc: Global) -> Result<bool, Fail> {
+    let policies = members_policies(alloc)?;
+    Ok(are_seen(alloc, &policies)?)
+}
+
+#[test]
+fn memberships_are_of_roles_before(rt: HostRuntime) -> Result<(), Fail> {
+    assert!(rt; are_members_seen(rt.alloc())?);
     Ok(())
 }

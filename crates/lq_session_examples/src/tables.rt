@@ -2,7 +2,7 @@
 ghost use Rattle.std.specs.Prelude.{◌≡◌, ◌≤◌, ◌<◌, length, true, IfOk};
 ghost use Rattle.lq_store.specs.Rules.{keeps_rules};
 
-use crate::values::spelled;
+use lq_scalar::ScalarRef;
 use lq_store::{Column, ColumnType, Row, Schema, Store, StoreError, Table};
 use lq_value::{List, Scalar, TableNumber, Txt};
 use std::alloc::{AllocError, Global};
@@ -26,16 +26,16 @@ fn schema(alloc: Global, name: &str) -> Result<Schema, AllocError>
 }
 
 // A table of that schema.
-pub(crate) fn table(alloc: Global, name: &str, next: u64) -> Result<Table, AllocError>
+fn table(alloc: Global, name: &str, next: u64) -> Result<Table, AllocError>
     requires { 1 ≤ next }
 {
     Ok(Table::new(alloc, schema(alloc, name)?, next))
 }
 
-pub(crate) fn cells(alloc: Global, words: &str) -> Result<Vec<Scalar>, AllocError> {
+pub(crate) fn cells(alloc: Global, scalars: &[ScalarRef<'_>]) -> Result<Vec<Scalar>, AllocError> {
     let mut cells = Vec::new(alloc);
-    for word in words.split_whitespace() {
-        cells.push(spelled(alloc, word)?)?;
+    for scalar in scalars {
+        cells.push(scalar.copied(alloc)?)?;
     }
     Ok(cells)
 }
@@ -51,31 +51,52 @@ fn answer(outcome: Result<u64, (StoreError, Vec<Scalar>)>) -> Answer {
 }
 
 // What a table answers to the last of some rows.
-fn last_answer(alloc: Global, mut table: Table, rows: &[&str]) -> Result<Answer, AllocError> {
+fn last_answer(alloc: Global, table: &mut Table, rows: &[RowOf<'_>]) -> Result<Answer, AllocError> {
     let mut last = Ok(0);
-    for words in rows {
-        last = answer(table.push(cells(alloc, words)?));
+    for row in rows {
+        last = answer(table.push(cells(alloc, row)?));
     }
     Ok(last)
 }
 
+// What a table of no rows answers to the last of some, the first of which is to have the number `next`. A function of its own, like those
+// below that take a table or a store: what costs most to prove of a test is that it frees these wherever it can end.
+fn last_answer_from(alloc: Global, next: u64, rows: &[RowOf<'_>]) -> Result<Answer, AllocError>
+    requires { 1 ≤ next }
+{
+    let mut table = table(alloc, "t", next)?;
+    last_answer(alloc, &mut table, rows)
+}
+
+// The cells of a row.
+type RowOf<'a> = &'a [ScalarRef<'a>];
+
+const NOTHING: RowOf<'static> = &[];
+
+const ONE: RowOf<'static> = &[ScalarRef::Int(1)];
+
+const NINE: RowOf<'static> = &[ScalarRef::Int(9)];
+
+const TEN: RowOf<'static> = &[ScalarRef::Int(10)];
+
+const TRUE: RowOf<'static> = &[ScalarRef::Bool(true)];
+
 // The number that a table gives to its next row, the rows that it is to take, and its answer to the last of them.
-const ROWS: [(u64, &[&str], Answer); 6] = [
-    (1, &[""], Err((StoreError::Arity, 0))),
-    (1, &["true"], Err((StoreError::CellType, 1))),
-    (1, &["10"], Err((StoreError::CellRange, 1))),
-    (1, &["", "true", "10", "9"], Ok(1)),
-    (u64::MAX, &["1"], Ok(u64::MAX)),
-    (u64::MAX, &["1", "2"], Err((StoreError::Full, 1))),
+const ROWS: [(u64, &[RowOf<'static>], Answer); 6] = [
+    (1, &[NOTHING], Err((StoreError::Arity, 0))),
+    (1, &[TRUE], Err((StoreError::CellType, 1))),
+    (1, &[TEN], Err((StoreError::CellRange, 1))),
+    (1, &[NOTHING, TRUE, TEN, NINE], Ok(1)),
+    (u64::MAX, &[ONE], Ok(u64::MAX)),
+    (u64::MAX, &[ONE, ONE], Err((StoreError::Full, 1))),
 ];
 
 #[test]
 fn cells_are_checked_in_order(rt: HostRuntime) -> Result<(), Fail> {
-    for (next, rows, expected) in &ROWS {
-        let first = table(rt.alloc(), "t", (*next).max(1))?;
+    for (number, (next, rows, expected)) in ROWS.iter().enumerate() {
         assert!(rt;
-            last_answer(rt.alloc(), first, rows)? == *expected,
-            "{rows:?}"
+            last_answer_from(rt.alloc(), (*next).max(1), rows)? == *expected,
+            "rows {number}"
         );
     }
     Ok(())
@@ -86,43 +107,81 @@ fn added(
     alloc: Global,
     store: &mut Store,
     name: &str,
-) -> Result<Result<TableNumber, StoreError>, Fail> {
-    match store.add(table(alloc, name, 1)?) {
+    next: u64,
+) -> Result<Result<TableNumber, StoreError>, Fail>
+    requires { 1 ≤ next }
+{
+    match store.add(table(alloc, name, next)?) {
         Ok(number) => Ok(Ok(number)),
         Err((error, back)) if back.schema().name.as_str() == name => Ok(Err(error)),
         Err(_) => Err(Fail::from("another table is handed back")),
     }
 }
 
+// Puts a table into a store, whose first row is to have the number `next`.
+pub(crate) fn add(alloc: Global, store: &mut Store, name: &str, next: u64) -> Result<(), Fail>
+    requires { 1 ≤ next }
+{
+    match added(alloc, store, name, next)? {
+        Ok(_) => Ok(()),
+        Err(_) => Err(Fail::from("a table is refused")),
+    }
+}
+
+// Whether a store takes a table as the one of this number, and then no other of the first one's name.
+fn takes_one_more(alloc: Global, store: &mut Store, number: TableNumber) -> Result<bool, Fail> {
+    let name = format!(in alloc; "t{number}")?;
+    Ok(
+        added(alloc, store, &name, 1)? == Ok(number)
+            && added(alloc, store, "t0", 1)? == Err(StoreError::DuplicateTable),
+    )
+}
+
+// Whether an empty store takes 64 tables and no more.
+fn takes_all(alloc: Global, store: &mut Store) -> Result<bool, Fail> {
+    for number in 0..64 {
+        if !takes_one_more(alloc, store, number)? {
+            return Ok(false);
+        }
+    }
+    Ok(added(alloc, store, "u", 1)? == Err(StoreError::TooMany))
+}
+
 #[test]
 fn a_refused_table_is_handed_back(rt: HostRuntime) -> Result<(), Fail> {
     let mut store = Store::new(rt.alloc());
     assert!(rt; store.is_empty());
-    for number in 0..64u16 {
-        let name = format!(in rt.alloc(); "t{number}")?;
-        assert!(rt; added(rt.alloc(), &mut store, &name)? == Ok(number));
-        assert!(rt; added(rt.alloc(), &mut store, "t0")? == Err(StoreError::DuplicateTable));
-    }
-    assert!(rt; added(rt.alloc(), &mut store, "u")? == Err(StoreError::TooMany));
+    assert!(rt; takes_all(rt.alloc(), &mut store)?);
     assert!(rt; store.len() == 64 && store.find("t1") == Some(1) && store.find("u") == None);
     Ok(())
 }
 
-// A store of the tables t and u, u with the last number next, and with the rows 1, 2 and 3 in t.
+// What a store answers to a row.
+fn put(
+    alloc: Global,
+    store: &mut Store,
+    table: TableNumber,
+    row: RowOf<'_>,
+) -> Result<Answer, AllocError> {
+    Ok(answer(store.insert(table, cells(alloc, row)?)))
+}
+
+// The tables t and u, u with the last number next, and three rows in t.
+fn fill(alloc: Global, store: &mut Store) -> Result<(), Fail> {
+    add(alloc, store, "t", 1)?;
+    add(alloc, store, "u", u64::MAX)?;
+    for _ in 0..3 {
+        if put(alloc, store, 0, ONE)?.is_err() {
+            return Err(Fail::from("a row is refused"));
+        }
+    }
+    Ok(())
+}
+
 fn two_tables(alloc: Global) -> Result<Store, Fail> {
     let mut store = Store::new(alloc);
-    let first = store.add(table(alloc, "t", 1)?).is_ok();
-    let second = store.add(table(alloc, "u", u64::MAX)?).is_ok();
-    for word in &["1", "2", "3"] {
-        answer(store.insert(0, cells(alloc, word)?))
-            .ok()
-            .ok_or("a row is refused")?;
-    }
-    if first && second {
-        Ok(store)
-    } else {
-        Err(Fail::from("a table is refused"))
-    }
+    fill(alloc, &mut store)?;
+    Ok(store)
 }
 
 // The rows of a table that a store has.
@@ -132,24 +191,29 @@ pub(crate) fn rows_of<'s>(rt: &impl Abort, store: &'s Store, t: TableNumber) -> 
 }
 
 // To whom a row is put in turn, its cells, and what is answered.
-const INSERTS: [(TableNumber, &str, Answer); 6] = [
-    (2, "1", Err((StoreError::UnknownTable, 1))),
-    (0, "", Err((StoreError::Arity, 0))),
-    (0, "true", Err((StoreError::CellType, 1))),
-    (0, "10", Err((StoreError::CellRange, 1))),
-    (1, "1", Ok(u64::MAX)),
-    (1, "1", Err((StoreError::Full, 1))),
+const INSERTS: [(TableNumber, RowOf<'static>, Answer); 6] = [
+    (2, ONE, Err((StoreError::UnknownTable, 1))),
+    (0, NOTHING, Err((StoreError::Arity, 0))),
+    (0, TRUE, Err((StoreError::CellType, 1))),
+    (0, TEN, Err((StoreError::CellRange, 1))),
+    (1, ONE, Ok(u64::MAX)),
+    (1, ONE, Err((StoreError::Full, 1))),
 ];
+
+fn assert_answers(rt: &impl Abort, alloc: Global, store: &mut Store) -> Result<(), AllocError> {
+    for (number, (table, row, expected)) in INSERTS.iter().enumerate() {
+        assert!(rt;
+            put(alloc, store, *table, row)? == *expected,
+            "row {number}"
+        );
+    }
+    Ok(())
+}
 
 #[test]
 fn rows_are_put_into_a_table_of_a_store(rt: HostRuntime) -> Result<(), Fail> {
     let mut store = two_tables(rt.alloc())?;
-    for (t, words, expected) in &INSERTS {
-        assert!(rt;
-            answer(store.insert(*t, cells(rt.alloc(), words)?)) == *expected,
-            "{t} {words}"
-        );
-    }
+    assert_answers(&rt, rt.alloc(), &mut store)?;
     assert!(rt; rows_of(&rt, &store, 0).len() == 3);
     assert!(rt; rows_of(&rt, &store, 1).len() == 1);
     Ok(())
@@ -176,18 +240,31 @@ const REMOVALS: [(&[u64], u64, &[u64]); 5] = [
     (&[], 0, &[1, 2, 3]),
 ];
 
-// Whether so many rows are removed from the first table of a store and these are left, and no number is used again.
+// Whether so many rows are removed from the first table of a store and these are left.
 fn removes(rt: &impl Abort, store: &mut Store, numbers: &[u64], gone: u64, left: &[u64]) -> bool {
     assert!(rt; 0 < store.len());
     store.delete_rows(0, numbers) == gone && has_numbers(rows_of(rt, store, 0), left)
 }
 
+// Whether that is so of two tables, and no number is used again.
+fn removes_rows(
+    rt: &impl Abort,
+    alloc: Global,
+    numbers: &[u64],
+    gone: u64,
+    left: &[u64],
+) -> Result<bool, Fail> {
+    let mut store = two_tables(alloc)?;
+    Ok(removes(rt, &mut store, numbers, gone, left) && put(alloc, &mut store, 0, ONE)? == Ok(4))
+}
+
 #[test]
 fn rows_of_some_numbers_are_removed(rt: HostRuntime) -> Result<(), Fail> {
     for (numbers, gone, left) in &REMOVALS {
-        let mut store = two_tables(rt.alloc())?;
-        assert!(rt; removes(&rt, &mut store, numbers, *gone, left));
-        assert!(rt; answer(store.insert(0, cells(rt.alloc(), "1")?)) == Ok(4));
+        assert!(rt;
+            removes_rows(&rt, rt.alloc(), numbers, *gone, left)?,
+            "{numbers:?}"
+        );
     }
     Ok(())
 }

@@ -2,6 +2,8 @@
 //! keys is shown by the built program (tests/cli).
 ghost use Rattle.std.specs.Prelude.{◌≡◌};
 
+use crate::tables::cells;
+use lq_scalar::ScalarRef;
 use lq_value::{End, Held, List, RowRef, Scalar, Txt, Value, order, same};
 use std::alloc::{AllocError, Global};
 use std::cmp::Ordering;
@@ -31,61 +33,90 @@ fn a_list_gives_back_its_items(rt: HostRuntime) -> Result<(), Fail> {
     Ok(())
 }
 
-// Two scalars as they are spelled, a text in quotes, and how the first compares to the second.
-const ORDERS: [(&str, &str, Ordering); 16] = [
-    ("null", "null", Ordering::Equal),
-    ("null", "-2147483648", Ordering::Less),
-    ("null", "false", Ordering::Less),
-    ("null", "''", Ordering::Less),
-    ("-1", "1", Ordering::Less),
-    ("10", "9", Ordering::Greater),
-    ("7", "7", Ordering::Equal),
-    ("false", "true", Ordering::Less),
-    ("true", "true", Ordering::Equal),
-    ("''", "'a'", Ordering::Less),
-    ("'a'", "'b'", Ordering::Less),
-    ("'ab'", "'a'", Ordering::Greater),
-    ("'B'", "'a'", Ordering::Less),
-    ("'\u{e9}'", "'z'", Ordering::Greater),
-    ("'\u{e9}'", "'\u{e9}'", Ordering::Equal),
+// Two scalars, and how the first compares to the second.
+const ORDERS: [(ScalarRef<'static>, ScalarRef<'static>, Ordering); 16] = [
+    (ScalarRef::Null, ScalarRef::Null, Ordering::Equal),
+    (ScalarRef::Null, ScalarRef::Int(i32::MIN), Ordering::Less),
+    (ScalarRef::Null, ScalarRef::Bool(false), Ordering::Less),
+    (ScalarRef::Null, ScalarRef::Text(""), Ordering::Less),
+    (ScalarRef::Int(-1), ScalarRef::Int(1), Ordering::Less),
+    (ScalarRef::Int(10), ScalarRef::Int(9), Ordering::Greater),
+    (ScalarRef::Int(7), ScalarRef::Int(7), Ordering::Equal),
+    (
+        ScalarRef::Bool(false),
+        ScalarRef::Bool(true),
+        Ordering::Less,
+    ),
+    (
+        ScalarRef::Bool(true),
+        ScalarRef::Bool(true),
+        Ordering::Equal,
+    ),
+    (ScalarRef::Text(""), ScalarRef::Text("a"), Ordering::Less),
+    (ScalarRef::Text("a"), ScalarRef::Text("b"), Ordering::Less),
+    (
+        ScalarRef::Text("ab"),
+        ScalarRef::Text("a"),
+        Ordering::Greater,
+    ),
+    (ScalarRef::Text("B"), ScalarRef::Text("a"), Ordering::Less),
+    (
+        ScalarRef::Text("\u{e9}"),
+        ScalarRef::Text("z"),
+        Ordering::Greater,
+    ),
+    (
+        ScalarRef::Text("\u{e9}"),
+        ScalarRef::Text("\u{e9}"),
+        Ordering::Equal,
+    ),
     // No typed expression compares these: they are in the order of their kinds.
-    ("1", "'1'", Ordering::Less),
+    (ScalarRef::Int(1), ScalarRef::Text("1"), Ordering::Less),
 ];
 
-type Spelled<'a> = &'a [(&'a str, &'a str)];
+type Members<'a> = &'a [(&'a str, ScalarRef<'a>)];
 
 // Two records by their members, names and scalars, and whether they are the same.
-const RECORDS: [(Spelled<'static>, Spelled<'static>, bool); 10] = [
+const RECORDS: [(Members<'static>, Members<'static>, bool); 10] = [
     (&[], &[], true),
-    (&[("K", "1")], &[("K", "1")], true),
     (
-        &[("K", "null"), ("V", "'x'")],
-        &[("K", "null"), ("V", "'x'")],
+        &[("K", ScalarRef::Int(1))],
+        &[("K", ScalarRef::Int(1))],
         true,
     ),
-    (&[("K", "1")], &[("K", "2")], false),
-    (&[("K", "1")], &[("V", "1")], false),
-    (&[("K", "1")], &[], false),
-    (&[], &[("K", "1")], false),
-    (&[("K", "1"), ("V", "2")], &[("K", "1"), ("V", "3")], false),
-    (&[("K", "1"), ("V", "2")], &[("V", "2"), ("K", "1")], false),
-    (&[("K", "1")], &[("K", "1"), ("V", "2")], false),
+    (
+        &[("K", ScalarRef::Null), ("V", ScalarRef::Text("x"))],
+        &[("K", ScalarRef::Null), ("V", ScalarRef::Text("x"))],
+        true,
+    ),
+    (
+        &[("K", ScalarRef::Int(1))],
+        &[("K", ScalarRef::Int(2))],
+        false,
+    ),
+    (
+        &[("K", ScalarRef::Int(1))],
+        &[("V", ScalarRef::Int(1))],
+        false,
+    ),
+    (&[("K", ScalarRef::Int(1))], &[], false),
+    (&[], &[("K", ScalarRef::Int(1))], false),
+    (
+        &[("K", ScalarRef::Int(1)), ("V", ScalarRef::Int(2))],
+        &[("K", ScalarRef::Int(1)), ("V", ScalarRef::Int(3))],
+        false,
+    ),
+    (
+        &[("K", ScalarRef::Int(1)), ("V", ScalarRef::Int(2))],
+        &[("V", ScalarRef::Int(2)), ("K", ScalarRef::Int(1))],
+        false,
+    ),
+    (
+        &[("K", ScalarRef::Int(1))],
+        &[("K", ScalarRef::Int(1)), ("V", ScalarRef::Int(2))],
+        false,
+    ),
 ];
-
-pub(crate) fn spelled(alloc: Global, word: &str) -> Result<Scalar, AllocError> {
-    if let Some(text) = word.strip_prefix('\'') {
-        let text = text.strip_suffix('\'').unwrap_or(text);
-        return Ok(Scalar::Text(Txt::from_str(alloc, text)?));
-    }
-    Ok(match word {
-        "true" => Scalar::Bool(true),
-        "false" => Scalar::Bool(false),
-        _ => match word.parse() {
-            Ok(number) => Scalar::Int(number),
-            Err(_) => Scalar::Null,
-        },
-    })
-}
 
 // Whether the two are the same, as they are freed here.
 fn is_same<'a>(left: Value<Cells<'a>>, right: Value<Cells<'a>>) -> bool {
@@ -93,53 +124,83 @@ fn is_same<'a>(left: Value<Cells<'a>>, right: Value<Cells<'a>>) -> bool {
 }
 
 // How two scalars compare to each other, and whether they are the same.
-fn compared(alloc: Global, first: &str, second: &str) -> Result<(Ordering, bool), AllocError> {
-    let left = spelled(alloc, first)?;
-    let right = spelled(alloc, second)?;
+fn compared(
+    alloc: Global,
+    first: ScalarRef<'_>,
+    second: ScalarRef<'_>,
+) -> Result<(Ordering, bool), AllocError> {
+    let left = first.copied(alloc)?;
+    let right = second.copied(alloc)?;
     let ordering = order(&left, &right);
     Ok((ordering, is_same(Value::Scalar(left), Value::Scalar(right))))
 }
 
+// Whether two scalars compare so, either one first.
+fn are_ordered(
+    alloc: Global,
+    first: ScalarRef<'_>,
+    second: ScalarRef<'_>,
+    expected: Ordering,
+) -> Result<bool, AllocError> {
+    let level = expected == Ordering::Equal;
+    Ok(
+        compared(alloc, first, second)? == (expected, level)
+            && compared(alloc, second, first)? == (expected.reverse(), level),
+    )
+}
+
 #[test]
 fn scalars_stand_in_order(rt: HostRuntime) -> Result<(), Fail> {
-    for (first, second, expected) in &ORDERS {
-        let level = *expected == Ordering::Equal;
+    for (number, (first, second, expected)) in ORDERS.iter().enumerate() {
         assert!(rt;
-            compared(rt.alloc(), first, second)? == (*expected, level),
-            "{first} {second}"
-        );
-        assert!(rt;
-            compared(rt.alloc(), second, first)? == (expected.reverse(), level),
-            "{second} {first}"
+            are_ordered(rt.alloc(), *first, *second, *expected)?,
+            "scalars {number}"
         );
     }
     Ok(())
 }
 
-fn spelled_record<'a>(
+// Puts a member behind others.
+fn add_member<'a>(
     alloc: Global,
-    spelling: Spelled<'_>,
-) -> Result<Value<Cells<'a>>, AllocError> {
-    let mut members = List::new(alloc);
-    for (name, word) in spelling {
-        let value = Value::Scalar(spelled(alloc, word)?);
-        members.push((Txt::from_str(alloc, name)?, value))?;
-    }
-    Ok(Value::Rec(members))
+    members: &mut List<(Txt, Value<Cells<'a>>)>,
+    name: &str,
+    value: Value<Cells<'a>>,
+) -> Result<(), AllocError> {
+    members.push((Txt::from_str(alloc, name)?, value))
 }
 
 // A record whose only member, K, is this value.
 fn around<'a>(alloc: Global, value: Value<Cells<'a>>) -> Result<Value<Cells<'a>>, AllocError> {
     let mut members = List::new(alloc);
-    members.push((Txt::from_str(alloc, "K")?, value))?;
+    add_member(alloc, &mut members, "K", value)?;
     Ok(Value::Rec(members))
 }
 
+// A record with a record of these members as its only one.
+fn record<'a>(alloc: Global, scalars: Members<'_>) -> Result<Value<Cells<'a>>, AllocError> {
+    let mut members = List::new(alloc);
+    for (name, scalar) in scalars {
+        let value = Value::Scalar(scalar.copied(alloc)?);
+        add_member(alloc, &mut members, name, value)?;
+    }
+    around(alloc, Value::Rec(members))
+}
+
+// Whether the value is the same as such a record. A function of its own, like the next: what costs most to prove of a
+// test is that it frees a value wherever it can end.
+fn is_record(
+    alloc: Global,
+    value: &Value<Cells<'_>>,
+    scalars: Members<'_>,
+) -> Result<bool, AllocError> {
+    Ok(same(value, &record(alloc, scalars)?))
+}
+
 // Whether the records are the same, each in another one.
-fn are_same(alloc: Global, first: Spelled<'_>, second: Spelled<'_>) -> Result<bool, AllocError> {
-    let left = around(alloc, spelled_record(alloc, first)?)?;
-    let right = around(alloc, spelled_record(alloc, second)?)?;
-    Ok(is_same(left, right))
+fn are_same(alloc: Global, first: Members<'_>, second: Members<'_>) -> Result<bool, AllocError> {
+    let value = record(alloc, first)?;
+    is_record(alloc, &value, second)
 }
 
 #[test]
@@ -153,20 +214,30 @@ fn records_are_the_same_by_all_members(rt: HostRuntime) -> Result<(), Fail> {
     Ok(())
 }
 
+// A group of no items, whose key is this row.
+fn group<'a>(alloc: Global, row: Cells<'a>) -> Result<Value<Cells<'a>>, AllocError> {
+    Ok(Value::Group(Held::new(alloc, Value::Row(row))?, List::new(alloc)))
+}
+
 // Whether the value is neither the same as itself nor as null.
 fn is_the_same_as_nothing(value: Value<Cells<'_>>) -> bool {
     let null = Value::Scalar(Scalar::Null);
     !same(&value, &value) && !same(&null, &value) && !same(&value, &null)
 }
 
+// Whether a row, a sequence, a group and a record with a row in it are.
+fn are_the_same_as_nothing(alloc: Global, row: Cells<'_>) -> Result<bool, AllocError> {
+    Ok(
+        is_the_same_as_nothing(Value::Row(row))
+            && is_the_same_as_nothing(Value::Seq(List::new(alloc), End::Done))
+            && is_the_same_as_nothing(group(alloc, row)?)
+            && is_the_same_as_nothing(around(alloc, Value::Row(row))?),
+    )
+}
+
 #[test]
 fn rows_and_sequences_are_the_same_as_nothing(rt: HostRuntime) -> Result<(), Fail> {
-    let cells = [Scalar::Int(7)];
-    let row = Cells { cells: &cells };
-    let key = Held::new(rt.alloc(), Value::Row(row))?;
-    assert!(rt; is_the_same_as_nothing(Value::Group(key, List::new(rt.alloc()))));
-    assert!(rt; is_the_same_as_nothing(Value::Seq(List::new(rt.alloc()), End::Done)));
-    assert!(rt; is_the_same_as_nothing(around(rt.alloc(), Value::Row(row))?));
-    assert!(rt; is_the_same_as_nothing(Value::Row(row)));
+    let cells = cells(rt.alloc(), &[ScalarRef::Int(7)])?;
+    assert!(rt; are_the_same_as_nothing(rt.alloc(), Cells { cells: &cells })?);
     Ok(())
 }
