@@ -15,6 +15,7 @@ import session_files  # noqa: E402
 import session_scripts  # noqa: E402
 from cases import filed  # noqa: E402
 from policies import policies_of  # noqa: E402
+from session_writer import Writer  # noqa: E402
 from tables import table_of  # noqa: E402
 
 PLAIN = [".tables", ".roles", ".names", ".rights", ".why", ".rows", ".help"]
@@ -97,7 +98,7 @@ def session(number):
     file = session_files.policy_file(dice, tables)
     policies = policy_files.spelled_file(dice, file).encode()
     role = dice.choice(with_bypass(dice, file["role"]))["name"]
-    lines = session_scripts.script(dice, tables, policies_of(policies, tables), role)
+    lines = session_scripts.script(Writer(dice, tables, policies_of(policies, tables), role))
     given = "\n".join(it for line in lines for it in typed(dice, tables, line)) + dice.choice(["\n", ""])
     call = ["--role", role, "--policy", "p.toml", "--", *words.values()]
     return [word.encode() for word in call], {**data, "p.toml": policies}, given.encode()

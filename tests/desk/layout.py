@@ -9,7 +9,8 @@ import unicodedata
 MOST_WIDTH = 40
 FAULTS = {
     "DivideByZero": "a division by zero", "Overflow": "a number left the range of int", "NullReference": "a member of null was read",
-    "InvalidOperation": "no value or no single item where one is needed", "ArgumentOutOfRange": "an index out of range",
+    "InvalidOperation": "no value or no single item where one is needed",
+    "ArgumentOutOfRange": "an index, or a host predicate's argument, out of range",
 }
 ADVICE = {
     "syntax": "this is not a statement; the statements are: run E; var N = E; N = E; as R; insert T (..); delete T x => p;",

@@ -95,7 +95,7 @@ class Numbered(Session):
     """A session that keeps the numbers of rows, and the order in which names were defined."""
 
     def __init__(self, session):
-        super().__init__(session.tables, session.policies, session.user)
+        super().__init__(session.tables, session.policies, session.user, session.predicates)
         self.numbers = {name: list(range(1, len(table.rows) + 1)) for name, table in self.tables.items()}
         self.next = {name: len(table.rows) + 1 for name, table in self.tables.items()}
         self.defined = []

@@ -7,6 +7,9 @@ import commandlines
 import company_examples
 import examples
 import files
+import host_examples
+import host_lines
+import host_sessions
 import policy_examples
 import policy_files
 import queries
@@ -20,6 +23,8 @@ import session_files
 import session_scripts
 import statements
 from policies import policies_of
+from predicates import predicates_of
+from session_writer import Writer
 from tables import MARK, table_of
 
 FIRST_OF_SENTENCES = 4300
@@ -33,7 +38,10 @@ FIRST_OF_RIGHTS = 6820
 FIRST_OF_KNOWN_SESSIONS = 7120
 FIRST_OF_SESSIONS = FIRST_OF_KNOWN_SESSIONS + len(session_examples.KNOWN)
 SESSIONS = 600
-CASES = FIRST_OF_SESSIONS + SESSIONS
+# Queries by chance that ask host predicates, and then sessions that do.
+FIRST_OF_HOSTS = FIRST_OF_SESSIONS + SESSIONS
+FIRST_OF_HOST_SESSIONS = FIRST_OF_HOSTS + 160
+CASES = FIRST_OF_HOST_SESSIONS + 120
 LINES_OF_QUERIES = 20
 NO_UTF8 = [
     b"\x80", b"\xff", b"\xc3", b"\xc0\x80", b"\xe2\x82", b"\xed\xa0\x80", b"\xf4\x90\x80\x80", b"\xf0\x9f\x98", b"\xef\xbb",
@@ -87,15 +95,17 @@ def of_words(*words):
     """A case of words over the same few files."""
     data = {"t.csv": b"c:int\n1\n", "u.csv": b"c:int\n2\n", "sub/t.csv": b"c:int\n3\n", "s.lq": b"run 4;\n"}
     data |= {"bad.csv": b"c\n", "sub/bad/t.csv": b"c\n", "from.csv": b"c:int\n", "bad.toml": b"x = 1\n"}
+    data["watched.toml"] = b'role = [{name = "reader"}]\ngrant = [{name = "all", rights = ["t.*", "Host.Watched"]}]\n'
     ends = {word.rsplit(b"/", 1)[-1] for word in words}
     loaded = [name for name in ("t", "u") if ends & {name.encode(), f"{name}.csv".encode()}]
     return Case(list(words), policy_over(*loaded) | data, RUN + b"run from x in u select x.c;\n")
 
 
-def of_company(policies, role="dan", script=b"run from e in employees select e.name;\nrun from d in depts select d.id;\n"):
-    """A case of a policy file over the tables of the small company."""
-    words = ["--role", role, "--policy", "policy.toml", *policy_examples.FILES]
-    return Case([word.encode() for word in words], policy_examples.FILES | {"policy.toml": policies}, script)
+def of_company(policies, role="dan", script=b"run from e in employees select e.name;\nrun from d in depts select d.id;\n", more=(),
+               data=policy_examples.FILES):
+    """A case of a policy file over the tables of the small company; `more` are more words, in front of the tables."""
+    words = ["--role", role, "--policy", "policy.toml", *more, *data]
+    return Case([word.encode() for word in words], data | {"policy.toml": policies}, script)
 
 
 def of_many_tables(count, *more):
@@ -155,6 +165,9 @@ def company_cases():
     known = [of_company(text.encode(), role) for text, role, _ in policy_examples.SEEN]
     known += [of_company(policy_examples.bytes_of(text)) for texts in policy_examples.WORDS.values() for text in texts]
     known += [of_company(text.encode(), role, right_examples.script_of(lines)) for text, role, lines in right_examples.KNOWN]
+    known += [
+        of_company(it.policies.encode(), it.role, right_examples.script_of(it.pairs), it.words(), it.files())
+        for it in host_examples.KNOWN]
     # An accepted file may have other roles.
     known += [of_company(text.encode(), role) for text in policy_examples.ACCEPTED for role in ("dan", "reader")]
     files_of = policy_examples.TABLE_WORDS | policy_examples.TABLE_CELLS
@@ -238,14 +251,14 @@ def filed(dice, tables):
     return words, {words[name]: files.spelled_file(dice, files.records(dice, table)) for name, table in tables.items()}
 
 
-def call(dice, tables, policies, role, script):
-    """A call over table files, a policy file and a script, which is standard input or a file."""
-    return call_over(dice, *filed(dice, tables), policies, role, script)
+def call(dice, tables, policies, role, script, watched=None):
+    """A call over table files, a policy file and a script, which is standard input or a file; perhaps with a list of numbers."""
+    return call_over(dice, *filed(dice, tables), policies, role, script, watched)
 
 
-def call_over(dice, words, data, policies, role, script):
+def call_over(dice, words, data, policies, role, script, watched=None):
     path = dice.choice(POLICY_PATHS)
-    values = {"--role": role, "--policy": path}
+    values = {"--role": role, "--policy": path} | ({} if watched is None else {"--watch": watched})
     script_file = dice.choice(["s.lq", "./s", "sub/s.lq"]) if dice.random() < 0.15 else None
     if script_file:
         values["--script"] = script_file
@@ -318,13 +331,40 @@ def session_case(dice):
     file = session_files.policy_file(dice, tables)
     policies = policy_files.spelled_file(dice, file).encode()
     role = dice.choice(file["role"])["name"]
-    lines = session_scripts.script(dice, tables, policies_of(policies, tables), role)
+    lines = session_scripts.script(Writer(dice, tables, policies_of(policies, tables), role))
     return call_over(dice, words, data, policies, role, ("\n".join(lines) + dice.choice(["\n", ""])).encode())
 
 
+def hosts_case(dice):
+    """Queries by chance that ask host predicates, of a role that has rights to most of them."""
+    watched = dice.choice([None, *host_lines.LISTS])
+    tables = host_lines.tables(dice)
+    file = policy_files.right_file(dice, tables, host_lines.rights_of(watched))
+    if dice.random() < 0.4:
+        file["table"] = []
+    role = dice.choice([entry["name"] for entry in file["role"]])
+    script = "".join(host_lines.line(dice, tables, watched).replace("\n", " ") + "\n" for _ in range(LINES_OF_QUERIES))
+    return call(dice, tables, policy_files.spelled_file(dice, file).encode(), role, script.encode(), watched)
+
+
+def host_session_case(dice):
+    """A session by chance in which host predicates are asked."""
+    watched = dice.choice([None, *host_lines.LISTS])
+    predicates = predicates_of(watched)
+    words, data = filed(dice, host_lines.tables(dice))
+    tables = {name: table_of(data[word]) for name, word in words.items()}
+    file = session_files.policy_file(dice, tables)
+    host_lines.add_rights(dice, file, [role["name"] for role in file["role"]], watched)
+    policies = policy_files.spelled_file(dice, file).encode()
+    role = dice.choice(file["role"])["name"]
+    writer = Writer(dice, tables, policies_of(policies, tables, predicates), role, predicates, host_lines.scope_of(watched))
+    script = "\n".join(host_sessions.script(writer)).encode()
+    return call_over(dice, words, data, policies, role, script, watched)
+
+
 def case_of(number, fixed):
-    """The case of a number: first the fixed ones, then those by chance, whose number is the seed; that of a session is counted from the
-    first session on. The known lines over the small company and the known sessions are between these."""
+    """The case of a number: first the fixed ones, then those by chance, whose number is the seed; that of a session, and that of a case of
+    host predicates, is counted from the first of its kind on. The known lines over the small company and the known sessions are between these."""
     if number < len(fixed):
         return fixed[number]
     if FIRST_OF_COMPANY <= number < FIRST_OF_QUERIES:
@@ -332,6 +372,10 @@ def case_of(number, fixed):
     if FIRST_OF_KNOWN_SESSIONS <= number < FIRST_OF_SESSIONS:
         text, pairs = session_examples.KNOWN[number - FIRST_OF_KNOWN_SESSIONS]
         return of_company(text.encode(), script=session_examples.script_of(pairs))
+    if number >= FIRST_OF_HOST_SESSIONS:
+        return host_session_case(random.Random(f"hosts in session {number - FIRST_OF_HOST_SESSIONS}"))
+    if number >= FIRST_OF_HOSTS:
+        return hosts_case(random.Random(f"hosts {number - FIRST_OF_HOSTS}"))
     if number >= FIRST_OF_SESSIONS:
         return session_case(random.Random(f"session {number - FIRST_OF_SESSIONS}"))
     dice = random.Random(number)

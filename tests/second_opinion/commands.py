@@ -2,7 +2,7 @@
 
 from dataclasses import dataclass, field
 
-OPTIONS = ("--role", "--policy", "--script")
+OPTIONS = ("--role", "--policy", "--script", "--watch")
 REQUIRED = ("--role", "--policy")
 
 

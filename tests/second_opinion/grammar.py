@@ -223,13 +223,15 @@ def operand(reader):
 
 
 def predicate(reader):
-    """predicate = "Host" "." name "(" expression ")" """
+    """predicate = "Host" "." name "(" expression ["," expression] ")" """
     reader.take(".")
     name = reader.take("name").value
     reader.take("(")
-    tree = Tree("Host", (name, expression(reader)))
+    arguments = [expression(reader)]
+    if reader.skip(","):
+        arguments.append(expression(reader))
     reader.take(")")
-    return tree
+    return Tree("Host", (name, *arguments))
 
 
 def record(reader):

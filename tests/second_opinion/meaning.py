@@ -6,6 +6,7 @@ over, and raises the Fault that it ends in. So what isn't asked for is never eva
 
 from dataclasses import dataclass
 
+from predicates import ask
 from scalar_meaning import LITERALS, Fault, checked, concatenated, member, operate, search
 from scopes import Group, Sequence
 
@@ -61,6 +62,12 @@ def member_of(node, names):
 def text_search(node, names):
     name, text, part = node.parts
     return search(value_of(text, names), name, value_of(part, names))
+
+
+def asked(node, names):
+    """A host predicate. A null row faults as its columns do, before any number is looked at."""
+    _, predicate, columns = node.parts
+    return ask(predicate, [value_of(column, names) for column in columns])
 
 
 def operation(node, names):
@@ -367,6 +374,7 @@ ENDS = {"select": selected, "group": grouped}
 FORMS = {
     **{kind: literal for kind in ("integer", "text", *LITERALS)}, "name": lambda node, names: names[node.parts[0]],
     "table": lambda node, _: node.parts[0].rows, ".": member_of, "search": text_search, "call": call, "query": query,
+    "Host": asked,
     "variable": lambda node, _: node.parts[0], "opened": lambda node, _: value_of(node.parts[0], {}),
     "new": lambda node, names: {name: value_of(part, names) for name, part in node.parts},
 }

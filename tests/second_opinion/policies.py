@@ -11,8 +11,9 @@ from collections import Counter
 from dataclasses import dataclass, field, replace
 
 from lexer import is_name
+from predicates import WITHOUT_LIST
 from rights import NO_GRANT, NoRight, RightRule, STATEMENTS, is_known, parted, rule_of as right_rule_of
-from rules import NoRule, UnknownName, check_names, holds, is_total, is_truth, rule_of
+from rules import Known, NoRule, UnknownName, check_names, holds, is_total, is_truth, rule_of
 from tables import MARK
 
 MOST_BYTES = 1_048_576
@@ -186,27 +187,32 @@ def rules_in(entry):
     return [rule for rule in (entry["using"], entry["check"]) if rule is not None]
 
 
-def check_known(arrays, tables):
+def known_by(entry, tables, predicates):
+    """What the rules of a policy may name."""
+    return Known(tables[entry["table"]].columns, predicates)
+
+
+def check_known(arrays, tables, predicates):
     """Every name of a table, role, column or predicate is that of one; a role is a member of earlier ones alone."""
     roles = [role["name"] for role in arrays["role"]]
     known = all(set(role["member_of"]) <= set(roles[:place]) for place, role in enumerate(arrays["role"]))
     known = known and all(entry["name"] in tables for entry in arrays["table"])
     known = known and all(entry["table"] in tables for entry in arrays["policy"])
     known = known and all({*entry["to"]} <= {"public", *roles} for entry in [*arrays["policy"], *right_entries(arrays)])
-    known = known and all(is_known(right, tables) for entry in right_entries(arrays) for right in entry["rights"])
+    known = known and all(is_known(right, tables, predicates) for entry in right_entries(arrays) for right in entry["rights"])
     if not known:
         raise PolicyFault("unknown-name")
     try:
         for entry in arrays["policy"]:
             for rule in rules_in(entry):
-                check_names(rule, tables[entry["table"]].columns)
+                check_names(rule, known_by(entry, tables, predicates))
     except UnknownName:
         raise PolicyFault("unknown-name") from None
 
 
-def check_rules(arrays, tables):
+def check_rules(arrays, tables, predicates):
     """All types come before the first rule's totality."""
-    rules = [(rule, tables[entry["table"]].columns) for entry in arrays["policy"] for rule in rules_in(entry)]
+    rules = [(rule, known_by(entry, tables, predicates)) for entry in arrays["policy"] for rule in rules_in(entry)]
     if not all(is_truth(*rule) for rule in rules):
         raise PolicyFault("rule-type")
     if not all(is_total(rule) for rule, _ in rules):
@@ -228,28 +234,29 @@ def policy_of(entry):
     return Policy(entry["name"], entry["table"], is_restrictive, entry["for"], entry["to"], entry["using"], check)
 
 
-def policies_of(data, tables):
-    """The policies of a file's bytes, over the tables by name. The kinds of faults come in the order of these steps."""
+def policies_of(data, tables, predicates=WITHOUT_LIST):
+    """The policies of a file's bytes, over the tables and the host predicates by name. The kinds of faults come in the order of these
+    steps."""
     if len(data) > MOST_BYTES:
         raise PolicyFault("shape")
     arrays = arrays_of(document_of(data))
-    check_known(arrays, tables)
+    check_known(arrays, tables, predicates)
     for names in NAMED_APART:
         if max(Counter(entry["name"] for name in names for entry in arrays[name]).values(), default=0) > 1:
             raise PolicyFault("duplicate")
-    check_rules(arrays, tables)
+    check_rules(arrays, tables, predicates)
     secured = {entry["name"] for entry in arrays["table"] if entry["row_security"]}
     rules = [[right_rule_of(entry, tables) for entry in arrays[name]] for name in ("grant", "withhold")]
     return Policies(roles_of(arrays["role"]), secured, [policy_of(entry) for entry in arrays["policy"]], *rules)
 
 
-def read_policies(word, tables):
+def read_policies(word, tables, predicates):
     try:
         with open(word, "rb") as file:
             data = file.read(MOST_BYTES + 1)
     except OSError:
         raise PolicyFault("read") from None
-    return policies_of(data, tables)
+    return policies_of(data, tables, predicates)
 
 
 def forbidding(policies, name, action, rule_for, table, row, user):
@@ -289,5 +296,6 @@ def as_seen(policies, tables, user):
 
 def all_open(tables, user):
     """The policies of a role that sees every row and has all rights."""
-    rights = {(name, to) for name, table in tables.items() for to in (*table.columns, *STATEMENTS)}
+    rights = {(name, to) for name, table in tables.items() for to in (*table.columns, *STATEMENTS)} | {
+        ("Host", name) for name in WITHOUT_LIST}
     return Policies(roles_of([{"name": user, "member_of": [], "bypass": False}]), grants=[RightRule("all", ["public"], rights)])

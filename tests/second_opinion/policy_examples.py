@@ -161,6 +161,9 @@ UNKNOWN = [
     right_rule("withhold", "w", to='["Dan", "public"]'), ROLES + right_rule("withhold", "w", to='["dan", "kim"]'),
     ROLES.replace("eve", "dan") + right_rule("withhold", "all", "['none.*']"),
     policy("p", "1") + right_rule("withhold", "p", to='["nobody"]'),
+    policy("p", "Host.Watched(row.id)"), policy("p", "Host.LeapYear(row.title)"), policy("p", "Host.Under(row.id, row.none)"),
+    policy("p", "1") + policy("q", "Host.leapYear(row.year)"), granting("Host.LeapYear", "Host.Watched"), granting("Host.under"),
+    right_rule("withhold", "w", "['Host.LeapYear', 'Host.none']"), policy("p", "Host.LeapYear(row.year)") + granting("Host.p"),
 ]
 DUPLICATES = [
     ROLES.replace("eve", "dan"), 'role = [{name = "dan"}, {name = "dan", member_of = ["dan"]}]\n',
@@ -178,6 +181,10 @@ TYPES = [
     policy("p", "row.id() == 1"),
     policy("p", "1 + 1 == 2") + policy("q", "row.id"), policy("p", "row.id ?? 1 == 1"), policy("p", "row.name < user"),
     policy("p", "new { row.id }.id == 1"), policy("p", "(from e in employees select e.id) == null"),
+    policy("p", "Host.LeapYear(row.boss)"), policy("p", "Host.LeapYear(row.name)"), policy("p", "Host.LeapYear(row.id + 1)"),
+    policy("p", "Host.LeapYear(row.dept, row.year)"), policy("p", "Host.Under(row.dept)"), policy("p", "Host.Under(row.boss, row.year)"),
+    policy("p", "Host.Under(row.dept, (true ? row : row).year)"), policy("p", "Host.LeapYear(row.year) == 1"),
+    policy("p", "true", check="'true || Host.LeapYear(row)'"), policy("p", "Host.LeapYear(row.year)") + policy("q", "row.id"),
 ]
 NOT_TOTAL = [
     policy("p", "row.id + 1 > 0"), policy("p", "row.id / -2 == 0"), policy("p", "row.id % 0 == 0"),
@@ -190,6 +197,9 @@ NOT_TOTAL = [
     policy("p", "-(-2147483648) == row.id"),
     policy("p", "true") + policy("q", "true", check="'row.id * 1 == 1'"), policy("p", "(true ? row : row).id == 1"),
     policy("p", "row.boss.HasValue && row.boss.Value == 1"), policy("p", "row.id / (1) / (row.id / 1) == 0"),
+    policy("p", "Host.LeapYear(row.year)"), policy("p", "Host.Under(row.dept, row.year)"), policy("p", "true || Host.LeapYear((row).year)"),
+    policy("p", "!Host.Under(row.id, row.id)"), policy("p", "Host.LeapYear((true ? row : row).year)"),
+    policy("p", "true", check="'false && Host.LeapYear(row.year)'"), policy("p", "Host.LeapYear(row.year) == Host.Under(row.id, row.id)"),
 ]
 TOMLS = [piece for piece in NO_TOML if piece != MARK]
 TOMLS += ["grant = [\n", ROLES + ROLES, "[[role]]\n[role]\n", "\ufeff\ufeff" + COMPANY, COMPANY[:-2], COMPANY + '"',
@@ -215,6 +225,7 @@ ACCEPTED += [policy("p", rule, using=f"'''\n{rule}'''") for rule in TOTALS_AT_TH
     ROLES + policy("p", "true", to='["dan", "dan", "public"]'),
     right_rule("grant", "all"), right_rule("withhold", "all", to="[]"),
     granting("employees.id", "employees.id", "employees.*", "marks insert"),
+    granting("Host.LeapYear", "Host.Under", "Host.LeapYear"), right_rule("withhold", "w", "['Host.Under', 'marks.k']"),
     granting("depts delete", "depts insert", "depts.*") + right_rule("withhold", "x" * 64) + right_rule(
         "withhold", " ", "['marks.ok']"),
     PLAIN_ROLES + right_rule("grant", "public", to='["dan", "dan", "public"]') + right_rule("withhold", "employees"),

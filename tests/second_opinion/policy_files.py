@@ -33,7 +33,7 @@ NO_RIGHTS = [
     "public", "t\n.c", "t.\u0301c", "no-grant",
 ]
 UNKNOWN_RIGHTS = [
-    "none.*", "none.c", "none insert", "none delete", "Host.p", "Host.LeapYear", "Host.Watched", "host.p", "Public insert", "TABLE.*",
+    "none.*", "none.c", "none insert", "none delete", "Host.p", "Host.leapYear", "Host.Watched", "host.p", "Public insert", "TABLE.*",
     "column.c", "t_.*", "e\u0301.*",
 ]
 TOTAL = {
@@ -95,7 +95,8 @@ NO_TRUTHS = [
     "(from x in t join y in t on 1 equals 1 into row select row.none) == null", "Public == user", "user.Length == user",
     "x.c == 1",
     "(from x in t select 1 into row select row.none) == null", "user.contains(user)", "user.Contains(user, user)",
-    "1 ?? 2 == 2",
+    "1 ?? 2 == 2", "Host.LeapYear(1)", "Host.LeapYear(user)", "Host.Under(row, row)", "Host.LeapYear(row, row)", "!Host.Under(row)",
+    "Host.LeapYear(user.Length)",
 ]
 NO_TOTALS = [
     "1 + 1 == 2", "2 * 3 > 1", "1 - 1 == 0", "row == null", "null != row", "(true ? row : null) == null", "user.Length > 1",

@@ -1,6 +1,7 @@
 """The whole program by this reading: words and a script give standard output, standard error and a status.
 
 It can be used in the place of `lq`, slowly: `python3 -B tests/second_opinion/program.py --role R --policy P T.csv .. <SCRIPT`.
+Like `lq` it takes `--script S` and `--watch LIST`.
 """
 
 import os
@@ -9,6 +10,7 @@ from dataclasses import dataclass
 
 from commands import HelpWanted, UsageFault, options_of
 from policies import PolicyFault, as_seen, read_policies
+from predicates import ListFault, predicates_of
 from sessions import Session
 from tables import TableFault, read_table, without_marks
 
@@ -56,18 +58,27 @@ def tables_of(words):
     return tables
 
 
+def predicates_for(options):
+    """The host predicates of the words."""
+    try:
+        return predicates_of(options.values.get("--watch"))
+    except ListFault:
+        raise Fault("lq: watch", 2) from None
+
+
 def started(options):
-    """The session in its first state, and words for what the role sees. The tables are read before the policies, and these before
-    the role is looked up."""
+    """The session in its first state, and words for what the role sees. The list of `--watch` is read before the tables, these before
+    the policies, and these before the role is looked up."""
+    predicates = predicates_for(options)
     tables = tables_of(options.tables)
     word, user = options.values["--policy"], options.values["--role"]
     try:
-        policies = read_policies(word, tables)
+        policies = read_policies(word, tables, predicates)
     except PolicyFault as fault:
         raise Fault(f"lq: {word}: {fault}", 3) from None
     if user not in policies.roles:
         raise Fault(f"lq: {user}: role", 3)
-    return Session(tables, policies, user), views_of(policies, tables, as_seen(policies, tables, user), user)
+    return Session(tables, policies, user, predicates), views_of(policies, tables, as_seen(policies, tables, user), user)
 
 
 def views_of(policies, tables, seen, user):

@@ -76,7 +76,11 @@ class Scope:
         self.has_nullable = any(path.type == "int?" for path in found) or bool(nullable_columns(self.seen))
 
     def plus(self, name, its_type):
-        return Scope({**self.names, name: its_type}, self.tables, self.given)
+        return type(self)({**self.names, name: its_type}, self.tables, self.given)
+
+    def special(self, dice, wanted):
+        """A scalar of this type that only some scopes have; None where there is none."""
+        return None
 
     def paths_of(self, wanted):
         return [path for path in self.paths if path.type == wanted]
@@ -147,6 +151,9 @@ def leaf(dice, wanted, scope):
 
 def scalar(dice, wanted, scope, fuel):
     """An expression of a scalar type."""
+    found = scope.special(dice, wanted)
+    if found:
+        return found
     kind = dice.random()
     if kind < 0.3:
         found = telling(dice, wanted, scope)

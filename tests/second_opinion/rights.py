@@ -1,7 +1,8 @@
 """Rights: what the grants and withholds of a policy file let a role use.
 
 A right is a pair of a table's name and what it is a right to: a column, or the statement `insert` or `delete`, which no column is
-called. The rights of a rule are such pairs; `T.*` is all columns of T.
+called; or of the word `Host`, which no table is called, and a predicate's name. The rights of a rule are such pairs; `T.*` is all
+columns of T.
 """
 
 from dataclasses import dataclass
@@ -39,9 +40,11 @@ def parted(text):
     raise NoRight
 
 
-def is_known(right, tables):
-    """Whether there is the table, and the column. Predicates, which follow `Host`, there are none."""
+def is_known(right, tables, predicates):
+    """Whether there is the table, and the column; or the predicate, which follows `Host`."""
     name, to = right
+    if name == "Host":
+        return to in predicates
     return name in tables and (to in ("*", *STATEMENTS) or to in tables[name].columns)
 
 
@@ -66,7 +69,7 @@ def spelled(use):
 def denying_rule(use, grants, withholds, tables):
     """The name of the rule that denies a use, and None where there is none; grants and withholds are those that apply to the role.
 
-    A table may be used where one of its columns may be.
+    A table may be used where one of its columns may be; a column, a statement or a predicate where the very one may be.
     """
     table, column = use
     rights = [(table, one) for one in (tables[table].columns if column is None else [column])]

@@ -1,4 +1,6 @@
-"""Rules of row policies: which texts are rules, the columns that they name, their types, and which of them are total."""
+"""Rules of row policies: which texts are rules, the columns and predicates that they name, their types, and which of them are total."""
+
+from dataclasses import dataclass
 
 from depth import DepthFault, check_depth
 from grammar import parse_condition
@@ -33,57 +35,65 @@ def rule_of(text):
         raise NoRule from None
 
 
-def check_names_in_body(clauses, end, rest, columns, outside, hidden):
+@dataclass(frozen=True)
+class Known:
+    """What there is for a rule to name: the row's columns with their types, and the host predicates."""
+
+    columns: dict
+    predicates: dict
+
+
+def check_names_in_body(clauses, end, rest, known, outside, hidden):
     """The names in a query's body. `outside` says whether `row` has another meaning around the query, and `hidden` whether it has
     one where the body begins."""
     for clause in clauses:
         if clause.kind == "where":
-            check_names(clause.parts[0], columns, hidden)
+            check_names(clause.parts[0], known, hidden)
         elif clause.kind == "orderby":
             for key in clause.parts:
-                check_names(key.parts[0], columns, hidden)
+                check_names(key.parts[0], known, hidden)
         elif clause.kind == "join":
             name, source, outer, inner, *group = clause.parts
-            check_names(source, columns, outside)
-            check_names(outer, columns, hidden)
-            check_names(inner, columns, outside or name == "row")
+            check_names(source, known, outside)
+            check_names(outer, known, hidden)
+            check_names(inner, known, outside or name == "row")
             hidden = hidden or (group[0] if group else name) == "row"
         else:
             name, source = clause.parts
-            check_names(source, columns, hidden)
+            check_names(source, known, hidden)
             hidden = hidden or name == "row"
     for part in end.parts:
-        check_names(part, columns, hidden)
+        check_names(part, known, hidden)
     if rest is not None:
         name, (clauses, end, rest) = rest
-        check_names_in_body(clauses, end, rest, columns, outside, outside or name == "row")
+        check_names_in_body(clauses, end, rest, known, outside, outside or name == "row")
 
 
-def check_names(tree, columns, hidden=False):
-    """ECMA-334, scopes: fails where `row.c` names no column, if `row` is the policy's row there, and at each predicate."""
-    if tree.kind == "Host":
+def check_names(tree, known, hidden=False):
+    """ECMA-334, scopes: fails where `row.c` names no column, if `row` is the policy's row there, and where there is no such predicate."""
+    if tree.kind == "Host" and tree.parts[0] not in known.predicates:
         raise UnknownName
     if tree.kind == "query":
-        check_names_in_body(*tree.parts, columns, hidden, hidden)
+        check_names_in_body(*tree.parts, known, hidden, hidden)
     elif tree.kind == "=>":
-        check_names(tree.parts[1], columns, hidden or tree.parts[0] == "row")
+        check_names(tree.parts[1], known, hidden or tree.parts[0] == "row")
     elif tree.kind == "call":
         method, arguments = tree.parts
         for part in (method.parts[0], *arguments):
-            check_names(part, columns, hidden)
+            check_names(part, known, hidden)
     elif tree.kind == "." and tree.parts[0].kind == "name":
-        if tree.parts[0].parts[0] == "row" and not hidden and tree.parts[1] not in columns:
+        if tree.parts[0].parts[0] == "row" and not hidden and tree.parts[1] not in known.columns:
             raise UnknownName
     elif tree.kind not in LITERALS:
         for part in tree.parts:
             if not isinstance(part, str):
-                check_names(part, columns, hidden)
+                check_names(part, known, hidden)
 
 
-def is_truth(tree, columns):
+def is_truth(tree, known):
     """Whether the rule is typed as a truth value, over the row and the user alone."""
     try:
-        return type_of(tree, {"row": columns, "user": "string"}) == "bool"
+        return type_of(tree, {"row": known.columns, "user": "string", "Host": known.predicates}) == "bool"
     except TypeFault:
         return False
 
@@ -109,7 +119,7 @@ def is_total_member(owner, name):
 
 
 def is_total(tree):
-    """Whether the rule can't fault, by its form."""
+    """Whether the rule can't fault, by its form. One that asks a host predicate may."""
     if tree.kind in LITERALS:
         return True
     if tree.kind == "name":

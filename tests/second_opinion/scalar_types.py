@@ -1,7 +1,7 @@
 """Types of scalars: which operator takes which, and the type of a rule of a policy, over a row and scalars alone.
 
-A type is a scalar's name, or for a row the dict of its columns' types. A scope has the type of each name in it. The types of the
-language, in scopes.py, take the operators on scalars from here.
+A type is a scalar's name, or for a row the dict of its columns' types. A scope has the type of each name in it, and by the reserved
+word `Host` the host predicates. The types of the language, in scopes.py, take the operators on scalars from here.
 """
 
 LITERALS = {"integer": "int", "true": "bool", "false": "bool", "text": "string", "null": "null"}
@@ -91,6 +91,18 @@ def type_of_call(call, scope):
     return "bool" if name in SEARCHES and types == ["string", "string"] else None
 
 
+def type_of_predicate(tree, scope):
+    """A host predicate is asked of an int column of a row, or of two int columns of a row by its name."""
+    name, *arguments = tree.parts
+    if name not in scope["Host"] or len(arguments) != len(scope["Host"][name].ranges):
+        return None
+    if any(argument.kind != "." or not is_row(type_of(argument.parts[0], scope)) for argument in arguments):
+        return None
+    owners = [argument.parts[0] for argument in arguments]
+    fits = len(owners) == 1 or owners[0] == owners[1] and owners[0].kind == "name"
+    return "bool" if fits and all(type_of(argument, scope) == "int" for argument in arguments) else None
+
+
 def type_of(tree, scope):
     """The type of a rule or of a part of it, which all its parts have to have, too."""
     found = None
@@ -102,6 +114,8 @@ def type_of(tree, scope):
         found = type_of_member(type_of(tree.parts[0], scope), tree.parts[1])
     elif tree.kind == "call":
         found = type_of_call(tree, scope)
+    elif tree.kind == "Host":
+        found = type_of_predicate(tree, scope)
     elif tree.kind in OPERATORS:
         found = OPERATORS[tree.kind](*(type_of(operand, scope) for operand in tree.parts))
     if found is None:

@@ -74,12 +74,13 @@ class Lambda:
 @dataclass(frozen=True)
 class Scope:
     """The types of the local names, range variables and parameters, and the tables; and what a session has: of each scalar variable
-    its type and its value, and of each named query its tree."""
+    its type and its value, and of each named query its tree; and the host predicates."""
 
     names: dict
     tables: dict
     variables: dict = field(default_factory=dict)
     queries: dict = field(default_factory=dict)
+    predicates: dict = field(default_factory=dict)
 
     def with_name(self, name, its_type):
         """ECMA-334, local variable scopes: a name may hide what a session has, or a table, but no local name that is in scope."""
@@ -236,6 +237,18 @@ def typed_call(tree, scope):
     return Typed("search", "bool", (name, owner, *parts))
 
 
+def typed_predicate(tree, scope):
+    """A host predicate, asked of an int column of a row; or of two int columns of the row that a local name means."""
+    name, *arguments = tree.parts
+    needs(name in scope.predicates and len(arguments) == len(scope.predicates[name].ranges))
+    needs(all(argument.kind == "." for argument in arguments))
+    owners = [argument.parts[0] for argument in arguments]
+    needs(len(owners) == 1 or owners[0] == owners[1] and owners[0].kind == "name" and owners[0].parts[0] in scope.names)
+    columns = tuple(typed(argument, scope) for argument in arguments)
+    needs(all(column.type == "int" and isinstance(column.parts[0].type, Row) for column in columns))
+    return Typed("Host", "bool", (name, scope.predicates[name], columns))
+
+
 def anything(_):
     return True
 
@@ -363,5 +376,5 @@ CLAUSES = {
 }
 FORMS = {
     **{kind: typed_literal for kind in LITERALS}, "name": typed_name, ".": typed_member, "call": typed_call,
-    "new": typed_record, "query": typed_query,
+    "new": typed_record, "query": typed_query, "Host": typed_predicate,
 }

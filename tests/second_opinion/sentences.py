@@ -26,7 +26,7 @@ FORMS = """
     new { ( a ) } | new { ( a . b ) } | new { ( a ) . b } | new { a . b ( ) } | new { a . b = 1 } | new { , } | new { a , , b }
     new { 1 . a } | t . f ( x => y => 1 ) | t . f ( ( x => 1 ) ) | ( x => 1 ) | x => 1 | t . f ( x => a ? b : c )
     t . f ( from x in t select 1 ) | ( from x in t select 1 ) | from x in t select 1 | Host . p ( ) | Host . p ( 1 , 2 )
-    Host . p ( x => 1 ) | Host . p ( ( 1 ) ) | Host | Host . p | x . Host | x . from | from | ( ) | ( 1 } | { 1 } | x = 1 | + 1
+    Host . p ( 1 , 2 , 3 ) | Host . p ( 1 , ) | Host . p ( x => 1 ) | Host . p ( ( 1 ) ) | Host | Host . p | x . Host | x . from | from | ( ) | ( 1 } | { 1 } | x = 1 | + 1
     2147483648 | - 2147483648 | - 2147483648 . x | ( - 2147483648 ) . x | - ( 2147483648 ) | - - 2147483648 | 1 - 2147483648
     x ?. c | f ( 1 ) | x . c ( ) ( ) | a ? b | 1 .
 """.replace("\n", " | ").strip(" |").split(" | ")
@@ -104,10 +104,15 @@ def operand(dice, fuel):
     if fuel > 0:
         forms += [
             lambda: ["(", *top(dice, fuel - 1), ")"],
-            lambda: ["Host", ".", name(dice), "(", *expression(dice, fuel - 1), ")"],
+            lambda: ["Host", ".", name(dice), "(", *asked(dice, fuel - 1), ")"],
             lambda: ["new", "{", *members(dice, fuel - 1), "}"],
         ]
     return dice.choice(forms)()
+
+
+def asked(dice, fuel):
+    """One argument of a host predicate, or two."""
+    return [*expression(dice, fuel), ",", *expression(dice, fuel)] if dice.random() < 0.3 else expression(dice, fuel)
 
 
 def members(dice, fuel):

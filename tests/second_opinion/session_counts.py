@@ -14,7 +14,7 @@ from grammar import parse
 from lexer import SyntaxFault, tokens_of
 from opening import MOST_RANK, opened_by, opening_names
 from policies import DEFAULT_DENY, failing_check, is_visible, may_remove, policies_of
-from program import lines_of
+from program import lines_of, predicates_for
 from rights import denials
 from scalar_meaning import Fault
 from scopes import condition, row_of
@@ -27,8 +27,9 @@ def session_of(case):
     """The session that a case begins, from its words and files."""
     options = options_of(case.words)
     tables = {name_of(word): table_of(case.files[word]) for word in options.tables}
-    policies = policies_of(case.files[options.values["--policy"]], tables)
-    return Session(tables, policies, options.values["--role"])
+    predicates = predicates_for(options)
+    policies = policies_of(case.files[options.values["--policy"]], tables, predicates)
+    return Session(tables, policies, options.values["--role"], predicates)
 
 
 def local_names(tokens):

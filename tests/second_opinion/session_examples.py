@@ -22,7 +22,7 @@ from tables import table_of
 FOLDER = Path(__file__).resolve().parent / "known_sessions"
 INSERT, DELETE = '"insert"', '"delete"'
 DESK = PLAIN_ROLES + SECURED + DEPT10 + OWN + RECENT + granting(
-    "employees.*", "depts.*", "marks.*", "employees insert", "employees delete", "marks insert",
+    "employees.*", "depts.*", "marks.*", "employees insert", "employees delete", "marks insert", "Host.LeapYear",
 ) + right_rule("withhold", "no-salary", '["employees.salary"]', to='["dan", "eve"]')
 # All rights for everybody, statements among them.
 OPEN = granting(*(f"{table}{right}" for table in ("employees", "depts", "marks") for right in (".*", " insert", " delete")))

@@ -96,10 +96,10 @@ def kind_of_line(writer, theme, place):
     return chosen(writer.dice, {kind: weight for kind, weight in weights.items() if kind not in NEEDED or NEEDED[kind](writer)})
 
 
-def script(dice, tables, policies, user):
-    """The lines of a script that begins with this role. Often what a line changed, or would have changed, is looked at after it; and
-    now and then lines of nothing come between the others."""
-    writer = Writer(dice, tables, policies, user)
+def script(writer):
+    """The lines of a script, in which the writer has none yet. Often what a line changed, or would have changed, is looked at after it;
+    and now and then lines of nothing come between the others."""
+    dice = writer.dice
     theme = chosen(dice, {name: weight for name, (weight, _) in THEMES.items()})
     look = None
     for place in range(STATEMENTS):

@@ -8,6 +8,7 @@ from itertools import islice
 
 from grammar import Tree
 from meaning import value_of
+from predicates import WITHOUT_LIST
 from queries import PRIMARY, Part, Scope
 from scalar_meaning import Fault
 from scopes import row_of, typed
@@ -33,18 +34,19 @@ def is_large(session, name):
 
 
 class Writer:
-    """A script's lines so far, and the session after them."""
+    """A script's lines so far, and the session after them. `scope_of` makes the scopes that expressions are written in."""
 
-    def __init__(self, dice, tables, policies, user):
+    def __init__(self, dice, tables, policies, user, predicates=WITHOUT_LIST, scope_of=Scope):
         self.dice = dice
-        self.session = Session(tables, policies, user)
+        self.scope_of = scope_of
+        self.session = Session(tables, policies, user, predicates)
         self.lines = []
         # Of each variable and each named query its type, and of each query the names in its line.
         self.given = {}
         self.names_in = {}
 
     def scope(self):
-        return Scope({}, self.session.tables, self.given)
+        return self.scope_of({}, self.session.tables, self.given)
 
     def variables(self):
         return list(self.session.variables)

@@ -14,6 +14,7 @@ from lexer import SyntaxFault, tokens_of
 from meaning import served, value_of
 from opening import Opened, check_opened, opened_by
 from policies import all_open, as_seen, failing_check, may_remove
+from predicates import WITHOUT_LIST
 from rights import denials, spelled
 from scalar_meaning import LITERALS as VALUES, Fault
 from scalar_types import LITERALS, SCALARS, TypeFault
@@ -68,10 +69,11 @@ def check_ranges(table, row):
 class Session:
     """The state, and a method for each statement, which gives the members of its reply."""
 
-    def __init__(self, tables, policies, user):
+    def __init__(self, tables, policies, user, predicates=WITHOUT_LIST):
         self.tables = {name: Table(table.columns, list(table.rows), table.ranges) for name, table in tables.items()}
         self.policies = policies
         self.user = user
+        self.predicates = predicates
         # Of each scalar variable its type and its value.
         self.variables = {}
         self.queries = {}
@@ -106,7 +108,7 @@ class Session:
 
     def copied(self):
         """A session in the same state, whose steps leave this one."""
-        other = Session(self.tables, self.policies, self.user)
+        other = Session(self.tables, self.policies, self.user, self.predicates)
         other.variables, other.queries = dict(self.variables), dict(self.queries)
         return other
 
@@ -114,7 +116,8 @@ class Session:
         """What names mean, no local name among them. The tables are those that the role sees now."""
         if self.seen is None:
             self.seen = as_seen(self.policies, self.tables, self.user)
-        return Scope({}, self.seen, self.variables, {name: query.tree for name, query in self.queries.items()})
+        queries = {name: query.tree for name, query in self.queries.items()}
+        return Scope({}, self.seen, self.variables, queries, self.predicates)
 
     def check_uses(self, uses):
         """The first use that the role has no right to is the one that is reported."""

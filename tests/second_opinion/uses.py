@@ -1,8 +1,8 @@
-"""What a statement uses: the tables that it names and the columns of rows that it reads, in the order of its text; and for `run`,
-after them, the columns of the rows in its result.
+"""What a statement uses: the tables that it names, the columns of rows that it reads and the host predicates that it asks, in the order
+of its text; and for `run`, after them, the columns of the rows in its result.
 
-A use is the pair of a table's name and a column's, or of a table's name and None for the table itself. Whether a part is ever
-evaluated makes no difference. A named query is opened in place: what it uses comes where its name does.
+A use is the pair of a table's name and a column's, of a table's name and None for the table itself, or of `Host` and a predicate's
+name. Whether a part is ever evaluated makes no difference. A named query is opened in place: what it uses comes where its name does.
 """
 
 from scopes import Group, Lambda, Record, Row, Sequence, Typed
@@ -18,13 +18,14 @@ def expressions_in(part):
 
 
 def uses_of(node):
-    """The uses of a typed expression: those of its parts, and then its own, whose name comes after them."""
+    """The uses of a typed expression: those of its parts, and then its own, whose name comes after them. The word `Host` comes before
+    what the predicate is asked of."""
     found = [use for part in expressions_in(node.parts) for use in uses_of(part)]
     if node.kind == "table":
         found.append((node.type.item.table, None))
     if node.kind == "." and isinstance(node.parts[0].type, Row):
         found.append((node.parts[0].type.table, node.parts[1]))
-    return found
+    return [("Host", node.parts[0]), *found] if node.kind == "Host" else found
 
 
 def columns_of(its_type):

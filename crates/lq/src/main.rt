@@ -1,9 +1,15 @@
 //! The program `lq`: tables and policies from the files that its words name, a script from a file or from standard
-//! input, and a reply line for each statement to standard output.
+//! input, and a reply line for each statement to standard output. It has the host predicates of `lq_predicates`.
 #![tactic(auto)]
 
+ghost use Rattle.std.specs.Prelude.{◌≡◌};
+ghost use Rattle.lq_predicates.specs.ProgramPredicates.{is_among, is_leap_year, is_under};
+
 use lq_options::{Options, options};
-use lq_platform::{Disk, NoFile, report_memory, report_options, report_words, words};
+use lq_platform::{Disk, NoFile, report_memory, report_options, report_watch, report_words, words};
+use lq_predicates::{
+    WatchError, add_watched, host_set, is_among, is_leap_year, is_under, watch_list,
+};
 use lq_serve::{Device, finish, load, refuse};
 use lq_session::Session;
 use std::fs::File;
@@ -30,16 +36,41 @@ fn serve_from<R: Read + Drop>(rt: &HostRuntime, script: R, session: &mut Session
     finish(rt.alloc(), &mut reader, &mut writer, &mut errors, session)
 }
 
-/// Loads the tables and the policies, and serves the script. The session isn't taken apart afterwards: the program ends, and the system
-/// takes its memory back at once.
-fn serve_options(rt: &HostRuntime, options: &Options) -> u8 {
-    match load(rt.alloc(), options, &mut Disk::new(rt)) {
+/// Makes the host predicates, loads the tables and the policies, and serves the script. The session isn't taken apart afterwards: the
+/// program ends, and the system takes its memory back at once.
+///
+/// The boxes of the predicates are made here, as no function may hand out a box that it made of a closure.
+fn serve_with_hosts(rt: &HostRuntime, options: &Options) -> Result<u8, WatchError> {
+    let alloc = rt.alloc();
+    let leaps = |year: i32| -> bool
+        ensures { result ≡ is_leap_year year }
+    { is_leap_year(year) };
+    let less = |first: i32, second: i32| -> bool
+        ensures { result ≡ is_under (first, second) }
+    { is_under(first, second) };
+    let mut hosts = host_set(alloc, Box::new(alloc, leaps)?, Box::new(alloc, less)?)?;
+    if let Some(list) = options.watch.as_deref() {
+        let numbers = watch_list(alloc, list)?;
+        let listed = move |number: i32| -> bool
+            ensures { result ≡ is_among numbers.items number }
+        { is_among(&numbers, number) };
+        add_watched(alloc, &mut hosts, list, Box::new(alloc, listed)?)?;
+    }
+    match load(alloc, options, hosts, &mut Disk::new(rt)) {
         Ok(mut session) => {
             let status = serve_script(rt, options.script.as_deref(), &mut session);
             mem::forget(session);
-            status
+            Ok(status)
         }
-        Err(error) => refuse(&error, &mut Device::new(rt.stderr())),
+        Err(error) => Ok(refuse(&error, &mut Device::new(rt.stderr()))),
+    }
+}
+
+fn serve_options(rt: &HostRuntime, options: &Options) -> u8 {
+    match serve_with_hosts(rt, options) {
+        Ok(status) => status,
+        Err(WatchError::Watch) => report_watch(rt),
+        Err(WatchError::Memory) => report_memory(rt),
     }
 }
 

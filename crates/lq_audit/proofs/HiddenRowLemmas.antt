@@ -101,7 +101,7 @@ module _ (number : ℕ) where
     sees : Row → Bool
     sees row = visible_to s.policies s.role action.Select table row.cells
 
-    may : (row : Row) → may_know s starting table row ≡ visible_to s.policies s.role action.Select table row.cells
+    may : (row : Row) → may_know s.policies s.role starting table row ≡ visible_to s.policies s.role action.Select table row.cells
     may row = ap (λ b. b || visible_to s.policies s.role action.Select table row.cells) hidden
 
     seen_table : slice_get (seen_by_role s) table ≡ option_map (λ t. seen_rows s.policies s.role table t.rows) (slice_get s.tables table)
@@ -123,7 +123,7 @@ module _ (number : ℕ) where
     known_nowhere : slice_get s.tables table ≡ None → known_row ≡ None
     known_nowhere is = ap (option_and_then seen_row) (seen_table ∙ ap (option_map (λ (x : Table). seen_rows s.policies s.role table x.rows)) is)
 
-    pub known_is_seen : (row : Row) → IsKnown s starting table number row → known_row ≡ Some row
+    pub known_is_seen : (row : Row) → IsKnown s.tables s.policies s.role starting table number row → known_row ≡ Some row
     known_is_seen row known = by (slice_get s.tables table) refl known.0 where
       by : (o : Option Table) → slice_get s.tables table ≡ o → option_and_then (λ t. find (λ r. r.number == number) t.rows) o ≡ Some row → known_row ≡ Some row
       by None is found = absurd (none-some row found)
@@ -131,9 +131,9 @@ module _ (number : ℕ) where
           known_in t is
           ∙ found_among number (λ r. visible_to s.policies s.role action.Select table r.cells) t.rows row (sym (may row) ∙ known.1) found
 
-    pub seen_is_known : Every IsTable s.tables → (row : Row) → known_row ≡ Some row → IsKnown s starting table number row
+    pub seen_is_known : Every IsTable s.tables → (row : Row) → known_row ≡ Some row → IsKnown s.tables s.policies s.role starting table number row
     seen_is_known are row seen = by (slice_get s.tables table) refl where
-      by : (o : Option Table) → slice_get s.tables table ≡ o → (option_and_then (λ t. find (λ r. r.number == number) t.rows) o ≡ Some row) × (may_know s starting table row ≡ true)
+      by : (o : Option Table) → slice_get s.tables table ≡ o → (option_and_then (λ t. find (λ r. r.number == number) t.rows) o ≡ Some row) × (may_know s.policies s.role starting table row ≡ true)
       by None is = absurd (none-some row (sym (known_nowhere is) ∙ seen))
       by (Some t) is =
           let whole = found_whole number (λ r. visible_to s.policies s.role action.Select table r.cells) 1 t.next t.rows row
@@ -150,13 +150,13 @@ module _ (a b : State) (same : LooksSame a b) (a_kept : Every IsTable a.tables) 
   known_alike : known_row number a starting table hidden ≡ known_row number b starting table hidden_too
   known_alike = ap (λ (rows : List (List TableRow)). option_and_then (seen_row number) (slice_get rows table)) same.seen
 
-  known_in_b : (row : Row) → IsKnown a starting table number row → IsKnown b starting table number row
+  known_in_b : (row : Row) → IsKnown a.tables a.policies a.role starting table number row → IsKnown b.tables b.policies b.role starting table number row
   known_in_b row known = seen_is_known number b starting table hidden_too b_kept row (sym known_alike ∙ known_is_seen number a starting table hidden row known)
 
-  known_in_a : (row : Row) → IsKnown b starting table number row → IsKnown a starting table number row
+  known_in_a : (row : Row) → IsKnown b.tables b.policies b.role starting table number row → IsKnown a.tables a.policies a.role starting table number row
   known_in_a row known = seen_is_known number a starting table hidden a_kept row (known_alike ∙ known_is_seen number b starting table hidden_too row known)
 
-  explained_alike : (act : Action) (row other : Row) → IsKnown a starting table number row → IsKnown b starting table number other
+  explained_alike : (act : Action) (row other : Row) → IsKnown a.tables a.policies a.role starting table number row → IsKnown b.tables b.policies b.role starting table number other
       → explanation_of a.policies a.role act table row.cells ≡ explanation_of b.policies b.role act table other.cells
   explained_alike act row other known known_other =
       let one : row ≡ other =
@@ -165,7 +165,7 @@ module _ (a b : State) (same : LooksSame a b) (a_kept : Every IsTable a.tables) 
       ∙ ap (λ (role : ℕ). explanation_of b.policies role act table row.cells) same.role
       ∙ ap (λ (r : Row). explanation_of b.policies b.role act table r.cells) one
 
-  pub alike : (act : Action) (from_a from_b : Why) → Discloses a starting act table number from_a → Discloses b starting act table number from_b → from_a ≡ from_b
+  pub alike : (act : Action) (from_a from_b : Why) → Discloses a.tables a.policies a.role starting act table number from_a → Discloses b.tables b.policies b.role starting act table number from_b → from_a ≡ from_b
   alike act (why.Explained found) (why.Explained other) in_a in_b = ap why.Explained (in_a.2 ∙ explained_alike act in_a.0 in_b.0 in_a.1 in_b.1 ∙ sym in_b.2)
   alike act (why.Explained found) why.Secret in_a in_b = absurd (in_b in_a.0 (known_in_b in_a.0 in_a.1))
   alike act why.Secret (why.Explained other) in_a in_b = absurd (in_a in_b.0 (known_in_a in_b.0 in_b.1))

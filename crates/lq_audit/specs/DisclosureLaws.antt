@@ -16,4 +16,5 @@ ExplainsAlike =
     (a b : State) → LooksSame a b → Every IsTable a.tables → Every IsTable b.tables
     → (starting : ℕ) → is_bypassing (slice_get a.policies.roles starting) ≡ false
     → (act : Action) (table number : ℕ) (from_a from_b : Why)
-    → Discloses a starting act table number from_a → Discloses b starting act table number from_b → from_a ≡ from_b
+    → Discloses a.tables a.policies a.role starting act table number from_a → Discloses b.tables b.policies b.role starting act table number from_b
+    → from_a ≡ from_b

@@ -32,7 +32,8 @@ fn row_of(store: &Store, table: TableNumber, number: u64) -> Option<&Row>
 
 /// Whether whoever asks may know of the row of this table.
 fn may_know(state: &State, starting: RoleId, table: TableNumber, row: &Row) -> bool
-    ensures { result ≡ may_know state.now (number_of starting) table row.now }
+    ensures { result ≡ may_know state.now.policies state.now.role (number_of starting) table
+        row.now }
 {
     let policies = state.policies();
     policies.is_bypassing(starting)
@@ -58,7 +59,8 @@ fn explanation(
 
 /// The row of the table that has this number, if there is one of which whoever asks may know.
 fn known_row(state: &State, starting: RoleId, table: TableNumber, number: u64) -> Option<&Row>
-    ensures { FindsKnown state.now (number_of starting) table number (option_copied result) }
+    ensures { FindsKnown state.now.tables state.now.policies state.now.role (number_of starting)
+        table number (option_copied result) }
 {
     let row = row_of(state.store(), table, number)?;
     if may_know(state, starting, table, row) {
@@ -82,7 +84,8 @@ pub fn why(
     table: TableNumber,
     number: u64,
 ) -> Result<Why, AllocError>
-    ensures { IfOk result (Discloses state.now (number_of starting) action table number) }
+    ensures { IfOk result (Discloses state.now.tables state.now.policies state.now.role
+        (number_of starting) action table number) }
 {
     match known_row(state, starting, table, number) {
         Some(row) => {

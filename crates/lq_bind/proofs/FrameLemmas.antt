@@ -37,7 +37,7 @@ places_out : (f : Frame) → places_in f ≡ frame_step (map-Frame Frame Places 
 unfolding places_in
 places_out f = fold_out-Frame Places frame_step f
 
-pub places_top : (depth : ℕ) → places_in (frame.Top depth) ≡ places_outside [] depth
+pub places_top : (depth : ℕ) → places_in (frame.Top depth) ≡ places_outside [] [] depth
 places_top depth = places_out (frame.Top depth) ∙ ap (λ layer. frame_step (map-Frame Frame Places places_in layer)) (outs-Top depth)
 
 pub places_item : (outer : Bor Frame) (v : Bor Variables) → places_in (views.Item outer v) ≡ with_item (places_in outer.now) (pattern_in v.now)

@@ -11,6 +11,7 @@ pub ruleset forms = (
   form.outs-Second,
   form.outs-Table,
   form.outs-Column,
+  form.outs-Host,
   form.outs-Member,
   form.outs-Key,
   form.outs-Unary,

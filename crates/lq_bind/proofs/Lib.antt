@@ -1,4 +1,5 @@
 pub mod FrameLemmas
+pub mod HostLemmas
 pub mod Layers
 pub mod MethodLemmas
 pub mod SessionLemmas

@@ -1,6 +1,6 @@
 -- What terms and their parts are bound to, over the tables of a store and the names of a session that a binder knows, and the local names of
 -- a frame.
-use Rattle.std.specs.Prelude.{List, ℕ, Bool, Option, Some, None, take, slice_get, option_and_then, option_map}
+use Rattle.std.specs.Prelude.{List, ℕ, Option, Some, None, take, slice_get, option_and_then, option_map}
 use Rattle.lq_value.specs.Tables.{first_named}
 use Rattle.lq_value.specs.declared.scalar.Scalar.{Scalar}
 use Rattle.lq_value.specs.declared.table.Schema.{Schema}
@@ -13,6 +13,7 @@ use Rattle.lq_machine.specs.declared.session.Definition.{Definition}
 use Rattle.lq_language.specs.EnumerableCalls.{EnumerableCall}
 use Rattle.lq_language.specs.Operators.{Pattern}
 use Rattle.lq_language.specs.Types.{when}
+use Rattle.lq_language.specs.declared.host_name.HostName.{HostName}
 use Rattle.lq_language.specs.declared.calls.Call.{Call}
 use Rattle.lq_language.specs.declared.calls.Operator.{Operator}
 use Rattle.lq_language.specs.declared.calls.Paired.{Paired}
@@ -59,25 +60,14 @@ defined_before name definitions =
     (first_named (λ d. d.name) name definitions)
 
 -- the tree of a named query's expression, which sees these names of the session and no local name
-abbrev pub query_tree : List Schema → List SessionPlace → Expr → ℕ → Tree
-query_tree schemas earlier e depth =
-    tree_or_null (binding.term_tree schemas (translated e) (places_outside earlier depth))
+abbrev pub query_tree : List Schema → List HostName → List SessionPlace → Expr → ℕ → Tree
+query_tree schemas predicates earlier e depth =
+    tree_or_null (binding.term_tree schemas (translated e) (places_outside predicates earlier depth))
 
 -- what stands for a name that was defined where these were known: a variable's value, or a named query's tree
-abbrev pub defined_tree : List Schema → List SessionPlace → Defined → ℕ → Tree
-defined_tree schemas earlier (of.Variable t s) depth = literal_tree t s
-defined_tree schemas earlier (of.Query e opened) depth = query_tree schemas earlier e depth
-
--- ---- parts of records and of `orderby`
-
--- a member with this value
-abbrev pub member_of : List ℕ → Tree → Option (Field Tree)
-member_of name value = option_map (λ found. record { name = name; value = found }) (binding.placed_tree value)
-
--- a key with this value
-abbrev pub sort_key_of : Bool → Tree → Option (SortKey Form)
-sort_key_of is_descending value =
-    option_map (λ found. record { value = found.form; descending = is_descending }) (binding.sortable_tree value)
+abbrev pub defined_tree : List Schema → List HostName → List SessionPlace → Defined → ℕ → Tree
+defined_tree schemas predicates earlier (of.Variable t s) depth = literal_tree t s
+defined_tree schemas predicates earlier (of.Query e opened) depth = query_tree schemas predicates earlier e depth
 
 -- ---- joins
 
@@ -107,11 +97,11 @@ abbrev pub schemas_in : Binder → List Schema
 schemas_in binder = schemas_of binder.store.now
 
 abbrev pub session_in : Binder → List SessionPlace
-session_in binder = session_places (schemas_in binder) binder.definitions.now
+session_in binder = session_places (schemas_in binder) binder.hosts.now binder.definitions.now
 
 -- all names in scope
 abbrev pub places_at : Binder → Frame → Places
-places_at binder frame = within (session_in binder) (places_in frame)
+places_at binder frame = within binder.hosts.now (session_in binder) (places_in frame)
 
 module _ (binder : Binder) (frame : Frame) where
   abbrev schemas : List Schema
@@ -128,10 +118,6 @@ module _ (binder : Binder) (frame : Frame) where
   abbrev pub tree_at : Term → Option Tree
   tree_at term = tree term places
 
-  -- in the scope of an item
-  abbrev pub item_tree_at : Pattern → Term → Option Tree
-  item_tree_at p term = tree term (with_item places p)
-
   abbrev pub node_at : Node Term → Option Tree
   node_at node = binding.node_tree schemas tree node places
 
@@ -145,7 +131,7 @@ module _ (binder : Binder) (frame : Frame) where
   session_at name = session_tree (session_in binder) name (places_in frame).depth
 
   abbrev pub defined_at : Defined → Tree
-  defined_at defined = defined_tree schemas (session_in binder) defined (places_in frame).depth
+  defined_at defined = defined_tree schemas binder.hosts.now (session_in binder) defined (places_in frame).depth
 
   -- ---- methods and records
 
@@ -166,12 +152,6 @@ module _ (binder : Binder) (frame : Frame) where
 
   -- ---- queries
 
-  abbrev pub source_at : Term → Option Tree
-  source_at source = binding.source_tree schemas tree source places
-
-  abbrev pub items_at : Call Term → Option Tree
-  items_at call = binding.call_items_tree schemas tree call places
-
   abbrev pub part_at : Part Term → Tree → Option Tree
   part_at part items = binding.part_tree schemas tree places part items
 
@@ -181,28 +161,10 @@ module _ (binder : Binder) (frame : Frame) where
   abbrev pub operator_at : Operator Term → PipelineForm → Option PipelineForm
   operator_at operator stage = binding.operator_stage schemas tree places operator stage
 
-  abbrev pub let_value_at : Pattern → List ℕ → Term → Option Tree
-  let_value_at p name value =
-      binding.if_fresh schemas tree places p name (option_and_then binding.placed_tree (item_tree_at p value))
-
-  abbrev pub group_key_at : Pattern → Term → Option Tree
-  group_key_at p key = option_and_then binding.keyed_tree (item_tree_at p key)
-
   abbrev pub element_at : Pattern → Option Term → Option Tree
   element_at p element = binding.element_tree schemas tree places p element
 
-  abbrev pub groups_at : Option Term → PipelineForm → Tree → Option PipelineForm
-  groups_at element stage key = binding.grouped_stage schemas tree places element stage key
-
   -- ---- pairs
-
-  -- the inner sequence of `SelectMany`, and that of a join
-  abbrev pub inner_at : Pattern → List ℕ → Term → Option Tree
-  inner_at p name source =
-      binding.if_fresh schemas tree places p name (binding.source_tree schemas tree source (with_item places p))
-
-  abbrev pub join_source_at : Pattern → Join Term → Option Tree
-  join_source_at p join = binding.if_fresh schemas tree places p join.name (source_at join.source)
 
   abbrev pub pair_at : Pattern → List ℕ → Ty → Paired Term → Option PipelineForm
   pair_at p name t pair = binding.paired_stage schemas tree places p name t pair

@@ -3,6 +3,7 @@ use Rattle.std.specs.Prelude.{◌||◌, [], List, ℕ, Bool, Option, Result, Ok,
 use Rattle.std.specs.Str.{bytes_eq}
 use Rattle.lq_language.specs.Operators.{Pattern, One, With}
 use Rattle.lq_language.specs.Types.{is_fresh}
+use Rattle.lq_language.specs.declared.host_name.HostName.{HostName}
 use Rattle.lq_tree.specs.Binding.{PipelineForm, pipeline_of, tree_of}
 use Rattle.lq_tree.specs.Places.{Place, Places, SessionPlace, names_of_places, with_item, with_name}
 use Rattle.lq_tree.specs.SessionPlaces.{places_outside}
@@ -29,17 +30,17 @@ is_among name (One n t) = bytes_eq n name
 is_among name (With p n t) = bytes_eq n name || is_among name p
 
 abbrev pub frame_step : Frame-F Places → Places
-frame_step (Frame-F.Top depth) = places_outside [] depth
+frame_step (Frame-F.Top depth) = places_outside [] [] depth
 frame_step (Frame-F.Item outer variables) = with_item outer.now (pattern_in variables.now)
 frame_step (Frame-F.Name outer name t) = with_name outer.now name.now t.now
 
--- the places that a frame stands for, where no name of the session is known
+-- the places that a frame stands for, where no host predicate and no name of the session is known
 unfoldable pub places_in : Frame → Places
 places_in = fold-Frame Places frame_step
 
--- the same local names, where these names of the session are known
-abbrev pub within : List SessionPlace → Places → Places
-within session places = record { session = session; locals = places.locals; depth = places.depth }
+-- the same local names, where these host predicates and names of the session are known
+abbrev pub within : List HostName → List SessionPlace → Places → Places
+within predicates session places = record { predicates = predicates; session = session; locals = places.locals; depth = places.depth }
 
 -- the tree of a name with this place
 abbrev pub place_tree : Place → Tree

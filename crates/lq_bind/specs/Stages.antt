@@ -4,10 +4,14 @@ use Rattle.lq_value.specs.declared.ty.Ty.{Ty}
 use Rattle.lq_value.specs.declared.ty.Ty.TheVariants as ty
 use Rattle.lq_language.specs.Operators.{Pattern, With, unnamed}
 use Rattle.lq_language.specs.Types.{are_join_keys, when}
-use Rattle.lq_tree.specs.Binding.{PipelineForm, condition_tree, placed_tree, pipeline_of}
+use Rattle.lq_tree.specs.Binding.{PipelineForm, condition_tree, items_of_tree, placed_tree, pipeline_of, tree_of}
 use Rattle.lq_tree.specs.declared.tree.Form.{Form}
 use Rattle.lq_tree.specs.declared.tree.Form.TheVariants as form
 use Rattle.lq_tree.specs.declared.tree.Tree.{Tree}
+
+-- the items of a source as a sequence: a fault met in making it is the ending of its stream
+abbrev pub sequence_of : Tree → Option Tree
+sequence_of source = option_map (λ items. tree_of items.ty (form.Sequence items.form)) (items_of_tree source)
 
 -- what an item is, given by this tree, under no name
 abbrev pub value_stage : Tree → Option PipelineForm
@@ -24,9 +28,10 @@ selected_stage source value =
     option_map (λ v. pipeline_of (unnamed v.ty) (form.Select source v.form)) (placed_tree value)
 
 -- `Select` of each item, which stands in this slot, beside the value of one more name
-abbrev pub widened_stage : PipelineForm → ℕ → List ℕ → Tree → PipelineForm
+abbrev pub widened_stage : PipelineForm → ℕ → List ℕ → Tree → Option PipelineForm
 widened_stage stage item name value =
-    pipeline_of (With stage.pattern name value.ty) (form.Select stage.form (form.Pair (form.Slot item) value.form))
+    option_map (λ v. pipeline_of (With stage.pattern name v.ty) (form.Select stage.form (form.Pair (form.Slot item) v.form)))
+    (placed_tree value)
 
 -- a pair of the items in this slot and in the next one, of which the second has a name
 abbrev pub slots_stage : Pattern → List ℕ → Ty → ℕ → PipelineForm

@@ -2,21 +2,23 @@
 use crate::error::TermError;
 use crate::frames::Frame;
 use crate::operations::Infix;
-use crate::{members, names, operations};
-use lq_grammar::{Argument, Node, Unary};
-use lq_language::Term;
+use crate::{hosts, members, names, operations};
+use lq_grammar::{Argument, Node, Picked, Unary};
+use lq_language::{HostName, Term};
 use lq_machine::Definition;
 use lq_store::Store;
 use lq_tree::Tree;
 use lq_value::List;
 use std::alloc::Global;
 
-/// What terms are bound in: the tables and the names of the session that are known, and what gives
-/// memory.
+/// What terms are bound in: the tables, the host predicates and the names of the session that are
+/// known, and what gives memory.
 #[derive(Clone, Copy)]
 pub(crate) struct Binder<'a> {
     pub(crate) alloc: Global,
     pub(crate) store: &'a Store,
+    /// The host predicates, by number.
+    pub(crate) hosts: &'a [HostName],
     /// The names of the session, the oldest first.
     pub(crate) definitions: &'a [Definition],
 }
@@ -67,7 +69,10 @@ impl Binder<'_> {
             Node::Conditional(condition, left, right) => {
                 self.conditional(condition.get(), left.get(), right.get(), frame)
             }
-            Node::Host(_, _) => Err(TermError::IllTyped),
+            Node::Host(predicate, row, columns) => {
+                self.host(row.get(), predicate.as_str(), columns.get(), frame)
+            }
+            Node::HostOther(_, _) => Err(TermError::IllTyped),
             Node::New(fields) => self.new_record(fields, frame),
             Node::Method(receiver, name, arguments) => {
                 self.method_of(arguments, name.as_str(), receiver.get(), frame)
@@ -84,6 +89,23 @@ impl Binder<'_> {
     {
         let receiver = self.term(receiver, frame)?;
         members::member(self.alloc, self.store, name, receiver)
+    }
+
+    /// A host predicate, which is asked of columns of a row.
+    #[cycle(binding)]
+    #[inline(never)]
+    fn host(
+        &self,
+        row: &Term,
+        predicate: &str,
+        columns: &Picked,
+        frame: &Frame<'_>,
+    ) -> Result<Tree, TermError>
+        ensures { Gives (node_at self.now frame.now
+            (expression.Host predicate.now row.now columns.now)) result }
+    {
+        let row = self.term(row, frame)?;
+        hosts::asked(self.alloc, self.store, self.hosts, predicate, columns, row)
     }
 
     /// An operator with one operand.

@@ -1,16 +1,12 @@
 //! The binding of whole expressions, queries and conditions.
 ghost use Rattle.std.specs.Prelude.{◌≡◌, false};
-ghost use Rattle.lq_machine.specs.States.{schemas_of};
-ghost use Rattle.lq_value.specs.declared.ty.Ty.TheVariants as ty;
-ghost use Rattle.lq_tree.specs.Binding.{call_tree, term_tree};
-ghost use Rattle.lq_tree.specs.Places.{with_name};
-ghost use Rattle.lq_tree.specs.SessionPlaces.{statement_places};
 ghost use Rattle.lq_bind.specs.Outcomes.{IsBound, is_past};
+ghost use Rattle.lq_bind.specs.Statements.{condition_among, query_among, tree_among};
 
 use crate::binder::Binder;
 use crate::error::BindError;
 use crate::frames::Frame;
-use lq_language::{Call, Term};
+use lq_language::{Call, HostName, Term};
 use lq_machine::Definition;
 use lq_store::Store;
 use lq_tree::Tree;
@@ -28,6 +24,8 @@ pub const MOST_RANK: u32 = 8;
 pub struct Scope<'a> {
     /// The tables, whose names are known wherever no local name hides them.
     pub store: &'a Store,
+    /// The host predicates, by number.
+    pub hosts: &'a [HostName],
     /// The names of the session, the oldest first. Each is known wherever neither a local name nor
     /// a table hides it, and in the named queries that come after it.
     pub definitions: &'a [Definition],
@@ -42,11 +40,13 @@ impl Scope<'_> {
     /// What binds the terms of the statement.
     fn binder(&self, alloc: Global) -> Binder<'_>
         ensures tables { result.store.now ≡ self.now.store.now }
+        ensures predicates { result.hosts.now ≡ self.now.hosts.now }
         ensures names { result.definitions.now ≡ self.now.definitions.now }
     {
         Binder {
             alloc,
             store: self.store,
+            hosts: self.hosts,
             definitions: self.definitions,
         }
     }
@@ -67,9 +67,7 @@ impl Scope<'_> {
 #[tactic(auto, using(crate::proofs::FrameLemmas::chains))]
 pub fn bind(alloc: Global, call: &Call<Term>, scope: &Scope<'_>) -> Result<Tree, BindError>
     ensures { IsBound (is_past scope.now.size scope.now.rank)
-        (call_tree (schemas_of scope.now.store.now)
-        (term_tree (schemas_of scope.now.store.now)) call.now
-        (statement_places (schemas_of scope.now.store.now) scope.now.definitions.now)) result }
+        (query_among scope.now call.now) result }
 {
     if scope.is_past() {
         return Err(BindError::TooDeep);
@@ -82,8 +80,7 @@ pub fn bind(alloc: Global, call: &Call<Term>, scope: &Scope<'_>) -> Result<Tree,
 #[tactic(auto, using(crate::proofs::FrameLemmas::chains))]
 pub fn bind_term(alloc: Global, term: &Term, scope: &Scope<'_>) -> Result<Tree, BindError>
     requires { is_past scope.now.size scope.now.rank ≡ false }
-    ensures { IsBound false (term_tree (schemas_of scope.now.store.now) term.now
-        (statement_places (schemas_of scope.now.store.now) scope.now.definitions.now)) result }
+    ensures { IsBound false (tree_among scope.now term.now) result }
 {
     Ok(scope.binder(alloc).term(term, &Frame::Top(0))?)
 }
@@ -101,9 +98,7 @@ pub fn bind_condition(
     scope: &Scope<'_>,
 ) -> Result<Tree, BindError>
     requires { is_past scope.now.size scope.now.rank ≡ false }
-    ensures { IsBound false (term_tree (schemas_of scope.now.store.now) term.now (with_name
-        (statement_places (schemas_of scope.now.store.now) scope.now.definitions.now)
-        row.now (ty.Row table))) result }
+    ensures { IsBound false (condition_among scope.now row.now table term.now) result }
 {
     let ty = Ty::Row(table);
     let outside = Frame::Top(0);

@@ -28,7 +28,7 @@ fn type_of_column(ty: ColumnType) -> Ty
 }
 
 /// The number of the column of this name.
-fn column_named(columns: &[Column], name: &str) -> Option<usize>
+pub(crate) fn column_named(columns: &[Column], name: &str) -> Option<usize>
     ensures { result ≡ first_named (λ column. column.name) name.now columns.now }
 {
     columns
@@ -37,7 +37,7 @@ fn column_named(columns: &[Column], name: &str) -> Option<usize>
 }
 
 /// The type of the column of this number.
-fn column_at(columns: &[Column], number: usize) -> Option<ColumnType>
+pub(crate) fn column_at(columns: &[Column], number: usize) -> Option<ColumnType>
     ensures { result ≡ option_map (λ column. column.ty) (slice_get columns.now number) }
 {
     let column = columns.get(number)?;
@@ -45,7 +45,7 @@ fn column_at(columns: &[Column], number: usize) -> Option<ColumnType>
 }
 
 /// The schema of the table of this number.
-fn schema_at(store: &Store, table: TableNumber) -> Option<&Schema>
+pub(crate) fn schema_at(store: &Store, table: TableNumber) -> Option<&Schema>
     ensures { option_copied result ≡ slice_get (schemas_of store.now) table }
 {
     if (table as usize) >= store.len() {

@@ -77,6 +77,7 @@ impl Binder<'_> {
         let earlier = Binder {
             alloc: self.alloc,
             store: self.store,
+            hosts: self.hosts,
             definitions,
         };
         // A definition always has a tree, so that memory alone can be lacking.

@@ -13,6 +13,7 @@ mod error;
 mod fields;
 mod frames;
 mod globals;
+mod hosts;
 mod members;
 mod method_names;
 mod method_trees;

@@ -16,7 +16,7 @@ use crate::trees::{into_form, tree_if, typed_tree};
 use lq_grammar::{Binary, Unary};
 use lq_language::Op;
 use lq_tree::{Form, Tree};
-use lq_typing::{choice_type, coalesced, is_bool, is_number, is_text};
+use lq_typing::{choice_type, coalesced_type, is_bool, is_number, is_text};
 use lq_value::{Held, Ty};
 use std::alloc::Global;
 
@@ -62,7 +62,7 @@ fn or(alloc: Global, left: Tree, right: Tree) -> Result<Tree, TermError>
 fn coalesce(alloc: Global, left: Tree, right: Tree) -> Result<Tree, TermError>
     ensures { Gives (coalesce_tree left right) result }
 {
-    let ty = coalesced(&left.ty, &right.ty);
+    let ty = coalesced_type(&left.ty, &right.ty);
     let form = Form::Coalesce(into_form(left), into_form(right));
     typed_tree(alloc, ty, form)
 }

@@ -10,6 +10,7 @@ use crate::binder::Binder;
 use crate::error::TermError;
 use crate::frames::Frame;
 use crate::pipelines::{self, Pipeline, Sides};
+use crate::type_checks;
 use crate::variables::Variables;
 use lq_grammar::Join;
 use lq_language::{Paired, Term};
@@ -77,33 +78,13 @@ fn joined_name(join: &Join<Term>) -> &Txt
 
 impl Binder<'_> {
     ghost use Rattle.lq_language.specs.declared.calls.Operator.TheVariants as query;
-    ghost use Rattle.lq_language.specs.declared.calls.Paired.TheVariants as paired;
-    ghost use Rattle.lq_bind.specs.Bound.{expanded_at, inner_at, inner_side_at, join_keys_at};
-    ghost use Rattle.lq_bind.specs.Bound.{join_source_at, joined_at, operator_at, pair_at};
+    ghost use Rattle.lq_bind.specs.Bound.{expanded_at, inner_side_at, join_keys_at, joined_at};
+    ghost use Rattle.lq_bind.specs.Bound.{operator_at, pair_at};
     ghost use Rattle.lq_bind.specs.Frames.{GivesStage, pattern_in, stage_in};
     ghost use Rattle.lq_bind.specs.Outcomes.{Gives};
 
-    /// The inner sequence of `SelectMany`, in the scope of an item; the name repeats none that is
-    /// known.
-    #[cycle(binding)]
-    fn inner_source(
-        &self,
-        source: &Term,
-        name: &Txt,
-        variables: &Variables,
-        frame: &Frame<'_>,
-    ) -> Result<Tree, TermError>
-        ensures { Gives (inner_at self.now frame.now (pattern_in variables.now) name.now
-            source.now) result }
-    {
-        let inner = (&*frame).with_item(&*variables);
-        if !inner.is_fresh(name.as_str()) {
-            return Err(TermError::IllTyped);
-        }
-        self.source(source, &inner)
-    }
-
-    /// `SelectMany`
+    /// `SelectMany`, whose inner sequence is in the scope of an item, and whose name repeats none
+    /// that is known.
     #[cycle(binding)]
     pub(crate) fn select_many(
         &self,
@@ -116,7 +97,12 @@ impl Binder<'_> {
         ensures { GivesStage (operator_at self.now frame.now
             (query.SelectMany name.now source.now pair.now) (stage_in pipeline)) result }
     {
-        let inner = self.inner_source(source, name, pipeline.variables.get(), frame)?;
+        let item = (&*frame).with_item(pipeline.variables.get());
+        if !item.is_fresh(name.as_str()) {
+            return Err(TermError::IllTyped);
+        }
+        let inner = self.term(source, &item)?;
+        let inner = type_checks::items(inner)?;
         self.expand(pair, name, pipeline, inner, frame)
     }
 
@@ -160,46 +146,13 @@ impl Binder<'_> {
                 let item = frame.depth()?;
                 pipelines::slots(self.alloc, variables, name, ty, item)
             }
-            Paired::Value(value) => self.pair_value(value, name, &ty, variables.get(), frame),
+            Paired::Value(value) => {
+                let item = (&*frame).with_item(variables.get());
+                let inner = (&item).with_name(&*name, &ty);
+                let value = self.term(value, &inner)?;
+                pipelines::value(self.alloc, value)
+            }
         }
-    }
-
-    /// The value that comes of a pair.
-    #[cycle(binding)]
-    fn pair_value(
-        &self,
-        value: &Term,
-        name: &Txt,
-        ty: &Ty,
-        variables: &Variables,
-        frame: &Frame<'_>,
-    ) -> Result<Pipeline, TermError>
-        ensures { GivesStage (pair_at self.now frame.now (pattern_in variables.now) name.now
-            ty.now (paired.Value value.now)) result }
-    {
-        let item = (&*frame).with_item(&*variables);
-        let inner = (&item).with_name(&*name, &*ty);
-        let value = self.term(value, &inner)?;
-        pipelines::value(self.alloc, value)
-    }
-
-    /// The inner sequence of a join, which sees none of the query's range variables; the name of
-    /// its items repeats none that is known.
-    #[cycle(binding)]
-    fn join_source(
-        &self,
-        join: &Join<Term>,
-        variables: &Variables,
-        frame: &Frame<'_>,
-    ) -> Result<Tree, TermError>
-        ensures { Gives (join_source_at self.now frame.now (pattern_in variables.now) join.now)
-            result }
-    {
-        let inner = (&*frame).with_item(&*variables);
-        if !inner.is_fresh(join.name.as_str()) {
-            return Err(TermError::IllTyped);
-        }
-        self.source(&join.source, frame)
     }
 
     /// The keys of a join whose inner items are of this type.
@@ -214,13 +167,15 @@ impl Binder<'_> {
         ensures { Gives (join_keys_at self.now frame.now (pattern_in variables.now) join.now
             ty.now) result }
     {
-        let outer = self.item_term(&join.outer_key, variables, frame)?;
-        let item = (&*frame).with_name(&join.name, &*ty);
-        let inner = self.term(&join.inner_key, &item)?;
+        let outer_item = (&*frame).with_item(&*variables);
+        let outer = self.term(&join.outer_key, &outer_item)?;
+        let inner_item = (&*frame).with_name(&join.name, &*ty);
+        let inner = self.term(&join.inner_key, &inner_item)?;
         pipelines::join_keys(outer, inner)
     }
 
-    /// The inner side of a join.
+    /// The inner side of a join, whose sequence sees none of the query's range variables; the name
+    /// of its items repeats none that is known.
     #[cycle(binding)]
     pub(crate) fn inner_side(
         &self,
@@ -231,9 +186,13 @@ impl Binder<'_> {
         ensures { Gives (inner_side_at self.now frame.now (pattern_in variables.now) join.now)
             result }
     {
-        let inner = self.join_source(join, variables, frame)?;
-        let keys = self.join_keys(join, variables, &inner.ty, frame)?;
         let item = (&*frame).with_item(&*variables);
+        if !item.is_fresh(join.name.as_str()) {
+            return Err(TermError::IllTyped);
+        }
+        let inner = self.term(&join.source, frame)?;
+        let inner = type_checks::items(inner)?;
+        let keys = self.join_keys(join, variables, &inner.ty, frame)?;
         side_of(self.alloc, &join.into, inner, keys, &item)
     }
 

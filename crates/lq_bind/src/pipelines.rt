@@ -80,18 +80,19 @@ fn with_variable(
     Held::new(alloc, Variables::With(variables, name, ty))
 }
 
-/// The source as a sequence: a fault met in making it is the ending of its stream.
+/// The items of a source as a sequence: a fault met in making it is the ending of its stream.
 pub(crate) fn sequence(alloc: Global, source: Tree) -> Result<Tree, TermError>
-    ensures { Gives (Some (tree_of source.ty (form.Sequence source.form))) result }
+    ensures { Gives (stages.sequence_of source) result }
 {
-    let Tree { ty, form } = source;
+    let Tree { ty, form } = type_checks::items(source)?;
     new_tree(alloc, ty, Form::Sequence(form))
 }
 
 /// The items of a body, under its range variable.
 #[tactic(auto, using(crate::proofs::FrameLemmas::patterns))]
 pub(crate) fn start(alloc: Global, name: &Txt, items: Tree) -> Result<Pipeline, AllocError>
-    ensures { IfOk result (λ first. stage_in first ≡ pipeline_of (One name.now items.ty) items.form) }
+    ensures { IfOk result (λ first. stage_in first
+        ≡ pipeline_of (One name.now items.ty) items.form) }
 {
     let Tree { ty, form } = items;
     let name = Txt::from_str(alloc, name.as_str())?;
@@ -138,7 +139,8 @@ pub(crate) fn select(alloc: Global, source: Held<Form>, tree: Tree) -> Result<Pi
     new_pipeline(alloc, variables, Form::Select(source, form))
 }
 
-/// `Select` of each item, which stands in this slot, beside the value of one more name.
+/// `Select` of each item, which stands in this slot, beside the value of one more name, where it
+/// isn't null by its type.
 pub(crate) fn widen(
     alloc: Global,
     pipeline: Pipeline,
@@ -146,10 +148,9 @@ pub(crate) fn widen(
     item: usize,
     value: Tree,
 ) -> Result<Pipeline, TermError>
-    ensures { GivesStage (Some (stages.widened_stage (stage_in pipeline) item name.now value))
-        result }
+    ensures { GivesStage (stages.widened_stage (stage_in pipeline) item name.now value) result }
 {
-    let Tree { ty, form: second } = value;
+    let Tree { ty, form: second } = type_checks::not_null(value)?;
     let Pipeline {
         variables,
         form: source,

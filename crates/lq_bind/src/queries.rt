@@ -13,32 +13,22 @@ use lq_value::Txt;
 impl Binder<'_> {
     ghost use Rattle.lq_language.specs.declared.calls.Operator.TheVariants as query;
     ghost use Rattle.lq_tree.specs.Binding.{walked};
-    ghost use Rattle.lq_bind.specs.Bound.{body_at, call_at, element_at, group_key_at, groups_at};
-    ghost use Rattle.lq_bind.specs.Bound.{item_tree_at, items_at, let_value_at, operator_at};
-    ghost use Rattle.lq_bind.specs.Bound.{part_at, source_at};
+    ghost use Rattle.lq_bind.specs.Bound.{body_at, call_at, element_at, operator_at, part_at};
     ghost use Rattle.lq_bind.specs.Frames.{GivesStage, pattern_in, stage_in};
     ghost use Rattle.lq_bind.specs.Outcomes.{Gives};
 
     /// The calls of a query.
     #[cycle(binding)]
     #[inline(never)]
-    #[tactic(auto, using(crate::proofs::TermLaws::calls))]
+    #[tactic(auto, unfolding(lq_tree::specs::Binding::call_tree))]
     pub(crate) fn call(&self, call: &Call<Term>, frame: &Frame<'_>) -> Result<Tree, TermError>
         ensures { Gives (call_at self.now frame.now call.now) result }
     {
-        let items = self.items(call, frame)?;
-        pipelines::query(self.alloc, items)
-    }
-
-    /// The items of a query.
-    #[cycle(binding)]
-    fn items(&self, call: &Call<Term>, frame: &Frame<'_>) -> Result<Tree, TermError>
-        ensures { Gives (items_at self.now frame.now call.now) result }
-    {
-        let source = self.source(&call.source, frame)?;
+        let source = self.term(&call.source, frame)?;
         let source = pipelines::sequence(self.alloc, source)?;
         let items = self.body(call.operators.as_slice(), &call.name, source, frame)?;
-        self.parts(call.rest.as_slice(), items, frame)
+        let items = self.parts(call.rest.as_slice(), items, frame)?;
+        pipelines::query(self.alloc, items)
     }
 
     /// What follows by `into`.
@@ -116,35 +106,8 @@ impl Binder<'_> {
                 self.join(pair, join, pipeline, side, frame)
             }
             Operator::OrderBy(keys) => self.order_by(keys.as_slice(), pipeline, frame),
-            Operator::GroupBy(key, element) => {
-                let key = self.group_key(key, pipeline.variables.get(), frame)?;
-                self.group_by(element, key, pipeline, frame)
-            }
+            Operator::GroupBy(key, element) => self.group_by(element, key, pipeline, frame),
         }
-    }
-
-    /// A term in the scope of an item.
-    #[cycle(binding)]
-    pub(crate) fn item_term(
-        &self,
-        term: &Term,
-        variables: &Variables,
-        frame: &Frame<'_>,
-    ) -> Result<Tree, TermError>
-        ensures { Gives (item_tree_at self.now frame.now (pattern_in variables.now) term.now)
-            result }
-    {
-        let inner = (&*frame).with_item(&*variables);
-        self.term(term, &inner)
-    }
-
-    /// The items of a source.
-    #[cycle(binding)]
-    pub(crate) fn source(&self, source: &Term, frame: &Frame<'_>) -> Result<Tree, TermError>
-        ensures { Gives (source_at self.now frame.now source.now) result }
-    {
-        let source = self.term(source, frame)?;
-        type_checks::items(source)
     }
 
     /// `Where`
@@ -158,7 +121,8 @@ impl Binder<'_> {
         ensures { GivesStage (operator_at self.now frame.now (query.Where condition.now)
             (stage_in pipeline)) result }
     {
-        let condition = self.item_term(condition, pipeline.variables.get(), frame)?;
+        let item = (&*frame).with_item(pipeline.variables.get());
+        let condition = self.term(condition, &item)?;
         pipelines::filter(self.alloc, pipeline, condition)
     }
 
@@ -173,31 +137,13 @@ impl Binder<'_> {
         ensures { GivesStage (operator_at self.now frame.now (query.Select value.now)
             (stage_in pipeline)) result }
     {
-        let value = self.item_term(value, pipeline.variables.get(), frame)?;
+        let item = (&*frame).with_item(pipeline.variables.get());
+        let value = self.term(value, &item)?;
         pipelines::select(self.alloc, pipelines::into_source(pipeline), value)
     }
 
-    /// The value of `let`, which isn't null by its type; its name repeats none that is known.
-    #[cycle(binding)]
-    fn let_value(
-        &self,
-        value: &Term,
-        name: &Txt,
-        variables: &Variables,
-        frame: &Frame<'_>,
-    ) -> Result<Tree, TermError>
-        ensures { Gives (let_value_at self.now frame.now (pattern_in variables.now) name.now
-            value.now) result }
-    {
-        let inner = (&*frame).with_item(&*variables);
-        if !inner.is_fresh(name.as_str()) {
-            return Err(TermError::IllTyped);
-        }
-        let value = self.term(value, &inner)?;
-        type_checks::not_null(value)
-    }
-
-    /// `let`: `Select` of each item beside one more name's value.
+    /// `let`: `Select` of each item beside the value of one more name, which repeats none that is
+    /// known.
     #[cycle(binding)]
     fn widen(
         &self,
@@ -209,9 +155,13 @@ impl Binder<'_> {
         ensures { GivesStage (operator_at self.now frame.now (query.Let name.now value.now)
             (stage_in pipeline)) result }
     {
-        let item = frame.depth()?;
-        let value = self.let_value(value, name, pipeline.variables.get(), frame)?;
-        pipelines::widen(self.alloc, pipeline, name, item, value)
+        let slot = frame.depth()?;
+        let item = (&*frame).with_item(pipeline.variables.get());
+        if !item.is_fresh(name.as_str()) {
+            return Err(TermError::IllTyped);
+        }
+        let value = self.term(value, &item)?;
+        pipelines::widen(self.alloc, pipeline, name, slot, value)
     }
 
     /// `OrderBy`
@@ -225,24 +175,9 @@ impl Binder<'_> {
         ensures { GivesStage (operator_at self.now frame.now (query.OrderBy keys.now)
             (stage_in pipeline)) result }
     {
-        let inner = (&*frame).with_item(pipeline.variables.get());
-        let keys = self.sort_keys(keys, &inner)?;
+        let item = (&*frame).with_item(pipeline.variables.get());
+        let keys = self.sort_keys(keys, &item)?;
         pipelines::order_by(self.alloc, pipeline, keys)
-    }
-
-    /// The key of `GroupBy`.
-    #[cycle(binding)]
-    fn group_key(
-        &self,
-        key: &Term,
-        variables: &Variables,
-        frame: &Frame<'_>,
-    ) -> Result<Tree, TermError>
-        ensures { Gives (group_key_at self.now frame.now (pattern_in variables.now) key.now)
-            result }
-    {
-        let key = self.item_term(key, variables, frame)?;
-        type_checks::key(key)
     }
 
     /// The element of `GroupBy`, which is the item where there is no other.
@@ -257,23 +192,29 @@ impl Binder<'_> {
             result }
     {
         match element {
-            Some(element) => self.item_term(element, variables, frame),
+            Some(element) => {
+                let item = (&*frame).with_item(&*variables);
+                self.term(element, &item)
+            }
             None => pipelines::item(self.alloc, variables, frame.depth()?),
         }
     }
 
-    /// `GroupBy` with this key.
+    /// `GroupBy`
     #[cycle(binding)]
     fn group_by(
         &self,
         element: &Option<Term>,
-        key: Tree,
+        key: &Term,
         pipeline: Pipeline,
         frame: &Frame<'_>,
     ) -> Result<Pipeline, TermError>
-        ensures { GivesStage (groups_at self.now frame.now element.now (stage_in pipeline) key)
-            result }
+        ensures { GivesStage (operator_at self.now frame.now (query.GroupBy key.now element.now)
+            (stage_in pipeline)) result }
     {
+        let item = (&*frame).with_item(pipeline.variables.get());
+        let key = self.term(key, &item)?;
+        let key = type_checks::key(key)?;
         let element = self.element(element, pipeline.variables.get(), frame)?;
         pipelines::group_by(self.alloc, pipelines::into_source(pipeline), key, element)
     }

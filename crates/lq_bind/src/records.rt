@@ -1,6 +1,7 @@
 //! The binding of records and of the keys of `orderby` (ECMA-334, anonymous object creation
 //! expressions and orderby clauses).
-ghost use Rattle.lq_bind.specs.Bound.{member_of, sort_key_of};
+ghost use Rattle.std.specs.Prelude.{Some};
+ghost use Rattle.lq_tree.specs.Binding.{field_with, key_with};
 ghost use Rattle.lq_bind.specs.Outcomes.{Gives};
 
 use crate::binder::Binder;
@@ -16,7 +17,7 @@ use std::alloc::Global;
 
 /// A member of a record with this value, which is not null by its type.
 fn member(alloc: Global, name: &Txt, value: Tree) -> Result<Field<Tree>, TermError>
-    ensures { Gives (member_of name.now value) result }
+    ensures { Gives (field_with name.now (Some value)) result }
 {
     let value = type_checks::not_null(value)?;
     let name = Txt::from_str(alloc, name.as_str())?;
@@ -25,7 +26,7 @@ fn member(alloc: Global, name: &Txt, value: Tree) -> Result<Field<Tree>, TermErr
 
 /// A key of `orderby` with this value, which is of a type that it sorts by.
 fn sort_key(is_descending: bool, value: Tree) -> Result<SortKey<Form>, TermError>
-    ensures { Gives (sort_key_of is_descending value) result }
+    ensures { Gives (key_with is_descending (Some value)) result }
 {
     let value = type_checks::sort_key(value)?;
     Ok(SortKey {

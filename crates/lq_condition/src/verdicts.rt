@@ -4,13 +4,13 @@ ghost use Rattle.std.specs.Option.{option_copied};
 ghost use Rattle.lq_value.specs.declared.scalar.Scalar.TheVariants as scalar;
 ghost use Rattle.lq_value.specs.declared.value.Fault.TheVariants as fault;
 ghost use Rattle.lq_language.specs.OperandTypes.{is_comparison};
-ghost use Rattle.lq_language.specs.Operations.{of_two, on_ok, operation_of, searched, truth_of};
+ghost use Rattle.lq_language.specs.Operations.{of_two, on_ok, operation_of, truth_of};
 ghost use Rattle.lq_scalar.specs.Operands.{shown_scalar};
 ghost use Rattle.lq_condition.specs.Verdicts.{search_verdict, sign_verdict, unless_fault};
 
 use lq_grammar::Binary;
 use lq_language::Op;
-use lq_scalar::{ScalarRef, operate, searched};
+use lq_scalar::{ScalarRef, operate, search_text};
 use lq_value::Scalar;
 
 /// The cell at a place.
@@ -113,7 +113,7 @@ pub(crate) fn search_verdict(op: Op, cell: Option<&Scalar>, needle: &Scalar) -> 
     ensures { result ≡ search_verdict op (option_copied cell.entry) needle.now }
 {
     match cell {
-        Some(cell) => match searched(op, ScalarRef::of(cell), ScalarRef::of(needle)) {
+        Some(cell) => match search_text(op, ScalarRef::of(cell), ScalarRef::of(needle)) {
             Ok(truth) => Some(truth),
             Err(_) => None,
         },

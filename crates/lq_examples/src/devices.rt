@@ -1,5 +1,8 @@
 //! Serving over devices that fail, and loading.
+ghost use Rattle.std.specs.Prelude.{◌<◌};
+
 use crate::loads::options_of;
+use lq_host::HostSet;
 use lq_serve::{Device, MemoryFiles, ServeError, Summary, finish, load, serve};
 use lq_session::Session;
 use std::alloc::{AllocError, Global};
@@ -27,10 +30,13 @@ const FILES: [(&str, &[u8]); 2] = [
     ),
 ];
 
-fn session(alloc: Global) -> Result<Session, Fail> {
+fn session(alloc: Global) -> Result<Session, Fail>
+    // This is always so, as in `Session::step`.
+    requires { 0 < 1 }
+{
     let options = options_of(alloc, "a", "p", &["t.csv"])?;
     let mut files = MemoryFiles::new(alloc, &FILES);
-    Ok(load(alloc, &options, &mut files)?)
+    Ok(load(alloc, &options, HostSet::new(alloc), &mut files)?)
 }
 
 pub(crate) fn names_of(alloc: Global, words: &[&str]) -> Result<Vec<String>, AllocError> {
@@ -154,7 +160,7 @@ pub(crate) fn taking(alloc: Global, bad: u64, fault: Fault) -> Taker {
 // What is left of serving a script: the outcome, and what the devices show. The functions that make it are apart from the
 // tests: what costs most to prove of a test is that it frees a session.
 #[derive(Drop)]
-struct Served {
+struct ServedScript {
     outcome: Result<Summary, ServeError>,
     reads: u64,
     read_failed: bool,
@@ -162,13 +168,17 @@ struct Served {
     sink: Taker,
 }
 
-fn serve_script<R: Read + Drop>(alloc: Global, script: R, mut sink: Taker) -> Result<Served, Fail> {
+fn serve_script<R: Read + Drop>(
+    alloc: Global,
+    script: R,
+    mut sink: Taker,
+) -> Result<ServedScript, Fail> {
     let mut session = session(alloc)?;
     let mut reader = Device::new(script);
     let mut writer = Device::new(&mut sink);
     let outcome = serve(alloc, &mut reader, &mut writer, &mut session);
     let write_failed = writer.failed();
-    Ok(Served {
+    Ok(ServedScript {
         outcome,
         reads: reader.reads(),
         read_failed: reader.failed(),
@@ -178,7 +188,7 @@ fn serve_script<R: Read + Drop>(alloc: Global, script: R, mut sink: Taker) -> Re
 }
 
 // Whether nothing was stepped and nothing written after the read that failed, which was the last.
-fn is_unread(run: &Served, bad: u64) -> bool {
+fn is_unread(run: &ServedScript, bad: u64) -> bool {
     matches!(run.outcome, Err(ServeError::Read))
         && run.read_failed
         && !run.write_failed
@@ -187,7 +197,7 @@ fn is_unread(run: &Served, bad: u64) -> bool {
 }
 
 // Whether the output is whole and handed on.
-fn is_whole(run: &Served) -> bool {
+fn is_whole(run: &ServedScript) -> bool {
     match &run.outcome {
         Ok(summary) => {
             summary.lines == LINES
@@ -201,7 +211,7 @@ fn is_whole(run: &Served) -> bool {
 }
 
 // Whether a front of the output was taken, and no call made after the one that failed.
-fn is_cut_off(run: &Served, bad: u64) -> bool {
+fn is_cut_off(run: &ServedScript, bad: u64) -> bool {
     matches!(run.outcome, Err(ServeError::Write))
         && run.write_failed
         && OUTPUT.starts_with(&run.sink.taken)
@@ -209,7 +219,7 @@ fn is_cut_off(run: &Served, bad: u64) -> bool {
 }
 
 // Whether this many lines were served, or, with none, the script was refused as too long and nothing written.
-fn has_lines(run: &Served, lines: Option<u64>) -> bool {
+fn has_lines(run: &ServedScript, lines: Option<u64>) -> bool {
     match (&run.outcome, lines) {
         (Ok(summary), Some(lines)) => summary.lines == lines,
         (Err(ServeError::TooLong), None) => run.sink.calls == 0,

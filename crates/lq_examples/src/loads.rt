@@ -1,6 +1,7 @@
 //! Starting: which files are read, and up to where. What is refused, and what is there after a start, is shown by the built program
 //! (tests/cli).
 use crate::devices::{Fault, names_of, taking};
+use lq_host::HostSet;
 use lq_options::Options;
 use lq_serve::{Device, FileError, FileRead, Files, MemoryFiles, StartError, load, refuse};
 use lq_value::Txt;
@@ -32,6 +33,7 @@ pub(crate) fn options_of(
         role: String::from_str(alloc, role)?,
         policy: String::from_str(alloc, policy)?,
         script: None,
+        watch: None,
         tables: names_of(alloc, tables)?,
     })
 }
@@ -43,7 +45,7 @@ fn assert_refused(
     options: &Options,
     line: &str,
 ) {
-    match load(alloc, options, files) {
+    match load(alloc, options, HostSet::new(alloc), files) {
         Err(StartError::Refused(text)) => {
             assert!(rt; text.as_str() == line, "{line} and not {text:?}");
         }
@@ -56,10 +58,10 @@ const TABLE: u64 = 16_777_217;
 const POLICY: u64 = 1_048_577;
 
 // A reading: the file, how many bytes are asked for at most, and whether it is there.
-type Asked<'a> = &'a [(&'a str, u64, bool)];
+type Readings<'a> = &'a [(&'a str, u64, bool)];
 
 // A policy file and table files, what is refused, and the readings up to it.
-const READINGS: [(&str, &[&str], &str, Asked<'static>); 5] = [
+const READINGS: [(&str, &[&str], &str, Readings<'static>); 5] = [
     (
         "no.toml",
         &["t.csv", "v", "old/w.csv", "data/old/u.csv"],
@@ -91,7 +93,7 @@ const READINGS: [(&str, &[&str], &str, Asked<'static>); 5] = [
     ),
 ];
 
-fn are_asked(readings: &[FileRead], asked: Asked<'_>) -> bool {
+fn are_asked(readings: &[FileRead], asked: Readings<'_>) -> bool {
     let mut left = asked;
     for reading in readings {
         match left {

@@ -107,9 +107,13 @@ module _ (line : List ℕ) where
   complete (s.name word is) n le = primaries.read_name line (expression line n) word is
   complete (s.parentheses {ts = ts} first closing first_is x closing_is) n le =
       primaries.read_parentheses line (expression line n) _ ts first closing first_is (lead_top _ ts n (less_left ts (closing ∷ []) n (omega arith)) (complete x)) closing_is
-  complete (s.host {ts = ts} word dot predicate first closing word_is dot_is predicate_is first_is x closing_is) n le =
-      primaries.read_host line (expression line n) _ ts word dot predicate first closing word_is dot_is predicate_is first_is
-      (lead_conditional _ ts n (less_left ts (closing ∷ []) n (omega arith)) (complete x)) closing_is
+  complete (s.host {ts = ts} word dot predicate first closing word_is dot_is predicate_is first_is asked closing_is) n le =
+      primaries.read_host line (expression line n) _ _ ts word dot predicate first closing word_is dot_is predicate_is first_is
+      (complete asked n (less_left ts (closing ∷ []) n (omega arith))) closing_is
+  complete (s.asked_of_one {ts = ts} x) n le = primaries.read_asked_of_one line (expression line n) _ ts (lead_conditional _ ts n le (complete x))
+  complete (s.asked_of_two {xs = xs} {ys = ys} comma x comma_is y) n le =
+      primaries.read_asked_of_two line (expression line n) _ _ xs ys comma (lead_conditional _ xs n (less_left xs (comma ∷ ys) n le) (complete x)) comma_is
+      (lead_conditional _ ys n (less_right (comma ∷ []) ys n (less_right xs (comma ∷ ys) n le)) (complete y))
   complete (s.record_of {ts = ts} word first closing word_is first_is fs closing_is) n le =
       primaries.read_record line (expression line n) _ ts word first closing word_is first_is (complete fs n (less_left ts (closing ∷ []) n (omega arith))) closing_is
   complete s.no_fields n le = fields.read_no_fields line (expression line n)

@@ -7,7 +7,7 @@ use Rattle.std.proofs.lemmas.Option.{slice_get_read, some_pair_parts}
 use Rattle.std.proofs.Math.Seq.{get_or-append_seam}
 use Rattle.lq_grammar.specs.Grammar as s
 use Rattle.lq_grammar.specs.Grammar.{Part, Spells, levels, member_of, named, operation_of, operator}
-use Rattle.lq_grammar.specs.Parsing.{Parser, pure, ◌>>=◌, behind, expect, same_kind, argument_at, more_arguments, some_arguments, arguments, field_by, last_before, field, more_fields, fields, start_by, start, selections, primary, is_least, below_zero, prefix, operation_by, operations, chain, coalescing, conditional}
+use Rattle.lq_grammar.specs.Parsing.{Parser, pure, ◌>>=◌, behind, expect, same_kind, argument_at, more_arguments, some_arguments, arguments, field_by, last_before, field, more_fields, fields, asked, start_by, start, selections, primary, is_least, below_zero, prefix, operation_by, operations, chain, coalescing, conditional}
 use Rattle.lq_grammar.specs.Tokens.{decimal_value, text_of}
 use Rattle.lq_grammar.specs.declared.syntax.Argument.{Argument}
 use Rattle.lq_grammar.specs.declared.syntax.Expr.{Expr}
@@ -173,6 +173,12 @@ module _ (line : List ℕ) (inner : Level → Parser Expr) (sound_inner : (l : L
 
   -- ---- primary expressions
 
+  sound_asked : Sound line (λ found. s.HostArguments found.0 found.1) (asked line inner)
+  unfolding asked
+  sound_asked =
+      part_then (sound_inner level.Conditional) (λ x xs one.
+      after_token (λ comma comma_is. part_last _ (sound_inner level.Conditional) (λ y ys other. s.asked_of_two comma one comma_is other)) (done (stays (s.asked_of_one one))))
+
   start_at : (kind : Kind) (t : Token) → t.kind ≡ kind → Reads (start_by line inner kind t) (λ more x. Spells line (s.Primary x) (t ∷ more))
   start_at k.Integer t is =
       tested (nat_lt (decimal_value (text_of line t)) 2147483648) (λ below. done (s.digits t is (ltb-true (decimal_value (text_of line t)) 2147483648 below))) (λ above. refused)
@@ -183,7 +189,7 @@ module _ (line : List ℕ) (inner : Level → Parser Expr) (sound_inner : (l : L
   start_at k.Name t is = done (s.name t is)
   start_at k.LeftParenthesis t is = part_then (sound_inner level.Top) (λ x front spells. token_then (λ closing closing_is. done (s.parentheses t closing is spells closing_is)))
   start_at k.Host t is =
-      token_then (λ dot dot_is. name_then line _ (λ predicate predicate_is. token_then (λ opening opening_is. part_then (sound_inner level.Conditional) (λ x front spells.
+      token_then (λ dot dot_is. name_then line _ (λ predicate predicate_is. token_then (λ opening opening_is. part_then sound_asked (λ xs front spells.
       token_then (λ closing closing_is. done (s.host t dot predicate opening closing is dot_is predicate_is opening_is spells closing_is))))))
   start_at k.New t is =
       token_then (λ opening opening_is. closed_last _ sound_fields (λ fs inside closing spells closing_is. s.record_of t opening closing is opening_is spells closing_is))

@@ -15,7 +15,7 @@ use Rattle.lq_grammar.specs.Tokens.{Piece, head_of, is_blank, piece, tokens_from
 use Rattle.lq_grammar.specs.declared.token.Kind.{Kind}
 use Rattle.lq_grammar.specs.declared.token.Token.{Token}
 use Rattle.lq_grammar.proofs.LexemeLemmas.{Stops, drop_over, goes_as_far, is_longest, is_other, is_taken, take_over}
-use Rattle.lq_grammar.proofs.PieceLaws.{both_left, both_right, by_cases, other_is_token, other_piece, piece_within, turn}
+use Rattle.lq_grammar.proofs.PieceLaws.{both_left, both_right, by_cases, other_is_token, piece_within, turn}
 
 -- ---- white space and comments
 

@@ -47,6 +47,7 @@ module _ (line : List ℕ) (inner : Level → Parser Expr) where
   PartReadsOver (s.Chain l x) ts = ChainReads l x ts
   PartReadsOver (s.Prefix x) ts = Reads 2 (p.prefix line inner) x ts
   PartReadsOver (s.Primary x) ts = ReadsOn 1 (p.primary line inner) (λ turns. p.selections line inner turns x) ts
+  PartReadsOver (s.HostArguments x second) ts = Reads 12 (p.asked line inner) (x, second) ts
   PartReadsOver (s.Fields fs) ts =
       (closing : Token) (rest : List Token) → closing.kind ≡ k.RightBrace → p.fields line inner (ts ++ closing ∷ rest) ≡ Some (fs, rest)
   PartReadsOver (s.SomeFields fs) ts = ReadsOn 10 (p.fields line inner) (λ turns. p.more_fields line inner turns fs) ts
@@ -75,8 +76,9 @@ module _ (line : List ℕ) (inner : Level → Parser Expr) where
 abbrev pub PartReads : List ℕ → ℕ → Part → List Token → Type 0
 PartReads line n part ts = PartReadsOver line (expression line n) part ts
 
--- how often the lines lead back at most: a member, an argument and a key lead back before they take a token
+-- how often the lines lead back at most: a member, an argument, a key and what a predicate is asked of lead back before they take a token
 abbrev pub room : Part → List Token → ℕ
+room (s.HostArguments x second) ts = suc (length ts)
 room (s.OneField f) ts = suc (length ts)
 room (s.SomeFields fs) ts = suc (length ts)
 room (s.Fields fs) ts = suc (length ts)

@@ -1,9 +1,9 @@
 -- Primary expressions, arguments of methods and members of `new` are read as they are spelled.
 use Rattle.std.proofs.Common.{arith, ◌≡◌, ◌≤◌, ◌<◌, ℕ, suc, zero, true, false, List, [], ◌∷◌, ◌++◌, refl, ap, ◌∙◌, length}
-use Rattle.std.specs.Prelude.{Some}
+use Rattle.std.specs.Prelude.{Option, Some, None}
 use Rattle.std.proofs.lemmas.Bool.{lt-ltb}
 use Rattle.lq_grammar.specs.Grammar as s
-use Rattle.lq_grammar.specs.Grammar.{integer, member_of, named}
+use Rattle.lq_grammar.specs.Grammar.{host_call, integer, member_of, named}
 use Rattle.lq_grammar.specs.TextLiterals.{text_value}
 use Rattle.lq_grammar.specs.Parsing as p
 use Rattle.lq_grammar.specs.Parsing.{Parser, ◌>>=◌, begins_with, peek, pure}
@@ -58,26 +58,41 @@ module _ (line : List ℕ) (inner : Level → Parser Expr) where
   read_name word is rest stops = started _ (word ∷ []) rest (start_is word k.Name rest is)
 
   -- what comes before a parenthesis that closes
-  closed : {B : Type 0} (l : Level) (b : ℕ) (f : Expr → Parser B) (x : Expr) (ts rest : List Token) (closing : Token) → b ≤ 13 → Reads b (inner l) x ts
-      → closing.kind ≡ k.RightParenthesis → (inner l >>= f) ((ts ++ closing ∷ []) ++ rest) ≡ f x (closing ∷ rest)
+  closed : {A B : Type 0} (parser : Parser A) (b : ℕ) (f : A → Parser B) (x : A) (ts rest : List Token) (closing : Token) → b ≤ 13 → Reads b parser x ts
+      → closing.kind ≡ k.RightParenthesis → (parser >>= f) ((ts ++ closing ∷ []) ++ rest) ≡ f x (closing ∷ rest)
   unfolding peek
-  closed l b f x ts rest closing low reads is =
+  closed parser b f x ts rest closing low reads is =
       let above : tight closing.kind ≡ 13 = ap tight is in
-      bind_step (inner l) f ((ts ++ closing ∷ []) ++ rest) (closing ∷ rest) x (ap (inner l) (split_middle ts closing [] rest) ∙ reads (closing ∷ rest) (omega arith))
+      bind_step parser f ((ts ++ closing ∷ []) ++ rest) (closing ∷ rest) x (ap parser (split_middle ts closing [] rest) ∙ reads (closing ∷ rest) (omega arith))
 
   pub read_parentheses : (x : Expr) (ts : List Token) (opening closing : Token) → opening.kind ≡ k.LeftParenthesis → Reads 13 (inner level.Top) x ts
       → closing.kind ≡ k.RightParenthesis → Selected x (opening ∷ (ts ++ closing ∷ []))
   read_parentheses x ts opening closing opening_is reads closing_is rest stops =
       started x (opening ∷ (ts ++ closing ∷ [])) rest
-      (start_is opening k.LeftParenthesis _ opening_is ∙ closed level.Top 13 _ x ts rest closing (omega arith) reads closing_is ∙ expect_step k.RightParenthesis _ closing rest closing_is)
+      (start_is opening k.LeftParenthesis _ opening_is ∙ closed (inner level.Top) 13 _ x ts rest closing (omega arith) reads closing_is ∙ expect_step k.RightParenthesis _ closing rest closing_is)
 
-  pub read_host : (x : Expr) (ts : List Token) (word dot predicate opening closing : Token) → word.kind ≡ k.Host → dot.kind ≡ k.Dot → predicate.kind ≡ k.Name
-      → opening.kind ≡ k.LeftParenthesis → Reads 10 (inner level.Conditional) x ts → closing.kind ≡ k.RightParenthesis
-      → Selected (expr.Node (node.Host (text_of line predicate) (x ∷ []))) (word ∷ dot ∷ predicate ∷ opening ∷ (ts ++ closing ∷ []))
-  read_host x ts word dot predicate opening closing word_is dot_is predicate_is opening_is reads closing_is rest stops =
+  pub read_asked_of_one : (x : Expr) (ts : List Token) → Reads 10 (inner level.Conditional) x ts → Reads 12 (p.asked line inner) (x, None) ts
+  unfolding p.asked
+  read_asked_of_one x ts reads rest stops =
+      bind_step (inner level.Conditional) _ (ts ++ rest) rest x (reads rest (omega arith)) ∙ after_skips k.Comma _ _ rest (not_next k.Comma rest (omega arith))
+
+  pub read_asked_of_two : (x y : Expr) (xs ys : List Token) (comma : Token) → Reads 10 (inner level.Conditional) x xs → comma.kind ≡ k.Comma
+      → Reads 10 (inner level.Conditional) y ys → Reads 12 (p.asked line inner) (x, Some y) (xs ++ comma ∷ ys)
+  unfolding p.asked peek
+  read_asked_of_two x y xs ys comma first is second rest stops =
+      let above : tight comma.kind ≡ 11 = ap tight is in
+      ap (p.asked line inner) (split_middle xs comma ys rest)
+      ∙ bind_step (inner level.Conditional) _ _ (comma ∷ (ys ++ rest)) x (first _ (omega arith))
+      ∙ after_sees k.Comma _ _ comma _ is
+      ∙ bind_step (inner level.Conditional) _ _ rest y (second rest (omega arith))
+
+  pub read_host : (x : Expr) (second : Option Expr) (ts : List Token) (word dot predicate opening closing : Token) → word.kind ≡ k.Host → dot.kind ≡ k.Dot → predicate.kind ≡ k.Name
+      → opening.kind ≡ k.LeftParenthesis → Reads 12 (p.asked line inner) (x, second) ts → closing.kind ≡ k.RightParenthesis
+      → Selected (host_call (text_of line predicate) x second) (word ∷ dot ∷ predicate ∷ opening ∷ (ts ++ closing ∷ []))
+  read_host x second ts word dot predicate opening closing word_is dot_is predicate_is opening_is reads closing_is rest stops =
       started _ (word ∷ dot ∷ predicate ∷ opening ∷ (ts ++ closing ∷ [])) rest
       (start_is word k.Host _ word_is ∙ expect_step k.Dot _ dot _ dot_is ∙ name_step line _ predicate _ predicate_is ∙ expect_step k.LeftParenthesis _ opening _ opening_is
-      ∙ closed level.Conditional 10 _ x ts rest closing (omega arith) reads closing_is ∙ expect_step k.RightParenthesis _ closing rest closing_is)
+      ∙ closed (p.asked line inner) 12 _ (x, second) ts rest closing (omega arith) reads closing_is ∙ expect_step k.RightParenthesis _ closing rest closing_is)
 
   pub read_record : (fs : List (Field Expr)) (ts : List Token) (word opening closing : Token) → word.kind ≡ k.New → opening.kind ≡ k.LeftBrace → PartReadsOver line inner (s.Fields fs) ts
       → closing.kind ≡ k.RightBrace → Selected (expr.Node (node.New fs)) (word ∷ opening ∷ (ts ++ closing ∷ []))

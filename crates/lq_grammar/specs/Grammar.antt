@@ -1,6 +1,7 @@
 -- The syntactic grammar: which tokens spell which tree, one case for each line of the grammar (ECMA-334, expressions and
 -- query expressions). `{x}` of the grammar is a case that leads back to its own part from the left.
-use Rattle.std.specs.Prelude.{◌≡◌, ◌<◌, ◌≤◌, ◌==◌, ◌∷◌, ◌++◌, if◌then◌else◌, List, [], ℕ, zero, suc, pos, neg_ℤ, true, false, Option, Some, None, option_and_then}
+use Rattle.std.specs.Prelude.{◌≡◌, ◌<◌, ◌≤◌, ◌==◌, ◌∷◌, ◌++◌, if◌then◌else◌, List, [], ℕ, zero, suc, pos, neg_ℤ, true, false, Option, Some, None, option_and_then, option_map}
+use Rattle.std.specs.Str.{bytes_eq}
 use Rattle.lq_value.specs.declared.scalar.Scalar.{Scalar}
 use Rattle.lq_value.specs.declared.scalar.Scalar.TheVariants as scalar
 use Rattle.lq_grammar.specs.TextLiterals.{text_value}
@@ -12,7 +13,8 @@ use Rattle.lq_grammar.specs.declared.syntax.Body.{Body}
 use Rattle.lq_grammar.specs.declared.syntax.Clause.{Clause}
 use Rattle.lq_grammar.specs.declared.syntax.Clause.TheVariants as clause
 use Rattle.lq_grammar.specs.declared.syntax.Continuation.{Continuation}
-use Rattle.lq_grammar.specs.declared.syntax.Expr.{Expr}
+use Rattle.lq_grammar.specs.declared.syntax.Expr.{Expr, out-Expr}
+use Rattle.lq_grammar.specs.declared.syntax.Expr.TheOpen.{Expr-F}
 use Rattle.lq_grammar.specs.declared.syntax.Expr.TheVariants as expr
 use Rattle.lq_grammar.specs.declared.syntax.Field.{Field}
 use Rattle.lq_grammar.specs.declared.syntax.Infix.{Infix}
@@ -20,6 +22,7 @@ use Rattle.lq_grammar.specs.declared.syntax.Infix.TheVariants as between
 use Rattle.lq_grammar.specs.declared.syntax.Last.{Last}
 use Rattle.lq_grammar.specs.declared.syntax.Last.TheVariants as last
 use Rattle.lq_grammar.specs.declared.syntax.Node.TheVariants as node
+use Rattle.lq_grammar.specs.declared.syntax.Picked.TheVariants as picked
 use Rattle.lq_grammar.specs.declared.syntax.Query.{Query}
 use Rattle.lq_grammar.specs.declared.syntax.SortKey.{SortKey}
 use Rattle.lq_grammar.specs.declared.syntax.Statement.{Statement}
@@ -71,6 +74,36 @@ named name = expr.Node (node.Name name)
 abbrev pub member_of : Expr → List ℕ → Expr
 member_of x name = expr.Node (node.Member x name)
 
+-- the name that an expression is
+abbrev pub name_in : Expr-F Expr → Option (List ℕ)
+name_in (Expr-F.Node (node.Name x)) = Some x
+name_in layer = None
+
+-- the name and the column, of a column of what a name refers to
+abbrev pub column_in : Expr-F Expr → Option (List ℕ × List ℕ)
+column_in (Expr-F.Node (node.Member row c)) = option_map (λ x. (x, c)) (name_in (out-Expr row))
+column_in layer = None
+
+-- the arguments, one or two
+abbrev pub arguments_of : Expr → Option Expr → List Expr
+arguments_of x None = x ∷ []
+arguments_of x (Some y) = x ∷ y ∷ []
+
+-- A host predicate that is asked of one expression: of a column of what an expression gives, or of anything else.
+abbrev pub host_of_one : List ℕ → Expr → Expr-F Expr → Expr
+host_of_one p x (Expr-F.Node (node.Member row c)) = expr.Node (node.Host p row (picked.One c))
+host_of_one p x layer = expr.Node (node.HostOther p (x ∷ []))
+
+-- And of two: of two columns of what one name refers to, or of anything else.
+abbrev pub host_of_two : List ℕ → Expr → Expr → Option (List ℕ × List ℕ) → Option (List ℕ × List ℕ) → Expr
+host_of_two p x y (Some a) (Some b) =
+    if bytes_eq a.0 b.0 then expr.Node (node.Host p (named a.0) (picked.Two a.1 b.1)) else expr.Node (node.HostOther p (x ∷ y ∷ []))
+host_of_two p x y a b = expr.Node (node.HostOther p (x ∷ y ∷ []))
+
+abbrev pub host_call : List ℕ → Expr → Option Expr → Expr
+host_call p x None = host_of_one p x (out-Expr x)
+host_call p x (Some y) = host_of_two p x y (column_in (out-Expr x)) (column_in (out-Expr y))
+
 -- two operands under an operator
 abbrev pub operation_of : Infix → Expr → Expr → Expr
 operation_of (between.Binary op) x y = expr.Node (node.Binary op x y)
@@ -91,6 +124,8 @@ pub data Part : Type 0 where
   Chain : ℕ → Expr → Part
   Prefix : Expr → Part
   Primary : Expr → Part
+  -- what a host predicate is asked of
+  HostArguments : Expr → Option Expr → Part
   Fields : List (Field Expr) → Part
   SomeFields : List (Field Expr) → Part
   OneField : Field Expr → Part
@@ -177,10 +212,13 @@ pub data Spells (line : List ℕ) : Part → List Token → Type 0 where
   -- "(" top ")"
   parentheses : {x : Expr} {ts : List Token} (opening closing : Token) → opening.kind ≡ k.LeftParenthesis → Spells line (Top x) ts → closing.kind ≡ k.RightParenthesis
       → Spells line (Primary x) (opening ∷ (ts ++ closing ∷ []))
-  -- "Host" "." name "(" cond ")"
-  host : {x : Expr} {ts : List Token} (word dot predicate opening closing : Token) → word.kind ≡ k.Host → dot.kind ≡ k.Dot → predicate.kind ≡ k.Name → opening.kind ≡ k.LeftParenthesis
-      → Spells line (Conditional x) ts → closing.kind ≡ k.RightParenthesis
-      → Spells line (Primary (expr.Node (node.Host (text_of line predicate) (x ∷ [])))) (word ∷ dot ∷ predicate ∷ opening ∷ (ts ++ closing ∷ []))
+  -- "Host" "." name "(" cond ["," cond] ")"
+  host : {x : Expr} {second : Option Expr} {ts : List Token} (word dot predicate opening closing : Token) → word.kind ≡ k.Host → dot.kind ≡ k.Dot → predicate.kind ≡ k.Name
+      → opening.kind ≡ k.LeftParenthesis → Spells line (HostArguments x second) ts → closing.kind ≡ k.RightParenthesis
+      → Spells line (Primary (host_call (text_of line predicate) x second)) (word ∷ dot ∷ predicate ∷ opening ∷ (ts ++ closing ∷ []))
+  asked_of_one : {x : Expr} {ts : List Token} → Spells line (Conditional x) ts → Spells line (HostArguments x None) ts
+  asked_of_two : {x y : Expr} {xs ys : List Token} (comma : Token) → Spells line (Conditional x) xs → comma.kind ≡ k.Comma → Spells line (Conditional y) ys
+      → Spells line (HostArguments x (Some y)) (xs ++ comma ∷ ys)
   -- "new" "{" [member {"," member} [","]] "}"
   record_of : {fs : List (Field Expr)} {ts : List Token} (word opening closing : Token) → word.kind ≡ k.New → opening.kind ≡ k.LeftBrace → Spells line (Fields fs) ts
       → closing.kind ≡ k.RightBrace → Spells line (Primary (expr.Node (node.New fs))) (word ∷ opening ∷ (ts ++ closing ∷ []))

@@ -4,7 +4,7 @@ use Rattle.std.specs.Prelude.{◌+◌, ◌-◌, ◌∷◌, ◌++◌, ◌==◌, i
 use denote.Enum.Bare.{sameb}
 use Rattle.lq_value.specs.declared.scalar.Scalar.{Scalar}
 use Rattle.lq_value.specs.declared.scalar.Scalar.TheVariants as scalar
-use Rattle.lq_grammar.specs.Grammar.{integer, least, levels, member_of, named, operation_of, operator}
+use Rattle.lq_grammar.specs.Grammar.{host_call, integer, least, levels, member_of, named, operation_of, operator}
 use Rattle.lq_grammar.specs.TextLiterals.{text_value}
 use Rattle.lq_grammar.specs.Tokens.{decimal_value, text_of}
 use Rattle.lq_grammar.specs.contracts.token.Kind.{the_type}
@@ -167,6 +167,10 @@ module _ (line : List ℕ) where
     unfoldable pub fields : Parser (List (Field Expr))
     fields = after k.RightBrace (pure []) (field >>= (λ f tokens. more_fields (length tokens) (f ∷ []) tokens))
 
+    -- what a host predicate is asked of: an expression, or two with a comma between them
+    unfoldable pub asked : Parser (Expr × Option Expr)
+    asked = inner level.Conditional >>= (λ x. after k.Comma (inner level.Conditional >>= (λ y. pure (x, Some y))) (pure (x, None)))
+
     -- a primary expression, up to its first dot, by the kind of its first token
     abbrev pub start_by : Kind → Token → Parser Expr
     start_by k.Integer token = literal (decimal_value (text_of line token))
@@ -177,8 +181,8 @@ module _ (line : List ℕ) where
     start_by k.Name token = pure (named (text_of line token))
     start_by k.LeftParenthesis token = inner level.Top >>= (λ x. expect k.RightParenthesis >>= (λ closing. pure x))
     start_by k.Host token =
-        expect k.Dot >>= (λ dot. name >>= (λ p. expect k.LeftParenthesis >>= (λ opening. inner level.Conditional >>= (λ x.
-        expect k.RightParenthesis >>= (λ closing. pure (expr.Node (node.Host p (x ∷ []))))))))
+        expect k.Dot >>= (λ dot. name >>= (λ p. expect k.LeftParenthesis >>= (λ opening. asked >>= (λ xs.
+        expect k.RightParenthesis >>= (λ closing. pure (host_call p xs.0 xs.1))))))
     start_by k.New token = expect k.LeftBrace >>= (λ opening. fields >>= (λ fs. pure (expr.Node (node.New fs))))
     start_by kind token = refuse
 

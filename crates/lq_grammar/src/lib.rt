@@ -12,6 +12,6 @@ mod token;
 
 pub use syntax::{
     Argument, Binary, Body, Clause, Continuation, Expr, Field, Infix, Join, Last, Level, Node,
-    Query, SortKey, Statement, Unary,
+    Picked, Query, SortKey, Statement, Unary,
 };
 pub use token::{Kind, Token};

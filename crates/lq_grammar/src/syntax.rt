@@ -74,6 +74,15 @@ pub struct Field<X> {
     pub value: X,
 }
 
+/// The columns that a host predicate is asked of, by their names.
+#[derive(Drop)]
+pub enum Picked {
+    /// The column of one argument.
+    One(Txt),
+    /// The columns of two arguments.
+    Two(Txt, Txt),
+}
+
 /// An argument of a method.
 #[derive(Drop)]
 pub enum Argument<X> {
@@ -110,8 +119,10 @@ pub enum Node<X> {
     Coalesce(Held<X>, Held<X>),
     /// `? :`, with its condition first.
     Conditional(Held<X>, Held<X>, Held<X>),
-    /// A host predicate's name, with what it is asked of.
-    Host(Txt, List<X>),
+    /// A host predicate's name, with the row that it is asked about, and the columns of it.
+    Host(Txt, Held<X>, Held<Picked>),
+    /// A host predicate's name, with arguments that are not columns of one row.
+    HostOther(Txt, List<X>),
     /// An anonymous object: `new` with its members.
     New(List<Field<X>>),
     /// A method of what comes before the dot, with its arguments.

@@ -1,9 +1,8 @@
 -- The predicates of a host and the log of its calls, and what may be added.
-use Rattle.std.specs.Prelude.{◌≡◌, ◌∷◌, ◌++◌, List, [], ℕ, Bool, if◌then◌else◌, is_some, length, map, nat_le, Option, Some, None, Result, Ok, Err}
+use Rattle.std.specs.Prelude.{◌≡◌, ◌∷◌, ◌++◌, List, [], ℕ, if◌then◌else◌, is_some, length, map, nat_le, Option, Some, None, Result, Ok, Err}
 use Rattle.lq_value.specs.Tables.{first_named}
-use Rattle.lq_host.specs.Predicates.{Predicate, answer_in, predicate_of}
+use Rattle.lq_host.specs.Predicates.{Predicate, predicate_of}
 use Rattle.lq_host.specs.declared.call.Call.{Call}
-use Rattle.lq_host.specs.declared.call.Pick2.{Pick2}
 use Rattle.lq_host.specs.declared.error.HostError.{HostError}
 use Rattle.lq_host.specs.declared.error.HostError.TheVariants.{Memory, DuplicateName, TooMany}
 use Rattle.lq_host.specs.declared.hosts.HostSet.{HostSet}
@@ -26,10 +25,6 @@ pub record Hosts : Type 0 where
 -- a set, by what is known of it
 abbrev pub hosts_of : {a b c d e f : _} → HostSet a b c d e f → Hosts
 hosts_of hosts = record { predicates = predicates_of hosts.predicates; calls = hosts.log }
-
--- the answer that the kept predicates have
-abbrev pub answer_by : {a b c d e f : _} → Predicates a b c d e f → ℕ → Pick2 → Option Bool
-answer_by kept id xs = answer_in (predicates_of kept) id xs
 
 -- the refusal of one more predicate, memory aside
 abbrev pub addition_refusal_of : List Predicate → Predicate → Option HostError

@@ -23,7 +23,7 @@ impl Model for Log {
 
 impl Log {
     /// A log of no call. Takes no memory.
-    pub(crate) fn new(alloc: Global) -> Log
+    pub fn new(alloc: Global) -> Log
         ensures { result ≡ [] }
     {
         Log {

@@ -1,6 +1,6 @@
 //! Host predicates.
 ghost use Rattle.std.specs.Prelude.{◌≡◌, true, is_some, Some};
-ghost use Rattle.lq_host.specs.Predicates.{domain_answer, domain_of, ranges_of};
+ghost use Rattle.lq_host.specs.Predicates.{arity_of, domain_answer, domain_of, ranges_of};
 
 use crate::call::Pick2;
 use crate::error::HostError;
@@ -31,6 +31,16 @@ impl Test {
         match self {
             Test::One(one) => (one.range, None),
             Test::Two(two) => (two.ranges.0, Some(two.ranges.1)),
+        }
+    }
+
+    /// How many arguments it takes.
+    pub(crate) fn arity(&self) -> u16
+        ensures { result ≡ arity_of (domain_of self.now) }
+    {
+        match self {
+            Test::One(_) => 1,
+            Test::Two(_) => 2,
         }
     }
 

@@ -21,10 +21,10 @@ pub struct Predicates {
 }
 
 impl Predicates {
-    ghost use Rattle.std.specs.Prelude.{◌≡◌, ◌<◌, [], Some, IfSome, length, slice_get};
+    ghost use Rattle.std.specs.Prelude.{◌≡◌, ◌<◌, ◌≤◌, [], Some, IfSome, length, slice_get};
     ghost use Rattle.std.specs.Option.{option_map};
     ghost use Rattle.lq_value.specs.Tables.{first_named};
-    ghost use Rattle.lq_host.specs.Predicates.{predicate_of, ranges_of};
+    ghost use Rattle.lq_host.specs.Predicates.{arity_of, predicate_of, ranges_of};
     ghost use Rattle.lq_host.specs.Hosts.{Adds, name_of, predicates_of, shown_added};
 
     /// No predicates. Takes no memory.
@@ -34,6 +34,14 @@ impl Predicates {
         Predicates {
             items: Vec::new(alloc),
         }
+    }
+
+    /// How many predicates there are: 64 at most.
+    pub fn len(&self) -> usize
+        ensures value { result ≡ length (predicates_of self.now) }
+        ensures bound { result ≤ 64 }
+    {
+        self.items.len()
     }
 
     /// The number of the predicate of this name.
@@ -64,6 +72,15 @@ impl Predicates {
             ≡ Some result }
     {
         self.at(id).test.ranges()
+    }
+
+    /// How many arguments a predicate takes: one or two.
+    pub fn arity(&self, id: PredicateNumber) -> u16
+        requires { id < length (predicates_of self.now) }
+        ensures { option_map (λ p. arity_of p.domain) (slice_get (predicates_of self.now) id)
+            ≡ Some result }
+    {
+        self.at(id).test.arity()
     }
 
     /// Puts `predicate` after the others and answers its number. Refuses with `DuplicateName`, `TooMany` (there are 64) or `Memory`,
@@ -98,9 +115,9 @@ impl Predicates {
 }
 
 impl Asks for Predicates {
-    ghost use Rattle.lq_host.specs.Hosts.{answer_by};
+    ghost use Rattle.lq_host.specs.Hosts.{predicates_of};
 
-    ghost answer_of = { answer_by };
+    ghost known = { predicates_of };
 
     fn ask(&self, question: Question, log: &mut Log) -> Result<bool, HostError> {
         let predicate = match self.items.get(question.predicate as usize) {

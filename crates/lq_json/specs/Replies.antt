@@ -26,7 +26,7 @@ module _ {R : Type 0} (cells_of : R → List Scalar) where
   reply_data (reply.Value store t v) = value_data (schemas_of store.now) cells_of t.now (Ok v.now)
   reply_data (reply.Fault f) = fault_data f
   reply_data (reply.Error word) = error_data word.now
-  reply_data (reply.Denied store rule used) = denied_data (schemas_of store.now) rule.now used
+  reply_data (reply.Denied store hosts rule used) = denied_data (schemas_of store.now) hosts.now rule.now used
   reply_data (reply.Defined name) = defined_data name.now
   reply_data (reply.Assigned name) = assigned_data name.now
   reply_data (reply.Role name) = role_data name.now

@@ -1,10 +1,11 @@
 //! The line of a denial: the rule that denies a use, and the use as it is named.
 ghost use Rattle.std.specs.Prelude.{◌≡◌, codes, slice_get, string_bytes, IfOk};
 ghost use Rattle.lq_machine.specs.States.{schemas_of};
-ghost use Rattle.lq_machine.specs.Served.{columns_in, denied_data, line_of, name_at, name_of_table, use_name};
+ghost use Rattle.lq_machine.specs.Served.{columns_in, denied_data, line_of, name_at, name_of_predicate, name_of_table, use_name};
 
 use crate::line::Line;
-use lq_language::Use;
+use lq_host::PredicateNumber;
+use lq_language::{HostName, Use};
 use lq_store::Store;
 use lq_value::{ColumnNumber, TableNumber};
 use serde_json::Map;
@@ -34,9 +35,25 @@ fn column_name(store: &Store, table: TableNumber, column: ColumnNumber) -> &str
     }
 }
 
+/// The name of a host predicate; empty where there is no such predicate.
+fn predicate_name(hosts: &[HostName], predicate: PredicateNumber) -> &str
+    ensures { result.now ≡ name_of_predicate (slice_get hosts.now predicate) }
+{
+    match hosts.get(predicate as usize) {
+        Some(host) => host.name.as_str(),
+        None => "",
+    }
+}
+
 /// A use as it is named.
-fn use_name(alloc: Global, store: &Store, used: Use) -> Result<String, AllocError>
-    ensures { IfOk result (λ name. string_bytes name ≡ use_name (schemas_of store.now) used) }
+fn use_name(
+    alloc: Global,
+    store: &Store,
+    hosts: &[HostName],
+    used: Use,
+) -> Result<String, AllocError>
+    ensures { IfOk result
+        (λ name. string_bytes name ≡ use_name (schemas_of store.now) hosts.now used) }
 {
     match used {
         Use::Table(table) => Ok(String::from_str(alloc, table_name(store, table))?),
@@ -52,6 +69,10 @@ fn use_name(alloc: Global, store: &Store, used: Use) -> Result<String, AllocErro
             let table = table_name(store, table);
             Ok(format!(in alloc; "{table} delete")?)
         }
+        Use::Host(predicate) => {
+            let predicate = predicate_name(hosts, predicate);
+            Ok(format!(in alloc; "Host.{predicate}")?)
+        }
     }
 }
 
@@ -59,13 +80,14 @@ fn use_name(alloc: Global, store: &Store, used: Use) -> Result<String, AllocErro
 pub(crate) fn denied_line(
     alloc: Global,
     store: &Store,
+    hosts: &[HostName],
     rule: &str,
     used: Use,
 ) -> Result<Line, AllocError>
     ensures { IfOk result (λ line. line
-        ≡ line_of (denied_data (schemas_of store.now) rule.now used)) }
+        ≡ line_of (denied_data (schemas_of store.now) hosts.now rule.now used)) }
 {
-    let name = use_name(alloc, store, used)?;
+    let name = use_name(alloc, store, hosts, used)?;
     let name = serde_json::Value::try_from_str(alloc, name.as_str())?;
     let rule = serde_json::Value::try_from_str(alloc, rule)?;
     let mut members = Map::new(alloc);

@@ -15,13 +15,14 @@ use crate::shape::{Shape, shape_of};
 use crate::sole::{count_line, word_line};
 use crate::{denial, write};
 use json::Writer;
-use lq_language::Use;
+use lq_language::{HostName, Use};
 use lq_store::Store;
 use lq_value::{End, Fault, RowRef, Ty, Value};
 use std::alloc::{AllocError, Global};
 
 /// What a statement is answered. A value is in it with its type, and with the store whose
-/// tables name the columns of rows.
+/// tables name the columns of rows; a denial with the store and the host predicates that name what
+/// is used.
 #[derive(Clone, Copy, Drop)]
 pub enum Reply<'a, R> {
     /// The items of a sequence, each of this type, and how it ends. A sequence inside of an item
@@ -45,6 +46,7 @@ pub enum Reply<'a, R> {
     /// The name of the rule that denies a use, and that use.
     Denied {
         store: &'a Store,
+        hosts: &'a [HostName],
         rule: &'a str,
         used: Use,
     },
@@ -75,7 +77,12 @@ pub fn reply_line<R: RowRef>(alloc: Global, reply: &Reply<'_, R>) -> Result<Line
         Reply::Value { store, ty, value } => value_line(alloc, store, ty, value),
         Reply::Fault(fault) => word_line(alloc, "fault", fault_name(*fault)),
         Reply::Error(word) => word_line(alloc, "error", word),
-        Reply::Denied { store, rule, used } => denial::denied_line(alloc, store, rule, *used),
+        Reply::Denied {
+            store,
+            hosts,
+            rule,
+            used,
+        } => denial::denied_line(alloc, store, hosts, rule, *used),
         Reply::Defined(name) => word_line(alloc, "defined", name),
         Reply::Assigned(name) => word_line(alloc, "assigned", name),
         Reply::Role(name) => word_line(alloc, "role", name),

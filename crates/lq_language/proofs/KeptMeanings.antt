@@ -19,12 +19,13 @@ use Rattle.lq_language.specs.EnumerableCalls.{EnumerableCall, By, Plain, With, e
 use Rattle.lq_language.specs.Maps.{map_argument, map_enumerable, map_field, map_node}
 use Rattle.lq_language.specs.Worlds.{Binding, Meaning, Scope, SessionValue, World, binding_of, bound, bound_stream, names_at, or_null, session_names, typed_locals}
 use Rattle.lq_language.specs.OperandMeaning.{is_null, sequence, stream_of, table_value, equality_truth, truth_value}
-use Rattle.lq_language.specs.ClauseMeaning.{as_group, body_meaning, clause_meaning, clauses_meaning, condition_at, continued, inner_items, is_null_layer, item_type_at, joined_type, joined_values, last_meaning, matches, query_meaning, sort_key_at}
+use Rattle.lq_language.specs.ClauseMeaning.{as_group, body_meaning, clause_meaning, clauses_meaning, condition_at, continued, inner_items, item_type_at, joined_type, joined_values, last_meaning, matches, query_meaning, sort_key_at}
 use Rattle.lq_language.specs.RuleMeaning.{Meant, compared_meaning, operated_meaning}
 use Rattle.lq_language.specs.ValuesOfTypes.{Every, HasCells, HoldsRows, IsScalarOf}
+use Rattle.lq_language.specs.HostNames.{are_int_columns, predicate_number}
 use Rattle.lq_language.specs.Members.{is_search, member_named, search_named, sole_argument}
 use Rattle.lq_language.specs.Operations.{negated, of_member, of_search, on_ok}
-use Rattle.lq_language.specs.Stream.{Stream, elements_of}
+use Rattle.lq_language.specs.Stream.{Stream}
 use Rattle.lq_language.specs.Types.{is_within}
 use Rattle.lq_language.specs.Names.{Names, SessionName, column_type, local_type, session_name, table_number, with_local}
 use Rattle.lq_language.specs.OperandTypes.{is_equality, is_text, is_text_type, number_type, truth_type}
@@ -50,7 +51,7 @@ use Rattle.lq_grammar.specs.declared.syntax.Node.TheVariants as node
 use Rattle.lq_grammar.specs.declared.syntax.Query.{Query}
 use Rattle.lq_grammar.specs.declared.syntax.SortKey.{SortKey}
 use Rattle.lq_grammar.specs.declared.syntax.Unary.TheVariants as unary
-use Rattle.lq_language.proofs.AlikeStreamLaws.{Agree, Alike, KeysAlike, Pair, agree_err, agree_ok, both_agree, every_element, expand_alike, group_alike, join_alike, on_ok_agree, order_alike, select_alike, where_alike}
+use Rattle.lq_language.proofs.AlikeStreamLaws.{Agree, Alike, KeysAlike, Pair, agree_err, agree_ok, both_agree, expand_alike, group_alike, join_alike, on_ok_agree, order_alike, select_alike, where_alike}
 use Rattle.lq_language.proofs.MatchLaws.{every_match}
 use Rattle.lq_language.proofs.ItemLaws.{every_map, every_more, every_none, first_of, no_binding, others_of, table_there}
 use Rattle.lq_language.proofs.LayerLaws.{para_node, para_query}
@@ -58,7 +59,7 @@ use Rattle.lq_language.proofs.MemberLaws.{search_told}
 use Rattle.lq_language.proofs.MethodPullLaws.{call_maps}
 use Rattle.lq_language.proofs.QueryPullLaws.{query_meant}
 use Rattle.lq_language.proofs.ScalarResultLaws.{Gives as GivesScalar, arithmetic_of, given_of, has_value_given, joined_given, length_given, minus_given, ordering_given, search_given, signed, value_given}
-use Rattle.lq_language.proofs.TypedMethodLaws.{column_agrees, given_agree, given_typed, key_agrees, left, member_agrees, right, scalar_after, scalar_member_agrees, settled_agree, simple_typed, stream_alike, through_typed, truth_after, truth_same}
+use Rattle.lq_language.proofs.TypedMethodLaws.{column_agrees, given_agree, given_typed, host_agrees, key_agrees, left, member_agrees, right, scalar_after, scalar_member_agrees, settled_agree, simple_typed, stream_alike, through_typed, truth_after, truth_same}
 use Rattle.lq_language.proofs.TypedOperatorLaws.{and_agrees, choice_agrees, choice_keeps, coalesced_agrees, coalesced_plain, decides, or_agrees}
 use Rattle.lq_language.proofs.TypingLaws.{computes_alone, is_truth, orders_alone}
 use Rattle.lq_language.proofs.ValueLaws.{Is, gets_ok, is_plain, joined_plain, number_plain, scalar_is, scalar_plain, sequence_is, truth_is}
@@ -488,6 +489,11 @@ module _ {R : Type 0} (world : World R) (holds : HoldsRows world) (kept : IsSess
       of_node r e (node.Conditional c a b) scope is
       (truth_after world f g r _ _ (choice_agrees world r s t keeps.0 keeps.1 (in_left a scope) (in_right a scope) (in_left b scope) (in_right b scope) (means a_typed scope at) (means b_typed scope at))
       (in_left c scope) (in_right c scope) (means c_typed scope at))
+  means (rule.of_host names e row p columns k n is known typed ints) = λ scope at.
+      of_node ty.Bool e (node.Host p row columns) scope is
+      (on_ok_agree (Val (ty.Row n)) (Val ty.Bool) _ _
+      (host_agrees world f g p columns k n (ap (λ (ns : Names). predicate_number ns.predicates p columns) at.1 ∙ known) (ap (λ (ns : Names). are_int_columns ns.tables n columns) at.1 ∙ ints))
+      (in_left row scope) (in_right row scope) (means typed scope at))
   means (rule.of_record names e fields members is distinct typed within) = λ scope at.
       of_node (ty.Rec members) e (node.New fields) scope is
       (on_ok_agree (λ vs. Fits world (AreMembers members vs)) (Val (ty.Rec members)) (λ vs. Ok (value.Rec vs)) (λ vs. Ok (value.Rec vs))

@@ -1,4 +1,4 @@
--- What has a type in the part that rules of policies are of has it in the language.
+-- What has a type in the rule language has it in the whole language.
 use Rattle.std.proofs.Common.{◌≡◌, ◌∷◌, ◌&&◌, if◌then◌else◌, List, [], ℕ, Bool, true, false, Option, Some, None, codes, ap, ap₂, ◌∙◌, refl}
 use Rattle.std.proofs.lemmas.Bool.{and_from}
 use Rattle.std.proofs.lemmas.Option.{none-some}
@@ -11,7 +11,7 @@ use Rattle.lq_language.specs.EnumerableCalls.{enumerable_call}
 use Rattle.lq_language.specs.Members.{is_search}
 use Rattle.lq_language.specs.Names.{Names}
 use Rattle.lq_language.specs.OperandTypes.{choice_type_of_layers, coalesced, if_number, is_equality, number_type, of_operands, operated_type, truth_type}
-use Rattle.lq_language.specs.RuleTyping.{of_coalesced, of_equality, of_has_value, of_joined, of_length, of_null, of_ordering, of_search, of_text, of_value, of_integer, of_local, of_table, of_column, of_arithmetic, of_minus, of_choice, of_truth, of_not, of_both, of_either, HasRuleType}
+use Rattle.lq_language.specs.RuleTyping.{of_coalesced, of_equality, of_has_value, of_joined, of_length, of_null, of_ordering, of_search, of_text, of_value, of_integer, of_local, of_table, of_column, of_arithmetic, of_minus, of_choice, of_truth, of_not, of_both, of_either, of_host, HasRuleType}
 use Rattle.lq_language.specs.RuleTypingLaws.{KeepsRuleTypes}
 use Rattle.lq_language.specs.Typing.{are_null_tests, called_type, search_type, type_of_choice, type_of_conditional, type_of_operation, global_type, type_of_name}
 use Rattle.lq_grammar.specs.declared.syntax.Argument.TheVariants as argument
@@ -20,6 +20,7 @@ use Rattle.lq_grammar.specs.declared.syntax.Expr.{Expr}
 use Rattle.lq_grammar.specs.declared.syntax.Node.TheVariants as node
 use Rattle.lq_grammar.specs.declared.syntax.Unary.TheVariants as unary
 use Rattle.lq_language.proofs.ExpressionTypeLaws.{both_found, expression_type_is, member_found, operated_found, text_found, truth_found}
+use Rattle.lq_language.proofs.HostTypeLemmas.{host_found}
 use Rattle.lq_language.proofs.MemberLaws.{search_told}
 use Rattle.lq_language.proofs.TypingLaws.{computes_alone, joined_found, numbers_compute, orders_alone, type_sound}
 
@@ -85,6 +86,8 @@ kept (of_choice names e c a b s t r is c_typed a_typed b_typed chooses) =
     expression_type_is names e (node.Conditional c a b) is
     ∙ (λ i. type_of_conditional (truth_found names c (kept c_typed) i) (kept a_typed i) (kept b_typed i))
     ∙ chosen_kept (out-Ty s) (out-Ty t) r chooses
+kept (of_host names e row p columns k n is known typed ints) =
+    expression_type_is names e (node.Host p row columns) is ∙ host_found names p columns k n (expression_type row names) known (kept typed) ints
 
 -- what has a type among rules has the same type in the language
 pub rule_type_is_kept : (names : Names) (e : Expr) (t : Ty) → HasRuleType names e t → expression_type e names ≡ Some t

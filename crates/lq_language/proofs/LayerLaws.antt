@@ -25,7 +25,7 @@ map_ext f g h xs = ap (λ k. map k xs) (λ i x. h x i)
 module _ {X Y : Type 0} (f : X → Y) where
   -- ---- expressions
 
-  at_argument : (a : Argument X) → shapes.former-Expr-Node-0-at-46.map X Y f a ≡ map_argument f a
+  at_argument : (a : Argument X) → shapes.former-Expr-Node-0-at-50.map X Y f a ≡ map_argument f a
   at_argument (argument.Value x) = refl
   at_argument (argument.Lambda n x) = refl
 
@@ -42,9 +42,10 @@ module _ {X Y : Type 0} (f : X → Y) where
   at_node (node.Or x y) = refl
   at_node (node.Coalesce x y) = refl
   at_node (node.Conditional c x y) = refl
-  at_node (node.Host p xs) = refl
+  at_node (node.Host p x columns) = refl
+  at_node (node.HostOther p xs) = refl
   at_node (node.New fields) = refl
-  at_node (node.Method x m xs) = ap (node.Method (f x) m) (map_ext (shapes.former-Expr-Node-0-at-46.map X Y f) (map_argument f) at_argument xs)
+  at_node (node.Method x m xs) = ap (node.Method (f x) m) (map_ext (shapes.former-Expr-Node-0-at-50.map X Y f) (map_argument f) at_argument xs)
 
   at_clause : (c : Clause X) → shapes.former-Expr-Query-0-at-17.map X Y f c ≡ map_clause f c
   at_clause (clause.From n x) = refl

@@ -6,6 +6,9 @@ pub mod EnumerableLemmas
 pub mod ExpressionTypeLaws
 pub mod FindingLaws
 pub mod FormLaws
+pub mod HostMeaningLaws
+pub mod HostNameLemmas
+pub mod HostTypeLemmas
 pub mod IntLaws
 pub mod ItemLaws
 pub mod ItemlessTypes
@@ -20,6 +23,7 @@ pub mod MethodPullLaws
 pub mod NullLemmas
 pub mod OneArrangement
 pub mod OperationLaws
+pub mod OperatorMeaningLemmas
 pub mod QueryPullLaws
 pub mod SameTypeLaws
 pub mod ScalarResultLaws

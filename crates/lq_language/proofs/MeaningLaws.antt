@@ -18,17 +18,18 @@ use Rattle.lq_value.specs.declared.value.Value.{Value, out-Value}
 use Rattle.lq_value.specs.declared.value.Value.TheOpen.{Value-F}
 use Rattle.lq_value.specs.declared.value.Value.TheVariants as value
 use Rattle.lq_value.specs.declared.value.Value.TheVariants.{outs-Row as outs-value-Row, outs-Scalar, outs-Seq as outs-value-Seq}
-use Rattle.lq_language.specs.Worlds.{Scope, World, binding_of, names_at}
-use Rattle.lq_language.specs.OperandMeaning.{cell_value, comparand, is_null, items_of, member_value, name_value, null_member, same_values, equality_truth, as_value, on_scalar, scalar_of, stream_of, table_value, truth_value}
-use Rattle.lq_language.specs.RuleMeaning.{compared_meaning, meaning, operated_meaning}
+use Rattle.lq_language.specs.Worlds.{Scope, World, binding_of, known_predicates, names_at}
+use Rattle.lq_language.specs.OperandMeaning.{cell_value, comparand, host_value, is_null, items_of, member_value, name_value, null_member, same_values, equality_truth, as_value, on_scalar, scalar_of, stream_of, table_value, truth_value}
+use Rattle.lq_language.specs.RuleMeaning.{compared_meaning, rule_meaning, operated_meaning}
 use Rattle.lq_language.specs.Operations.{negated, of_member, of_one, on_ok, truth_of}
+use Rattle.lq_language.specs.HostNames.{are_int_columns, predicate_number}
 use Rattle.lq_language.specs.Members.{IsSearch, member_named}
 use Rattle.lq_language.specs.RuleMeaningLaws.{HasRuleMeaning}
 use Rattle.lq_language.specs.ValuesOfTypes.{Every, HasCells, HaveTypes, HoldsRows, IsOf, is_scalar as is_scalar_value, is_row, is_sequence, IsOfScope, IsScalarOf, assuming}
 use Rattle.lq_language.specs.Stream.{Stream}
 use Rattle.lq_language.specs.Names.{Names, column_named, column_type, local_type, table_number, type_of_column}
 use Rattle.lq_language.specs.OperandTypes.{are_comparable, are_joined, choice_type_of_layers, coalesced, is_comparison, is_equality, is_ordering, number_type, is_number, item_of, row_table}
-use Rattle.lq_language.specs.RuleTyping.{of_integer, of_local, of_table, of_column, of_text, of_null, of_has_value, of_value, of_length, of_search, of_ordering, of_equality, of_arithmetic, of_joined, of_coalesced, of_minus, of_choice, of_truth, of_not, of_both, of_either, HasRuleType, type_of}
+use Rattle.lq_language.specs.RuleTyping.{of_integer, of_local, of_table, of_column, of_text, of_null, of_has_value, of_value, of_length, of_search, of_ordering, of_equality, of_arithmetic, of_joined, of_coalesced, of_minus, of_choice, of_truth, of_not, of_both, of_either, of_host, HasRuleType, rule_type}
 use Rattle.lq_language.specs.TableRows.{cell_named}
 use Rattle.lq_language.specs.declared.operation.Op.{Op}
 use Rattle.lq_language.specs.declared.operation.Op.TheVariants as operation
@@ -38,9 +39,11 @@ use Rattle.lq_grammar.specs.declared.syntax.Binary.TheVariants as binary
 use Rattle.lq_grammar.specs.declared.syntax.Expr.{Expr}
 use Rattle.lq_grammar.specs.declared.syntax.Expr.TheVariants as expr
 use Rattle.lq_grammar.specs.declared.syntax.Node.TheVariants as node
+use Rattle.lq_grammar.specs.declared.syntax.Picked.{Picked}
 use Rattle.lq_grammar.specs.declared.syntax.Unary.TheVariants as unary
+use Rattle.lq_language.proofs.HostMeaningLaws.{IsAnswered, answered, null_answered, refused, row_answered}
 use Rattle.lq_language.proofs.ItemLaws.{every_map, every_none, has_binding, no_binding, table_there}
-use Rattle.lq_language.proofs.FormLaws.{meaning_binary, meaning_both, meaning_coalesce, meaning_method, meaning_null, meaning_text, meaning_choice, meaning_either, meaning_integer, meaning_member, meaning_minus, meaning_name, meaning_not, meaning_truth}
+use Rattle.lq_language.proofs.FormLaws.{meaning_binary, meaning_both, meaning_coalesce, meaning_method, meaning_null, meaning_text, meaning_choice, meaning_either, meaning_host, meaning_integer, meaning_member, meaning_minus, meaning_name, meaning_not, meaning_truth}
 use Rattle.lq_language.proofs.ScalarResultLaws.{arithmetic_of, Coalesces, Gives, HasScalars, Widens, chosen_widens, coalesced_fits, faults, given_of, gives, has_value_given, joined_given, joined_scalars, length_given, looked_for, minus_given, no_items_before, no_items_behind, number_scalars, ordering_given, search_given, signed, value_given}
 use Rattle.lq_language.proofs.TypedValues.{IsRowOrNull, IsSequence, a_row, a_sequence, bool_value, comparand_there, decides_same, member_of_scalar, no_row, row_value, scalar_there, sequence_value, widened_value}
 use Rattle.lq_language.proofs.TypingLaws.{type_complete}
@@ -221,6 +224,25 @@ module _ {R : Type 0} (world : World R) (holds : HoldsRows world) (f g : Fault) 
       come w s k is =
           ap (member_of w t m) is ∙ ap (member_value w (Some t) m) (outs-Scalar s) ∙ member_of_scalar world w t m s none ∙ ap (λ (p : Option Op). as_value (of_member w.unknown p s)) named
 
+  -- what a host predicate answers about what an expression comes to
+  abbrev host_of : World R → List ℕ → Picked → Result (Value R) Fault → Result (Value R) Fault
+  host_of w p columns o = on_ok o (λ v. host_value w p columns (out-Value R v))
+
+  answered_outcome : (p : List ℕ) (columns : Picked) (v : Value R) → IsAnswered world p columns v → (m l : Result (Value R) Fault) → m ≡ Ok v → l ≡ Ok v
+      → IsSame world ty.Bool (host_of left p columns m) (host_of right p columns l)
+  answered_outcome p columns v (answered b is) m l h i =
+      same_value (truth_value b) (truth_is_of b) (ap (host_of left p columns) h ∙ is f) (ap (host_of right p columns) i ∙ is g)
+  answered_outcome p columns v (refused x is) m l h i = same_fault x (ap (host_of left p columns) h ∙ is f) (ap (host_of right p columns) i ∙ is g)
+
+  host_outcome : (p : List ℕ) (columns : Picked) (k n : ℕ) → predicate_number (known_predicates world.predicates) p columns ≡ Some k
+      → are_int_columns world.schemas n columns ≡ true → (m l : Result (Value R) Fault) → IsSame world (ty.Row n) m l
+      → IsSame world ty.Bool (host_of left p columns m) (host_of right p columns l)
+  host_outcome p columns k n known ints m l (same_fault x h i) = same_fault x (ap (host_of left p columns) h) (ap (host_of right p columns) i)
+  host_outcome p columns k n known ints m l (same_value v fits h i) = by (row_value world (ty.Row n) n v (outs-Row n) fits) where
+    by : IsRowOrNull world n v → IsSame world ty.Bool (host_of left p columns m) (host_of right p columns l)
+    by (a_row r cells is) = answered_outcome p columns (value.Row r) (row_answered world p columns k n r known ints cells) m l (h ∙ ap Ok is) (i ∙ ap Ok is)
+    by (no_row is) = answered_outcome p columns (value.Scalar scalar.Null) (null_answered world p columns) m l (h ∙ ap Ok is) (i ∙ ap Ok is)
+
   table_outcome : (n : ℕ) (schema : Schema) → slice_get world.schemas n ≡ Some schema
       → IsSame world (ty.Seq (ty.Row n)) (table_value left (slice_get world.rows n)) (table_value right (slice_get world.rows n))
   table_outcome n schema is =
@@ -257,7 +279,7 @@ module _ {R : Type 0} (world : World R) (holds : HoldsRows world) (f g : Fault) 
 
   -- an expression of this type means the same in both worlds
   abbrev Means : Names → Expr → Ty → Type 0
-  Means names e t = (scope : Scope R) → At names scope → IsSame world t (meaning left e scope) (meaning right e scope)
+  Means names e t = (scope : Scope R) → At names scope → IsSame world t (rule_meaning left e scope) (rule_meaning right e scope)
 
   -- an expression that is this one
   same_as : (names : Names) (e d : Expr) (t : Ty) → e ≡ d → Means names d t → Means names e t
@@ -281,7 +303,7 @@ module _ {R : Type 0} (world : World R) (holds : HoldsRows world) (f g : Fault) 
       let table = table_there x world.schemas n number in
       same_outcomes (ty.Seq (ty.Row n)) _ _ _ _ (named left none number) (named right none number) (table_outcome n table.0 table.1)
     where
-      named : (w : World R) → binding_of x scope ≡ None → table_number x w.schemas ≡ Some n → meaning w (expr.Node (node.Name x)) scope ≡ table_value w (slice_get w.rows n)
+      named : (w : World R) → binding_of x scope ≡ None → table_number x w.schemas ≡ Some n → rule_meaning w (expr.Node (node.Name x)) scope ≡ table_value w (slice_get w.rows n)
       named w none number =
           meaning_name w x scope ∙ ap (name_value w x) none ∙ ap (λ (o : Option ℕ). table_value w (option_and_then (λ m. slice_get w.rows m) o)) number
 
@@ -296,16 +318,16 @@ module _ {R : Type 0} (world : World R) (holds : HoldsRows world) (f g : Fault) 
       (meaning_null left scope) (meaning_null right scope)
 
   -- the type that an expression has under the names of a scope
-  type_there : (names : Names) (e : Expr) (t : Ty) (scope : Scope R) → At names scope → type_of e names ≡ Some t → type_of e (names_at world scope) ≡ Some t
-  type_there names e t scope at typed = ap (type_of e) (sym at.0) ∙ typed
+  type_there : (names : Names) (e : Expr) (t : Ty) (scope : Scope R) → At names scope → rule_type e names ≡ Some t → rule_type e (names_at world scope) ≡ Some t
+  type_there names e t scope at typed = ap (rule_type e) (sym at.0) ∙ typed
 
   -- a member of an operand of this type
-  member_there : (w : World R) (names : Names) (a : Expr) (m : List ℕ) (t : Ty) (scope : Scope R) → type_of a (names_at w scope) ≡ Some t
-      → meaning w (expr.Node (node.Member a m)) scope ≡ member_of w t m (meaning w a scope)
+  member_there : (w : World R) (names : Names) (a : Expr) (m : List ℕ) (t : Ty) (scope : Scope R) → rule_type a (names_at w scope) ≡ Some t
+      → rule_meaning w (expr.Node (node.Member a m)) scope ≡ member_of w t m (rule_meaning w a scope)
   member_there w names a m t scope typed =
-      meaning_member w a m scope ∙ ap (λ (o : Option Ty). on_ok (meaning w a scope) (λ v. member_value w o m (out-Value R v))) typed
+      meaning_member w a m scope ∙ ap (λ (o : Option Ty). on_ok (rule_meaning w a scope) (λ v. member_value w o m (out-Value R v))) typed
 
-  means_column : (names : Names) (row : Expr) (c : List ℕ) (n : ℕ) (t : Ty) → column_type names.tables n c ≡ Some t → type_of row names ≡ Some (ty.Row n)
+  means_column : (names : Names) (row : Expr) (c : List ℕ) (n : ℕ) (t : Ty) → column_type names.tables n c ≡ Some t → rule_type row names ≡ Some (ty.Row n)
       → Means names row (ty.Row n) → Means names (expr.Node (node.Member row c)) t
   means_column names row c n t found typed means scope at =
       let is = type_there names row (ty.Row n) scope at typed in
@@ -313,7 +335,7 @@ module _ {R : Type 0} (world : World R) (holds : HoldsRows world) (f g : Fault) 
       (column_outcome n c t (ap (λ (m : Names). column_type m.tables n c) (sym at.0) ∙ found) _ _ (means scope at))
 
   means_member : (names : Names) (a : Expr) (m : List ℕ) (o : Op) (t r : Ty) → HasScalars (out-Ty t) → member_named m ≡ Some o
-      → ((s : Scalar) → IsScalarOf (out-Ty t) s → Gives (out-Ty r) (λ unknown. of_one unknown o s)) → type_of a names ≡ Some t → Means names a t
+      → ((s : Scalar) → IsScalarOf (out-Ty t) s → Gives (out-Ty r) (λ unknown. of_one unknown o s)) → rule_type a names ≡ Some t → Means names a t
       → Means names (expr.Node (node.Member a m)) r
   means_member names a m o t r none named given typed means scope at =
       let is = type_there names a t scope at typed in
@@ -321,7 +343,7 @@ module _ {R : Type 0} (world : World R) (holds : HoldsRows world) (f g : Fault) 
 
   -- a member of an operand whose type has this layer, and which gives values of that layer
   means_named : (names : Names) (a : Expr) (m : List ℕ) (o : Op) (t r : Ty) (k l : Ty-F Ty) → out-Ty t ≡ k → out-Ty r ≡ l → HasScalars k → member_named m ≡ Some o
-      → ((s : Scalar) → IsScalarOf k s → Gives l (λ unknown. of_one unknown o s)) → type_of a names ≡ Some t → Means names a t
+      → ((s : Scalar) → IsScalarOf k s → Gives l (λ unknown. of_one unknown o s)) → rule_type a names ≡ Some t → Means names a t
       → Means names (expr.Node (node.Member a m)) r
   means_named names a m o t r k l is result none named given =
       means_member names a m o t r (subst (λ (layer : Ty-F Ty). HasScalars layer) (sym is) none) named
@@ -343,30 +365,30 @@ module _ {R : Type 0} (world : World R) (holds : HoldsRows world) (f g : Fault) 
 
   -- a sign between two operands, by whether it is `==` or `!=`
   sign_there : (w : World R) (op : Binary) (a b : Expr) (scope : Scope R) (equal : Bool) → is_equality op ≡ equal
-      → meaning w (expr.Node (node.Binary op a b)) scope
-      ≡ (if equal then compared_meaning w op (meaning w a scope) (meaning w b scope)
-      else operated_meaning w op (type_of a (names_at w scope)) (type_of b (names_at w scope)) (meaning w a scope) (meaning w b scope))
+      → rule_meaning w (expr.Node (node.Binary op a b)) scope
+      ≡ (if equal then compared_meaning w op (rule_meaning w a scope) (rule_meaning w b scope)
+      else operated_meaning w op (rule_type a (names_at w scope)) (rule_type b (names_at w scope)) (rule_meaning w a scope) (rule_meaning w b scope))
   sign_there w op a b scope equal is =
       meaning_binary w op a b scope
-      ∙ ap (λ (e : Bool). if e then compared_meaning w op (meaning w a scope) (meaning w b scope)
-      else operated_meaning w op (type_of a (names_at w scope)) (type_of b (names_at w scope)) (meaning w a scope) (meaning w b scope)) is
+      ∙ ap (λ (e : Bool). if e then compared_meaning w op (rule_meaning w a scope) (rule_meaning w b scope)
+      else operated_meaning w op (rule_type a (names_at w scope)) (rule_type b (names_at w scope)) (rule_meaning w a scope) (rule_meaning w b scope)) is
 
   -- one that evaluates two scalars, by their types
   means_signed : (names : Names) (a b : Expr) (op : Binary) (r s t : Ty) → is_equality op ≡ false → HasScalars (out-Ty s) → HasScalars (out-Ty t)
       → ((x y : Scalar) → IsScalarOf (out-Ty s) x → IsScalarOf (out-Ty t) y → Gives (out-Ty r) (signed op s t x y))
-      → type_of a names ≡ Some s → type_of b names ≡ Some t → Means names a s → Means names b t → Means names (expr.Node (node.Binary op a b)) r
+      → rule_type a names ≡ Some s → rule_type b names ≡ Some t → Means names a s → Means names b t → Means names (expr.Node (node.Binary op a b)) r
   means_signed names a b op r s t no_equality s_none t_none given a_typed b_typed a_means b_means scope at =
       same_outcomes r _ _ _ _ (sign_there left op a b scope false no_equality ∙ typed left) (sign_there right op a b scope false no_equality ∙ typed right)
       (operands_outcome (signed op s t) r s t given _ _ _ _ (scalar_outcome s _ _ (a_means scope at) s_none) (scalar_outcome t _ _ (b_means scope at) t_none))
     where
       typed : (w : World R)
-          → operated_meaning w op (type_of a (names_at world scope)) (type_of b (names_at world scope)) (meaning w a scope) (meaning w b scope)
-          ≡ operated_meaning w op (Some s) (Some t) (meaning w a scope) (meaning w b scope)
+          → operated_meaning w op (rule_type a (names_at world scope)) (rule_type b (names_at world scope)) (rule_meaning w a scope) (rule_meaning w b scope)
+          ≡ operated_meaning w op (Some s) (Some t) (rule_meaning w a scope) (rule_meaning w b scope)
       typed w =
-          ap₂ (λ (o p : Option Ty). operated_meaning w op o p (meaning w a scope) (meaning w b scope)) (type_there names a s scope at a_typed) (type_there names b t scope at b_typed)
+          ap₂ (λ (o p : Option Ty). operated_meaning w op o p (rule_meaning w a scope) (rule_meaning w b scope)) (type_there names a s scope at a_typed) (type_there names b t scope at b_typed)
 
   means_ordering : (names : Names) (a b : Expr) (op : Binary) (s t : Ty) → is_ordering op ≡ true → is_number (out-Ty s) ≡ true → is_number (out-Ty t) ≡ true
-      → type_of a names ≡ Some s → type_of b names ≡ Some t → Means names a s → Means names b t → Means names (expr.Node (node.Binary op a b)) ty.Bool
+      → rule_type a names ≡ Some s → rule_type b names ≡ Some t → Means names a s → Means names b t → Means names (expr.Node (node.Binary op a b)) ty.Bool
   means_ordering names a b op s t orders s_number t_number =
       means_signed names a b op ty.Bool s t (no_equality op orders) (number_scalars (out-Ty s) s_number) (number_scalars (out-Ty t) t_number)
       (λ x y x_fits y_fits. given_of ty.Bool Ty-F.Bool (signed op s t x y) outs-Bool (ordering_given op s t orders s_number t_number x y x_fits y_fits))
@@ -377,7 +399,7 @@ module _ {R : Type 0} (world : World R) (holds : HoldsRows world) (f g : Fault) 
       no_equality op orders = refl
 
   means_arithmetic : (names : Names) (a b : Expr) (op : Binary) (s t : Ty) → is_comparison op ≡ false → is_number (out-Ty s) ≡ true → is_number (out-Ty t) ≡ true
-      → type_of a names ≡ Some s → type_of b names ≡ Some t → Means names a s → Means names b t
+      → rule_type a names ≡ Some s → rule_type b names ≡ Some t → Means names a s → Means names b t
       → Means names (expr.Node (node.Binary op a b)) (number_type (out-Ty s) (out-Ty t))
   means_arithmetic names a b op s t computes s_number t_number =
       means_signed names a b op (number_type (out-Ty s) (out-Ty t)) s t (no_equality op computes) (number_scalars (out-Ty s) s_number) (number_scalars (out-Ty t) t_number)
@@ -388,7 +410,7 @@ module _ {R : Type 0} (world : World R) (holds : HoldsRows world) (f g : Fault) 
       no_equality binary.NotEqual computes = computes
       no_equality op computes = refl
 
-  means_joined : (names : Names) (a b : Expr) (s t : Ty) → are_joined (out-Ty s) (out-Ty t) ≡ true → type_of a names ≡ Some s → type_of b names ≡ Some t
+  means_joined : (names : Names) (a b : Expr) (s t : Ty) → are_joined (out-Ty s) (out-Ty t) ≡ true → rule_type a names ≡ Some s → rule_type b names ≡ Some t
       → Means names a s → Means names b t → Means names (expr.Node (node.Binary binary.Add a b)) ty.Str
   means_joined names a b s t joins =
       let scalars = joined_scalars (out-Ty s) (out-Ty t) joins in
@@ -419,7 +441,7 @@ module _ {R : Type 0} (world : World R) (holds : HoldsRows world) (f g : Fault) 
       same_outcomes ty.Bool _ _ _ _ (meaning_both left a b scope) (meaning_both right a b scope)
       (after_truth ty.Bool _ _ (truth_outcome _ _ (a_means scope at)) _ _ second)
     where
-      second : (t : Bool) → IsSame world ty.Bool (if t then meaning left b scope else Ok (truth_value false)) (if t then meaning right b scope else Ok (truth_value false))
+      second : (t : Bool) → IsSame world ty.Bool (if t then rule_meaning left b scope else Ok (truth_value false)) (if t then rule_meaning right b scope else Ok (truth_value false))
       second true = b_means scope at
       second false = truth_is_same false
 
@@ -428,7 +450,7 @@ module _ {R : Type 0} (world : World R) (holds : HoldsRows world) (f g : Fault) 
       same_outcomes ty.Bool _ _ _ _ (meaning_either left a b scope) (meaning_either right a b scope)
       (after_truth ty.Bool _ _ (truth_outcome _ _ (a_means scope at)) _ _ second)
     where
-      second : (t : Bool) → IsSame world ty.Bool (if t then Ok (truth_value true) else meaning left b scope) (if t then Ok (truth_value true) else meaning right b scope)
+      second : (t : Bool) → IsSame world ty.Bool (if t then Ok (truth_value true) else rule_meaning left b scope) (if t then Ok (truth_value true) else rule_meaning right b scope)
       second true = truth_is_same true
       second false = b_means scope at
 
@@ -438,7 +460,7 @@ module _ {R : Type 0} (world : World R) (holds : HoldsRows world) (f g : Fault) 
       same_outcomes r _ _ _ _ (meaning_choice left c a b scope) (meaning_choice right c a b scope)
       (after_truth r _ _ (truth_outcome _ _ (c_means scope at)) _ _ one_of)
     where
-      one_of : (x : Bool) → IsSame world r (if x then meaning left a scope else meaning left b scope) (if x then meaning right a scope else meaning right b scope)
+      one_of : (x : Bool) → IsSame world r (if x then rule_meaning left a scope else rule_meaning left b scope) (if x then rule_meaning right a scope else rule_meaning right b scope)
       one_of true = widened_outcome s r _ _ (a_means scope at) (chosen_widens (out-Ty s) (out-Ty t) r chooses).0
       one_of false = widened_outcome t r _ _ (b_means scope at) (chosen_widens (out-Ty s) (out-Ty t) r chooses).1
 
@@ -452,9 +474,16 @@ module _ {R : Type 0} (world : World R) (holds : HoldsRows world) (f g : Fault) 
       fitting = coalesced_fits (out-Ty s) (out-Ty t) r coalesces
 
       one_of : (x : Scalar) → IsScalarOf (out-Ty s) x → (n : Bool) → is_null x ≡ n
-          → IsSame world r (if n then meaning left b scope else Ok (value.Scalar x)) (if n then meaning right b scope else Ok (value.Scalar x))
+          → IsSame world r (if n then rule_meaning left b scope else Ok (value.Scalar x)) (if n then rule_meaning right b scope else Ok (value.Scalar x))
       one_of x fits true is = widened_outcome t r _ _ (b_means scope at) fitting.1.1
       one_of x fits false is = same_value (value.Scalar x) (is_scalar_value r x (fitting.1.0 x fits is)) refl refl
+
+  means_host : (names : Names) (p : List ℕ) (row : Expr) (columns : Picked) (k n : ℕ) → predicate_number names.predicates p columns ≡ Some k
+      → are_int_columns names.tables n columns ≡ true → Means names row (ty.Row n) → Means names (expr.Node (node.Host p row columns)) ty.Bool
+  means_host names p row columns k n known ints means scope at =
+      same_outcomes ty.Bool _ _ _ _ (meaning_host left p row columns scope) (meaning_host right p row columns scope)
+      (host_outcome p columns k n (ap (λ (m : Names). predicate_number m.predicates p columns) (sym at.0) ∙ known)
+      (ap (λ (m : Names). are_int_columns m.tables n columns) (sym at.0) ∙ ints) _ _ (means scope at))
 
   means : {names : Names} {e : Expr} {t : Ty} → HasRuleType names e t → Means names e t
   means (of_integer names e n is) = same_as names e (expr.Node (node.Integer n)) ty.Int is (means_integer names n)
@@ -490,6 +519,8 @@ module _ {R : Type 0} (world : World R) (holds : HoldsRows world) (f g : Fault) 
   means (of_minus names e a t is typed number) = same_as names e (expr.Node (node.Unary unary.Minus a)) t is (means_minus names a t number (means typed))
   means (of_choice names e c a b s t r is c_typed a_typed b_typed chooses) =
       same_as names e (expr.Node (node.Conditional c a b)) r is (means_choice names c a b s t r chooses (means c_typed) (means a_typed) (means b_typed))
+  means (of_host names e row p columns k n is known typed ints) =
+      same_as names e (expr.Node (node.Host p row columns)) ty.Bool is (means_host names p row columns k n known ints (means typed))
   means (of_truth names e b is) = same_as names e (expr.Node (node.Bool b)) ty.Bool is (means_truth names b)
   means (of_not names e a is typed) = same_as names e (expr.Node (node.Unary unary.Not a)) ty.Bool is (means_not names a (means typed))
   means (of_both names e a b is a_typed b_typed) = same_as names e (expr.Node (node.And a b)) ty.Bool is (means_both names a b (means a_typed) (means b_typed))
@@ -497,7 +528,7 @@ module _ {R : Type 0} (world : World R) (holds : HoldsRows world) (f g : Fault) 
 
 -- what a typed expression means, if it is a value, is one of its type
 pub value_of_type : {R : Type 0} (world : World R) → HoldsRows world → (f : Fault) (names : Names) (e : Expr) (t : Ty) → HasRuleType names e t → (scope : Scope R) → names ≡ names_at world scope
-    → IsOfScope world scope → (v : Value R) → meaning (assuming f world) e scope ≡ Ok v → IsOf world t v
+    → IsOfScope world scope → (v : Value R) → rule_meaning (assuming f world) e scope ≡ Ok v → IsOf world t v
 value_of_type world holds f names e t typed scope at fits = of_its_type world holds f f t _ _ (means world holds f f typed scope (at, fits))
 
 -- ---- the laws

@@ -6,10 +6,10 @@ use Rattle.std.specs.Ordering.{int_eq}
 use Rattle.lq_value.specs.declared.scalar.Scalar.{Scalar}
 use Rattle.lq_value.specs.declared.scalar.Scalar.TheVariants as scalar
 use Rattle.lq_value.specs.declared.value.Fault.{Fault}
-use Rattle.lq_language.specs.NullLaws.{HasValueUnlessNull, NullHasNoOrder, NullHasNothing, SameByContent}
+use Rattle.lq_language.specs.NullLaws.{HasValueUnlessNull, NullGivesNull, NullHasNoOrder, NullHasNothing, NullIsEmptyText, SameByContent}
 use Rattle.lq_language.specs.OperationLaws.{AreOfOneKind, IsNumber, IsText, IsTruth}
 use Rattle.lq_language.specs.Operations.{applied, on_ok, operation_of, same_content, truth}
-use Rattle.lq_language.specs.OperandTypes.{is_ordering}
+use Rattle.lq_language.specs.OperandTypes.{is_comparison, is_ordering}
 use Rattle.lq_language.specs.declared.operation.Op.TheVariants as op
 use Rattle.lq_grammar.specs.declared.syntax.Binary.{Binary}
 use Rattle.lq_grammar.specs.declared.syntax.Binary.TheVariants as binary
@@ -20,8 +20,8 @@ has_value_unless_null unknown scalar.Null number = ((λ h. absurd (cc), λ other
 has_value_unless_null unknown s number = absurd number
 
 pub null_has_nothing : NullHasNothing
-null_has_nothing unknown n (scalar.Text t) text = (refl, refl, refl, refl, refl, refl)
-null_has_nothing unknown n scalar.Null text = (refl, refl, refl, refl, refl, refl)
+null_has_nothing unknown n (scalar.Text t) text = (refl, refl, refl, refl, refl, refl, refl, refl, refl)
+null_has_nothing unknown n scalar.Null text = (refl, refl, refl, refl, refl, refl, refl, refl, refl)
 null_has_nothing unknown n s text = absurd text
 
 -- ---- what `==` says
@@ -81,6 +81,31 @@ same_by_content unknown a b kind =
     let equal = told (applied unknown op.Equal (a ∷ b ∷ [])) found.0 (ap (truth unknown) found.1) found.2 in
     let other = told_other (applied unknown op.NotEqual (a ∷ b ∷ [])) found.0 (ap (λ (o : Result Bool Fault). truth unknown (on_ok o (λ same. Ok (not same)))) found.1) found.2 in
     (equal.0, equal.1, other.0, other.1)
+
+-- ---- operands
+
+between : (unknown : Fault) (sign : Binary) → is_comparison sign ≡ false → (s : Scalar) → IsNumber s
+    → (applied unknown (operation_of sign) (scalar.Null ∷ s ∷ []) ≡ Ok scalar.Null)
+    × (applied unknown (operation_of sign) (s ∷ scalar.Null ∷ []) ≡ Ok scalar.Null)
+between unknown binary.Multiply h (scalar.Int n) number = (refl, refl)
+between unknown binary.Multiply h scalar.Null number = (refl, refl)
+between unknown binary.Divide h (scalar.Int n) number = (refl, refl)
+between unknown binary.Divide h scalar.Null number = (refl, refl)
+between unknown binary.Remainder h (scalar.Int n) number = (refl, refl)
+between unknown binary.Remainder h scalar.Null number = (refl, refl)
+between unknown binary.Add h (scalar.Int n) number = (refl, refl)
+between unknown binary.Add h scalar.Null number = (refl, refl)
+between unknown binary.Subtract h (scalar.Int n) number = (refl, refl)
+between unknown binary.Subtract h scalar.Null number = (refl, refl)
+between unknown sign h (scalar.Bool b) number = absurd number
+between unknown sign h (scalar.Text t) number = absurd number
+between unknown sign h s number = absurd (true≢false h)
+
+pub null_gives_null : NullGivesNull
+null_gives_null unknown = (refl, between unknown)
+
+pub null_is_empty_text : NullIsEmptyText
+null_is_empty_text unknown t = (refl, refl, refl)
 
 -- ---- orders
 

@@ -126,6 +126,7 @@ module _ {R : Type 0} (world : World R) (holds : HoldsRows world) (kept : IsSess
   streams (rule.of_either names e a b is left right) = none names e ty.Bool no_items_Bool
   streams (rule.of_coalesced names e a b s t r is a_typed b_typed gives) = none names e r (coalesced_has_none (out-Ty s) (out-Ty t) r gives)
   streams (rule.of_choice names e c a b s t r is c_typed a_typed b_typed chooses) = none names e r (choice_has_none (out-Ty s) (out-Ty t) r chooses)
+  streams (rule.of_host names e row p columns k n is known typed ints) = none names e ty.Bool no_items_Bool
   streams (rule.of_record names e fields members is distinct typed within) = none names e (ty.Rec members) (no_items_Rec members)
   streams (rule.of_search names e a b m is looks a_typed b_typed) = none names e ty.Bool no_items_Bool
   streams (rule.of_simple names e a m arguments method t r is called source gives within) = λ u r_is scope at.

@@ -1,4 +1,4 @@
--- What has a type in the part that rules of policies are of means in the language what it means there.
+-- What has a type in the rule language means in the whole language what it means there.
 use Rattle.std.proofs.Common.{◌≡◌, ◌∷◌, if◌then◌else◌, List, [], ℕ, Bool, true, false, not, Option, Some, None, Result, Ok, Err, ap, ap₂, ◌∙◌, sym, refl, subst, codes, true≢false, option_and_then, slice_get}
 use Rattle.std.proofs.lemmas.Bool.{and_from}
 use Rattle.std.proofs.lemmas.Option.{none-some}
@@ -19,15 +19,14 @@ use Rattle.lq_language.specs.ClauseTyping.{expression_type, source_type}
 use Rattle.lq_language.specs.EnumerableCalls.{enumerable_call}
 use Rattle.lq_language.specs.Maps.{map_node}
 use Rattle.lq_language.specs.Worlds.{Meaning, Scope, World, names_at, or_null}
-use Rattle.lq_language.specs.OperandMeaning.{as_value, is_null, member_value, name_value, on_comparand, on_scalar, on_truth, same_values, stream_of, table_value, equality_truth, truth_value}
-use Rattle.lq_language.specs.RuleMeaning.{Meant, compared_meaning, meaning, meaning_step, rule_node_meaning, operated_meaning}
+use Rattle.lq_language.specs.OperandMeaning.{as_value, host_value, is_null, member_value, name_value, on_comparand, on_scalar, on_truth, same_values, stream_of, table_value, equality_truth, truth_value}
+use Rattle.lq_language.specs.RuleMeaning.{Meant, compared_meaning, rule_meaning, rule_meaning_step, rule_node_meaning, operated_meaning}
 use Rattle.lq_language.specs.ValuesOfTypes.{HoldsRows, IsOf, is_scalar as is_scalar_value, is_row, is_sequence, IsOfScope, assuming}
 use Rattle.lq_language.specs.Members.{is_search, member_named}
 use Rattle.lq_language.specs.Operations.{negated, of_member, on_ok}
-use Rattle.lq_language.specs.Stream.{item_where}
 use Rattle.lq_language.specs.Names.{Names, local_type, table_number}
 use Rattle.lq_language.specs.OperandTypes.{is_equality, is_text, is_text_type, item_of, number_type, row_table, truth_type}
-use Rattle.lq_language.specs.RuleTyping.{of_integer, of_local, of_table, of_column, of_text, of_null, of_has_value, of_value, of_length, of_search, of_ordering, of_equality, of_arithmetic, of_joined, of_coalesced, of_minus, of_choice, of_truth, of_not, of_both, of_either, HasRuleType, type_of}
+use Rattle.lq_language.specs.RuleTyping.{of_integer, of_local, of_table, of_column, of_text, of_null, of_has_value, of_value, of_length, of_search, of_ordering, of_equality, of_arithmetic, of_joined, of_coalesced, of_minus, of_choice, of_truth, of_not, of_both, of_either, of_host, HasRuleType, rule_type}
 use Rattle.lq_language.specs.Meaning.{as_sequence, called_meaning, expression_meaning, global_value, has_members, is_sequence_layer, search_meaning, settled, equality_meaning, node_meaning, value_of_member, value_of_name, same_operands}
 use Rattle.lq_language.specs.MeaningLaws.{KeepsRuleMeanings}
 use Rattle.lq_language.specs.Typing.{called_type, method_type, search_type, type_of_member}
@@ -81,14 +80,14 @@ module _ {R : Type 0} (world : World R) (holds : HoldsRows world) (unknown : Fau
   in_language = expression_meaning W
 
   abbrev served : Expr → Meaning R
-  served = meaning W
+  served = rule_meaning W
 
   abbrev served_beside : Expr → Meant R
   served_beside e = (e, served e)
 
-  served_node : (n : Node Expr) (scope : Scope R) → served (expr.Node n) scope ≡ rule_node_meaning W type_of (map_node served_beside n) scope
-  unfolding meaning
-  served_node n scope = ap (λ (m : Meaning R). m scope) (para_node (Meaning R) (meaning_step W) n)
+  served_node : (n : Node Expr) (scope : Scope R) → served (expr.Node n) scope ≡ rule_node_meaning W rule_type (map_node served_beside n) scope
+  unfolding rule_meaning
+  served_node n scope = ap (λ (m : Meaning R). m scope) (para_node (Meaning R) (rule_meaning_step W) n)
 
   abbrev At : Names → Scope R → Type 0
   At names scope = (names ≡ names_at world scope) × IsOfScope world scope
@@ -97,15 +96,15 @@ module _ {R : Type 0} (world : World R) (holds : HoldsRows world) (unknown : Fau
   IsKept names e t = (scope : Scope R) → At names scope → in_language e scope ≡ served e scope
 
   node_kept : (e : Expr) (n : Node Expr) (scope : Scope R) → e ≡ expr.Node n
-      → node_meaning W expression_type (map_node (beside W) n) scope ≡ rule_node_meaning W type_of (map_node served_beside n) scope → in_language e scope ≡ served e scope
+      → node_meaning W expression_type (map_node (beside W) n) scope ≡ rule_node_meaning W rule_type (map_node served_beside n) scope → in_language e scope ≡ served e scope
   node_kept e n scope is h =
       ap (λ (x : Expr). in_language x scope) is ∙ meaning_of_node W n scope ∙ h ∙ sym (served_node n scope) ∙ ap (λ (x : Expr). served x scope) (sym is)
 
   typed_at : (names : Names) (e : Expr) (t : Ty) (scope : Scope R) → At names scope → HasRuleType names e t → expression_type e (names_at world scope) ≡ Some t
   typed_at names e t scope at typed = ap (expression_type e) (sym at.0) ∙ rule_type_is_kept names e t typed
 
-  served_at : (names : Names) (e : Expr) (t : Ty) (scope : Scope R) → At names scope → HasRuleType names e t → type_of e (names_at world scope) ≡ Some t
-  served_at names e t scope at typed = ap (type_of e) (sym at.0) ∙ type_complete names typed
+  served_at : (names : Names) (e : Expr) (t : Ty) (scope : Scope R) → At names scope → HasRuleType names e t → rule_type e (names_at world scope) ≡ Some t
+  served_at names e t scope at typed = ap (rule_type e) (sym at.0) ∙ type_complete names typed
 
   value_at : (names : Names) (e : Expr) (t : Ty) (scope : Scope R) → At names scope → HasRuleType names e t → (v : Value R) → served e scope ≡ Ok v → IsOf world t v
   value_at names e t scope at typed = value_of_type world holds unknown names e t typed scope at.0 at.1
@@ -154,9 +153,9 @@ module _ {R : Type 0} (world : World R) (holds : HoldsRows world) (unknown : Fau
       else operated_meaning W op (expression_type a (names_at world scope)) (expression_type b (names_at world scope)) (in_language a scope) (in_language b scope))) other
       ∙ ap₂ (λ (o p : Option Ty). operated_meaning W op o p (in_language a scope) (in_language b scope)) (typed_at names a s scope at a_typed ∙ sym (served_at names a s scope at a_typed))
       (typed_at names b t scope at b_typed ∙ sym (served_at names b t scope at b_typed))
-      ∙ ap₂ (λ (m n : Result (Value R) Fault). operated_meaning W op (type_of a (names_at world scope)) (type_of b (names_at world scope)) m n) (a_kept scope at) (b_kept scope at)
+      ∙ ap₂ (λ (m n : Result (Value R) Fault). operated_meaning W op (rule_type a (names_at world scope)) (rule_type b (names_at world scope)) m n) (a_kept scope at) (b_kept scope at)
       ∙ ap (λ (c : Bool). if c then compared_meaning W op (served a scope) (served b scope)
-      else operated_meaning W op (type_of a (names_at world scope)) (type_of b (names_at world scope)) (served a scope) (served b scope)) (sym other))
+      else operated_meaning W op (rule_type a (names_at world scope)) (rule_type b (names_at world scope)) (served a scope) (served b scope)) (sym other))
 
   -- layers that `Meaning` compares
   abbrev is_compared : Value-F R (Value R) → Bool
@@ -203,7 +202,7 @@ module _ {R : Type 0} (world : World R) (holds : HoldsRows world) (unknown : Fau
       (λ w w_fits. ap (λ (o : Result Bool Fault). on_ok o (λ equal. Ok (truth_value (equality_truth op equal))))
       (layers_same (out-Value R v) (out-Value R w) (compared_there s v v_fits) (compared_there t w w_fits))))
       ∙ ap (λ (c : Bool). if c then compared_meaning W op (served a scope) (served b scope)
-      else operated_meaning W op (type_of a (names_at world scope)) (type_of b (names_at world scope)) (served a scope) (served b scope)) (sym same))
+      else operated_meaning W op (rule_type a (names_at world scope)) (rule_type b (names_at world scope)) (served a scope) (served b scope)) (sym same))
 
   -- ---- searches
 
@@ -278,6 +277,9 @@ module _ {R : Type 0} (world : World R) (holds : HoldsRows world) (unknown : Fau
   kept_meaning (of_choice names e c a b s t r is c_typed a_typed b_typed chooses) = λ scope at.
       node_kept e (node.Conditional c a b) scope is
       (λ i. on_truth W (kept_meaning c_typed scope at i) (λ t. if t then kept_meaning a_typed scope at i else kept_meaning b_typed scope at i))
+  kept_meaning (of_host names e row p columns k n is known typed ints) = λ scope at.
+      node_kept e (node.Host p row columns) scope is
+      (ap (λ (m : Result (Value R) Fault). on_ok m (λ v. host_value W p columns (out-Value R v))) (kept_meaning typed scope at))
 
 pub keeps_meanings : {R : Type 0} → KeepsRuleMeanings R
 keeps_meanings world holds scope fits e t typed unknown = kept_meaning world holds unknown typed scope (refl, fits)

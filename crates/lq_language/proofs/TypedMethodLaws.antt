@@ -1,6 +1,6 @@
 -- Methods of sequences, members and operators give what their types say, in two worlds that differ only in the fault that is used where
 -- there is no meaning.
-use Rattle.std.proofs.Common.{◌≡◌, ◌∷◌, if◌then◌else◌, List, [], map, filter, ℕ, ℤ, pos, Bool, true, false, not, Option, Some, None, Result, Ok, Err, ap, ap₂, ◌∙◌, sym, refl, subst, true≢false, option_and_then}
+use Rattle.std.proofs.Common.{◌≡◌, ◌∷◌, if◌then◌else◌, List, [], map, filter, ℕ, ℤ, pos, Bool, true, false, not, Option, Some, Result, Ok, Err, ap, ap₂, ◌∙◌, sym, refl, subst, true≢false, option_and_then}
 use Rattle.std.specs.Prelude.{is_some}
 use Rattle.std.proofs.lemmas.Option.{none-some, option_and_then_some, same_Some}
 use Rattle.lq_value.specs.SameAndOrder.{same_values as same_keys}
@@ -21,24 +21,27 @@ use Rattle.lq_value.specs.declared.value.Value.TheVariants.{outs-Group as outs-v
 use Rattle.lq_language.specs.Enumerable.{all, as_count, concat, contains, element_at, greater, intersect, except, is_among, lesser, skip, take_first, union}
 use Rattle.lq_language.specs.EnumerableCalls.{Given, Simple, Through}
 use Rattle.lq_language.specs.EnumerableCalls as called
-use Rattle.lq_language.specs.Worlds.{World}
-use Rattle.lq_language.specs.OperandMeaning.{as_value, cell_value, items_of, member_value, on_scalar, on_truth, scalar_of, stream_of}
+use Rattle.lq_language.specs.HostNames.{are_int_columns, predicate_number}
+use Rattle.lq_language.specs.Worlds.{World, known_predicates}
+use Rattle.lq_grammar.specs.declared.syntax.Picked.{Picked}
+use Rattle.lq_language.specs.OperandMeaning.{as_value, cell_value, host_value, items_of, member_value, on_scalar, on_truth, scalar_of, stream_of, truth_value}
 use Rattle.lq_language.specs.ValuesOfTypes.{Every, IsScalarOf, assuming}
 use Rattle.lq_language.specs.Members.{member_named}
 use Rattle.lq_language.specs.Operations.{of_member, on_ok, truth_of}
 use Rattle.lq_language.specs.Stream.{Stream, first_keys, select_by, where_by}
 use Rattle.lq_language.specs.Types.{element_type, if_placed, is_key, same_types, when}
 use Rattle.lq_language.specs.Names.{column_type}
-use Rattle.lq_language.specs.OperandTypes.{is_bool, is_number}
+use Rattle.lq_language.specs.OperandTypes.{is_bool, is_int, is_number}
 use Rattle.lq_language.specs.Meaning.{as_sequence, as_truth, default_of, given_meaning, has_members, is_sequence_layer, member_found, none_there, number_of, numbers, on_number, settled, simple_meaning, through_meaning, value_of_member}
 use Rattle.lq_language.specs.MeaningLaws.{by_sequence, by_scalar}
-use Rattle.lq_language.specs.Typing.{converts, given_type, has_default, if_same, is_int, member_of, simple_type, through_type}
+use Rattle.lq_language.specs.Typing.{converts, given_type, has_default, if_same, member_of, simple_type, through_type}
 use Rattle.lq_language.proofs.AlikeStreamLaws.{Agree, Alike, agree_err, agree_ok, every_concat, every_first_key, on_ok_agree, select_alike, where_alike}
 use Rattle.lq_language.proofs.ItemLaws.{every_filter, every_none, first_of, others_of}
 use Rattle.lq_language.proofs.FindingLaws.{map_by, when_by}
+use Rattle.lq_language.proofs.HostMeaningLaws.{IsAnswered, answered, null_answered, refused, row_answered}
 use Rattle.lq_language.proofs.ScalarResultLaws.{Gives, faults, gives}
 use Rattle.lq_language.proofs.SameTypeLaws.{same_type}
-use Rattle.lq_language.proofs.ValueLaws.{Gets, Is, RecordOrNull, RowOrNull, a_record, a_row, default_is, every_default, every_drop, every_reversed, every_taken, every_whole, gets_element, gets_err, gets_extreme, gets_first, gets_last, gets_ok, gets_sequence, gets_single, gets_sum, gets_truth, group_value, has_member, is_plain, no_members, no_record, no_row, plain_value, record_value, row_value, sequence_value}
+use Rattle.lq_language.proofs.ValueLaws.{Gets, Is, RecordOrNull, RowOrNull, a_record, a_row, default_is, every_default, every_drop, every_reversed, every_taken, every_whole, gets_element, gets_err, gets_extreme, gets_first, gets_last, gets_ok, gets_sequence, gets_single, gets_sum, gets_truth, group_value, has_member, is_plain, no_members, no_record, no_row, plain_value, record_value, row_value, sequence_value, truth_is}
 
 module _ {R : Type 0} (world : World R) where
   -- ---- methods without an argument
@@ -314,3 +317,26 @@ module _ {R : Type 0} (world : World R) (f g : Fault) where
       (subst (λ (layer : Value-F R (Value R)). Agree (Is world r) (value_of_member left (Some t) m layer) (value_of_member right (Some t) m layer)) (sym (outs-Scalar found.0))
       (subst (λ (o : Result (Value R) Fault). Agree (Is world r) o (value_of_member right (Some t) m (Value-F.Scalar found.0))) (sym (of_scalar left t m found.0 plain))
       (subst (λ (o : Result (Value R) Fault). Agree (Is world r) (as_value (of_member f (member_named m) found.0)) o) (sym (of_scalar right t m found.0 plain)) here)))
+
+  -- ---- host predicates
+
+  answered_agrees : (p : List ℕ) (columns : Picked) (v : Value R) → IsAnswered world p columns v
+      → Agree (Is world ty.Bool) (host_value left p columns (out-Value R v)) (host_value right p columns (out-Value R v))
+  answered_agrees p columns v (answered b is) =
+      subst (λ (o : Result (Value R) Fault). Agree (Is world ty.Bool) o (host_value right p columns (out-Value R v))) (sym (is f))
+      (subst (λ (o : Result (Value R) Fault). Agree (Is world ty.Bool) (Ok (truth_value b)) o) (sym (is g)) (agree_ok (Is world ty.Bool) (truth_value b) (truth_is world b)))
+  answered_agrees p columns v (refused x is) =
+      subst (λ (o : Result (Value R) Fault). Agree (Is world ty.Bool) o (host_value right p columns (out-Value R v))) (sym (is f))
+      (subst (λ (o : Result (Value R) Fault). Agree (Is world ty.Bool) (Err x) o) (sym (is g)) (agree_err (Is world ty.Bool) x))
+
+  -- a predicate that is asked about a row, or about a null row
+  pub host_agrees : (p : List ℕ) (columns : Picked) (k n : ℕ) → predicate_number (known_predicates world.predicates) p columns ≡ Some k
+      → are_int_columns world.schemas n columns ≡ true → (v : Value R) → Is world (ty.Row n) v
+      → Agree (Is world ty.Bool) (host_value left p columns (out-Value R v)) (host_value right p columns (out-Value R v))
+  host_agrees p columns k n known ints v fits = by (row_value world (ty.Row n) n v (outs-Row n) fits) where
+    agrees : Value R → Type 0
+    agrees w = Agree (Is world ty.Bool) (host_value left p columns (out-Value R w)) (host_value right p columns (out-Value R w))
+
+    by : RowOrNull world n v → agrees v
+    by (a_row r cells is) = subst agrees (sym is) (answered_agrees p columns (value.Row r) (row_answered world p columns k n r known ints cells))
+    by (no_row is) = subst agrees (sym is) (answered_agrees p columns (value.Scalar scalar.Null) (null_answered world p columns))

@@ -31,6 +31,7 @@ use Rattle.lq_grammar.specs.declared.syntax.Last.{Last}
 use Rattle.lq_grammar.specs.declared.syntax.Node.TheVariants as node
 use Rattle.lq_grammar.specs.declared.syntax.Query.{Query}
 use Rattle.lq_grammar.specs.declared.syntax.Unary.TheVariants as unary
+use Rattle.lq_language.proofs.HostTypeLemmas.{host_found}
 use Rattle.lq_language.proofs.MemberLaws.{search_told}
 use Rattle.lq_language.proofs.MethodPullLaws.{call_maps}
 use Rattle.lq_language.proofs.TypingLaws.{computes_alone, joined_found as texts_join, numbers_compute, orders_alone}
@@ -210,6 +211,8 @@ found (rule.of_choice names e c a b s t r is c_typed a_typed b_typed chooses) =
     expression_type_is names e (node.Conditional c a b) is
     ∙ (λ i. type_of_conditional (truth_found names c (found c_typed) i) (found a_typed i) (found b_typed i))
     ∙ chooses
+found (rule.of_host names e row p columns k n is known typed ints) =
+    expression_type_is names e (node.Host p row columns) is ∙ host_found names p columns k n (expression_type row names) known (found typed) ints
 found (rule.of_record names e fields members is distinct typed within) =
     expression_type_is names e (node.New fields) is
     ∙ when_found _ _ (ap are_distinct (names_same fields) ∙ distinct)

@@ -10,7 +10,7 @@ use Rattle.lq_value.specs.declared.ty.Ty.TheVariants.{outs-Bool, outs-Group, out
 use Rattle.lq_language.specs.Members.{is_search, sole_argument}
 use Rattle.lq_language.specs.Names.{Names, local_type, table_number}
 use Rattle.lq_language.specs.OperandTypes.{are_comparable, are_joined, coalesced, is_comparison, is_equality, is_ordering, is_text, is_text_type, joined_type, member_type, of_operands, operated_type, is_bool, is_bool_type, is_number, item_of, binary_type, choice_type, if_number, number_type, result_type, truth_type}
-use Rattle.lq_language.specs.RuleTyping.{of_coalesced, of_equality, of_has_value, of_joined, of_length, of_null, of_ordering, of_search, of_text, of_value, of_integer, of_local, of_table, of_column, of_arithmetic, of_minus, of_choice, of_truth, of_not, of_both, of_either, HasRuleType, name_type, type_of}
+use Rattle.lq_language.specs.RuleTyping.{of_coalesced, of_equality, of_has_value, of_joined, of_length, of_null, of_ordering, of_search, of_text, of_value, of_integer, of_local, of_table, of_column, of_arithmetic, of_minus, of_choice, of_truth, of_not, of_both, of_either, of_host, HasRuleType, name_type, rule_type}
 use Rattle.lq_language.specs.RuleTypingLaws.{HasOneRuleType, FindsRuleTypes}
 use Rattle.lq_grammar.specs.declared.syntax.Argument.{Argument}
 use Rattle.lq_grammar.specs.declared.syntax.Argument.TheVariants as argument
@@ -22,9 +22,11 @@ use Rattle.lq_grammar.specs.declared.syntax.Expr.TheVariants as expr
 use Rattle.lq_grammar.specs.declared.syntax.Expr.TheVariants.{rolls-Node}
 use Rattle.lq_grammar.specs.declared.syntax.Node.{Node}
 use Rattle.lq_grammar.specs.declared.syntax.Node.TheVariants as node
+use Rattle.lq_grammar.specs.declared.syntax.Picked.{Picked}
 use Rattle.lq_grammar.specs.declared.syntax.Unary.TheVariants as unary
+use Rattle.lq_language.proofs.HostTypeLemmas.{host_by, host_found}
 use Rattle.lq_language.proofs.MemberLaws.{search_given, search_told}
-use Rattle.lq_language.proofs.FormLaws.{argument_type, layer_type, rolled_type, type_binary, type_both, type_choice, type_coalesce, type_either, type_integer, type_member, type_method, type_minus, type_name, type_not, type_null, type_text, type_truth}
+use Rattle.lq_language.proofs.FormLaws.{argument_type, layer_type, rolled_type, type_binary, type_both, type_choice, type_coalesce, type_either, type_host, type_integer, type_member, type_method, type_minus, type_name, type_not, type_null, type_text, type_truth}
 
 -- ---- a type, by its layer
 
@@ -121,29 +123,29 @@ abbrev type_at_member : Names → List ℕ → Option Ty → Option Ty
 type_at_member names m a = option_and_then (λ t. member_type names m (out-Ty t)) a
 
 abbrev expression_type : Names → Expr → Option Ty
-expression_type names e = type_of e names
+expression_type names e = rule_type e names
 
-condition_complete : (names : Names) (x : Expr) → type_of x names ≡ Some ty.Bool → is_bool_type (type_of x names) ≡ true
+condition_complete : (names : Names) (x : Expr) → rule_type x names ≡ Some ty.Bool → is_bool_type (rule_type x names) ≡ true
 condition_complete names x typed = ap is_bool_type typed ∙ ap is_bool outs-Bool
 
-text_complete : (names : Names) (x : Expr) → type_of x names ≡ Some ty.Str → is_text_type (type_of x names) ≡ true
+text_complete : (names : Names) (x : Expr) → rule_type x names ≡ Some ty.Str → is_text_type (rule_type x names) ≡ true
 text_complete names x typed = ap is_text_type typed ∙ ap is_text outs-Str
 
-search_complete : (names : Names) (a b : Expr) (m : List ℕ) → is_search m ≡ true → type_of a names ≡ Some ty.Str → type_of b names ≡ Some ty.Str
-    → (is_search m && is_text_type (type_of a names) && is_text_type (type_of b names)) ≡ true
+search_complete : (names : Names) (a b : Expr) (m : List ℕ) → is_search m ≡ true → rule_type a names ≡ Some ty.Str → rule_type b names ≡ Some ty.Str
+    → (is_search m && is_text_type (rule_type a names) && is_text_type (rule_type b names)) ≡ true
 search_complete names a b m looks left right =
-    and_from (is_search m && is_text_type (type_of a names)) _ (and_from (is_search m) _ looks (text_complete names a left)) (text_complete names b right)
+    and_from (is_search m && is_text_type (rule_type a names)) _ (and_from (is_search m) _ looks (text_complete names a left)) (text_complete names b right)
 
 -- an operator whose operands have types
-binary_complete : (names : Names) (op : Binary) (a b : Expr) (s t : Ty) → type_of a names ≡ Some s → type_of b names ≡ Some t
-    → type_of (expr.Node (node.Binary op a b)) names ≡ operated_type op (out-Ty s) (out-Ty t)
+binary_complete : (names : Names) (op : Binary) (a b : Expr) (s t : Ty) → rule_type a names ≡ Some s → rule_type b names ≡ Some t
+    → rule_type (expr.Node (node.Binary op a b)) names ≡ operated_type op (out-Ty s) (out-Ty t)
 binary_complete names op a b s t left right = type_binary op a b names ∙ ap₂ (binary_type op) left right
 
-both_truths : (names : Names) (a b : Expr) → type_of a names ≡ Some ty.Bool → type_of b names ≡ Some ty.Bool
-    → truth_type (is_bool_type (type_of a names) && is_bool_type (type_of b names)) ≡ Some ty.Bool
+both_truths : (names : Names) (a b : Expr) → rule_type a names ≡ Some ty.Bool → rule_type b names ≡ Some ty.Bool
+    → truth_type (is_bool_type (rule_type a names) && is_bool_type (rule_type b names)) ≡ Some ty.Bool
 both_truths names a b left right = ap₂ (λ (x y : Bool). truth_type (x && y)) (condition_complete names a left) (condition_complete names b right)
 
-found : {names : Names} {e : Expr} {t : Ty} → HasRuleType names e t → type_of e names ≡ Some t
+found : {names : Names} {e : Expr} {t : Ty} → HasRuleType names e t → rule_type e names ≡ Some t
 found (of_integer names _ n is) = ap (expression_type names) is ∙ type_integer n names
 found (of_local names _ x _ is local) = ap (expression_type names) is ∙ type_name x names ∙ ap (name_type names x) local
 found (of_table names _ x n is hidden table) =
@@ -195,14 +197,16 @@ found (of_choice names _ c a b s t r is c_typed a_typed b_typed chooses) =
     ap (expression_type names) is ∙ type_choice c a b names
     ∙ (λ i. choice_type (condition_complete names c (found c_typed) i) (found a_typed i) (found b_typed i))
     ∙ chooses
+found (of_host names _ row p columns k n is known typed ints) =
+    ap (expression_type names) is ∙ type_host p row columns names ∙ host_found names p columns k n (rule_type row names) known (found typed) ints
 
-pub type_complete : (names : Names) {e : Expr} {t : Ty} → HasRuleType names e t → type_of e names ≡ Some t
+pub type_complete : (names : Names) {e : Expr} {t : Ty} → HasRuleType names e t → rule_type e names ≡ Some t
 type_complete names typed = found typed
 
 -- ---- what is found is what the rules give
 
 abbrev IsSound : Expr → Type 0
-IsSound e = (names : Names) (t : Ty) → type_of e names ≡ Some t → HasRuleType names e t
+IsSound e = (names : Names) (t : Ty) → rule_type e names ≡ Some t → HasRuleType names e t
 
 sound_integer : (n : ℤ) → IsSound (expr.Node (node.Integer n))
 sound_integer n names t h =
@@ -257,13 +261,13 @@ module _ (names : Names) (a : Expr) (m : List ℕ) (t : Ty) where
   member_sound_by Ty-F.Str typed h = length_sound_by typed (bytes_eq m (codes "Length")) refl h
   member_sound_by layer typed h = absurd (none-some t h)
 
-sound_member_by : (a : Expr) (m : List ℕ) → IsSound a → (names : Names) (t : Ty) (o : Option Ty) → type_of a names ≡ o
+sound_member_by : (a : Expr) (m : List ℕ) → IsSound a → (names : Names) (t : Ty) (o : Option Ty) → rule_type a names ≡ o
     → type_at_member names m o ≡ Some t → HasRuleType names (expr.Node (node.Member a m)) t
 sound_member_by a m sound names t None is h = absurd (none-some t h)
 sound_member_by a m sound names t (Some s) is h = member_sound_by names a m t (out-Ty s) (subst (HasRuleType names a) (is_of_layer s) (sound names s is)) h
 
 sound_member : (a : Expr) (m : List ℕ) → IsSound a → IsSound (expr.Node (node.Member a m))
-sound_member a m sound names t h = sound_member_by a m sound names t (type_of a names) refl (sym (type_member a m names) ∙ h)
+sound_member a m sound names t h = sound_member_by a m sound names t (rule_type a names) refl (sym (type_member a m names) ∙ h)
 
 module _ (op : Binary) (a b : Expr) (names : Names) (r s t : Ty) (a_typed : HasRuleType names a r) (b_typed : HasRuleType names b s) where
   -- the rule for numbers, by whether the operator asks for their order
@@ -305,7 +309,7 @@ sound_operated : (op : Binary) (a b : Expr) (names : Names) (r s t : Ty) → Has
 sound_operated op a b names r s t a_typed b_typed true same h = sound_equality op a b names r s t a_typed b_typed same (are_comparable (out-Ty r) (out-Ty s)) refl h
 sound_operated op a b names r s t a_typed b_typed false other h = sound_numbers op a b names r s t a_typed b_typed other (is_number (out-Ty r) && is_number (out-Ty s)) refl h
 
-sound_binary_by : (op : Binary) (a b : Expr) → IsSound a → IsSound b → (names : Names) (t : Ty) (o p : Option Ty) → type_of a names ≡ o → type_of b names ≡ p
+sound_binary_by : (op : Binary) (a b : Expr) → IsSound a → IsSound b → (names : Names) (t : Ty) (o p : Option Ty) → rule_type a names ≡ o → rule_type b names ≡ p
     → binary_type op o p ≡ Some t → HasRuleType names (expr.Node (node.Binary op a b)) t
 sound_binary_by op a b a_sound b_sound names t None p a_is b_is h = absurd (none-some t h)
 sound_binary_by op a b a_sound b_sound names t (Some r) None a_is b_is h = absurd (none-some t h)
@@ -314,9 +318,9 @@ sound_binary_by op a b a_sound b_sound names t (Some r) (Some s) a_is b_is h =
 
 sound_binary : (op : Binary) (a b : Expr) → IsSound a → IsSound b → IsSound (expr.Node (node.Binary op a b))
 sound_binary op a b a_sound b_sound names t h =
-    sound_binary_by op a b a_sound b_sound names t (type_of a names) (type_of b names) refl refl (sym (type_binary op a b names) ∙ h)
+    sound_binary_by op a b a_sound b_sound names t (rule_type a names) (rule_type b names) refl refl (sym (type_binary op a b names) ∙ h)
 
-sound_coalesced_by : (a b : Expr) → IsSound a → IsSound b → (names : Names) (r : Ty) (o p : Option Ty) → type_of a names ≡ o → type_of b names ≡ p
+sound_coalesced_by : (a b : Expr) → IsSound a → IsSound b → (names : Names) (r : Ty) (o p : Option Ty) → rule_type a names ≡ o → rule_type b names ≡ p
     → of_operands coalesced o p ≡ Some r → HasRuleType names (expr.Node (node.Coalesce a b)) r
 sound_coalesced_by a b a_sound b_sound names r (Some s) (Some t) a_is b_is h =
     of_coalesced names (expr.Node (node.Coalesce a b)) a b s t r refl (a_sound names s a_is) (b_sound names t b_is) h
@@ -325,7 +329,7 @@ sound_coalesced_by a b a_sound b_sound names r None p a_is b_is h = absurd (none
 
 sound_coalesced : (a b : Expr) → IsSound a → IsSound b → IsSound (expr.Node (node.Coalesce a b))
 sound_coalesced a b a_sound b_sound names r h =
-    sound_coalesced_by a b a_sound b_sound names r (type_of a names) (type_of b names) refl refl (sym (type_coalesce a b names) ∙ h)
+    sound_coalesced_by a b a_sound b_sound names r (rule_type a names) (rule_type b names) refl refl (sym (type_coalesce a b names) ∙ h)
 
 sound_negative : (a : Expr) (names : Names) (s t : Ty) → HasRuleType names a s → (b : Bool) → is_number (out-Ty s) ≡ b → (if b then Some s else None) ≡ Some t
     → HasRuleType names (expr.Node (node.Unary unary.Minus a)) t
@@ -333,35 +337,35 @@ sound_negative a names s t typed true number h =
     subst (HasRuleType names (expr.Node (node.Unary unary.Minus a))) (same_Some s t h) (of_minus names (expr.Node (node.Unary unary.Minus a)) a s refl typed number)
 sound_negative a names s t typed false number h = absurd (none-some t h)
 
-sound_minus_by : (a : Expr) → IsSound a → (names : Names) (t : Ty) (o : Option Ty) → type_of a names ≡ o → if_number o ≡ Some t → HasRuleType names (expr.Node (node.Unary unary.Minus a)) t
+sound_minus_by : (a : Expr) → IsSound a → (names : Names) (t : Ty) (o : Option Ty) → rule_type a names ≡ o → if_number o ≡ Some t → HasRuleType names (expr.Node (node.Unary unary.Minus a)) t
 sound_minus_by a sound names t None is h = absurd (none-some t h)
 sound_minus_by a sound names t (Some s) is h = sound_negative a names s t (sound names s is) (is_number (out-Ty s)) refl h
 
 sound_minus : (a : Expr) → IsSound a → IsSound (expr.Node (node.Unary unary.Minus a))
-sound_minus a sound names t h = sound_minus_by a sound names t (type_of a names) refl (sym (type_minus a names) ∙ h)
+sound_minus a sound names t h = sound_minus_by a sound names t (rule_type a names) refl (sym (type_minus a names) ∙ h)
 
-condition_sound_by : (names : Names) (c : Expr) → IsSound c → (o : Option Ty) → type_of c names ≡ o → is_bool_type o ≡ true → HasRuleType names c ty.Bool
+condition_sound_by : (names : Names) (c : Expr) → IsSound c → (o : Option Ty) → rule_type c names ≡ o → is_bool_type o ≡ true → HasRuleType names c ty.Bool
 condition_sound_by names c sound None is h = absurd (true≢false (sym h))
 condition_sound_by names c sound (Some t) is h = subst (HasRuleType names c) (is_truth t h) (sound names t is)
 
 -- an expression that has the type of truth values where the function finds it
-condition_of : (c : Expr) → IsSound c → (names : Names) → is_bool_type (type_of c names) ≡ true → HasRuleType names c ty.Bool
-condition_of c sound names h = condition_sound_by names c sound (type_of c names) refl h
+condition_of : (c : Expr) → IsSound c → (names : Names) → is_bool_type (rule_type c names) ≡ true → HasRuleType names c ty.Bool
+condition_of c sound names h = condition_sound_by names c sound (rule_type c names) refl h
 
-text_sound_by : (names : Names) (x : Expr) → IsSound x → (o : Option Ty) → type_of x names ≡ o → is_text_type o ≡ true → HasRuleType names x ty.Str
+text_sound_by : (names : Names) (x : Expr) → IsSound x → (o : Option Ty) → rule_type x names ≡ o → is_text_type o ≡ true → HasRuleType names x ty.Str
 text_sound_by names x sound None is h = absurd (true≢false (sym h))
 text_sound_by names x sound (Some t) is h = subst (HasRuleType names x) (is_text_of t h) (sound names t is)
 
 -- an expression that has the type of texts where the function finds it
-text_of : (x : Expr) → IsSound x → (names : Names) → is_text_type (type_of x names) ≡ true → HasRuleType names x ty.Str
-text_of x sound names h = text_sound_by names x sound (type_of x names) refl h
+text_of : (x : Expr) → IsSound x → (names : Names) → is_text_type (rule_type x names) ≡ true → HasRuleType names x ty.Str
+text_of x sound names h = text_sound_by names x sound (rule_type x names) refl h
 
 sound_search : (a b : Expr) (m : List ℕ) → IsSound a → IsSound b → IsSound (expr.Node (node.Method a m (argument.Value b ∷ [])))
 sound_search a b m a_sound b_sound names t h = by _ refl (sym (type_method a m (argument.Value b ∷ []) names) ∙ h) where
-  by : (c : Bool) → (is_search m && is_text_type (type_of a names) && is_text_type (type_of b names)) ≡ c → truth_type c ≡ Some t
+  by : (c : Bool) → (is_search m && is_text_type (rule_type a names) && is_text_type (rule_type b names)) ≡ c → truth_type c ≡ Some t
       → HasRuleType names (expr.Node (node.Method a m (argument.Value b ∷ []))) t
   by true is found =
-      let outer = and_parts (is_search m && is_text_type (type_of a names)) _ is in
+      let outer = and_parts (is_search m && is_text_type (rule_type a names)) _ is in
       let inner = and_parts (is_search m) _ outer.0 in
       subst (HasRuleType names (expr.Node (node.Method a m (argument.Value b ∷ [])))) (same_Some ty.Bool t found)
       (of_search names (expr.Node (node.Method a m (argument.Value b ∷ []))) a b m refl (search_given m inner.0) (text_of a a_sound names inner.1) (text_of b b_sound names outer.1))
@@ -370,9 +374,9 @@ sound_search a b m a_sound b_sound names t h = by _ refl (sym (type_method a m (
 -- a method that takes another number of arguments, or a lambda, by its form
 sound_other : (a : Expr) (m : List ℕ) (xs : List (Argument Expr)) → sole_argument xs ≡ None → IsSound (expr.Node (node.Method a m xs))
 sound_other a m xs none names t h =
-    by _ refl (sym (ap (λ (x : Option Expr). truth_type (is_search m && is_text_type (type_of a names) && is_text_type (argument_type x names))) none)
+    by _ refl (sym (ap (λ (x : Option Expr). truth_type (is_search m && is_text_type (rule_type a names) && is_text_type (argument_type x names))) none)
     ∙ sym (type_method a m xs names) ∙ h) where
-      by : (c : Bool) → (is_search m && is_text_type (type_of a names)) ≡ c → truth_type (c && false) ≡ Some t → HasRuleType names (expr.Node (node.Method a m xs)) t
+      by : (c : Bool) → (is_search m && is_text_type (rule_type a names)) ≡ c → truth_type (c && false) ≡ Some t → HasRuleType names (expr.Node (node.Method a m xs)) t
       by true is found = absurd (none-some t found)
       by false is found = absurd (none-some t found)
 
@@ -381,14 +385,14 @@ sound_truth b names t h =
     subst (HasRuleType names (expr.Node (node.Bool b))) (same_Some ty.Bool t (sym (type_truth b names) ∙ h)) (of_truth names (expr.Node (node.Bool b)) b refl)
 
 sound_not : (a : Expr) → IsSound a → IsSound (expr.Node (node.Unary unary.Not a))
-sound_not a sound names t h = by (is_bool_type (type_of a names)) refl (sym (type_not a names) ∙ h) where
-  by : (c : Bool) → is_bool_type (type_of a names) ≡ c → truth_type c ≡ Some t → HasRuleType names (expr.Node (node.Unary unary.Not a)) t
+sound_not a sound names t h = by (is_bool_type (rule_type a names)) refl (sym (type_not a names) ∙ h) where
+  by : (c : Bool) → is_bool_type (rule_type a names) ≡ c → truth_type c ≡ Some t → HasRuleType names (expr.Node (node.Unary unary.Not a)) t
   by true is found = subst (HasRuleType names (expr.Node (node.Unary unary.Not a))) (same_Some ty.Bool t found) (of_not names (expr.Node (node.Unary unary.Not a)) a refl (condition_of a sound names is))
   by false is found = absurd (none-some t found)
 
 -- two truth values under an operator
 truths_by : (names : Names) (e a b : Expr) (t : Ty) → IsSound a → IsSound b → (HasRuleType names a ty.Bool → HasRuleType names b ty.Bool → HasRuleType names e ty.Bool) → (c d : Bool)
-    → is_bool_type (type_of a names) ≡ c → is_bool_type (type_of b names) ≡ d → truth_type (c && d) ≡ Some t → HasRuleType names e t
+    → is_bool_type (rule_type a names) ≡ c → is_bool_type (rule_type b names) ≡ d → truth_type (c && d) ≡ Some t → HasRuleType names e t
 truths_by names e a b t a_sound b_sound rule true true a_is b_is found =
     subst (HasRuleType names e) (same_Some ty.Bool t found) (rule (condition_of a a_sound names a_is) (condition_of b b_sound names b_is))
 truths_by names e a b t a_sound b_sound rule true false a_is b_is found = absurd (none-some t found)
@@ -402,8 +406,8 @@ sound_either : (a b : Expr) → IsSound a → IsSound b → IsSound (expr.Node (
 sound_either a b a_sound b_sound names t h =
     truths_by names (expr.Node (node.Or a b)) a b t a_sound b_sound (of_either names (expr.Node (node.Or a b)) a b refl) _ _ refl refl (sym (type_either a b names) ∙ h)
 
-sound_choice_by : (c a b : Expr) → IsSound c → IsSound a → IsSound b → (names : Names) (r : Ty) (x : Bool) (o p : Option Ty) → is_bool_type (type_of c names) ≡ x
-    → type_of a names ≡ o → type_of b names ≡ p → choice_type x o p ≡ Some r → HasRuleType names (expr.Node (node.Conditional c a b)) r
+sound_choice_by : (c a b : Expr) → IsSound c → IsSound a → IsSound b → (names : Names) (r : Ty) (x : Bool) (o p : Option Ty) → is_bool_type (rule_type c names) ≡ x
+    → rule_type a names ≡ o → rule_type b names ≡ p → choice_type x o p ≡ Some r → HasRuleType names (expr.Node (node.Conditional c a b)) r
 sound_choice_by c a b c_sound a_sound b_sound names r true (Some s) (Some t) x_is a_is b_is h =
     of_choice names (expr.Node (node.Conditional c a b)) c a b s t r refl (condition_of c c_sound names x_is) (a_sound names s a_is) (b_sound names t b_is) h
 sound_choice_by c a b c_sound a_sound b_sound names r true (Some s) None x_is a_is b_is h = absurd (none-some r h)
@@ -412,7 +416,13 @@ sound_choice_by c a b c_sound a_sound b_sound names r false o p x_is a_is b_is h
 
 sound_choice : (c a b : Expr) → IsSound c → IsSound a → IsSound b → IsSound (expr.Node (node.Conditional c a b))
 sound_choice c a b c_sound a_sound b_sound names r h =
-    sound_choice_by c a b c_sound a_sound b_sound names r (is_bool_type (type_of c names)) (type_of a names) (type_of b names) refl refl refl (sym (type_choice c a b names) ∙ h)
+    sound_choice_by c a b c_sound a_sound b_sound names r (is_bool_type (rule_type c names)) (rule_type a names) (rule_type b names) refl refl refl (sym (type_choice c a b names) ∙ h)
+
+sound_host : (p : List ℕ) (row : Expr) (columns : Picked) → IsSound row → IsSound (expr.Node (node.Host p row columns))
+sound_host p row columns sound names t h =
+    host_by names p columns (rule_type row names) t (sym (type_host p row columns names) ∙ h)
+    (λ k n known typed ints same. subst (HasRuleType names (expr.Node (node.Host p row columns))) same
+    (of_host names (expr.Node (node.Host p row columns)) row p columns k n refl known (sound names (ty.Row n) typed) ints))
 
 -- a layer to which no rule gives a type
 no_type : (layer : Expr-F Expr) → ((names : Names) → layer_type layer names ≡ None) → IsSound (roll-Expr layer)
@@ -447,10 +457,11 @@ sound_layer x (Expr-F.Node (node.And a b)) h = sound_node x (node.And a.0 b.0) h
 sound_layer x (Expr-F.Node (node.Or a b)) h = sound_node x (node.Or a.0 b.0) h (sound_either a.0 b.0 a.1 b.1)
 sound_layer x (Expr-F.Node (node.Coalesce a b)) h = sound_node x (node.Coalesce a.0 b.0) h (sound_coalesced a.0 b.0 a.1 b.1)
 sound_layer x (Expr-F.Node (node.Conditional c a b)) h = sound_node x (node.Conditional c.0 a.0 b.0) h (sound_choice c.0 a.0 b.0 c.1 a.1 b.1)
+sound_layer x (Expr-F.Node (node.Host p row columns)) h = sound_node x (node.Host p row.0 columns) h (sound_host p row.0 columns row.1)
 sound_layer x (Expr-F.Node other) h = subst (λ d. IsSound (roll-Expr d)) h (no_type (map-Expr Both Expr (λ e. e.0) (Expr-F.Node other)) (λ names. refl))
 sound_layer x (Expr-F.Query q) h = subst (λ d. IsSound (roll-Expr d)) h (no_type (map-Expr Both Expr (λ e. e.0) (Expr-F.Query q)) (λ names. refl))
 
-pub type_sound : (e : Expr) (names : Names) (t : Ty) → type_of e names ≡ Some t → HasRuleType names e t
+pub type_sound : (e : Expr) (names : Names) (t : Ty) → rule_type e names ≡ Some t → HasRuleType names e t
 type_sound e = ind-Expr IsSound sound_layer e
 
 -- ---- the laws

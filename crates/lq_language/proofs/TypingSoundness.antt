@@ -36,6 +36,7 @@ use Rattle.lq_grammar.specs.declared.syntax.SortKey.{SortKey}
 use Rattle.lq_grammar.specs.declared.syntax.Unary.TheVariants as unary
 use Rattle.lq_language.proofs.ExpressionTypeLaws.{type_of_node, type_of_query}
 use Rattle.lq_language.proofs.FindingLaws.{fresh_none, if_by, map_by, operands_by, truth_by, when_by}
+use Rattle.lq_language.proofs.HostTypeLemmas.{host_by}
 use Rattle.lq_language.proofs.LayerLaws.{With as Beside, base, of_every}
 use Rattle.lq_language.proofs.MemberLaws.{search_given}
 use Rattle.lq_language.proofs.TypingLaws.{compares_not, is_of_layer, is_text_of, is_truth, named, type_with}
@@ -336,7 +337,10 @@ node_sound (node.Coalesce a b) names t h =
     operands_by coalesced (expression_type a.0 names) (expression_type b.0 names) t h
     (λ r s a_is b_is found. rule.of_coalesced names _ a.0 b.0 r s t refl (a.1 names r a_is) (b.1 names s b_is) found)
 node_sound (node.Conditional c a b) names t h = choice_sound names t c a b (is_bool_type (expression_type c.0 names)) refl h
-node_sound (node.Host p xs) names t h = absurd (none-some t h)
+node_sound (node.Host p row columns) names t h =
+    host_by names p columns (expression_type row.0 names) t h
+    (λ k n known typed ints same. same_type names t _ ty.Bool same (rule.of_host names _ row.0 p columns k n refl known (row.1 names (ty.Row n) typed) ints))
+node_sound (node.HostOther p xs) names t h = absurd (none-some t h)
 node_sound (node.New fields) names t h = record_sound names t fields h
 node_sound (node.Method a m xs) names t h = method_by names t a m xs (is_text_type (expression_type a.0 names)) refl h
 

@@ -21,10 +21,10 @@ use Rattle.lq_language.specs.OperandMeaning.{as_value, truth_value}
 use Rattle.lq_language.specs.ValuesOfTypes.{Every, HasCells, IsScalarOf}
 use Rattle.lq_language.specs.Operations.{is_int as holds_int}
 use Rattle.lq_language.specs.Stream.{Stream, whole}
-use Rattle.lq_language.specs.OperandTypes.{are_joined, is_number, is_scalar, row_table}
+use Rattle.lq_language.specs.OperandTypes.{are_joined, is_int, is_number, is_scalar, row_table}
 use Rattle.lq_language.specs.Meaning.{as_sequence, as_truth, default_layer, default_of, has_members, member_in, no_number}
 use Rattle.lq_language.specs.MeaningLaws.{AreMembers, Fits, IsA, IsValueOf, ValueClaim, by_group, by_null_record, by_record, by_row, by_scalar, by_sequence, no_member, one_member}
-use Rattle.lq_language.specs.Typing.{has_default, is_int, member_of}
+use Rattle.lq_language.specs.Typing.{has_default, member_of}
 use Rattle.lq_language.proofs.AlikeStreamLaws.{every_append}
 use Rattle.lq_language.proofs.ItemLaws.{every_more, every_none, first_of, others_of}
 use Rattle.lq_language.proofs.ScalarResultLaws.{row_layer}

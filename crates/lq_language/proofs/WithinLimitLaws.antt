@@ -199,6 +199,7 @@ limited (rule.of_either names e a b is left right) = λ all. at_layer ty.Bool Ty
 limited (rule.of_coalesced names e a b s t r is a_typed b_typed gives) = λ all. coalesced_within (out-Ty s) (out-Ty t) r gives
 limited (rule.of_choice names e c a b s t r is c_typed a_typed b_typed chooses) = λ all.
     choice_by s t r (out-Ty s) (out-Ty t) refl refl chooses (limited a_typed all) (limited b_typed all)
+limited (rule.of_host names e row p columns k n is known typed ints) = λ all. at_layer ty.Bool Ty-F.Bool outs-Bool refl
 limited (rule.of_record names e fields members is distinct typed within) = λ all. within
 limited (rule.no_member names) = tt
 limited (rule.one_member names field fields t members typed placed others) = tt

@@ -6,11 +6,13 @@ pub mod ClauseTyping
 pub mod Enumerable
 pub mod EnumerableCalls
 pub mod EnumerableLaws
+pub mod HostNames
 pub mod KeyOrder
 pub mod Maps
 pub mod Meaning
 pub mod MeaningLaws
 pub mod Members
+pub mod Mentions
 pub mod Names
 pub mod NullLaws
 pub mod OneArrangement
@@ -18,6 +20,7 @@ pub mod OperandMeaning
 pub mod OperandTypes
 pub mod OperationLaws
 pub mod Operations
+pub mod OperatorMeaningLaws
 pub mod Operators
 pub mod RuleMeaning
 pub mod RuleMeaningLaws

@@ -39,7 +39,8 @@ module _ {X Y : Type 0} (f : X → Y) where
   map_node (node.Or x y) = node.Or (f x) (f y)
   map_node (node.Coalesce x y) = node.Coalesce (f x) (f y)
   map_node (node.Conditional c x y) = node.Conditional (f c) (f x) (f y)
-  map_node (node.Host p xs) = node.Host p (map f xs)
+  map_node (node.Host p x columns) = node.Host p (f x) columns
+  map_node (node.HostOther p xs) = node.HostOther p (map f xs)
   map_node (node.New fields) = node.New (map map_field fields)
   map_node (node.Method x m arguments) = node.Method (f x) m (map map_argument arguments)
 

@@ -25,8 +25,8 @@ use Rattle.lq_language.specs.Members.{search_named, sole_argument}
 use Rattle.lq_language.specs.Operations.{of_search, on_ok}
 use Rattle.lq_language.specs.Stream.{Stream, select_by, where_by}
 use Rattle.lq_language.specs.Names.{Names, table_number, with_local}
-use Rattle.lq_language.specs.OperandTypes.{is_equality, is_text_type}
-use Rattle.lq_language.specs.Typing.{is_int, method_type, type_of_member}
+use Rattle.lq_language.specs.OperandTypes.{is_equality, is_int, is_text_type}
+use Rattle.lq_language.specs.Typing.{method_type, type_of_member}
 use Rattle.lq_grammar.specs.declared.syntax.Argument.{Argument}
 use Rattle.lq_grammar.specs.declared.syntax.Binary.{Binary}
 use Rattle.lq_grammar.specs.declared.syntax.Expr.{Expr, para-Expr}

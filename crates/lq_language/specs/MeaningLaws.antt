@@ -1,5 +1,5 @@
 -- Laws of meaning: what is typed has a meaning of its own, which is a value of its type or a fault; and
--- what the rules of policies are of means here what `RuleMeaning` says.
+-- an expression of the rule language means the same by `RuleMeaning`.
 use Rattle.std.specs.Prelude.{◌≡◌, ◌∷◌, List, [], ℕ, Some, Ok, slice_get}
 use Rattle.lq_value.specs.declared.scalar.Scalar.{Scalar}
 use Rattle.lq_value.specs.declared.scalar.Scalar.TheVariants as scalar
@@ -13,7 +13,7 @@ use Rattle.lq_value.specs.declared.value.Value.TheVariants as value
 use Rattle.lq_language.specs.ClauseTyping.{expression_type, query_items}
 use Rattle.lq_language.specs.Worlds.{Scope, World, names_at}
 use Rattle.lq_language.specs.OperandMeaning.{sequence}
-use Rattle.lq_language.specs.RuleMeaning.{meaning}
+use Rattle.lq_language.specs.RuleMeaning.{rule_meaning}
 use Rattle.lq_language.specs.ValuesOfTypes.{Every, HasCells, HoldsRows, IsOfScope, IsScalarOf, assuming}
 use Rattle.lq_language.specs.Stream.{Stream}
 use Rattle.lq_language.specs.RuleTyping.{HasRuleType}
@@ -78,10 +78,10 @@ NeverFaults R =
     → expression_type e (names_at world scope) ≡ Some (ty.Seq t)
     → (unknown : Fault) → (s : Stream (Value R)) × (expression_meaning (assuming unknown world) e scope ≡ Ok (sequence s))
 
--- ---- the part that rules of policies are of
+-- ---- the rule language
 
--- what has a type in that part means in the language what it means there
+-- what has a type in the rule language means in the whole language what it means there
 abbrev pub KeepsRuleMeanings : Type 0 → Type 0
 KeepsRuleMeanings R =
     (world : World R) → HoldsRows world → (scope : Scope R) → IsOfScope world scope → (e : Expr) (t : Ty) → HasRuleType (names_at world scope) e t → (unknown : Fault)
-    → expression_meaning (assuming unknown world) e scope ≡ meaning (assuming unknown world) e scope
+    → expression_meaning (assuming unknown world) e scope ≡ rule_meaning (assuming unknown world) e scope

@@ -8,17 +8,20 @@ use Rattle.lq_value.specs.declared.table.ColumnType.TheVariants as of
 use Rattle.lq_value.specs.declared.table.Schema.{Schema}
 use Rattle.lq_value.specs.declared.ty.Ty.{Ty}
 use Rattle.lq_value.specs.declared.ty.Ty.TheVariants as ty
-use Rattle.lq_language.specs.declared.rights.Use.{Use}
+use Rattle.lq_language.specs.Mentions.{Mention}
+use Rattle.lq_language.specs.declared.host_name.HostName.{HostName}
 
--- a name of the session, which is that of a variable or of a named query: its type, and what the expression uses that it refers to
+-- a name of the session, which is that of a variable or of a named query: its type, and what the expression names that it refers to
 pub record SessionName : Type 0 where
   pub name : List ℕ
   pub ty : Ty
-  pub uses : List Use
+  pub uses : List Mention
 
--- what the names of a place refer to: the tables, by number, the names of the session, and the local names with their types
+-- what the names of a place refer to: the tables and the host predicates, by number, the names of the session, and the local names with their
+-- types
 pub record Names : Type 0 where
   pub tables : List Schema
+  pub predicates : List HostName
   pub session : List SessionName
   pub locals : List (List ℕ × Ty)
 
@@ -47,6 +50,10 @@ abbrev pub column_named : List ℕ → List Column → Option Column
 column_named name [] = None
 column_named name (column ∷ columns) = if bytes_eq column.name name then Some column else column_named name columns
 
+-- the number of the column of this name
+abbrev pub column_number : List ℕ → Option Schema → Option ℕ
+column_number name table = option_and_then (λ schema. first_named (λ column. column.name) name schema.columns) table
+
 -- the type of the column of this name, of the table with this number
 abbrev pub column_type : List Schema → ℕ → List ℕ → Option Ty
 column_type tables number name =
@@ -54,4 +61,4 @@ column_type tables number name =
 
 -- the local names with one more
 abbrev pub with_local : Names → List ℕ → Ty → Names
-with_local names name t = record { tables = names.tables; session = names.session; locals = (name, t) ∷ names.locals }
+with_local names name t = record { tables = names.tables; predicates = names.predicates; session = names.session; locals = (name, t) ∷ names.locals }

@@ -1,5 +1,5 @@
 -- What operands mean: scalars, rows and truth values, and the stream of what is enumerated (ECMA-334, expressions).
-use Rattle.std.specs.Prelude.{◌||◌, if◌then◌else◌, not, List, [], map, ℕ, Bool, true, false, Option, Some, None, Result, Ok, Err, slice_get, option_and_then, is_some}
+use Rattle.std.specs.Prelude.{◌||◌, if◌then◌else◌, not, List, [], map, ℕ, Bool, true, false, Option, Some, None, Result, Ok, Err, slice_get, option_and_then, option_map, is_some}
 use Rattle.lq_value.specs.declared.scalar.Scalar.{Scalar}
 use Rattle.lq_value.specs.declared.scalar.Scalar.TheVariants as scalar
 use Rattle.lq_value.specs.declared.ty.Ty.{Ty, out-Ty}
@@ -9,6 +9,11 @@ use Rattle.lq_value.specs.declared.value.Fault.TheVariants as fault
 use Rattle.lq_value.specs.declared.value.Value.{Value, out-Value}
 use Rattle.lq_value.specs.declared.value.Value.TheOpen.{Value-F}
 use Rattle.lq_value.specs.declared.value.Value.TheVariants as value
+use Rattle.lq_host.specs.Calls.{number_of}
+use Rattle.lq_host.specs.Predicates.{answer_in}
+use Rattle.lq_host.specs.declared.call.Pick2.{Pick2}
+use Rattle.lq_host.specs.declared.call.Pick2.TheVariants as arguments
+use Rattle.lq_language.specs.HostNames.{predicate_number}
 use Rattle.lq_language.specs.Members.{member_named}
 use Rattle.lq_language.specs.Operations.{of_member, on_ok, operation_of, same_content, truth_of}
 use Rattle.lq_language.specs.Stream.{Stream}
@@ -18,7 +23,9 @@ use Rattle.lq_language.specs.declared.operation.Op.{Op}
 use Rattle.lq_language.specs.declared.operation.Op.TheVariants as op
 use Rattle.lq_grammar.specs.declared.syntax.Binary.{Binary}
 use Rattle.lq_grammar.specs.declared.syntax.Binary.TheVariants as binary
-use Rattle.lq_language.specs.Worlds.{Binding, World}
+use Rattle.lq_grammar.specs.declared.syntax.Picked.{Picked}
+use Rattle.lq_grammar.specs.declared.syntax.Picked.TheVariants as picked
+use Rattle.lq_language.specs.Worlds.{Binding, World, known_predicates}
 
 -- a scalar, or the fault in its place, as a value
 abbrev pub as_value : {R : Type 0} → Result Scalar Fault → Result (Value R) Fault
@@ -111,6 +118,41 @@ module _ {R : Type 0} (world : World R) where
   abbrev pub stream_of : Result (Value R) Fault → Stream (Value R)
   stream_of (Ok v) = items_of (out-Value R v)
   stream_of (Err f) = ([], end.Fault f)
+
+-- ---- host predicates
+
+-- the arguments that cells are, if they are integers
+abbrev pub one_argument : Option Scalar → Option Pick2
+one_argument cell = option_map arguments.One (number_of cell)
+
+abbrev pub two_arguments : Option Scalar → Option Scalar → Option Pick2
+two_arguments first second = option_and_then (λ x. option_map (arguments.Two x) (number_of second)) (number_of first)
+
+module _ {R : Type 0} (world : World R) where
+  -- the arguments that a row has in columns of these names
+  abbrev pub arguments_named : Picked → R → Option Pick2
+  arguments_named (picked.One c) r = one_argument (world.cell r c)
+  arguments_named (picked.Two c d) r = two_arguments (world.cell r c) (world.cell r d)
+
+  -- the answer to arguments in the range; there is none to others
+  abbrev pub answer_value : Option Bool → Result (Value R) Fault
+  answer_value (Some answer) = Ok (truth_value answer)
+  answer_value None = Err fault.ArgumentOutOfRange
+
+  -- what a predicate answers
+  abbrev pub asked : Option ℕ → Option Pick2 → Result (Value R) Fault
+  asked (Some p) (Some xs) = answer_value (answer_in world.predicates p xs)
+  asked p xs = Err world.unknown
+
+  -- what it answers about a row, which gives it its arguments; a null row has no columns
+  abbrev pub asked_about : Option ℕ → (R → Option Pick2) → Value-F R (Value R) → Result (Value R) Fault
+  asked_about p arguments (Value-F.Row r) = asked p (arguments r)
+  asked_about p arguments (Value-F.Scalar scalar.Null) = Err fault.NullReference
+  asked_about p arguments layer = Err world.unknown
+
+  -- what the predicate of this name answers about columns of a row
+  abbrev pub host_value : List ℕ → Picked → Value-F R (Value R) → Result (Value R) Fault
+  host_value p columns layer = asked_about (predicate_number (known_predicates world.predicates) p columns) (arguments_named columns) layer
 
 -- a query is the sequence of its stream
 abbrev pub sequence : {R : Type 0} → Stream (Value R) → Value R

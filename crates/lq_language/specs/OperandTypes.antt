@@ -13,6 +13,10 @@ is_number Ty-F.Int = true
 is_number Ty-F.IntN = true
 is_number layer = false
 
+abbrev pub is_int : Ty-F Ty → Bool
+is_int Ty-F.Int = true
+is_int layer = false
+
 -- types of values that a cell may hold
 abbrev pub is_scalar : Ty-F Ty → Bool
 is_scalar Ty-F.Int = true

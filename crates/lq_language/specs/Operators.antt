@@ -49,7 +49,7 @@ locals_of (One n t) locals = (n, t) ∷ locals
 locals_of (With p n t) locals = (n, t) ∷ locals_of p locals
 
 abbrev pub names_of : Names → Pattern → Names
-names_of outer p = record { tables = outer.tables; session = outer.session; locals = locals_of p outer.locals }
+names_of outer p = record { tables = outer.tables; predicates = outer.predicates; session = outer.session; locals = locals_of p outer.locals }
 
 module _ {R : Type 0} where
   abbrev pub pair : Value R → Value R → Value R

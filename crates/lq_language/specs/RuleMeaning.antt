@@ -1,5 +1,4 @@
--- «Scalar meaning» of the part of the language that rules of row policies are of: what each form means over what it holds.
--- It is the meaning in the language (MeaningLaws).
+-- «Scalar meaning» of the rule language: what each form means over what it holds. It is the meaning in the whole language (MeaningLaws).
 use Rattle.std.specs.Prelude.{if◌then◌else◌, not, Bool, true, false, Option, Some, None, Result, Ok, Err}
 use Rattle.lq_value.specs.declared.scalar.Scalar.TheVariants as scalar
 use Rattle.lq_value.specs.declared.ty.Ty.{Ty}
@@ -10,7 +9,7 @@ use Rattle.lq_language.specs.Members.{search_named, sole_argument}
 use Rattle.lq_language.specs.Operations.{negated, of_search, of_two, on_ok}
 use Rattle.lq_language.specs.Names.{Names}
 use Rattle.lq_language.specs.OperandTypes.{is_equality}
-use Rattle.lq_language.specs.RuleTyping.{type_of}
+use Rattle.lq_language.specs.RuleTyping.{rule_type}
 use Rattle.lq_grammar.specs.declared.syntax.Binary.{Binary}
 use Rattle.lq_grammar.specs.declared.syntax.Expr.{Expr, para-Expr}
 use Rattle.lq_grammar.specs.declared.syntax.Expr.TheOpen.{Expr-F}
@@ -18,7 +17,7 @@ use Rattle.lq_grammar.specs.declared.syntax.Node.{Node}
 use Rattle.lq_grammar.specs.declared.syntax.Node.TheVariants as node
 use Rattle.lq_grammar.specs.declared.syntax.Unary.TheVariants as unary
 use Rattle.lq_language.specs.Worlds.{Meaning, Scope, World, binding_of, names_at}
-use Rattle.lq_language.specs.OperandMeaning.{as_value, is_null, member_value, name_value, on_comparand, on_scalar, on_truth, operation_on, same_values, equality_truth, truth_value}
+use Rattle.lq_language.specs.OperandMeaning.{as_value, host_value, is_null, member_value, name_value, on_comparand, on_scalar, on_truth, operation_on, same_values, equality_truth, truth_value}
 use Rattle.lq_language.specs.ClauseMeaning.{condition_at}
 
 -- ---- expressions
@@ -64,17 +63,19 @@ module _ {R E : Type 0} (world : World R) (operand_type : E → Names → Option
   rule_node_meaning (node.Coalesce a b) scope = on_scalar world (a.1 scope) (λ s. if is_null s then b.1 scope else Ok (value.Scalar s))
   -- and of two values the one that is chosen
   rule_node_meaning (node.Conditional c a b) scope = on_truth world (c.1 scope) (λ t. if t then a.1 scope else b.1 scope)
+  -- a host predicate is asked about a row
+  rule_node_meaning (node.Host p row columns) scope = on_ok (row.1 scope) (λ v. host_value world p columns (out-Value R v))
   rule_node_meaning node scope = Err world.unknown
 
 module _ {R : Type 0} (world : World R) where
-  abbrev pub meaning_step : Expr-F (Meant R) → Meaning R
-  meaning_step (Expr-F.Node n) scope = rule_node_meaning world type_of n scope
-  meaning_step (Expr-F.Query q) scope = Err world.unknown
+  abbrev pub rule_meaning_step : Expr-F (Meant R) → Meaning R
+  rule_meaning_step (Expr-F.Node n) scope = rule_node_meaning world rule_type n scope
+  rule_meaning_step (Expr-F.Query q) scope = Err world.unknown
 
   -- «Scalar meaning»: the value of an expression, or its first fault
-  unfoldable pub meaning : Expr → Meaning R
-  meaning = para-Expr (Meaning R) meaning_step
+  unfoldable pub rule_meaning : Expr → Meaning R
+  rule_meaning = para-Expr (Meaning R) rule_meaning_step
 
   -- whether an expression is true
-  abbrev pub truth_at : Expr → Scope R → Result Bool Fault
-  truth_at c scope = condition_at world type_of meaning c scope
+  abbrev pub rule_truth : Expr → Scope R → Result Bool Fault
+  rule_truth c scope = condition_at world rule_type rule_meaning c scope

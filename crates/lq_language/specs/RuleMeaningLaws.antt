@@ -1,11 +1,10 @@
--- The laws of the part of the language that rules of policies are of: what is typed there has a meaning of its own, a value of its type
--- or a fault.
+-- The laws of the rule language: what is typed there has a meaning of its own, a value of its type or a fault.
 use Rattle.std.specs.Prelude.{◌≡◌, Ok}
 use Rattle.lq_value.specs.declared.ty.Ty.{Ty}
 use Rattle.lq_value.specs.declared.value.Fault.{Fault}
 use Rattle.lq_value.specs.declared.value.Value.{Value}
 use Rattle.lq_language.specs.Worlds.{Scope, World, names_at}
-use Rattle.lq_language.specs.RuleMeaning.{meaning}
+use Rattle.lq_language.specs.RuleMeaning.{rule_meaning}
 use Rattle.lq_language.specs.RuleTyping.{HasRuleType}
 use Rattle.lq_language.specs.TableRows.{TableRow}
 use Rattle.lq_language.specs.ValuesOfTypes.{HoldsRows, IsOf, IsOfScope, assuming}
@@ -16,4 +15,4 @@ abbrev pub HasRuleMeaning : Type 0
 HasRuleMeaning =
     (world : World TableRow) → HoldsRows world → (scope : Scope TableRow) → IsOfScope world scope → (e : Expr) (t : Ty) → HasRuleType (names_at world scope) e t
     → (f g : Fault)
-    → (meaning (assuming f world) e scope ≡ meaning (assuming g world) e scope) × ((v : Value TableRow) → meaning (assuming f world) e scope ≡ Ok v → IsOf world t v)
+    → (rule_meaning (assuming f world) e scope ≡ rule_meaning (assuming g world) e scope) × ((v : Value TableRow) → rule_meaning (assuming f world) e scope ≡ Ok v → IsOf world t v)

@@ -1,8 +1,9 @@
--- The part of «Typing» that rules of row policies are of: scalar expressions over a row.
--- Which type an expression has, rule by rule, and the same as a function; it is the type in the language (RuleTypingLaws).
+-- «Typing» of the rule language, the part of the language in which the rules of row policies are written: scalar expressions over a row.
+-- Which type an expression has, rule by rule, and the same as a function; it is the type in the whole language (RuleTypingLaws).
 use Rattle.std.specs.Prelude.{◌≡◌, ◌∷◌, ◌&&◌, List, [], ℕ, ℤ, Bool, true, false, Option, Some, None, option_and_then, option_map, codes}
 use Rattle.lq_value.specs.declared.ty.Ty.{Ty, out-Ty}
 use Rattle.lq_value.specs.declared.ty.Ty.TheVariants as ty
+use Rattle.lq_language.specs.HostNames.{are_int_columns, host_type, predicate_number}
 use Rattle.lq_language.specs.Members.{IsSearch, is_search, sole_argument}
 use Rattle.lq_grammar.specs.declared.syntax.Argument.TheVariants as argument
 use Rattle.lq_grammar.specs.declared.syntax.Binary.{Binary}
@@ -12,6 +13,7 @@ use Rattle.lq_grammar.specs.declared.syntax.Expr.TheOpen.{Expr-F}
 use Rattle.lq_grammar.specs.declared.syntax.Expr.TheVariants as expr
 use Rattle.lq_grammar.specs.declared.syntax.Node.{Node}
 use Rattle.lq_grammar.specs.declared.syntax.Node.TheVariants as node
+use Rattle.lq_grammar.specs.declared.syntax.Picked.{Picked}
 use Rattle.lq_grammar.specs.declared.syntax.Unary.TheVariants as unary
 use Rattle.lq_language.specs.Names.{Names, column_type, local_type, table_number}
 use Rattle.lq_language.specs.OperandTypes.{are_comparable, are_joined, binary_type, choice_type, choice_type_of_layers, coalesced, if_number, is_bool_type, is_comparison, is_equality, is_number, is_ordering, is_text_type, member_type, number_type, of_operands, truth_type}
@@ -55,6 +57,10 @@ pub data HasRuleType : Names → Expr → Ty → Type 0 where
       → coalesced (out-Ty s) (out-Ty t) ≡ Some r → HasRuleType names e r
   of_choice : (names : Names) (e c a b : Expr) (s t r : Ty) → e ≡ expr.Node (node.Conditional c a b) → HasRuleType names c ty.Bool
       → HasRuleType names a s → HasRuleType names b t → choice_type_of_layers (out-Ty s) (out-Ty t) ≡ Some r → HasRuleType names e r
+  -- a host predicate that is there takes one int of a row, or two
+  of_host : (names : Names) (e row : Expr) (p : List ℕ) (columns : Picked) (k n : ℕ) → e ≡ expr.Node (node.Host p row columns)
+      → predicate_number names.predicates p columns ≡ Some k → HasRuleType names row (ty.Row n) → are_int_columns names.tables n columns ≡ true
+      → HasRuleType names e ty.Bool
 
 -- a local name's type, else a table's
 abbrev pub name_type : Names → List ℕ → Option Ty → Option Ty
@@ -81,11 +87,12 @@ rule_node_type (node.Coalesce a b) names = of_operands coalesced (a names) (b na
 rule_node_type (node.Conditional c a b) names = choice_type (is_bool_type (c names)) (a names) (b names)
 rule_node_type (node.And a b) names = truth_type (is_bool_type (a names) && is_bool_type (b names))
 rule_node_type (node.Or a b) names = truth_type (is_bool_type (a names) && is_bool_type (b names))
+rule_node_type (node.Host p row columns) names = host_type names p columns (row names)
 rule_node_type node names = None
 
-abbrev pub type_step : Expr-F (Names → Option Ty) → Names → Option Ty
-type_step (Expr-F.Node n) names = rule_node_type n names
-type_step (Expr-F.Query q) names = None
+abbrev pub rule_type_step : Expr-F (Names → Option Ty) → Names → Option Ty
+rule_type_step (Expr-F.Node n) names = rule_node_type n names
+rule_type_step (Expr-F.Query q) names = None
 
-unfoldable pub type_of : Expr → Names → Option Ty
-type_of = fold-Expr (Names → Option Ty) type_step
+unfoldable pub rule_type : Expr → Names → Option Ty
+rule_type = fold-Expr (Names → Option Ty) rule_type_step

@@ -4,7 +4,7 @@ use Rattle.std.specs.Prelude.{◌≡◌, ◌↔◌, Some}
 use Rattle.lq_value.specs.declared.ty.Ty.{Ty}
 use Rattle.lq_language.specs.ClauseTyping.{expression_type}
 use Rattle.lq_language.specs.Names.{Names}
-use Rattle.lq_language.specs.RuleTyping.{HasRuleType, type_of}
+use Rattle.lq_language.specs.RuleTyping.{HasRuleType, rule_type}
 use Rattle.lq_grammar.specs.declared.syntax.Expr.{Expr}
 
 -- under given names an expression has at most one type
@@ -13,8 +13,8 @@ HasOneRuleType = (names : Names) (e : Expr) (s t : Ty) → HasRuleType names e s
 
 -- the function finds a type for an expression exactly where the rules give it
 abbrev pub FindsRuleTypes : Type 0
-FindsRuleTypes = (names : Names) (e : Expr) (t : Ty) → (type_of e names ≡ Some t) ↔ HasRuleType names e t
+FindsRuleTypes = (names : Names) (e : Expr) (t : Ty) → (rule_type e names ≡ Some t) ↔ HasRuleType names e t
 
--- what has a type in the part that rules are of has it in the language
+-- what has a type in the rule language has it in the whole language
 abbrev pub KeepsRuleTypes : Type 0
-KeepsRuleTypes = (names : Names) (e : Expr) (t : Ty) → type_of e names ≡ Some t → expression_type e names ≡ Some t
+KeepsRuleTypes = (names : Names) (e : Expr) (t : Ty) → rule_type e names ≡ Some t → expression_type e names ≡ Some t

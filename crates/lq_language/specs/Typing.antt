@@ -10,7 +10,7 @@ use Rattle.lq_language.specs.EnumerableCalls as of
 use Rattle.lq_language.specs.Members.{is_search, sole_argument}
 use Rattle.lq_language.specs.Types.{element_type, fresh_type, if_placed, is_key, is_within, same_types, when}
 use Rattle.lq_language.specs.Names.{Names, local_type, session_name, table_number, with_local}
-use Rattle.lq_language.specs.OperandTypes.{choice_type_of_layers, is_bool_type, is_equality, is_number, is_text_type, member_type, of_operands, operated_type, truth_type}
+use Rattle.lq_language.specs.OperandTypes.{choice_type_of_layers, is_bool_type, is_equality, is_int, is_number, is_text_type, member_type, of_operands, operated_type, truth_type}
 use Rattle.lq_language.specs.RuleTyping.{rule_node_type}
 use Rattle.lq_grammar.specs.declared.syntax.Argument.{Argument}
 use Rattle.lq_grammar.specs.declared.syntax.Binary.{Binary}
@@ -89,10 +89,6 @@ widens s t = false
 
 abbrev pub converts : Ty → Ty → Bool
 converts s t = same_types s t || widens (out-Ty s) (out-Ty t)
-
-abbrev pub is_int : Ty-F Ty → Bool
-is_int Ty-F.Int = true
-is_int layer = false
 
 -- a method without an argument, on items of this type
 abbrev pub simple_type : Simple → Ty → Option Ty

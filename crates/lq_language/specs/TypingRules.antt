@@ -4,6 +4,7 @@ use Rattle.std.specs.Prelude.{◌≡◌, ◌∷◌, ◌||◌, List, [], map, ℕ
 use Rattle.lq_value.specs.declared.ty.Ty.{Ty, out-Ty}
 use Rattle.lq_value.specs.declared.ty.Ty.TheVariants as ty
 use Rattle.lq_language.specs.EnumerableCalls.{Given, Simple, Through, By, Plain, With, enumerable_call}
+use Rattle.lq_language.specs.HostNames.{are_int_columns, predicate_number}
 use Rattle.lq_language.specs.Members.{IsSearch}
 use Rattle.lq_language.specs.Types.{are_join_keys, element_type, has_place, is_key, is_within}
 use Rattle.lq_language.specs.Names.{Names, SessionName, column_type, local_type, session_name, table_number, with_local}
@@ -24,6 +25,7 @@ use Rattle.lq_grammar.specs.declared.syntax.Join.{Join}
 use Rattle.lq_grammar.specs.declared.syntax.Last.{Last}
 use Rattle.lq_grammar.specs.declared.syntax.Last.TheVariants as last
 use Rattle.lq_grammar.specs.declared.syntax.Node.TheVariants as node
+use Rattle.lq_grammar.specs.declared.syntax.Picked.{Picked}
 use Rattle.lq_grammar.specs.declared.syntax.Query.{Query}
 use Rattle.lq_grammar.specs.declared.syntax.SortKey.{SortKey}
 use Rattle.lq_grammar.specs.declared.syntax.Unary.TheVariants as unary
@@ -94,6 +96,10 @@ pub data IsRight : TypeClaim → Type 0 where
       → coalesced (out-Ty s) (out-Ty t) ≡ Some r → IsRight (Has names e r)
   of_choice : (names : Names) (e c a b : Expr) (s t r : Ty) → e ≡ expr.Node (node.Conditional c a b) → IsRight (Has names c ty.Bool)
       → IsRight (Has names a s) → IsRight (Has names b t) → type_of_choice (out-Ty s) (out-Ty t) ≡ Some r → IsRight (Has names e r)
+  -- a host predicate that is there takes one int of a row, or two
+  of_host : (names : Names) (e row : Expr) (p : List ℕ) (columns : Picked) (k n : ℕ) → e ≡ expr.Node (node.Host p row columns)
+      → predicate_number names.predicates p columns ≡ Some k → IsRight (Has names row (ty.Row n)) → are_int_columns names.tables n columns ≡ true
+      → IsRight (Has names e ty.Bool)
   -- records, whose members have different names and are of any type but null
   of_record : (names : Names) (e : Expr) (fields : List (Field Expr)) (members : List (List ℕ × Ty)) → e ≡ expr.Node (node.New fields)
       → are_distinct (map (λ field. field.name) fields) ≡ true → IsRight (Members names fields members) → is_within (ty.Rec members) ≡ true

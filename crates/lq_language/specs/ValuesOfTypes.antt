@@ -55,7 +55,14 @@ module _ {R : Type 0} (world : World R) where
 
 -- the same world with this fault where an expression has no meaning
 abbrev pub assuming : {R : Type 0} → Fault → World R → World R
-assuming unknown world = record { schemas = world.schemas; rows = world.rows; session = world.session; cell = world.cell; unknown = unknown }
+assuming unknown world = record {
+  schemas = world.schemas;
+  rows = world.rows;
+  predicates = world.predicates;
+  session = world.session;
+  cell = world.cell;
+  unknown = unknown;
+}
 
 -- ---- what the machine serves
 

@@ -7,8 +7,10 @@ use Rattle.lq_value.specs.declared.ty.Ty.{Ty}
 use Rattle.lq_value.specs.declared.ty.Ty.TheVariants as ty
 use Rattle.lq_value.specs.declared.value.Fault.{Fault}
 use Rattle.lq_value.specs.declared.value.Value.{Value}
+use Rattle.lq_host.specs.Predicates.{Predicate, arity_of}
 use Rattle.lq_language.specs.Stream.{Stream}
 use Rattle.lq_language.specs.Names.{Names, SessionName}
+use Rattle.lq_language.specs.declared.host_name.HostName.{HostName}
 
 -- a local name with its type and its value
 pub record Binding (R : Type 0) : Type 0 where
@@ -25,11 +27,12 @@ pub record SessionValue (R : Type 0) : Type 0 where
   pub known : SessionName
   pub value : Value R
 
--- what is read besides local names: the schemas and rows of the tables, by number, what the session's names refer to, and a row's cell by its
--- column's name
+-- what is read besides local names: the schemas and rows of the tables and the host predicates, by number, what the session's names refer to, and
+-- a row's cell by its column's name
 pub record World (R : Type 0) : Type 0 where
   pub schemas : List Schema
   pub rows : List (List R)
+  pub predicates : List Predicate
   pub session : List (SessionValue R)
   pub cell : R → List ℕ → Option Scalar
   -- what is used where an expression has no meaning, since it has no type; nothing that is typed depends on it (MeaningLaws)
@@ -42,6 +45,10 @@ Meaning R = Scope R → Result (Value R) Fault
 abbrev pub or_null : Option Ty → Ty
 or_null None = ty.Null
 or_null (Some t) = t
+
+-- predicates by their names and the numbers of their arguments
+abbrev pub known_predicates : List Predicate → List HostName
+known_predicates predicates = map (λ p. record { name = p.name; arguments = arity_of p.domain }) predicates
 
 module _ {R : Type 0} where
   -- the local name's binding
@@ -58,7 +65,12 @@ module _ {R : Type 0} where
   session_names session = map (λ s. s.known) session
 
   abbrev pub names_at : World R → Scope R → Names
-  names_at world scope = record { tables = world.schemas; session = session_names world.session; locals = typed_locals scope }
+  names_at world scope = record {
+    tables = world.schemas;
+    predicates = known_predicates world.predicates;
+    session = session_names world.session;
+    locals = typed_locals scope;
+  }
 
   -- `from`: the range variable refers to each item of the source in turn
   abbrev pub bound : List ℕ → Ty → Scope R → Value R → Scope R

@@ -9,6 +9,7 @@
 mod calls;
 pub mod clause_laws;
 pub mod enumerable_laws;
+mod host_name;
 pub mod meaning_laws;
 mod methods;
 mod operation;
@@ -17,6 +18,7 @@ mod rights;
 pub mod typing_laws;
 
 pub use calls::{Call, Operator, Paired, Part, Term};
+pub use host_name::{HostName, host_names, predicate_number};
 pub use methods::{Given, Simple, Through};
 pub use operation::Op;
 pub use rights::{RightRule, Use};

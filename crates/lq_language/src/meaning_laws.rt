@@ -6,12 +6,25 @@ ghost use Rattle.lq_language.specs.RuleMeaningLaws.{HasRuleMeaning};
 ghost use Rattle.lq_language.specs.OneArrangement.{ArrangesItems, ArrangesOnce};
 ghost use Rattle.lq_language.specs.MeaningLaws.{HasMeaning, HasStream, KeepsRuleMeanings, NeverFaults};
 
-/// In the part of the language that rules of policies are of, where local names have values of their
-/// types and tables have their rows, a typed expression has
-/// a meaning of its own, the same whatever is used where there is none: a value of its type, or a
-/// fault.
+/// In the rule language, where local names have values of their types and tables have their rows, a
+/// typed expression has a meaning of its own, the same whatever is used where there is none: a value of
+/// its type, or a fault.
 pub fn rule_meanings()
     ensures { HasRuleMeaning }
+{}
+
+/// The same of the whole language, over rows of any kind: a typed expression, with records, groups and
+/// methods of sequences in it, has a meaning of its own, the same whatever is used where there is none:
+/// a value of its type, or a fault. So has a typed query: its stream, of items of their type.
+pub fn typed_meanings<R>()
+    ensures expression { HasMeaning R }
+    ensures query { HasStream R }
+{}
+
+/// What has a type in the rule language means in the whole language what it means there, where local
+/// names have values of their types and tables have their rows.
+pub fn rule_meanings_are_kept<R>()
+    ensures { KeepsRuleMeanings R }
 {}
 
 /// Of two lists of sort keys one comes before the other exactly where, at the first place at which they
@@ -37,20 +50,6 @@ pub fn one_arrangement<A>()
 /// own keys, the first of which counts most.
 pub fn items_by_their_keys<A, S>()
     ensures { ArrangesItems A S }
-{}
-
-/// The same of the whole language, over rows of any kind: a typed expression, with records, groups and
-/// methods of sequences in it, has a meaning of its own, the same whatever is used where there is none:
-/// a value of its type, or a fault. So has a typed query: its stream, of items of their type.
-pub fn typed_meanings<R>()
-    ensures expression { HasMeaning R }
-    ensures query { HasStream R }
-{}
-
-/// What has a type in that part means in the language what it means there, where local names have
-/// values of their types and tables have their rows.
-pub fn rule_meanings_are_kept<R>()
-    ensures { KeepsRuleMeanings R }
 {}
 
 /// An expression whose type is that of a sequence never faults: a fault that is met in making it is the

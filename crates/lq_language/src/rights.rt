@@ -1,7 +1,8 @@
 //! Rights as plain data: what a statement uses, and the rules that grant or withhold it.
+use lq_host::PredicateNumber;
 use lq_value::{ColumnNumber, List, TableNumber, Txt};
 
-/// What a statement uses of the tables, and what a right is for.
+/// What a statement uses of the tables and of the host, and what a right is for.
 #[derive(Clone, Copy, Debug, Drop, Eq, Hash, PartialEq)]
 pub enum Use {
     /// The table with this number.
@@ -12,6 +13,8 @@ pub enum Use {
     Insert(TableNumber),
     /// The removal of rows of the table with this number.
     Delete(TableNumber),
+    /// The host predicate with this number.
+    Host(PredicateNumber),
 }
 
 /// A rule that grants rights, or one that withholds them.
@@ -21,6 +24,6 @@ pub struct RightRule {
     pub name: Txt,
     /// The names of the roles that it applies to, and to whose members; `public` means all.
     pub to: List<Txt>,
-    /// The rights that it covers: columns, and the putting in and removal of rows.
+    /// The rights that it covers: columns, the putting in and removal of rows, and host predicates.
     pub rights: List<Use>,
 }

@@ -3,18 +3,17 @@
 ghost use Rattle.lq_language.specs.RuleTypingLaws.{FindsRuleTypes, HasOneRuleType, KeepsRuleTypes};
 ghost use Rattle.lq_language.specs.TypingLaws.{FindsQueryItems, FindsTypes, GivesOneType, HasOneType, LimitsItems, LimitsTypes};
 
-/// In the part of the language that rules of policies are of, an expression has at most one type under
-/// given names.
+/// In the rule language an expression has at most one type under given names.
 pub fn one_rule_type()
     ensures { HasOneRuleType }
 {}
 
-/// The function that looks for a type in that part finds exactly the type that its rules give.
+/// The function that looks for a type in the rule language finds exactly the type that its rules give.
 pub fn rule_type_is_found()
     ensures { FindsRuleTypes }
 {}
 
-/// What has a type in that part has the same type in the language.
+/// What has a type in the rule language has the same type in the whole language.
 pub fn rule_types_are_kept()
     ensures { KeepsRuleTypes }
 {}

@@ -18,6 +18,6 @@ mod words;
 pub use blank::is_blank;
 pub use error::LexError;
 pub use lexer::{LINE_LIMIT, tokens};
-pub use literals::{int_value, text_value};
+pub use literals::{LARGEST_INTEGER, int_value, text_value};
 pub use marks::without_marks;
 pub use words::is_name;

@@ -8,8 +8,8 @@ ghost use Rattle.lq_lex.specs.Literals as spec;
 use lq_value::Txt;
 use std::alloc::{AllocError, Global};
 
-/// The greatest value that digits may spell: after a minus sign they spell the least `int`.
-const LARGEST: u64 = 2147483648;
+/// The greatest value that the digits of an integer may have: after a minus sign they spell the least `int`.
+pub const LARGEST_INTEGER: u32 = 2147483648;
 
 /// Whether the value of decimal digits is at most 2147483648.
 pub fn is_small(digits: &[char]) -> bool
@@ -18,7 +18,7 @@ pub fn is_small(digits: &[char]) -> bool
     let mut value: u64 = 0;
     for digit in digits {
         value = value * 10 + u64::from(u32::from(*digit).saturating_sub(48));
-        if value > LARGEST {
+        if value > u64::from(LARGEST_INTEGER) {
             return false;
         }
     }
@@ -33,7 +33,7 @@ pub fn int_value(digits: &[u8]) -> Option<i32>
     let mut value: u64 = 0;
     for digit in digits {
         value = value * 10 + u64::from((*digit).saturating_sub(48));
-        if value >= LARGEST {
+        if value >= u64::from(LARGEST_INTEGER) {
             return None;
         }
     }

@@ -15,4 +15,5 @@ mod table_file;
 pub mod table_laws;
 
 pub use load_error::LoadError;
+pub use number::int_of;
 pub use table_file::{MOST_BYTES, table_from_csv};

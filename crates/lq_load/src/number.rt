@@ -2,14 +2,16 @@
 ghost use Rattle.std.specs.Prelude.{◌≡◌, ◌≤◌, ◌<◌, ◌^◌, pos, neg_ℤ, IfSome};
 ghost use Rattle.lq_load.specs.Cells.{bounded, natural_of, int_of};
 
+use lq_lex::LARGEST_INTEGER;
+
 /// How far below zero an `int` reaches.
-const MOST_BELOW: u64 = 2_147_483_648;
+const MOST_BELOW: u64 = LARGEST_INTEGER as u64;
 
 /// How far above zero an `int` reaches.
-const MOST_ABOVE: u64 = 2_147_483_647;
+const MOST_ABOVE: u64 = LARGEST_INTEGER as u64 - 1;
 
 /// The number that `text` spells: digits, with or without a minus before them, within `int`.
-pub(crate) fn int_of(text: &[u8]) -> Option<i32>
+pub fn int_of(text: &[u8]) -> Option<i32>
     ensures { result ≡ int_of text.now }
 {
     match text.split_first() {

@@ -8,7 +8,7 @@ use Rattle.std.proofs.Math.Seq.{take-suc}
 use Rattle.std.proofs.lemmas.Map.Keys.{apart_from_distinct}
 use Rattle.std.proofs.lemmas.Option.{get_or_from_slice_get, none-some, same_Some, slice_get_within}
 use Rattle.lq_value.specs.KeyTests.{key_is, keys_decide}
-use Rattle.lq_value.specs.Lookups.{find_in, first_keys, grouped, places, places_from, with_key}
+use Rattle.lq_value.specs.Lookups.{find_in, first_keys, places, places_by_key, places_from, with_key}
 use Rattle.lq_value.specs.declared.key.Key.{Key}
 use Rattle.lq_value.specs.declared.key.Key.TheVariants as key
 use Rattle.lq_lookup.specs.Numbers.{AreNumbers}
@@ -166,7 +166,7 @@ find_with keys (f ∷ fs) q = by (key_is q f) refl (find_with keys fs q) where
   by false e others = others
 
 pub grouped_find : {keys firsts : List Key} {numbers : List ℕ} → AreNumbers keys firsts numbers → (q : Key)
-    → find_in key_is (grouped key_is keys) q ≡ places (key_is q) keys
+    → find_in key_is (places_by_key key_is keys) q ≡ places (key_is q) keys
 grouped_find {keys} {firsts} {numbers} are q =
     ap (λ (fs : List Key). find_in key_is (with_places keys fs) q) (sym are.in_order) ∙ find_with keys firsts q ∙ by (list_any (key_is q) firsts) refl where
       by : (b : Bool) → list_any (key_is q) firsts ≡ b → (if b then places (key_is q) keys else []) ≡ places (key_is q) keys

@@ -24,11 +24,11 @@ impl Groups {
     ghost use Rattle.std.specs.Prelude.{◌≡◌, IfOk, length, slice_get};
     ghost use Rattle.std.specs.Option.{option_map};
     ghost use Rattle.lq_value.specs.KeyTests.{key_is};
-    ghost use Rattle.lq_value.specs.Lookups.{grouped};
+    ghost use Rattle.lq_value.specs.Lookups.{places_by_key};
 
     /// The groups of `keys`.
     pub fn build(alloc: Global, keys: &[Key]) -> Result<Groups, AllocError>
-        ensures { IfOk result (λ groups. groups ≡ grouped key_is keys.now) }
+        ensures { IfOk result (λ groups. groups ≡ places_by_key key_is keys.now) }
     {
         let rows = Rows::build(alloc, keys)?;
         Ok(Groups { rows })

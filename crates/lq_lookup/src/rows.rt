@@ -33,12 +33,12 @@ impl Rows {
     ghost use Rattle.std.specs.Prelude.{◌≡◌, IfOk, slice_get};
     ghost use Rattle.std.specs.Option.{option_map};
     ghost use Rattle.lq_value.specs.KeyTests.{key_is};
-    ghost use Rattle.lq_value.specs.Lookups.{find_in, grouped, places};
+    ghost use Rattle.lq_value.specs.Lookups.{find_in, places, places_by_key};
     ghost use Rattle.lq_value.specs.declared.key.Key.{Key as KeyValue};
 
     // The keys of `keys`, each with its places.
     pub(crate) fn build(alloc: Global, keys: &[Key]) -> Result<Rows, AllocError>
-        ensures groups { IfOk result (λ rows. rows ≡ grouped key_is keys.now) }
+        ensures groups { IfOk result (λ rows. rows ≡ places_by_key key_is keys.now) }
         ensures finds { IfOk result (λ rows. (q : KeyValue)
             → find_in key_is rows q ≡ places (key_is q) keys.now) }
     {

@@ -16,6 +16,7 @@ use Rattle.lq_value.specs.declared.value.Fault.{Fault}
 use Rattle.lq_value.specs.declared.value.Value.{Value, out-Value}
 use Rattle.lq_value.specs.declared.value.Value.TheOpen.{Value-F}
 use Rattle.lq_value.specs.declared.value.Value.TheVariants.{outs-Scalar}
+use Rattle.lq_host.specs.Predicates.{Predicate}
 use Rattle.lq_language.specs.ClauseTyping.{expression_type}
 use Rattle.lq_machine.specs.DefinitionLaws.{AreDefined, AreDefinedAfter, IsDefined, IsNew, KeepsDefined}
 use Rattle.lq_machine.specs.Definitions.{definition_of, known_after, known_as, known_names}
@@ -26,16 +27,19 @@ use Rattle.lq_grammar.specs.Reading.{Reading, Nothing, Says, IsNoSyntax, IsTooDe
 use Rattle.lq_security.specs.Rights.{Denied, denial}
 use Rattle.lq_machine.specs.Served.{assigned_data, defined_data}
 use Rattle.lq_machine.specs.Statements.{Outcome, allowed_by, are_of_columns, are_within_ranges, assigned, assigned_as, assigned_by, assigned_to, assigning, removed_items, defined, defined_as, defined_by, defining_also, deleted, evaluated, inserted, is_taken, refused, renewed, row_checked, row_for, row_for_named, rows_of, rows_of_named, rows_removed, taking_role, under_role, with_row, with_scalar, with_table, with_value, without}
-use Rattle.lq_machine.specs.States.{State, names_in, schemas_of, world_in}
+use Rattle.lq_machine.specs.States.{State, host_names, names_in, schemas_of, world_in}
 use Rattle.lq_language.specs.Types.{same_types}
 use Rattle.lq_language.specs.Names.{SessionName, session_name, table_number, with_local}
 use Rattle.lq_language.specs.OperandTypes.{is_bool_type, is_scalar}
+use Rattle.lq_language.specs.Mentions.{uses_of}
 use Rattle.lq_language.specs.Uses.{expression_uses}
+use Rattle.lq_language.specs.Worlds.{known_predicates}
 use Rattle.lq_language.specs.TableRows.{TableRow}
 use Rattle.lq_security.specs.Visible.{refuser_of}
 use Rattle.lq_language.specs.Meaning.{expression_meaning}
 use Rattle.lq_language.specs.MeaningLaws.{IsValueOf}
 use Rattle.lq_language.specs.Typing.{converts, widens}
+use Rattle.lq_language.specs.declared.host_name.HostName.{HostName}
 use Rattle.lq_language.specs.declared.rights.Use.TheVariants as used
 use Rattle.lq_machine.specs.declared.session.Defined.{Defined}
 use Rattle.lq_machine.specs.declared.session.Defined.TheVariants as of
@@ -53,9 +57,10 @@ use Rattle.lq_language.proofs.ValueLaws.{is_plain, plain_value, scalar_plain}
 -- ---- names
 
 -- what is known of a definition has its name
-pub known_name : (schemas : List Schema) (earlier : List SessionName) (name : List ℕ) (defined : Defined) → (known_as schemas earlier name defined).name ≡ name
-known_name schemas earlier name (of.Variable t s) = refl
-known_name schemas earlier name (of.Query e opened) = refl
+pub known_name : (schemas : List Schema) (predicates : List HostName) (earlier : List SessionName) (name : List ℕ) (defined : Defined)
+    → (known_as schemas predicates earlier name defined).name ≡ name
+known_name schemas predicates earlier name (of.Variable t s) = refl
+known_name schemas predicates earlier name (of.Query e opened) = refl
 
 module _ (name : List ℕ) where
   -- one more name
@@ -83,36 +88,36 @@ module _ (name : List ℕ) where
     by true rest = refl
     by false rest = rest
 
-  module _ (schemas : List Schema) where
+  module _ (schemas : List Schema) (predicates : List HostName) where
     -- a name that no definition has isn't known
     pub unknown_name : (earlier : List SessionName) (ds : List Definition) → session_name name earlier ≡ None → definition_of name ds ≡ None
-        → session_name name (known_after schemas earlier ds) ≡ None
+        → session_name name (known_after schemas predicates earlier ds) ≡ None
     unknown_name earlier [] none other = none
     unknown_name earlier (d ∷ ds) none other =
-        by (bytes_eq d.name name) refl other (unknown_name (earlier ++ known_as schemas earlier d.name d.defined ∷ []) ds)
+        by (bytes_eq d.name name) refl other (unknown_name (earlier ++ known_as schemas predicates earlier d.name d.defined ∷ []) ds)
       where
         later : List SessionName
-        later = earlier ++ known_as schemas earlier d.name d.defined ∷ []
+        later = earlier ++ known_as schemas predicates earlier d.name d.defined ∷ []
 
         by : (b : Bool) → bytes_eq d.name name ≡ b → (if b then Some d else definition_of name ds) ≡ None
-            → (session_name name later ≡ None → definition_of name ds ≡ None → session_name name (known_after schemas later ds) ≡ None)
-            → session_name name (known_after schemas later ds) ≡ None
+            → (session_name name later ≡ None → definition_of name ds ≡ None → session_name name (known_after schemas predicates later ds) ≡ None)
+            → session_name name (known_after schemas predicates later ds) ≡ None
         by true is h rest = absurd (none-some d (sym h))
         by false is h rest =
-            rest (unknown_still earlier (known_as schemas earlier d.name d.defined) none
-            (ap (λ (n : List ℕ). bytes_eq n name) (known_name schemas earlier d.name d.defined) ∙ is)) h
+            rest (unknown_still earlier (known_as schemas predicates earlier d.name d.defined) none
+            (ap (λ (n : List ℕ). bytes_eq n name) (known_name schemas predicates earlier d.name d.defined) ∙ is)) h
 
     -- ---- a variable's new value
 
     module _ (t : Ty) (s : Scalar) (old : State) where
       -- nothing after a definition of the name is renewed
-      pub others_stay : (earlier : List SessionName) (ds : List Definition) → AreDefinedAfter schemas earlier ds → is_some (session_name name earlier) ≡ true
+      pub others_stay : (earlier : List SessionName) (ds : List Definition) → AreDefinedAfter schemas predicates earlier ds → is_some (session_name name earlier) ≡ true
           → map (renewed old name t s) ds ≡ ds
       others_stay earlier [] all known = refl
       others_stay earlier (d ∷ ds) all known =
           by (bytes_eq d.name name) refl
-          (others_stay (earlier ++ known_as schemas earlier d.name d.defined ∷ []) ds all.1
-          (known_still earlier (known_as schemas earlier d.name d.defined ∷ []) known))
+          (others_stay (earlier ++ known_as schemas predicates earlier d.name d.defined ∷ []) ds all.1
+          (known_still earlier (known_as schemas predicates earlier d.name d.defined ∷ []) known))
         where
           by : (b : Bool) → bytes_eq d.name name ≡ b → map (renewed old name t s) ds ≡ ds
               → (if b then record { name = name; defined = of.Variable t s } else d) ∷ map (renewed old name t s) ds ≡ d ∷ ds
@@ -121,15 +126,15 @@ module _ (name : List ℕ) where
           by false is rest = ap (λ (more : List Definition). d ∷ more) rest
 
       -- a variable keeps its name and its type, and so what is known after it
-      pub renewed_after : (earlier : List SessionName) (ds : List Definition) → AreDefinedAfter schemas earlier ds → (d : Definition) (before : Scalar)
+      pub renewed_after : (earlier : List SessionName) (ds : List Definition) → AreDefinedAfter schemas predicates earlier ds → (d : Definition) (before : Scalar)
           → definition_of name ds ≡ Some d → d.defined ≡ of.Variable t before → IsScalarOf (out-Ty t) s
-          → AreDefinedAfter schemas earlier (map (renewed old name t s) ds)
+          → AreDefinedAfter schemas predicates earlier (map (renewed old name t s) ds)
       renewed_after earlier [] all d before found is fits = absurd (none-some d found)
       renewed_after earlier (x ∷ ds) all d before found is fits =
-          by (bytes_eq x.name name) refl found (λ h. renewed_after (earlier ++ known_as schemas earlier x.name x.defined ∷ []) ds all.1 d before h is fits)
+          by (bytes_eq x.name name) refl found (λ h. renewed_after (earlier ++ known_as schemas predicates earlier x.name x.defined ∷ []) ds all.1 d before h is fits)
         where
           later : List SessionName
-          later = earlier ++ known_as schemas earlier x.name x.defined ∷ []
+          later = earlier ++ known_as schemas predicates earlier x.name x.defined ∷ []
 
           next : List Definition
           next = map (renewed old name t s) ds
@@ -138,45 +143,45 @@ module _ (name : List ℕ) where
           stays : bytes_eq x.name name ≡ true → ds ≡ next
           stays same =
               sym (others_stay later ds all.1
-              (known_now earlier (known_as schemas earlier x.name x.defined)
-              (ap (λ (n : List ℕ). bytes_eq n name) (known_name schemas earlier x.name x.defined) ∙ same)))
+              (known_now earlier (known_as schemas predicates earlier x.name x.defined)
+              (ap (λ (n : List ℕ). bytes_eq n name) (known_name schemas predicates earlier x.name x.defined) ∙ same)))
 
           by : (b : Bool) → bytes_eq x.name name ≡ b → (if b then Some x else definition_of name ds) ≡ Some d
-              → (definition_of name ds ≡ Some d → AreDefinedAfter schemas later next)
-              → AreDefinedAfter schemas earlier ((if b then record { name = name; defined = of.Variable t s } else x) ∷ next)
+              → (definition_of name ds ≡ Some d → AreDefinedAfter schemas predicates later next)
+              → AreDefinedAfter schemas predicates earlier ((if b then record { name = name; defined = of.Variable t s } else x) ∷ next)
           by true same h rest =
               let named : x.name ≡ name = (bytes_eq-Decides x.name name).0 same in
               let defined_so : x.defined ≡ of.Variable t before = ap (λ (y : Definition). y.defined) (same_Some x d h) ∙ is in
-              let known_so : known_as schemas earlier x.name x.defined ≡ known_as schemas earlier name (of.Variable t s) =
-              λ i. known_as schemas earlier (named i) (defined_so i) in (
-                ((subst (λ (y : Defined). IsDefined schemas earlier y) defined_so all.0).0, fits),
-                subst (λ (k : SessionName). AreDefinedAfter schemas (earlier ++ k ∷ []) next) known_so
-                    (subst (λ (more : List Definition). AreDefinedAfter schemas later more) (stays same) all.1),
+              let known_so : known_as schemas predicates earlier x.name x.defined ≡ known_as schemas predicates earlier name (of.Variable t s) =
+              λ i. known_as schemas predicates earlier (named i) (defined_so i) in (
+                ((subst (λ (y : Defined). IsDefined schemas predicates earlier y) defined_so all.0).0, fits),
+                subst (λ (k : SessionName). AreDefinedAfter schemas predicates (earlier ++ k ∷ []) next) known_so
+                    (subst (λ (more : List Definition). AreDefinedAfter schemas predicates later more) (stays same) all.1),
                 subst (λ (n : List ℕ). IsNew schemas earlier n) named all.2,
               )
           by false same h rest = (all.0, rest h, all.2)
 
       -- a variable's type is that of a scalar
-      pub variable_scalar : (earlier : List SessionName) (ds : List Definition) → AreDefinedAfter schemas earlier ds → (d : Definition) (before : Scalar)
+      pub variable_scalar : (earlier : List SessionName) (ds : List Definition) → AreDefinedAfter schemas predicates earlier ds → (d : Definition) (before : Scalar)
           → definition_of name ds ≡ Some d → d.defined ≡ of.Variable t before → is_scalar (out-Ty t) ≡ true
       variable_scalar earlier [] all d before found is = absurd (none-some d found)
       variable_scalar earlier (x ∷ ds) all d before found is =
-          by (bytes_eq x.name name) found (λ h. variable_scalar (earlier ++ known_as schemas earlier x.name x.defined ∷ []) ds all.1 d before h is)
+          by (bytes_eq x.name name) found (λ h. variable_scalar (earlier ++ known_as schemas predicates earlier x.name x.defined ∷ []) ds all.1 d before h is)
         where
           by : (b : Bool) → (if b then Some x else definition_of name ds) ≡ Some d → (definition_of name ds ≡ Some d → is_scalar (out-Ty t) ≡ true)
               → is_scalar (out-Ty t) ≡ true
           by true h rest =
-              (subst (λ (y : Defined). IsDefined schemas earlier y) (ap (λ (y : Definition). y.defined) (same_Some x d h) ∙ is) all.0).0
+              (subst (λ (y : Defined). IsDefined schemas predicates earlier y) (ap (λ (y : Definition). y.defined) (same_Some x d h) ∙ is) all.0).0
           by false h rest = rest h
 
 -- ---- one more definition
 
-pub defined_behind : (schemas : List Schema) (earlier : List SessionName) (ds : List Definition) (d : Definition) → AreDefinedAfter schemas earlier ds
-    → IsDefined schemas (known_after schemas earlier ds) d.defined → IsNew schemas (known_after schemas earlier ds) d.name
-    → AreDefinedAfter schemas earlier (ds ++ d ∷ [])
-defined_behind schemas earlier [] d all is new = (is, tt, new)
-defined_behind schemas earlier (x ∷ ds) d all is new =
-    (all.0, defined_behind schemas (earlier ++ known_as schemas earlier x.name x.defined ∷ []) ds d all.1 is new, all.2)
+pub defined_behind : (schemas : List Schema) (predicates : List HostName) (earlier : List SessionName) (ds : List Definition) (d : Definition)
+    → AreDefinedAfter schemas predicates earlier ds → IsDefined schemas predicates (known_after schemas predicates earlier ds) d.defined
+    → IsNew schemas (known_after schemas predicates earlier ds) d.name → AreDefinedAfter schemas predicates earlier (ds ++ d ∷ [])
+defined_behind schemas predicates earlier [] d all is new = (is, tt, new)
+defined_behind schemas predicates earlier (x ∷ ds) d all is new =
+    (all.0, defined_behind schemas predicates (earlier ++ known_as schemas predicates earlier x.name x.defined ∷ []) ds d all.1 is new, all.2)
 
 -- ---- types that a scalar's value has
 
@@ -212,9 +217,10 @@ converted u t is h = by (same_types u t) refl h where
 
 -- ---- what statements leave
 
--- the same schemas and the same definitions
+-- the same schemas, the same predicates and the same definitions
 pub record LeavesNames (old : State) (x : Outcome) : Type 0 where
   pub schemas : schemas_of x.1.tables ≡ schemas_of old.tables
+  pub predicates : x.1.predicates ≡ old.predicates
   pub definitions : x.1.definitions ≡ old.definitions
 
 set_there : {A : Type 0} (xs : List A) (n : ℕ) (x : A) → slice_get xs n ≡ Some x → set xs n x ≡ xs
@@ -229,18 +235,22 @@ module _ (old : State) where
 
   -- where the state is the old one
   pub old_leaves : (x : Outcome) → x.1 ≡ old → LeavesNames old x
-  old_leaves x is = record { schemas = ap (λ (s : State). schemas_of s.tables) is; definitions = ap (λ (s : State). s.definitions) is }
+  old_leaves x is = record {
+    schemas = ap (λ (s : State). schemas_of s.tables) is;
+    predicates = ap (λ (s : State). s.predicates) is;
+    definitions = ap (λ (s : State). s.definitions) is;
+  }
 
   pub refused_leaves : (word : List ℕ) → LeavesNames old (refused old word)
-  refused_leaves word = record { schemas = refl; definitions = refl }
+  refused_leaves word = record { schemas = refl; predicates = refl; definitions = refl }
 
   allowed_leaves : (o : Option Denied) (x : Outcome) → LeavesNames old x → LeavesNames old (allowed_by old o x)
   allowed_leaves None x leaves = leaves
-  allowed_leaves (Some denied) x leaves = record { schemas = refl; definitions = refl }
+  allowed_leaves (Some denied) x leaves = record { schemas = refl; predicates = refl; definitions = refl }
 
   under_leaves : (name : List ℕ) (o : Option ℕ) → LeavesNames old (under_role old name o)
   under_leaves name None = refused_leaves (codes "role")
-  under_leaves name (Some role) = record { schemas = refl; definitions = refl }
+  under_leaves name (Some role) = record { schemas = refl; predicates = refl; definitions = refl }
 
   pub taking_leaves : (name : List ℕ) → LeavesNames old (taking_role old name)
   unfolding taking_role
@@ -257,8 +267,8 @@ module _ (old : State) where
       → LeavesNames old (row_checked old n table cells o)
   checked_leaves n table is cells None =
       if_leaves (table.next == 2 ^ 64) _ _ (refused_leaves (codes "full"))
-      (record { schemas = table_leaves n table (with_row old table cells) is refl; definitions = refl })
-  checked_leaves n table is cells (Some rule) = record { schemas = refl; definitions = refl }
+      (record { schemas = table_leaves n table (with_row old table cells) is refl; predicates = refl; definitions = refl })
+  checked_leaves n table is cells (Some rule) = record { schemas = refl; predicates = refl; definitions = refl }
 
   for_leaves : (cells : List Scalar) (n : ℕ) (o : Option Table) → slice_get old.tables n ≡ o → LeavesNames old (row_for old cells n o)
   for_leaves cells n None is = refused_leaves (codes "type")
@@ -279,14 +289,14 @@ module _ (old : State) where
 
   removed_leaves : (n : ℕ) (table : Table) → slice_get old.tables n ≡ Some table → (gone : List TableRow) (e : End)
       → LeavesNames old (rows_removed old n table gone e)
-  removed_leaves n table is gone end.Done = record { schemas = table_leaves n table (without old gone table) is refl; definitions = refl }
-  removed_leaves n table is gone (end.Fault f) = record { schemas = refl; definitions = refl }
+  removed_leaves n table is gone end.Done = record { schemas = table_leaves n table (without old gone table) is refl; predicates = refl; definitions = refl }
+  removed_leaves n table is gone (end.Fault f) = record { schemas = refl; predicates = refl; definitions = refl }
 
   rows_leave : (x : List ℕ) (e : Expr) (n : ℕ) (o : Option Table) → slice_get old.tables n ≡ o → LeavesNames old (rows_of old x e n o)
   rows_leave x e n None is = refused_leaves (codes "type")
   rows_leave x e n (Some table) is =
       if_leaves (is_bool_type (expression_type e (with_local (names_in old) x (ty.Row n)))) _ _
-      (allowed_leaves (denial old.policies old.role (used.Delete n ∷ expression_uses e (with_local (names_in old) x (ty.Row n)))) _
+      (allowed_leaves (denial old.policies old.role (used.Delete n ∷ uses_of (expression_uses e (with_local (names_in old) x (ty.Row n))))) _
       (removed_leaves n table is (removed_items old x e n table.rows).0 (removed_items old x e n table.rows).1))
       (refused_leaves (codes "type"))
 
@@ -302,17 +312,18 @@ module _ (old : State) where
 
 -- the definitions of a state are as `var` makes them
 abbrev pub IsKept : Outcome → Type 0
-IsKept x = AreDefined (schemas_of x.1.tables) x.1.definitions
+IsKept x = AreDefined (schemas_of x.1.tables) (host_names x.1) x.1.definitions
 
 pub if_kept : (b : Bool) (x y : Outcome) → IsKept x → IsKept y → IsKept (if b then x else y)
 if_kept true x y first second = first
 if_kept false x y first second = second
 
-module _ (old : State) (typed : Every IsTypedTable old.tables) (all : AreDefined (schemas_of old.tables) old.definitions) where
+module _ (old : State) (typed : Every IsTypedTable old.tables) (all : AreDefined (schemas_of old.tables) (host_names old) old.definitions) where
   pub leaving_kept : (x : Outcome) → LeavesNames old x → IsKept x
   leaving_kept x leaves =
-      subst (λ (ds : List Definition). AreDefined (schemas_of x.1.tables) ds) (sym leaves.definitions)
-      (subst (λ (schemas : List Schema). AreDefined schemas old.definitions) (sym leaves.schemas) all)
+      subst (λ (ds : List Definition). AreDefined (schemas_of x.1.tables) (host_names x.1) ds) (sym leaves.definitions)
+      (subst (λ (predicates : List Predicate). AreDefined (schemas_of x.1.tables) (known_predicates predicates) old.definitions) (sym leaves.predicates)
+      (subst (λ (schemas : List Schema). AreDefined schemas (host_names old) old.definitions) (sym leaves.schemas) all))
 
   allowed_kept : (o : Option Denied) (x : Outcome) → IsKept x → IsKept (allowed_by old o x)
   allowed_kept None x kept = kept
@@ -327,7 +338,7 @@ module _ (old : State) (typed : Every IsTypedTable old.tables) (all : AreDefined
   pub evaluated_kept : (e : Expr) (u : Ty) → expression_type e (names_in old) ≡ Some u → is_plain (out-Ty u) ≡ true → (next : Scalar → Outcome)
       → ((s : Scalar) → IsScalarOf (out-Ty u) s → IsKept (next s)) → IsKept (evaluated old e next)
   evaluated_kept e u is plain next kept =
-      allowed_kept (denial old.policies old.role (expression_uses e (names_in old))) (with_value old next (expression_meaning (world_in old) e []))
+      allowed_kept (denial old.policies old.role (uses_of (expression_uses e (names_in old)))) (with_value old next (expression_meaning (world_in old) e []))
       (by (expression_meaning (world_in old) e []) (agrees old typed all (world_in old).unknown e u is).1)
     where
       by : (m : Result (Value TableRow) Fault) → ((v : Value TableRow) → m ≡ Ok v → IsValueOf (world_in old) u v) → IsKept (with_value old next m)
@@ -338,15 +349,16 @@ module _ (old : State) (typed : Every IsTypedTable old.tables) (all : AreDefined
 
   -- ---- `var`
 
-  also_kept : (name : List ℕ) (new : Defined) → is_taken old name ≡ false → IsDefined (schemas_of old.tables) (known_names (schemas_of old.tables) old.definitions) new
-      → AreDefined (schemas_of old.tables) (old.definitions ++ (record { name = name; defined = new }) ∷ [])
+  also_kept : (name : List ℕ) (new : Defined) → is_taken old name ≡ false
+      → IsDefined (schemas_of old.tables) (host_names old) (known_names (schemas_of old.tables) (host_names old) old.definitions) new
+      → AreDefined (schemas_of old.tables) (host_names old) (old.definitions ++ (record { name = name; defined = new }) ∷ [])
   unfolding known_names
   also_kept name new free is =
-      defined_behind (schemas_of old.tables) [] old.definitions (record { name = name; defined = new }) all is (by (table_number name (schemas_of old.tables)) (definition_of name old.definitions) refl refl free)
+      defined_behind (schemas_of old.tables) (host_names old) [] old.definitions (record { name = name; defined = new }) all is (by (table_number name (schemas_of old.tables)) (definition_of name old.definitions) refl refl free)
     where
       by : (o : Option ℕ) (p : Option Definition) → table_number name (schemas_of old.tables) ≡ o → definition_of name old.definitions ≡ p → (is_some o || is_some p) ≡ false
-          → IsNew (schemas_of old.tables) (known_after (schemas_of old.tables) [] old.definitions) name
-      by None None table definition h = (table, unknown_name name (schemas_of old.tables) [] old.definitions refl definition)
+          → IsNew (schemas_of old.tables) (known_after (schemas_of old.tables) (host_names old) [] old.definitions) name
+      by None None table definition h = (table, unknown_name name (schemas_of old.tables) (host_names old) [] old.definitions refl definition)
       by None (Some d) table definition h = absurd (true≢false h)
       by (Some n) p table definition h = absurd (true≢false h)
 
@@ -382,9 +394,9 @@ module _ (old : State) (typed : Every IsTypedTable old.tables) (all : AreDefined
   assigned_as_kept name e t before d found is (Some u) typed_so = by (converts u t) refl where
     by : (b : Bool) → converts u t ≡ b → IsKept (if b then evaluated old e (λ s. (assigned_data name, assigning old name t s)) else refused old (codes "type"))
     by true converts_so =
-        let place = converted u t (variable_scalar name (schemas_of old.tables) t before old [] old.definitions all d before found is) converts_so in
+        let place = converted u t (variable_scalar name (schemas_of old.tables) (host_names old) t before old [] old.definitions all d before found is) converts_so in
         evaluated_kept e u typed_so place.plain (λ s. (assigned_data name, assigning old name t s))
-        (λ s fits. renewed_after name (schemas_of old.tables) t s old [] old.definitions all d before found is (place.fits s fits))
+        (λ s fits. renewed_after name (schemas_of old.tables) (host_names old) t s old [] old.definitions all d before found is (place.fits s fits))
     by false other = all
 
   assigned_to_kept : (name : List ℕ) (e : Expr) (d : Definition) → definition_of name old.definitions ≡ Some d → (x : Defined) → d.defined ≡ x
@@ -410,7 +422,8 @@ module _ (old : State) (typed : Every IsTypedTable old.tables) (all : AreDefined
   performed_kept opened (statement.Insert name cells) = leaving_kept (inserted old name cells) (inserted_leaves old name cells)
   performed_kept opened (statement.Delete name row x) = leaving_kept (deleted old name row x) (deleted_leaves old name row x)
 
-  step_kept : (opened : Opened) (r : Reading Statement) → AreDefined (schemas_of (step_by old opened r).1.tables) (step_by old opened r).1.definitions
+  step_kept : (opened : Opened) (r : Reading Statement)
+      → AreDefined (schemas_of (step_by old opened r).1.tables) (host_names (step_by old opened r).1) (step_by old opened r).1.definitions
   step_kept opened Nothing = all
   step_kept opened (Says s) = if_kept (is_past_opening opened) (refused old (codes "too-deep")) (perform old opened s) all (performed_kept opened s)
   step_kept opened IsNoSyntax = all

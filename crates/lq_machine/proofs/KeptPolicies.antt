@@ -1,5 +1,5 @@
--- No line changes the policies or a table's schema.
-use Rattle.std.proofs.Common.{◌≡◌, ◌∷◌, ◌==◌, ◌^◌, if◌then◌else◌, List, [], ℕ, Bool, true, false, Option, Some, None, Result, Ok, Err, ap, codes, refl, slice_get, subst, sym}
+-- No line changes the policies, a table's schema or the host predicates.
+use Rattle.std.proofs.Common.{◌≡◌, ◌∷◌, ◌==◌, ◌^◌, if◌then◌else◌, List, [], ℕ, Bool, true, false, Option, Some, None, Result, Ok, Err, ap, codes, refl, slice_get, subst, sym, ◌∙◌}
 use Rattle.lq_value.specs.Tables.{Table, first_named}
 use Rattle.lq_value.specs.declared.scalar.Scalar.{Scalar}
 use Rattle.lq_value.specs.declared.table.Schema.{Schema}
@@ -17,10 +17,11 @@ use Rattle.lq_language.specs.Names.{table_number, with_local}
 use Rattle.lq_language.specs.OperandTypes.{is_bool_type, is_scalar}
 use Rattle.lq_language.specs.TableRows.{TableRow}
 use Rattle.lq_language.specs.Typing.{converts}
+use Rattle.lq_language.specs.Mentions.{uses_of}
 use Rattle.lq_language.specs.Uses.{expression_uses}
 use Rattle.lq_language.specs.declared.rights.Use.TheVariants as used
 use Rattle.lq_machine.specs.Definitions.{definition_of}
-use Rattle.lq_machine.specs.HostCalls.{HostCall}
+use Rattle.lq_host.specs.declared.call.Call.{Call}
 use Rattle.lq_machine.specs.Machine.{Reply, perform, step, step_by}
 use Rattle.lq_machine.specs.Opening.{is_past_opening, opening_of}
 use Rattle.lq_machine.specs.Served.{assigned_data, defined_data}
@@ -43,63 +44,63 @@ use Rattle.lq_security.specs.declared.policy.PolicyParts.{PolicyParts}
 use Rattle.lq_machine.proofs.KeptDefinitionLaws.{table_leaves}
 
 module _ (old : State) where
-  -- the state of an outcome has the policies and the schemas of the old one
+  -- the state of an outcome has the policies, the schemas and the predicates of the old one
   abbrev Keeps : Outcome → Type 0
-  Keeps x = (x.1.policies ≡ old.policies) × (schemas_of x.1.tables ≡ schemas_of old.tables)
+  Keeps x = (x.1.policies ≡ old.policies) × (schemas_of x.1.tables ≡ schemas_of old.tables) × (x.1.predicates ≡ old.predicates)
 
   if_keeps : (b : Bool) (x y : Outcome) → Keeps x → Keeps y → Keeps (if b then x else y)
   if_keeps true x y first second = first
   if_keeps false x y first second = second
 
   refused_keeps : (word : List ℕ) → Keeps (refused old word)
-  refused_keeps word = (refl, refl)
+  refused_keeps word = (refl, refl, refl)
 
   allowed_keeps : (o : Option Denied) (x : Outcome) → Keeps x → Keeps (allowed_by old o x)
   allowed_keeps None x keeps = keeps
-  allowed_keeps (Some denied) x keeps = (refl, refl)
+  allowed_keeps (Some denied) x keeps = (refl, refl, refl)
 
   -- ---- `var`, and assignments
 
   scalar_keeps : (next : Scalar → Outcome) → ((s : Scalar) → Keeps (next s)) → (layer : Value-F TableRow (Value TableRow)) → Keeps (with_scalar old next layer)
   scalar_keeps next keeps (Value-F.Scalar s) = keeps s
-  scalar_keeps next keeps layer = (refl, refl)
+  scalar_keeps next keeps layer = (refl, refl, refl)
 
   value_keeps : (next : Scalar → Outcome) → ((s : Scalar) → Keeps (next s)) → (m : Result (Value TableRow) Fault) → Keeps (with_value old next m)
   value_keeps next keeps (Ok v) = scalar_keeps next keeps (out-Value TableRow v)
-  value_keeps next keeps (Err f) = (refl, refl)
+  value_keeps next keeps (Err f) = (refl, refl, refl)
 
   evaluated_keeps : (e : Expr) (next : Scalar → Outcome) → ((s : Scalar) → Keeps (next s)) → Keeps (evaluated old e next)
   evaluated_keeps e next keeps =
-      allowed_keeps (denial old.policies old.role (expression_uses e (names_in old))) _ (value_keeps next keeps (expression_meaning (world_in old) e []))
+      allowed_keeps (denial old.policies old.role (uses_of (expression_uses e (names_in old)))) _ (value_keeps next keeps (expression_meaning (world_in old) e []))
 
   as_keeps : (name : List ℕ) (opened : Opened) (e : Expr) (t : Ty) (layer : Ty-F Ty) → Keeps (defined_as old name opened e t layer)
-  as_keeps name opened e t (Ty-F.Seq item) = (refl, refl)
+  as_keeps name opened e t (Ty-F.Seq item) = (refl, refl, refl)
   as_keeps name opened e t layer =
       if_keeps (is_scalar layer) (evaluated old e (λ s. (defined_data name, defining_also old name (of.Variable t s)))) (refused old (codes "type"))
-      (evaluated_keeps e (λ s. (defined_data name, defining_also old name (of.Variable t s))) (λ s. (refl, refl))) (refl, refl)
+      (evaluated_keeps e (λ s. (defined_data name, defining_also old name (of.Variable t s))) (λ s. (refl, refl, refl))) (refl, refl, refl)
 
   by_keeps : (name : List ℕ) (opened : Opened) (e : Expr) (o : Option Ty) → Keeps (defined_by old name opened e o)
-  by_keeps name opened e None = (refl, refl)
+  by_keeps name opened e None = (refl, refl, refl)
   by_keeps name opened e (Some t) = as_keeps name opened e t (out-Ty t)
 
   defined_keeps : (name : List ℕ) (opened : Opened) (e : Expr) → Keeps (defined old name opened e)
   unfolding defined
   defined_keeps name opened e =
-      if_keeps (is_taken old name) (refused old (codes "type")) (defined_by old name opened e (expression_type e (names_in old))) (refl, refl)
+      if_keeps (is_taken old name) (refused old (codes "type")) (defined_by old name opened e (expression_type e (names_in old))) (refl, refl, refl)
       (by_keeps name opened e (expression_type e (names_in old)))
 
   assigned_as_keeps : (name : List ℕ) (e : Expr) (t : Ty) (o : Option Ty) → Keeps (assigned_as old name e t o)
-  assigned_as_keeps name e t None = (refl, refl)
+  assigned_as_keeps name e t None = (refl, refl, refl)
   assigned_as_keeps name e t (Some u) =
       if_keeps (converts u t) (evaluated old e (λ s. (assigned_data name, assigning old name t s))) (refused old (codes "type"))
-      (evaluated_keeps e (λ s. (assigned_data name, assigning old name t s)) (λ s. (refl, refl))) (refl, refl)
+      (evaluated_keeps e (λ s. (assigned_data name, assigning old name t s)) (λ s. (refl, refl, refl))) (refl, refl, refl)
 
   assigned_to_keeps : (name : List ℕ) (e : Expr) (d : Defined) → Keeps (assigned_to old name e d)
   assigned_to_keeps name e (of.Variable t s) = assigned_as_keeps name e t (expression_type e (names_in old))
-  assigned_to_keeps name e (of.Query query opened) = (refl, refl)
+  assigned_to_keeps name e (of.Query query opened) = (refl, refl, refl)
 
   assigned_by_keeps : (name : List ℕ) (e : Expr) (o : Option Definition) → Keeps (assigned_by old name e o)
-  assigned_by_keeps name e None = (refl, refl)
+  assigned_by_keeps name e None = (refl, refl, refl)
   assigned_by_keeps name e (Some d) = assigned_to_keeps name e d.defined
 
   assigned_keeps : (name : List ℕ) (e : Expr) → Keeps (assigned old name e)
@@ -109,8 +110,8 @@ module _ (old : State) where
   -- ---- `as`
 
   under_keeps : (name : List ℕ) (o : Option ℕ) → Keeps (under_role old name o)
-  under_keeps name None = (refl, refl)
-  under_keeps name (Some role) = (refl, refl)
+  under_keeps name None = (refl, refl, refl)
+  under_keeps name (Some role) = (refl, refl, refl)
 
   taking_keeps : (name : List ℕ) → Keeps (taking_role old name)
   unfolding taking_role
@@ -120,11 +121,11 @@ module _ (old : State) where
 
   checked_keeps : (n : ℕ) (table : Table) → slice_get old.tables n ≡ Some table → (cells : List Scalar) (o : Option (List ℕ)) → Keeps (row_checked old n table cells o)
   checked_keeps n table at cells None =
-      if_keeps (table.next == 2 ^ 64) _ _ (refused_keeps (codes "full")) (refl, table_leaves old n table (with_row old table cells) at refl)
-  checked_keeps n table at cells (Some rule) = (refl, refl)
+      if_keeps (table.next == 2 ^ 64) _ _ (refused_keeps (codes "full")) (refl, table_leaves old n table (with_row old table cells) at refl, refl)
+  checked_keeps n table at cells (Some rule) = (refl, refl, refl)
 
   for_keeps : (cells : List Scalar) (n : ℕ) (o : Option Table) → slice_get old.tables n ≡ o → Keeps (row_for old cells n o)
-  for_keeps cells n None at = (refl, refl)
+  for_keeps cells n None at = (refl, refl, refl)
   for_keeps cells n (Some table) at =
       if_keeps (are_of_columns old table.schema.columns cells) _ _
       (allowed_keeps (denial old.policies old.role (used.Insert n ∷ [])) _
@@ -133,7 +134,7 @@ module _ (old : State) where
       (refused_keeps (codes "type"))
 
   for_named_keeps : (cells : List Scalar) (o : Option ℕ) → Keeps (row_for_named old cells o)
-  for_named_keeps cells None = (refl, refl)
+  for_named_keeps cells None = (refl, refl, refl)
   for_named_keeps cells (Some n) = for_keeps cells n (slice_get old.tables n) refl
 
   inserted_keeps : (name : List ℕ) (cells : List Scalar) → Keeps (inserted old name cells)
@@ -143,19 +144,19 @@ module _ (old : State) where
   -- ---- `delete`
 
   removed_keeps : (n : ℕ) (table : Table) → slice_get old.tables n ≡ Some table → (gone : List TableRow) (e : End) → Keeps (rows_removed old n table gone e)
-  removed_keeps n table at gone end.Done = (refl, table_leaves old n table (without old gone table) at refl)
-  removed_keeps n table at gone (end.Fault f) = (refl, refl)
+  removed_keeps n table at gone end.Done = (refl, table_leaves old n table (without old gone table) at refl, refl)
+  removed_keeps n table at gone (end.Fault f) = (refl, refl, refl)
 
   rows_keep : (x : List ℕ) (e : Expr) (n : ℕ) (o : Option Table) → slice_get old.tables n ≡ o → Keeps (rows_of old x e n o)
-  rows_keep x e n None at = (refl, refl)
+  rows_keep x e n None at = (refl, refl, refl)
   rows_keep x e n (Some table) at =
       if_keeps (is_bool_type (expression_type e (with_local (names_in old) x (ty.Row n)))) _ _
-      (allowed_keeps (denial old.policies old.role (used.Delete n ∷ expression_uses e (with_local (names_in old) x (ty.Row n)))) _
+      (allowed_keeps (denial old.policies old.role (used.Delete n ∷ uses_of (expression_uses e (with_local (names_in old) x (ty.Row n))))) _
       (removed_keeps n table at (removed_items old x e n table.rows).0 (removed_items old x e n table.rows).1))
       (refused_keeps (codes "type"))
 
   named_rows_keep : (x : List ℕ) (e : Expr) (o : Option ℕ) → Keeps (rows_of_named old x e o)
-  named_rows_keep x e None = (refl, refl)
+  named_rows_keep x e None = (refl, refl, refl)
   named_rows_keep x e (Some n) = rows_keep x e n (slice_get old.tables n) refl
 
   deleted_keeps : (name x : List ℕ) (e : Expr) → Keeps (deleted old name x e)
@@ -165,7 +166,7 @@ module _ (old : State) where
   -- ---- the machine
 
   performed_keeps : (opened : Opened) (s : Statement) → Keeps (perform old opened s)
-  performed_keeps opened (statement.Run x) = (refl, refl)
+  performed_keeps opened (statement.Run x) = (refl, refl, refl)
   performed_keeps opened (statement.Define name x) = defined_keeps name opened x
   performed_keeps opened (statement.Assign name x) = assigned_keeps name x
   performed_keeps opened (statement.As name) = taking_keeps name
@@ -174,10 +175,11 @@ module _ (old : State) where
 
   read_keeps : (opened : Opened) (r : Reading Statement)
       → ((step_by old opened r).1.policies ≡ old.policies) × (schemas_of (step_by old opened r).1.tables ≡ schemas_of old.tables)
-  read_keeps opened Nothing = (refl, refl)
-  read_keeps opened (Says s) = if_keeps (is_past_opening opened) (refused old (codes "too-deep")) (perform old opened s) (refl, refl) (performed_keeps opened s)
-  read_keeps opened IsNoSyntax = (refl, refl)
-  read_keeps opened IsTooDeep = (refl, refl)
+      × ((step_by old opened r).1.predicates ≡ old.predicates)
+  read_keeps opened Nothing = (refl, refl, refl)
+  read_keeps opened (Says s) = if_keeps (is_past_opening opened) (refused old (codes "too-deep")) (perform old opened s) (refl, refl, refl) (performed_keeps opened s)
+  read_keeps opened IsNoSyntax = (refl, refl, refl)
+  read_keeps opened IsTooDeep = (refl, refl, refl)
 
 pub keeps_policies : KeepsPolicies
 unfolding step
@@ -185,10 +187,12 @@ keeps_policies old line = read_keeps old (opening_of old.definitions line) (read
 
 -- ---- over a script
 
-stays_after : (old new : State) (line : List ℕ) (reply : Reply) (calls : List HostCall) → Answers old line reply calls new
+stays_after : (old new : State) (line : List ℕ) (reply : Reply) (calls : List Call) → Answers old line reply calls new
     → (new.policies ≡ old.policies) × (schemas_of new.tables ≡ schemas_of old.tables)
 stays_after old new line reply calls (as_machine steps allowed) =
-    subst (λ (s : State). (s.policies ≡ old.policies) × (schemas_of s.tables ≡ schemas_of old.tables)) (sym (ap (λ (p : Reply × State). p.1) steps)) (keeps_policies old line)
+    let same : new ≡ (step old line).1 = ap (λ (p : Reply × State). p.1) steps in
+    let keeps = keeps_policies old line in
+    (ap (λ (s : State). s.policies) same ∙ keeps.0, ap (λ (s : State). schemas_of s.tables) same ∙ keeps.1)
 stays_after old new line reply calls (no_memory some is stays allowed) =
     (ap (λ (s : State). s.policies) stays, ap (λ (s : State). schemas_of s.tables) stays)
 

@@ -1,5 +1,5 @@
 -- No reply to `run` depends on what is used where an expression has no meaning.
-use Rattle.std.proofs.Common.{◌≡◌, Bool, true, false, [], Option, Some, None, Result, Ok, Err, ap, ◌∙◌, sym, refl, ap₂, ◌++◌, ◌∷◌, List}
+use Rattle.std.proofs.Common.{◌≡◌, Bool, true, false, [], Option, Some, None, Result, Ok, Err, ap, ◌∙◌, sym, refl, ◌++◌, ◌∷◌, List}
 use Rattle.std.proofs.lemmas.Option.{none-some}
 use Rattle.lq_value.specs.declared.ty.Ty.{Ty, out-Ty}
 use Rattle.lq_value.specs.declared.ty.Ty.TheOpen.{Ty-F}
@@ -9,13 +9,12 @@ use Rattle.lq_value.specs.declared.value.Value.{Value, out-Value}
 use Rattle.lq_value.specs.declared.value.Value.TheVariants.{outs-Seq as outs-value-Seq}
 use Rattle.lq_language.specs.ClauseTyping.{expression_type}
 use Rattle.lq_machine.specs.Serving.{run_denial, run_reply, served, served_as, served_type, unless_denied}
-use Rattle.lq_machine.specs.States.{State, cells_of, schemas_of, seen_by_role, world_by, names_in}
-use Rattle.lq_language.specs.Worlds.{World, names_at}
+use Rattle.lq_machine.specs.States.{State, cells_of, host_names, schemas_of, seen_by_role, world_by, names_in}
+use Rattle.lq_language.specs.Worlds.{World, known_predicates, names_at}
 use Rattle.lq_language.specs.OperandMeaning.{items_of, stream_of}
 use Rattle.lq_language.specs.ValuesOfTypes.{Every, IsTypedTable, HoldsRows, assuming}
 use Rattle.lq_machine.specs.Served.{stream_data, value_data}
 use Rattle.lq_language.specs.Types.{has_place, if_placed, when}
-use Rattle.lq_language.specs.Names.{SessionName}
 use Rattle.lq_language.specs.TableRows.{TableRow}
 use Rattle.lq_language.specs.Meaning.{expression_meaning}
 use Rattle.lq_language.specs.MeaningLaws.{IsValueOf}
@@ -28,7 +27,6 @@ use Rattle.lq_machine.specs.DefinitionLaws.{AreDefined, ServesMeanings}
 use Rattle.lq_machine.specs.Definitions.{defining, outer_names, valued_as, with_session, world_after}
 use Rattle.lq_machine.specs.declared.session.Definition.{Definition}
 use Rattle.lq_machine.proofs.DefinitionLaws.{names_are_known, names_have_meanings, names_have_values}
-use Rattle.lq_value.specs.declared.table.Schema.{Schema}
 
 -- what has a type that isn't null's has that type
 pub placed : (o : Option Ty) (t : Ty) → if_placed o ≡ Some t → o ≡ Some t
@@ -38,9 +36,9 @@ placed (Some u) t h = by (has_place (out-Ty u)) h where
   by true g = g
   by false g = absurd (none-some t g)
 
-module _ (s : State) (typed : Every IsTypedTable s.tables) (all : AreDefined (schemas_of s.tables) s.definitions) (unknown : Fault) (e : Expr) where
+module _ (s : State) (typed : Every IsTypedTable s.tables) (all : AreDefined (schemas_of s.tables) (host_names s) s.definitions) (unknown : Fault) (e : Expr) where
   abbrev tables_alone : World TableRow
-  tables_alone = world_by fault.NullReference (schemas_of s.tables) (seen_by_role s)
+  tables_alone = world_by fault.NullReference (schemas_of s.tables) s.predicates (seen_by_role s)
 
   -- what is read, and the same with the other fault
   abbrev world : World TableRow
@@ -66,9 +64,16 @@ module _ (s : State) (typed : Every IsTypedTable s.tables) (all : AreDefined (sc
   unfolding defining
   schemas_same = schemas_after tables_alone s.definitions
 
+  predicates_after : (w : World TableRow) (ds : List Definition) → (world_after w ds).predicates ≡ w.predicates
+  predicates_after w [] = refl
+  predicates_after w (d ∷ ds) = predicates_after (with_session w (w.session ++ valued_as w d.name d.defined ∷ [])) ds
+
+  predicates_same : world.predicates ≡ s.predicates
+  unfolding defining
+  predicates_same = predicates_after tables_alone s.definitions
+
   names_same : names_at world [] ≡ names_in s
-  names_same =
-      ap₂ (λ (schemas : List Schema) (session : List SessionName). outer_names schemas session) schemas_same (names_are_known tables_alone s.definitions refl)
+  names_same = λ i. outer_names (schemas_same i) (known_predicates (predicates_same i)) (names_are_known tables_alone s.definitions refl i)
 
   -- the value of a typed expression, which is the same in both worlds
   abbrev pub Agrees : Ty → Type 0
@@ -100,12 +105,12 @@ module _ (s : State) (typed : Every IsTypedTable s.tables) (all : AreDefined (sc
   by_type None is = refl
   by_type (Some t) is = by_layer t (out-Ty t) refl (agrees t (placed (expression_type e (names_in s)) t is))
 
-  other_same : other ≡ defining (world_by unknown (schemas_of s.tables) (seen_by_role s)) s.definitions
+  other_same : other ≡ defining (world_by unknown (schemas_of s.tables) s.predicates (seen_by_role s)) s.definitions
   other_same = sym (names_have_meanings tables_alone s.definitions (holds_seen s typed fault.NullReference) refl all unknown)
 
 pub serves_meanings : ServesMeanings
 unfolding run_reply
 serves_meanings s typed all e unknown =
-    ap (unless_denied (schemas_of s.tables) (run_denial s.policies s.role (names_in s) e))
+    ap (unless_denied (schemas_of s.tables) (host_names s) (run_denial s.policies s.role (names_in s) e))
     (by_type s typed all unknown e (served_type (names_in s) e) refl
     ∙ ap (λ (w : World TableRow). served w (served_type (names_in s) e) (expression_meaning w e [])) (other_same s typed all unknown e))

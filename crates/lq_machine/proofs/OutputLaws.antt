@@ -1,13 +1,13 @@
 -- Lemmas on runs over lines, on replies joined, and on output that is cut short.
 use Rattle.std.proofs.Common.{◌≡◌, ◌+◌, ℕ, List, [], ◌∷◌, ◌++◌, refl, sym, ◌∙◌, ap, subst, append_assoc, append-nil, arith}
-use Rattle.lq_machine.specs.HostCalls.{HostCall}
+use Rattle.lq_host.specs.declared.call.Call.{Call}
 use Rattle.lq_machine.specs.Machine.{Reply}
 use Rattle.lq_machine.specs.States.{State}
 use Rattle.lq_machine.specs.Output.{Answers, Runs, bytes_of, joined, one_if_some, count_of_replies, IsCutOff}
 
 -- a step after a run is a run over one more line
 pub Runs-more : (old mid new : State) (lines : List (List ℕ)) (replies : List Reply) (line : List ℕ) (reply : Reply)
-    → (calls stretch : List HostCall) → Runs old lines replies calls mid → Answers mid line reply stretch new
+    → (calls stretch : List Call) → Runs old lines replies calls mid → Answers mid line reply stretch new
     → Runs old (lines ++ line ∷ []) (replies ++ reply ∷ []) (calls ++ stretch) new
 Runs-more old mid new [] [] line reply calls stretch run step =
     (new, stretch, [], ap (λ c. c ++ stretch) run.1 ∙ sym (append-nil stretch), subst (λ s. Answers s line reply stretch new) run.0 step, (refl, refl))

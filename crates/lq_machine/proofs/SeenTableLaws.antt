@@ -41,7 +41,7 @@ table_with tables n schema h = by (slice_get tables n) refl (sym (slice_get-map 
 
 module _ (s : State) (typed : Every IsTypedTable s.tables) (unknown : Fault) where
   abbrev seen_world : World TableRow
-  seen_world = world_by unknown (schemas_of s.tables) (seen_by_role s)
+  seen_world = world_by unknown (schemas_of s.tables) s.predicates (seen_by_role s)
 
   -- a row of a table has its cells, whether it is seen or not
   pub column_by : (n : ℕ) (table : Table) (row : Row) → slice_get (schemas_of s.tables) n ≡ Some table.schema → HaveTypes table.schema.columns row.cells → HasCells seen_world n (record { table = n; row = row })

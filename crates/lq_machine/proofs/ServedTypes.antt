@@ -15,7 +15,7 @@ use Rattle.lq_machine.specs.Served.{line_of}
 use Rattle.lq_machine.specs.ServedTypeLaws.{IsTypeServedBy}
 use Rattle.lq_machine.specs.ServedTypes.{line_type, statement_type, type_read, type_within}
 use Rattle.lq_machine.specs.Serving.{run_denial, run_reply, served, served_type, unless_denied}
-use Rattle.lq_machine.specs.States.{State, names_in, schemas_of, world_in}
+use Rattle.lq_machine.specs.States.{State, host_names, names_in, schemas_of, world_in}
 use Rattle.lq_machine.specs.Statements.{Outcome, refused}
 use Rattle.lq_machine.specs.declared.session.Opened.{Opened}
 use Rattle.lq_machine.proofs.StoredQueries.{within}
@@ -54,14 +54,14 @@ module _ (s : State) (t : Ty) (opened : Opened) where
     read_type = ap (λ (b : Bool). if b then None else statement_type s (statement.Run e)) inside ∙ typed
 
     read_reply : step_by s opened (Says (statement.Run e)) ≡ (
-      Some (line_of (unless_denied (schemas_of s.tables) (run_denial s.policies s.role (names_in s) e) (served (world_in s) (Some t) (expression_meaning (world_in s) e [])))),
+      Some (line_of (unless_denied (schemas_of s.tables) (host_names s) (run_denial s.policies s.role (names_in s) e) (served (world_in s) (Some t) (expression_meaning (world_in s) e [])))),
       s,
     )
     unfolding run_reply
     read_reply =
         ap (λ (b : Bool). let chosen : Outcome = if b then refused s (codes "too-deep") else perform s opened (statement.Run e) in replied chosen) inside
         ∙ ap (λ (o : Option Ty). let answer : Reply × State =
-        (Some (line_of (unless_denied (schemas_of s.tables) (run_denial s.policies s.role (names_in s) e) (served (world_in s) o (expression_meaning (world_in s) e [])))), s) in answer) typed
+        (Some (line_of (unless_denied (schemas_of s.tables) (host_names s) (run_denial s.policies s.role (names_in s) e) (served (world_in s) o (expression_meaning (world_in s) e [])))), s) in answer) typed
 
 pub type_served : IsTypeServedBy
 unfolding line_type step

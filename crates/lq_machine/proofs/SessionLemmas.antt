@@ -2,7 +2,7 @@
 use Rattle.std.proofs.Common.{◌≡◌, ◌≢◌, ◌∷◌, List, [], ℕ, Some, None, IsSome, ap, ◌∙◌, sym, refl, subst, if◌then◌else◌, Bool, true, false, Option, codes, ◌==◌, ◌^◌, eqb, length, slice_get, true≢false, Result, Ok, Err}
 use Rattle.serde_json.specs.Data.{Data}
 use Rattle.serde_json.proofs.OnLiterals.{serde_json_on_literals}
-use Rattle.lq_machine.specs.HostCalls.{HostCall}
+use Rattle.lq_host.specs.declared.call.Call.{Call}
 use Rattle.lq_machine.specs.Machine.{Reply, memory_line, perform, step, step_by}
 use Rattle.lq_machine.specs.Serving.{run_denial, run_in, run_reply, unless_denied}
 use Rattle.lq_machine.specs.States.{State, names_in, schemas_of, world_in}
@@ -29,7 +29,9 @@ use Rattle.lq_security.specs.Rights.{Denied, denial}
 use Rattle.lq_machine.specs.Statements.{Outcome, allowed_by, are_of_columns, are_within_ranges, assigned, assigned_as, assigned_by, assigned_to, removed_items, defined, defined_as, defined_by, deleted, evaluated, inserted, is_taken, refused as refusal, row_checked, row_for, row_for_named, rows_of, rows_of_named, rows_removed, taking_role, under_role, with_scalar, with_value, assigning, defining_also}
 use Rattle.lq_language.specs.Names.{table_number, with_local}
 use Rattle.lq_language.specs.OperandTypes.{is_bool_type, is_scalar}
+use Rattle.lq_language.specs.Mentions.{uses_of}
 use Rattle.lq_language.specs.Uses.{expression_uses}
+use Rattle.lq_language.specs.Worlds.{known_predicates}
 use Rattle.lq_language.specs.TableRows.{TableRow}
 use Rattle.lq_security.specs.Visible.{refuser_of}
 use Rattle.lq_language.specs.Meaning.{expression_meaning}
@@ -48,7 +50,8 @@ use Rattle.lq_value.specs.declared.ty.Ty.TheVariants as ty
 -- what is served reads the schemas, the tables as seen and the definitions, and nothing else of the state
 served_alike : (a b : State) → LooksSame a b → (e : Expr) → run_in a e ≡ run_in b e
 served_alike a b same e =
-    λ i. unless_denied (same.schemas i) (run_denial (same.policies i) (same.role i) (names_alike a b same i) e) (run_reply (names_alike a b same i) (world_alike a b same i) e)
+    λ i. unless_denied (same.schemas i) (known_predicates (same.predicates i)) (run_denial (same.policies i) (same.role i) (names_alike a b same i) e)
+    (run_reply (names_alike a b same i) (world_alike a b same i) e)
 
 run_alike : (a b : State) (same : LooksSame a b) (e : Expr) → Alike a b same (run_in a e, a) (run_in b e, b)
 run_alike a b same e = stays a b same _ _ (served_alike a b same e)
@@ -154,7 +157,7 @@ number_alike_behind a b same numbers line =
     (opening_alike a b same line) (reading_numbers a b same numbers (opening_of a.definitions line) (reading_of line))
 
 -- a reply that isn't the memory line is the machine's
-steps_alone : (old new : State) (line : List ℕ) (reply : Reply) (calls : List HostCall) → Answers old line reply calls new → reply ≢ Some memory_line → (reply, new) ≡ step old line
+steps_alone : (old new : State) (line : List ℕ) (reply : Reply) (calls : List Call) → Answers old line reply calls new → reply ≢ Some memory_line → (reply, new) ≡ step old line
 steps_alone old new line reply calls (as_machine steps allowed) other = steps
 steps_alone old new line reply calls (no_memory some is stays allowed) other = absurd (other is)
 
@@ -250,7 +253,7 @@ module _ (old : State) where
   value_keeps f keeps (Err fault) = λ h. refl
 
   evaluated_keeps : (e : Expr) (f : Scalar → Outcome) → ((s : Scalar) → Keeps old (f s)) → Keeps old (evaluated old e f)
-  evaluated_keeps e f keeps = allowed_keeps (denial old.policies old.role (expression_uses e (names_in old))) _ (value_keeps f keeps (expression_meaning (world_in old) e []))
+  evaluated_keeps e f keeps = allowed_keeps (denial old.policies old.role (uses_of (expression_uses e (names_in old)))) _ (value_keeps f keeps (expression_meaning (world_in old) e []))
 
   as_keeps : (name : List ℕ) (opened : Opened) (e : Expr) (t : Ty) (layer : Ty-F Ty) → Keeps old (defined_as old name opened e t layer)
   as_keeps name opened e t (Ty-F.Seq item) = λ h. absurd (no_e 100 refl _ (defined_third name) h)
@@ -318,7 +321,7 @@ module _ (old : State) where
   rows_keep x e n None = λ h. refl
   rows_keep x e n (Some table) =
       if_keeps (is_bool_type (expression_type e (with_local (names_in old) x (ty.Row n)))) _ _
-      (allowed_keeps (denial old.policies old.role (used.Delete n ∷ expression_uses e (with_local (names_in old) x (ty.Row n)))) _
+      (allowed_keeps (denial old.policies old.role (used.Delete n ∷ uses_of (expression_uses e (with_local (names_in old) x (ty.Row n))))) _
       (removed_keeps n table (removed_items old x e n table.rows).0 (removed_items old x e n table.rows).1))
       (refused_keeps (codes "type"))
 
@@ -345,7 +348,7 @@ module _ (old : State) where
   step_keeps opened IsNoSyntax h = refl
   step_keeps opened IsTooDeep h = refl
 
-stays_after_memory : (old new : State) (line : List ℕ) (calls : List HostCall) → Answers old line (Some memory_line) calls new → new ≡ old
+stays_after_memory : (old new : State) (line : List ℕ) (calls : List Call) → Answers old line (Some memory_line) calls new → new ≡ old
 unfolding step
 stays_after_memory old new line calls (as_machine steps allowed) =
     ap (λ (p : Reply × State). p.1) steps

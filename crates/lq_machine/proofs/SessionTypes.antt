@@ -14,6 +14,7 @@ use Rattle.lq_language.specs.Types.{is_within}
 use Rattle.lq_language.specs.Names.{SessionName, session_name}
 use Rattle.lq_language.specs.OperandTypes.{is_scalar}
 use Rattle.lq_language.specs.TypingLaws.{AreWithin}
+use Rattle.lq_language.specs.declared.host_name.HostName.{HostName}
 use Rattle.lq_machine.specs.declared.session.Defined.{Defined}
 use Rattle.lq_machine.specs.declared.session.Defined.TheVariants as of
 use Rattle.lq_machine.specs.declared.session.Definition.{Definition}
@@ -25,15 +26,15 @@ scalar_one (Ty-F.Seq t) h = absurd (true≢false (sym h))
 scalar_one (Ty-F.Group k t) h = absurd (true≢false (sym h))
 scalar_one layer h = refl
 
-module _ (schemas : List Schema) where
+module _ (schemas : List Schema) (predicates : List HostName) where
   abbrev NamesWithin : List SessionName → Type 0
-  NamesWithin names = AreWithin (outer_names schemas names)
+  NamesWithin names = AreWithin (outer_names schemas predicates names)
 
-  defined_within : (earlier : List SessionName) → NamesWithin earlier → (name : List ℕ) (defined : Defined) → IsDefined schemas earlier defined
-      → is_within (known_as schemas earlier name defined).ty ≡ true
+  defined_within : (earlier : List SessionName) → NamesWithin earlier → (name : List ℕ) (defined : Defined) → IsDefined schemas predicates earlier defined
+      → is_within (known_as schemas predicates earlier name defined).ty ≡ true
   defined_within earlier within name (of.Variable t s) is = within_one t (scalar_one (out-Ty t) is.0)
   defined_within earlier within name (of.Query e opened) is =
-      subst (λ (t : Ty). is_within t ≡ true) (sym (ap or_null is.1)) (limits_types (outer_names schemas earlier) within e (ty.Seq is.0) is.1)
+      subst (λ (t : Ty). is_within t ≡ true) (sym (ap or_null is.1)) (limits_types (outer_names schemas predicates earlier) within e (ty.Seq is.0) is.1)
 
   -- with one name more
   more_within : (k : SessionName) → is_within k.ty ≡ true → (x : List ℕ) (known : SessionName) (names : List SessionName)
@@ -49,13 +50,14 @@ module _ (schemas : List Schema) where
     by true every rest is = every known is
     by false every rest is = rest every is
 
-  names_within : (earlier : List SessionName) (ds : List Definition) → NamesWithin earlier → AreDefinedAfter schemas earlier ds → NamesWithin (known_after schemas earlier ds)
+  names_within : (earlier : List SessionName) (ds : List Definition) → NamesWithin earlier → AreDefinedAfter schemas predicates earlier ds
+      → NamesWithin (known_after schemas predicates earlier ds)
   names_within earlier [] within all = within
-  names_within earlier (d ∷ ds) within all = names_within (earlier ++ known_as schemas earlier d.name d.defined ∷ []) ds more all.1 where
-    more : NamesWithin (earlier ++ known_as schemas earlier d.name d.defined ∷ [])
+  names_within earlier (d ∷ ds) within all = names_within (earlier ++ known_as schemas predicates earlier d.name d.defined ∷ []) ds more all.1 where
+    more : NamesWithin (earlier ++ known_as schemas predicates earlier d.name d.defined ∷ [])
     more = record {
       locals = λ x t h. absurd (none-some t h);
-      session = λ x known h. more_within (known_as schemas earlier d.name d.defined) (defined_within earlier within d.name d.defined all.0) x known earlier (within.session x) h;
+      session = λ x known h. more_within (known_as schemas predicates earlier d.name d.defined) (defined_within earlier within d.name d.defined all.0) x known earlier (within.session x) h;
     }
 
   no_names : NamesWithin []
@@ -63,10 +65,12 @@ module _ (schemas : List Schema) where
 
 pub limits_names : LimitsNames
 unfolding known_names
-limits_names schemas definitions all = names_within schemas [] definitions (no_names schemas) all
+limits_names schemas predicates definitions all = names_within schemas predicates [] definitions (no_names schemas predicates) all
 
 pub limits_statements : LimitsStatements
-limits_statements schemas definitions all e t = limits_types (outer_names schemas (known_names schemas definitions)) (limits_names schemas definitions all) e t
+limits_statements schemas predicates definitions all e t =
+    limits_types (outer_names schemas predicates (known_names schemas predicates definitions)) (limits_names schemas predicates definitions all) e t
 
 pub limits_queries : LimitsQueries
-limits_queries schemas definitions all q t = limits_items (outer_names schemas (known_names schemas definitions)) (limits_names schemas definitions all) q t
+limits_queries schemas predicates definitions all q t =
+    limits_items (outer_names schemas predicates (known_names schemas predicates definitions)) (limits_names schemas predicates definitions all) q t

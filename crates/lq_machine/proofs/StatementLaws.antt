@@ -17,9 +17,10 @@ use Rattle.lq_machine.specs.Definitions.{definition_of}
 use Rattle.lq_security.specs.Rights.{Denied, denial}
 use Rattle.lq_machine.specs.Served.{assigned_data, defined_data, deleted_data, denied_data, inserted_data, role_data}
 use Rattle.lq_machine.specs.Statements.{Outcome, allowed_by, are_of_columns, are_within_ranges, assigned, assigned_as, assigned_by, assigned_to, assigning, removed_items, defined, defined_as, defined_by, defining_also, deleted, evaluated, faulted, inserted, is_taken, refused, row_checked, row_for, row_for_named, row_within, rows_of, rows_of_named, rows_removed, taking_role, under_role, with_row, with_scalar, with_table, with_value, without}
-use Rattle.lq_machine.specs.States.{State, names_in, schemas_of, world_in}
+use Rattle.lq_machine.specs.States.{State, host_names, names_in, schemas_of, world_in}
 use Rattle.lq_language.specs.Names.{Names, table_number, with_local}
 use Rattle.lq_language.specs.OperandTypes.{is_bool_type, is_scalar, item_of}
+use Rattle.lq_language.specs.Mentions.{uses_of}
 use Rattle.lq_language.specs.Uses.{expression_uses}
 use Rattle.lq_language.specs.TableRows.{TableRow}
 use Rattle.lq_security.specs.Visible.{refuser_of}
@@ -42,27 +43,27 @@ second_of b x y is = ap (λ (c : Bool). if c then x else y) is
 module _ (old : State) where
   -- what is denied leaves the state
   abbrev pub denied : Denied → Outcome
-  denied d = (denied_data (schemas_of old.tables) d.rule d.used, old)
+  denied d = (denied_data (schemas_of old.tables) (host_names old) d.rule d.used, old)
 
   -- ---- an expression that is evaluated
 
   module _ (e : Expr) (next : Scalar → Outcome) where
     abbrev denial_of : Option Denied
-    denial_of = denial old.policies old.role (expression_uses e (names_in old))
+    denial_of = denial old.policies old.role (uses_of (expression_uses e (names_in old)))
 
-    pub evaluated_denied : (d : Denied) → denial old.policies old.role (expression_uses e (names_in old)) ≡ Some d → evaluated old e next ≡ denied d
+    pub evaluated_denied : (d : Denied) → denial old.policies old.role (uses_of (expression_uses e (names_in old))) ≡ Some d → evaluated old e next ≡ denied d
     evaluated_denied d is = ap (λ (o : Option Denied). allowed_by old o (with_value old next (expression_meaning (world_in old) e []))) is
 
-    evaluated_as : (m : Result (Value TableRow) Fault) → denial old.policies old.role (expression_uses e (names_in old)) ≡ None → expression_meaning (world_in old) e [] ≡ m
+    evaluated_as : (m : Result (Value TableRow) Fault) → denial old.policies old.role (uses_of (expression_uses e (names_in old))) ≡ None → expression_meaning (world_in old) e [] ≡ m
         → evaluated old e next ≡ with_value old next m
     evaluated_as m allowed is =
         ap (λ (o : Option Denied). allowed_by old o (with_value old next (expression_meaning (world_in old) e []))) allowed ∙ ap (with_value old next) is
 
-    pub evaluated_fault : (f : Fault) → denial old.policies old.role (expression_uses e (names_in old)) ≡ None → expression_meaning (world_in old) e [] ≡ Err f
+    pub evaluated_fault : (f : Fault) → denial old.policies old.role (uses_of (expression_uses e (names_in old))) ≡ None → expression_meaning (world_in old) e [] ≡ Err f
         → evaluated old e next ≡ faulted old f
     evaluated_fault f allowed is = evaluated_as (Err f) allowed is
 
-    pub evaluated_scalar : (s : Scalar) → denial old.policies old.role (expression_uses e (names_in old)) ≡ None
+    pub evaluated_scalar : (s : Scalar) → denial old.policies old.role (uses_of (expression_uses e (names_in old))) ≡ None
         → expression_meaning (world_in old) e [] ≡ Ok (value.Scalar s) → evaluated old e next ≡ next s
     evaluated_scalar s allowed is =
         evaluated_as (Ok (value.Scalar s)) allowed is ∙ ap (λ (layer : Value-F TableRow (Value TableRow)). with_scalar old next layer) (outs-Scalar s)
@@ -105,15 +106,15 @@ module _ (old : State) where
         pub evaluates : defined old name opened e ≡ evaluated old e (λ s. (defined_data name, defining_also old name (of.Variable t s)))
         evaluates = typed_as (Some t) free is ∙ scalar_layer (out-Ty t) scalar
 
-        pub defined_denied : (d : Denied) → denial old.policies old.role (expression_uses e (names_in old)) ≡ Some d → defined old name opened e ≡ denied d
+        pub defined_denied : (d : Denied) → denial old.policies old.role (uses_of (expression_uses e (names_in old))) ≡ Some d → defined old name opened e ≡ denied d
         defined_denied d denies = evaluates ∙ evaluated_denied e _ d denies
 
-        pub defined_fault : (f : Fault) → denial old.policies old.role (expression_uses e (names_in old)) ≡ None → expression_meaning (world_in old) e [] ≡ Err f
+        pub defined_fault : (f : Fault) → denial old.policies old.role (uses_of (expression_uses e (names_in old))) ≡ None → expression_meaning (world_in old) e [] ≡ Err f
             → defined old name opened e ≡ faulted old f
         defined_fault f allowed means = evaluates ∙ evaluated_fault e _ f allowed means
 
         -- a scalar is stored as its value
-        pub defined_scalar : (s : Scalar) → denial old.policies old.role (expression_uses e (names_in old)) ≡ None
+        pub defined_scalar : (s : Scalar) → denial old.policies old.role (uses_of (expression_uses e (names_in old))) ≡ None
             → expression_meaning (world_in old) e [] ≡ Ok (value.Scalar s) → defined old name opened e ≡ (defined_data name, defining_also old name (of.Variable t s))
         defined_scalar s allowed means = evaluates ∙ evaluated_scalar e _ s allowed means
 
@@ -147,14 +148,14 @@ module _ (old : State) where
             pub assigns : assigned old name e ≡ evaluated old e (λ s. (assigned_data name, assigning old name t s))
             assigns = assigned_typed (Some u) is ∙ first_of (converts u t) _ _ place
 
-            pub assigned_denied : (by : Denied) → denial old.policies old.role (expression_uses e (names_in old)) ≡ Some by → assigned old name e ≡ denied by
+            pub assigned_denied : (by : Denied) → denial old.policies old.role (uses_of (expression_uses e (names_in old))) ≡ Some by → assigned old name e ≡ denied by
             assigned_denied by denies = assigns ∙ evaluated_denied e _ by denies
 
-            pub assigned_fault : (f : Fault) → denial old.policies old.role (expression_uses e (names_in old)) ≡ None → expression_meaning (world_in old) e [] ≡ Err f
+            pub assigned_fault : (f : Fault) → denial old.policies old.role (uses_of (expression_uses e (names_in old))) ≡ None → expression_meaning (world_in old) e [] ≡ Err f
                 → assigned old name e ≡ faulted old f
             assigned_fault f allowed means = assigns ∙ evaluated_fault e _ f allowed means
 
-            pub assigned_scalar : (s : Scalar) → denial old.policies old.role (expression_uses e (names_in old)) ≡ None
+            pub assigned_scalar : (s : Scalar) → denial old.policies old.role (uses_of (expression_uses e (names_in old))) ≡ None
                 → expression_meaning (world_in old) e [] ≡ Ok (value.Scalar s) → assigned old name e ≡ (assigned_data name, assigning old name t s)
             assigned_scalar s allowed means = assigns ∙ evaluated_scalar e _ s allowed means
 
@@ -205,7 +206,7 @@ module _ (old : State) where
 
             -- a rule that refuses the row denies it
             pub inserted_refused : (rule : List ℕ) → refuser_of old.policies old.role n cells ≡ Some rule
-                → inserted old name cells ≡ (denied_data (schemas_of old.tables) rule (used.Insert n), old)
+                → inserted old name cells ≡ (denied_data (schemas_of old.tables) (host_names old) rule (used.Insert n), old)
             inserted_refused rule is = inserted_checked (Some rule) is
 
             pub inserted_full : refuser_of old.policies old.role n cells ≡ None → (table.next == 2 ^ 64) ≡ true → inserted old name cells ≡ refused old (codes "full")
@@ -238,18 +239,18 @@ module _ (old : State) where
         abbrev rows_by : Option Denied → Outcome
         rows_by o = allowed_by old o (rows_removed old n table (removed_items old x e n table.rows).0 (removed_items old x e n table.rows).1)
 
-        deleted_by : (o : Option Denied) → denial old.policies old.role (used.Delete n ∷ expression_uses e names_at_row) ≡ o → deleted old name x e ≡ rows_by o
+        deleted_by : (o : Option Denied) → denial old.policies old.role (used.Delete n ∷ uses_of (expression_uses e names_at_row)) ≡ o → deleted old name x e ≡ rows_by o
         deleted_by o is = deleted_of ∙ first_of (is_bool_type (expression_type e names_at_row)) _ _ is_condition ∙ ap rows_by is
 
-        pub deleted_denied : (d : Denied) → denial old.policies old.role (used.Delete n ∷ expression_uses e names_at_row) ≡ Some d → deleted old name x e ≡ denied d
+        pub deleted_denied : (d : Denied) → denial old.policies old.role (used.Delete n ∷ uses_of (expression_uses e names_at_row)) ≡ Some d → deleted old name x e ≡ denied d
         deleted_denied d denies = deleted_by (Some d) denies
 
         -- a fault removes nothing
-        pub deleted_fault : (f : Fault) → denial old.policies old.role (used.Delete n ∷ expression_uses e names_at_row) ≡ None
+        pub deleted_fault : (f : Fault) → denial old.policies old.role (used.Delete n ∷ uses_of (expression_uses e names_at_row)) ≡ None
             → (removed_items old x e n table.rows).1 ≡ end.Fault f → deleted old name x e ≡ faulted old f
         deleted_fault f allowed is = deleted_by None allowed ∙ ap (rows_removed old n table (removed_items old x e n table.rows).0) is
 
-        pub deleted_rows : (gone : List TableRow) → denial old.policies old.role (used.Delete n ∷ expression_uses e names_at_row) ≡ None
+        pub deleted_rows : (gone : List TableRow) → denial old.policies old.role (used.Delete n ∷ uses_of (expression_uses e names_at_row)) ≡ None
             → removed_items old x e n table.rows ≡ (gone, end.Done) → deleted old name x e ≡ (deleted_data (length gone), with_table old n (without old gone table))
         deleted_rows gone allowed is = deleted_by None allowed ∙ ap (λ (s : List TableRow × _). rows_removed old n table s.0 s.1) is
 

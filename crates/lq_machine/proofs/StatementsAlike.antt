@@ -18,7 +18,7 @@ use Rattle.lq_value.specs.declared.value.Value.TheOpen.{Value-F}
 use Rattle.lq_value.specs.declared.value.Value.TheVariants as value
 use Rattle.lq_language.specs.ClauseTyping.{expression_type}
 use Rattle.lq_machine.specs.Definitions.{defining, definition_of, known_names, outer_names}
-use Rattle.lq_language.specs.Worlds.{World, bound}
+use Rattle.lq_language.specs.Worlds.{World, bound, known_predicates}
 use Rattle.lq_language.specs.ClauseMeaning.{condition_at}
 use Rattle.lq_security.specs.Rights.{Denied, denial}
 use Rattle.lq_machine.specs.Served.{denied_data, assigned_data, defined_data}
@@ -28,6 +28,7 @@ use Rattle.lq_machine.specs.States.{State, names_in, schemas_of, world_in, world
 use Rattle.lq_language.specs.Stream.{Stream, where_by}
 use Rattle.lq_language.specs.Names.{Names, table_number, with_local}
 use Rattle.lq_language.specs.OperandTypes.{is_bool_type, is_scalar}
+use Rattle.lq_language.specs.Mentions.{uses_of}
 use Rattle.lq_language.specs.Uses.{expression_uses}
 use Rattle.lq_language.specs.TableRows.{TableRow}
 use Rattle.lq_security.specs.Visible.{refuser_of, seen_rows, visible_to}
@@ -52,10 +53,11 @@ module _ (a b : State) (same : LooksSame a b) where
     pub numbers : NumberAlike a b → NumberAlike x.1 y.1
 
   pub names_alike : names_in a ≡ names_in b
-  names_alike = λ i. outer_names (same.schemas i) (known_names (same.schemas i) (same.definitions i))
+  names_alike =
+      λ i. outer_names (same.schemas i) (known_predicates (same.predicates i)) (known_names (same.schemas i) (known_predicates (same.predicates i)) (same.definitions i))
 
   pub world_alike : world_in a ≡ world_in b
-  world_alike = λ i. defining (world_of (same.schemas i) (same.seen i)) (same.definitions i)
+  world_alike = λ i. defining (world_of (same.schemas i) (same.predicates i) (same.seen i)) (same.definitions i)
 
   -- ---- what every statement is made of
 
@@ -73,7 +75,7 @@ module _ (a b : State) (same : LooksSame a b) where
 
   allowed_alike : (o : Option Denied) (x y : Outcome) → Alike x y → Alike (allowed_by a o x) (allowed_by b o y)
   allowed_alike None x y h = h
-  allowed_alike (Some denied) x y h = stays _ _ (ap (λ (schemas : List Schema). denied_data schemas denied.rule denied.used) same.schemas)
+  allowed_alike (Some denied) x y h = stays _ _ (λ i. denied_data (same.schemas i) (known_predicates (same.predicates i)) denied.rule denied.used)
 
   if_allowed_alike : (us vs : List Use) (x y : Outcome) → us ≡ vs → Alike x y → Alike (if_allowed a us x) (if_allowed b vs y)
   if_allowed_alike us vs x y is h =
@@ -91,7 +93,7 @@ module _ (a b : State) (same : LooksSame a b) where
 
   evaluated_alike : (e : Expr) (f g : Scalar → Outcome) → ((s : Scalar) → Alike (f s) (g s)) → Alike (evaluated a e f) (evaluated b e g)
   evaluated_alike e f g h =
-      if_allowed_alike _ _ _ _ (ap (expression_uses e) names_alike)
+      if_allowed_alike _ _ _ _ (ap (λ (names : Names). uses_of (expression_uses e names)) names_alike)
       (subst (λ (m : Result (Value TableRow) Fault). Alike (with_value a f (expression_meaning (world_in a) e [])) (with_value b g m))
       (ap (λ (w : World TableRow). expression_meaning w e []) world_alike) (value_alike f g h (expression_meaning (world_in a) e [])))
 
@@ -101,6 +103,7 @@ module _ (a b : State) (same : LooksSame a b) where
   defining_alike name d = record {
     role = same.role;
     policies = same.policies;
+    predicates = same.predicates;
     definitions = ap (λ (ds : List Definition). ds ++ (record { name = name; defined = d }) ∷ []) same.definitions;
     schemas = same.schemas;
     seen = same.seen;
@@ -129,6 +132,7 @@ module _ (a b : State) (same : LooksSame a b) where
   assigning_alike name t s = record {
     role = same.role;
     policies = same.policies;
+    predicates = same.predicates;
     definitions = ap (map (renewed a name t s)) same.definitions;
     schemas = same.schemas;
     seen = same.seen;
@@ -206,6 +210,7 @@ module _ (a b : State) (same : LooksSame a b) where
   table_alike n s t schema rows = record {
     role = same.role;
     policies = same.policies;
+    predicates = same.predicates;
     definitions = same.definitions;
     schemas =
         map_set (λ (u : Table). u.schema) a.tables n s ∙ ap₂ (λ (schemas : List Schema) (x : Schema). set schemas n x) same.schemas schema
@@ -242,7 +247,7 @@ module _ (a b : State) (same : LooksSame a b) where
 
     checked_alike : NumberAlike a b → (cells : List Scalar) (o : Option (List ℕ)) → Alike (row_checked a n s cells o) (row_checked b n t cells o)
     checked_alike numbers cells None = put_alike numbers cells
-    checked_alike numbers cells (Some rule) = stays _ _ (ap (λ (schemas : List Schema). denied_data schemas rule (used.Insert n)) same.schemas)
+    checked_alike numbers cells (Some rule) = stays _ _ (λ i. denied_data (same.schemas i) (known_predicates (same.predicates i)) rule (used.Insert n))
 
     within_alike : NumberAlike a b → (cells : List Scalar) → Alike (row_within a n s cells) (row_within b n t cells)
     within_alike numbers cells =
@@ -290,7 +295,7 @@ module _ (a b : State) (same : LooksSame a b) where
     rows_of_alike x e =
         if_alike (is_bool_type (expression_type e (with_local (names_in a) x (ty.Row n)))) (is_bool_type (expression_type e (with_local (names_in b) x (ty.Row n)))) _ _ _ _
         (ap (λ (names : Names). is_bool_type (expression_type e (with_local names x (ty.Row n)))) names_alike)
-        (if_allowed_alike _ _ _ _ (ap (λ (names : Names). used.Delete n ∷ expression_uses e (with_local names x (ty.Row n))) names_alike)
+        (if_allowed_alike _ _ _ _ (ap (λ (names : Names). used.Delete n ∷ uses_of (expression_uses e (with_local names x (ty.Row n)))) names_alike)
         (gone_alike _ _ (chosen_alike x e)))
         (refused_alike (codes "type"))
 

@@ -1,21 +1,22 @@
 -- «Output»: the replies to the lines of a script, stepped in order.
 use Rattle.std.specs.Prelude.{◌≡◌, ◌+◌, ◌∷◌, ◌++◌, List, [], ℕ, Some, None, IsSome}
-use Rattle.lq_machine.specs.HostCalls.{HostCall, MayCall}
+use Rattle.lq_host.specs.declared.call.Call.{Call}
+use Rattle.lq_machine.specs.HostCalls.{MayCall}
 use Rattle.lq_machine.specs.Machine.{Reply, step, memory_line}
 use Rattle.lq_machine.specs.States.{State}
 
 -- The session does a step of the machine, or it answers the memory line in place of a reply and stays as it was. Either way it
 -- adds to the log only calls that the line allows.
-pub data Answers (old : State) (line : List ℕ) (reply : Reply) (calls : List HostCall) (new : State) : Type 0 where
+pub data Answers (old : State) (line : List ℕ) (reply : Reply) (calls : List Call) (new : State) : Type 0 where
   as_machine : (reply, new) ≡ step old line → MayCall old line calls → Answers old line reply calls new
   no_memory : IsSome (step old line).0 → reply ≡ Some memory_line → new ≡ old → MayCall old line calls → Answers old line reply calls new
 
 -- These replies, one for each line, may be given to the lines in turn, while the log grows by these calls: with each reply by
 -- the stretch that its line added.
-abbrev pub Runs : State → List (List ℕ) → List Reply → List HostCall → State → Type 0
+abbrev pub Runs : State → List (List ℕ) → List Reply → List Call → State → Type 0
 Runs old [] [] calls new = (new ≡ old) × (calls ≡ [])
 Runs old (line ∷ lines) (reply ∷ replies) calls new =
-    (mid : State) × (stretch : List HostCall) × (later : List HostCall) × (calls ≡ stretch ++ later) × Answers old line reply stretch mid × Runs mid lines replies later new
+    (mid : State) × (stretch : List Call) × (later : List Call) × (calls ≡ stretch ++ later) × Answers old line reply stretch mid × Runs mid lines replies later new
 Runs old [] (reply ∷ replies) calls new = ⊥
 Runs old (line ∷ lines) [] calls new = ⊥
 

@@ -18,6 +18,7 @@ use Rattle.lq_value.specs.declared.value.Value.{Value, fold-Value, out-Value}
 use Rattle.lq_value.specs.declared.value.Value.TheOpen.{Value-F}
 use Rattle.lq_language.specs.Operations.{on_ok}
 use Rattle.lq_language.specs.Stream.{Stream, select_each}
+use Rattle.lq_language.specs.declared.host_name.HostName.{HostName}
 use Rattle.lq_language.specs.declared.rights.Use.{Use}
 use Rattle.lq_language.specs.declared.rights.Use.TheVariants as of
 
@@ -176,18 +177,24 @@ abbrev pub name_at : Option (List ℕ) → List ℕ
 name_at None = []
 name_at (Some name) = name
 
--- a use as it is named: `T`, `T.c`, `T insert`, `T delete`
-abbrev pub use_name : List Schema → Use → List ℕ
-use_name schemas (of.Table t) = name_of_table (slice_get schemas t)
-use_name schemas (of.Column t c) =
+abbrev pub name_of_predicate : Option HostName → List ℕ
+name_of_predicate None = []
+name_of_predicate (Some predicate) = predicate.name
+
+-- a use as it is named: `T`, `T.c`, `T insert`, `T delete`, `Host.p`
+abbrev pub use_name : List Schema → List HostName → Use → List ℕ
+use_name schemas predicates (of.Table t) = name_of_table (slice_get schemas t)
+use_name schemas predicates (of.Column t c) =
     let table = slice_get schemas t in
     name_of_table table ++ (codes "." ++ name_at (slice_get (columns_in table) c))
-use_name schemas (of.Insert t) = name_of_table (slice_get schemas t) ++ codes " insert"
-use_name schemas (of.Delete t) = name_of_table (slice_get schemas t) ++ codes " delete"
+use_name schemas predicates (of.Insert t) = name_of_table (slice_get schemas t) ++ codes " insert"
+use_name schemas predicates (of.Delete t) = name_of_table (slice_get schemas t) ++ codes " delete"
+use_name schemas predicates (of.Host p) = codes "Host." ++ name_of_predicate (slice_get predicates p)
 
 -- a denial's reply: the rule that denies, and the use that it denies
-abbrev pub denied_data : List Schema → List ℕ → Use → Data
-denied_data schemas rule used = object (put (codes "denied") (string rule) (put (codes "use") (string (use_name schemas used)) no_members))
+abbrev pub denied_data : List Schema → List HostName → List ℕ → Use → Data
+denied_data schemas predicates rule used =
+    object (put (codes "denied") (string rule) (put (codes "use") (string (use_name schemas predicates used)) no_members))
 
 -- ---- other statements
 

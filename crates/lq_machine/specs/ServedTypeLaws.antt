@@ -10,7 +10,7 @@ use Rattle.lq_machine.specs.OpeningLaws.{IsWithinLimits}
 use Rattle.lq_machine.specs.Served.{line_of}
 use Rattle.lq_machine.specs.ServedTypes.{line_type}
 use Rattle.lq_machine.specs.Serving.{run_denial, served, served_type, unless_denied}
-use Rattle.lq_machine.specs.States.{State, names_in, schemas_of, world_in}
+use Rattle.lq_machine.specs.States.{State, host_names, names_in, schemas_of, world_in}
 
 -- The machine serves what the line says by this type: it says `run` of an expression that has the type, and opens no more than the limits
 -- allow. The reply is the expression's meaning as a value of the type, or names the first use that is denied; and the state stays.
@@ -20,7 +20,7 @@ pub record IsServedBy (s : State) (line : List ℕ) (t : Ty) : Type 0 where
   pub typed : served_type (names_in s) expression ≡ Some t
   pub within : IsWithinLimits s.definitions line
   pub reply : step s line ≡ (
-    Some (line_of (unless_denied (schemas_of s.tables) (run_denial s.policies s.role (names_in s) expression)
+    Some (line_of (unless_denied (schemas_of s.tables) (host_names s) (run_denial s.policies s.role (names_in s) expression)
         (served (world_in s) (Some t) (expression_meaning (world_in s) expression [])))),
     s,
   )

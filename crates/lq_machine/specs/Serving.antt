@@ -11,13 +11,15 @@ use Rattle.lq_language.specs.Worlds.{World}
 use Rattle.lq_language.specs.OperandMeaning.{stream_of}
 use Rattle.lq_security.specs.Rights.{Denied, denial}
 use Rattle.lq_machine.specs.Served.{denied_data, error_data, stream_data, value_data}
-use Rattle.lq_machine.specs.States.{State, cells_of, names_in, schemas_of, world_in}
+use Rattle.lq_machine.specs.States.{State, cells_of, host_names, names_in, schemas_of, world_in}
 use Rattle.lq_language.specs.Types.{if_placed}
 use Rattle.lq_language.specs.Names.{Names}
+use Rattle.lq_language.specs.Mentions.{uses_of}
 use Rattle.lq_language.specs.Uses.{expression_uses, shown_columns}
 use Rattle.lq_language.specs.TableRows.{TableRow}
 use Rattle.lq_language.specs.Meaning.{expression_meaning}
 use Rattle.lq_security.specs.declared.policy.PolicyParts.{PolicyParts}
+use Rattle.lq_language.specs.declared.host_name.HostName.{HostName}
 use Rattle.lq_language.specs.declared.rights.Use.{Use}
 use Rattle.lq_grammar.specs.declared.syntax.Expr.{Expr}
 
@@ -41,17 +43,18 @@ run_reply names world e = served world (served_type names e) (expression_meaning
 
 -- what a statement uses that serves an expression of this type: what its text names, and then each column that its reply may show
 abbrev pub used_by : Names → Expr → Ty → List Use
-used_by names e t = expression_uses e names ++ shown_columns names.tables t
+used_by names e t = uses_of (expression_uses e names) ++ shown_columns names.tables t
 
 -- the first of these uses to which a role has no right; what has no type is refused before
 unfoldable pub run_denial : PolicyParts → ℕ → Names → Expr → Option Denied
 run_denial parts role names e = option_and_then (λ t. denial parts role (used_by names e t)) (served_type names e)
 
 -- what is denied isn't run
-abbrev pub unless_denied : List Schema → Option Denied → Data → Data
-unless_denied schemas None reply = reply
-unless_denied schemas (Some denied) reply = denied_data schemas denied.rule denied.used
+abbrev pub unless_denied : List Schema → List HostName → Option Denied → Data → Data
+unless_denied schemas predicates None reply = reply
+unless_denied schemas predicates (Some denied) reply = denied_data schemas predicates denied.rule denied.used
 
 -- the reply of `run` in a state
 abbrev pub run_in : State → Expr → Data
-run_in s e = unless_denied (schemas_of s.tables) (run_denial s.policies s.role (names_in s) e) (run_reply (names_in s) (world_in s) e)
+run_in s e =
+    unless_denied (schemas_of s.tables) (host_names s) (run_denial s.policies s.role (names_in s) e) (run_reply (names_in s) (world_in s) e)

@@ -1,6 +1,6 @@
 -- Laws of the session machine and of its output.
 use Rattle.std.specs.Prelude.{◌≡◌, ◌≢◌, ◌↔◌, ◌∷◌, List, [], ℕ, map, Some, None, codes}
-use Rattle.lq_machine.specs.HostCalls.{HostCall}
+use Rattle.lq_host.specs.declared.call.Call.{Call}
 use Rattle.lq_machine.specs.Machine.{Reply, memory_line, step}
 use Rattle.lq_machine.specs.States.{State, schemas_of, seen_by_role}
 use Rattle.lq_machine.specs.Output.{Answers, Runs, stepped}
@@ -17,6 +17,7 @@ use Rattle.lq_grammar.specs.declared.syntax.Statement.TheVariants as statement
 pub record LooksSame (a b : State) : Type 0 where
   pub role : a.role ≡ b.role
   pub policies : a.policies ≡ b.policies
+  pub predicates : a.predicates ≡ b.predicates
   pub definitions : a.definitions ≡ b.definitions
   pub schemas : schemas_of a.tables ≡ schemas_of b.tables
   pub seen : seen_by_role a ≡ seen_by_role b
@@ -48,14 +49,16 @@ NumberAlikeBehind = (a b : State) → LooksSame a b → NumberAlike a b → (lin
 
 -- ---- what no line changes
 
--- whatever a line says, the policies and the schemas of the tables stay
+-- whatever a line says, the policies, the schemas of the tables and the host predicates stay
 abbrev pub KeepsPolicies : Type 0
-KeepsPolicies = (old : State) (line : List ℕ) → ((step old line).1.policies ≡ old.policies) × (schemas_of (step old line).1.tables ≡ schemas_of old.tables)
+KeepsPolicies =
+    (old : State) (line : List ℕ) → ((step old line).1.policies ≡ old.policies) × (schemas_of (step old line).1.tables ≡ schemas_of old.tables)
+    × ((step old line).1.predicates ≡ old.predicates)
 
 -- so policies that were read for the tables are so behind any lines, whatever was answered
 abbrev pub StayReadForTables : Type 0
 StayReadForTables =
-    (old new : State) (lines : List (List ℕ)) (replies : List Reply) (calls : List HostCall) → Runs old lines replies calls new
+    (old new : State) (lines : List (List ℕ)) (replies : List Reply) (calls : List Call) → Runs old lines replies calls new
     → AreReadFor (schemas_of old.tables) old.policies → AreReadFor (schemas_of new.tables) new.policies
 
 -- ---- the output of a script
@@ -73,13 +76,13 @@ TakesNoRole (line ∷ lines) = (TakesRole line → ⊥) × TakesNoRole lines
 -- whole scripts under one role are answered alike where no reply is the memory line
 abbrev pub ScriptsAlike : Type 0
 ScriptsAlike =
-    (a b after_a after_b : State) (lines : List (List ℕ)) (from_a from_b : List Reply) (calls_a calls_b : List HostCall) → LooksSame a b → NumberAlike a b
+    (a b after_a after_b : State) (lines : List (List ℕ)) (from_a from_b : List Reply) (calls_a calls_b : List Call) → LooksSame a b → NumberAlike a b
     → TakesNoRole lines → Runs a lines from_a calls_a after_a → Runs b lines from_b calls_b after_b
     → HasNoMemoryLine from_a → HasNoMemoryLine from_b → (from_a ≡ from_b) × LooksSame after_a after_b
 
 -- where no reply is the memory line, the replies to the lines and the state after them are the machine's
 abbrev pub IsOutput : Type 0
-IsOutput = (old new : State) (lines : List (List ℕ)) (replies : List Reply) (calls : List HostCall) → Runs old lines replies calls new → HasNoMemoryLine replies → (replies, new) ≡ stepped old lines
+IsOutput = (old new : State) (lines : List (List ℕ)) (replies : List Reply) (calls : List Call) → Runs old lines replies calls new → HasNoMemoryLine replies → (replies, new) ≡ stepped old lines
 
 -- ---- want of memory
 
@@ -94,12 +97,12 @@ pub data WithoutMemoryLines : List (List ℕ) → List Reply → List (List ℕ)
 -- where some replies are the memory line, the others and the state after the script are the machine's over the other lines
 abbrev pub LeavesTheRest : Type 0
 LeavesTheRest =
-    (old new : State) (lines served : List (List ℕ)) (replies rest : List Reply) (calls : List HostCall) → Runs old lines replies calls new → WithoutMemoryLines lines replies served rest
+    (old new : State) (lines served : List (List ℕ)) (replies rest : List Reply) (calls : List Call) → Runs old lines replies calls new → WithoutMemoryLines lines replies served rest
     → (rest, new) ≡ stepped old served
 
 -- a line has no reply exactly where the machine has none for it
 abbrev pub IsSilentAlike : Type 0
-IsSilentAlike = (old new : State) (line : List ℕ) (reply : Reply) (calls : List HostCall) → Answers old line reply calls new → (reply ≡ None) ↔ ((step old line).0 ≡ None)
+IsSilentAlike = (old new : State) (line : List ℕ) (reply : Reply) (calls : List Call) → Answers old line reply calls new → (reply ≡ None) ↔ ((step old line).0 ≡ None)
 
 -- the memory line is the line of a refusal
 abbrev pub MemoryLineIsServed : Type 0

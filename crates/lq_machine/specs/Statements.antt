@@ -25,10 +25,11 @@ use Rattle.lq_language.specs.Worlds.{bound}
 use Rattle.lq_language.specs.ClauseMeaning.{condition_at}
 use Rattle.lq_security.specs.Rights.{Denied, denial}
 use Rattle.lq_machine.specs.Served.{assigned_data, defined_data, deleted_data, denied_data, error_data, fault_data, inserted_data, role_data}
-use Rattle.lq_machine.specs.States.{State, names_in, schemas_of, world_in}
+use Rattle.lq_machine.specs.States.{State, host_names, names_in, schemas_of, world_in}
 use Rattle.lq_language.specs.Stream.{Stream, where_by}
 use Rattle.lq_language.specs.Names.{table_number, with_local}
 use Rattle.lq_language.specs.OperandTypes.{is_bool_type, is_scalar}
+use Rattle.lq_language.specs.Mentions.{uses_of}
 use Rattle.lq_language.specs.Uses.{expression_uses}
 use Rattle.lq_language.specs.TableRows.{TableRow}
 use Rattle.lq_security.specs.Visible.{refuser_of, visible_to}
@@ -61,7 +62,7 @@ module _ (old : State) where
   -- the first of these uses that is denied, or what comes where none is
   abbrev pub allowed_by : Option Denied → Outcome → Outcome
   allowed_by None next = next
-  allowed_by (Some denied) next = (denied_data (schemas_of old.tables) denied.rule denied.used, old)
+  allowed_by (Some denied) next = (denied_data (schemas_of old.tables) (host_names old) denied.rule denied.used, old)
 
   abbrev pub if_allowed : List Use → Outcome → Outcome
   if_allowed uses next = allowed_by (denial old.policies old.role uses) next
@@ -78,7 +79,7 @@ module _ (old : State) where
 
   -- an expression of a scalar's type is evaluated now; its uses are those of its text, as nothing is served
   abbrev pub evaluated : Expr → (Scalar → Outcome) → Outcome
-  evaluated e next = if_allowed (expression_uses e (names_in old)) (with_value next (expression_meaning (world_in old) e []))
+  evaluated e next = if_allowed (uses_of (expression_uses e (names_in old))) (with_value next (expression_meaning (world_in old) e []))
 
   -- the state with one more definition
   abbrev pub defining_also : List ℕ → Defined → State
@@ -168,7 +169,7 @@ module _ (old : State) where
   -- a rule that refuses the row denies it, as a missing right would
   abbrev pub row_checked : ℕ → Table → List Scalar → Option (List ℕ) → Outcome
   row_checked n table cells None = row_put_in n table cells
-  row_checked n table cells (Some rule) = (denied_data (schemas_of old.tables) rule (used.Insert n), old)
+  row_checked n table cells (Some rule) = (denied_data (schemas_of old.tables) (host_names old) rule (used.Insert n), old)
 
   abbrev pub row_within : ℕ → Table → List Scalar → Outcome
   row_within n table cells =
@@ -212,7 +213,7 @@ module _ (old : State) where
       let names = with_local (names_in old) x (ty.Row n) in
       let gone = removed_items x condition n table.rows in
       if is_bool_type (expression_type condition names)
-      then if_allowed (used.Delete n ∷ expression_uses condition names) (rows_removed n table gone.0 gone.1)
+      then if_allowed (used.Delete n ∷ uses_of (expression_uses condition names)) (rows_removed n table gone.0 gone.1)
       else refused (codes "type")
 
   abbrev pub rows_of_named : List ℕ → Expr → Option ℕ → Outcome

@@ -17,11 +17,13 @@ pub use Rattle.lq_language.specs.ClauseTyping
 pub use Rattle.lq_language.specs.Enumerable
 pub use Rattle.lq_language.specs.EnumerableCalls
 pub use Rattle.lq_language.specs.EnumerableLaws
+pub use Rattle.lq_language.specs.HostNames
 pub use Rattle.lq_language.specs.KeyOrder
 pub use Rattle.lq_language.specs.Maps
 pub use Rattle.lq_language.specs.Meaning
 pub use Rattle.lq_language.specs.MeaningLaws
 pub use Rattle.lq_language.specs.Members
+pub use Rattle.lq_language.specs.Mentions
 pub use Rattle.lq_language.specs.Names
 pub use Rattle.lq_language.specs.NullLaws
 pub use Rattle.lq_language.specs.OneArrangement
@@ -29,6 +31,7 @@ pub use Rattle.lq_language.specs.OperandMeaning
 pub use Rattle.lq_language.specs.OperandTypes
 pub use Rattle.lq_language.specs.OperationLaws
 pub use Rattle.lq_language.specs.Operations
+pub use Rattle.lq_language.specs.OperatorMeaningLaws
 pub use Rattle.lq_language.specs.Operators
 pub use Rattle.lq_language.specs.RuleMeaning
 pub use Rattle.lq_language.specs.RuleMeaningLaws

@@ -47,8 +47,8 @@ fn answered<R: RowRef>(
         Given::Union => Ok(sequence(union(alloc, source, stream_of(alloc, argument))?)),
         Given::Intersect => Ok(sequence(intersect(alloc, source, stream_of(alloc, argument))?)),
         Given::Except => Ok(sequence(except(alloc, source, stream_of(alloc, argument))?)),
-        Given::Skip => skipped(argument, source),
-        Given::Take => taken(argument, source),
+        Given::Skip => skip_items(argument, source),
+        Given::Take => take_items(argument, source),
         Given::ElementAt => {
             let (items, end) = source;
             Ok(element_at(number_of(argument)?, items, end)?)
@@ -61,7 +61,7 @@ fn answered<R: RowRef>(
     }
 }
 
-fn skipped<R: RowRef>(
+fn skip_items<R: RowRef>(
     argument: Result<Value<R>, Fault>,
     source: Stream<Value<R>>,
 ) -> Result<Value<R>, RunError>
@@ -72,7 +72,7 @@ fn skipped<R: RowRef>(
     Ok(Value::Seq(skip(as_count(number), items), end))
 }
 
-fn taken<R: RowRef>(
+fn take_items<R: RowRef>(
     argument: Result<Value<R>, Fault>,
     source: Stream<Value<R>>,
 ) -> Result<Value<R>, RunError>

@@ -15,7 +15,7 @@ use std::alloc::{AllocError, Global};
 
 /// The groups of pairs of a key and an element, in the order of the keys' first appearances, each with
 /// copies of its elements in their order (.NET, Enumerable.GroupBy). Null is a key as any other.
-pub fn grouped<R: RowRef>(
+pub fn group_pairs<R: RowRef>(
     alloc: Global,
     pairs: List<(Value<R>, Value<R>)>,
 ) -> Result<List<Value<R>>, AllocError>

@@ -1,6 +1,6 @@
 //! Operators of sequences over items that are there: what each makes of them.
 //!
-//! `simple`, `given`, `Matches`, `grouped` and `sorted` give what a method, a join, a group or an
+//! `simple`, `given`, `Matches`, `group_pairs` and `sorted` give what a method, a join, a group or an
 //! arrangement means on the items and their ending, or its fault; `Tally` counts, sums and compares
 //! item by item.
 #![tactic(auto)]
@@ -25,7 +25,7 @@ mod slices;
 
 pub use error::RunError;
 pub use given_methods::given;
-pub use groups::grouped;
+pub use groups::group_pairs;
 pub use matches::Matches;
 pub use numbers::{Extreme, Tally};
 pub use order::sorted;

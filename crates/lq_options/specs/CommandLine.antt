@@ -1,4 +1,4 @@
--- The command line `lq --role R --policy P [--script S] T.csv ..`, as clap reads it.
+-- The command line `lq --role R --policy P [--script S] [--watch LIST] T.csv ..`, as clap reads it.
 use Rattle.std.specs.Prelude.{List, Some, true, codes}
 use Rattle.clap.specs.Words.{App, Row, Rule, Text, matches_of, new_app, new_rule, with_rule}
 use Rattle.clap.specs.declared.builder.ArgAction.TheVariants.{Append}
@@ -12,13 +12,16 @@ policy_rule = record (new_rule (codes "policy")) { long = Some (codes "policy");
 abbrev pub script_rule : Rule
 script_rule = record (new_rule (codes "script")) { long = Some (codes "script"); value_names = 1 }
 
+abbrev pub watch_rule : Rule
+watch_rule = record (new_rule (codes "watch")) { long = Some (codes "watch"); value_names = 1 }
+
 -- the words that belong to no option, one at least
 abbrev pub tables_rule : Rule
 tables_rule = record (new_rule (codes "tables")) { action = Some Append; value_names = 1; required = true }
 
 -- the command; clap adds `--help` to it
 unfoldable pub lq_app : App
-lq_app = with_rule (with_rule (with_rule (with_rule (new_app (codes "lq")) role_rule) policy_rule) script_rule) tables_rule
+lq_app = with_rule (with_rule (with_rule (with_rule (with_rule (new_app (codes "lq")) role_rule) policy_rule) script_rule) watch_rule) tables_rule
 
 -- what clap finds among the words, the first of which is the program's name
 unfoldable pub lq_rows : List Text → List Row

@@ -9,6 +9,8 @@ pub struct Options {
     pub policy: String,
     /// The file of the script, or `None` where it comes from standard input.
     pub script: Option<String>,
+    /// The list of numbers that the predicate `Watched` is true on, or `None` where there is no such predicate.
+    pub watch: Option<String>,
     /// The table files, in the order of the words.
     pub tables: Vec<String>,
 }

@@ -2,7 +2,7 @@
 ghost use Rattle.std.specs.Prelude.{◌≡◌, IfOk, false, map};
 ghost use Rattle.std.specs.String.{string_bytes};
 ghost use Rattle.clap.specs.Words.{FailsBy, app_of, fault_of, found_of, rows_of, rule_of};
-ghost use Rattle.lq_options.specs.CommandLine.{lq_app, lq_rows, policy_rule, role_rule, script_rule, tables_rule};
+ghost use Rattle.lq_options.specs.CommandLine.{lq_app, lq_rows, policy_rule, role_rule, script_rule, tables_rule, watch_rule};
 
 use clap::{Arg, ArgAction, ArgMatches, Command, Error};
 use std::alloc::{AllocError, Global};
@@ -11,8 +11,8 @@ const ABOUT: &str = "\
 Answers C# query expressions over CSV tables, under row security policies.
 
 The tables are read, then each statement of the script is answered by a line of JSON on standard
-output. A role is served only the rows that the policies show it, and a statement that uses a table
-or a column without a right is denied.";
+output. A role is served only the rows that the policies show it, and a statement that uses a table,
+a column or a host predicate without a right is denied.";
 
 const ROLE: &str = "The role that the script begins with, one of the policy file's";
 
@@ -36,12 +36,17 @@ Replies:
   {\"items\":[..]} or {\"value\":V}; {\"fault\":F} at a fault of the query; {\"error\":W} at a refusal;
   {\"denied\":R,\"use\":U} where the role has no right to the use U, by the rule R
 
+Host predicates of columns of numbers, to each of which a role needs a right like \"Host.Under\":
+  Host.LeapYear(e.c)    whether a year from 1 to 9999 is a leap year
+  Host.Under(e.c, e.d)  whether a number from -1000 to 1000 is less than another from 1 to 9999
+  Host.Watched(e.c)     whether a number is in LIST, as in --watch 2,3 or --watch=-2,3
+
 Statuses:
   0  the script has ended, whatever its replies are
-  2  the command line is wrong
+  2  the command line is wrong, or LIST is no list of numbers
   3  a table, the policies or the role was refused
   4  the script could not be read, is too long or is not UTF-8, or its replies could not be written
-  5  there was no memory for the tables, the policies or the script";
+  5  there was no memory for LIST, the predicates, the tables, the policies or the script";
 
 /// The argument that names the role to begin with.
 pub(crate) fn role<'a>(alloc: Global, help: &'a str) -> Arg<'a>
@@ -77,6 +82,17 @@ fn script<'a>(alloc: Global) -> Arg<'a>
         .help("The script, one statement a line [default: standard input]")
 }
 
+/// The argument that lists the numbers of the predicate `Watched`.
+pub(crate) fn watch<'a>(alloc: Global) -> Arg<'a>
+    ensures rule { rule_of result ≡ watch_rule }
+    ensures local { result.global ≡ false }
+{
+    Arg::new(alloc, "watch")
+        .long("watch")
+        .value_name("LIST")
+        .help("Numbers with commas, on which Host.Watched is true [default: no such predicate]")
+}
+
 /// The words that belong to no option, which name the table files.
 pub(crate) fn tables<'a>(alloc: Global) -> Arg<'a>
     ensures rule { rule_of result ≡ tables_rule }
@@ -100,6 +116,7 @@ fn command<'a>(alloc: Global) -> Result<Command<'a>, AllocError>
         .arg(role(alloc, ROLE))?
         .arg(policy(alloc))?
         .arg(script(alloc))?
+        .arg(watch(alloc))?
         .arg(tables(alloc))
 }
 

@@ -8,6 +8,8 @@ pub struct DeskOptions {
     pub role: String,
     /// The file of roles and policies.
     pub policy: String,
+    /// The list of numbers that the predicate `Watched` is true on, or `None` where there is no such predicate.
+    pub watch: Option<String>,
     /// The table files, in the order of the words.
     pub tables: Vec<String>,
 }
@@ -19,6 +21,7 @@ impl From<DeskOptions> for Options {
       role = asked.role;
       policy = asked.policy;
       script = None;
+      watch = asked.watch;
       tables = asked.tables;
     } };
 
@@ -27,6 +30,7 @@ impl From<DeskOptions> for Options {
             role: asked.role,
             policy: asked.policy,
             script: None,
+            watch: asked.watch,
             tables: asked.tables,
         }
     }

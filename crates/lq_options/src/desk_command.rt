@@ -4,7 +4,7 @@ ghost use Rattle.std.specs.String.{string_bytes};
 ghost use Rattle.clap.specs.Words.{FailsBy, app_of, fault_of, found_of, rows_of};
 ghost use Rattle.lq_options.specs.DeskCommandLine.{desk_app, desk_rows};
 
-use crate::command::{policy, role, tables};
+use crate::command::{policy, role, tables, watch};
 use clap::{ArgMatches, Command, Error};
 use std::alloc::{AllocError, Global};
 
@@ -34,10 +34,10 @@ Example:
 
 Statuses:
   0  the input has ended, or .quit was typed
-  2  the command line is wrong
+  2  the command line is wrong, or LIST is no list of numbers
   3  a table, the policies or the role was refused
   4  the input could not be read, or the replies could not be written
-  5  there was no memory for the tables or the policies";
+  5  there was no memory for LIST, the predicates, the tables or the policies";
 
 fn desk_command<'a>(alloc: Global) -> Result<Command<'a>, AllocError>
     ensures { IfOk result (λ command. app_of command ≡ desk_app) }
@@ -49,6 +49,7 @@ fn desk_command<'a>(alloc: Global) -> Result<Command<'a>, AllocError>
         .after_help(MORE)
         .arg(role(alloc, ROLE))?
         .arg(policy(alloc))?
+        .arg(watch(alloc))?
         .arg(tables(alloc))
 }
 

@@ -39,6 +39,9 @@ pub fn options(alloc: Global, words: &[String]) -> Result<Options, Error>
     ensures script { IfOk result (λ options.
         first_of (codes "script") (lq_rows (map string_bytes words.entry.now))
         ≡ option_map string_bytes options.script) }
+    ensures watch { IfOk result (λ options.
+        first_of (codes "watch") (lq_rows (map string_bytes words.entry.now))
+        ≡ option_map string_bytes options.watch) }
     ensures tables { IfOk result (λ options.
         all_of (codes "tables") (lq_rows (map string_bytes words.entry.now))
         ≡ Some (map string_bytes options.tables.items)) }
@@ -49,11 +52,13 @@ pub fn options(alloc: Global, words: &[String]) -> Result<Options, Error>
     let role = given_text(alloc, &matches, "role")?;
     let policy = given_text(alloc, &matches, "policy")?;
     let script = text_of(alloc, &matches, "script")?;
+    let watch = text_of(alloc, &matches, "watch")?;
     let tables = given_texts(alloc, &matches, "tables")?;
     Ok(Options {
         role,
         policy,
         script,
+        watch,
         tables,
     })
 }
@@ -67,6 +72,9 @@ pub fn desk_options(alloc: Global, words: &[String]) -> Result<DeskOptions, Erro
     ensures policy { IfOk result (λ options.
         first_of (codes "policy") (desk_rows (map string_bytes words.entry.now))
         ≡ Some (string_bytes options.policy)) }
+    ensures watch { IfOk result (λ options.
+        first_of (codes "watch") (desk_rows (map string_bytes words.entry.now))
+        ≡ option_map string_bytes options.watch) }
     ensures tables { IfOk result (λ options.
         all_of (codes "tables") (desk_rows (map string_bytes words.entry.now))
         ≡ Some (map string_bytes options.tables.items)) }
@@ -77,6 +85,7 @@ pub fn desk_options(alloc: Global, words: &[String]) -> Result<DeskOptions, Erro
     Ok(DeskOptions {
         role: given_text(alloc, &matches, "role")?,
         policy: given_text(alloc, &matches, "policy")?,
+        watch: text_of(alloc, &matches, "watch")?,
         tables: given_texts(alloc, &matches, "tables")?,
     })
 }

@@ -1,7 +1,9 @@
 -- What running answers of forms that hold others, and of the members of a record.
-use Rattle.std.proofs.Common.{Bor, ◌≡◌, ◌∷◌, ◌++◌, List, [], map, ℕ, Result, Ok, Err, ap, ◌∙◌, sym, refl, subst, ◌+◌, ◌<◌, suc, append_assoc, arith, drop, drop-cons, get_or, length}
+use Rattle.std.proofs.Common.{Bor, ◌≡◌, ◌∷◌, ◌++◌, List, [], map, ℕ, Result, Ok, Err, ap, ◌∙◌, sym, refl, subst, ◌+◌, ◌<◌, ◌≤◌, suc, append_assoc, append-nil, arith, drop, drop-cons, get_or, length}
+use Rattle.std.proofs.lemmas.List.{drop_all}
 use Rattle.lq_value.specs.declared.value.Fault.{Fault}
 use Rattle.lq_value.specs.declared.value.Value.{Value}
+use Rattle.lq_value.specs.declared.value.Value.TheVariants as value
 use Rattle.lq_language.specs.Worlds.{World}
 use Rattle.lq_language.specs.OperandMeaning.{stream_of}
 use Rattle.lq_language.specs.Operations.{on_ok}
@@ -12,6 +14,7 @@ use Rattle.lq_language.specs.declared.methods.Given.{Given}
 use Rattle.lq_grammar.specs.declared.syntax.Field.{Field}
 use Rattle.lq_operators.specs.Answers.{IsAnswer}
 use Rattle.lq_operators.specs.declared.error.RunError.{RunError}
+use Rattle.lq_operators.specs.declared.error.RunError.TheVariants as error
 use Rattle.lq_tree.specs.FormMeaning.{Slots, form_meaning, is_true, members_of, with_item}
 use Rattle.lq_tree.specs.declared.tree.Form.{Form}
 use Rattle.lq_tree.specs.declared.tree.Form.TheVariants as form
@@ -19,7 +22,7 @@ use Rattle.lq_plan.specs.Lists.{field_means}
 use Rattle.lq_language.specs.OperandMeaning.{sequence}
 use Rattle.lq_plan.specs.Pulling.{stream_behind}
 use Rattle.lq_plan.specs.declared.stages.Stage.TheVariants as stage
-use Rattle.lq_plan.proofs.FormLaws.{form_all, form_given, form_select, form_where}
+use Rattle.lq_plan.proofs.FormLaws.{form_all, form_given, form_record, form_select, form_where}
 
 module _ {R : Type 0} (world : World R) where
   pub all_answer : (g a f a' f' : Form) (slots : Slots R) (answer : Result (Value R) RunError) → g ≡ form.All a f → a' ≡ a → f' ≡ f
@@ -73,3 +76,27 @@ module _ {R : Type 0} (world : World R) where
           → on_ok found (λ ms. Ok ((made ++ (field.name, v) ∷ []) ++ ms)) ≡ on_ok (on_ok found (λ ms. Ok ((field.name, v) ∷ ms))) (λ ms. Ok (made ++ ms))
       by (Ok ms) = ap (λ l. Ok l) (append_assoc made ((field.name, v) ∷ []) ms)
       by (Err f) = refl
+
+  -- the members so far are those of the record where no field is left, and a field's fault is that of the record
+  pub record_ended : (fields items : List (Field Form)) (slots : Slots R) (made : List (List ℕ × Value R)) (i : ℕ) → items ≡ fields → length items ≤ i
+      → on_ok (members_of world (map (field_means world) (drop i items)) slots) (λ ms. Ok (made ++ ms)) ≡ members_of world (map (field_means world) items) slots
+      → form_meaning world (form.Record fields) slots ≡ Ok (value.Rec made)
+  record_ended fields items slots made i same over goes =
+      ap (λ fs. form_meaning world (form.Record fs) slots) (sym same) ∙ form_record world items slots
+      ∙ ap (λ m. on_ok m (λ ms. Ok (value.Rec ms)))
+      (sym goes
+      ∙ ap (λ l. on_ok (members_of world (map (field_means world) l) slots) (λ ms. Ok (made ++ ms))) (drop_all i items over)
+      ∙ ap (λ l. Ok l) (append-nil made))
+
+  pub record_stopped : (fields items : List (Field Form)) (slots : Slots R) (made : List (List ℕ × Value R)) (i : ℕ) (field : Field Form) → items ≡ fields
+      → field ≡ get_or items i field → i < length items
+      → on_ok (members_of world (map (field_means world) (drop i items)) slots) (λ ms. Ok (made ++ ms)) ≡ members_of world (map (field_means world) items) slots
+      → (e : RunError) → IsAnswer (form_meaning world field.value slots) (Err e) → IsAnswer (form_meaning world (form.Record fields) slots) (Err e)
+  record_stopped fields items slots made i field same is below goes (error.Fault f) stops =
+      ap (λ fs. form_meaning world (form.Record fs) slots) (sym same) ∙ form_record world items slots
+      ∙ ap (λ m. on_ok m (λ ms. Ok (value.Rec ms)))
+      (sym goes
+      ∙ ap (λ l. on_ok (members_of world (map (field_means world) l) slots) (λ ms. Ok (made ++ ms))) (drop-cons items i field below)
+      ∙ ap (λ x. on_ok (members_of world (map (field_means world) (x ∷ drop (suc i) items)) slots) (λ ms. Ok (made ++ ms))) (sym is)
+      ∙ ap (λ m. on_ok (on_ok m (λ w. on_ok (members_of world (map (field_means world) (drop (suc i) items)) slots) (λ ms. Ok ((field.name, w) ∷ ms)))) (λ ms. Ok (made ++ ms))) stops)
+  record_stopped fields items slots made i field same is below goes error.Memory stops = tt

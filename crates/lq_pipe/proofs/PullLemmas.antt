@@ -12,7 +12,7 @@ use Rattle.lq_language.specs.Stream.{Stream, each, one, select_by, then_ending, 
 use Rattle.lq_language.specs.Worlds.{World}
 use Rattle.lq_tree.specs.FormMeaning.{Slots}
 use Rattle.lq_tree.specs.declared.tree.Form.{Form}
-use Rattle.lq_plan.specs.Counts.{one_less, read_first}
+use Rattle.lq_plan.specs.Counts.{is_zero, one_less, read_first}
 use Rattle.lq_plan.specs.Pipes.{items_left}
 use Rattle.lq_plan.specs.PlannedRows.{kept_stream, row_cell, row_verdict}
 use Rattle.lq_plan.specs.Prepared.{IsPlanned}
@@ -58,13 +58,13 @@ module _ {A B : Type 0} (f : A → Stream B) where
 
 -- the same of items that are kept as they are
 module _ {A : Type 0} where
-  pub drained_on : (old new all : Stream A) (x : A) (made more : List A) → old ≡ in_front x new → more ≡ made ++ x ∷ []
+  drained_on : (old new all : Stream A) (x : A) (made more : List A) → old ≡ in_front x new → more ≡ made ++ x ∷ []
       → then_ending made end.Done old ≡ all → then_ending more end.Done new ≡ all
   drained_on old new all x made more is more_is goes =
       ap (λ l. (l ++ new.0, new.1)) more_is ∙ ap (λ l. (l, new.1)) (append_assoc made (x ∷ []) new.0)
       ∙ ap (λ (s : Stream A). then_ending made end.Done s) (sym is) ∙ goes
 
-  pub drained_ended : (old all : Stream A) (made : List A) (e : End) → old ≡ ([], e) → then_ending made end.Done old ≡ all → (made, e) ≡ all
+  drained_ended : (old all : Stream A) (made : List A) (e : End) → old ≡ ([], e) → then_ending made end.Done old ≡ all → (made, e) ≡ all
   drained_ended old all made e is goes =
       ap (λ l. (l, e)) (sym (append-nil made)) ∙ ap (λ (s : Stream A). then_ending made end.Done s) (sym is) ∙ goes
 
@@ -84,6 +84,11 @@ module _ {A : Type 0} where
   read_none None s is = absurd (none-some None (sym is))
 
   -- the items so far, and those that are left up to a limit
+  pub begins_read : (left all : Stream A) (made : List A) (l : Option ℕ) → made ≡ [] → left ≡ all
+      → then_ending made end.Done (read_first l left) ≡ read_first l all
+  begins_read left all made l none is =
+      ap (λ m. then_ending m end.Done (read_first l left)) none ∙ ap (λ (s : Stream A). read_first l s) is
+
   pub read_on : (old new all : Stream A) (x : A) (made more : List A) (l less : Option ℕ) → old ≡ in_front x new → more ≡ made ++ x ∷ [] → one_less l ≡ Some less
       → then_ending made end.Done (read_first l old) ≡ all → then_ending more end.Done (read_first less new) ≡ all
   read_on old new all x made more l less is more_is counts goes =
@@ -96,37 +101,33 @@ module _ {A : Type 0} where
   pub read_whole : (old all : Stream A) (made : List A) (l : Option ℕ) → one_less l ≡ None → then_ending made end.Done (read_first l old) ≡ all → (made, end.Done) ≡ all
   read_whole old all made l none goes = drained_ended (read_first l old) all made end.Done (read_none l old none) goes
 
+  pub reads_none : (made : List A) (all : Stream A) (l : Option ℕ) → made ≡ [] → is_zero l ≡ true → (made, end.Done) ≡ read_first l all
+  reads_none made all (Some zero) none at = ap (λ m. (m, end.Done)) none
+  reads_none made all (Some (suc n)) none at = absurd (cc)
+  reads_none made all None none at = absurd (cc)
+
   pub fewer : (old new : Stream A) (x : A) → old ≡ in_front x new → length new.0 < length old.0
   fewer old new x is = let same : length old.0 ≡ suc (length new.0) = ap (λ (s : Stream A). length s.0) is in omega (arith, same)
 
--- what is made of each item
+-- the same of one thing that is made of each item
 module _ {A B : Type 0} (g : A → Result B Fault) where
-  pub selects_on : (old new : Stream A) (x : A) (v : B) → old ≡ in_front x new → Ok v ≡ g x
-      → select_by g old.0 old.1 ≡ in_front v (select_by g new.0 new.1)
-  selects_on old new x v is gives =
-      ap (λ (s : Stream A). select_by g s.0 s.1) is ∙ ap (λ (r : Result B Fault). then_stream (one r) (select_by g new.0 new.1)) (sym gives)
+  pub selects_begin : (left all : Stream A) (made : List B) → made ≡ [] → left ≡ all
+      → then_ending made end.Done (select_by g left.0 left.1) ≡ select_by g all.0 all.1
+  selects_begin left all made none is = comes_begins (λ x. one (g x)) left all made none is
 
-  pub selects_stopped : (old new : Stream A) (x : A) (f : Fault) → old ≡ in_front x new → Err f ≡ g x
-      → ◌≡◌ {A = Stream B} (select_by g old.0 old.1) ([], end.Fault f)
-  selects_stopped old new x f is gives =
-      ap (λ (s : Stream A). select_by g s.0 s.1) is ∙ ap (λ (r : Result B Fault). then_stream (one r) (select_by g new.0 new.1)) (sym gives)
+  pub selects_on : (old new : Stream A) (x : A) (v : B) (all : Stream B) (made more : List B) → old ≡ in_front x new → Ok v ≡ g x → more ≡ made ++ v ∷ []
+      → then_ending made end.Done (select_by g old.0 old.1) ≡ all → then_ending more end.Done (select_by g new.0 new.1) ≡ all
+  selects_on old new x v all made more is gives more_is goes =
+      comes_on (λ x. one (g x)) old new x all made more (v ∷ []) is (ap one (sym gives)) more_is goes
 
-  pub selects_ended : (old : Stream A) (e : End) → old ≡ ([], e) → ◌≡◌ {A = Stream B} (select_by g old.0 old.1) ([], e)
-  selects_ended old e is = ap (λ (s : Stream A). select_by g s.0 s.1) is
+  pub selects_stopped : (old new : Stream A) (x : A) (f : Fault) (all : Stream B) (made : List B) → old ≡ in_front x new → Err f ≡ g x
+      → then_ending made end.Done (select_by g old.0 old.1) ≡ all → (made, end.Fault f) ≡ all
+  selects_stopped old new x f all made is gives goes =
+      comes_stopped (λ x. one (g x)) old new x all made made [] f is (ap one (sym gives)) (sym (append-nil made)) goes
 
-  pub selects_same : (left all : Stream A) → left ≡ all → select_by g left.0 left.1 ≡ select_by g all.0 all.1
-  selects_same left all is = ap (λ (s : Stream A). select_by g s.0 s.1) is
-
--- ---- where a loop begins
-
-module _ {A : Type 0} where
-  pub begins : (left all : Stream A) (made : List A) → made ≡ [] → left ≡ all → then_ending made end.Done left ≡ all
-  begins left all made none is = ap (λ l. then_ending l end.Done left) none ∙ is
-
-  pub begins_read : (left all : Stream A) (made : List A) (l : Option ℕ) → made ≡ [] → left ≡ all
-      → then_ending made end.Done (read_first l left) ≡ read_first l all
-  begins_read left all made l none is =
-      ap (λ m. then_ending m end.Done (read_first l left)) none ∙ ap (λ (s : Stream A). read_first l s) is
+  pub selects_ended : (old : Stream A) (e : End) (all : Stream B) (made : List B) → old ≡ ([], e)
+      → then_ending made end.Done (select_by g old.0 old.1) ≡ all → (made, e) ≡ all
+  selects_ended old e all made is goes = comes_ended (λ x. one (g x)) old all made e is goes
 
 -- ---- what is pulled by a plan
 
@@ -182,10 +183,8 @@ module _ {R : Type 0} (table_of : R → ℕ) (shown : R → List Scalar) (world 
 
 pub ruleset next_steps = (next_item, next_dropped, next_fault, next_ended, fewer)
 
-pub ruleset reads = (left_opened, begins_read, read_on, read_ended, read_whole, fewer)
+pub ruleset reads = (left_opened, reads_none, begins_read, read_on, read_ended, read_whole, fewer)
 
 pub ruleset expands = (left_opened, comes_begins, comes_on, comes_stopped, comes_ended)
 
-pub ruleset selects = (selects_on, selects_stopped, selects_ended)
-
-pub ruleset keeps = (left_opened, selects_same, begins, drained_on, drained_ended, fewer)
+pub ruleset selects = (left_opened, selects_begin, selects_on, selects_stopped, selects_ended, fewer)

@@ -41,7 +41,3 @@ module _ {R : Type 0} (world : World R) (slots : Slots R) where
 
   abbrev pub stream_join : Joined Form → List (Value R × Value R) → Stream (Value R) → Stream (Value R)
   stream_join j qs s = each (item_join j qs) s.0 s.1
-
-  -- what comes of an item and of each of what it matches
-  abbrev pub item_matches : Form → Value R → List (Value R) → Stream (Value R)
-  item_matches result x found = select_each (λ w. form_meaning world result (with_items world slots x w)) (found, end.Done)

@@ -1,27 +1,25 @@
 //! The running of what several sequences or keys take part in.
 use crate::running::Running;
 use lq_grammar::SortKey;
+use lq_host::Asks;
 use lq_operators::{Matches, RunError};
-use lq_plan::{Base, Pipe, Slots, Stage, TableRow, arrangements, sequences};
+use lq_plan::{Pipe, Slots, Stage, TableRow, arrangements, sequences};
 use lq_tree::{Form, Joined};
 use lq_value::{End, Fault, List, Scalar, Value};
 use std::alloc::AllocError;
 
-impl<'a, R: TableRow> Running<'a, R> {
+impl<'a, R: TableRow, H: Asks> Running<'a, R, H> {
     ghost use Rattle.std.specs.Prelude.{◌≡◌, IfOk, Ok};
     ghost use Rattle.lq_language.specs.Arrangement.{all_of};
-    ghost use Rattle.lq_language.specs.Stream.{whole};
-    ghost use Rattle.lq_language.specs.OperandMeaning.{sequence};
     ghost use Rattle.lq_operators.specs.Matching.{pairs_of};
     ghost use Rattle.lq_operators.specs.Answers.{IsAnswer};
     ghost use Rattle.lq_tree.specs.declared.tree.Form.TheVariants as form;
-    ghost use Rattle.lq_plan.specs.Arrangements.{columns_of, key_at, sorted_by};
+    ghost use Rattle.lq_plan.specs.Arrangements.{columns_of, key_at};
     ghost use Rattle.lq_plan.specs.Meanings.{Answers, items_meant, meant};
-    ghost use Rattle.lq_plan.specs.Pipes.{all_items, items_left};
+    ghost use Rattle.lq_plan.specs.Pipes.{all_items};
     ghost use Rattle.lq_plan.specs.Slots.{values_in};
-    ghost use Rattle.lq_pipe.specs.Items.{element_of, item_expansion, item_join, item_matches, key_and_element, keys_and_elements, stream_expansion, stream_join};
+    ghost use Rattle.lq_pipe.specs.Items.{item_expansion, item_join, key_and_element, keys_and_elements, stream_expansion, stream_join};
     ghost use Rattle.lq_pipe.specs.Runs.{IsPlanned, world};
-    ghost use Rattle.lq_pipe.specs.Steps.{Steps};
 
     /// What comes of each item and of each item of what it leads to.
     #[cycle(running)]
@@ -104,45 +102,11 @@ impl<'a, R: TableRow> Running<'a, R> {
             (meant (world self.now) (form.GroupBy source.now key.now element.now) slots.now)
             result }
     {
-        let (pairs, end) = self.keys_of(source, key, Some(element), slots)?;
+        let (pairs, end) = self.key_pairs(source, key, Some(element), slots)?;
         Ok(sequences::groups(self.sources.alloc, pairs, end)?)
     }
 
-    /// The keys of the items of a source with their elements, up to the first fault.
-    #[cycle(running)]
-    fn keys_of(
-        &self,
-        source: &Form,
-        key: &Form,
-        element: Option<&Form>,
-        slots: &Slots<'_, R>,
-    ) -> Result<(List<(Value<R>, Value<R>)>, End), AllocError>
-        ensures { IfOk result (λ pairs.
-            pairs ≡ keys_and_elements (world self.now) (values_in slots.now) key.now element.entry
-            (items_meant (world self.now) source.now slots.now)) }
-    {
-        let pipe = self.sources.pipe_of(source, slots)?;
-        self.key_pairs(&pipe, key, element, slots)
-    }
-
-    /// What a lambda gives of an item; without one, the item.
-    #[cycle(running)]
-    fn element(
-        &self,
-        body: Option<&Form>,
-        item: Value<R>,
-        slots: &Slots<'_, R>,
-    ) -> Result<Result<Value<R>, Fault>, AllocError>
-        ensures { IfOk result (λ element. element
-            ≡ element_of (world self.now) (values_in slots.now) body.entry item) }
-    {
-        match body {
-            Some(body) => self.value_of_item(body, &item, slots),
-            None => Ok(Ok(item)),
-        }
-    }
-
-    /// The key of an item, and then its element.
+    /// The key of an item, and then its element: what a lambda gives of it, or without one the item.
     #[cycle(running)]
     fn key_pair(
         &self,
@@ -155,61 +119,40 @@ impl<'a, R: TableRow> Running<'a, R> {
             (values_in slots.now) key.now element.entry item) }
     {
         match self.value_of_item(key, &item, slots)? {
-            Ok(key) => match self.element(element, item, slots)? {
-                Ok(element) => Ok(Ok((key, element))),
-                Err(fault) => Ok(Err(fault)),
+            Ok(key) => match element {
+                Some(body) => match self.value_of_item(body, &item, slots)? {
+                    Ok(element) => Ok(Ok((key, element))),
+                    Err(fault) => Ok(Err(fault)),
+                },
+                None => Ok(Ok((key, item))),
             },
             Err(fault) => Ok(Err(fault)),
         }
     }
 
-    /// The key of the next item of a pipe, and its element; or how they end.
+    /// The keys of the items of a source with their elements, up to the first fault.
     #[cycle(running)]
     #[tactic(auto, using(crate::proofs::PullLemmas::selects))]
-    fn next_key_pair(
-        &self,
-        pipe: &Pipe<'_>,
-        key: &Form,
-        element: Option<&Form>,
-        base: &mut Base<'a, R>,
-        slots: &Slots<'_, R>,
-    ) -> Result<Result<(Value<R>, Value<R>), End>, AllocError>
-        requires { IsPlanned self.now slots.now pipe.now }
-        ensures { IfOk result (λ pair. Steps
-            (keys_and_elements (world self.now) (values_in slots.now) key.now element.entry
-            (items_left (world self.now) (values_in slots.now) pipe.now base.old)) pair
-            (keys_and_elements (world self.now) (values_in slots.now) key.now element.entry
-            (items_left (world self.now) (values_in slots.now) pipe.now base.new))) }
-    {
-        match self.next(pipe, base, slots)? {
-            Ok(item) => match self.key_pair(key, element, item, slots)? {
-                Ok(pair) => Ok(Ok(pair)),
-                Err(fault) => Ok(Err(End::Fault(fault))),
-            },
-            Err(end) => Ok(Err(end)),
-        }
-    }
-
-    /// The same of the items of a pipe.
-    #[cycle(running)]
-    #[tactic(auto, using(crate::proofs::PullLemmas::keeps))]
     fn key_pairs(
         &self,
-        pipe: &Pipe<'_>,
+        source: &Form,
         key: &Form,
         element: Option<&Form>,
         slots: &Slots<'_, R>,
     ) -> Result<(List<(Value<R>, Value<R>)>, End), AllocError>
-        requires { IsPlanned self.now slots.now pipe.now }
         ensures { IfOk result (λ pairs.
             pairs ≡ keys_and_elements (world self.now) (values_in slots.now) key.now element.entry
-            (all_items (world self.now) (values_in slots.now) pipe.now)) }
+            (items_meant (world self.now) source.now slots.now)) }
     {
+        let pipe = self.sources.pipe_of(source, slots)?;
         let mut base = self.open(pipe.source, slots)?;
         let mut pairs = List::new(self.sources.alloc);
         loop {
-            match self.next_key_pair(pipe, key, element, &mut base, slots)? {
-                Ok(pair) => pairs.push(pair)?,
+            match self.next(&pipe, &mut base, slots)? {
+                Ok(item) => match self.key_pair(key, element, item, slots)? {
+                    Ok(pair) => pairs.push(pair)?,
+                    Err(fault) => return Ok((pairs, End::Fault(fault))),
+                },
                 Err(end) => return Ok((pairs, end)),
             }
         }
@@ -227,7 +170,7 @@ impl<'a, R: TableRow> Running<'a, R> {
         ensures { IsAnswer
             (meant (world self.now) (form.Join source.now joined.now) slots.now) result }
     {
-        let (pairs, pairs_end) = self.keys_of(&joined.inner, &joined.inner_key, None, slots)?;
+        let (pairs, pairs_end) = self.key_pairs(&joined.inner, &joined.inner_key, None, slots)?;
         match pairs_end {
             End::Done => {
                 let matches = Matches::build(self.sources.alloc, pairs)?;
@@ -259,26 +202,11 @@ impl<'a, R: TableRow> Running<'a, R> {
                     &key,
                     matches,
                 )?;
-                self.match_item(&joined.result, inner.as_slice(), item, slots)
+                let deeper = (&*slots).with(&*item);
+                self.select_all(&joined.result, inner.as_slice(), &deeper)
             }
             Err(fault) => Ok((List::new(self.sources.alloc), End::Fault(fault))),
         }
-    }
-
-    /// What comes of an item and of each of what it matches.
-    #[cycle(running)]
-    fn match_item(
-        &self,
-        body: &Form,
-        inner: &[Value<R>],
-        item: &Value<R>,
-        slots: &Slots<'_, R>,
-    ) -> Result<(List<Value<R>>, End), AllocError>
-        ensures { IfOk result (λ items. items
-            ≡ item_matches (world self.now) (values_in slots.now) body.now item.now inner.now) }
-    {
-        let deeper = (&*slots).with(&*item);
-        self.select_all(body, inner, End::Done, &deeper)
     }
 
     /// What comes of each outer item of a pipe, up to the first fault.
@@ -313,7 +241,8 @@ impl<'a, R: TableRow> Running<'a, R> {
         }
     }
 
-    /// The items sorted by keys, which are met only where the items come to their end.
+    /// The items sorted by keys, or the first fault that is met in a key. The keys are met only where the
+    /// items come to their end: where these end in a fault, there is nothing but that fault.
     #[cycle(running)]
     #[inline(never)]
     pub(crate) fn order_by(
@@ -327,40 +256,14 @@ impl<'a, R: TableRow> Running<'a, R> {
     {
         let pipe = self.sources.pipe_of(source, slots)?;
         let (items, end) = self.read(None, &pipe, slots)?;
-        Ok(self.arrange(keys, items, end, slots)?)
-    }
-
-    /// The items sorted by keys; where their stream ended in a fault, nothing but that fault.
-    #[cycle(running)]
-    fn arrange(
-        &self,
-        keys: &List<SortKey<Form>>,
-        items: List<Value<R>>,
-        end: End,
-        slots: &Slots<'_, R>,
-    ) -> Result<Value<R>, AllocError>
-        ensures { IfOk result (λ v. v ≡ sequence (whole items end
-            (sorted_by (world self.now) (values_in slots.now) keys.now))) }
-    {
         match end {
-            End::Done => self.sort(keys, items, slots),
+            End::Done => {
+                let alloc = self.sources.alloc;
+                let columns = self.key_columns(keys, items.as_slice(), slots);
+                Ok(arrangements::sort_by(alloc, keys.as_slice(), columns, items)?)
+            }
             End::Fault(fault) => Ok(sequences::fault_sequence(self.sources.alloc, fault)),
         }
-    }
-
-    /// The items sorted by keys, or the first fault that is met in a key.
-    #[cycle(running)]
-    fn sort(
-        &self,
-        keys: &List<SortKey<Form>>,
-        items: List<Value<R>>,
-        slots: &Slots<'_, R>,
-    ) -> Result<Value<R>, AllocError>
-        ensures { IfOk result (λ v. v ≡ sequence (sorted_by (world self.now)
-            (values_in slots.now) keys.now items)) }
-    {
-        let columns = self.key_columns(keys, items.as_slice(), slots);
-        arrangements::sort_by(self.sources.alloc, keys.as_slice(), columns, items)
     }
 
     /// The first key of all items, then the next of all, up to the first fault.
@@ -395,22 +298,9 @@ impl<'a, R: TableRow> Running<'a, R> {
     {
         let mut column = List::new(self.sources.alloc);
         for item in items {
-            let scalar = self.sort_key(key, item, slots)?;
+            let scalar = self.scalar(key, &(&*slots).with(&*item))?;
             column.push(scalar)?;
         }
         Ok(column)
-    }
-
-    /// A key of an item.
-    #[cycle(running)]
-    fn sort_key(
-        &self,
-        key: &Form,
-        item: &Value<R>,
-        slots: &Slots<'_, R>,
-    ) -> Result<Scalar, RunError>
-        ensures { Answers (key_at (world self.now) (values_in slots.now) key.now item.now) result }
-    {
-        self.scalar(key, &(&*slots).with(&*item))
     }
 }

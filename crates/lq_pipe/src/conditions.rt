@@ -1,11 +1,12 @@
 //! Conditions: truth values, which are evaluated without a value of their own.
 use crate::running::Running;
+use lq_host::Asks;
 use lq_language::Op;
 use lq_operators::RunError;
 use lq_plan::{Slots, TableRow, scalars};
 use lq_tree::Form;
 
-impl<'a, R: TableRow> Running<'a, R> {
+impl<'a, R: TableRow, H: Asks> Running<'a, R, H> {
     ghost use Rattle.lq_tree.specs.declared.tree.Form.TheVariants as form;
     ghost use Rattle.lq_plan.specs.Meanings.{Answers, meant, truth_in};
     ghost use Rattle.lq_pipe.specs.Runs.{world};

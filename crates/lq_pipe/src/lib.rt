@@ -1,6 +1,7 @@
-//! The running of typed trees: the value or the stream of each, over the rows that it is given.
+//! The running of typed trees: the value or the stream of each, over the rows and the host predicates that
+//! it is given.
 //!
-//! `value` and `run` give exactly what the tree means over these rows, faults and endings included, and
+//! `value` and `run` give exactly what the tree means over these, faults and endings included, and
 //! `rows_where` the rows on which a condition is true, up to its first fault.
 #![tactic(auto)]
 

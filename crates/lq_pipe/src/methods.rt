@@ -1,20 +1,22 @@
 //! The running of methods of sequences.
 use crate::running::Running;
+use lq_host::Asks;
 use lq_language::{Given, Simple};
 use lq_operators::{RunError, Tally, given, simple};
 use lq_plan::counts::{given_limit, simple_limit};
 use lq_plan::{Pipe, Slots, Stage, TableRow, parts, scalars, sequences, stage_of};
 use lq_tree::Form;
-use lq_value::{End, Fault, List, Ty, Value, same};
+use lq_value::{End, Fault, List, Scalar, Ty, Value, copy_scalar, same};
 use std::alloc::AllocError;
 
-impl<'a, R: TableRow> Running<'a, R> {
+impl<'a, R: TableRow, H: Asks> Running<'a, R, H> {
     ghost use Rattle.std.specs.Prelude.{◌≡◌, IfOk, Ok};
     ghost use Rattle.lq_value.specs.SameAndOrder.{same_values};
+    ghost use Rattle.lq_value.specs.declared.value.End.TheVariants as end;
+    ghost use Rattle.lq_value.specs.declared.value.Value.TheVariants as value;
     ghost use Rattle.lq_language.specs.OperandMeaning.{as_value, sequence};
     ghost use Rattle.lq_language.specs.Enumerable.{all, contains};
     ghost use Rattle.lq_language.specs.Stream.{select_by};
-    ghost use Rattle.lq_language.specs.declared.methods.Given.TheVariants as given;
     ghost use Rattle.lq_operators.specs.Answers.{IsAnswer};
     ghost use Rattle.lq_operators.specs.Tallies.{tallied};
     ghost use Rattle.lq_language.specs.Meaning.{as_truth, given_meaning, simple_meaning};
@@ -136,7 +138,8 @@ impl<'a, R: TableRow> Running<'a, R> {
         self.given_items(method, argument, &pipe, slots)
     }
 
-    /// The same on the items of a pipe, with an argument that was evaluated.
+    /// The same on the items of a pipe, with an argument that was evaluated. Where a value that is looked
+    /// for is a fault, no item is pulled.
     #[cycle(running)]
     fn given_items(
         &self,
@@ -150,7 +153,10 @@ impl<'a, R: TableRow> Running<'a, R> {
             (all_items (world self.now) (values_in slots.now) pipe.now)) result }
     {
         match method {
-            Given::Contains => self.contains(argument, pipe, slots),
+            Given::Contains => match argument {
+                Ok(value) => self.has_item(&value, pipe, slots),
+                Err(fault) => Err(RunError::Fault(fault)),
+            },
             _ => {
                 let (items, end) = self.read(given_limit(method, &argument), pipe, slots)?;
                 given(self.sources.alloc, method, argument, items, end)
@@ -158,26 +164,9 @@ impl<'a, R: TableRow> Running<'a, R> {
         }
     }
 
-    /// Whether a value is among the items. Where it is a fault, no item is pulled.
-    #[cycle(running)]
-    fn contains(
-        &self,
-        value: Result<Value<R>, Fault>,
-        pipe: &Pipe<'_>,
-        slots: &Slots<'_, R>,
-    ) -> Result<Value<R>, RunError>
-        requires { IsPlanned self.now slots.now pipe.now }
-        ensures { IsAnswer (given_meaning (world self.now) given.Contains value
-            (all_items (world self.now) (values_in slots.now) pipe.now)) result }
-    {
-        match value {
-            Ok(value) => self.has_item(&value, pipe, slots),
-            Err(fault) => Err(RunError::Fault(fault)),
-        }
-    }
-
     /// Whether an item is the same as a value. Nothing is pulled after the first that is.
     #[cycle(running)]
+    #[inline(never)]
     #[tactic(auto, using(crate::proofs::CountLemmas::contains_steps))]
     fn has_item(
         &self,
@@ -261,7 +250,7 @@ impl<'a, R: TableRow> Running<'a, R> {
         scalars::truth_or_fault(self.truth(condition, &(&*slots).with(&*item)))
     }
 
-    /// What a form gives of an item.
+    /// What a form gives of an item. A cell that can be read in place is copied from there.
     #[cycle(running)]
     pub(crate) fn value_of_item(
         &self,
@@ -272,7 +261,14 @@ impl<'a, R: TableRow> Running<'a, R> {
         ensures { IfOk result (λ value.
             value ≡ value_of_item (world self.now) body.now slots.now item.now) }
     {
-        sequences::value_or_fault(self.evaluate(body, &(&*slots).with(&*item)))
+        let deeper = (&*slots).with(&*item);
+        match self.sources.column_ref(&*body, &deeper) {
+            Some(scalar) => {
+                let copy = copy_scalar(self.sources.alloc, scalar)?;
+                Ok(Ok(Value::Scalar(copy)))
+            }
+            None => sequences::value_or_fault(self.evaluate(body, &deeper)),
+        }
     }
 
     /// What a form gives of each item, up to the first fault.
@@ -281,11 +277,10 @@ impl<'a, R: TableRow> Running<'a, R> {
         &self,
         body: &Form,
         items: &[Value<R>],
-        end: End,
         slots: &Slots<'_, R>,
     ) -> Result<(List<Value<R>>, End), AllocError>
-        ensures { IfOk result (λ values.
-            values ≡ select_by (value_of_item (world self.now) body.now slots.now) items.now end) }
+        ensures { IfOk result (λ values. values
+            ≡ select_by (value_of_item (world self.now) body.now slots.now) items.now end.Done) }
     {
         let mut values = List::new(self.sources.alloc);
         for item in items {
@@ -294,6 +289,6 @@ impl<'a, R: TableRow> Running<'a, R> {
                 Err(fault) => return Ok((values, End::Fault(fault))),
             }
         }
-        Ok((values, end))
+        Ok((values, End::Done))
     }
 }

@@ -1,24 +1,21 @@
 //! The running of operators, and of what makes one value of several.
 use crate::running::Running;
 use lq_grammar::Field;
+use lq_host::Asks;
 use lq_language::Op;
 use lq_operators::RunError;
 use lq_plan::{Slots, TableRow, parts, scalars};
 use lq_tree::Form;
-use lq_value::{List, Scalar, Txt, Value};
+use lq_value::{List, Scalar, Value};
 
-impl<'a, R: TableRow> Running<'a, R> {
-    ghost use Rattle.std.specs.Prelude.{Ok, map};
+impl<'a, R: TableRow, H: Asks> Running<'a, R, H> {
     ghost use Rattle.lq_value.specs.declared.value.Fault.TheVariants as fault;
     ghost use Rattle.lq_language.specs.OperandMeaning.{as_value, on_scalar};
     ghost use Rattle.lq_language.specs.Operations.{of_two};
     ghost use Rattle.lq_operators.specs.Answers.{IsAnswer};
-    ghost use Rattle.lq_tree.specs.FormMeaning.{members_of};
-    ghost use Rattle.lq_plan.specs.Lists.{field_means};
     ghost use Rattle.lq_tree.specs.declared.tree.Form.TheVariants as form;
-    ghost use Rattle.lq_plan.specs.Meanings.{Answers, meant};
+    ghost use Rattle.lq_plan.specs.Meanings.{meant};
     ghost use Rattle.lq_pipe.specs.Runs.{world};
-    ghost use Rattle.lq_plan.specs.Slots.{values_in};
 
     /// What an operator gives to one operand.
     #[cycle(running)]
@@ -153,10 +150,9 @@ impl<'a, R: TableRow> Running<'a, R> {
         }
     }
 
-    /// A record.
+    /// A record, whose members are evaluated in their order, up to the first fault.
     #[cycle(running)]
     #[inline(never)]
-    #[tactic(auto, using(lq_plan::proofs::FormLaws::form_record))]
     pub(crate) fn record(
         &self,
         fields: &List<Field<Form>>,
@@ -164,25 +160,12 @@ impl<'a, R: TableRow> Running<'a, R> {
     ) -> Result<Value<R>, RunError>
         ensures { IsAnswer (meant (world self.now) (form.Record fields.now) slots.now) result }
     {
-        Ok(Value::Rec(self.members(fields, slots)?))
-    }
-
-    /// The members of a record, in their order, up to the first fault.
-    #[cycle(running)]
-    fn members(
-        &self,
-        fields: &List<Field<Form>>,
-        slots: &Slots<'_, R>,
-    ) -> Result<List<(Txt, Value<R>)>, RunError>
-        ensures { Answers (members_of (world self.now)
-            (map (field_means (world self.now)) fields.now) (values_in slots.now)) result }
-    {
         let mut members = List::new(self.sources.alloc);
         for field in fields.as_slice() {
             let value = self.evaluate(&field.value, slots)?;
             parts::push_member(self.sources.alloc, &mut members, &field.name, value)?;
         }
-        Ok(members)
+        Ok(Value::Rec(members))
     }
 
     /// A pair, the left part of which is evaluated first.

@@ -1,5 +1,6 @@
 //! The pulling of items: one by one from a base, each through the conditions and lambdas above it.
 use crate::running::Running;
+use lq_host::Asks;
 use lq_plan::{
     Base, Outcome, Pipe, Pulled, Slots, Stage, TableRow, counts, has_no_stage, sequences, stage_of,
 };
@@ -7,7 +8,7 @@ use lq_tree::Form;
 use lq_value::{End, List, Value, copy_scalar};
 use std::alloc::AllocError;
 
-impl<'a, R: TableRow> Running<'a, R> {
+impl<'a, R: TableRow, H: Asks> Running<'a, R, H> {
     ghost use Rattle.std.specs.Prelude.{◌≡◌, ◌∷◌, [], Some, true, IfOk};
     ghost use Rattle.lq_value.specs.declared.value.Value.TheVariants as value;
     ghost use Rattle.lq_value.specs.declared.value.End.TheVariants as end;
@@ -215,7 +216,7 @@ impl<'a, R: TableRow> Running<'a, R> {
     }
 
     /// The items of a pipe up to a limit, where there is one, and how they end as far as they are read:
-    /// nothing is pulled after the last of them.
+    /// nothing is pulled after the last of them, and where the limit is 0 the source isn't opened.
     #[cycle(running)]
     #[inline(never)]
     #[tactic(auto, using(crate::proofs::PullLemmas::reads))]
@@ -229,8 +230,11 @@ impl<'a, R: TableRow> Running<'a, R> {
         ensures { IfOk result (λ items. items ≡ read_first limit
             (all_items (world self.now) (values_in slots.now) pipe.now)) }
     {
-        let mut base = self.open(pipe.source, slots)?;
         let mut items = List::new(self.sources.alloc);
+        if counts::is_zero(limit) {
+            return Ok((items, End::Done));
+        }
+        let mut base = self.open(pipe.source, slots)?;
         let mut left = limit;
         while let Some(less) = counts::one_less(left) {
             match self.next(pipe, &mut base, slots)? {

@@ -4,12 +4,13 @@ ghost use Rattle.lq_pipe.specs.Conditions.{rows_true};
 ghost use Rattle.lq_plan.specs.Worlds.{HaveDistinctColumns, schemas_in, world_of};
 
 use crate::running::Running;
+use lq_host::Asks;
 use lq_plan::{Plan, Slots, Sources, TableRow, TableRows};
 use lq_tree::{Form, Tree};
 use lq_value::{End, Fault, Value};
 use std::alloc::{AllocError, Global};
 
-impl<'a, R: TableRow> Running<'a, R> {
+impl<'a, R: TableRow, H: Asks> Running<'a, R, H> {
     ghost use Rattle.std.specs.Prelude.{◌≡◌, IfOk};
     ghost use Rattle.lq_pipe.specs.Conditions.{holds_on, rows_true};
     ghost use Rattle.lq_pipe.specs.Runs.{PlansRows, world};
@@ -59,19 +60,21 @@ impl<'a, R: TableRow> Running<'a, R> {
 
 /// Those of the rows on which a condition is true, in their order, and how they end (.NET,
 /// `Enumerable.Where`): the first fault that the condition meets is their ending, behind the rows
-/// that were kept before it. The condition's first slot holds the row, and its tables are these.
-/// Refused where no memory was left.
-pub fn rows_where<'a, R: TableRow>(
+/// that were kept before it. The condition's first slot holds the row, and its tables and host predicates
+/// are these. Refused where no memory was left.
+pub fn rows_where<'a, R: TableRow, H: Asks>(
     alloc: Global,
     condition: &Tree,
     rows: &[R],
     tables: &'a [TableRows<'a, R>],
+    hosts: &'a H,
 ) -> Result<(Vec<R>, End), AllocError>
     requires { HaveDistinctColumns (schemas_in tables.now) }
     ensures { IfOk result (λ found. (found.0.items, found.1)
-        ≡ rows_true (world_of R.table_of R.shown tables.now) condition.now.form rows.now) }
+        ≡ rows_true (world_of R.table_of R.shown (H.known hosts.now) tables.now)
+        condition.now.form rows.now) }
 {
-    let sources = Sources::new(alloc, tables);
+    let sources = Sources::new(alloc, tables, hosts);
     let running = Running { sources };
     running.filter_rows(condition.form.get(), rows)
 }

@@ -1,17 +1,18 @@
 //! The running of forms.
+use lq_host::Asks;
 use lq_operators::RunError;
 use lq_plan::parts::Part;
 use lq_plan::{Slots, Sources, Stage, TableRow, part_ref, scalars};
 use lq_tree::Form;
 use lq_value::{Scalar, Value, copy_scalar};
 
-/// The running of forms over some tables.
+/// The running of forms over some tables and host predicates.
 #[derive(Drop)]
-pub(crate) struct Running<'a, R: TableRow> {
-    pub(crate) sources: Sources<'a, R>,
+pub(crate) struct Running<'a, R: TableRow, H: Asks> {
+    pub(crate) sources: Sources<'a, R, H>,
 }
 
-impl<'a, R: TableRow> Running<'a, R> {
+impl<'a, R: TableRow, H: Asks> Running<'a, R, H> {
     ghost use Rattle.lq_language.specs.Operations.{on_ok};
     ghost use Rattle.lq_operators.specs.Answers.{IsAnswer};
     ghost use Rattle.lq_plan.specs.Meanings.{Answers, meant, scalar_in};
@@ -31,6 +32,9 @@ impl<'a, R: TableRow> Running<'a, R> {
             Form::Second(pair) => self.part(Part::Second, pair.get(), slots),
             Form::Table(number) => self.sources.table(*number),
             Form::Column(row, table, at) => self.part(Part::Cell(*table, *at), row.get(), slots),
+            Form::Host(predicate, row, table, columns) => {
+                self.part(Part::Host(*predicate, *table, *columns), row.get(), slots)
+            }
             Form::Member(value, place) => self.part(Part::Member(*place), value.get(), slots),
             Form::Key(group) => self.part(Part::Key, group.get(), slots),
             Form::Unary(op, operand) => self.unary(*op, operand.get(), slots),
@@ -76,7 +80,8 @@ impl<'a, R: TableRow> Running<'a, R> {
         }
     }
 
-    /// What is read of what a form means, which stays in its slot where it is a part of what stands in one.
+    /// What is read of what a form means, or asked about it: it stays in its slot where it is a part of what
+    /// stands in one.
     #[cycle(running)]
     #[inline(never)]
     fn part(&self, part: Part, form: &Form, slots: &Slots<'_, R>) -> Result<Value<R>, RunError>

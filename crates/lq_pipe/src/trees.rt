@@ -6,40 +6,44 @@ ghost use Rattle.lq_tree.specs.FormMeaning.{form_meaning};
 ghost use Rattle.lq_plan.specs.Worlds.{HaveDistinctColumns, schemas_in, world_of};
 
 use crate::running::Running;
+use lq_host::Asks;
 use lq_operators::RunError;
 use lq_plan::{Slots, Sources, TableRow, TableRows, sequences};
 use lq_tree::Tree;
 use lq_value::{End, List, Value};
 use std::alloc::{AllocError, Global};
 
-/// The value of a typed tree over these tables, or its first fault (ECMA-334, expressions; .NET,
-/// `Enumerable`). `Memory` where none was left.
+/// The value of a typed tree over these tables and host predicates, or its first fault (ECMA-334,
+/// expressions; .NET, `Enumerable`). `Memory` where none was left.
 #[tactic(auto, using(lq_plan::proofs::SlotLaws::no_values))]
-pub fn value<'a, R: TableRow>(
+pub fn value<'a, R: TableRow, H: Asks>(
     alloc: Global,
     tree: &Tree,
     tables: &'a [TableRows<'a, R>],
+    hosts: &'a H,
 ) -> Result<Value<R>, RunError>
     requires { HaveDistinctColumns (schemas_in tables.now) }
-    ensures { IsAnswer
-        (form_meaning (world_of R.table_of R.shown tables.now) tree.now.form []) result }
+    ensures { IsAnswer (form_meaning (world_of R.table_of R.shown (H.known hosts.now) tables.now)
+        tree.now.form []) result }
 {
-    let sources = Sources::new(alloc, tables);
+    let sources = Sources::new(alloc, tables, hosts);
     let running = Running { sources };
     running.evaluate(tree.form.get(), &Slots::Empty)
 }
 
-/// The items of a typed tree over these tables, and how they end: a fault that is met in making
-/// them is their ending. Refused where no memory was left.
-pub fn run<'a, R: TableRow>(
+/// The items of a typed tree over these tables and host predicates, and how they end: a fault that is
+/// met in making them is their ending. Refused where no memory was left.
+pub fn run<'a, R: TableRow, H: Asks>(
     alloc: Global,
     tree: &Tree,
     tables: &'a [TableRows<'a, R>],
+    hosts: &'a H,
 ) -> Result<(List<Value<R>>, End), AllocError>
     requires { HaveDistinctColumns (schemas_in tables.now) }
     ensures { IfOk result (λ s. s
-        ≡ stream_of (world_of R.table_of R.shown tables.now)
-        (form_meaning (world_of R.table_of R.shown tables.now) tree.now.form [])) }
+        ≡ stream_of (world_of R.table_of R.shown (H.known hosts.now) tables.now)
+        (form_meaning (world_of R.table_of R.shown (H.known hosts.now) tables.now)
+        tree.now.form [])) }
 {
-    sequences::stream(alloc, value(alloc, tree, tables))
+    sequences::stream(alloc, value(alloc, tree, tables, hosts))
 }

@@ -1,14 +1,15 @@
 -- What each form means, over what the forms in it mean.
-use Rattle.std.proofs.Common.{◌≡◌, if◌then◌else◌, not, List, map, ℕ, Bool, true, false, Result, Ok, ap, ◌∙◌, slice_get}
+use Rattle.std.proofs.Common.{◌≡◌, if◌then◌else◌, not, List, map, ℕ, Bool, true, false, Some, Result, Ok, ap, ◌∙◌, slice_get}
 use Rattle.lq_value.specs.SameAndOrder.{same_values as same_keys}
 use Rattle.lq_value.specs.declared.scalar.Scalar.{Scalar}
 use Rattle.lq_value.specs.declared.ty.Ty.{Ty}
 use Rattle.lq_value.specs.declared.value.Fault.{Fault}
 use Rattle.lq_value.specs.declared.value.Value.{Value, out-Value}
 use Rattle.lq_value.specs.declared.value.Value.TheVariants as value
+use Rattle.lq_host.specs.declared.call.Pick.{Pick}
 use Rattle.lq_language.specs.Arrangement.{order_by}
 use Rattle.lq_language.specs.Worlds.{World}
-use Rattle.lq_language.specs.OperandMeaning.{as_value, is_null, on_scalar, on_truth, sequence, scalar_of, stream_of, table_value, truth_value}
+use Rattle.lq_language.specs.OperandMeaning.{as_value, asked_about, is_null, on_scalar, on_truth, sequence, scalar_of, stream_of, table_value, truth_value}
 use Rattle.lq_language.specs.ClauseMeaning.{as_group}
 use Rattle.lq_language.specs.Operations.{of_one, of_two, on_ok}
 use Rattle.lq_language.specs.Enumerable.{all}
@@ -20,7 +21,7 @@ use Rattle.lq_language.specs.declared.methods.Simple.{Simple}
 use Rattle.lq_language.specs.declared.operation.Op.{Op}
 use Rattle.lq_grammar.specs.declared.syntax.Field.{Field}
 use Rattle.lq_grammar.specs.declared.syntax.SortKey.{SortKey}
-use Rattle.lq_tree.specs.FormMeaning.{Means, Slots, cell_in, form_meaning, form_step, if_there, is_null_value, is_true, joined_stream, key_in, member_at, members_of, sort_key, with_item, with_items}
+use Rattle.lq_tree.specs.FormMeaning.{Means, Slots, arguments_at, cell_in, form_meaning, form_step, if_there, is_null_value, is_true, joined_stream, key_in, member_at, members_of, sort_key, with_item, with_items}
 use Rattle.lq_tree.specs.declared.tree.Form.{Form, fold_out-Form, map-Form, out-Form}
 use Rattle.lq_tree.specs.declared.tree.Form.TheOpen.{Form-F}
 use Rattle.lq_tree.specs.declared.tree.Form.TheVariants as form
@@ -57,6 +58,11 @@ module _ {R : Type 0} (world : World R) where
   pub form_column : (a : Form) (table c : ℕ) (slots : Slots R)
       → form_meaning world (form.Column a table c) slots ≡ on_ok (form_meaning world a slots) (λ v. cell_in world table c (out-Value R v))
   form_column a table c slots = at _ _ slots (form.outs-Column a table c)
+
+  pub form_host : (predicate : ℕ) (a : Form) (table : ℕ) (columns : Pick) (slots : Slots R)
+      → form_meaning world (form.Host predicate a table columns) slots
+      ≡ on_ok (form_meaning world a slots) (λ v. asked_about world (Some predicate) (arguments_at world table columns) (out-Value R v))
+  form_host predicate a table columns slots = at _ _ slots (form.outs-Host predicate a table columns)
 
   pub form_member : (a : Form) (place : ℕ) (slots : Slots R)
       → form_meaning world (form.Member a place) slots ≡ on_ok (form_meaning world a slots) (λ v. member_at world place (out-Value R v))
@@ -175,6 +181,6 @@ module _ {R : Type 0} (world : World R) where
       (stream_of world (form_meaning world a slots)).0 (stream_of world (form_meaning world a slots)).1))
   form_group_by a key element slots = at _ _ slots (form.outs-GroupBy a key element)
 
-pub ruleset parts = (form_first, form_second, form_column, form_member, form_key, form_is_null)
+pub ruleset parts = (form_first, form_second, form_column, form_host, form_member, form_key, form_is_null)
 
 pub ruleset stages = (form_sequence, form_where, form_select)

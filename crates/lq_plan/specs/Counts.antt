@@ -1,5 +1,5 @@
 -- How many items of a source settle what a method answers (.NET, Enumerable).
-use Rattle.std.specs.Prelude.{◌+◌, ℕ, zero, suc, ℤ, pos, negsuc, Option, Some, None, Result, Ok, Err}
+use Rattle.std.specs.Prelude.{◌+◌, ℕ, zero, suc, ℤ, pos, negsuc, Bool, true, false, Option, Some, None, Result, Ok, Err}
 use Rattle.lq_value.specs.declared.scalar.Scalar.TheVariants as scalar
 use Rattle.lq_value.specs.declared.value.Fault.{Fault}
 use Rattle.lq_value.specs.declared.value.Value.{Value, out-Value}
@@ -49,6 +49,11 @@ abbrev pub one_less : Option ℕ → Option (Option ℕ)
 one_less (Some zero) = None
 one_less (Some (suc n)) = Some (Some n)
 one_less None = Some None
+
+-- whether no item is read at all
+abbrev pub is_zero : Option ℕ → Bool
+is_zero (Some zero) = true
+is_zero limit = false
 
 -- the items up to a limit, where there is one, and how they end as far as they are read
 abbrev pub read_first : {A : Type 0} → Option ℕ → Stream A → Stream A

@@ -1,7 +1,8 @@
--- The world of the tables that forms are run over, and what is prepared of forms in this world.
+-- The world of the tables and host predicates that forms are run over, and what is prepared of forms in this world.
 use Rattle.std.specs.Prelude.{[], ℕ}
 use Rattle.lq_value.specs.declared.scalar.Scalar.{Scalar}
 use Rattle.lq_value.specs.declared.value.RowRef as Cells
+use Rattle.lq_host.specs.declared.asks.Asks as Hosts
 use Rattle.lq_language.specs.Worlds.{World}
 use Rattle.lq_condition.specs.declared.condition.Condition.{Condition}
 use Rattle.lq_tree.specs.declared.tree.Form.{Form}
@@ -15,10 +16,10 @@ use Rattle.lq_plan.specs.declared.slots.Slots.{Slots}
 use Rattle.lq_plan.specs.declared.stages.Stage.{Stage}
 use Rattle.lq_plan.specs.declared.tables.TableRow as Rows
 
-module _ {R : Type 0} {t : Rows.Ghosts R} {r : Cells.Ghosts R} (sources : Sources R t r) where
-  -- the world of the tables that are read
+module _ {R H : Type 0} {t : Rows.Ghosts R} {r : Cells.Ghosts R} {h : Hosts.Ghosts H} (sources : Sources R H t r h) where
+  -- the world of the tables that are read, and of the predicates that are asked
   abbrev pub world : World R
-  world = world_of t.table_of r.shown sources.tables.now
+  world = world_of t.table_of r.shown (h.known sources.hosts.now) sources.tables.now
 
   -- what a plan says of a row of its table is what a condition means there, where the row stands in the first slot
   abbrev pub PlansRows : Form → Plan → Type 0

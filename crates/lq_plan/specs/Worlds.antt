@@ -1,8 +1,9 @@
--- What a tree reads: the schemas and rows of the tables that it is given, and the cells of rows by the names of their columns.
-use Rattle.std.specs.Prelude.{◌≡◌, List, [], map, ℕ, true, slice_get}
+-- What a tree reads: the schemas and rows of the tables that it is given, the cells of rows by the names of their columns, and host predicates.
+use Rattle.std.specs.Prelude.{◌≡◌, List, [], map, ℕ, true, Option, slice_get}
 use Rattle.lq_value.specs.declared.scalar.Scalar.{Scalar}
 use Rattle.lq_value.specs.declared.table.Schema.{Schema}
 use Rattle.lq_value.specs.declared.value.Fault.TheVariants as fault
+use Rattle.lq_host.specs.Predicates.{Predicate}
 use Rattle.lq_language.specs.Worlds.{World}
 use Rattle.lq_language.specs.ValuesOfTypes.{Every}
 use Rattle.lq_machine.specs.Served.{columns_in}
@@ -17,14 +18,19 @@ module _ {R : Type 0} where
   abbrev pub rows_in : List (TableRows R) → List (List R)
   rows_in tables = map (λ t. t.rows.now) tables
 
-  -- what is read, where rows tell the numbers of their tables and their cells; the fault stands where an expression has no meaning
-  abbrev pub world_of : (R → ℕ) → (R → List Scalar) → List (TableRows R) → World R
-  world_of table_of shown tables =
+  -- a row's cell by its column's name, where rows tell the numbers of their tables and their cells
+  abbrev pub cell_of : (R → ℕ) → (R → List Scalar) → List (TableRows R) → R → List ℕ → Option Scalar
+  cell_of table_of shown tables r = cell_named (columns_in (slice_get (schemas_in tables) (table_of r))) (shown r)
+
+  -- what is read; the fault stands where an expression has no meaning
+  abbrev pub world_of : (R → ℕ) → (R → List Scalar) → List Predicate → List (TableRows R) → World R
+  world_of table_of shown predicates tables =
       record {
         schemas = schemas_in tables;
         rows = rows_in tables;
+        predicates = predicates;
         session = [];
-        cell = λ r. cell_named (columns_in (slice_get (schemas_in tables) (table_of r))) (shown r);
+        cell = cell_of table_of shown tables;
         unknown = fault.NullReference;
       }
 

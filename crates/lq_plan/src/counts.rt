@@ -1,7 +1,7 @@
 //! How many items a method reads at most.
 ghost use Rattle.std.specs.Prelude.{◌≡◌};
 ghost use Rattle.lq_value.specs.declared.value.Value.{out-Value};
-ghost use Rattle.lq_plan.specs.Counts.{given_limit, fault_limit, value_limit, simple_limit, number_limit, one_less};
+ghost use Rattle.lq_plan.specs.Counts.{given_limit, fault_limit, is_zero, value_limit, simple_limit, number_limit, one_less};
 
 use lq_language::{Given, Simple};
 use lq_value::{Fault, RowRef, Scalar, Value};
@@ -62,6 +62,14 @@ pub fn given_limit<R: RowRef>(method: Given, argument: &Result<Value<R>, Fault>)
         Ok(value) => value_limit(method, value),
         Err(_) => fault_limit(method),
     }
+}
+
+/// Whether no item is read at all.
+#[inline]
+pub fn is_zero(limit: Option<usize>) -> bool
+    ensures { result ≡ is_zero limit }
+{
+    matches!(limit, Some(0))
 }
 
 /// What is left of a limit once one item more is read; none where the limit is reached. Where there is no

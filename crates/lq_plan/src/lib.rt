@@ -1,7 +1,7 @@
 //! What the running of a typed tree stands on: everything that evaluates no form.
 //!
-//! `Sources` are the tables that forms are run over, and `Slots` the values that lambdas take, borrowed
-//! where they stand. A `Base` holds items that are pulled one by one; a `Plan` is what is found out once
+//! `Sources` are the tables and the host predicates that forms are run over, and `Slots` the values that
+//! lambdas take, borrowed where they stand. A `Base` holds items that are pulled one by one; a `Plan` is what is found out once
 //! about the rows of a table, for the conditions and the lambda above it; and a `Pipe` is what is pulled
 //! by one. The modules have what is done to the values, the scalars and the items that are there: parts of
 //! values, operators between scalars, sequences, limits of methods, and arrangements by keys.
@@ -10,6 +10,7 @@
 pub mod arrangements;
 mod bases;
 pub mod counts;
+mod hosts;
 pub mod parts;
 mod pipes;
 mod planning;

@@ -10,11 +10,12 @@ ghost use Rattle.lq_language.specs.Meaning.{as_truth};
 ghost use Rattle.lq_operators.specs.Answers.{IsAnswer};
 ghost use Rattle.lq_tree.specs.FormMeaning.{is_null_value};
 
+use lq_host::{Pick, PredicateNumber};
 use lq_operators::RunError;
 use lq_value::{ColumnNumber, End, List, RowRef, Scalar, TableNumber, Txt, Value};
 use std::alloc::{AllocError, Global};
 
-/// What is read of a value.
+/// What is read of a value, or asked about it.
 #[derive(Clone, Copy)]
 pub enum Part {
     /// The first part of a pair.
@@ -23,6 +24,9 @@ pub enum Part {
     Second,
     /// The cell of a row under the name of this column of this table.
     Cell(TableNumber, ColumnNumber),
+    /// What the host predicate of this number answers about a row: it is asked of the cells in these
+    /// columns of this table.
+    Host(PredicateNumber, TableNumber, Pick),
     /// The member of a record at this place.
     Member(usize),
     /// The key of a group (.NET, `IGrouping.Key`).

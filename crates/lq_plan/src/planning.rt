@@ -12,6 +12,7 @@ use crate::sources::Sources;
 use crate::stages::Stage;
 use crate::tables::{TableRow, column_name};
 use lq_condition::Condition;
+use lq_host::Asks;
 use lq_language::Op;
 use lq_tree::Form;
 use lq_value::{ColumnNumber, Scalar, TableNumber};
@@ -43,7 +44,7 @@ fn search_of(op: Op) -> Option<Op>
     }
 }
 
-impl<'a, R: TableRow> Sources<'a, R> {
+impl<'a, R: TableRow, H: Asks> Sources<'a, R, H> {
     ghost use Rattle.std.specs.Prelude.{◌≡◌, IfOk, IfSome};
     ghost use Rattle.lq_tree.specs.declared.tree.Form.TheVariants as form;
     ghost use Rattle.lq_plan.specs.Meanings.{items_meant};

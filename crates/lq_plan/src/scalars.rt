@@ -16,7 +16,7 @@ use lq_condition::compare_numbers;
 use lq_grammar::Binary;
 use lq_language::Op;
 use lq_operators::RunError;
-use lq_scalar::{ScalarError, ScalarRef, apply, operate, searched};
+use lq_scalar::{ScalarError, ScalarRef, apply, operate, search_text};
 use lq_value::{Fault, RowRef, Scalar, Value, copy_scalar};
 use std::alloc::{AllocError, Global};
 
@@ -178,7 +178,7 @@ fn of_sign<R: RowRef>(
         (operation_of sign) left.now right.now)) result }
 {
     match operate(sign, ScalarRef::of(left), ScalarRef::of(right)) {
-        Ok(scalar) => Ok(Value::Scalar(scalar.copied(alloc)?)),
+        Ok(scalar) => Ok(Value::Scalar(scalar.to_scalar(alloc)?)),
         Err(fault) => Err(RunError::Fault(fault)),
     }
 }
@@ -188,7 +188,7 @@ fn of_search<R: RowRef>(op: Op, text: &Scalar, needle: &Scalar) -> Result<Value<
     ensures { IsAnswer (as_value (of_truth fault.NullReference
         (searched fault.NullReference op text.now needle.now))) result }
 {
-    match searched(op, ScalarRef::of(text), ScalarRef::of(needle)) {
+    match search_text(op, ScalarRef::of(text), ScalarRef::of(needle)) {
         Ok(truth) => Ok(Value::Scalar(Scalar::Bool(truth))),
         Err(fault) => Err(RunError::Fault(fault)),
     }

@@ -12,7 +12,7 @@ ghost use Rattle.lq_tree.specs.FormMeaning.{matched};
 ghost use Rattle.lq_plan.specs.Groups.{groups_in};
 ghost use Rattle.lq_operators.specs.Answers.{IsAnswer};
 
-use lq_operators::{Matches, RunError, grouped};
+use lq_operators::{Matches, RunError, group_pairs};
 use lq_value::{End, Fault, List, RowRef, Value};
 use std::alloc::{AllocError, Global};
 
@@ -81,7 +81,7 @@ pub fn groups<R: RowRef>(
     ensures { IfOk result (λ v. v ≡ sequence (whole pairs end groups_in)) }
 {
     match end {
-        End::Done => Ok(Value::Seq(grouped(alloc, pairs)?, End::Done)),
+        End::Done => Ok(Value::Seq(group_pairs(alloc, pairs)?, End::Done)),
         End::Fault(fault) => Ok(fault_sequence(alloc, fault)),
     }
 }

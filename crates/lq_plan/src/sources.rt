@@ -10,6 +10,7 @@ use crate::parts::{self, Part};
 use crate::scalars;
 use crate::slots::Slots;
 use crate::tables::{TableRow, TableRows, cell};
+use lq_host::Asks;
 use lq_language::Op;
 use lq_operators::RunError;
 use lq_tree::Form;
@@ -45,17 +46,20 @@ fn scalar_in_value<R: RowRef>(operand: &Value<R>) -> Option<&Scalar>
 }
 
 /// What forms are run over: the tables that they may read, no two columns of one of which have the
-/// same name, and what gives memory.
+/// same name, the host predicates that they may ask, and what gives memory.
 #[derive(Drop)]
-pub struct Sources<'a, R: TableRow> {
+pub struct Sources<'a, R: TableRow, H: Asks> {
     /// What gives memory.
     pub alloc: Global,
     /// The tables, by their numbers.
     pub tables: &'a [TableRows<'a, R>],
-    ghost distinct: { HaveDistinctColumns (world_of R.table_of R.shown tables.now).schemas },
+    /// The host predicates, by their numbers.
+    pub hosts: &'a H,
+    ghost distinct: { HaveDistinctColumns
+        (world_of R.table_of R.shown (H.known hosts.now) tables.now).schemas },
 }
 
-impl<'a, R: TableRow> Sources<'a, R> {
+impl<'a, R: TableRow, H: Asks> Sources<'a, R, H> {
     ghost use Rattle.std.specs.Prelude.{◌≡◌, IfOk, Ok, slice_get};
     ghost use Rattle.lq_value.specs.declared.value.Value.{out-Value};
     ghost use Rattle.lq_language.specs.OperandMeaning.{stream_of, table_value};
@@ -69,12 +73,16 @@ impl<'a, R: TableRow> Sources<'a, R> {
     ghost use Rattle.lq_plan.specs.Slots.{values_in};
     ghost use Rattle.lq_plan.specs.Worlds.{HaveDistinctColumns, rows_in, schemas_in, world_of};
 
-    /// These tables, and memory from here.
-    pub fn new(alloc: Global, tables: &'a [TableRows<'a, R>]) -> Sources<'a, R>
+    /// These tables, these host predicates, and memory from here.
+    pub fn new(alloc: Global, tables: &'a [TableRows<'a, R>], hosts: &'a H) -> Sources<'a, R, H>
         requires { HaveDistinctColumns (schemas_in tables.now) }
-        ensures { world result ≡ world_of R.table_of R.shown tables.now }
+        ensures { world result ≡ world_of R.table_of R.shown (H.known hosts.now) tables.now }
     {
-        Sources { alloc, tables }
+        Sources {
+            alloc,
+            tables,
+            hosts,
+        }
     }
 
     /// A literal, as a value. `Memory` where none was left for a text.
@@ -191,17 +199,31 @@ impl<'a, R: TableRow> Sources<'a, R> {
     /// that stands in one: it stays there. None means nothing: such a form, and every other one, may
     /// still mean a scalar, which is found by evaluating it.
     #[inline(never)]
-    #[tactic(auto, using(crate::proofs::FormLaws::form_literal, crate::proofs::FormLaws::form_column))]
+    #[tactic(auto, using(crate::proofs::FormLaws::form_literal))]
     pub fn scalar_ref<'s>(&'s self, form: &'s Form, slots: &'s Slots<'_, R>) -> Option<&'s Scalar>
         ensures { IfSome result (λ scalar.
             meant (world self.now) form.now slots.now ≡ Ok (value.Scalar scalar.now)) }
     {
         match form {
             Form::Literal(scalar) => Some(scalar),
+            Form::Column(_, _, _) => self.column_ref(form, slots),
+            _ => scalar_in_value(part_ref(form, slots)?),
+        }
+    }
+
+    /// The cell that a form means, where it is a column of a row in a slot: it stays there. None means
+    /// nothing: such a form, and every other one, may still mean a scalar.
+    #[inline]
+    #[tactic(auto, using(crate::proofs::FormLaws::form_column))]
+    pub fn column_ref<'s>(&'s self, form: &'s Form, slots: &'s Slots<'_, R>) -> Option<&'s Scalar>
+        ensures { IfSome result (λ scalar.
+            meant (world self.now) form.now slots.now ≡ Ok (value.Scalar scalar.now)) }
+    {
+        match form {
             Form::Column(row, table, column) => {
                 self.cell_ref(part_ref(row.get(), slots)?, *table, *column)
             }
-            _ => scalar_in_value(part_ref(form, slots)?),
+            _ => None,
         }
     }
 
@@ -234,8 +256,8 @@ impl<'a, R: TableRow> Sources<'a, R> {
         }
     }
 
-    /// A copy of what is read of a value; the fault of a form without meaning where the value has nothing
-    /// of the kind: no typed tree asks for it there. `Memory` where none was left.
+    /// A copy of what is read of a value, or what is answered about it; the fault of a form without meaning
+    /// where the value has nothing of the kind: no typed tree asks for it there. `Memory` where none was left.
     #[inline(never)]
     pub fn part(&self, part: Part, value: &Value<R>) -> Result<Value<R>, RunError>
         ensures { IsAnswer (part_of (world self.now) part value.now) result }
@@ -244,6 +266,7 @@ impl<'a, R: TableRow> Sources<'a, R> {
             Part::First => Ok(copy(self.alloc, parts::first(value))?),
             Part::Second => Ok(copy(self.alloc, parts::second(value))?),
             Part::Cell(table, column) => self.cell_in(value, table, column),
+            Part::Host(predicate, table, columns) => self.host(predicate, value, table, columns),
             Part::Member(place) => self.member_at(value, place),
             Part::Key => self.key_in(value),
             Part::IsNull(wanted) => Ok(parts::truth(parts::is_null_as(value, wanted))),

@@ -4,7 +4,7 @@ ghost use Rattle.std.specs.Option.{option_copied};
 ghost use Rattle.lq_machine.specs.Served.{columns_in};
 ghost use Rattle.lq_language.specs.TableRows.{cell_named};
 ghost use Rattle.lq_tree.specs.FormMeaning.{name_of_column};
-ghost use Rattle.lq_plan.specs.Worlds.{HaveDistinctColumns, schemas_in, world_of};
+ghost use Rattle.lq_plan.specs.Worlds.{HaveDistinctColumns, cell_of, schemas_in};
 
 use lq_scalar::cell_named;
 use lq_value::{Column, ColumnNumber, RowRef, Scalar, Schema, TableNumber};
@@ -72,7 +72,7 @@ pub(crate) fn cell<'r, R: TableRow>(
 ) -> Option<&'r Scalar>
     requires { HaveDistinctColumns (schemas_in tables.now) }
     ensures { option_copied result
-        ≡ option_and_then ((world_of R.table_of R.shown tables.now).cell row.now)
+        ≡ option_and_then (cell_of R.table_of R.shown tables.now row.now)
         (name_of_column (schemas_in tables.now) table column) }
 {
     let name = column_name(tables, table, column)?;

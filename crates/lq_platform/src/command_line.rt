@@ -35,6 +35,14 @@ pub fn report_memory(rt: &HostRuntime) -> u8
     NO_MEMORY
 }
 
+/// Reports that the list of `--watch` is none of numbers, and answers the status for it. A failure to write is passed over.
+pub fn report_watch(rt: &HostRuntime) -> u8
+    ensures { result ≡ 2 }
+{
+    let _ = rt.stderr().write_all(b"lq: watch\n");
+    USAGE
+}
+
 /// Reports why the words could not be read, and answers the status for it.
 pub fn report_words(rt: &HostRuntime, error: &io::Error) -> u8
     ensures memory { error_kind error.now ≡ fault.OutOfMemory → result ≡ 5 }

@@ -1,5 +1,5 @@
 -- Policies that have a say are about the table at hand.
-use Rattle.std.proofs.Common.{◌≡◌, ℕ, Bool, true, false, ◌||◌, ◌⊎◌, inl, inr, refl, List}
+use Rattle.std.proofs.Common.{◌≡◌, ℕ, true, inl, inr, List}
 use Rattle.std.proofs.lemmas.Bool.{or_cases}
 use Rattle.lq_security.specs.Visible.{applies}
 use Rattle.lq_security.specs.declared.policy.Action.TheVariants as action

@@ -21,6 +21,7 @@ by_no_table (of.Table u) t = refl
 by_no_table (of.Column u c) t = refl
 by_no_table (of.Insert u) t = refl
 by_no_table (of.Delete u) t = refl
+by_no_table (of.Host p) t = refl
 
 pub by_a_column : (other : Use) (t c : ℕ) (so_far : Bool)
     → is_same_use other (of.Column t c) || (is_same_use other (of.Table t) || so_far) ≡ gives other (of.Column t c) || so_far
@@ -28,6 +29,7 @@ by_a_column (of.Table u) t c so_far = refl
 by_a_column (of.Column u d) t c so_far = refl
 by_a_column (of.Insert u) t c so_far = refl
 by_a_column (of.Delete u) t c so_far = refl
+by_a_column (of.Host p) t c so_far = refl
 
 -- a column is put into a set after its table
 pub column_added : (added : Result (Unit {0}) AllocError) (before between after : UseSet) (right : Use) (t c : ℕ) → right ≡ of.Column t c
@@ -46,12 +48,21 @@ by_an_insertion (of.Table u) t = refl
 by_an_insertion (of.Column u c) t = refl
 by_an_insertion (of.Insert u) t = refl
 by_an_insertion (of.Delete u) t = refl
+by_an_insertion (of.Host p) t = refl
 
 pub by_a_removal : (other : Use) (t : ℕ) → is_same_use other (of.Delete t) ≡ gives other (of.Delete t)
 by_a_removal (of.Table u) t = refl
 by_a_removal (of.Column u c) t = refl
 by_a_removal (of.Insert u) t = refl
 by_a_removal (of.Delete u) t = refl
+by_a_removal (of.Host p) t = refl
+
+pub by_a_predicate : (other : Use) (p : ℕ) → is_same_use other (of.Host p) ≡ gives other (of.Host p)
+by_a_predicate (of.Table u) p = refl
+by_a_predicate (of.Column u c) p = refl
+by_a_predicate (of.Insert u) p = refl
+by_a_predicate (of.Delete u) p = refl
+by_a_predicate (of.Host q) p = refl
 
 -- ---- what all rights give
 
@@ -100,3 +111,4 @@ module _ (parts : PolicyParts) (role : ℕ) (withheld allowed : UseSet)
   allowed_alike (of.Column t c) = by_parts (of.Column t c) ∙ by_rules (is_withheld parts role) (of.Column t c) parts.roles role parts.grants
   allowed_alike (of.Insert t) = by_parts (of.Insert t) ∙ by_rules (is_withheld parts role) (of.Insert t) parts.roles role parts.grants
   allowed_alike (of.Delete t) = by_parts (of.Delete t) ∙ by_rules (is_withheld parts role) (of.Delete t) parts.roles role parts.grants
+  allowed_alike (of.Host p) = by_parts (of.Host p) ∙ by_rules (is_withheld parts role) (of.Host p) parts.roles role parts.grants

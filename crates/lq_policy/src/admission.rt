@@ -1,5 +1,5 @@
 //! The rules of the policies that apply to an action.
-use crate::asked::Asked;
+use crate::row_and_user::RowAndUser;
 use lq_rule::PreparedRule;
 use std::alloc::{AllocError, Global};
 
@@ -55,21 +55,21 @@ impl<'a> Admission<'a> {
     }
 
     /// Whether some permissive rule is true on the row.
-    fn permits(&self, asked: Asked<'_>) -> bool
+    fn permits(&self, asked: RowAndUser<'_>) -> bool
         ensures { result ≡ permitted_by asked.entry.cells.now asked.entry.user.now self.now }
     {
         asked.satisfies_any(self.permissive.as_slice())
     }
 
     /// Whether every restrictive rule is true on the row.
-    fn allows(&self, asked: Asked<'_>) -> bool
+    fn allows(&self, asked: RowAndUser<'_>) -> bool
         ensures { result ≡ allowed_by asked.entry.cells.now asked.entry.user.now self.now }
     {
         asked.satisfies_all(self.restrictive.as_slice())
     }
 
     /// Whether the rules admit the row.
-    pub(crate) fn admits(&self, asked: Asked<'_>) -> bool
+    pub(crate) fn admits(&self, asked: RowAndUser<'_>) -> bool
         ensures { result ≡ admits_by asked.entry.cells.now asked.entry.user.now self.now }
     {
         self.permits(asked) && self.allows(asked)

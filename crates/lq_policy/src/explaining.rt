@@ -1,7 +1,7 @@
 //! Explanations of decisions on rows, for whoever asks why a row is seen or hidden.
 use crate::access::{Access, RoleId};
-use crate::asked::Asked;
 use crate::policies::{Policies, is_same_action};
+use crate::row_and_user::RowAndUser;
 use lq_security::{Action, Policy};
 use lq_value::{List, Scalar, TableNumber, Txt};
 use std::alloc::{AllocError, Global};
@@ -66,7 +66,7 @@ impl Policies {
     }
 
     /// Whether the rule of a policy that has a say, and this number, is true on the row.
-    fn is_true(&self, access: Access, number: usize, policy: &Policy, asked: Asked<'_>) -> bool
+    fn is_true(&self, access: Access, number: usize, policy: &Policy, asked: RowAndUser<'_>) -> bool
         requires numbered { slice_get self.now.policies number ≡ Some policy.now }
         requires concerned { has_a_say self.now.roles (number_of access.role) access.action
             access.table policy.now ≡ true }
@@ -83,7 +83,7 @@ impl Policies {
         access: Access,
         number: usize,
         policy: &Policy,
-        asked: Asked<'_>,
+        asked: RowAndUser<'_>,
     ) -> Result<ExplainedPolicy, AllocError>
         requires numbered { slice_get self.now.policies number ≡ Some policy.now }
         requires concerned { has_a_say self.now.roles (number_of access.role) access.action
@@ -105,7 +105,7 @@ impl Policies {
         alloc: Global,
         access: Access,
         policies: &[Policy],
-        asked: Asked<'_>,
+        asked: RowAndUser<'_>,
     ) -> Result<List<ExplainedPolicy>, AllocError>
         requires { policies.now ≡ self.now.policies }
         ensures { IfOk result (λ reports. reports
@@ -159,7 +159,7 @@ impl Policies {
         &self,
         alloc: Global,
         access: Access,
-        asked: Asked<'_>,
+        asked: RowAndUser<'_>,
     ) -> Result<Explanation, AllocError>
         ensures { IfOk result (λ answer. answer
             ≡ explanation.Policies
@@ -196,7 +196,7 @@ impl Policies {
         if asking.bypass {
             return Ok(Explanation::Bypass);
         }
-        let asked = Asked {
+        let asked = RowAndUser {
             user: asking.name.as_str(),
             cells,
         };

@@ -8,7 +8,6 @@
 
 mod access;
 mod admission;
-mod asked;
 mod error;
 mod explaining;
 mod guard;
@@ -17,6 +16,7 @@ mod rights;
 mod role_rights;
 mod role_set;
 mod roles;
+mod row_and_user;
 mod row_rules;
 mod totality;
 mod use_set;

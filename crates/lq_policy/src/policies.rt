@@ -8,12 +8,13 @@ ghost use Rattle.lq_policy.specs.Rules.{are_rules_total};
 
 use crate::access::{Access, RoleId};
 use crate::admission::Admission;
-use crate::asked::Asked;
 use crate::error::PolicyError;
 use crate::guard::{Guard, guards, rule_at};
 use crate::role_rights::RoleRights;
 use crate::role_set::{RoleSet, goes_by, memberships};
+use crate::row_and_user::RowAndUser;
 use crate::row_rules::{RowRules, Ruled, Verdict};
+use lq_language::HostName;
 use lq_rule::PreparedRule;
 use lq_security::{Action, Policy, PolicyParts};
 use lq_value::{Scalar, TableNumber, Txt};
@@ -109,6 +110,13 @@ impl Policies {
         }
     }
 
+    /// The host predicates that rights name, by their numbers.
+    pub fn predicates(&self) -> &[HostName]
+        ensures { result.now ≡ self.now.predicates }
+    {
+        self.parts.predicates.as_slice()
+    }
+
     /// The role of this name.
     pub fn role(&self, name: &str) -> Option<RoleId>
         ensures { option_map number_of result ≡ role_number self.now name.now }
@@ -165,7 +173,13 @@ impl Policies {
     }
 
     /// Whether the rule of a policy that applies, and has this number, is true on the row.
-    fn satisfies(&self, access: Access, number: usize, policy: &Policy, asked: Asked<'_>) -> bool
+    fn satisfies(
+        &self,
+        access: Access,
+        number: usize,
+        policy: &Policy,
+        asked: RowAndUser<'_>,
+    ) -> bool
         requires numbered { slice_get self.now.policies number ≡ Some policy.now }
         requires applies { bears_on self.now.roles access policy.now ≡ true }
         ensures { result ≡ holds_on (asked_of self.now access asked.entry)
@@ -180,7 +194,7 @@ impl Policies {
         access: Access,
         number: usize,
         policy: &Policy,
-        asked: Asked<'_>,
+        asked: RowAndUser<'_>,
     ) -> bool
         requires { slice_get self.now.policies number ≡ Some policy.now }
         ensures { result ≡ bears_on self.now.roles access policy.now
@@ -197,7 +211,7 @@ impl Policies {
         access: Access,
         number: usize,
         policy: &Policy,
-        asked: Asked<'_>,
+        asked: RowAndUser<'_>,
     ) -> bool
         requires { slice_get self.now.policies number ≡ Some policy.now }
         ensures { result ≡ bears_on self.now.roles access policy.now
@@ -209,7 +223,7 @@ impl Policies {
     }
 
     /// Whether some policy that applies permits the row.
-    fn is_permitted(&self, access: Access, asked: Asked<'_>, policies: &[Policy]) -> bool
+    fn is_permitted(&self, access: Access, asked: RowAndUser<'_>, policies: &[Policy]) -> bool
         requires { policies.now ≡ self.now.policies }
         ensures { result ≡ list_any (permits access.action (asked_of self.now access asked.entry))
             (filter (bears_on self.now.roles access) policies.now) }
@@ -223,7 +237,7 @@ impl Policies {
     }
 
     /// Whether each policy that applies allows the row.
-    fn is_allowed(&self, access: Access, asked: Asked<'_>, policies: &[Policy]) -> bool
+    fn is_allowed(&self, access: Access, asked: RowAndUser<'_>, policies: &[Policy]) -> bool
         requires { policies.now ≡ self.now.policies }
         ensures { result ≡ list_all (allows access.action (asked_of self.now access asked.entry))
             (filter (bears_on self.now.roles access) policies.now) }
@@ -237,7 +251,7 @@ impl Policies {
     }
 
     /// Whether the policies that apply admit the row.
-    fn admits(&self, access: Access, asked: Asked<'_>) -> bool
+    fn admits(&self, access: Access, asked: RowAndUser<'_>) -> bool
         ensures { result ≡ admitted_by self.now (number_of access.role) access.table
             (asked_of self.now access asked.entry) access.action }
     {
@@ -246,7 +260,7 @@ impl Policies {
     }
 
     /// Whether the policies admit a role, which doesn't bypass them, to an action on the row.
-    fn admits_for(&self, access: Access, asked: Asked<'_>) -> bool
+    fn admits_for(&self, access: Access, asked: RowAndUser<'_>) -> bool
         ensures { result ≡ admitted_for self.now (number_of access.role) access.action access.table
             (asked_of self.now access asked.entry) }
     {
@@ -265,7 +279,7 @@ impl Policies {
         let Some(asking) = self.parts.roles.as_slice().get(access.role.number) else {
             return false;
         };
-        let asked = Asked {
+        let asked = RowAndUser {
             user: asking.name.as_str(),
             cells,
         };
@@ -301,7 +315,7 @@ impl Policies {
     fn first_refusing<'a>(
         &self,
         access: Access,
-        asked: Asked<'_>,
+        asked: RowAndUser<'_>,
         policies: &'a [Policy],
     ) -> Option<&'a str>
         requires policies { policies.now ≡ self.now.policies }
@@ -318,7 +332,7 @@ impl Policies {
     }
 
     /// The name of what refuses the row among the policies that apply.
-    fn refuser_among(&self, access: Access, asked: Asked<'_>) -> Option<&str>
+    fn refuser_among(&self, access: Access, asked: RowAndUser<'_>) -> Option<&str>
         requires { access.action ≡ Action.Insert }
         ensures { option_copied result ≡ refuser_among
             (applying self.now (number_of access.role) access.action access.table)
@@ -345,7 +359,7 @@ impl Policies {
         if asking.bypass {
             return None;
         }
-        let asked = Asked {
+        let asked = RowAndUser {
             user: asking.name.as_str(),
             cells,
         };

@@ -27,7 +27,7 @@ fn is_column_of(table: TableNumber, used: Use) -> bool
 {
     match used {
         Use::Column(of, _) => table == of,
-        Use::Table(_) | Use::Insert(_) | Use::Delete(_) => false,
+        Use::Table(_) | Use::Insert(_) | Use::Delete(_) | Use::Host(_) => false,
     }
 }
 
@@ -57,7 +57,7 @@ impl Policies {
     ghost use Rattle.lq_language.specs.declared.rights.Use.{Use};
 
     /// The rights that the rules which apply to a role cover.
-    fn covered(
+    fn covered_uses(
         &self,
         alloc: Global,
         role: RoleId,
@@ -76,7 +76,7 @@ impl Policies {
     }
 
     /// What the grants that apply to a role give it by rights that aren't withheld.
-    fn granted(
+    fn granted_uses(
         &self,
         alloc: Global,
         role: RoleId,
@@ -100,8 +100,8 @@ impl Policies {
     fn rights_for(&self, alloc: Global, role: RoleId) -> Result<RoleRights, AllocError>
         ensures { IfOk result (λ rights. TellsRights self.now (Some rights)) }
     {
-        let withheld = self.covered(alloc, role, self.parts.withholds.as_slice())?;
-        let allowed = self.granted(alloc, role, self.parts.grants.as_slice(), &withheld)?;
+        let withheld = self.covered_uses(alloc, role, self.parts.withholds.as_slice())?;
+        let allowed = self.granted_uses(alloc, role, self.parts.grants.as_slice(), &withheld)?;
         Ok(RoleRights { role, allowed })
     }
 
@@ -187,7 +187,7 @@ impl Policies {
         let grants = self.parts.grants.as_slice();
         match used {
             Use::Table(table) => self.has_open_grant(role, table, grants),
-            Use::Column(_, _) | Use::Insert(_) | Use::Delete(_) => {
+            Use::Column(_, _) | Use::Insert(_) | Use::Delete(_) | Use::Host(_) => {
                 self.is_covered(role, used, grants) && !self.is_withheld(role, used)
             }
         }
@@ -211,7 +211,9 @@ impl Policies {
             Use::Table(table) => {
                 self.is_listed(role, rule.to.as_slice()) && has_column(table, rule)
             }
-            Use::Column(_, _) | Use::Insert(_) | Use::Delete(_) => self.bears(role, used, rule),
+            Use::Column(_, _) | Use::Insert(_) | Use::Delete(_) | Use::Host(_) => {
+                self.bears(role, used, rule)
+            }
         }
     }
 

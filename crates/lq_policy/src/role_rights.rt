@@ -14,7 +14,7 @@ use std::alloc::AllocError;
 #[derive(Drop)]
 pub(crate) struct RoleRights {
     pub(crate) role: RoleId,
-    /// Columns, tables with such a column, and the putting in and removal of rows.
+    /// Columns, tables with such a column, the putting in and removal of rows, and host predicates.
     pub(crate) allowed: UseSet,
 }
 
@@ -53,7 +53,7 @@ fn add_given(set: &mut UseSet, right: Use) -> Result<(), AllocError>
             set.add(Use::Table(table))?;
             set.add(right)
         }
-        Use::Insert(_) | Use::Delete(_) => set.add(right),
+        Use::Insert(_) | Use::Delete(_) | Use::Host(_) => set.add(right),
     }
 }
 

@@ -2,7 +2,7 @@
 ghost use Rattle.std.specs.Prelude.{◌≡◌};
 
 use crate::admission::Admission;
-use crate::asked::Asked;
+use crate::row_and_user::RowAndUser;
 use lq_value::Scalar;
 
 /// The rules for a role that policies bear on.
@@ -39,7 +39,7 @@ impl Ruled<'_> {
     fn admit(&self, cells: &[Scalar]) -> bool
         ensures { result ≡ rules_admit self.now cells.now }
     {
-        let asked = Asked {
+        let asked = RowAndUser {
             user: self.user,
             cells,
         };

@@ -6,6 +6,7 @@ use Rattle.std.proofs.lemmas.List.Folds.{list_any-append}
 use Rattle.std.proofs.Math.Bool.{and_assoc}
 use Rattle.std.proofs.lemmas.Slice.Eq.{bytes_eq-Decides}
 use Rattle.lq_value.specs.Tables.{Table}
+use Rattle.lq_language.specs.declared.host_name.HostName.{HostName}
 use Rattle.lq_policyfile.specs.Duplicates.{are_new}
 use Rattle.lq_policyfile.specs.NameSets.{with_name, with_names}
 use Rattle.lq_policyfile.specs.Names.{are_memberships_known, are_rules_known, is_addressee, is_among, is_entry_known, is_policy_known}
@@ -99,26 +100,21 @@ memberships_go_on earlier name roles = same_memberships (earlier ++ name ∷ [])
 same_addressees : (names set : List (List ℕ)) → IsSetOf names set → (to : List (List ℕ)) → list_all (is_addressee set) to ≡ list_all (is_addressee names) to
 same_addressees names set same to = all_same (is_addressee set) (is_addressee names) (λ name. ap (λ (b : Bool). bytes_eq name (codes "public") || b) (same name)) to
 
-same_policy : (tables : List Table) (names set : List (List ℕ)) → IsSetOf names set → (policy : PolicyEntry)
-    → is_policy_known tables set policy ≡ is_policy_known tables names policy
-same_policy tables names set same policy = rw (same_addressees names set same policy.to)
+module _ (tables : List Table) (hosts : List HostName) (names set : List (List ℕ)) (same : IsSetOf names set) where
+  same_policy : (policy : PolicyEntry) → is_policy_known tables hosts set policy ≡ is_policy_known tables hosts names policy
+  same_policy policy = rw (same_addressees names set same policy.to)
 
-same_entry : (tables : List Table) (names set : List (List ℕ)) → IsSetOf names set → (entry : RightEntry)
-    → is_entry_known tables set entry ≡ is_entry_known tables names entry
-same_entry tables names set same entry = rw (same_addressees names set same entry.to)
+  same_entry : (entry : RightEntry) → is_entry_known tables hosts set entry ≡ is_entry_known tables hosts names entry
+  same_entry entry = rw (same_addressees names set same entry.to)
 
-same_policies : (tables : List Table) (names set : List (List ℕ)) → IsSetOf names set → (policies : List PolicyEntry)
-    → list_all (is_policy_known tables set) policies ≡ list_all (is_policy_known tables names) policies
-same_policies tables names set same policies = all_same (is_policy_known tables set) (is_policy_known tables names) (same_policy tables names set same) policies
+  same_policies : (policies : List PolicyEntry) → list_all (is_policy_known tables hosts set) policies ≡ list_all (is_policy_known tables hosts names) policies
+  same_policies policies = all_same (is_policy_known tables hosts set) (is_policy_known tables hosts names) same_policy policies
 
-same_entries : (tables : List Table) (names set : List (List ℕ)) → IsSetOf names set → (entries : List RightEntry)
-    → list_all (is_entry_known tables set) entries ≡ list_all (is_entry_known tables names) entries
-same_entries tables names set same entries = all_same (is_entry_known tables set) (is_entry_known tables names) (same_entry tables names set same) entries
+  same_entries : (entries : List RightEntry) → list_all (is_entry_known tables hosts set) entries ≡ list_all (is_entry_known tables hosts names) entries
+  same_entries entries = all_same (is_entry_known tables hosts set) (is_entry_known tables hosts names) same_entry entries
 
-same_rules : (tables : List Table) (names set : List (List ℕ)) → IsSetOf names set → (file : FileEntries)
-    → are_rules_known tables set file ≡ are_rules_known tables names file
-same_rules tables names set same file =
-    rw (same_policies tables names set same file.policies, same_entries tables names set same file.grants, same_entries tables names set same file.withholds)
+  same_rules : (file : FileEntries) → are_rules_known tables hosts set file ≡ are_rules_known tables hosts names file
+  same_rules file = rw (same_policies file.policies, same_entries file.grants, same_entries file.withholds)
 
 -- ---- loops
 
@@ -138,9 +134,9 @@ more_set names set [] same q = same q ∙ ap (λ (ns : List (List ℕ)). is_amon
 more_set names set (name ∷ more) same q =
     more_set (names ++ name ∷ []) (with_name set name) more (set_grows names set name same) q ∙ ap (λ (ns : List (List ℕ)). is_among ns q) (append_assoc names (name ∷ []) more)
 
-pub rules_by_set : (tables : List Table) (names : List (List ℕ)) (file : FileEntries)
-    → are_rules_known tables (with_names [] names) file ≡ are_rules_known tables names file
-rules_by_set tables names file = same_rules tables names (with_names [] names) (more_set [] [] names (λ q. refl)) file
+pub rules_by_set : (tables : List Table) (hosts : List HostName) (names : List (List ℕ)) (file : FileEntries)
+    → are_rules_known tables hosts (with_names [] names) file ≡ are_rules_known tables hosts names file
+rules_by_set tables hosts names file = same_rules tables hosts names (with_names [] names) (more_set [] [] names (λ q. refl)) file
 
 new_name : (names : List (List ℕ)) (name : List ℕ) → is_among names name ≡ false → with_name names name ≡ names ++ name ∷ []
 new_name names name new = rw new

@@ -14,10 +14,11 @@ use Rattle.lq_value.specs.declared.ty.Ty.{Ty}
 use Rattle.lq_value.specs.declared.ty.Ty.TheVariants as ty
 use Rattle.lq_store.specs.Rules.{name_of}
 use Rattle.lq_security.specs.RuleLaws.{AreReadFor, IsRuleOver}
-use Rattle.lq_security.specs.Totality.{is_total}
-use Rattle.lq_security.specs.TotalityLaws.{is_held_rule, rule_names}
+use Rattle.lq_security.specs.Totality.{IsTotal, is_total}
+use Rattle.lq_security.specs.TotalityLaws.{is_held_rule, rule_names, rule_names_among}
 use Rattle.lq_language.specs.OperandTypes.{is_bool_type}
-use Rattle.lq_language.specs.RuleTyping.{type_of}
+use Rattle.lq_language.specs.RuleTyping.{rule_type}
+use Rattle.lq_language.specs.declared.host_name.HostName.{HostName}
 use Rattle.lq_security.specs.Visible.{HasRule, using, check, using_for_check}
 use Rattle.lq_security.specs.declared.policy.Action.{Action}
 use Rattle.lq_security.specs.declared.policy.Policy.{Policy}
@@ -25,6 +26,7 @@ use Rattle.lq_security.specs.declared.policy.PolicyParts.{PolicyParts}
 use Rattle.lq_security.specs.declared.policy.TablePart.{TablePart}
 use Rattle.lq_grammar.specs.declared.syntax.Expr.{Expr}
 use Rattle.lq_security.proofs.MembershipLaws.{has_cases, has_first, has_later, none_in_nil}
+use Rattle.lq_security.proofs.RuleNameLaws.{total_type_same}
 use Rattle.lq_security.proofs.TotalityLaws.{tells_total}
 use Rattle.lq_language.proofs.TypingLaws.{is_truth}
 use Rattle.lq_language.proofs.KeptTypeLaws.{keeps_types}
@@ -66,37 +68,38 @@ image_at {A} {B} f xs k y h = by (slice_get xs k) refl (sym (slice_get-map f xs 
 -- ---- what is read
 
 -- the entries of a file that isn't refused
-record Entries (tables : List Table) (parts : PolicyParts) : Type 0 where
+record Entries (tables : List Table) (hosts : List HostName) (parts : PolicyParts) : Type 0 where
   file : FileEntries
-  accepted : refusal_of tables file ≡ None
-  parts_are : parts_of tables file ≡ parts
+  accepted : refusal_of tables hosts file ≡ None
+  parts_are : parts_of tables hosts file ≡ parts
 
 unrefused : (o : Option PolicyFileError) (given parts : PolicyParts) → unless_refused o given ≡ Ok parts → (o ≡ None) × (given ≡ parts)
 unrefused None given parts h = let same : given ≡ parts = cc in (refl, same)
 unrefused (Some refusal) given parts h = absurd (cc)
 
-entries_read : (tables : List Table) (bytes : List ℕ) (parts : PolicyParts) → policies_in tables bytes ≡ Ok parts → Entries tables parts
+entries_read : (tables : List Table) (hosts : List HostName) (bytes : List ℕ) (parts : PolicyParts) → policies_in tables hosts bytes ≡ Ok parts → Entries tables hosts parts
 unfolding policies_in
-entries_read tables bytes parts h = by (nat_le (length bytes) most_bytes) (document_of bytes) h where
-  of_file : (o : Option FileEntries) → of_entries tables o ≡ Ok parts → Entries tables parts
+entries_read tables hosts bytes parts h = by (nat_le (length bytes) most_bytes) (document_of bytes) h where
+  of_file : (o : Option FileEntries) → of_entries tables hosts o ≡ Ok parts → Entries tables hosts parts
   of_file None g = absurd (cc)
-  of_file (Some file) g = let found = unrefused (refusal_of tables file) (parts_of tables file) parts g in record { file = file; accepted = found.0; parts_are = found.1 }
+  of_file (Some file) g =
+      let found = unrefused (refusal_of tables hosts file) (parts_of tables hosts file) parts g in record { file = file; accepted = found.0; parts_are = found.1 }
 
-  by : (b : Bool) (d : Option Members) → (if b then of_document tables d else Err error.Shape) ≡ Ok parts → Entries tables parts
+  by : (b : Bool) (d : Option Members) → (if b then of_document tables hosts d else Err error.Shape) ≡ Ok parts → Entries tables hosts parts
   by false d g = absurd (cc)
   by true None g = absurd (cc)
   by true (Some ms) g = of_file (entries_of ms) g
 
 -- no refusal applies
-record Passes (tables : List Table) (file : FileEntries) : Type 0 where
-  known : are_names_known tables file ≡ true
-  typed : are_rules_typed tables file.policies ≡ true
+record Passes (tables : List Table) (hosts : List HostName) (file : FileEntries) : Type 0 where
+  known : are_names_known tables hosts file ≡ true
+  typed : are_rules_typed tables hosts file.policies ≡ true
   total : are_rules_total file.policies ≡ true
 
-all_passed : (tables : List Table) (file : FileEntries) → refusal_of tables file ≡ None → Passes tables file
+all_passed : (tables : List Table) (hosts : List HostName) (file : FileEntries) → refusal_of tables hosts file ≡ None → Passes tables hosts file
 unfolding refusal_of
-all_passed tables file h =
-    let found = by (are_names_known tables file) (has_no_duplicates file) (are_rules_typed tables file.policies) (are_rules_total file.policies) h in
+all_passed tables hosts file h =
+    let found = by (are_names_known tables hosts file) (has_no_duplicates file) (are_rules_typed tables hosts file.policies) (are_rules_total file.policies) h in
     record { known = found.0; typed = found.1; total = found.2 } where
       by : (a b c d : Bool)
           → (if not a then Some error.UnknownName else (if not b then Some error.Duplicate else (if not c then Some error.RuleType else (if not d then Some error.RuleNotTotal else None)))) ≡ None
@@ -110,13 +113,15 @@ all_passed tables file h =
 -- ---- rules
 
 -- the table of an entry is there
-table_there : (tables : List Table) (file : FileEntries) (entry : PolicyEntry) → are_names_known tables file ≡ true → Contains file.policies entry → is_table tables entry.table ≡ true
+table_there : (tables : List Table) (hosts : List HostName) (file : FileEntries) (entry : PolicyEntry) → are_names_known tables hosts file ≡ true → Contains file.policies entry
+    → is_table tables entry.table ≡ true
 unfolding are_names_known
-table_there tables file entry known has =
-    let rules = (and_parts _ (are_rules_known tables (role_names file.roles) file) known).1 in
-    let policies = (and_parts (list_all (is_policy_known tables (role_names file.roles)) file.policies) _ (and_parts _ (list_all (is_entry_known tables (role_names file.roles)) file.withholds) rules).0).0 in
-    let own = passed (is_policy_known tables (role_names file.roles)) file.policies entry policies has in
-    (and_parts (is_table tables entry.table) _ (and_parts _ (all_pass (λ rule. knows (columns_of tables entry.table) rule false) entry.rules) own).0).0
+table_there tables hosts file entry known has =
+    let roles = role_names file.roles in
+    let rules = (and_parts _ (are_rules_known tables hosts roles file) known).1 in
+    let policies = (and_parts (list_all (is_policy_known tables hosts roles) file.policies) _ (and_parts _ (list_all (is_entry_known tables hosts roles) file.withholds) rules).0).0 in
+    let own = passed (is_policy_known tables hosts roles) file.policies entry policies has in
+    (and_parts (is_table tables entry.table) _ (and_parts _ (all_pass (λ rule. knows hosts (columns_of tables entry.table) rule false) entry.rules) own).0).0
 
 -- the columns that the rules of an entry are typed over are those of the schema of its number
 columns_are : (tables : List Table) (name : List ℕ) (schema : Schema) → is_table tables name ≡ true
@@ -140,20 +145,25 @@ each_passes test rules policy act rule using_is check_is h has = by has where
   by (check same is) = ap (passes test) (sym (sym check_is ∙ is)) ∙ both.1
   by (using_for_check same none is) = ap (passes test) (sym (sym using_is ∙ is)) ∙ both.0
 
-bool_typed : (columns : List Column) (rule : Expr) → is_typed columns rule ≡ true → type_of rule (rule_names [] columns) ≡ Some ty.Bool
-bool_typed columns rule h = by (type_of rule (rule_names [] columns)) h where
+bool_typed : (hosts : List HostName) (columns : List Column) (rule : Expr) → is_typed hosts columns rule ≡ true → rule_type rule (rule_names_among hosts [] columns) ≡ Some ty.Bool
+bool_typed hosts columns rule h = by (rule_type rule (rule_names_among hosts [] columns)) h where
   by : (o : Option Ty) → is_bool_type o ≡ true → o ≡ Some ty.Bool
   by None g = absurd (true≢false (sym g))
   by (Some t) g = ap Some (is_truth t g)
 
-rule_over : (columns : List Column) (rule : Expr) → is_typed columns rule ≡ true → is_total rule ≡ true → is_held_rule rule ≡ true → IsRuleOver columns rule
-rule_over columns rule typed total held = record {
-  truth = keeps_types (rule_names [] columns) rule ty.Bool (bool_typed columns rule typed);
+-- a total rule asks no host predicate, so that its type is the same where none is known
+alone_typed : (hosts : List HostName) (columns : List Column) (rule : Expr) → is_typed hosts columns rule ≡ true → IsTotal rule → rule_type rule (rule_names [] columns) ≡ Some ty.Bool
+alone_typed hosts columns rule typed total = sym (total_type_same [] columns hosts [] total) ∙ bool_typed hosts columns rule typed
+
+rule_over : (hosts : List HostName) (columns : List Column) (rule : Expr) → is_typed hosts columns rule ≡ true → is_total rule ≡ true → is_held_rule rule ≡ true
+    → IsRuleOver columns rule
+rule_over hosts columns rule typed total held = record {
+  truth = keeps_types (rule_names [] columns) rule ty.Bool (alone_typed hosts columns rule typed ((tells_total rule).0 total));
   total = (tells_total rule).0 total;
   held = held;
 }
 
-module _ (tables : List Table) (file : FileEntries) (passes : Passes tables file) (held : AreHeld (parts_of tables file)) where
+module _ (tables : List Table) (hosts : List HostName) (file : FileEntries) (passes : Passes tables hosts file) (held : AreHeld (parts_of tables hosts file)) where
   rules_read : (policy : Policy) → Contains (map (policy_part tables) file.policies) policy → (schema : Schema)
       → slice_get (map (λ table. table.schema) tables) policy.table ≡ Some schema → (act : Action) (rule : Expr) → HasRule act policy rule → IsRuleOver schema.columns rule
   rules_read policy has schema at act rule rules =
@@ -164,9 +174,10 @@ module _ (tables : List Table) (file : FileEntries) (passes : Passes tables file
       of_entry : (entry : PolicyEntry) → Contains file.policies entry → slice_get (map (λ table. table.schema) tables) (table_number tables entry.table) ≡ Some schema
           → HasRule act (policy_part tables entry) rule → is_held_rule rule ≡ true → IsRuleOver schema.columns rule
       of_entry entry among place has_rule literals =
-          subst (λ (columns : List Column). IsRuleOver columns rule) (columns_are tables entry.table schema (table_there tables file entry passes.known among) place)
-          (rule_over (columns_of tables entry.table) rule
-          (each_passes (is_typed (columns_of tables entry.table)) entry.rules (policy_part tables entry) act rule refl refl (passed (is_policy_typed tables) file.policies entry passes.typed among) has_rule)
+          subst (λ (columns : List Column). IsRuleOver columns rule) (columns_are tables entry.table schema (table_there tables hosts file entry passes.known among) place)
+          (rule_over hosts (columns_of tables entry.table) rule
+          (each_passes (is_typed hosts (columns_of tables entry.table)) entry.rules (policy_part tables entry) act rule refl refl
+          (passed (is_policy_typed tables hosts) file.policies entry passes.typed among) has_rule)
           (each_passes is_total entry.rules (policy_part tables entry) act rule refl refl (passed (λ policy. all_pass is_total policy.rules) file.policies entry passes.total among) has_rule)
           literals)
 
@@ -180,11 +191,11 @@ module _ (tables : List Table) (file : FileEntries) (passes : Passes tables file
       )
 
 pub reads_for_tables : ReadsForTables
-reads_for_tables tables bytes parts h held =
-    let entries = entries_read tables bytes parts h in
-    let passes = all_passed tables entries.file entries.accepted in
+reads_for_tables tables hosts bytes parts h held =
+    let entries = entries_read tables hosts bytes parts h in
+    let passes = all_passed tables hosts entries.file entries.accepted in
     subst (AreReadFor (map (λ table. table.schema) tables)) entries.parts_are
     (record {
-      tables = tables_read tables entries.file passes (subst AreHeld (sym entries.parts_are) held);
-      rules = rules_read tables entries.file passes (subst AreHeld (sym entries.parts_are) held);
+      tables = tables_read tables hosts entries.file passes (subst AreHeld (sym entries.parts_are) held);
+      rules = rules_read tables hosts entries.file passes (subst AreHeld (sym entries.parts_are) held);
     })

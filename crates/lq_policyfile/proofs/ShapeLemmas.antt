@@ -4,7 +4,7 @@ use Rattle.std.specs.List.{list_all, list_any}
 use Rattle.std.specs.Map.{keys_of}
 use Rattle.toml.specs.View.{members_view}
 use Rattle.toml.specs.declared.value.Value.{Value}
-use Rattle.lq_policyfile.specs.Reading.{has_only}
+use Rattle.lq_policyfile.specs.TomlValues.{has_only}
 
 -- what was read before comes in front of what is read after
 abbrev pub put_before : {A : Type 0} → List A → Option (List A) → Option (List A)

@@ -2,7 +2,7 @@
 use Rattle.std.proofs.Common.{◌≡◌, List, ℕ, Option, Some, None, refl}
 use Rattle.lq_value.specs.declared.table.Column.{Column}
 use Rattle.lq_value.specs.declared.value.Value.TheVariants.{outs-Row, outs-Scalar}
-use Rattle.lq_scalar.specs.Named.{cell_in}
+use Rattle.lq_scalar.specs.Referents.{cell_in}
 use Rattle.lq_policyfile.specs.TypedNames.{typed_world}
 
 pub ruleset values = (outs-Row, outs-Scalar)

@@ -6,6 +6,7 @@ use Rattle.toml.specs.Data.{Members}
 use Rattle.toml.specs.Parse.{parse_document}
 use Rattle.lq_value.specs.Tables.{Table}
 use Rattle.lq_value.specs.declared.table.Schema.{Schema}
+use Rattle.lq_language.specs.declared.host_name.HostName.{HostName}
 use Rattle.lq_security.specs.declared.policy.Action.{Action}
 use Rattle.lq_security.specs.declared.policy.Action.TheVariants as action
 use Rattle.lq_security.specs.declared.policy.Policy.{Policy}
@@ -70,25 +71,26 @@ policy_part tables entry =
       check = entry.rules.check;
     }
 
--- the roles, policies, grants and withholds in the order of the file, and the tables by their numbers
-abbrev pub parts_of : List Table → FileEntries → PolicyParts
-parts_of tables file =
+-- the roles, policies, grants and withholds in the order of the file, and the tables and host predicates by their numbers
+abbrev pub parts_of : List Table → List HostName → FileEntries → PolicyParts
+parts_of tables hosts file =
     record {
       roles = map (role_part (role_names file.roles)) file.roles;
       tables = map (λ table. table_part file.tables table.schema) tables;
+      predicates = hosts;
       policies = map (policy_part tables) file.policies;
-      grants = map (right_rule tables) file.grants;
-      withholds = map (right_rule tables) file.withholds;
+      grants = map (right_rule tables hosts) file.grants;
+      withholds = map (right_rule tables hosts) file.withholds;
     }
 
 -- ---- files
 
 -- the least refusal that applies to entries, if one does
-unfoldable pub refusal_of : List Table → FileEntries → Option PolicyFileError
-refusal_of tables file =
-    if not (are_names_known tables file) then Some error.UnknownName
+unfoldable pub refusal_of : List Table → List HostName → FileEntries → Option PolicyFileError
+refusal_of tables hosts file =
+    if not (are_names_known tables hosts file) then Some error.UnknownName
     else (if not (has_no_duplicates file) then Some error.Duplicate
-    else (if not (are_rules_typed tables file.policies) then Some error.RuleType
+    else (if not (are_rules_typed tables hosts file.policies) then Some error.RuleType
     else (if not (are_rules_total file.policies) then Some error.RuleNotTotal
     else None)))
 
@@ -96,25 +98,25 @@ abbrev pub unless_refused : Option PolicyFileError → PolicyParts → Result Po
 unless_refused None parts = Ok parts
 unless_refused (Some refusal) parts = Err refusal
 
-abbrev pub parts_in : List Table → FileEntries → Result PolicyParts PolicyFileError
-parts_in tables file = unless_refused (refusal_of tables file) (parts_of tables file)
+abbrev pub parts_in : List Table → List HostName → FileEntries → Result PolicyParts PolicyFileError
+parts_in tables hosts file = unless_refused (refusal_of tables hosts file) (parts_of tables hosts file)
 
-abbrev pub of_entries : List Table → Option FileEntries → Result PolicyParts PolicyFileError
-of_entries tables None = Err error.Shape
-of_entries tables (Some file) = parts_in tables file
+abbrev pub of_entries : List Table → List HostName → Option FileEntries → Result PolicyParts PolicyFileError
+of_entries tables hosts None = Err error.Shape
+of_entries tables hosts (Some file) = parts_in tables hosts file
 
 -- the tree of a TOML document in UTF-8
 unfoldable pub document_of : List ℕ → Option Members
 document_of bytes = if is_utf8 bytes then parse_document bytes else None
 
-abbrev pub of_document : List Table → Option Members → Result PolicyParts PolicyFileError
-of_document tables None = Err error.Toml
-of_document tables (Some ms) = of_entries tables (entries_of ms)
+abbrev pub of_document : List Table → List HostName → Option Members → Result PolicyParts PolicyFileError
+of_document tables hosts None = Err error.Toml
+of_document tables hosts (Some ms) = of_entries tables hosts (entries_of ms)
 
 -- the most bytes that a policy file has
 abbrev pub most_bytes : ℕ
 most_bytes = 1048576
 
--- what the bytes of a policy file say of the tables of a store
-unfoldable pub policies_in : List Table → List ℕ → Result PolicyParts PolicyFileError
-policies_in tables bytes = if nat_le (length bytes) most_bytes then of_document tables (document_of bytes) else Err error.Shape
+-- what the bytes of a policy file say of the tables of a store, where these host predicates are known
+unfoldable pub policies_in : List Table → List HostName → List ℕ → Result PolicyParts PolicyFileError
+policies_in tables hosts bytes = if nat_le (length bytes) most_bytes then of_document tables hosts (document_of bytes) else Err error.Shape

@@ -2,6 +2,7 @@
 use Rattle.std.specs.Prelude.{◌≡◌, List, map, ℕ, true, Ok}
 use Rattle.std.specs.List.{Contains}
 use Rattle.lq_value.specs.Tables.{Table}
+use Rattle.lq_language.specs.declared.host_name.HostName.{HostName}
 use Rattle.lq_security.specs.RuleLaws.{AreReadFor}
 use Rattle.lq_security.specs.TotalityLaws.{is_held_rule}
 use Rattle.lq_security.specs.Visible.{HasRule}
@@ -16,9 +17,9 @@ use Rattle.lq_policyfile.specs.File.{policies_in}
 abbrev pub AreHeld : PolicyParts → Type 0
 AreHeld parts = (policy : Policy) → Contains parts.policies policy → (act : Action) (rule : Expr) → HasRule act policy rule → is_held_rule rule ≡ true
 
--- what a policy file says of the tables of a store are policies for these tables: each rule is typed over the columns of its policy's
--- table, and can't fault
+-- what a policy file says of the tables of a store are policies for these tables, whatever host predicates are known: each rule is typed over the
+-- columns of its policy's table, where none is known, and can't fault
 abbrev pub ReadsForTables : Type 0
 ReadsForTables =
-    (tables : List Table) (bytes : List ℕ) (parts : PolicyParts) → policies_in tables bytes ≡ Ok parts → AreHeld parts
+    (tables : List Table) (hosts : List HostName) (bytes : List ℕ) (parts : PolicyParts) → policies_in tables hosts bytes ≡ Ok parts → AreHeld parts
     → AreReadFor (map (λ table. table.schema) tables) parts

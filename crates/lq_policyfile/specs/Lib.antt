@@ -4,10 +4,10 @@ pub mod FileLaws
 pub mod NameSets
 pub mod Names
 pub mod Outcome
-pub mod Reading
 pub mod RightUses
 pub mod Rights
 pub mod RuleChecks
 pub mod RuleNames
 pub mod Shape
+pub mod TomlValues
 pub mod TypedNames

@@ -5,8 +5,9 @@ use Rattle.std.specs.Str.{bytes_eq}
 use Rattle.lq_value.specs.Tables.{Table, first_named}
 use Rattle.lq_value.specs.declared.table.Column.{Column}
 use Rattle.lq_store.specs.Rules.{name_of}
+use Rattle.lq_language.specs.declared.host_name.HostName.{HostName}
 use Rattle.lq_grammar.specs.declared.syntax.Expr.{Expr}
-use Rattle.lq_policyfile.specs.RuleNames.{has_column, knows}
+use Rattle.lq_policyfile.specs.RuleNames.{has_column, is_predicate, knows}
 use Rattle.lq_policyfile.specs.declared.entry.FileEntries.{FileEntries}
 use Rattle.lq_policyfile.specs.declared.entry.PolicyEntry.{PolicyEntry}
 use Rattle.lq_policyfile.specs.declared.entry.RightEntry.{RightEntry}
@@ -63,30 +64,32 @@ abbrev pub is_addressee : List (List ℕ) → List ℕ → Bool
 is_addressee roles name = bytes_eq name (codes "public") || is_among roles name
 
 -- the table of a policy, the roles that it applies to, and what its rules name
-abbrev pub is_policy_known : List Table → List (List ℕ) → PolicyEntry → Bool
-is_policy_known tables roles entry =
-    is_table tables entry.table && list_all (is_addressee roles) entry.to && all_pass (λ rule. knows (columns_of tables entry.table) rule false) entry.rules
+abbrev pub is_policy_known : List Table → List HostName → List (List ℕ) → PolicyEntry → Bool
+is_policy_known tables hosts roles entry =
+    is_table tables entry.table && list_all (is_addressee roles) entry.to
+    && all_pass (λ rule. knows hosts (columns_of tables entry.table) rule false) entry.rules
 
 -- ---- rights
 
--- a right names a table that is there, and a column that the table has; no host predicate is there
-abbrev pub is_right_known : List Table → RightForm → Bool
-is_right_known tables (form.Column t c) = is_table tables t && has_column (columns_of tables t) c
-is_right_known tables (form.AllColumns t) = is_table tables t
-is_right_known tables (form.Insert t) = is_table tables t
-is_right_known tables (form.Delete t) = is_table tables t
-is_right_known tables (form.Host p) = false
+-- a right names a table that is there, and a column that the table has, or a host predicate that is there
+abbrev pub is_right_known : List Table → List HostName → RightForm → Bool
+is_right_known tables hosts (form.Column t c) = is_table tables t && has_column (columns_of tables t) c
+is_right_known tables hosts (form.AllColumns t) = is_table tables t
+is_right_known tables hosts (form.Insert t) = is_table tables t
+is_right_known tables hosts (form.Delete t) = is_table tables t
+is_right_known tables hosts (form.Host p) = is_predicate hosts p
 
 -- the roles that a grant or a withhold applies to, and its rights
-abbrev pub is_entry_known : List Table → List (List ℕ) → RightEntry → Bool
-is_entry_known tables roles entry = list_all (is_addressee roles) entry.to && list_all (is_right_known tables) entry.rights
+abbrev pub is_entry_known : List Table → List HostName → List (List ℕ) → RightEntry → Bool
+is_entry_known tables hosts roles entry = list_all (is_addressee roles) entry.to && list_all (is_right_known tables hosts) entry.rights
 
 -- ---- files
 
-abbrev pub are_rules_known : List Table → List (List ℕ) → FileEntries → Bool
-are_rules_known tables roles file =
-    list_all (is_policy_known tables roles) file.policies && list_all (is_entry_known tables roles) file.grants && list_all (is_entry_known tables roles) file.withholds
+abbrev pub are_rules_known : List Table → List HostName → List (List ℕ) → FileEntries → Bool
+are_rules_known tables hosts roles file =
+    list_all (is_policy_known tables hosts roles) file.policies && list_all (is_entry_known tables hosts roles) file.grants
+    && list_all (is_entry_known tables hosts roles) file.withholds
 
-unfoldable pub are_names_known : List Table → FileEntries → Bool
-are_names_known tables file =
-    are_memberships_known [] file.roles && list_all (is_table_known tables) file.tables && are_rules_known tables (role_names file.roles) file
+unfoldable pub are_names_known : List Table → List HostName → FileEntries → Bool
+are_names_known tables hosts file =
+    are_memberships_known [] file.roles && list_all (is_table_known tables) file.tables && are_rules_known tables hosts (role_names file.roles) file

@@ -1,8 +1,9 @@
 -- Which rules name only what is there: they are looked through whole, also where they have no type.
-use Rattle.std.specs.Prelude.{◌∷◌, ◌&&◌, ◌||◌, not, List, [], ℕ, Bool, true, false, Option, Some, None, codes}
+use Rattle.std.specs.Prelude.{◌∷◌, ◌&&◌, ◌||◌, not, List, [], ℕ, Bool, true, Option, Some, None, codes}
 use Rattle.std.specs.List.{list_all, list_any}
 use Rattle.std.specs.Str.{bytes_eq}
 use Rattle.lq_value.specs.declared.table.Column.{Column}
+use Rattle.lq_language.specs.declared.host_name.HostName.{HostName}
 use Rattle.lq_security.specs.Totality.{is_row}
 use Rattle.lq_grammar.specs.declared.syntax.Argument.{Argument}
 use Rattle.lq_grammar.specs.declared.syntax.Argument.TheVariants as argument
@@ -17,11 +18,22 @@ use Rattle.lq_grammar.specs.declared.syntax.Last.{Last}
 use Rattle.lq_grammar.specs.declared.syntax.Last.TheVariants as last
 use Rattle.lq_grammar.specs.declared.syntax.Node.{Node}
 use Rattle.lq_grammar.specs.declared.syntax.Node.TheVariants as node
+use Rattle.lq_grammar.specs.declared.syntax.Picked.{Picked}
+use Rattle.lq_grammar.specs.declared.syntax.Picked.TheVariants as picked
 use Rattle.lq_grammar.specs.declared.syntax.Query.{Query}
 
 -- a table has a column of this name
 abbrev pub has_column : List Column → List ℕ → Bool
 has_column columns name = list_any (λ column. bytes_eq column.name name) columns
+
+-- and columns of these names
+abbrev pub has_columns : List Column → Picked → Bool
+has_columns columns (picked.One c) = has_column columns c
+has_columns columns (picked.Two c d) = has_column columns c && has_column columns d
+
+-- there is a host predicate of this name, whatever it takes
+abbrev pub is_predicate : List HostName → List ℕ → Bool
+is_predicate hosts name = list_any (λ host. bytes_eq host.name name) hosts
 
 -- whether the row is hidden where this local name is in scope: a local name `row` hides it
 abbrev pub is_hidden_by : List ℕ → Bool → Bool
@@ -83,24 +95,26 @@ ExprKnowing = Expr × (Bool → Bool)
 abbrev pub knowing : ExprKnowing → Bool → Bool
 knowing x = x.1
 
--- a column of the row is there; no host predicate is
-abbrev pub node_knows : List Column → Node ExprKnowing → Bool → Bool
-node_knows columns (node.Member a c) hidden = a.1 hidden && (hidden || not (is_row (out-Expr a.0)) || has_column columns c)
-node_knows columns (node.Unary op a) hidden = a.1 hidden
-node_knows columns (node.Binary op a b) hidden = a.1 hidden && b.1 hidden
-node_knows columns (node.And a b) hidden = a.1 hidden && b.1 hidden
-node_knows columns (node.Or a b) hidden = a.1 hidden && b.1 hidden
-node_knows columns (node.Coalesce a b) hidden = a.1 hidden && b.1 hidden
-node_knows columns (node.Conditional c a b) hidden = c.1 hidden && a.1 hidden && b.1 hidden
-node_knows columns (node.Host p xs) hidden = false
-node_knows columns (node.New fields) hidden = list_all (λ field. field.value.1 hidden) fields
-node_knows columns (node.Method a m arguments) hidden = a.1 hidden && list_all (argument_knows knowing hidden) arguments
-node_knows columns node hidden = true
+-- a column of the row is there, and so is a host predicate
+abbrev pub node_knows : List HostName → List Column → Node ExprKnowing → Bool → Bool
+node_knows hosts columns (node.Member a c) hidden = a.1 hidden && (hidden || not (is_row (out-Expr a.0)) || has_column columns c)
+node_knows hosts columns (node.Unary op a) hidden = a.1 hidden
+node_knows hosts columns (node.Binary op a b) hidden = a.1 hidden && b.1 hidden
+node_knows hosts columns (node.And a b) hidden = a.1 hidden && b.1 hidden
+node_knows hosts columns (node.Or a b) hidden = a.1 hidden && b.1 hidden
+node_knows hosts columns (node.Coalesce a b) hidden = a.1 hidden && b.1 hidden
+node_knows hosts columns (node.Conditional c a b) hidden = c.1 hidden && a.1 hidden && b.1 hidden
+node_knows hosts columns (node.Host p a cs) hidden =
+    is_predicate hosts p && a.1 hidden && (hidden || not (is_row (out-Expr a.0)) || has_columns columns cs)
+node_knows hosts columns (node.HostOther p xs) hidden = is_predicate hosts p && list_all (λ x. knowing x hidden) xs
+node_knows hosts columns (node.New fields) hidden = list_all (λ field. field.value.1 hidden) fields
+node_knows hosts columns (node.Method a m arguments) hidden = a.1 hidden && list_all (argument_knows knowing hidden) arguments
+node_knows hosts columns node hidden = true
 
-abbrev pub knows_step : List Column → Expr-F ExprKnowing → Bool → Bool
-knows_step columns (Expr-F.Node n) hidden = node_knows columns n hidden
-knows_step columns (Expr-F.Query q) hidden = query_knows knowing hidden q
+abbrev pub knows_step : List HostName → List Column → Expr-F ExprKnowing → Bool → Bool
+knows_step hosts columns (Expr-F.Node n) hidden = node_knows hosts columns n hidden
+knows_step hosts columns (Expr-F.Query q) hidden = query_knows knowing hidden q
 
--- whether an expression names only columns of these where it names columns of the row, which is hidden or not, and no host predicate
-unfoldable pub knows : List Column → Expr → Bool → Bool
-knows columns = para-Expr (Bool → Bool) (knows_step columns)
+-- whether an expression names only columns of these where it names columns of the row, which is hidden or not, and only these host predicates
+unfoldable pub knows : List HostName → List Column → Expr → Bool → Bool
+knows hosts columns = para-Expr (Bool → Bool) (knows_step hosts columns)

@@ -6,7 +6,7 @@ use Rattle.lq_grammar.specs.Tokens.{is_name}
 use Rattle.lq_grammar.specs.Reading.{Reading, Says, rule_reading_of}
 use Rattle.lq_security.specs.declared.policy.Action.TheVariants as action
 use Rattle.lq_grammar.specs.declared.syntax.Expr.{Expr}
-use Rattle.lq_policyfile.specs.Reading.{array_of, by_text, has_only, optional, passing, required, texts}
+use Rattle.lq_policyfile.specs.TomlValues.{array_of, by_text, has_only, optional, passing, required, texts}
 use Rattle.lq_policyfile.specs.Rights.{right_of}
 use Rattle.lq_policyfile.specs.declared.entry.Actions.{Actions}
 use Rattle.lq_policyfile.specs.declared.entry.Actions.TheVariants as actions

@@ -8,8 +8,14 @@ use Rattle.lq_value.specs.declared.value.Value.TheVariants as value
 use Rattle.lq_language.specs.Worlds.{Scope, World}
 
 abbrev pub typed_world : List Column → World (Unit {0})
-typed_world columns =
-    record { schemas = record { name = []; columns = columns } ∷ []; rows = []; session = []; cell = λ row column. None; unknown = fault.NullReference }
+typed_world columns = record {
+  schemas = record { name = []; columns = columns } ∷ [];
+  rows = [];
+  predicates = [];
+  session = [];
+  cell = λ row column. None;
+  unknown = fault.NullReference;
+}
 
 abbrev pub typed_scope : Scope (Unit {0})
 typed_scope =

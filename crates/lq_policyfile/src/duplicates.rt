@@ -4,14 +4,17 @@ ghost use Rattle.lq_policyfile.specs.Duplicates.{are_new, has_no_duplicates, nam
 ghost use Rattle.lq_policyfile.specs.NameSets.{with_names};
 
 use crate::entry::FileEntries;
+use crate::entry_name::HasEntryName;
 use crate::name_set::NameSet;
-use crate::named::Named;
 use std::alloc::{AllocError, Global};
 
 /// Whether each entry's name is unlike the earlier ones and those before it. Where it is, they are
 /// earlier ones from now on.
 #[tactic(auto, using(crate::proofs::NameLemmas::are_new_step))]
-fn add_new<'a, T: Named>(earlier: &mut NameSet<'a>, entries: &'a [T]) -> Result<bool, AllocError>
+fn add_new<'a, T: HasEntryName>(
+    earlier: &mut NameSet<'a>,
+    entries: &'a [T],
+) -> Result<bool, AllocError>
     ensures new { IfOk result (λ answer. answer ≡ are_new earlier.old (map T.name entries.now)) }
     ensures names { IfOk result (λ answer. answer ≡ true
         → earlier.new ≡ earlier.old ++ map T.name entries.now) }
@@ -27,7 +30,7 @@ fn add_new<'a, T: Named>(earlier: &mut NameSet<'a>, entries: &'a [T]) -> Result<
 }
 
 /// Whether each entry's name is unlike those before it.
-fn are_new<T: Named>(alloc: Global, entries: &[T]) -> Result<bool, AllocError>
+fn are_new<T: HasEntryName>(alloc: Global, entries: &[T]) -> Result<bool, AllocError>
     ensures { IfOk result (λ answer. answer ≡ are_new [] (map T.name entries.now)) }
 {
     add_new(&mut NameSet::new(alloc), entries)
@@ -47,7 +50,10 @@ fn are_rules_new(alloc: Global, file: &FileEntries) -> Result<bool, AllocError>
 }
 
 /// The names of entries, each once.
-pub(crate) fn names_of<T: Named>(alloc: Global, entries: &[T]) -> Result<NameSet<'_>, AllocError>
+pub(crate) fn names_of<T: HasEntryName>(
+    alloc: Global,
+    entries: &[T],
+) -> Result<NameSet<'_>, AllocError>
     ensures { IfOk result (λ names. names ≡ with_names [] (map T.name entries.now)) }
 {
     let mut names = NameSet::new(alloc);

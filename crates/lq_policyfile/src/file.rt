@@ -1,6 +1,8 @@
 //! Policy files.
 ghost use Rattle.std.specs.Prelude.{◌≡◌, [], option_map, true, IfOk, OnOk};
 ghost use Rattle.toml.specs.View.{table_view};
+ghost use Rattle.lq_host.specs.Hosts.{hosts_of};
+ghost use Rattle.lq_language.specs.Worlds.{known_predicates};
 ghost use Rattle.lq_policy.specs.Rules as totals;
 ghost use Rattle.lq_policyfile.specs.Duplicates.{are_new};
 ghost use Rattle.lq_policyfile.specs.File.{document_of, of_document, parts_in, policies_in, refusal_of};
@@ -14,9 +16,12 @@ use crate::parts::parts_of;
 use crate::rule_checks::{are_rules_total, are_rules_typed};
 use crate::shape::entries_of;
 use crate::{duplicates, names};
+use lq_host::HostSet;
+use lq_language::{HostName, host_names};
 use lq_policy::{Policies, PolicyError};
 use lq_security::PolicyParts;
 use lq_store::Store;
+use lq_value::List;
 use std::alloc::{AllocError, Global};
 use toml::Table;
 
@@ -25,18 +30,23 @@ pub const MOST_BYTES: usize = 1_048_576;
 
 /// Refuses entries with the least refusal that applies.
 #[tactic(auto, unfolding(crate::specs::File::refusal_of))]
-fn check(alloc: Global, store: &Store, file: &FileEntries) -> Result<(), PolicyFileError>
-    ensures refusal { Refuses (refusal_of store.now file.now) result }
+fn check(
+    alloc: Global,
+    store: &Store,
+    hosts: &[HostName],
+    file: &FileEntries,
+) -> Result<(), PolicyFileError>
+    ensures refusal { Refuses (refusal_of store.now hosts.now file.now) result }
     ensures distinct { OnOk result (are_new [] (role_names file.now.roles) ≡ true) }
     ensures total { OnOk result (rules.are_rules_total file.now.policies ≡ true) }
 {
-    if !names::are_names_known(alloc, store, file)? {
+    if !names::are_names_known(alloc, store, hosts, file)? {
         return Err(PolicyFileError::UnknownName);
     }
     if !duplicates::has_no_duplicates(alloc, file)? {
         return Err(PolicyFileError::Duplicate);
     }
-    if !are_rules_typed(store, file.policies.as_slice()) {
+    if !are_rules_typed(store, hosts, file.policies.as_slice()) {
         return Err(PolicyFileError::RuleType);
     }
     if !are_rules_total(file.policies.as_slice()) {
@@ -47,12 +57,18 @@ fn check(alloc: Global, store: &Store, file: &FileEntries) -> Result<(), PolicyF
 
 /// What the entries of a file mean.
 #[tactic(auto, using(crate::proofs::FileLemmas::total_parts))]
-fn parts_in(alloc: Global, store: &Store, file: FileEntries) -> Result<PolicyParts, PolicyFileError>
-    ensures parts { Answers (parts_in store.now file) result }
+fn parts_in(
+    alloc: Global,
+    store: &Store,
+    hosts: List<HostName>,
+    file: FileEntries,
+) -> Result<PolicyParts, PolicyFileError>
+    ensures parts { Answers (parts_in store.now hosts file) result }
     ensures total { IfOk result (λ parts. totals.are_rules_total parts.policies ≡ true) }
+    ensures predicates { IfOk result (λ parts. parts.predicates ≡ hosts) }
 {
-    check(alloc, store, &file)?;
-    Ok(parts_of(alloc, store, file)?)
+    check(alloc, store, hosts.as_slice(), &file)?;
+    Ok(parts_of(alloc, store, hosts, file)?)
 }
 
 /// The tree of a TOML document in UTF-8; None where the bytes aren't such a document.
@@ -75,44 +91,72 @@ fn parts_of_bytes(
     alloc: Global,
     bytes: &[u8],
     store: &Store,
+    hosts: List<HostName>,
 ) -> Result<PolicyParts, PolicyFileError>
-    ensures parts { Answers (of_document store.now (document_of bytes.now)) result }
+    ensures parts { Answers (of_document store.now hosts (document_of bytes.now)) result }
     ensures total { IfOk result (λ parts. totals.are_rules_total parts.policies ≡ true) }
+    ensures predicates { IfOk result (λ parts. parts.predicates ≡ hosts) }
 {
     let Some(tree) = document(alloc, bytes)? else {
         return Err(PolicyFileError::Toml);
     };
     let file = entries_of(alloc, &tree)?;
-    parts_in(alloc, store, file)
+    parts_in(alloc, store, hosts, file)
 }
 
 /// The parts of the policies that the bytes of a file mean.
 #[tactic(auto, unfolding(crate::specs::File::policies_in))]
-fn policy_parts(alloc: Global, bytes: &[u8], store: &Store) -> Result<PolicyParts, PolicyFileError>
-    ensures parts { Answers (policies_in store.now bytes.now) result }
+fn policy_parts(
+    alloc: Global,
+    bytes: &[u8],
+    store: &Store,
+    hosts: List<HostName>,
+) -> Result<PolicyParts, PolicyFileError>
+    ensures parts { Answers (policies_in store.now hosts bytes.now) result }
     ensures total { IfOk result (λ parts. totals.are_rules_total parts.policies ≡ true) }
+    ensures predicates { IfOk result (λ parts. parts.predicates ≡ hosts) }
 {
     if bytes.len() > MOST_BYTES {
         return Err(PolicyFileError::Shape);
     }
-    parts_of_bytes(alloc, bytes, store)
+    parts_of_bytes(alloc, bytes, store, hosts)
 }
 
-/// The policies that the bytes of a policy file mean for the tables of a store.
-///
-/// A file of more than 1,048,576 bytes is refused with `Shape`. Of any other the least refusal that
-/// applies is given, whatever comes first in the file: `Toml`, `Shape`, `UnknownName`, `Duplicate`,
-/// `RuleType` and then `RuleNotTotal`. `Memory` may replace any other answer.
-pub fn policies_from_toml(
+/// The policies that the bytes of a file mean, where these host predicates are known.
+fn policies_among(
     alloc: Global,
     bytes: &[u8],
     store: &Store,
+    hosts: List<HostName>,
 ) -> Result<Policies, PolicyFileError>
-    ensures { Answers (policies_in store.now bytes.now) result }
+    ensures policies { Answers (policies_in store.now hosts bytes.now) result }
+    ensures predicates { IfOk result (λ policies. policies.predicates ≡ hosts) }
 {
-    let parts = policy_parts(alloc, bytes, store)?;
+    let parts = policy_parts(alloc, bytes, store, hosts)?;
     match Policies::build(alloc, parts) {
         Ok(policies) => Ok(policies),
         Err((PolicyError::Memory, _parts)) => Err(PolicyFileError::Memory),
     }
+}
+
+/// The policies that the bytes of a policy file mean for the tables of a store and the host
+/// predicates of a set.
+///
+/// A file of more than 1,048,576 bytes is refused with `Shape`. Of any other the least refusal that
+/// applies is given, whatever comes first in the file: `Toml`, `Shape`, `UnknownName`, `Duplicate`,
+/// `RuleType` and then `RuleNotTotal`. `Memory` may replace any other answer. A rule that names a
+/// predicate that isn't there is refused with `UnknownName`, and one that asks a predicate with
+/// `RuleNotTotal` where it is well typed. The policies keep the names of the predicates.
+pub fn policies_from_toml(
+    alloc: Global,
+    bytes: &[u8],
+    store: &Store,
+    hosts: &HostSet,
+) -> Result<Policies, PolicyFileError>
+    ensures policies { Answers (policies_in store.now
+        (known_predicates (hosts_of hosts.now).predicates) bytes.now) result }
+    ensures predicates { IfOk result
+        (λ policies. policies.predicates ≡ known_predicates (hosts_of hosts.now).predicates) }
+{
+    policies_among(alloc, bytes, store, host_names(alloc, &hosts.predicates)?)
 }

@@ -11,6 +11,7 @@ use crate::name_set::NameSet;
 use crate::rights::are_entries_known;
 use crate::rule_names::knows;
 use lq_grammar::Expr;
+use lq_language::HostName;
 use lq_store::{Column, Store};
 use lq_value::Txt;
 use std::alloc::{AllocError, Global};
@@ -68,20 +69,20 @@ pub(crate) fn columns_of<'a>(store: &'a Store, table: &str) -> &'a [Column]
 }
 
 /// Whether a rule that is there names only what is there.
-fn knows_rule(columns: &[Column], rule: &Option<Expr>) -> bool
-    ensures { result ≡ passes (λ expr. knows columns.now expr false) rule.now }
+fn knows_rule(hosts: &[HostName], columns: &[Column], rule: &Option<Expr>) -> bool
+    ensures { result ≡ passes (λ expr. knows hosts.now columns.now expr false) rule.now }
 {
     match rule {
-        Some(rule) => knows(columns, rule, false),
+        Some(rule) => knows(hosts, columns, rule, false),
         None => true,
     }
 }
 
 /// Whether the rules name only what is there.
-fn knows_rules(columns: &[Column], rules: &Rules) -> bool
-    ensures { result ≡ all_pass (λ expr. knows columns.now expr false) rules.now }
+fn knows_rules(hosts: &[HostName], columns: &[Column], rules: &Rules) -> bool
+    ensures { result ≡ all_pass (λ expr. knows hosts.now columns.now expr false) rules.now }
 {
-    knows_rule(columns, &rules.using) && knows_rule(columns, &rules.check)
+    knows_rule(hosts, columns, &rules.using) && knows_rule(hosts, columns, &rules.check)
 }
 
 /// Whether each name is that of a role or `public`.
@@ -92,30 +93,49 @@ pub(crate) fn are_addressees(roles: &NameSet<'_>, names: &[Txt]) -> bool
 }
 
 /// Whether a policy names only what is there.
-fn is_policy_known(store: &Store, roles: &NameSet<'_>, policy: &PolicyEntry) -> bool
-    ensures { result ≡ is_policy_known store.now roles.now policy.now }
+fn is_policy_known(
+    store: &Store,
+    hosts: &[HostName],
+    roles: &NameSet<'_>,
+    policy: &PolicyEntry,
+) -> bool
+    ensures { result ≡ is_policy_known store.now hosts.now roles.now policy.now }
 {
     is_table(store, policy.table.as_str())
         && are_addressees(roles, policy.to.as_slice())
-        && knows_rules(columns_of(store, policy.table.as_str()), &policy.rules)
+        && knows_rules(
+            hosts,
+            columns_of(store, policy.table.as_str()),
+            &policy.rules,
+        )
 }
 
 /// Whether each policy names only what is there.
-fn are_policies_known(store: &Store, roles: &NameSet<'_>, policies: &[PolicyEntry]) -> bool
-    ensures { result ≡ list_all (is_policy_known store.now roles.now) policies.now }
+fn are_policies_known(
+    store: &Store,
+    hosts: &[HostName],
+    roles: &NameSet<'_>,
+    policies: &[PolicyEntry],
+) -> bool
+    ensures { result ≡ list_all (is_policy_known store.now hosts.now roles.now) policies.now }
 {
     policies
         .iter()
-        .all(|policy| is_policy_known(store, roles, policy))
+        .all(|policy| is_policy_known(store, hosts, roles, policy))
 }
 
 /// Whether each policy, grant and withhold names only what is there.
-fn are_rules_known(store: &Store, roles: &NameSet<'_>, file: &FileEntries) -> bool
-    ensures { result ≡ are_rules_known store.now roles.now file.now }
+fn are_rules_known(
+    store: &Store,
+    hosts: &[HostName],
+    roles: &NameSet<'_>,
+    file: &FileEntries,
+) -> bool
+    ensures { result ≡ are_rules_known store.now hosts.now roles.now file.now }
 {
-    are_policies_known(store, roles, file.policies.as_slice())
-        && are_entries_known(store, roles, file.grants.as_slice())
-        && are_entries_known(store, roles, file.withholds.as_slice())
+    are_policies_known(store, hosts, roles, file.policies.as_slice())
+        && are_entries_known(store, hosts, roles, file.grants.as_slice())
+        && are_entries_known(store, hosts, roles, file.withholds.as_slice())
 }
 
 /// Whether the file names only what is there.
@@ -123,14 +143,15 @@ fn are_rules_known(store: &Store, roles: &NameSet<'_>, file: &FileEntries) -> bo
 pub(crate) fn are_names_known(
     alloc: Global,
     store: &Store,
+    hosts: &[HostName],
     file: &FileEntries,
 ) -> Result<bool, AllocError>
-    ensures { IfOk result (λ answer. answer ≡ are_names_known store.now file.now) }
+    ensures { IfOk result (λ answer. answer ≡ are_names_known store.now hosts.now file.now) }
 {
     let roles = names_of(alloc, file.roles.as_slice())?;
     Ok(
         are_memberships_known(alloc, file.roles.as_slice())?
             && are_tables_known(store, file.tables.as_slice())
-            && are_rules_known(store, &roles, file),
+            && are_rules_known(store, hosts, &roles, file),
     )
 }

@@ -10,6 +10,7 @@ use crate::duplicates::names_of;
 use crate::entry::{Actions, FileEntries, Kind, PolicyEntry, RoleEntry, TableEntry};
 use crate::name_set::NameSet;
 use crate::right_uses::right_rules;
+use lq_language::HostName;
 use lq_security::{Action, Policy, PolicyParts, Role, TablePart};
 use lq_store::{Column, Schema, Store};
 use lq_value::{List, TableNumber, Txt};
@@ -207,10 +208,11 @@ fn policies_of(
 pub(crate) fn parts_of(
     alloc: Global,
     store: &Store,
+    hosts: List<HostName>,
     file: FileEntries,
 ) -> Result<PolicyParts, AllocError>
     requires { are_new [] (role_names file.roles) ≡ true }
-    ensures { IfOk result (λ parts. parts ≡ parts_of store.now file) }
+    ensures { IfOk result (λ parts. parts ≡ parts_of store.now hosts file) }
 {
     let FileEntries {
         roles,
@@ -223,7 +225,8 @@ pub(crate) fn parts_of(
         roles: roles_of(alloc, roles.as_slice())?,
         tables: tables_of(alloc, store, tables.as_slice())?,
         policies: policies_of(alloc, store, policies)?,
-        grants: right_rules(alloc, store, grants)?,
-        withholds: right_rules(alloc, store, withholds)?,
+        grants: right_rules(alloc, store, hosts.as_slice(), grants)?,
+        withholds: right_rules(alloc, store, hosts.as_slice(), withholds)?,
+        predicates: hosts,
     })
 }

@@ -2,12 +2,13 @@
 ghost use Rattle.std.specs.Prelude.{◌≡◌, ◌++◌, ◌≤◌, flat_map, length, map, unwrap_or, IfOk, IfSome, OnOk, ◌<◌};
 ghost use Rattle.lq_value.specs.Tables.{first_named};
 ghost use Rattle.lq_language.specs.Uses.{columns_from};
-ghost use Rattle.lq_policyfile.specs.RightUses.{column_number, right_rule, uses_of};
+ghost use Rattle.lq_policyfile.specs.RightUses.{column_number, host_number, right_rule, uses_of};
 
 use crate::entry::{RightEntry, RightForm};
 use crate::names::columns_of;
 use crate::parts::table_number;
-use lq_language::{RightRule, Use};
+use lq_host::PredicateNumber;
+use lq_language::{HostName, RightRule, Use};
 use lq_store::{Column, Store};
 use lq_value::{ColumnNumber, List, TableNumber};
 use std::alloc::{AllocError, Global};
@@ -33,6 +34,25 @@ fn column_number(columns: &[Column], name: &str) -> ColumnNumber
     }
 }
 
+/// The place of the host predicate of this name.
+fn host_place(hosts: &[HostName], name: &str) -> Option<usize>
+    ensures { result ≡ first_named (λ host. host.name) name.now hosts.now }
+{
+    hosts.iter().position(|host| host.name.as_str() == name)
+}
+
+/// The number of the host predicate of this name, which is there. No host has more predicates than
+/// numbers reach; one that had is refused as past all memory.
+fn host_number(hosts: &[HostName], name: &str) -> Result<PredicateNumber, AllocError>
+    ensures { IfOk result (λ number. number ≡ host_number hosts.now name.now) }
+{
+    let place = host_place(hosts, name).unwrap_or(0);
+    let Ok(number) = u16::try_from(place) else {
+        return Err(AllocError);
+    };
+    Ok(number)
+}
+
 /// Adds each column of a table with this number.
 fn add_columns(
     uses: &mut List<Use>,
@@ -53,8 +73,13 @@ fn add_columns(
 }
 
 /// Adds what a right is for.
-fn add_uses(uses: &mut List<Use>, store: &Store, right: &RightForm) -> Result<(), AllocError>
-    ensures { OnOk result (uses.new ≡ uses.old ++ uses_of store.now right.now) }
+fn add_uses(
+    uses: &mut List<Use>,
+    store: &Store,
+    hosts: &[HostName],
+    right: &RightForm,
+) -> Result<(), AllocError>
+    ensures { OnOk result (uses.new ≡ uses.old ++ uses_of store.now hosts.now right.now) }
 {
     match right {
         RightForm::Column(table, column) => {
@@ -67,29 +92,42 @@ fn add_uses(uses: &mut List<Use>, store: &Store, right: &RightForm) -> Result<()
         }
         RightForm::Insert(table) => uses.push(Use::Insert(table_number(store, table.as_str()))),
         RightForm::Delete(table) => uses.push(Use::Delete(table_number(store, table.as_str()))),
-        RightForm::Host(_) => Ok(()),
+        RightForm::Host(predicate) => {
+            let number = host_number(hosts, predicate.as_str())?;
+            uses.push(Use::Host(number))
+        }
     }
 }
 
 /// What rights are for, in their order.
-fn all_uses(alloc: Global, store: &Store, rights: &[RightForm]) -> Result<List<Use>, AllocError>
-    ensures { IfOk result (λ uses. uses ≡ flat_map (uses_of store.now) rights.now) }
+fn all_uses(
+    alloc: Global,
+    store: &Store,
+    hosts: &[HostName],
+    rights: &[RightForm],
+) -> Result<List<Use>, AllocError>
+    ensures { IfOk result (λ uses. uses ≡ flat_map (uses_of store.now hosts.now) rights.now) }
 {
     let mut uses = List::new(alloc);
     let mut left = rights;
     while let [right, others @ ..] = left {
-        add_uses(&mut uses, store, right)?;
+        add_uses(&mut uses, store, hosts, right)?;
         left = others;
     }
     Ok(uses)
 }
 
 /// The rule of an entry.
-fn right_rule(alloc: Global, store: &Store, entry: RightEntry) -> Result<RightRule, AllocError>
-    ensures { IfOk result (λ rule. rule ≡ right_rule store.now entry) }
+fn right_rule(
+    alloc: Global,
+    store: &Store,
+    hosts: &[HostName],
+    entry: RightEntry,
+) -> Result<RightRule, AllocError>
+    ensures { IfOk result (λ rule. rule ≡ right_rule store.now hosts.now entry) }
 {
     let RightEntry { name, to, rights } = entry;
-    let rights = all_uses(alloc, store, rights.as_slice())?;
+    let rights = all_uses(alloc, store, hosts, rights.as_slice())?;
     Ok(RightRule { name, to, rights })
 }
 
@@ -97,13 +135,14 @@ fn right_rule(alloc: Global, store: &Store, entry: RightEntry) -> Result<RightRu
 pub(crate) fn right_rules(
     alloc: Global,
     store: &Store,
+    hosts: &[HostName],
     entries: List<RightEntry>,
 ) -> Result<List<RightRule>, AllocError>
-    ensures { IfOk result (λ rules. rules ≡ map (right_rule store.now) entries) }
+    ensures { IfOk result (λ rules. rules ≡ map (right_rule store.now hosts.now) entries) }
 {
     let mut rules = List::new(alloc);
     for entry in entries.into_vec() {
-        rules.push(right_rule(alloc, store, entry)?)?;
+        rules.push(right_rule(alloc, store, hosts, entry)?)?;
     }
     Ok(rules)
 }

@@ -6,12 +6,13 @@ ghost use Rattle.lq_policyfile.specs.Names.{is_entry_known, is_right_known};
 use crate::entry::{RightEntry, RightForm};
 use crate::name_set::NameSet;
 use crate::names::{are_addressees, columns_of, is_table};
-use crate::rule_names::has_column;
+use crate::rule_names::{has_column, is_predicate};
+use lq_language::HostName;
 use lq_store::Store;
 
-/// Whether a right names only what is there. No host predicate is.
-fn is_right_known(store: &Store, right: &RightForm) -> bool
-    ensures { result ≡ is_right_known store.now right.now }
+/// Whether a right names only what is there.
+fn is_right_known(store: &Store, hosts: &[HostName], right: &RightForm) -> bool
+    ensures { result ≡ is_right_known store.now hosts.now right.now }
 {
     match right {
         RightForm::Column(table, column) => {
@@ -21,29 +22,42 @@ fn is_right_known(store: &Store, right: &RightForm) -> bool
         RightForm::AllColumns(table) | RightForm::Insert(table) | RightForm::Delete(table) => {
             is_table(store, table.as_str())
         }
-        RightForm::Host(_) => false,
+        RightForm::Host(predicate) => is_predicate(hosts, predicate.as_str()),
     }
 }
 
 /// Whether each right names only what is there.
-fn are_rights_known(store: &Store, rights: &[RightForm]) -> bool
-    ensures { result ≡ list_all (is_right_known store.now) rights.now }
+fn are_rights_known(store: &Store, hosts: &[HostName], rights: &[RightForm]) -> bool
+    ensures { result ≡ list_all (is_right_known store.now hosts.now) rights.now }
 {
-    rights.iter().all(|right| is_right_known(store, right))
+    rights
+        .iter()
+        .all(|right| is_right_known(store, hosts, right))
 }
 
 /// Whether a grant or a withhold names only what is there.
-fn is_entry_known(store: &Store, roles: &NameSet<'_>, entry: &RightEntry) -> bool
-    ensures { result ≡ is_entry_known store.now roles.now entry.now }
+fn is_entry_known(
+    store: &Store,
+    hosts: &[HostName],
+    roles: &NameSet<'_>,
+    entry: &RightEntry,
+) -> bool
+    ensures { result ≡ is_entry_known store.now hosts.now roles.now entry.now }
 {
-    are_addressees(roles, entry.to.as_slice()) && are_rights_known(store, entry.rights.as_slice())
+    are_addressees(roles, entry.to.as_slice())
+        && are_rights_known(store, hosts, entry.rights.as_slice())
 }
 
 /// Whether each grant or withhold names only what is there.
-pub(crate) fn are_entries_known(store: &Store, roles: &NameSet<'_>, entries: &[RightEntry]) -> bool
-    ensures { result ≡ list_all (is_entry_known store.now roles.now) entries.now }
+pub(crate) fn are_entries_known(
+    store: &Store,
+    hosts: &[HostName],
+    roles: &NameSet<'_>,
+    entries: &[RightEntry],
+) -> bool
+    ensures { result ≡ list_all (is_entry_known store.now hosts.now roles.now) entries.now }
 {
     entries
         .iter()
-        .all(|entry| is_entry_known(store, roles, entry))
+        .all(|entry| is_entry_known(store, hosts, roles, entry))
 }

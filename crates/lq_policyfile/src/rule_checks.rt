@@ -8,7 +8,8 @@ ghost use Rattle.lq_policyfile.specs.RuleChecks.{are_rules_total, are_rules_type
 use crate::entry::{PolicyEntry, Rules};
 use crate::names::columns_of;
 use lq_grammar::Expr;
-use lq_scalar::{ExprType, Named, Names, ScalarRef, is_total, type_of};
+use lq_language::HostName;
+use lq_scalar::{ExprType, Names, Referent, ScalarRef, is_total, type_of};
 use lq_store::{Column, ColumnType, Store};
 use lq_value::{Scalar, TableNumber};
 
@@ -63,10 +64,10 @@ impl Names for RuleNames<'_> {
 
     /// `row` is some row, and `user` some text.
     #[tactic(auto, using(crate::proofs::TypingLemmas::values))]
-    fn named(&self, name: &str) -> Option<Named<'_>> {
+    fn named(&self, name: &str) -> Option<Referent<'_>> {
         match name {
-            "row" => Some(Named::Row),
-            "user" => Some(Named::Scalar(ScalarRef::Text(""))),
+            "row" => Some(Referent::Row),
+            "user" => Some(Referent::Scalar(ScalarRef::Text(""))),
             _ => None,
         }
     }
@@ -78,43 +79,50 @@ impl Names for RuleNames<'_> {
     }
 }
 
-/// Whether a rule is a truth value.
+/// Whether a rule is a truth value, where these host predicates are known.
 #[tactic(auto, using(lq_scalar::proofs::TypeLaws::layer_known))]
-fn is_typed(columns: &[Column], rule: &Expr) -> bool
-    ensures { result ≡ is_typed columns.now rule.now }
+fn is_typed(hosts: &[HostName], columns: &[Column], rule: &Expr) -> bool
+    ensures { result ≡ is_typed hosts.now columns.now rule.now }
 {
-    matches!(type_of(&RuleNames { columns }, rule), Some(ExprType::Bool))
+    matches!(
+        type_of(&RuleNames { columns }, hosts, rule),
+        Some(ExprType::Bool)
+    )
 }
 
 /// The same of a rule that is there.
-fn is_typed_if_there(columns: &[Column], rule: &Option<Expr>) -> bool
-    ensures { result ≡ passes (is_typed columns.now) rule.now }
+fn is_typed_if_there(hosts: &[HostName], columns: &[Column], rule: &Option<Expr>) -> bool
+    ensures { result ≡ passes (is_typed hosts.now columns.now) rule.now }
 {
     match rule {
-        Some(rule) => is_typed(columns, rule),
+        Some(rule) => is_typed(hosts, columns, rule),
         None => true,
     }
 }
 
 /// Whether the rules are truth values.
-fn are_typed(columns: &[Column], rules: &Rules) -> bool
-    ensures { result ≡ all_pass (is_typed columns.now) rules.now }
+fn are_typed(hosts: &[HostName], columns: &[Column], rules: &Rules) -> bool
+    ensures { result ≡ all_pass (is_typed hosts.now columns.now) rules.now }
 {
-    is_typed_if_there(columns, &rules.using) && is_typed_if_there(columns, &rules.check)
+    is_typed_if_there(hosts, columns, &rules.using)
+        && is_typed_if_there(hosts, columns, &rules.check)
 }
 
 /// Whether the rules of a policy are truth values.
-fn is_policy_typed(store: &Store, policy: &PolicyEntry) -> bool
-    ensures { result ≡ is_policy_typed store.now policy.now }
+fn is_policy_typed(store: &Store, hosts: &[HostName], policy: &PolicyEntry) -> bool
+    ensures { result ≡ is_policy_typed store.now hosts.now policy.now }
 {
-    are_typed(columns_of(store, policy.table.as_str()), &policy.rules)
+    let columns = columns_of(store, policy.table.as_str());
+    are_typed(hosts, columns, &policy.rules)
 }
 
 /// Whether the rules of each policy are truth values.
-pub(crate) fn are_rules_typed(store: &Store, policies: &[PolicyEntry]) -> bool
-    ensures { result ≡ are_rules_typed store.now policies.now }
+pub(crate) fn are_rules_typed(store: &Store, hosts: &[HostName], policies: &[PolicyEntry]) -> bool
+    ensures { result ≡ are_rules_typed store.now hosts.now policies.now }
 {
-    policies.iter().all(|policy| is_policy_typed(store, policy))
+    policies
+        .iter()
+        .all(|policy| is_policy_typed(store, hosts, policy))
 }
 
 /// Whether a rule that is there can't fault.

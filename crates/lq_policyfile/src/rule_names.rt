@@ -4,11 +4,12 @@ ghost use Rattle.std.specs.List.{list_all};
 ghost use Rattle.lq_security.specs.Totality.{is_row};
 ghost use Rattle.lq_grammar.specs.declared.syntax.Expr.{out-Expr};
 ghost use Rattle.lq_grammar.specs.declared.syntax.Expr.TheVariants as expr;
-ghost use Rattle.lq_policyfile.specs.RuleNames.{argument_knows, body_knows, clause_knows, continuation_knows, has_column, is_hidden_after, is_hidden_by, join_knows, knows, last_knows, query_knows};
+ghost use Rattle.lq_policyfile.specs.RuleNames.{argument_knows, body_knows, clause_knows, continuation_knows, has_column, has_columns, is_hidden_after, is_hidden_by, is_predicate, join_knows, knows, last_knows, query_knows};
 
 use lq_grammar::{
-    Argument, Body, Clause, Continuation, Expr, Field, Join, Last, Node, Query, SortKey,
+    Argument, Body, Clause, Continuation, Expr, Field, Join, Last, Node, Picked, Query, SortKey,
 };
+use lq_language::HostName;
 use lq_store::Column;
 
 /// Whether there is a column of this name.
@@ -16,6 +17,25 @@ pub(crate) fn has_column(columns: &[Column], name: &str) -> bool
     ensures { result ≡ has_column columns.now name.now }
 {
     columns.iter().any(|column| column.name.as_str() == name)
+}
+
+/// Whether there are columns of these names.
+fn has_columns(columns: &[Column], names: &Picked) -> bool
+    ensures { result ≡ has_columns columns.now names.now }
+{
+    match names {
+        Picked::One(name) => has_column(columns, name.as_str()),
+        Picked::Two(first, second) => {
+            has_column(columns, first.as_str()) && has_column(columns, second.as_str())
+        }
+    }
+}
+
+/// Whether there is a host predicate of this name, whatever it takes.
+pub(crate) fn is_predicate(hosts: &[HostName], name: &str) -> bool
+    ensures { result ≡ is_predicate hosts.now name.now }
+{
+    hosts.iter().any(|host| host.name.as_str() == name)
 }
 
 /// Whether this is the name `row`.
@@ -48,58 +68,86 @@ fn is_hidden_after(clause: &Clause<Expr>, hidden: bool) -> bool
 }
 
 /// Whether an expression names only columns of these where it names columns of the row, which is
-/// hidden or not, and no host predicate.
+/// hidden or not, and only these host predicates.
 #[cycle(rule_names)]
 #[tactic(auto, using(crate::proofs::RuleForms::forms))]
-pub(crate) fn knows(columns: &[Column], expression: &Expr, hidden: bool) -> bool
-    ensures { result ≡ knows columns.now expression.now hidden }
+pub(crate) fn knows(hosts: &[HostName], columns: &[Column], expression: &Expr, hidden: bool) -> bool
+    ensures { result ≡ knows hosts.now columns.now expression.now hidden }
 {
     match expression {
-        Expr::Node(node) => knows_node(columns, node, hidden),
-        Expr::Query(query) => knows_query(columns, query.get(), hidden),
+        Expr::Node(node) => knows_node(hosts, columns, node, hidden),
+        Expr::Query(query) => knows_query(hosts, columns, query.get(), hidden),
     }
 }
 
 /// The same of a node.
 #[cycle(rule_names)]
 #[tactic(auto, using(crate::proofs::RuleForms::forms))]
-fn knows_node(columns: &[Column], node: &Node<Expr>, hidden: bool) -> bool
-    ensures { result ≡ knows columns.now (expr.Node node.now) hidden }
+fn knows_node(hosts: &[HostName], columns: &[Column], node: &Node<Expr>, hidden: bool) -> bool
+    ensures { result ≡ knows hosts.now columns.now (expr.Node node.now) hidden }
 {
     match node {
         Node::Integer(_) | Node::Text(_) | Node::Bool(_) | Node::Null | Node::Name(_) => true,
         Node::Member(operand, member) => {
-            knows(columns, operand.get(), hidden)
+            knows(hosts, columns, operand.get(), hidden)
                 && (hidden || !is_row(operand.get()) || has_column(columns, member.as_str()))
         }
-        Node::Unary(_, operand) => knows(columns, operand.get(), hidden),
+        Node::Unary(_, operand) => knows(hosts, columns, operand.get(), hidden),
         Node::Binary(_, left, right)
         | Node::And(left, right)
         | Node::Or(left, right)
         | Node::Coalesce(left, right) => {
-            knows(columns, left.get(), hidden) && knows(columns, right.get(), hidden)
+            knows(hosts, columns, left.get(), hidden) && knows(hosts, columns, right.get(), hidden)
         }
         Node::Conditional(condition, left, right) => {
-            knows(columns, condition.get(), hidden)
-                && knows(columns, left.get(), hidden)
-                && knows(columns, right.get(), hidden)
+            knows(hosts, columns, condition.get(), hidden)
+                && knows(hosts, columns, left.get(), hidden)
+                && knows(hosts, columns, right.get(), hidden)
         }
-        Node::Host(_, _) => false,
-        Node::New(fields) => knows_fields(columns, fields.as_slice(), hidden),
+        Node::Host(predicate, row, picked) => {
+            is_predicate(hosts, predicate.as_str())
+                && knows(hosts, columns, row.get(), hidden)
+                && (hidden || !is_row(row.get()) || has_columns(columns, picked.get()))
+        }
+        Node::HostOther(predicate, asked) => {
+            is_predicate(hosts, predicate.as_str())
+                && knows_all(hosts, columns, asked.as_slice(), hidden)
+        }
+        Node::New(fields) => knows_fields(hosts, columns, fields.as_slice(), hidden),
         Node::Method(receiver, _, arguments) => {
-            knows(columns, receiver.get(), hidden)
-                && knows_arguments(columns, arguments.as_slice(), hidden)
+            knows(hosts, columns, receiver.get(), hidden)
+                && knows_arguments(hosts, columns, arguments.as_slice(), hidden)
         }
     }
 }
 
+/// The same of what a host predicate is asked of that isn't columns of a row.
+#[cycle(rule_names)]
+fn knows_all(hosts: &[HostName], columns: &[Column], expressions: &[Expr], hidden: bool) -> bool
+    ensures { result
+        ≡ list_all (λ expression. knows hosts.now columns.now expression hidden) expressions.now }
+{
+    for expression in expressions {
+        if !knows(hosts, columns, expression, hidden) {
+            return false;
+        }
+    }
+    true
+}
+
 /// The same of the members of a record.
 #[cycle(rule_names)]
-fn knows_fields(columns: &[Column], fields: &[Field<Expr>], hidden: bool) -> bool
-    ensures { result ≡ list_all (λ field. knows columns.now field.value hidden) fields.now }
+fn knows_fields(
+    hosts: &[HostName],
+    columns: &[Column],
+    fields: &[Field<Expr>],
+    hidden: bool,
+) -> bool
+    ensures { result
+        ≡ list_all (λ field. knows hosts.now columns.now field.value hidden) fields.now }
 {
     for field in fields {
-        if !knows(columns, &field.value, hidden) {
+        if !knows(hosts, columns, &field.value, hidden) {
             return false;
         }
     }
@@ -108,24 +156,40 @@ fn knows_fields(columns: &[Column], fields: &[Field<Expr>], hidden: bool) -> boo
 
 /// The same of an argument: a lambda's parameter may hide the row.
 #[cycle(rule_names)]
-fn knows_argument(columns: &[Column], argument: &Argument<Expr>, hidden: bool) -> bool
-    ensures { result ≡ argument_knows (knows columns.now) hidden argument.now }
+fn knows_argument(
+    hosts: &[HostName],
+    columns: &[Column],
+    argument: &Argument<Expr>,
+    hidden: bool,
+) -> bool
+    ensures { result ≡ argument_knows (knows hosts.now columns.now) hidden argument.now }
 {
     match argument {
-        Argument::Value(value) => knows(columns, value, hidden),
+        Argument::Value(value) => knows(hosts, columns, value, hidden),
         Argument::Lambda(parameter, body) => {
-            knows(columns, body, is_hidden_by(parameter.as_str(), hidden))
+            knows(
+                hosts,
+                columns,
+                body,
+                is_hidden_by(parameter.as_str(), hidden),
+            )
         }
     }
 }
 
 /// The same of the arguments of a method.
 #[cycle(rule_names)]
-fn knows_arguments(columns: &[Column], arguments: &[Argument<Expr>], hidden: bool) -> bool
-    ensures { result ≡ list_all (argument_knows (knows columns.now) hidden) arguments.now }
+fn knows_arguments(
+    hosts: &[HostName],
+    columns: &[Column],
+    arguments: &[Argument<Expr>],
+    hidden: bool,
+) -> bool
+    ensures { result
+        ≡ list_all (argument_knows (knows hosts.now columns.now) hidden) arguments.now }
 {
     for argument in arguments {
-        if !knows_argument(columns, argument, hidden) {
+        if !knows_argument(hosts, columns, argument, hidden) {
             return false;
         }
     }
@@ -134,31 +198,29 @@ fn knows_arguments(columns: &[Column], arguments: &[Argument<Expr>], hidden: boo
 
 /// The same of a query, at whose place the row is hidden or not.
 #[cycle(rule_names)]
-fn knows_query(columns: &[Column], query: &Query<Expr>, outer: bool) -> bool
-    ensures { result ≡ query_knows (knows columns.now) outer query.now }
+fn knows_query(hosts: &[HostName], columns: &[Column], query: &Query<Expr>, outer: bool) -> bool
+    ensures { result ≡ query_knows (knows hosts.now columns.now) outer query.now }
 {
-    knows(columns, &query.source, outer)
-        && knows_body(
-            columns,
-            &query.body,
-            outer,
-            is_hidden_by(query.name.as_str(), outer),
-        )
-        && knows_continuations(columns, query.rest.as_slice(), outer)
+    let hidden = is_hidden_by(query.name.as_str(), outer);
+    knows(hosts, columns, &query.source, outer)
+        && knows_body(hosts, columns, &query.body, outer, hidden)
+        && knows_continuations(hosts, columns, query.rest.as_slice(), outer)
 }
 
 /// The same of what follows a query's first body: each part sees its own range variable alone.
 #[cycle(rule_names)]
 fn knows_continuations(
+    hosts: &[HostName],
     columns: &[Column],
     continuations: &[Continuation<Expr>],
     outer: bool,
 ) -> bool
-    ensures { result ≡ list_all (continuation_knows (knows columns.now) outer) continuations.now }
+    ensures { result
+        ≡ list_all (continuation_knows (knows hosts.now columns.now) outer) continuations.now }
 {
     for next in continuations {
         let hidden = is_hidden_by(next.name.as_str(), outer);
-        if !knows_body(columns, &next.body, outer, hidden) {
+        if !knows_body(hosts, columns, &next.body, outer, hidden) {
             return false;
         }
     }
@@ -167,54 +229,69 @@ fn knows_continuations(
 
 /// The same of a body, at the start of which the row is hidden or not.
 #[cycle(rule_names)]
-fn knows_body(columns: &[Column], body: &Body<Expr>, outer: bool, mut hidden: bool) -> bool
-    ensures { result ≡ body_knows (knows columns.now) outer hidden body.now }
+fn knows_body(
+    hosts: &[HostName],
+    columns: &[Column],
+    body: &Body<Expr>,
+    outer: bool,
+    mut hidden: bool,
+) -> bool
+    ensures { result ≡ body_knows (knows hosts.now columns.now) outer hidden body.now }
 {
     for clause in body.clauses.as_slice() {
-        if !knows_clause(columns, clause, outer, hidden) {
+        if !knows_clause(hosts, columns, clause, outer, hidden) {
             return false;
         }
         hidden = is_hidden_after(clause, hidden);
     }
-    knows_last(columns, &body.last, hidden)
+    knows_last(hosts, columns, &body.last, hidden)
 }
 
 /// The same of a clause.
 #[cycle(rule_names)]
-fn knows_clause(columns: &[Column], clause: &Clause<Expr>, outer: bool, hidden: bool) -> bool
-    ensures { result ≡ clause_knows (knows columns.now) outer hidden clause.now }
+fn knows_clause(
+    hosts: &[HostName],
+    columns: &[Column],
+    clause: &Clause<Expr>,
+    outer: bool,
+    hidden: bool,
+) -> bool
+    ensures { result ≡ clause_knows (knows hosts.now columns.now) outer hidden clause.now }
 {
     match clause {
         Clause::From(_, value) | Clause::Let(_, value) | Clause::Where(value) => {
-            knows(columns, value, hidden)
+            knows(hosts, columns, value, hidden)
         }
-        Clause::Join(join) => knows_join(columns, join, outer, hidden),
-        Clause::OrderBy(keys) => knows_keys(columns, keys.as_slice(), hidden),
+        Clause::Join(join) => knows_join(hosts, columns, join, outer, hidden),
+        Clause::OrderBy(keys) => knows_keys(hosts, columns, keys.as_slice(), hidden),
     }
 }
 
 /// The same of a `join`. Its inner sequence sees no range variable of the query, and the key of that
 /// its own alone.
 #[cycle(rule_names)]
-fn knows_join(columns: &[Column], join: &Join<Expr>, outer: bool, hidden: bool) -> bool
-    ensures { result ≡ join_knows (knows columns.now) outer hidden join.now }
+fn knows_join(
+    hosts: &[HostName],
+    columns: &[Column],
+    join: &Join<Expr>,
+    outer: bool,
+    hidden: bool,
+) -> bool
+    ensures { result ≡ join_knows (knows hosts.now columns.now) outer hidden join.now }
 {
-    knows(columns, &join.source, outer)
-        && knows(columns, &join.outer_key, hidden)
-        && knows(
-            columns,
-            &join.inner_key,
-            is_hidden_by(join.name.as_str(), outer),
-        )
+    let inner = is_hidden_by(join.name.as_str(), outer);
+    knows(hosts, columns, &join.source, outer)
+        && knows(hosts, columns, &join.outer_key, hidden)
+        && knows(hosts, columns, &join.inner_key, inner)
 }
 
 /// The same of the keys of `orderby`.
 #[cycle(rule_names)]
-fn knows_keys(columns: &[Column], keys: &[SortKey<Expr>], hidden: bool) -> bool
-    ensures { result ≡ list_all (λ key. knows columns.now key.value hidden) keys.now }
+fn knows_keys(hosts: &[HostName], columns: &[Column], keys: &[SortKey<Expr>], hidden: bool) -> bool
+    ensures { result ≡ list_all (λ key. knows hosts.now columns.now key.value hidden) keys.now }
 {
     for key in keys {
-        if !knows(columns, &key.value, hidden) {
+        if !knows(hosts, columns, &key.value, hidden) {
             return false;
         }
     }
@@ -223,11 +300,13 @@ fn knows_keys(columns: &[Column], keys: &[SortKey<Expr>], hidden: bool) -> bool
 
 /// The same of the end of a body.
 #[cycle(rule_names)]
-fn knows_last(columns: &[Column], last: &Last<Expr>, hidden: bool) -> bool
-    ensures { result ≡ last_knows (knows columns.now) hidden last.now }
+fn knows_last(hosts: &[HostName], columns: &[Column], last: &Last<Expr>, hidden: bool) -> bool
+    ensures { result ≡ last_knows (knows hosts.now columns.now) hidden last.now }
 {
     match last {
-        Last::Select(value) => knows(columns, value, hidden),
-        Last::Group(value, key) => { knows(columns, value, hidden) && knows(columns, key, hidden) }
+        Last::Select(value) => knows(hosts, columns, value, hidden),
+        Last::Group(value, key) => {
+            knows(hosts, columns, value, hidden) && knows(hosts, columns, key, hidden)
+        }
     }
 }

@@ -7,7 +7,7 @@ use Rattle.lq_value.specs.Tables.{Table}
 use Rattle.lq_value.specs.declared.table.Row.{Row}
 use Rattle.lq_value.specs.declared.table.Schema.{Schema}
 use Rattle.lq_store.specs.Rules.{IsTable, are_distinct}
-use Rattle.lq_machine.specs.States.{State}
+use Rattle.lq_run.specs.States.{SessionState}
 use Rattle.lq_render.specs.declared.grid.Cell.{Cell}
 use Rattle.lq_prompt.specs.Rights as rights
 use Rattle.lq_prompt.specs.Tables as tables
@@ -45,7 +45,7 @@ some_same : (xs ys : List Row) → Some xs ≡ Some ys → xs ≡ ys
 some_same xs ys e = cc
 
 -- the rows of one table more
-pub next_rights : (s : State) (n : ℕ) (ts : List Table) (schema : Schema) (old new all : List (List Cell))
+pub next_rights : (s : SessionState) (n : ℕ) (ts : List Table) (schema : Schema) (old new all : List (List Cell))
     → option_map (λ t. t.schema) (slice_get ts n) ≡ Some schema → new ≡ old ++ rights.table_rows s n schema
     → old ++ rights.rights_rows s n (drop n ts) ≡ all → new ++ rights.rights_rows s (n + 1) (drop (n + 1) ts) ≡ all
 next_rights s n ts schema old new all is more so_far =
@@ -55,7 +55,7 @@ next_rights s n ts schema old new all is more so_far =
     ∙ ap (λ (x : Schema). old ++ (rights.table_rows s n x ++ behind)) (sym at.same)
     ∙ ap (λ l. old ++ rights.rights_rows s n l) (sym (from_number ts n at.table at.there)) ∙ so_far
 
-pub next_tables : (s : State) (n : ℕ) (ts : List Table) (schema : Schema) (rows : List Row) (old new all : List (List Cell))
+pub next_tables : (s : SessionState) (n : ℕ) (ts : List Table) (schema : Schema) (rows : List Row) (old new all : List (List Cell))
     → option_map (λ t. t.schema) (slice_get ts n) ≡ Some schema → option_map (λ t. t.rows) (slice_get ts n) ≡ Some rows
     → new ≡ old ++ tables.table_rows s n schema rows
     → old ++ tables.tables_rows s n (drop n ts) ≡ all → new ++ tables.tables_rows s (n + 1) (drop (n + 1) ts) ≡ all

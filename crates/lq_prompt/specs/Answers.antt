@@ -1,7 +1,7 @@
 -- What a desk answers to a line.
 use Rattle.std.specs.Prelude.{◌≡◌, ◌∷◌, List, [], ℕ, false, Option, Some, None, Result, Ok, Err, string_bytes}
 use Rattle.std.specs.Str.{IsUtf8}
-use Rattle.lq_value.specs.Tables.{first_named}
+use Rattle.lq_value.specs.Tables.{Table, first_named}
 use Rattle.lq_value.specs.declared.ty.Ty.{Ty}
 use Rattle.lq_audit.specs.Disclosure.{Discloses}
 use Rattle.lq_audit.specs.declared.answers.Why.{Why}
@@ -11,6 +11,7 @@ use Rattle.lq_command.specs.declared.command.Misuse.{Misuse}
 use Rattle.lq_machine.specs.Machine.{Reply}
 use Rattle.lq_machine.specs.Output.{Answers}
 use Rattle.lq_machine.specs.States.{State, schemas_of}
+use Rattle.lq_run.specs.States.{SessionState}
 use Rattle.lq_render.specs.Replies.{front_of, line_text}
 use Rattle.lq_render.specs.Types.{shape_of}
 use Rattle.lq_security.specs.declared.policy.Action.{Action}
@@ -30,23 +31,23 @@ use Rattle.lq_prompt.specs.declared.settings.Settings.{Settings}
 -- ---- statements
 
 -- A reply's line as people read it, by the type that it is served by.
-abbrev pub IsTextOf : Settings → State → Option Ty → List ℕ → List ℕ → Type 0
-IsTextOf settings s ty line text =
-    IsUtf8 (front_of line) → text ≡ line_text (shape_of (schemas_of s.tables) settings.most_rows ty) (front_of line)
+abbrev pub IsTextOf : Settings → List Table → Option Ty → List ℕ → List ℕ → Type 0
+IsTextOf settings tables ty line text =
+    IsUtf8 (front_of line) → text ≡ line_text (shape_of (schemas_of tables) settings.most_rows ty) (front_of line)
 
 -- A reply is shown as people read it, unless it was asked for as its line of JSON; and as that, too, where there was no memory for the
 -- text. Nothing is shown of none.
-abbrev pub Shows : Settings → State → Option Ty → Reply → Answer → Type 0
-Shows settings s ty None answer.Nothing = Unit {0}
-Shows settings s ty (Some line) (answer.Shown text) = (settings.is_json ≡ false) × IsTextOf settings s ty line (string_bytes text)
-Shows settings s ty (Some line) (answer.Reply shown) = shown ≡ line
-Shows settings s ty reply given = ⊥
+abbrev pub Shows : Settings → List Table → Option Ty → Reply → Answer → Type 0
+Shows settings tables ty None answer.Nothing = Unit {0}
+Shows settings tables ty (Some line) (answer.Shown text) = (settings.is_json ≡ false) × IsTextOf settings tables ty line (string_bytes text)
+Shows settings tables ty (Some line) (answer.Reply shown) = shown ≡ line
+Shows settings tables ty reply given = ⊥
 
 -- A statement was stepped, once, and its reply is shown.
 pub record Steps (settings : Settings) (statement : List ℕ) (old new : State) (given : Answer) : Type 0 where
   pub reply : Reply
   pub stepped : Answers old statement reply [] new
-  pub shown : Shows settings new (line_type old statement) reply given
+  pub shown : Shows settings new.tables (line_type old statement) reply given
 
 -- ---- commands
 
@@ -63,33 +64,42 @@ settings_after (Ok (command.Time is_timed)) settings = record settings { is_time
 settings_after other settings = settings
 
 -- A question about a row is answered with what may be disclosed of it to a session that began under a role.
-pub record Explains (s : State) (starting : ℕ) (act : Action) (table : List ℕ) (place number : ℕ) (text : List ℕ) : Type 0 where
+pub record Explains (s : SessionState) (starting : ℕ) (act : Action) (table : List ℕ) (place number : ℕ) (text : List ℕ) : Type 0 where
   pub why : Why
-  pub disclosed : Discloses s starting act place number why
+  pub disclosed : Discloses s.tables s.policies s.role starting act place number why
   pub told : text ≡ why_text (record { role = present_role s; table = table; number = number; act = act }) why
 
-abbrev pub ExplainsIn : State → ℕ → Action → List ℕ → ℕ → List ℕ → Option ℕ → Type 0
+abbrev pub ExplainsIn : SessionState → ℕ → Action → List ℕ → ℕ → List ℕ → Option ℕ → Type 0
 ExplainsIn s starting act table number text None = text ≡ no_table_text table
 ExplainsIn s starting act table number text (Some place) = Explains s starting act table place number text
 
--- what a command is answered in this state, of a session that began under a role, with a text
-abbrev pub TellsText : State → ℕ → Result Command Misuse → List ℕ → List ℕ → Type 0
-TellsText s starting (Ok command.Tables) object text = text ≡ tables_text s
-TellsText s starting (Ok command.Roles) object text = text ≡ roles_text s
-TellsText s starting (Ok command.Names) object text = text ≡ names_text s
-TellsText s starting (Ok command.Rights) object text = text ≡ rights_text s
-TellsText s starting (Ok (command.Why number act)) object text = ExplainsIn s starting act object number text (first_named name_of object s.tables)
-TellsText s starting (Ok (command.Rows most)) object text = text ≡ rows_text most
-TellsText s starting (Ok (command.Json is_json)) object text = text ≡ json_text is_json
-TellsText s starting (Ok (command.Time is_timed)) object text = text ≡ time_text is_timed
-TellsText s starting (Ok command.Help) object text = text ≡ HELP.now
-TellsText s starting (Ok command.Run) object text = ⊥
-TellsText s starting (Ok command.Quit) object text = ⊥
-TellsText s starting (Err misuse) object text = text ≡ misuse_text misuse
+-- What a desk is: the machine's state, the session's beside it, without the host predicates, the role that the session began under, and
+-- how replies are shown.
+pub record DeskState : Type 0 where
+  pub state : State
+  pub session : SessionState
+  pub starting : ℕ
+  pub settings : Settings
+
+-- what a command is answered at this desk with a text
+abbrev pub TellsText : DeskState → Result Command Misuse → List ℕ → List ℕ → Type 0
+TellsText desk (Ok command.Tables) object text = text ≡ tables_text desk.session
+TellsText desk (Ok command.Roles) object text = text ≡ roles_text desk.session
+TellsText desk (Ok command.Names) object text = text ≡ names_text desk.state
+TellsText desk (Ok command.Rights) object text = text ≡ rights_text desk.session
+TellsText desk (Ok (command.Why number act)) object text =
+    ExplainsIn desk.session desk.starting act object number text (first_named name_of object desk.session.tables)
+TellsText desk (Ok (command.Rows most)) object text = text ≡ rows_text most
+TellsText desk (Ok (command.Json is_json)) object text = text ≡ json_text is_json
+TellsText desk (Ok (command.Time is_timed)) object text = text ≡ time_text is_timed
+TellsText desk (Ok command.Help) object text = text ≡ HELP.now
+TellsText desk (Ok command.Run) object text = ⊥
+TellsText desk (Ok command.Quit) object text = ⊥
+TellsText desk (Err misuse) object text = text ≡ misuse_text misuse
 
 -- a command is answered with a text, but `.run FILE` with the file, and `.quit` with the end
-abbrev pub Tells : State → ℕ → Result Command Misuse → List ℕ → Answer → Type 0
-Tells s starting spelled object (answer.Text text) = TellsText s starting spelled object (string_bytes text)
-Tells s starting spelled object (answer.Script file) = (spelled ≡ Ok command.Run) × (string_bytes file ≡ object)
-Tells s starting spelled object answer.End = spelled ≡ Ok command.Quit
-Tells s starting spelled object given = ⊥
+abbrev pub Tells : DeskState → Result Command Misuse → List ℕ → Answer → Type 0
+Tells desk spelled object (answer.Text text) = TellsText desk spelled object (string_bytes text)
+Tells desk spelled object (answer.Script file) = (spelled ≡ Ok command.Run) × (string_bytes file ≡ object)
+Tells desk spelled object answer.End = spelled ≡ Ok command.Quit
+Tells desk spelled object given = ⊥

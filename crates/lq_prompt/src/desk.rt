@@ -29,20 +29,24 @@ pub struct Desk {
 }
 
 impl Desk {
-    ghost use Rattle.std.specs.Prelude.{◌≡◌, ◌≢◌, IfOk, OnErr, false, string_bytes};
-    ghost use Rattle.lq_session.specs.States.{state_of};
+    ghost use Rattle.std.specs.Prelude.{◌≡◌, ◌≢◌, ◌<◌, IfOk, OnErr, false, string_bytes};
+    ghost use Rattle.lq_session.specs.States.{session_state, state_of};
     ghost use Rattle.lq_store.specs.Rules.{name_of};
     ghost use Rattle.lq_value.specs.Tables.{first_named};
     ghost use Rattle.lq_prompt.specs.Answers.{ExplainsIn, Tells, TellsText};
-    ghost use Rattle.lq_prompt.specs.Desks.{AnswersCommand, AnswersLine, AnswersStatement, settings_of, starting_of, state_in};
+    ghost use Rattle.lq_prompt.specs.Desks.{AnswersCommand, AnswersLine, AnswersStatement, desk_of};
     ghost use Rattle.lq_prompt.specs.Roles.{present_role};
 
     /// A desk over a session, which begins under the session's present role. At most 20 rows of a reply are shown, as tables, and no
     /// times are reported. Takes no memory.
     pub fn new(alloc: Global, session: Session) -> Desk
-        ensures state { state_in result ≡ state_of session }
-        ensures starting { starting_of result ≡ (state_of session).role }
-        ensures settings { settings_of result
+        // This is always so, as in `Session::step`.
+        requires { 0 < 1 }
+
+        ensures state { (desk_of result).state ≡ state_of session }
+        ensures session { (desk_of result).session ≡ session_state session }
+        ensures starting { (desk_of result).starting ≡ (state_of session).role }
+        ensures settings { (desk_of result).settings
             ≡ record { most_rows = 20; is_json = false; is_timed = false } }
     {
         let starting = session.state().role();
@@ -56,14 +60,14 @@ impl Desk {
 
     /// The name of the present role.
     pub fn role(&self) -> &str
-        ensures { result.now ≡ present_role (state_in self.now) }
+        ensures { result.now ≡ present_role (desk_of self.now).session }
     {
         present_role(self.session.state())
     }
 
     /// Whether the time that each statement takes is reported.
     pub fn is_timed(&self) -> bool
-        ensures { result ≡ (settings_of self.now).is_timed }
+        ensures { result ≡ (desk_of self.now).settings.is_timed }
     {
         self.settings.is_timed
     }
@@ -72,7 +76,10 @@ impl Desk {
     /// which stays as it was. Where memory is refused before that, the desk is as it was; where it is refused for what is shown of a
     /// reply, the reply's line is given.
     pub fn answer(&mut self, line: &str) -> Result<Answer, AllocError>
-        ensures ok { IfOk result (AnswersLine line.now self.old self.new) }
+        // This is always so, as in `Session::step`.
+        requires { 0 < 1 }
+
+        ensures ok { IfOk result (AnswersLine line.now (desk_of self.old) (desk_of self.new)) }
         ensures err { OnErr result (self.new ≡ self.old) }
     {
         let line = line.trim();
@@ -85,7 +92,8 @@ impl Desk {
 
     /// Steps the session once, and shows its reply.
     fn answer_statement(&mut self, line: &str) -> Result<Answer, AllocError>
-        ensures ok { IfOk result (AnswersStatement line.now self.old self.new) }
+        ensures ok { IfOk result
+            (AnswersStatement line.now (desk_of self.old) (desk_of self.new)) }
         ensures err { OnErr result (self.new ≡ self.old) }
     {
         let statement = closed(self.alloc, line)?;
@@ -102,7 +110,7 @@ impl Desk {
 
     /// Answers a line that begins with a dot.
     fn answer_command(&mut self, line: &str) -> Result<Answer, AllocError>
-        ensures ok { IfOk result (AnswersCommand line.now self.old self.new) }
+        ensures ok { IfOk result (AnswersCommand line.now (desk_of self.old) (desk_of self.new)) }
         ensures err { OnErr result (self.new ≡ self.old) }
     {
         let words = words_of(self.alloc, line)?;
@@ -118,8 +126,7 @@ impl Desk {
         spelled: Result<Command, Misuse>,
         object: &str,
     ) -> Result<Answer, AllocError>
-        ensures { IfOk result (Tells (state_in self.now) (starting_of self.now) spelled
-            object.now) }
+        ensures { IfOk result (Tells (desk_of self.now) spelled object.now) }
     {
         match spelled {
             Ok(Command::Run) => Ok(Answer::Script(String::from_str(self.alloc, object)?)),
@@ -134,8 +141,7 @@ impl Desk {
         requires run { command ≢ Command.Run }
         requires quit { command ≢ Command.Quit }
         ensures { IfOk result
-            (λ text. TellsText (state_in self.now) (starting_of self.now) (Ok command) object.now
-            (string_bytes text)) }
+            (λ text. TellsText (desk_of self.now) (Ok command) object.now (string_bytes text)) }
     {
         let state = self.session.state();
         match command {
@@ -154,9 +160,9 @@ impl Desk {
     /// Why the present role may or may not do something with a row of the table of this name.
     fn why(&self, table: &str, number: u64, action: Action) -> Result<String, AllocError>
         ensures { IfOk result
-            (λ text. ExplainsIn (state_in self.now) (starting_of self.now) action table.now number
-            (string_bytes text)
-            (first_named name_of table.now (state_in self.now).tables)) }
+            (λ text. ExplainsIn (desk_of self.now).session (desk_of self.now).starting action
+            table.now number (string_bytes text)
+            (first_named name_of table.now (desk_of self.now).session.tables)) }
     {
         let state = self.session.state();
         let Some(place) = state.store().find(table) else {

@@ -8,7 +8,7 @@ A command:
   .tables               the tables, their columns, and how many of their rows the current role sees
   .roles                the roles, which one is current, and which bypass row security
   .names                the variables and named queries, with their types
-  .rights               what the current role may use, and which rule withholds the rest
+  .rights               what the current role may use of each table, and which rule withholds the rest
   .why T NUMBER         which policies let the current role see the row of this number, or hide it
   .why T NUMBER delete  the same for deleting it; with `insert`, for inserting a row like it
   .rows N               at most N rows of a reply are shown

@@ -19,7 +19,7 @@ fn text_of(
     line: &Line,
 ) -> Result<String, AllocError>
     ensures { IfOk result
-        (λ text. IsTextOf settings state.now (option_map (λ t. t.now) ty.entry) line.now
+        (λ text. IsTextOf settings state.now.tables (option_map (λ t. t.now) ty.entry) line.now
         (string_bytes text)) }
 {
     let layout = Layout {
@@ -38,7 +38,7 @@ pub(crate) fn shown(
     ty: Option<&Ty>,
     reply: Option<Line>,
 ) -> Answer
-    ensures { Shows settings state.now (option_map (λ t. t.now) ty.entry) reply result }
+    ensures { Shows settings state.now.tables (option_map (λ t. t.now) ty.entry) reply result }
 {
     let Some(line) = reply else {
         return Answer::Nothing;

@@ -1,4 +1,4 @@
-pub mod ColumnLaws
+pub mod ColumnLemmas
 pub mod Lists
-pub mod ReadingLaws
+pub mod ReadingLemmas
 pub mod TypeFolds

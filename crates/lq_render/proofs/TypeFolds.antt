@@ -6,15 +6,15 @@ use Rattle.lq_value.specs.declared.ty.Ty as of_ty
 use Rattle.lq_value.specs.declared.ty.Ty.TheOpen.{Ty-F}
 use Rattle.lq_value.specs.declared.ty.Ty.TheVariants as ty
 use Rattle.lq_value.specs.declared.ty.Ty.TheVariants.{outs-Group, outs-Rec, outs-Row, outs-Seq}
-use Rattle.lq_render.specs.Types.{Asked, fields_text, group_text, table_name, type_layer, type_part}
+use Rattle.lq_render.specs.Types.{PartText, fields_text, group_text, table_name, type_layer, type_part}
 
-pub type_out : (schemas : List Schema) (t : Ty) (is_part : Bool) → type_part schemas t is_part ≡ type_layer schemas (map-Ty Ty Asked (type_part schemas) (out-Ty t)) is_part
+pub type_out : (schemas : List Schema) (t : Ty) (is_part : Bool) → type_part schemas t is_part ≡ type_layer schemas (map-Ty Ty PartText (type_part schemas) (out-Ty t)) is_part
 unfolding type_part
-type_out schemas t is_part = ap (λ (f : Asked). f is_part) (fold_out-Ty Asked (type_layer schemas) t)
+type_out schemas t is_part = ap (λ (f : PartText). f is_part) (fold_out-Ty PartText (type_layer schemas) t)
 
 -- the text of a layer whose parts have theirs
 abbrev layer_text : List Schema → Bool → Ty-F Ty → List ℕ
-layer_text schemas is_part layer = type_layer schemas (map-Ty Ty Asked (type_part schemas) layer) is_part
+layer_text schemas is_part layer = type_layer schemas (map-Ty Ty PartText (type_part schemas) layer) is_part
 
 pub record_part : (schemas : List Schema) (fields : List (List ℕ × Ty)) (is_part : Bool) → type_part schemas (ty.Rec fields) is_part
     ≡ codes "{" ++ (fields_text true (map (λ field. (field.0, type_part schemas field.1)) fields) ++ codes "}")

@@ -11,7 +11,7 @@ reason name =
     else if bytes_eq name (codes "Overflow") then codes ", a number left the range of int"
     else if bytes_eq name (codes "NullReference") then codes ", a member of null was read"
     else if bytes_eq name (codes "InvalidOperation") then codes ", no value or no single item where one is needed"
-    else if bytes_eq name (codes "ArgumentOutOfRange") then codes ", an index out of range"
+    else if bytes_eq name (codes "ArgumentOutOfRange") then codes ", an index, or a host predicate's argument, out of range"
     else []
 
 abbrev pub fault_sentence : List ℕ → List ℕ

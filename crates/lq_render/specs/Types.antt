@@ -14,17 +14,17 @@ table_name (Some schema) = schema.name
 -- ---- the text of a type
 
 -- Each text is asked for with true where `[]` or ` by` follows, and false elsewhere.
-abbrev pub Asked : Type 0
-Asked = Bool → List ℕ
+abbrev pub PartText : Type 0
+PartText = Bool → List ℕ
 
-abbrev pub field_text : List ℕ × Asked → List ℕ
+abbrev pub field_text : List ℕ × PartText → List ℕ
 field_text field = field.0 ++ (codes ": " ++ field.1 false)
 
 -- before each member but the first
 abbrev pub separator : Bool → List ℕ
 separator is_first = if is_first then [] else codes ", "
 
-abbrev pub fields_text : Bool → List (List ℕ × Asked) → List ℕ
+abbrev pub fields_text : Bool → List (List ℕ × PartText) → List ℕ
 fields_text is_first [] = []
 fields_text is_first (field ∷ fields) = separator is_first ++ (field_text field ++ fields_text false fields)
 
@@ -39,7 +39,7 @@ abbrev pub group_text : List ℕ → List ℕ → Bool → List ℕ
 group_text key element is_part =
     opening is_part ++ (element ++ (codes " by " ++ (key ++ closing is_part)))
 
-abbrev pub type_layer : List Schema → Ty-F Asked → Asked
+abbrev pub type_layer : List Schema → Ty-F PartText → PartText
 type_layer schemas Ty-F.Int is_part = codes "int"
 type_layer schemas Ty-F.IntN is_part = codes "int?"
 type_layer schemas Ty-F.Bool is_part = codes "bool"
@@ -50,8 +50,8 @@ type_layer schemas (Ty-F.Rec fields) is_part = codes "{" ++ (fields_text true fi
 type_layer schemas (Ty-F.Seq item) is_part = item true ++ codes "[]"
 type_layer schemas (Ty-F.Group key element) is_part = group_text (key true) (element true) is_part
 
-unfoldable pub type_part : List Schema → Ty → Asked
-type_part schemas = fold-Ty Asked (type_layer schemas)
+unfoldable pub type_part : List Schema → Ty → PartText
+type_part schemas = fold-Ty PartText (type_layer schemas)
 
 -- the text of a type
 abbrev pub type_text : List Schema → Ty → List ℕ

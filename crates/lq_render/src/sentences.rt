@@ -31,7 +31,7 @@ fn reason(name: &str) -> &'static str
     } else if name == "InvalidOperation" {
         ", no value or no single item where one is needed"
     } else if name == "ArgumentOutOfRange" {
-        ", an index out of range"
+        ", an index, or a host predicate's argument, out of range"
     } else {
         ""
     }

@@ -10,7 +10,7 @@ use std::process::Abort;
 
 /// The type of what a line serves.
 #[derive(Clone, Copy, Debug)]
-pub(crate) enum Served {
+pub(crate) enum LineType {
     /// Not known.
     Unknown,
     /// Rows of the employees.
@@ -76,15 +76,15 @@ fn record(alloc: Global) -> Result<Ty, AllocError> {
 }
 
 /// The type of what is served.
-pub(crate) fn ty(alloc: Global, served: Served) -> Result<Option<Ty>, AllocError> {
+pub(crate) fn ty(alloc: Global, served: LineType) -> Result<Option<Ty>, AllocError> {
     let ty = match served {
-        Served::Unknown => return Ok(None),
-        Served::Rows => sequence(alloc, Ty::Row(0))?,
-        Served::Row => Ty::Row(0),
-        Served::Records => sequence(alloc, record(alloc)?)?,
-        Served::Numbers => sequence(alloc, Ty::IntN)?,
-        Served::Groups => sequence(alloc, group(alloc, Ty::IntN, Ty::Str)?)?,
-        Served::Group => group(alloc, Ty::Str, Ty::Row(0))?,
+        LineType::Unknown => return Ok(None),
+        LineType::Rows => sequence(alloc, Ty::Row(0))?,
+        LineType::Row => Ty::Row(0),
+        LineType::Records => sequence(alloc, record(alloc)?)?,
+        LineType::Numbers => sequence(alloc, Ty::IntN)?,
+        LineType::Groups => sequence(alloc, group(alloc, Ty::IntN, Ty::Str)?)?,
+        LineType::Group => group(alloc, Ty::Str, Ty::Row(0))?,
     };
     Ok(Some(ty))
 }
@@ -109,7 +109,7 @@ fn text_of<'a>(
 fn shown(
     alloc: Global,
     store: &Store,
-    served: Served,
+    served: LineType,
     most_rows: usize,
     line: &[u8],
 ) -> Result<String, AllocError> {
@@ -121,7 +121,7 @@ fn shown(
 pub(crate) fn assert_shown(
     rt: &impl Abort,
     alloc: Global,
-    served: Served,
+    served: LineType,
     most_rows: usize,
     line: &[u8],
     expected: &str,

@@ -1,9 +1,9 @@
 //! Replies without rows, and lines that aren't replies.
-use crate::building::{Served, assert_shown};
+use crate::building::{LineType, assert_shown};
 use std::test::Fail;
 
 /// Lines, and what is read of them.
-const CASES: [(&str, &str); 32] = [
+const CASES: [(&str, &str); 34] = [
     (
         "{\"fault\":\"DivideByZero\"}\n",
         "fault: DivideByZero, a division by zero\n",
@@ -22,7 +22,7 @@ const CASES: [(&str, &str); 32] = [
     ),
     (
         "{\"fault\":\"ArgumentOutOfRange\"}\n",
-        "fault: ArgumentOutOfRange, an index out of range\n",
+        "fault: ArgumentOutOfRange, an index, or a host predicate's argument, out of range\n",
     ),
     (
         "{\"fault\":\"DivideByZero\",\"items\":[10,20]}\n",
@@ -39,6 +39,14 @@ const CASES: [(&str, &str); 32] = [
     (
         "{\"denied\":\"no-grant\",\"use\":\"employees.salary\"}\n",
         "denied: no grant covers employees.salary\n",
+    ),
+    (
+        "{\"denied\":\"no-grant\",\"use\":\"Host.Watched\"}\n",
+        "denied: no grant covers Host.Watched\n",
+    ),
+    (
+        "{\"denied\":\"no-watching\",\"use\":\"Host.Watched\"}\n",
+        "denied by no-watching: Host.Watched\n",
     ),
     (
         "{\"denied\":\"default-deny\",\"use\":\"employees insert\"}\n",
@@ -99,7 +107,7 @@ fn sentences(rt: HostRuntime) -> Result<(), Fail> {
         assert_shown(
             &rt,
             rt.alloc(),
-            Served::Unknown,
+            LineType::Unknown,
             10,
             line.as_bytes(),
             expected,
@@ -114,7 +122,7 @@ fn bytes_that_are_no_text(rt: HostRuntime) -> Result<(), Fail> {
     assert_shown(
         &rt,
         rt.alloc(),
-        Served::Unknown,
+        LineType::Unknown,
         10,
         &[0xff, 0xfe],
         expected,

@@ -1,18 +1,18 @@
 //! The texts of types.
-use crate::building::{Served, group, sequence, store, ty};
+use crate::building::{LineType, group, sequence, store, ty};
 use lq_render::type_text;
 use lq_store::Store;
 use lq_value::{List, Txt, Ty};
 use std::alloc::{AllocError, Global};
 use std::test::Fail;
 
-const SERVED: [(Served, &str); 6] = [
-    (Served::Rows, "employees[]"),
-    (Served::Row, "employees"),
-    (Served::Records, "{title: string, n: int}[]"),
-    (Served::Numbers, "int?[]"),
-    (Served::Groups, "(group of string by int?)[]"),
-    (Served::Group, "group of employees by string"),
+const SERVED: [(LineType, &str); 6] = [
+    (LineType::Rows, "employees[]"),
+    (LineType::Row, "employees"),
+    (LineType::Records, "{title: string, n: int}[]"),
+    (LineType::Numbers, "int?[]"),
+    (LineType::Groups, "(group of string by int?)[]"),
+    (LineType::Group, "group of employees by string"),
 ];
 
 // Whether a type has this text, as it is freed here.
@@ -23,7 +23,7 @@ fn is_named(alloc: Global, store: &Store, ty: Ty, expected: &str) -> Result<bool
 fn is_served(
     alloc: Global,
     store: &Store,
-    served: Served,
+    served: LineType,
     expected: &str,
 ) -> Result<bool, AllocError> {
     match ty(alloc, served)? {

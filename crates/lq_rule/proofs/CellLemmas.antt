@@ -6,7 +6,7 @@ use Rattle.lq_value.specs.declared.scalar.Scalar.{Scalar}
 use Rattle.lq_value.specs.declared.value.Fault.TheVariants as fault
 use Rattle.lq_language.specs.TableRows.{cell_named}
 use Rattle.lq_scalar.specs.Shapes.{scalar_or_fault}
-use Rattle.lq_rule.specs.Reading.{place_of, read}
+use Rattle.lq_rule.specs.RowMeaning.{place_of, read}
 use Rattle.lq_rule.specs.declared.prepared.Prepared.TheVariants as prepared
 use Rattle.lq_rule.proofs.ReadingLemmas.{read_cell, read_fault}
 

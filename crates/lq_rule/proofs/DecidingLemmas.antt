@@ -7,11 +7,11 @@ use Rattle.lq_language.specs.Operations.{on_ok, truth_of}
 use Rattle.lq_security.specs.Totality.{is_total}
 use Rattle.lq_security.specs.Visible.{is_true}
 use Rattle.lq_grammar.specs.declared.syntax.Expr.{Expr}
-use Rattle.lq_scalar.specs.Named.{Shape}
+use Rattle.lq_scalar.specs.Referents.{Shape}
 use Rattle.lq_scalar.specs.Shapes.{scalar_shape, truth_in}
 use Rattle.lq_scalar.proofs.ShapeLaws.{rule_is}
 use Rattle.lq_rule.specs.Deciding.{DecidesAs, decides}
-use Rattle.lq_rule.specs.Reading.{read}
+use Rattle.lq_rule.specs.RowMeaning.{read}
 use Rattle.lq_rule.specs.Standing.{StandsFor}
 use Rattle.lq_rule.specs.declared.prepared.Prepared.{Prepared}
 

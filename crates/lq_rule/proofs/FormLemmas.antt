@@ -15,7 +15,7 @@ use Rattle.lq_language.specs.Operations.{has_value, negated, of_search, of_two, 
 use Rattle.lq_security.specs.Totality.{is_division, is_divisor, is_natural, is_row, is_sure, is_total, Strength, strength_of}
 use Rattle.lq_language.specs.Names.{Names}
 use Rattle.lq_language.specs.OperandTypes.{is_comparison, is_equality}
-use Rattle.lq_language.specs.RuleTyping.{type_of}
+use Rattle.lq_language.specs.RuleTyping.{rule_type}
 use Rattle.lq_language.specs.TableRows.{cell_named}
 use Rattle.lq_security.specs.Visible.{rule_scope, rule_world}
 use Rattle.lq_language.specs.declared.operation.Op.{Op}
@@ -31,15 +31,16 @@ use Rattle.lq_grammar.specs.declared.syntax.Expr.TheVariants.{outs-Node, outs-Qu
 use Rattle.lq_grammar.specs.declared.syntax.Field.{Field}
 use Rattle.lq_grammar.specs.declared.syntax.Node.{Node}
 use Rattle.lq_grammar.specs.declared.syntax.Node.TheVariants as node
+use Rattle.lq_grammar.specs.declared.syntax.Picked.{Picked}
 use Rattle.lq_grammar.specs.declared.syntax.Query.{Query}
 use Rattle.lq_grammar.specs.declared.syntax.Unary.TheVariants as unary
 use Rattle.lq_security.proofs.RuleTypeLaws.{total_no_row}
-use Rattle.lq_security.proofs.TotalityLaws.{has_sure_argument, is_total_binary, node_with, row_name, strength_and, strength_binary, strength_coalesce, strength_conditional, strength_host, strength_member, strength_method, strength_minus, strength_name, strength_new, strength_not, strength_or, strength_query, tells_total}
-use Rattle.lq_scalar.specs.Named.{Shape, TheRow, shape_at, shape_in}
+use Rattle.lq_security.proofs.TotalityLaws.{has_sure_argument, is_total_binary, node_with, row_name, strength_and, strength_binary, strength_coalesce, strength_conditional, strength_host, strength_other, strength_member, strength_method, strength_minus, strength_name, strength_new, strength_not, strength_or, strength_query, tells_total}
+use Rattle.lq_scalar.specs.Referents.{Shape, TheRow, shape_at, shape_in}
 use Rattle.lq_scalar.specs.Shapes.{member_of_scalar, member_shape, operated_scalars, scalar_in, scalar_or_fault, scalar_shape, shape_of, equality_of_parts, equality_of_shapes, truth_in, truth_shape}
 use Rattle.lq_scalar.proofs.ShapeLaws.{shape_binary, shape_both, shape_choice, shape_coalesce, shape_either, shape_integer, shape_member, shape_method, shape_minus, shape_name, shape_not, shape_null, shape_text, shape_truth}
 use Rattle.lq_rule.specs.Standing.{StandsFor, integer_in, known}
-use Rattle.lq_rule.specs.Reading.{on_truth, read}
+use Rattle.lq_rule.specs.RowMeaning.{on_truth, read}
 use Rattle.lq_rule.specs.declared.prepared.Prepared.{Prepared}
 use Rattle.lq_rule.specs.declared.prepared.Prepared.TheVariants as prepared
 use Rattle.lq_rule.proofs.ReadingLemmas.{read_and, read_binary, read_coalesce, read_conditional, read_fault, read_has_value, read_literal, read_not, read_or, read_search, read_user}
@@ -154,7 +155,7 @@ module _ (columns : List (List ℕ)) where
   stands_column a m p is h = record {
     same = λ total cells user.
         shape_member (rule_world columns) (rule_scope cells user) a m
-        ∙ ap (λ (o : Result RuleShape Fault). on_ok o (member_shape (rule_world columns) (type_of a (names_at (rule_world columns) (rule_scope cells user))) m)) (row_shape a cells user is)
+        ∙ ap (λ (o : Result RuleShape Fault). on_ok o (member_shape (rule_world columns) (rule_type a (names_at (rule_world columns) (rule_scope cells user))) m)) (row_shape a cells user is)
         ∙ ap shown (sym (h cells user));
   }
 
@@ -189,7 +190,7 @@ module _ (columns : List (List ℕ)) where
         let parts = member_total a m none total in
         ap (λ (name : List ℕ). shape_on cells user (expr.Node (node.Member a name))) parts.0
         ∙ shape_member (rule_world columns) (rule_scope cells user) a (codes "HasValue")
-        ∙ member_first (type_of a (names_at (rule_world columns) (rule_scope cells user))) (total_no_row [] ((tells_total a).0 parts.1)) (shape_on cells user a) (read p cells user) (operand.same parts.1 cells user)
+        ∙ member_first (rule_type a (names_at (rule_world columns) (rule_scope cells user))) (total_no_row [] ((tells_total a).0 parts.1)) (shape_on cells user a) (read p cells user) (operand.same parts.1 cells user)
         ∙ ap shown (sym (read_has_value cells user p));
   }
 
@@ -297,7 +298,7 @@ module _ (columns : List (List ℕ)) where
       operated_signs : Binary → Result RuleShape Fault
       operated_signs s =
           on_ok (on_ok (shape_on cells user a) scalar_in)
-          (λ x. on_ok (on_ok (shape_on cells user b) scalar_in) (λ y. shown (operated_scalars s (type_of a place) (type_of b place) x y)))
+          (λ x. on_ok (on_ok (shape_on cells user b) scalar_in) (λ y. shown (operated_scalars s (rule_type a place) (rule_type b place) x y)))
 
       found : Binary → Result RuleShape Fault
       found s = shown (on_ok (read p cells user) (λ x. on_ok (read q cells user) (λ y. of_two fault.NullReference (operation_of s) x y)))
@@ -306,10 +307,10 @@ module _ (columns : List (List ℕ)) where
           → compared_signs s ≡ found s
       compared s h = compared_first s (shape_on cells user a) (shape_on cells user b) (read p cells user) (read q cells user) left right h
 
-      operated : (s : Binary) → ((x y : Scalar) → operated_scalars s (type_of a place) (type_of b place) x y ≡ of_two fault.NullReference (operation_of s) x y)
+      operated : (s : Binary) → ((x y : Scalar) → operated_scalars s (rule_type a place) (rule_type b place) x y ≡ of_two fault.NullReference (operation_of s) x y)
           → operated_signs s ≡ found s
       operated s h =
-          operated_first s (type_of a place) (type_of b place) (shape_on cells user a) (shape_on cells user b) (read p cells user) (read q cells user) left right h
+          operated_first s (rule_type a place) (rule_type b place) (shape_on cells user a) (shape_on cells user b) (read p cells user) (read q cells user) left right h
 
       by : (s : Binary) → is_total_binary s a b ≡ true
           → (if is_equality s then compared_signs s else operated_signs s) ≡ found s
@@ -411,8 +412,11 @@ module _ (columns : List (List ℕ)) where
   not_total : (n : Node Expr) (p : Prepared) (s : Strength) → strength_of (expr.Node n) ≡ s → s.total ≡ false → StandsFor columns (expr.Node n) p
   not_total n p s is none = record { same = λ total cells user. absurd (true≢false (sym (total_of n s is total) ∙ none)) }
 
-  pub stands_host : (h : List ℕ) (xs : List Expr) (p : Prepared) → StandsFor columns (expr.Node (node.Host h xs)) p
-  stands_host h xs p = not_total (node.Host h xs) p _ (strength_host h xs) refl
+  pub stands_host : (h : List ℕ) (row : Expr) (named : Picked) (p : Prepared) → StandsFor columns (expr.Node (node.Host h row named)) p
+  stands_host h row named p = not_total (node.Host h row named) p _ (strength_host h row named) refl
+
+  pub stands_other : (h : List ℕ) (xs : List Expr) (p : Prepared) → StandsFor columns (expr.Node (node.HostOther h xs)) p
+  stands_other h xs p = not_total (node.HostOther h xs) p _ (strength_other h xs) refl
 
   pub stands_new : (fs : List (Field Expr)) (p : Prepared) → StandsFor columns (expr.Node (node.New fs)) p
   stands_new fs p = not_total (node.New fs) p _ (strength_new fs) refl
@@ -421,7 +425,7 @@ module _ (columns : List (List ℕ)) where
   stands_query x p = record { same = λ total cells user. absurd (true≢false (sym total ∙ ap (λ (s : Strength). s.total) (strength_query x))) }
 
 -- how the trees of parts give that of the whole
-pub ruleset forms = (stands_integer, stands_text, stands_truth, stands_null, stands_user, stands_not, stands_and, stands_or, stands_coalesce, stands_conditional, stands_operation, stands_host, stands_new, stands_query)
+pub ruleset forms = (stands_integer, stands_text, stands_truth, stands_null, stands_user, stands_not, stands_and, stands_or, stands_coalesce, stands_conditional, stands_operation, stands_host, stands_other, stands_new, stands_query)
 
 -- how a layer is found in an expression
 pub ruleset layers = (outs-Node, outs-Query)

@@ -9,23 +9,23 @@ use Rattle.lq_language.specs.Operations.{has_value, of_two, on_ok, operation_of,
 use Rattle.lq_language.specs.declared.operation.Op.{Op}
 use Rattle.lq_grammar.specs.declared.syntax.Binary.{Binary}
 use Rattle.lq_scalar.specs.Shapes.{scalar_or_fault}
-use Rattle.lq_rule.specs.Reading.{Reading, on_truth, read, reading_step, with_literal}
+use Rattle.lq_rule.specs.RowMeaning.{RowMeaning, on_truth, read, reading_step, with_literal}
 use Rattle.lq_rule.specs.declared.prepared.Prepared.{Prepared, fold_out-Prepared, map-Prepared, out-Prepared}
 use Rattle.lq_rule.specs.declared.prepared.Prepared.TheOpen.{Prepared-F}
 use Rattle.lq_rule.specs.declared.prepared.Prepared.TheVariants as prepared
 use Rattle.lq_rule.specs.declared.prepared.Prepared.TheVariants.{outs-Literal, outs-Cell, outs-Fault, outs-User, outs-Not, outs-And, outs-Or, outs-Binary, outs-WithLiteral, outs-Coalesce, outs-Conditional, outs-HasValue, outs-Search}
 
 -- one layer, over what its parts are
-abbrev layer_read : Prepared-F Prepared → Reading
-layer_read layer = reading_step (map-Prepared Prepared Reading read layer)
+abbrev layer_read : Prepared-F Prepared → RowMeaning
+layer_read layer = reading_step (map-Prepared Prepared RowMeaning read layer)
 
 read_out : (p : Prepared) → read p ≡ layer_read (out-Prepared p)
 unfolding read
-read_out p = fold_out-Prepared Reading reading_step p
+read_out p = fold_out-Prepared RowMeaning reading_step p
 
 -- of the part that has this layer
 read_layer : (p : Prepared) (layer : Prepared-F Prepared) → out-Prepared p ≡ layer → (cells : List Scalar) (user : List ℕ) → read p cells user ≡ layer_read layer cells user
-read_layer p layer is cells user = ap (λ (r : Reading). r cells user) (read_out p ∙ ap layer_read is)
+read_layer p layer is cells user = ap (λ (r : RowMeaning). r cells user) (read_out p ∙ ap layer_read is)
 
 module _ (cells : List Scalar) (user : List ℕ) where
   pub read_literal : (s : Scalar) → read (prepared.Literal s) cells user ≡ Ok s

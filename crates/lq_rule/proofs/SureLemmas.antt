@@ -9,7 +9,7 @@ use Rattle.lq_grammar.specs.declared.syntax.Expr.TheVariants.{rolls-Node, rolls-
 use Rattle.lq_grammar.specs.declared.syntax.Node.{Node}
 use Rattle.lq_grammar.specs.declared.syntax.Node.TheVariants as node
 use Rattle.lq_grammar.specs.declared.syntax.Unary.TheVariants as unary
-use Rattle.lq_security.proofs.TotalityLaws.{node_with, strength_and, strength_binary, strength_coalesce, strength_conditional, strength_host, strength_integer, strength_member, strength_method, strength_minus, strength_name, strength_new, strength_not, strength_null, strength_or, strength_query, strength_text, strength_truth}
+use Rattle.lq_security.proofs.TotalityLaws.{node_with, strength_and, strength_binary, strength_coalesce, strength_conditional, strength_host, strength_other, strength_integer, strength_member, strength_method, strength_minus, strength_name, strength_new, strength_not, strength_null, strength_or, strength_query, strength_text, strength_truth}
 
 -- ---- what is sure is total
 
@@ -64,7 +64,8 @@ other_form (Expr-F.Node (node.Unary unary.Minus a)) h = never (node.Unary unary.
 other_form (Expr-F.Node (node.Binary sign a b)) h = never (node.Binary sign a b) _ (strength_binary sign a b) refl
 other_form (Expr-F.Node (node.And a b)) h = never (node.And a b) _ (strength_and a b) refl
 other_form (Expr-F.Node (node.Or a b)) h = never (node.Or a b) _ (strength_or a b) refl
-other_form (Expr-F.Node (node.Host p xs)) h = never (node.Host p xs) _ (strength_host p xs) refl
+other_form (Expr-F.Node (node.Host p row columns)) h = never (node.Host p row columns) _ (strength_host p row columns) refl
+other_form (Expr-F.Node (node.HostOther p xs)) h = never (node.HostOther p xs) _ (strength_other p xs) refl
 other_form (Expr-F.Node (node.New fs)) h = never (node.New fs) _ (strength_new fs) refl
 other_form (Expr-F.Node (node.Method a m xs)) h = never (node.Method a m xs) _ (strength_method a m xs) refl
 other_form (Expr-F.Query q) h =

@@ -5,7 +5,7 @@ use Rattle.lq_value.specs.declared.value.Fault.TheVariants as fault
 use Rattle.lq_language.specs.Operations.{on_ok, truth_of}
 use Rattle.lq_security.specs.Visible.{is_true, rule_holds}
 use Rattle.lq_grammar.specs.declared.syntax.Expr.{Expr}
-use Rattle.lq_rule.specs.Reading.{read}
+use Rattle.lq_rule.specs.RowMeaning.{read}
 use Rattle.lq_rule.specs.declared.rule.PreparedRule.{PreparedRule}
 
 -- whether a prepared rule is true on a row with these cells, for the user of this name

@@ -1,3 +1,3 @@
 pub mod Deciding
-pub mod Reading
+pub mod RowMeaning
 pub mod Standing

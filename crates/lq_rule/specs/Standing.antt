@@ -8,7 +8,7 @@ use Rattle.lq_grammar.specs.declared.syntax.Expr.{Expr}
 use Rattle.lq_grammar.specs.declared.syntax.Expr.TheOpen.{Expr-F}
 use Rattle.lq_grammar.specs.declared.syntax.Node.TheVariants as node
 use Rattle.lq_scalar.specs.Shapes.{scalar_shape, shape_of}
-use Rattle.lq_rule.specs.Reading.{read}
+use Rattle.lq_rule.specs.RowMeaning.{read}
 use Rattle.lq_rule.specs.declared.prepared.Prepared.{Prepared}
 use Rattle.lq_rule.specs.declared.prepared.Prepared.TheVariants as prepared
 

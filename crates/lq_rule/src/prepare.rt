@@ -8,7 +8,7 @@ ghost use Rattle.lq_grammar.specs.declared.syntax.Expr.{out-Expr};
 ghost use Rattle.lq_grammar.specs.declared.syntax.Expr.TheVariants as expr;
 ghost use Rattle.lq_grammar.specs.declared.syntax.Node.TheVariants as node;
 ghost use Rattle.lq_scalar.specs.Shapes.{scalar_or_fault};
-ghost use Rattle.lq_rule.specs.Reading.{place_of, read};
+ghost use Rattle.lq_rule.specs.RowMeaning.{place_of, read};
 ghost use Rattle.lq_rule.specs.Standing.{StandsFor};
 ghost use Rattle.lq_rule.specs.declared.prepared.Prepared.TheVariants as prepared;
 
@@ -70,7 +70,9 @@ fn prepared_node(alloc: Global, columns: &[Txt], node: &Node<Expr>) -> Result<Pr
         Node::Method(receiver, method, arguments) => {
             prepared_method(alloc, columns, arguments, receiver.get(), method.as_str())
         }
-        Node::Host(_, _) | Node::New(_) => Ok(Prepared::Fault(Fault::NullReference)),
+        Node::Host(_, _, _) | Node::HostOther(_, _) | Node::New(_) => {
+            Ok(Prepared::Fault(Fault::NullReference))
+        }
     }
 }
 

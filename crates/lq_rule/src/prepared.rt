@@ -9,7 +9,7 @@ ghost use Rattle.lq_scalar.specs.Shapes.{scalar_or_fault};
 
 use lq_grammar::Binary;
 use lq_language::Op;
-use lq_scalar::{ScalarRef, has_value, operate, searched};
+use lq_scalar::{ScalarRef, has_value, operate, search_text};
 use lq_value::{Fault, Held, Scalar};
 
 /// An expression of a rule, with a variant for each of the forms that a total one has.
@@ -108,7 +108,7 @@ fn text_matches<'a>(
     ensures { shown_scalars result ≡ truth fault.NullReference
         (searched fault.NullReference op (shown_scalar text.entry) (shown_scalar needle.entry)) }
 {
-    Ok(ScalarRef::Bool(searched(op, text, needle)?))
+    Ok(ScalarRef::Bool(search_text(op, text, needle)?))
 }
 
 impl Prepared {
@@ -117,7 +117,7 @@ impl Prepared {
     ghost use Rattle.lq_language.specs.Operations.{on_ok, truth_of};
     ghost use Rattle.lq_security.specs.Visible.{is_true};
     ghost use Rattle.lq_scalar.specs.Operands.{shown_scalars};
-    ghost use Rattle.lq_rule.specs.Reading.{read};
+    ghost use Rattle.lq_rule.specs.RowMeaning.{read};
 
     /// What it is on a row with these cells, for this user.
     #[tactic(auto, using(crate::proofs::ReadingLemmas::reads))]

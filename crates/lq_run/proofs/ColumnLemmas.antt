@@ -8,14 +8,13 @@ use Rattle.std.specs.Prelude.{nat_le, length}
 use Rattle.lq_value.specs.Tables.{Table}
 use Rattle.lq_value.specs.declared.table.Column.{Column}
 use Rattle.lq_value.specs.declared.table.Schema.{Schema}
-use Rattle.lq_store.specs.Rules.{is_fair_range, keeps_rules}
+use Rattle.lq_store.specs.Rules.{IsTable, is_fair_range, keeps_rules}
 use Rattle.lq_store.specs.Rules.{are_distinct as keep_distinct}
 use Rattle.lq_language.specs.ValuesOfTypes.{Every}
-use Rattle.lq_machine.specs.States.{State}
+use Rattle.lq_machine.specs.States.{schemas_of}
 use Rattle.lq_language.specs.Typing.{are_distinct, is_new}
 use Rattle.lq_plan.specs.Worlds.{HaveDistinctColumns, schemas_in}
 use Rattle.lq_plan.specs.declared.tables.TableRows.{TableRows}
-use Rattle.lq_run.specs.SeenRows.{AreSeen}
 use Rattle.lq_run.specs.declared.seen.SeenRow.{SeenRow}
 
 both_true : (a b : Bool) → a ≡ true → b ≡ true → (a && b) ≡ true
@@ -51,7 +50,8 @@ schema_distinct schema kept =
     distinct names (and_parts many (keep_distinct names) (and_parts (many && keep_distinct names) fair kept).0).1
 
 -- so have those with the rows that are seen
-pub seen_distinct : (s : State) (tables : List (TableRows SeenRow)) → AreSeen s tables → HaveDistinctColumns (schemas_in tables)
-seen_distinct s tables seen =
-    subst (Every Distinct) (sym seen.schemas)
-    (every_mapped Distinct (λ (t : Table). t.schema) s.tables (λ k table is. schema_distinct table.schema (seen.kept k table is).rules))
+pub seen_distinct : (store : List Table) (tables : List (TableRows SeenRow)) → schemas_in tables ≡ schemas_of store → Every IsTable store
+    → HaveDistinctColumns (schemas_in tables)
+seen_distinct store tables same kept =
+    subst (Every Distinct) (sym same)
+    (every_mapped Distinct (λ (t : Table). t.schema) store (λ k table is. schema_distinct table.schema (kept k table is).rules))

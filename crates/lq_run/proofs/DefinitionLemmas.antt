@@ -8,16 +8,17 @@ use Rattle.lq_value.specs.declared.table.Schema.{Schema}
 use Rattle.lq_value.specs.declared.ty.Ty.{Ty}
 use Rattle.lq_store.specs.Calls.{Inserts, InsertsInto, Pushes, count_listed, without_rows}
 use Rattle.lq_store.specs.declared.error.StoreError.{StoreError}
+use Rattle.lq_language.specs.declared.host_name.HostName.{HostName}
 use Rattle.lq_machine.specs.DefinitionLaws.{AreDefined, AreDefinedAfter, IsDefined, IsNew}
 use Rattle.lq_machine.specs.Definitions.{definition_of, known_as, known_names}
 use Rattle.lq_machine.specs.States.{State, schemas_of}
-use Rattle.lq_machine.specs.Statements.{assigning, renewed}
+use Rattle.lq_machine.specs.Statements.{renewed as renewed_in}
 use Rattle.lq_language.specs.Names.{SessionName}
 use Rattle.lq_machine.specs.declared.session.Defined.TheVariants as of
 use Rattle.lq_machine.specs.declared.session.Definition.{Definition}
 use Rattle.lq_machine.proofs.KeptDefinitionLaws.{defined_behind, known_name, known_now, others_stay, renewed_after}
 use Rattle.lq_tree.proofs.TypeLaws.{later}
-use Rattle.lq_run.specs.States.{Assigns, IsValueFor, with_value}
+use Rattle.lq_run.specs.States.{Assigns, IsValueFor, SessionState, renewed, with_value, without_hosts}
 use Rattle.lq_run.proofs.TableLemmas.{within}
 
 -- ---- assignments
@@ -39,34 +40,34 @@ module _ (name : List ℕ) where
     by true rest = refl
     by false rest = rest ∙ sym (there_later x ds (position_from named 0 ds)) ∙ ap (option_and_then (slice_get (x ∷ ds))) (sym (later named 0 ds))
 
-  module _ (t : Ty) (value : Scalar) (old : State) (schemas : List Schema) where
+  module _ (t : Ty) (value : Scalar) (old : State) (schemas : List Schema) (predicates : List HostName) where
     abbrev renewal : Definition
     renewal = record { name = name; defined = of.Variable t value }
 
     -- the first definition of the name is the only one
-    in_place : (earlier : List SessionName) (ds : List Definition) → AreDefinedAfter schemas earlier ds → (i : ℕ) → position_from named 0 ds ≡ Some i
-        → map (renewed old name t value) ds ≡ set ds i renewal
+    in_place : (earlier : List SessionName) (ds : List Definition) → AreDefinedAfter schemas predicates earlier ds → (i : ℕ) → position_from named 0 ds ≡ Some i
+        → map (renewed_in old name t value) ds ≡ set ds i renewal
     in_place earlier [] all i at = absurd (none-some i at)
     in_place earlier (x ∷ ds) all i at =
-        by (bytes_eq x.name name) refl at (in_place (earlier ++ known_as schemas earlier x.name x.defined ∷ []) ds all.1)
+        by (bytes_eq x.name name) refl at (in_place (earlier ++ known_as schemas predicates earlier x.name x.defined ∷ []) ds all.1)
       where
-        over : (o : Option ℕ) → ((j : ℕ) → o ≡ Some j → map (renewed old name t value) ds ≡ set ds j renewal) → option_map suc o ≡ Some i
-            → x ∷ map (renewed old name t value) ds ≡ set (x ∷ ds) i renewal
+        over : (o : Option ℕ) → ((j : ℕ) → o ≡ Some j → map (renewed_in old name t value) ds ≡ set ds j renewal) → option_map suc o ≡ Some i
+            → x ∷ map (renewed_in old name t value) ds ≡ set (x ∷ ds) i renewal
         over None rest h = absurd (none-some i h)
         over (Some j) rest h = ap (λ (more : List Definition). x ∷ more) (rest j refl) ∙ ap (λ (k : ℕ). set (x ∷ ds) k renewal) (same_Some (suc j) i h)
 
         by : (b : Bool) → bytes_eq x.name name ≡ b → (if b then Some 0 else position_from named 1 ds) ≡ Some i
-            → ((j : ℕ) → position_from named 0 ds ≡ Some j → map (renewed old name t value) ds ≡ set ds j renewal)
-            → (if b then renewal else x) ∷ map (renewed old name t value) ds ≡ set (x ∷ ds) i renewal
+            → ((j : ℕ) → position_from named 0 ds ≡ Some j → map (renewed_in old name t value) ds ≡ set ds j renewal)
+            → (if b then renewal else x) ∷ map (renewed_in old name t value) ds ≡ set (x ∷ ds) i renewal
         by true same h rest =
             ap (λ (more : List Definition). renewal ∷ more)
-            (others_stay name schemas t value old (earlier ++ known_as schemas earlier x.name x.defined ∷ []) ds all.1
-            (known_now name earlier (known_as schemas earlier x.name x.defined)
-            (ap (λ (n : List ℕ). bytes_eq n name) (known_name schemas earlier x.name x.defined) ∙ same)))
+            (others_stay name schemas predicates t value old (earlier ++ known_as schemas predicates earlier x.name x.defined ∷ []) ds all.1
+            (known_now name earlier (known_as schemas predicates earlier x.name x.defined)
+            (ap (λ (n : List ℕ). bytes_eq n name) (known_name schemas predicates earlier x.name x.defined) ∙ same)))
             ∙ ap (λ (k : ℕ). set (x ∷ ds) k renewal) (same_Some 0 i h)
         by false same h rest = over (position_from named 0 ds) rest (sym (later named 0 ds) ∙ h)
 
-module _ (s : State) (defined : AreDefined (schemas_of s.tables) s.definitions) (name : List ℕ) (value : Scalar) where
+module _ (s : SessionState) (defined : AreDefined (schemas_of s.tables) s.policies.predicates s.definitions) (name : List ℕ) (value : Scalar) where
   -- the variable is at the first place of its name
   module _ (for : IsValueFor s.definitions name value) (i : ℕ) (at : first_named (λ d. d.name) name s.definitions ≡ Some i) where
     abbrev before : Definition
@@ -80,28 +81,28 @@ module _ (s : State) (defined : AreDefined (schemas_of s.tables) s.definitions) 
 
     module _ (d : Definition) (read : d ≡ get_or s.definitions i d) (definitions : List Definition) (is : definitions ≡ set s.definitions i (with_value value d)) where
       -- with its new value there, each of its name is renewed
-      renewed_there : definitions ≡ map (renewed s name for.0 value) s.definitions
+      renewed_there : definitions ≡ map (renewed name for.0 value) s.definitions
       renewed_there =
           is
           ∙ ap (λ (e : Definition). set s.definitions i (with_value value e)) (read ∙ get_or_from_slice_get s.definitions i before d variable_there)
-          ∙ sym (in_place name for.0 value s (schemas_of s.tables) [] s.definitions defined i at)
+          ∙ sym (in_place name for.0 value (without_hosts s) (schemas_of s.tables) s.policies.predicates [] s.definitions defined i at)
 
       -- the variable of the name has its new value, and all else stays
       pub assigns : Assigns s name value (record s { definitions = definitions })
       assigns t old found =
           let same : of.Variable for.0 for.1 ≡ of.Variable t old = ap (λ (e : Definition). e.defined) (same_Some before _ (sym for.2 ∙ found)) in
           let typed : for.0 ≡ t = cc in
-          ap (λ (ds : List Definition). let new : State = record s { definitions = ds } in new) renewed_there
-          ∙ ap (λ (u : Ty). assigning s name u value) typed
+          ap (λ (ds : List Definition). let new : SessionState = record s { definitions = ds } in new) renewed_there
+          ∙ ap (λ (u : Ty). let new : SessionState = record s { definitions = map (renewed name u value) s.definitions } in new) typed
 
       -- and the definitions are as `var` makes them
-      pub assigned_defined : AreDefined (schemas_of s.tables) definitions
+      pub assigned_defined : AreDefined (schemas_of s.tables) s.policies.predicates definitions
       assigned_defined =
-          subst (λ (ds : List Definition). AreDefined (schemas_of s.tables) ds) (sym renewed_there)
-          (renewed_after name (schemas_of s.tables) for.0 value s [] s.definitions defined before for.1 for.2 refl for.3)
+          subst (λ (ds : List Definition). AreDefined (schemas_of s.tables) s.policies.predicates ds) (sym renewed_there)
+          (renewed_after name (schemas_of s.tables) s.policies.predicates for.0 value (without_hosts s) [] s.definitions defined before for.1 for.2 refl for.3)
 
   -- a variable has a place
-  pub nowhere : (after : State) → first_named (λ d. d.name) name s.definitions ≡ None → Assigns s name value after
+  pub nowhere : (after : SessionState) → first_named (λ d. d.name) name s.definitions ≡ None → Assigns s name value after
   nowhere after at t before found =
       absurd (none-some (record { name = name; defined = of.Variable t before })
       (sym (ap (option_and_then (slice_get s.definitions)) at) ∙ sym (definition_there name s.definitions) ∙ found))
@@ -109,12 +110,12 @@ module _ (s : State) (defined : AreDefined (schemas_of s.tables) s.definitions) 
 -- ---- one more definition
 
 -- a definition under a new name, after others
-pub also_defined : (schemas : List Schema) (ds definitions : List Definition) (d : Definition) → AreDefined schemas ds
-    → IsDefined schemas (known_names schemas ds) d.defined → IsNew schemas (known_names schemas ds) d.name → definitions ≡ ds ++ d ∷ []
-    → AreDefined schemas definitions
+pub also_defined : (schemas : List Schema) (predicates : List HostName) (ds definitions : List Definition) (d : Definition) → AreDefined schemas predicates ds
+    → IsDefined schemas predicates (known_names schemas predicates ds) d.defined → IsNew schemas (known_names schemas predicates ds) d.name
+    → definitions ≡ ds ++ d ∷ [] → AreDefined schemas predicates definitions
 unfolding known_names
-also_defined schemas ds definitions d all is new so =
-    subst (λ (given : List Definition). AreDefined schemas given) (sym so) (defined_behind schemas [] ds d all is new)
+also_defined schemas predicates ds definitions d all is new so =
+    subst (λ (given : List Definition). AreDefined schemas predicates given) (sym so) (defined_behind schemas predicates [] ds d all is new)
 
 -- ---- changed tables
 
@@ -138,27 +139,28 @@ inserted_schemas old new t cells result (Some table) there inserts =
     ap schemas_of inserts.2 ∙ schemas_set old t table inserts.0 there (pushed_schema table inserts.0 cells result inserts.1)
 
 -- the definitions stay as they are over tables with one more row
-pub inserted_defined : (old new : List Table) (t : ℕ) (cells : List Scalar) (result : Result ℕ (StoreError × List Scalar)) (definitions : List Definition)
-    → Inserts old t cells result new → AreDefined (schemas_of old) definitions → AreDefined (schemas_of new) definitions
-inserted_defined old new t cells result definitions inserts defined =
-    subst (λ (schemas : List Schema). AreDefined schemas definitions) (sym (inserted_schemas old new t cells result (slice_get old t) refl inserts)) defined
+pub inserted_defined : (predicates : List HostName) (old new : List Table) (t : ℕ) (cells : List Scalar) (result : Result ℕ (StoreError × List Scalar))
+    (definitions : List Definition) → Inserts old t cells result new → AreDefined (schemas_of old) predicates definitions
+    → AreDefined (schemas_of new) predicates definitions
+inserted_defined predicates old new t cells result definitions inserts defined =
+    subst (λ (schemas : List Schema). AreDefined schemas predicates definitions) (sym (inserted_schemas old new t cells result (slice_get old t) refl inserts)) defined
 
 -- and over tables with other rows
-set_defined : (old new : List Table) (t : ℕ) (table next : Table) (definitions : List Definition) → slice_get old t ≡ Some table → next.schema ≡ table.schema
-    → new ≡ set old t next → AreDefined (schemas_of old) definitions → AreDefined (schemas_of new) definitions
-set_defined old new t table next definitions there same is defined =
-    subst (λ (schemas : List Schema). AreDefined schemas definitions) (sym (ap schemas_of is ∙ schemas_set old t table next there same)) defined
+set_defined : (predicates : List HostName) (old new : List Table) (t : ℕ) (table next : Table) (definitions : List Definition) → slice_get old t ≡ Some table
+    → next.schema ≡ table.schema → new ≡ set old t next → AreDefined (schemas_of old) predicates definitions → AreDefined (schemas_of new) predicates definitions
+set_defined predicates old new t table next definitions there same is defined =
+    subst (λ (schemas : List Schema). AreDefined schemas predicates definitions) (sym (ap schemas_of is ∙ schemas_set old t table next there same)) defined
 
 table_there : (tables : List Table) (t : ℕ) → t < length tables → (table : Table) × (slice_get tables t ≡ Some table)
 table_there [] t below = absurd (omega (arith, below))
 table_there (x ∷ xs) zero below = (x, refl)
 table_there (x ∷ xs) (suc t) below = table_there xs t (omega (arith, below))
 
-pub removed_defined : (old new : List Table) (t : ℕ) (numbers : List ℕ) (count : ℕ) (definitions : List Definition) → t < length old
+pub removed_defined : (predicates : List HostName) (old new : List Table) (t : ℕ) (numbers : List ℕ) (count : ℕ) (definitions : List Definition) → t < length old
     → IfSome (slice_get old t) (λ table. (count ≡ count_listed table numbers) × (new ≡ set old t (without_rows table numbers)))
-    → AreDefined (schemas_of old) definitions → AreDefined (schemas_of new) definitions
-removed_defined old new t numbers count definitions below removed defined =
+    → AreDefined (schemas_of old) predicates definitions → AreDefined (schemas_of new) predicates definitions
+removed_defined predicates old new t numbers count definitions below removed defined =
     let found = table_there old t below in
     let given : (count ≡ count_listed found.0 numbers) × (new ≡ set old t (without_rows found.0 numbers)) =
     subst (λ (o : Option Table). IfSome o (λ table. (count ≡ count_listed table numbers) × (new ≡ set old t (without_rows table numbers)))) found.1 removed in
-    set_defined old new t found.0 (without_rows found.0 numbers) definitions found.1 refl given.1 defined
+    set_defined predicates old new t found.0 (without_rows found.0 numbers) definitions found.1 refl given.1 defined

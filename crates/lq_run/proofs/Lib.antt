@@ -1,5 +1,6 @@
 pub mod ColumnLemmas
 pub mod DefinitionLemmas
+pub mod KnownLaws
 pub mod RemovalLemmas
 pub mod ReplyLemmas
 pub mod RowLemmas

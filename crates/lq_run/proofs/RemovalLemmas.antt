@@ -173,7 +173,7 @@ module _ (s : State) (tables : List (TableRows SeenRow)) (seen : AreSeen s table
       let same_rows : rows ≡ table.rows = same_Some rows table.rows (sym rows_there ∙ ap (option_map (λ (t : Table). t.rows)) there) in
       ap (λ (w : World TableRow). rows_chosen w tree.form rules n rows) (is_world s)
       ∙ ap (λ (given : List TableRow). where_by (holds_on (world s) tree.form) given end.Done)
-      (admitted_seen s.policies s.role n action.Delete rules admitted_as rows ∙ ap (visible_rows s action.Delete n) same_rows)
+      (admitted_seen s.policies s.role n action.Delete rules admitted_as rows ∙ ap (visible_rows s.policies s.role action.Delete n) same_rows)
       ∙ sym (chosen_same s tables seen n tree table there x e is)
 
   pub chooses : (result : Result (Vec ℕ Global × End) AllocError)

@@ -11,17 +11,18 @@ use Rattle.lq_language.specs.Worlds.{World}
 use Rattle.lq_security.specs.Rights.{Denied, denial}
 use Rattle.lq_machine.specs.Served.{error_data, line_of}
 use Rattle.lq_machine.specs.Serving.{run_denial, run_in, run_reply, served, served_as, served_type, unless_denied, used_by}
-use Rattle.lq_machine.specs.States.{State, cells_of, names_in, schemas_of, world_in}
+use Rattle.lq_machine.specs.States.{State, cells_of, host_names, names_in, schemas_of, world_in}
 use Rattle.lq_language.specs.Types.{has_place, if_placed, when}
+use Rattle.lq_language.specs.Mentions.{uses_of}
 use Rattle.lq_language.specs.Uses.{shown_columns}
 use Rattle.lq_language.specs.TableRows.{TableRow}
 use Rattle.lq_language.specs.Meaning.{expression_meaning}
 use Rattle.lq_language.specs.declared.rights.Use.{Use}
 use Rattle.lq_grammar.specs.declared.syntax.Expr.{Expr}
 use Rattle.lq_tree.specs.FormMeaning.{form_meaning}
-use Rattle.lq_tree.specs.UsesOfForms.{form_uses}
 use Rattle.lq_tree.specs.declared.tree.Tree.{Tree}
 use Rattle.lq_tree.proofs.SessionPlaceLaws.{types_of_statements, uses_of_statements}
+use Rattle.lq_use.specs.FormRights.{form_rights}
 use Rattle.lq_plan.specs.declared.tables.TableRows.{TableRows}
 use Rattle.lq_run.specs.Replies.{IsTreeOf, ServesTree}
 use Rattle.lq_run.specs.SeenRows.{AreSeen, cells_in, shown_row}
@@ -44,7 +45,7 @@ module _ (s : State) where
 
   -- an expression's type is that of its tree, and it has none where it has no tree
   tree_type : (e : Expr) → option_map (λ tree. tree.ty) (tree_in s e) ≡ expression_type e (names_in s)
-  tree_type e = types_of_statements schemas s.definitions e
+  tree_type e = types_of_statements schemas (host_names s) s.definitions e
 
   -- what is served of a value, by its type
   by_layer : (t : Ty) (layer : Ty-F Ty) (found : Result (Value TableRow) Fault) → out-Ty t ≡ layer
@@ -60,7 +61,7 @@ module _ (s : State) where
   pub null_refused : (e : Expr) (tree : Tree) → IsTreeOf s e tree → has_place (out-Ty tree.ty) ≡ false → error_data (codes "type") ≡ run_in s e
   unfolding run_denial run_reply
   null_refused e tree is null =
-      ap (λ (o : Option Ty). unless_denied schemas (option_and_then (λ t. denial s.policies s.role (used_by (names_in s) e t)) o)
+      ap (λ (o : Option Ty). unless_denied schemas (host_names s) (option_and_then (λ t. denial s.policies s.role (used_by (names_in s) e t)) o)
       (served (world_in s) o (expression_meaning (world_in s) e [])))
       (sym (type_served e tree is ∙ ap (λ b. when b (Some tree.ty)) null))
 
@@ -68,7 +69,7 @@ module _ (s : State) where
   no_tree : (e : Expr) → tree_in s e ≡ None → error_data (codes "type") ≡ run_in s e
   unfolding run_denial run_reply
   no_tree e none =
-      ap (λ (o : Option Ty). unless_denied schemas (option_and_then (λ t. denial s.policies s.role (used_by (names_in s) e t)) (if_placed o))
+      ap (λ (o : Option Ty). unless_denied schemas (host_names s) (option_and_then (λ t. denial s.policies s.role (used_by (names_in s) e t)) (if_placed o))
       (served (world_in s) (if_placed o) (expression_meaning (world_in s) e [])))
       (ap (option_map (λ t. t.ty)) (sym none) ∙ tree_type e)
 
@@ -76,27 +77,28 @@ module _ (s : State) where
   untyped_refused e (stop.Answer line) refuses = refuses.1 ∙ ap line_of (no_tree e refuses.0)
   untyped_refused e stop.Memory refuses = tt
 
-  module _ (defined : AreDefined schemas s.definitions) (tree : Tree) (placed : has_place (out-Ty tree.ty) ≡ true) where
+  module _ (defined : AreDefined schemas (host_names s) s.definitions) (tree : Tree) (placed : has_place (out-Ty tree.ty) ≡ true) where
     -- what a tree uses, and what it shows
     abbrev shown : List Use
-    shown = form_uses tree.form ++ shown_columns schemas tree.ty
+    shown = form_rights tree.form ++ shown_columns schemas tree.ty
 
     -- is what the machine asks for
-    used_same : (e : Expr) → IsTreeOf s e tree → form_uses tree.form ++ shown_columns schemas tree.ty ≡ used_by (names_in s) e tree.ty
-    used_same e is = ap (λ us. us ++ shown_columns schemas tree.ty) (uses_of_statements schemas s.definitions defined e tree is)
+    used_same : (e : Expr) → IsTreeOf s e tree → form_rights tree.form ++ shown_columns schemas tree.ty ≡ used_by (names_in s) e tree.ty
+    unfolding form_rights
+    used_same e is = ap (λ us. uses_of us ++ shown_columns schemas tree.ty) (uses_of_statements schemas (host_names s) s.definitions defined e tree is)
 
     -- what is denied of an expression is what is denied of its tree
     denied_same : (e : Expr) → IsTreeOf s e tree
-        → denial s.policies s.role (form_uses tree.form ++ shown_columns schemas tree.ty) ≡ run_denial s.policies s.role (names_in s) e
+        → denial s.policies s.role (form_rights tree.form ++ shown_columns schemas tree.ty) ≡ run_denial s.policies s.role (names_in s) e
     unfolding run_denial
     denied_same e is =
         ap (denial s.policies s.role) (used_same e is)
         ∙ sym (ap (option_and_then (λ t. denial s.policies s.role (used_by (names_in s) e t))) (type_served e tree is ∙ ap (λ b. when b (Some tree.ty)) placed))
 
-    module _ (used : List Use) (uses : used ≡ form_uses tree.form ++ shown_columns schemas tree.ty) (e : Expr) (is : IsTreeOf s e tree) where
-      answer_by : (o : Option Denied) → denial s.policies s.role used ≡ o → unless_denied schemas o (run_reply (names_in s) (world_in s) e) ≡ run_in s e
+    module _ (used : List Use) (uses : used ≡ form_rights tree.form ++ shown_columns schemas tree.ty) (e : Expr) (is : IsTreeOf s e tree) where
+      answer_by : (o : Option Denied) → denial s.policies s.role used ≡ o → unless_denied schemas (host_names s) o (run_reply (names_in s) (world_in s) e) ≡ run_in s e
       answer_by o found =
-          ap (λ (d : Option Denied). unless_denied schemas d (run_reply (names_in s) (world_in s) e))
+          ap (λ (d : Option Denied). unless_denied schemas (host_names s) d (run_reply (names_in s) (world_in s) e))
           (sym found ∙ ap (denial s.policies s.role) uses ∙ denied_same e is)
 
       -- a tree of which nothing is denied is served

@@ -12,8 +12,9 @@ use Rattle.lq_machine.specs.DefinitionLaws.{AreDefined}
 use Rattle.lq_language.specs.ValuesOfTypes.{IsScalarOf}
 use Rattle.lq_security.specs.Rights.{Denied, denial}
 use Rattle.lq_machine.specs.Served.{error_data, fault_data}
-use Rattle.lq_machine.specs.States.{State, names_in, schemas_of, world_in}
+use Rattle.lq_machine.specs.States.{State, host_names, names_in, schemas_of, world_in}
 use Rattle.lq_machine.specs.Statements.{Outcome, allowed_by, evaluated, refused, with_scalar, with_value}
+use Rattle.lq_language.specs.Mentions.{uses_of}
 use Rattle.lq_language.specs.Uses.{expression_uses}
 use Rattle.lq_language.specs.TableRows.{TableRow}
 use Rattle.lq_language.specs.Meaning.{expression_meaning}
@@ -22,12 +23,12 @@ use Rattle.lq_grammar.specs.declared.syntax.Expr.{Expr}
 use Rattle.lq_language.proofs.ValueLaws.{is_plain, plain_value}
 use Rattle.lq_tree.specs.FormMeaning.{form_meaning}
 use Rattle.lq_tree.specs.Rows.{mapped, result_map}
-use Rattle.lq_tree.specs.UsesOfForms.{form_uses}
 use Rattle.lq_tree.specs.declared.tree.Tree.{Tree}
 use Rattle.lq_tree.proofs.MappedValueLaws.{mapped_layer, mapped_out}
 use Rattle.lq_tree.proofs.RowFormLaws.{means_alike}
 use Rattle.lq_tree.proofs.ScopeLaws.{append_none}
 use Rattle.lq_tree.proofs.SessionPlaceLaws.{uses_of_statements}
+use Rattle.lq_use.specs.FormRights.{form_rights}
 use Rattle.lq_plan.specs.declared.tables.TableRows.{TableRows}
 use Rattle.lq_run.specs.SeenRows.{AreSeen, shown_row}
 use Rattle.lq_run.specs.Statements.{EvaluatesTree, HasRights, IsEvaluated, Yields, YieldsTree, is_of_scalars, scalar_in, tree_in}
@@ -98,18 +99,21 @@ module _ (s : State) where
           subst (λ (found : Scalar). IsScalarOf (out-Ty tree.ty) found) same plain.2,
         )
 
-  module _ (defined : AreDefined (schemas_of s.tables) s.definitions) (tree : Tree) (used : List Use) (uses : used ≡ form_uses tree.form ++ []) where
+  module _ (defined : AreDefined (schemas_of s.tables) (host_names s) s.definitions) (tree : Tree) (used : List Use)
+      (uses : used ≡ form_rights tree.form ++ []) where
     -- what is denied of an expression is what is denied of its tree
-    denied_same : (e : Expr) → tree_in s e ≡ Some tree → denial s.policies s.role used ≡ denial s.policies s.role (expression_uses e (names_in s))
+    denied_same : (e : Expr) → tree_in s e ≡ Some tree → denial s.policies s.role used ≡ denial s.policies s.role (uses_of (expression_uses e (names_in s)))
+    unfolding form_rights
     denied_same e is =
-        ap (denial s.policies s.role) (uses ∙ append_none (form_uses tree.form) ∙ uses_of_statements (schemas_of s.tables) s.definitions defined e tree is)
+        ap (denial s.policies s.role)
+        (uses ∙ append_none (form_rights tree.form) ∙ ap uses_of (uses_of_statements (schemas_of s.tables) (host_names s) s.definitions defined e tree is))
 
     pub denied_evaluated : (why : Stop) → HasRights s used (Err why) → EvaluatesTree s tree (Err why)
     denied_evaluated why denied e is next =
         subst (λ (o : Option Denied). Stops s (allowed_by s o (with_value s next (expression_meaning (world_in s) e []))) why) (denied_same e is)
         (stops_denied s used why (with_value s next (expression_meaning (world_in s) e [])) denied)
 
-    allowed : (e : Expr) (t : Ty) (found : Result Scalar Stop) → denial s.policies s.role (expression_uses e (names_in s)) ≡ None
+    allowed : (e : Expr) (t : Ty) (found : Result Scalar Stop) → denial s.policies s.role (uses_of (expression_uses e (names_in s))) ≡ None
         → Yields s (expression_meaning (world_in s) e []) t found → IsEvaluated s e t found
     allowed e t (Ok v) none yields = (
       λ next. ap (λ (o : Option Denied). allowed_by s o (with_value s next (expression_meaning (world_in s) e []))) none ∙ yields.0 next,

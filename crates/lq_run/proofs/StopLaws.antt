@@ -3,7 +3,7 @@ use Rattle.std.proofs.Common.{◌≡◌, ◌∙◌, List, Option, Some, Err, ap,
 use Rattle.serde_json.specs.Data.{Data}
 use Rattle.lq_security.specs.Rights.{Denied, denial}
 use Rattle.lq_machine.specs.Served.{denied_data, error_data, line_of}
-use Rattle.lq_machine.specs.States.{State, schemas_of}
+use Rattle.lq_machine.specs.States.{State, host_names, schemas_of}
 use Rattle.lq_machine.specs.Statements.{Outcome, allowed_by, if_allowed, refused}
 use Rattle.lq_language.specs.declared.rights.Use.{Use}
 use Rattle.lq_run.specs.Statements.{HasRights}
@@ -38,6 +38,6 @@ stops_denied s uses stop.Memory next told = tt
 
 -- and the denial of this use
 pub denies : (s : State) (uses : List Use) (d : Denied) (why : Stop) → denial s.policies s.role uses ≡ Some d
-    → StopsWith (denied_data (schemas_of s.tables) d.rule d.used) why → HasRights s uses (Err why)
+    → StopsWith (denied_data (schemas_of s.tables) (host_names s) d.rule d.used) why → HasRights s uses (Err why)
 denies s uses d (stop.Answer line) is so = (d, is, so)
 denies s uses d stop.Memory is so = tt

@@ -8,7 +8,7 @@ use Rattle.std.proofs.lemmas.Simd.{map-map}
 use Rattle.lq_value.specs.Tables.{Table}
 use Rattle.lq_store.specs.Rules.{IsTable}
 use Rattle.lq_machine.specs.DefinitionLaws.{AreDefined}
-use Rattle.lq_machine.specs.States.{State, schemas_of, seen_by_role}
+use Rattle.lq_machine.specs.States.{State, host_names, schemas_of, seen_by_role}
 use Rattle.lq_language.specs.ValuesOfTypes.{Every}
 use Rattle.lq_plan.specs.Worlds.{rows_in, schemas_in}
 use Rattle.lq_plan.specs.declared.tables.TableRows.{TableRows}
@@ -61,7 +61,7 @@ kept_all n store kept all k table is =
 
 -- the tables so far are those with their rows
 pub all_seen : (n : ℕ) (s : State) (seen : List (Vec SeenRow Global)) (tables : List (TableRows SeenRow)) → length s.tables ≤ n
-    → map shown_rows seen ≡ seen_by_role s → length seen ≡ length s.tables → AreDefined (schemas_of s.tables) s.definitions
+    → map shown_rows seen ≡ seen_by_role s → length seen ≡ length s.tables → AreDefined (schemas_of s.tables) (host_names s) s.definitions
     → schemas_in tables ≡ map (λ table. table.schema) (take n s.tables) → rows_in tables ≡ row_lists (take n seen) → KeptBelow n s.tables → AreSeen s tables
 all_seen n s seen tables all is many defined schemas rows kept =
     record {

@@ -13,7 +13,7 @@ use Rattle.lq_language.specs.Worlds.{Binding, World, bound}
 use Rattle.lq_language.specs.ValuesOfTypes.{Every, HasCells, HoldsRows}
 use Rattle.lq_language.specs.Operators.{One}
 use Rattle.lq_machine.specs.Served.{columns_in}
-use Rattle.lq_machine.specs.States.{State, schemas_of, seen_by_role, world_in, world_of}
+use Rattle.lq_machine.specs.States.{State, host_names, schemas_of, seen_by_role, world_in, world_of}
 use Rattle.lq_language.specs.TableRows.{TableRow, cell_named}
 use Rattle.lq_language.specs.Meaning.{expression_meaning}
 use Rattle.lq_language.specs.MeaningLaws.{IsSessionOfValues, IsValueOf, by_row}
@@ -42,7 +42,7 @@ use Rattle.lq_run.proofs.StoredLaws.{typed_tables}
 module _ (s : State) where
   -- the tables as the role sees them, without names of the session, and with them
   abbrev base : World TableRow
-  base = world_of (schemas_of s.tables) (seen_by_role s)
+  base = world_of (schemas_of s.tables) s.predicates (seen_by_role s)
 
   abbrev pub world : World TableRow
   world = with_session base (world_in s).session
@@ -51,33 +51,33 @@ module _ (s : State) where
   is_world = defines_names_alone base s.definitions
 
   abbrev places : Places
-  places = statement_places (schemas_of s.tables) s.definitions
+  places = statement_places (schemas_of s.tables) (host_names s) s.definitions
 
   -- the rows of the tables that a statement reads are those of the machine
   module _ (tables : List (TableRows SeenRow)) (seen : AreSeen s tables) where
     abbrev pub read : World SeenRow
-    read = world_of_tables number_in cells_in tables
+    read = world_of_tables number_in cells_in s.predicates tables
 
     pub same_cells : (r : SeenRow) (column : List ℕ) → world.cell (shown_row r) column ≡ read.cell r column
     same_cells r column = ap (λ (given : List Schema). cell_named (columns_in (slice_get given r.table)) r.row.now.cells column) (sym seen.schemas)
 
     pub over : OverRows shown_row read world
-    over = record { schemas = sym seen.schemas; rows = sym seen.rows; cells = same_cells; unknown = refl }
+    over = record { schemas = sym seen.schemas; rows = sym seen.rows; cells = same_cells; predicates = refl; unknown = refl }
 
-  module _ (kept : Every IsTable s.tables) (defined : AreDefined (schemas_of s.tables) s.definitions) where
+  module _ (kept : Every IsTable s.tables) (defined : AreDefined (schemas_of s.tables) (host_names s) s.definitions) where
     holds : HoldsRows world
     holds = holds_seen s (typed_tables s.tables kept) fault.NullReference
 
     values : IsSessionOfValues world
     values = subst (λ (w : World TableRow). IsSessionOfValues w) is_world (names_have_values base s.definitions holds refl defined)
 
-    gives : GivesAll world (session_places (schemas_of s.tables) s.definitions) world.session
+    gives : GivesAll world (session_places (schemas_of s.tables) (host_names s) s.definitions) world.session
     gives =
-        subst (λ (w : World TableRow). GivesAll w (session_places (schemas_of s.tables) s.definitions) (world_in s).session) is_world
+        subst (λ (w : World TableRow). GivesAll w (session_places (schemas_of s.tables) (host_names s) s.definitions) (world_in s).session) is_world
         (places_give base s.definitions holds refl defined)
 
     stands : Stands world [] places []
-    stands = (every_none (λ (b : Binding TableRow). IsValueOf world b.ty b.value), (refl, tt, gives))
+    stands = (every_none (λ (b : Binding TableRow). IsValueOf world b.ty b.value), (refl, tt, gives, refl))
 
     -- the tree of an expression means what the expression means
     pub tree_means : (e : Expr) (tree : Tree) → tree_in s e ≡ Some tree → form_meaning world tree.form [] ≡ expression_meaning (world_in s) e []

@@ -5,11 +5,12 @@ use Rattle.lq_value.specs.declared.scalar.Scalar.{Scalar}
 use Rattle.lq_value.specs.declared.table.Row.{Row}
 use Rattle.lq_store.specs.Rules.{IsTable}
 use Rattle.lq_machine.specs.DefinitionLaws.{AreDefined}
-use Rattle.lq_machine.specs.States.{State, schemas_of, seen_by_role}
+use Rattle.lq_machine.specs.States.{State, host_names, schemas_of, seen_by_role}
 use Rattle.lq_language.specs.ValuesOfTypes.{Every}
 use Rattle.lq_language.specs.TableRows.{TableRow}
 use Rattle.lq_security.specs.Visible.{visible_to}
 use Rattle.lq_security.specs.declared.policy.Action.{Action}
+use Rattle.lq_security.specs.declared.policy.PolicyParts.{PolicyParts}
 use Rattle.lq_policy.specs.RowRules.{admits}
 use Rattle.lq_policy.specs.declared.row_rules.RowRules.{RowRules}
 use Rattle.lq_plan.specs.Worlds.{rows_in, schemas_in}
@@ -30,9 +31,9 @@ cells_in r = r.row.now.cells
 abbrev pub admitted_rows : RowRules → ℕ → List Row → List TableRow
 admitted_rows rules table rows = map (λ row. record { table = table; row = row }) (filter (λ row. admits rules row.cells) rows)
 
--- the rows of a table with which the role of a state may do this
-abbrev pub visible_rows : State → Action → ℕ → List Row → List TableRow
-visible_rows s act table rows = map (λ row. record { table = table; row = row }) (filter (λ row. visible_to s.policies s.role act table row.cells) rows)
+-- the rows of a table with which a role may do this
+abbrev pub visible_rows : PolicyParts → ℕ → Action → ℕ → List Row → List TableRow
+visible_rows parts role act table rows = map (λ row. record { table = table; row = row }) (filter (λ row. visible_to parts role act table row.cells) rows)
 
 abbrev pub shown_rows : Vec SeenRow Global → List TableRow
 shown_rows rows = map shown_row rows.items
@@ -46,4 +47,4 @@ pub record AreSeen (s : State) (tables : List (TableRows SeenRow)) : Type 0 wher
   pub schemas : schemas_in tables ≡ schemas_of s.tables
   pub rows : map (map shown_row) (rows_in tables) ≡ seen_by_role s
   pub kept : Every IsTable s.tables
-  pub defined : AreDefined (schemas_of s.tables) s.definitions
+  pub defined : AreDefined (schemas_of s.tables) (host_names s) s.definitions

@@ -5,7 +5,6 @@ use Rattle.lq_value.specs.Tables.{Table}
 use Rattle.lq_value.specs.declared.scalar.Scalar.{Scalar}
 use Rattle.lq_value.specs.declared.ty.Ty.{Ty, out-Ty}
 use Rattle.lq_value.specs.declared.ty.Ty.TheOpen.{Ty-F}
-use Rattle.lq_value.specs.declared.ty.Ty.TheVariants as ty
 use Rattle.lq_value.specs.declared.value.End.{End}
 use Rattle.lq_value.specs.declared.value.Fault.{Fault}
 use Rattle.lq_value.specs.declared.value.Value.{Value}
@@ -13,7 +12,7 @@ use Rattle.lq_value.specs.declared.value.Value.TheOpen.{Value-F}
 use Rattle.lq_language.specs.ValuesOfTypes.{IsScalarOf}
 use Rattle.lq_security.specs.Rights.{Denied, denial}
 use Rattle.lq_machine.specs.Served.{denied_data, line_of}
-use Rattle.lq_machine.specs.States.{State, schemas_of, world_in}
+use Rattle.lq_machine.specs.States.{State, host_names, schemas_of, world_in}
 use Rattle.lq_machine.specs.Statements.{Outcome, removed_items, evaluated, with_value}
 use Rattle.lq_language.specs.Stream.{Stream}
 use Rattle.lq_language.specs.TableRows.{TableRow}
@@ -24,8 +23,7 @@ use Rattle.lq_bind.specs.Outcomes.{IsBound}
 use Rattle.lq_bind.specs.declared.error.BindError.{BindError}
 use Rattle.lq_translate.specs.Translated.{translated}
 use Rattle.lq_tree.specs.Binding.{term_tree}
-use Rattle.lq_tree.specs.Places.{with_name}
-use Rattle.lq_tree.specs.SessionPlaces.{statement_places}
+use Rattle.lq_tree.specs.SessionPlaces.{condition_places, statement_places}
 use Rattle.lq_tree.specs.declared.tree.Tree.{Tree}
 use Rattle.lq_run.specs.Stops.{Refuses, Stops}
 use Rattle.lq_run.specs.declared.stop.Stop.{Stop}
@@ -33,11 +31,12 @@ use Rattle.lq_run.specs.declared.stop.Stop.TheVariants as stop
 
 -- the tree of an expression of a statement
 abbrev pub tree_in : State → Expr → Option Tree
-tree_in s e = term_tree (schemas_of s.tables) (translated e) (statement_places (schemas_of s.tables) s.definitions)
+tree_in s e = term_tree (schemas_of s.tables) (translated e) (statement_places (schemas_of s.tables) (host_names s) s.definitions)
 
 -- and that of a condition on a row of the table with this number, under the row's name
 abbrev pub condition_in : State → List ℕ → ℕ → Expr → Option Tree
-condition_in s x n e = term_tree (schemas_of s.tables) (translated e) (with_name (statement_places (schemas_of s.tables) s.definitions) x (ty.Row n))
+condition_in s x n e =
+    term_tree (schemas_of s.tables) (translated e) (condition_places (schemas_of s.tables) (host_names s) s.definitions x n)
 
 -- the tree that there is; where there is none the statement is refused
 abbrev pub FindsTree : Option Tree → Result Tree Stop → Type 0
@@ -52,7 +51,7 @@ IsTyped bound found = (tree : Option Tree) → IsBound false tree bound → Find
 abbrev pub HasRights : State → List Use → Result (Unit {0}) Stop → Type 0
 HasRights s uses (Ok all) = denial s.policies s.role uses ≡ None
 HasRights s uses (Err (stop.Answer line)) =
-    (d : Denied) × (denial s.policies s.role uses ≡ Some d) × (line ≡ line_of (denied_data (schemas_of s.tables) d.rule d.used))
+    (d : Denied) × (denial s.policies s.role uses ≡ Some d) × (line ≡ line_of (denied_data (schemas_of s.tables) (host_names s) d.rule d.used))
 HasRights s uses (Err stop.Memory) = Unit {0}
 
 -- types of scalars alone, and that of null

@@ -2,8 +2,8 @@
 //! a `delete` removes.
 //!
 //! `run_line` gives exactly the session machine's reply to a `run`: the refusal, the denial, or what
-//! the expression means over the tables as the role sees them. The other calls give what `var`, an
-//! assignment, `insert` and `delete` need of it, as exactly. Where a statement comes to its end before it has done anything,
+//! the expression means over the tables as the role sees them. The other calls give, just as exactly,
+//! what `var`, an assignment, `insert` and `delete` need of it. Where a statement comes to its end before it has done anything,
 //! they say why by a `Stop`, whose line is the machine's answer.
 #![tactic(auto)]
 

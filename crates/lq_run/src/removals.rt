@@ -1,10 +1,12 @@
 //! The rows that a `delete` removes.
 ghost use Rattle.std.specs.Prelude.{◌≡◌, ◌<◌, ◌++◌, length, map, IfOk};
+ghost use Rattle.lq_run.specs.States.{AreKnown, state_with};
 ghost use Rattle.lq_run.specs.Statements.{ChoosesRows};
 
 use crate::seen::{SeenRow, admitted, seen_tables};
 use crate::state::State;
 use crate::tables::with_rows;
+use lq_host::Asks;
 use lq_pipe::{TableRows, rows_where};
 use lq_policy::{Action, RowRules};
 use lq_tree::Tree;
@@ -16,9 +18,10 @@ const AT_A_TIME: usize = 1024;
 
 /// What decides which rows of a table a `delete` removes.
 #[derive(Drop)]
-struct Choice<'a, 'b> {
+struct Choice<'a, 'b, H: Asks> {
     alloc: Global,
     state: &'a State,
+    hosts: &'b H,
     table: TableNumber,
     rules: RowRules<'a>,
     condition: &'b Tree,
@@ -35,12 +38,13 @@ fn add_numbers(numbers: &mut Vec<u64>, rows: &[SeenRow<'_>]) -> Result<(), Alloc
     Ok(())
 }
 
-impl<'a> Choice<'a, '_> {
+impl<'a, H: Asks> Choice<'a, '_, H> {
     ghost use Rattle.std.specs.Prelude.{◌≡◌, [], IfOk};
     ghost use Rattle.lq_machine.specs.States.{world_in};
     ghost use Rattle.lq_plan.specs.Worlds.{HaveDistinctColumns, schemas_in};
     ghost use Rattle.lq_run.specs.Removals.{numbers_then, rows_chosen};
     ghost use Rattle.lq_run.specs.SeenRows.{AreSeen};
+    ghost use Rattle.lq_run.specs.States.{state_with};
 
     /// Puts the numbers of some rows after others: of those that the role may remove and on which the condition is true, up to its first
     /// fault. Returns how they end.
@@ -50,14 +54,22 @@ impl<'a> Choice<'a, '_> {
         tables: &[TableRows<'_, SeenRow<'a>>],
         numbers: &mut Vec<u64>,
     ) -> Result<End, AllocError>
-        requires seen { AreSeen self.now.state.now tables.now }
+        requires seen { AreSeen (state_with (H.known self.now.hosts.now) self.now.state.now)
+            tables.now }
         requires columns { HaveDistinctColumns (schemas_in tables.now) }
         ensures { IfOk result (λ end. (numbers.new.items, end)
-            ≡ numbers_then numbers.old.items (rows_chosen (world_in self.now.state.now)
+            ≡ numbers_then numbers.old.items
+            (rows_chosen (world_in (state_with (H.known self.now.hosts.now) self.now.state.now))
             self.now.condition.now.form self.now.rules self.now.table rows.now)) }
     {
         let removable = admitted(self.alloc, &self.rules, self.table, rows)?;
-        let (found, end) = rows_where(self.alloc, self.condition, removable.as_slice(), tables)?;
+        let (found, end) = rows_where(
+            self.alloc,
+            self.condition,
+            removable.as_slice(),
+            tables,
+            self.hosts,
+        )?;
         add_numbers(numbers, found.as_slice())?;
         Ok(end)
     }
@@ -69,10 +81,12 @@ impl<'a> Choice<'a, '_> {
         rows: &'a [Row],
         tables: &[TableRows<'_, SeenRow<'a>>],
     ) -> Result<(Vec<u64>, End), AllocError>
-        requires seen { AreSeen self.now.state.now tables.now }
+        requires seen { AreSeen (state_with (H.known self.now.hosts.now) self.now.state.now)
+            tables.now }
         requires columns { HaveDistinctColumns (schemas_in tables.now) }
         ensures { IfOk result (λ answer. (answer.0.items, answer.1)
-            ≡ numbers_then [] (rows_chosen (world_in self.now.state.now)
+            ≡ numbers_then []
+            (rows_chosen (world_in (state_with (H.known self.now.hosts.now) self.now.state.now))
             self.now.condition.now.form self.now.rules self.now.table rows.now)) }
     {
         let mut numbers = Vec::new(self.alloc);
@@ -89,15 +103,19 @@ impl<'a> Choice<'a, '_> {
 }
 
 /// The numbers of the rows of a table that the role may remove and on which the condition is true, in their order, up to the first fault
-/// that the condition meets; and how that ends. The queries in the condition read the rows that the role sees.
-pub fn chosen_rows(
+/// that the condition meets; and how that ends. The queries in the condition read the rows that the role sees, and its host
+/// predicates are these.
+pub fn chosen_rows<H: Asks>(
     alloc: Global,
     table: TableNumber,
     condition: &Tree,
     state: &State,
+    hosts: &H,
 ) -> Result<(Vec<u64>, End), AllocError>
-    requires { table < length state.now.tables }
-    ensures { IfOk result (ChoosesRows state.now table condition.now) }
+    requires within { table < length state.now.tables }
+    requires known { AreKnown (H.known hosts.now) state.now }
+    ensures { IfOk result
+        (ChoosesRows (state_with (H.known hosts.now) state.now) table condition.now) }
 {
     let rules = state
         .policies()
@@ -107,6 +125,7 @@ pub fn chosen_rows(
     let choice = Choice {
         alloc,
         state,
+        hosts,
         table,
         rules,
         condition,

@@ -8,6 +8,7 @@ ghost use Rattle.lq_tree.specs.FormMeaning.{form_meaning};
 ghost use Rattle.lq_run.specs.TreeReply.{tree_data};
 
 use crate::seen::SeenRow;
+use lq_host::Asks;
 use lq_json::{Line, Reply, reply_line};
 use lq_pipe::{RunError, TableRow, TableRows, run, value};
 use lq_store::Store;
@@ -24,20 +25,22 @@ fn refusal_line(alloc: Global, word: &str) -> Result<Line, AllocError>
 }
 
 /// The line of a sequence, whose items are of this type.
-fn items_line<R: TableRow>(
+fn items_line<R: TableRow, H: Asks>(
     alloc: Global,
     store: &Store,
     item: &Ty,
     tree: &Tree,
     tables: &[TableRows<'_, R>],
+    hosts: &H,
 ) -> Result<Line, AllocError>
     requires { HaveDistinctColumns (schemas_in tables.now) }
     ensures { IfOk result (λ line. line
         ≡ line_of (stream_data (schemas_of store.now) R.shown item.now
-        (stream_of (world_of R.table_of R.shown tables.now)
-        (form_meaning (world_of R.table_of R.shown tables.now) tree.now.form [])))) }
+        (stream_of (world_of R.table_of R.shown (H.known hosts.now) tables.now)
+        (form_meaning (world_of R.table_of R.shown (H.known hosts.now) tables.now)
+        tree.now.form [])))) }
 {
-    let (items, end) = run(alloc, tree, tables)?;
+    let (items, end) = run(alloc, tree, tables, hosts)?;
     let reply = Reply::Items {
         store,
         ty: item,
@@ -48,18 +51,20 @@ fn items_line<R: TableRow>(
 }
 
 /// The line of a value that isn't a sequence.
-fn value_line<R: TableRow>(
+fn value_line<R: TableRow, H: Asks>(
     alloc: Global,
     store: &Store,
     tree: &Tree,
     tables: &[TableRows<'_, R>],
+    hosts: &H,
 ) -> Result<Line, AllocError>
     requires { HaveDistinctColumns (schemas_in tables.now) }
     ensures { IfOk result (λ line. line
         ≡ line_of (value_data (schemas_of store.now) R.shown tree.now.ty
-        (form_meaning (world_of R.table_of R.shown tables.now) tree.now.form []))) }
+        (form_meaning (world_of R.table_of R.shown (H.known hosts.now) tables.now)
+        tree.now.form []))) }
 {
-    match value(alloc, tree, tables) {
+    match value(alloc, tree, tables, hosts) {
         Ok(value) => {
             let reply = Reply::Value {
                 store,
@@ -76,21 +81,22 @@ fn value_line<R: TableRow>(
     }
 }
 
-/// The line of a tree's reply, over these tables. A tree that is null by its type is refused.
-pub(crate) fn tree_line<R: TableRow>(
+/// The line of a tree's reply, over these tables and host predicates. A tree that is null by its type is refused.
+pub(crate) fn tree_line<R: TableRow, H: Asks>(
     alloc: Global,
     store: &Store,
     tree: &Tree,
     tables: &[TableRows<'_, R>],
+    hosts: &H,
 ) -> Result<Line, AllocError>
     requires { HaveDistinctColumns (schemas_in tables.now) }
     ensures { IfOk result (λ line. line
         ≡ line_of (tree_data R.shown (schemas_of store.now)
-        (world_of R.table_of R.shown tables.now) tree.now)) }
+        (world_of R.table_of R.shown (H.known hosts.now) tables.now) tree.now)) }
 {
     match ty(tree) {
         Ty::Null => refusal_line(alloc, "type"),
-        Ty::Seq(item) => items_line(alloc, store, item.get(), tree, tables),
-        _ => value_line(alloc, store, tree, tables),
+        Ty::Seq(item) => items_line(alloc, store, item.get(), tree, tables, hosts),
+        _ => value_line(alloc, store, tree, tables, hosts),
     }
 }

@@ -3,6 +3,7 @@ ghost use Rattle.std.specs.Prelude.{◌≡◌, false, IfOk};
 ghost use Rattle.lq_machine.specs.Opening.{is_past_opening};
 ghost use Rattle.lq_machine.specs.Serving.{run_in};
 ghost use Rattle.lq_run.specs.Replies.{ServesTree};
+ghost use Rattle.lq_run.specs.States.{AreKnown, state_with};
 ghost use Rattle.lq_run.specs.Stops.{IsAnswered};
 
 use crate::denials::check_rights;
@@ -13,6 +14,7 @@ use crate::stop::{Stop, refusal};
 use crate::tables::with_rows;
 use crate::trees::tree_of;
 use lq_grammar::Expr;
+use lq_host::Asks;
 use lq_json::Line;
 use lq_machine::Opened;
 use lq_tree::{Tree, ty};
@@ -21,20 +23,34 @@ use lq_use::uses;
 use std::alloc::{AllocError, Global};
 
 /// The line of a tree's reply over the rows that the session's role sees.
-fn seen_line(alloc: Global, tree: &Tree, state: &State) -> Result<Line, AllocError>
-    ensures { IfOk result (ServesTree state.now tree.now) }
+fn seen_line<H: Asks>(
+    alloc: Global,
+    tree: &Tree,
+    state: &State,
+    hosts: &H,
+) -> Result<Line, AllocError>
+    requires { AreKnown (H.known hosts.now) state.now }
+    ensures { IfOk result (ServesTree (state_with (H.known hosts.now) state.now) tree.now) }
 {
     let seen = seen_tables(alloc, state)?;
     let tables = with_rows(alloc, state, seen.as_slice())?;
-    tree_line(alloc, state.store(), tree, tables.as_slice())
+    tree_line(alloc, state.store(), tree, tables.as_slice(), hosts)
 }
 
 /// The line that `run` of an expression is answered, where what the statement opens is within the limits of opening: the
-/// expression's value over the rows that the role sees, or its first fault. Stops with a refusal where it has no type, or that of null
-/// alone; else with the denial of the first table or column that it uses and to which the role has no right.
-pub fn run_line(alloc: Global, expr: &Expr, opened: Opened, state: &State) -> Result<Line, Stop>
-    requires { is_past_opening opened ≡ false }
-    ensures { IsAnswered (run_in state.now expr.now) result }
+/// expression's value over the rows that the role sees, by what these host predicates answer, or its first fault. Stops with a refusal
+/// where it has no type, or that of null alone; else with the denial of the first table, column or host predicate that it uses and to
+/// which the role has no right.
+pub fn run_line<H: Asks>(
+    alloc: Global,
+    expr: &Expr,
+    opened: Opened,
+    state: &State,
+    hosts: &H,
+) -> Result<Line, Stop>
+    requires within { is_past_opening opened ≡ false }
+    requires known { AreKnown (H.known hosts.now) state.now }
+    ensures { IsAnswered (run_in (state_with (H.known hosts.now) state.now) expr.now) result }
 {
     let tree = tree_of(alloc, expr, opened, state)?;
     if !has_place(ty(&tree)) {
@@ -42,5 +58,5 @@ pub fn run_line(alloc: Global, expr: &Expr, opened: Opened, state: &State) -> Re
     }
     let used = uses(alloc, &tree, state.store(), true)?;
     check_rights(alloc, used.as_slice(), state)?;
-    Ok(seen_line(alloc, &tree, state)?)
+    Ok(seen_line(alloc, &tree, state, hosts)?)
 }

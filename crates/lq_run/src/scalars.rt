@@ -2,6 +2,7 @@
 ghost use Rattle.std.specs.Prelude.{◌≡◌, true};
 ghost use Rattle.lq_value.specs.declared.ty.Ty.{out-Ty};
 ghost use Rattle.lq_value.specs.declared.value.Value.{out-Value};
+ghost use Rattle.lq_run.specs.States.{AreKnown, state_with};
 ghost use Rattle.lq_run.specs.Statements.{EvaluatesTree, YieldsTree, is_of_scalars, scalar_in};
 
 use crate::denials::check_rights;
@@ -9,6 +10,7 @@ use crate::seen::seen_tables;
 use crate::state::State;
 use crate::stop::{Stop, fault, refusal};
 use crate::tables::with_rows;
+use lq_host::Asks;
 use lq_pipe::{RunError, value};
 use lq_tree::Tree;
 use lq_use::uses;
@@ -26,13 +28,19 @@ fn scalar_of<R: RowRef>(value: Value<R>) -> Option<Scalar>
 }
 
 /// The value of a tree whose type is a scalar's, or null's, over the rows that the session's role sees; or stops with its fault.
-fn evaluate_seen(alloc: Global, tree: &Tree, state: &State) -> Result<Scalar, Stop>
-    requires { is_of_scalars (out-Ty tree.now.ty) ≡ true }
-    ensures { YieldsTree state.now tree.now result }
+fn evaluate_seen<H: Asks>(
+    alloc: Global,
+    tree: &Tree,
+    state: &State,
+    hosts: &H,
+) -> Result<Scalar, Stop>
+    requires scalar { is_of_scalars (out-Ty tree.now.ty) ≡ true }
+    requires known { AreKnown (H.known hosts.now) state.now }
+    ensures { YieldsTree (state_with (H.known hosts.now) state.now) tree.now result }
 {
     let seen = seen_tables(alloc, state)?;
     let tables = with_rows(alloc, state, seen.as_slice())?;
-    match value(alloc, tree, tables.as_slice()) {
+    match value(alloc, tree, tables.as_slice(), hosts) {
         Ok(found) => match scalar_of(found) {
             Some(scalar) => Ok(scalar),
             None => Err(refusal(alloc, "type")),
@@ -42,13 +50,19 @@ fn evaluate_seen(alloc: Global, tree: &Tree, state: &State) -> Result<Scalar, St
     }
 }
 
-/// The value of an expression of a scalar's type, or of null's, which has this tree. Stops with the line of the first use to which the role
-/// has no right, and else with that of the fault that the expression meets.
-pub fn evaluate_scalar(alloc: Global, tree: &Tree, state: &State) -> Result<Scalar, Stop>
-    requires { is_of_scalars (out-Ty tree.now.ty) ≡ true }
-    ensures { EvaluatesTree state.now tree.now result }
+/// The value of an expression of a scalar's type, or of null's, which has this tree, by what these host predicates answer. Stops with the
+/// line of the first use to which the role has no right, and else with that of the fault that the expression meets.
+pub fn evaluate_scalar<H: Asks>(
+    alloc: Global,
+    tree: &Tree,
+    state: &State,
+    hosts: &H,
+) -> Result<Scalar, Stop>
+    requires scalar { is_of_scalars (out-Ty tree.now.ty) ≡ true }
+    requires known { AreKnown (H.known hosts.now) state.now }
+    ensures { EvaluatesTree (state_with (H.known hosts.now) state.now) tree.now result }
 {
     let used = uses(alloc, tree, state.store(), false)?;
     check_rights(alloc, used.as_slice(), state)?;
-    evaluate_seen(alloc, tree, state)
+    evaluate_seen(alloc, tree, state, hosts)
 }

@@ -1,6 +1,6 @@
 //! The rows of tables that a role sees.
 ghost use Rattle.std.specs.Prelude.{◌≡◌, ◌<◌, Some, IfOk, length, map, option_map, slice_get};
-ghost use Rattle.lq_machine.specs.States.{seen_by_role};
+ghost use Rattle.lq_security.specs.Visible.{tables_as_seen};
 ghost use Rattle.lq_run.specs.SeenRows.{admitted_rows, shown_row, shown_rows, visible_rows};
 
 use crate::state::State;
@@ -64,7 +64,7 @@ pub(crate) fn rows_for<'a>(
 ) -> Result<Vec<SeenRow<'a>>, AllocError>
     requires { table < length state.now.tables }
     ensures { IfOk result (λ rows. Some (map shown_row rows.items)
-        ≡ option_map (λ t. visible_rows state.now action table t.rows)
+        ≡ option_map (λ t. visible_rows state.now.policies state.now.role action table t.rows)
         (slice_get state.now.tables table)) }
 {
     let rules = state
@@ -79,7 +79,8 @@ pub(crate) fn seen_tables<'a>(
     alloc: Global,
     state: &'a State,
 ) -> Result<Vec<Vec<SeenRow<'a>>>, AllocError>
-    ensures { IfOk result (λ tables. map shown_rows tables.items ≡ seen_by_role state.now) }
+    ensures { IfOk result (λ tables. map shown_rows tables.items
+        ≡ tables_as_seen state.now.policies state.now.role state.now.tables) }
 {
     let mut tables = Vec::with_capacity(alloc, state.store().len())?;
     let mut table = 0u16;

@@ -1,5 +1,6 @@
 //! What a session is between two statements.
 use crate::definitions::{place_of, renew};
+use lq_language::HostName;
 use lq_machine::{Defined, Definition};
 use lq_policy::{Policies, RoleId};
 use lq_store::{Store, StoreError};
@@ -7,9 +8,11 @@ use lq_value::{Scalar, TableNumber, Txt};
 use std::alloc::{AllocError, Global};
 use std::marker::Model;
 
-/// The tables of a session, the policies for them, the role that it runs under, and what its `var` statements
-/// defined, the oldest first. No two definitions have one name, and none has a table's; each variable has a value of
-/// its type, and each named query the type of a sequence under the names that were defined before it.
+/// The tables of a session, the policies for them, which have the names of the host predicates, the role that it runs under, and what
+/// its `var` statements defined, the oldest first. No two definitions have one name, and none has a table's; each variable has a
+/// value of its type, and each named query the type of a sequence under the names that were defined before it.
+///
+/// The predicates themselves aren't in it: whatever evaluates a statement is given them beside it.
 #[derive(Drop)]
 pub struct State {
     store: Store,
@@ -20,13 +23,14 @@ pub struct State {
 
 impl Model for State {
     ghost use Rattle.lq_machine.specs.DefinitionLaws.{AreDefined};
-    ghost use Rattle.lq_machine.specs.States.{State, schemas_of};
+    ghost use Rattle.lq_machine.specs.States.{schemas_of};
+    ghost use Rattle.lq_run.specs.States.{SessionState};
     ghost use Rattle.lq_grammar.specs.contracts.syntax.Expr as expr;
     ghost use Rattle.lq_value.specs.contracts.ty.Ty as ty;
     ghost use Rattle.lq_policy.specs.Roles.{number_of};
     ghost use Rattle.std.specs.Coded.{codes};
 
-    ghost Value = { State };
+    ghost Value = { SessionState };
 
     ghost coded = { Prim.hlevel (codes, expr.the_row.coded, ty.the_row.coded) };
 
@@ -37,7 +41,8 @@ impl Model for State {
       definitions = s.definitions.items;
     } };
 
-    ghost invariant = { λ s. AreDefined (schemas_of s.store) s.definitions.items };
+    ghost invariant = { λ s. AreDefined (schemas_of s.store) s.policies.predicates
+        s.definitions.items };
 }
 
 impl State {
@@ -45,9 +50,8 @@ impl State {
     ghost use Rattle.lq_machine.specs.DefinitionLaws.{AreDefined, IsDefined, IsNew};
     ghost use Rattle.lq_machine.specs.Definitions.{known_names};
     ghost use Rattle.lq_machine.specs.States.{schemas_of};
-    ghost use Rattle.lq_machine.specs.Statements.{defining_also};
     ghost use Rattle.lq_policy.specs.Roles.{number_of};
-    ghost use Rattle.lq_run.specs.States.{Assigns, IsValueFor};
+    ghost use Rattle.lq_run.specs.States.{Assigns, IsValueFor, with_definition};
     ghost use Rattle.lq_store.specs.Calls.{Inserts, count_listed, shown_pushed, without_rows};
 
     /// The first state of a session: no name is defined. Takes no memory.
@@ -70,7 +74,8 @@ impl State {
     /// The tables.
     pub fn store(&self) -> &Store
         ensures value { result.now ≡ self.now.tables }
-        ensures kept { AreDefined (schemas_of self.now.tables) self.now.definitions }
+        ensures kept { AreDefined (schemas_of self.now.tables) self.now.policies.predicates
+            self.now.definitions }
     {
         &self.store
     }
@@ -80,6 +85,13 @@ impl State {
         ensures { result.now ≡ self.now.policies }
     {
         &self.policies
+    }
+
+    /// The names of the host predicates that the policies know, by their numbers.
+    pub fn hosts(&self) -> &[HostName]
+        ensures { result.now ≡ self.now.policies.predicates }
+    {
+        self.policies.predicates()
     }
 
     /// The role that the session runs under.
@@ -92,7 +104,8 @@ impl State {
     /// What is defined, the oldest first.
     pub fn definitions(&self) -> &[Definition]
         ensures value { result.now ≡ self.now.definitions }
-        ensures kept { AreDefined (schemas_of self.now.tables) self.now.definitions }
+        ensures kept { AreDefined (schemas_of self.now.tables) self.now.policies.predicates
+            self.now.definitions }
     {
         self.definitions.as_slice()
     }
@@ -100,10 +113,12 @@ impl State {
     /// Defines a name that neither a table nor another definition has, after the others. Where memory is refused the state stays.
     pub fn define(&mut self, name: Txt, defined: Defined) -> Result<(), AllocError>
         requires new { IsNew (schemas_of self.old.tables)
-            (known_names (schemas_of self.old.tables) self.old.definitions) name }
-        requires typed { IsDefined (schemas_of self.old.tables)
-            (known_names (schemas_of self.old.tables) self.old.definitions) defined }
-        ensures ok { OnOk result (self.new ≡ defining_also self.old name defined) }
+            (known_names (schemas_of self.old.tables) self.old.policies.predicates
+            self.old.definitions) name }
+        requires typed { IsDefined (schemas_of self.old.tables) self.old.policies.predicates
+            (known_names (schemas_of self.old.tables) self.old.policies.predicates
+            self.old.definitions) defined }
+        ensures ok { OnOk result (self.new ≡ with_definition self.old name defined) }
         ensures err { IfErr result (λ _. self.new ≡ self.old) }
     {
         self.definitions.push(Definition { name, defined })?;

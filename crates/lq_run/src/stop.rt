@@ -8,6 +8,7 @@ ghost use Rattle.lq_run.specs.Stops.{StopsWith};
 
 use crate::seen::SeenRow;
 use lq_json::{Line, Reply, reply_line};
+use lq_language::HostName;
 use lq_policy::Use;
 use lq_store::Store;
 use lq_value::Fault;
@@ -59,11 +60,19 @@ pub fn refusal(alloc: Global, word: &str) -> Stop
     stop_with(alloc, &Reply::Error(word))
 }
 
-/// Stops with the line of a denial by a rule.
-pub fn denial(alloc: Global, store: &Store, rule: &str, used: Use) -> Stop
-    ensures { StopsWith (denied_data (schemas_of store.now) rule.now used) result }
+/// Stops with the line of a denial by a rule. The tables and the names of the host predicates name the use.
+pub fn denial(alloc: Global, store: &Store, hosts: &[HostName], rule: &str, used: Use) -> Stop
+    ensures { StopsWith (denied_data (schemas_of store.now) hosts.now rule.now used) result }
 {
-    stop_with(alloc, &Reply::Denied { store, rule, used })
+    stop_with(
+        alloc,
+        &Reply::Denied {
+            store,
+            hosts,
+            rule,
+            used,
+        },
+    )
 }
 
 /// Stops with the line of a fault.

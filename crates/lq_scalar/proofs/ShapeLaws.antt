@@ -1,5 +1,5 @@
 -- What an expression is, form by form, from what its operands are.
-use Rattle.std.proofs.Common.{◌≡◌, if◌then◌else◌, not, List, map, ℕ, ℤ, Bool, true, false, Option, Some, None, Result, Ok, Err, ap, ◌∙◌, refl, slice_get, option_and_then}
+use Rattle.std.proofs.Common.{◌≡◌, if◌then◌else◌, not, List, [], map, ℕ, ℤ, Bool, true, false, Option, Some, None, Result, Ok, Err, ap, ◌∙◌, refl, slice_get, option_and_then}
 use Rattle.lq_value.specs.declared.scalar.Scalar.{Scalar}
 use Rattle.lq_value.specs.declared.scalar.Scalar.TheVariants as scalar
 use Rattle.lq_value.specs.declared.ty.Ty.{Ty}
@@ -10,14 +10,14 @@ use Rattle.lq_value.specs.declared.value.Value.{Value, out-Value}
 use Rattle.lq_value.specs.declared.value.Value.TheOpen.{Value-F}
 use Rattle.lq_value.specs.declared.value.Value.TheVariants.{outs-Scalar, outs-Seq}
 use Rattle.lq_value.specs.declared.value.Value.TheVariants as value
-use Rattle.lq_language.specs.Worlds.{Binding, Scope, World, binding_of, names_at}
-use Rattle.lq_language.specs.OperandMeaning.{as_value, cell_value, comparand, is_null, member_value, name_value, on_comparand, on_scalar, on_truth, same_values, scalar_of, table_value, equality_truth, truth_value}
-use Rattle.lq_language.specs.RuleMeaning.{compared_meaning, meaning, operated_meaning, truth_at}
+use Rattle.lq_language.specs.Worlds.{Binding, Scope, World, binding_of}
+use Rattle.lq_language.specs.OperandMeaning.{as_value, cell_value, comparand, host_value, is_null, member_value, name_value, on_comparand, on_scalar, on_truth, same_values, scalar_of, table_value, equality_truth, truth_value}
+use Rattle.lq_language.specs.RuleMeaning.{compared_meaning, rule_meaning, operated_meaning, rule_truth}
 use Rattle.lq_language.specs.Members.{search_named, sole_argument}
 use Rattle.lq_language.specs.Operations.{negated, of_search, on_ok, truth_of}
 use Rattle.lq_language.specs.Names.{Names, table_number}
 use Rattle.lq_language.specs.OperandTypes.{is_equality}
-use Rattle.lq_language.specs.RuleTyping.{type_of}
+use Rattle.lq_language.specs.RuleTyping.{rule_type}
 use Rattle.lq_security.specs.Visible.{rule_scope, rule_world}
 use Rattle.lq_grammar.specs.declared.syntax.Argument.{Argument}
 use Rattle.lq_grammar.specs.declared.syntax.Binary.{Binary}
@@ -25,12 +25,13 @@ use Rattle.lq_grammar.specs.declared.syntax.Expr.{Expr}
 use Rattle.lq_grammar.specs.declared.syntax.Expr.TheVariants as expr
 use Rattle.lq_grammar.specs.declared.syntax.Field.{Field}
 use Rattle.lq_grammar.specs.declared.syntax.Node.TheVariants as node
+use Rattle.lq_grammar.specs.declared.syntax.Picked.{Picked}
 use Rattle.lq_grammar.specs.declared.syntax.Query.{Query}
 use Rattle.lq_grammar.specs.declared.syntax.Unary.TheVariants as unary
-use Rattle.lq_language.proofs.FormLaws.{argument_meaning, meaning_binary, meaning_both, meaning_choice, meaning_coalesce, meaning_either, meaning_host, meaning_integer, meaning_member, meaning_method, meaning_minus, meaning_name, meaning_not, meaning_null, meaning_query, meaning_record, meaning_text, meaning_truth}
+use Rattle.lq_language.proofs.FormLaws.{argument_meaning, meaning_binary, meaning_both, meaning_choice, meaning_coalesce, meaning_either, meaning_host, meaning_integer, meaning_member, meaning_method, meaning_minus, meaning_name, meaning_not, meaning_null, meaning_other, meaning_query, meaning_record, meaning_text, meaning_truth}
 use Rattle.lq_scalar.specs.declared.operand.Operand.{Operand}
 use Rattle.lq_scalar.specs.declared.operand.Operand.TheVariants as operand
-use Rattle.lq_scalar.specs.Named.{Shape, TheRow, TheScalar, shape_at, shape_in}
+use Rattle.lq_scalar.specs.Referents.{Shape, TheRow, TheScalar, names_among, shape_at, shape_in}
 use Rattle.lq_scalar.specs.Shapes.{faulting, member_of_null, member_shape, named_member, operand_part, operand_scalar, operated_scalars, same_parts, scalar_part, shown_operand, scalar_in, scalar_or_fault, scalar_shape, shape_of, shape_of_argument, equality_of_shapes, truth_in, truth_of_expression, truth_shape}
 
 -- the row or scalar that a value is, or the fault in its place
@@ -118,6 +119,18 @@ module _ {R : Type 0} (world : World R) where
     by (Value-F.Scalar (scalar.Text x)) = viewed_as_value (named_member m (scalar.Text x))
     by layer = refl
 
+  -- ---- host predicates
+
+  host_viewed : (p : List ℕ) (columns : Picked) (o : Result (Value R) Fault)
+      → viewed (on_ok o (λ v. host_value (faulting world) p columns (out-Value R v))) ≡ on_ok (viewed o) (λ shape. Err fault.NullReference)
+  host_viewed p columns (Err f) = refl
+  host_viewed p columns (Ok v) = by (out-Value R v) where
+    by : (layer : Value-F R (Value R)) → viewed (host_value (faulting world) p columns layer) ≡ on_ok (shape_in layer) (λ shape. Err fault.NullReference)
+    by (Value-F.Row r) = refl
+    by (Value-F.Scalar scalar.Null) = refl
+    by (Value-F.Scalar s) = refl
+    by layer = refl
+
   -- ---- operators
 
   told_viewed : (sign : Binary) (o : Result Bool Fault) → viewed {R = R} (on_ok o (λ same. Ok (truth_value (equality_truth sign same)))) ≡ truth_shape (on_ok o (λ same. Ok (equality_truth sign same)))
@@ -163,7 +176,7 @@ module _ {R : Type 0} (world : World R) where
 
 module _ {R : Type 0} (world : World R) (scope : Scope R) where
   abbrev place : Names
-  place = names_at world scope
+  place = names_among [] world scope
 
   pub shape_integer : (n : ℤ) → shape_of world scope (expr.Node (node.Integer n)) ≡ Ok (TheScalar (scalar.Int n))
   unfolding shape_of
@@ -185,9 +198,9 @@ module _ {R : Type 0} (world : World R) (scope : Scope R) where
   unfolding shape_of
   shape_name x = ap viewed (meaning_name (faulting world) x scope) ∙ name_viewed world x (binding_of x scope)
 
-  pub shape_member : (a : Expr) (m : List ℕ) → shape_of world scope (expr.Node (node.Member a m)) ≡ on_ok (shape_of world scope a) (member_shape world (type_of a place) m)
+  pub shape_member : (a : Expr) (m : List ℕ) → shape_of world scope (expr.Node (node.Member a m)) ≡ on_ok (shape_of world scope a) (member_shape world (rule_type a place) m)
   unfolding shape_of
-  shape_member a m = ap viewed (meaning_member (faulting world) a m scope) ∙ member_viewed world (type_of a place) m (meaning (faulting world) a scope)
+  shape_member a m = ap viewed (meaning_member (faulting world) a m scope) ∙ member_viewed world (rule_type a place) m (rule_meaning (faulting world) a scope)
 
   -- an argument that is there
   argument_viewed : (o : Option Expr) → viewed (argument_meaning (faulting world) o scope) ≡ shape_of_argument world scope o
@@ -201,7 +214,7 @@ module _ {R : Type 0} (world : World R) (scope : Scope R) where
   unfolding shape_of
   shape_method a m xs =
       ap viewed (meaning_method (faulting world) a m xs scope)
-      ∙ scalar_then world (meaning (faulting world) a scope) _ _
+      ∙ scalar_then world (rule_meaning (faulting world) a scope) _ _
       (λ s. scalar_then world (argument_meaning (faulting world) (sole_argument xs) scope) _ _ (λ t. viewed_as_value (of_search fault.NullReference (search_named m) s t))
       ∙ ap (λ (o : Result (Shape R) Fault). on_ok (on_ok o scalar_in) (λ t. scalar_shape (of_search fault.NullReference (search_named m) s t))) (argument_viewed (sole_argument xs)))
 
@@ -212,51 +225,51 @@ module _ {R : Type 0} (world : World R) (scope : Scope R) where
   abbrev pub operated_shape : Binary → Expr → Expr → Result (Shape R) Fault
   operated_shape sign a b =
       on_ok (on_ok (shape_of world scope a) scalar_in)
-      (λ x. on_ok (on_ok (shape_of world scope b) scalar_in) (λ y. scalar_shape (operated_scalars sign (type_of a place) (type_of b place) x y)))
+      (λ x. on_ok (on_ok (shape_of world scope b) scalar_in) (λ y. scalar_shape (operated_scalars sign (rule_type a place) (rule_type b place) x y)))
 
   pub shape_binary : (sign : Binary) (a b : Expr) → shape_of world scope (expr.Node (node.Binary sign a b)) ≡ (if is_equality sign then compared_shape sign a b else operated_shape sign a b)
   unfolding shape_of
   shape_binary sign a b = ap viewed (meaning_binary (faulting world) sign a b scope) ∙ by (is_equality sign) where
     m : Result (Value R) Fault
-    m = meaning (faulting world) a scope
+    m = rule_meaning (faulting world) a scope
 
     n : Result (Value R) Fault
-    n = meaning (faulting world) b scope
+    n = rule_meaning (faulting world) b scope
 
-    by : (c : Bool) → viewed (if c then compared_meaning (faulting world) sign m n else operated_meaning (faulting world) sign (type_of a place) (type_of b place) m n)
+    by : (c : Bool) → viewed (if c then compared_meaning (faulting world) sign m n else operated_meaning (faulting world) sign (rule_type a place) (rule_type b place) m n)
         ≡ (if c then compared_shape sign a b else operated_shape sign a b)
     by true = compared_viewed world sign m n
-    by false = operated_viewed world sign (type_of a place) (type_of b place) m n
+    by false = operated_viewed world sign (rule_type a place) (rule_type b place) m n
 
   pub shape_minus : (a : Expr) → shape_of world scope (expr.Node (node.Unary unary.Minus a)) ≡ on_ok (on_ok (shape_of world scope a) scalar_in) (λ s. scalar_shape (negated fault.NullReference s))
   unfolding shape_of
-  shape_minus a = ap viewed (meaning_minus (faulting world) a scope) ∙ scalar_then world (meaning (faulting world) a scope) _ _ (λ s. viewed_as_value (negated fault.NullReference s))
+  shape_minus a = ap viewed (meaning_minus (faulting world) a scope) ∙ scalar_then world (rule_meaning (faulting world) a scope) _ _ (λ s. viewed_as_value (negated fault.NullReference s))
 
   pub shape_not : (a : Expr) → shape_of world scope (expr.Node (node.Unary unary.Not a)) ≡ on_ok (on_ok (shape_of world scope a) truth_in) (λ t. Ok (TheScalar (scalar.Bool (not t))))
   unfolding shape_of
-  shape_not a = ap viewed (meaning_not (faulting world) a scope) ∙ truth_then world (meaning (faulting world) a scope) _ _ (λ t. viewed_scalar (scalar.Bool (not t)))
+  shape_not a = ap viewed (meaning_not (faulting world) a scope) ∙ truth_then world (rule_meaning (faulting world) a scope) _ _ (λ t. viewed_scalar (scalar.Bool (not t)))
 
   pub shape_both : (a b : Expr) → shape_of world scope (expr.Node (node.And a b))
       ≡ on_ok (on_ok (shape_of world scope a) truth_in) (λ t. if t then shape_of world scope b else Ok (TheScalar (scalar.Bool false)))
   unfolding shape_of
-  shape_both a b = ap viewed (meaning_both (faulting world) a b scope) ∙ truth_then world (meaning (faulting world) a scope) _ _ by where
-    by : (t : Bool) → viewed (if t then meaning (faulting world) b scope else Ok (truth_value false)) ≡ (if t then shape_of world scope b else Ok (TheScalar (scalar.Bool false)))
+  shape_both a b = ap viewed (meaning_both (faulting world) a b scope) ∙ truth_then world (rule_meaning (faulting world) a scope) _ _ by where
+    by : (t : Bool) → viewed (if t then rule_meaning (faulting world) b scope else Ok (truth_value false)) ≡ (if t then shape_of world scope b else Ok (TheScalar (scalar.Bool false)))
     by true = refl
     by false = viewed_scalar (scalar.Bool false)
 
   pub shape_either : (a b : Expr) → shape_of world scope (expr.Node (node.Or a b))
       ≡ on_ok (on_ok (shape_of world scope a) truth_in) (λ t. if t then Ok (TheScalar (scalar.Bool true)) else shape_of world scope b)
   unfolding shape_of
-  shape_either a b = ap viewed (meaning_either (faulting world) a b scope) ∙ truth_then world (meaning (faulting world) a scope) _ _ by where
-    by : (t : Bool) → viewed (if t then Ok (truth_value true) else meaning (faulting world) b scope) ≡ (if t then Ok (TheScalar (scalar.Bool true)) else shape_of world scope b)
+  shape_either a b = ap viewed (meaning_either (faulting world) a b scope) ∙ truth_then world (rule_meaning (faulting world) a scope) _ _ by where
+    by : (t : Bool) → viewed (if t then Ok (truth_value true) else rule_meaning (faulting world) b scope) ≡ (if t then Ok (TheScalar (scalar.Bool true)) else shape_of world scope b)
     by true = viewed_scalar (scalar.Bool true)
     by false = refl
 
   pub shape_coalesce : (a b : Expr) → shape_of world scope (expr.Node (node.Coalesce a b))
       ≡ on_ok (on_ok (shape_of world scope a) scalar_in) (λ s. if is_null s then shape_of world scope b else Ok (TheScalar s))
   unfolding shape_of
-  shape_coalesce a b = ap viewed (meaning_coalesce (faulting world) a b scope) ∙ scalar_then world (meaning (faulting world) a scope) _ _ (λ s. by s (is_null s)) where
-    by : (s : Scalar) (c : Bool) → viewed (if c then meaning (faulting world) b scope else Ok (value.Scalar s)) ≡ (if c then shape_of world scope b else Ok (TheScalar s))
+  shape_coalesce a b = ap viewed (meaning_coalesce (faulting world) a b scope) ∙ scalar_then world (rule_meaning (faulting world) a scope) _ _ (λ s. by s (is_null s)) where
+    by : (s : Scalar) (c : Bool) → viewed (if c then rule_meaning (faulting world) b scope else Ok (value.Scalar s)) ≡ (if c then shape_of world scope b else Ok (TheScalar s))
     by s true = refl
     by s false = viewed_scalar s
 
@@ -265,11 +278,17 @@ module _ {R : Type 0} (world : World R) (scope : Scope R) where
   unfolding shape_of
   shape_choice c a b =
       ap viewed (meaning_choice (faulting world) c a b scope)
-      ∙ truth_then world (meaning (faulting world) c scope) _ _ (λ t. either_viewed world t (meaning (faulting world) a scope) (meaning (faulting world) b scope))
+      ∙ truth_then world (rule_meaning (faulting world) c scope) _ _ (λ t. either_viewed world t (rule_meaning (faulting world) a scope) (rule_meaning (faulting world) b scope))
 
-  pub shape_host : (p : List ℕ) (xs : List Expr) → shape_of world scope (expr.Node (node.Host p xs)) ≡ Err fault.NullReference
+  -- no host predicate is known here
+  pub shape_host : (p : List ℕ) (row : Expr) (columns : Picked)
+      → shape_of world scope (expr.Node (node.Host p row columns)) ≡ on_ok (shape_of world scope row) (λ shape. Err fault.NullReference)
   unfolding shape_of
-  shape_host p xs = ap viewed (meaning_host (faulting world) p xs scope)
+  shape_host p row columns = ap viewed (meaning_host (faulting world) p row columns scope) ∙ host_viewed world p columns (rule_meaning (faulting world) row scope)
+
+  pub shape_other : (p : List ℕ) (xs : List Expr) → shape_of world scope (expr.Node (node.HostOther p xs)) ≡ Err fault.NullReference
+  unfolding shape_of
+  shape_other p xs = ap viewed (meaning_other (faulting world) p xs scope)
 
   pub shape_record : (fs : List (Field Expr)) → shape_of world scope (expr.Node (node.New fs)) ≡ Err fault.NullReference
   unfolding shape_of
@@ -292,12 +311,12 @@ scalar_shown scope (operand.Scalar s) = refl
 scalar_shown scope (operand.Text t) = refl
 
 -- the equations, and how operands are read
-pub ruleset shapes = (shape_integer, shape_text, shape_truth, shape_null, shape_name, shape_member, shape_method, shape_binary, shape_minus, shape_not, shape_both, shape_either, shape_coalesce, shape_choice, shape_host, shape_record, shape_query, part_shown, scalar_shown)
+pub ruleset shapes = (shape_integer, shape_text, shape_truth, shape_null, shape_name, shape_member, shape_method, shape_binary, shape_minus, shape_not, shape_both, shape_either, shape_coalesce, shape_choice, shape_host, shape_other, shape_record, shape_query, part_shown, scalar_shown)
 
 pub ruleset operands = (part_shown, scalar_shown)
 
 -- the truth value that a rule is, by what it is evaluated to
 pub rule_is : (columns : List (List ℕ)) (cells : List Scalar) (user : List ℕ) (rule : Expr)
-    → truth_at (rule_world columns) rule (rule_scope cells user) ≡ truth_of_expression (rule_world columns) (rule_scope cells user) rule
+    → rule_truth (rule_world columns) rule (rule_scope cells user) ≡ truth_of_expression (rule_world columns) (rule_scope cells user) rule
 unfolding shape_of
-rule_is columns cells user rule = truth_viewed (rule_world columns) (meaning (faulting (rule_world columns)) rule (rule_scope cells user))
+rule_is columns cells user rule = truth_viewed (rule_world columns) (rule_meaning (faulting (rule_world columns)) rule (rule_scope cells user))

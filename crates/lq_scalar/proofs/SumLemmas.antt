@@ -13,6 +13,7 @@ use Rattle.lq_grammar.specs.declared.syntax.Expr.TheVariants.{outs-Node, outs-Qu
 use Rattle.lq_grammar.specs.declared.syntax.Expr.TheVariants as expr
 use Rattle.lq_grammar.specs.declared.syntax.Node.{Node}
 use Rattle.lq_grammar.specs.declared.syntax.Node.TheVariants as node
+use Rattle.lq_grammar.specs.declared.syntax.Picked.{Picked}
 use Rattle.lq_grammar.specs.declared.syntax.Unary.{Unary}
 use Rattle.lq_grammar.specs.declared.syntax.Unary.TheVariants as unary
 use Rattle.lq_scalar.specs.Sums.{sum_sign, sums_in, sums_of_argument, sums_step}
@@ -63,6 +64,12 @@ sums_coalesce a b = node_is (node.Coalesce a b)
 pub sums_choice : (c a b : Expr) → sums_in (expr.Node (node.Conditional c a b)) ≡ sums_in c + (sums_in a + sums_in b)
 sums_choice c a b = node_is (node.Conditional c a b)
 
+pub sums_host : (p : List ℕ) (row : Expr) (columns : Picked) → sums_in (expr.Node (node.Host p row columns)) ≡ sums_in row
+sums_host p row columns = node_is (node.Host p row columns)
+
+pub sums_other : (p : List ℕ) (xs : List Expr) → sums_in (expr.Node (node.HostOther p xs)) ≡ 0
+sums_other p xs = node_is (node.HostOther p xs)
+
 pub sums_method : (a : Expr) (m : List ℕ) (xs : List (Argument Expr)) → sums_in (expr.Node (node.Method a m xs)) ≡ sums_in a + sums_of_argument (sole_argument xs)
 sums_method a m [] = node_is (node.Method a m [])
 sums_method a m (argument.Value b ∷ []) = node_is (node.Method a m (argument.Value b ∷ []))
@@ -70,7 +77,7 @@ sums_method a m (argument.Lambda x b ∷ []) = node_is (node.Method a m (argumen
 sums_method a m (argument.Value b ∷ c ∷ xs) = node_is (node.Method a m (argument.Value b ∷ c ∷ xs))
 sums_method a m (argument.Lambda x b ∷ c ∷ xs) = node_is (node.Method a m (argument.Lambda x b ∷ c ∷ xs))
 
-pub ruleset sums = (sums_integer, sums_text, sums_truth, sums_null, sums_name, sums_member, sums_unary, sums_binary, sums_both, sums_either, sums_coalesce, sums_choice, sums_method)
+pub ruleset sums = (sums_integer, sums_text, sums_truth, sums_null, sums_name, sums_member, sums_unary, sums_binary, sums_both, sums_either, sums_coalesce, sums_choice, sums_host, sums_other, sums_method)
 
 -- ---- total rules
 

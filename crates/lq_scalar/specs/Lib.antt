@@ -1,4 +1,4 @@
-pub mod Named
 pub mod Operands
+pub mod Referents
 pub mod Shapes
 pub mod Sums

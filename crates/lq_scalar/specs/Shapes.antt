@@ -1,5 +1,5 @@
 -- What an expression is where it is evaluated, a row or a scalar, and what forms make of operands that are.
-use Rattle.std.specs.Prelude.{◌≡◌, ◌<◌, if◌then◌else◌, List, ℕ, Bool, false, Option, Some, None, Result, Ok, Err}
+use Rattle.std.specs.Prelude.{◌≡◌, ◌<◌, if◌then◌else◌, List, [], ℕ, Bool, false, Option, Some, None, Result, Ok, Err}
 use Rattle.lq_value.specs.declared.scalar.Scalar.{Scalar}
 use Rattle.lq_value.specs.declared.scalar.Scalar.TheVariants as scalar
 use Rattle.lq_value.specs.declared.ty.Ty.{Ty}
@@ -8,12 +8,12 @@ use Rattle.lq_value.specs.declared.value.Fault.TheVariants as fault
 use Rattle.lq_value.specs.declared.value.Value.{out-Value}
 use Rattle.lq_language.specs.Worlds.{Scope, World, binding_of}
 use Rattle.lq_language.specs.OperandMeaning.{is_row_type, operation_on, equality_truth}
-use Rattle.lq_language.specs.RuleMeaning.{meaning}
+use Rattle.lq_language.specs.RuleMeaning.{rule_meaning}
 use Rattle.lq_language.specs.Members.{member_named}
 use Rattle.lq_language.specs.Operations.{of_member, of_two, on_ok, same_content, truth_of}
 use Rattle.lq_grammar.specs.declared.syntax.Binary.{Binary}
 use Rattle.lq_grammar.specs.declared.syntax.Expr.{Expr}
-use Rattle.lq_scalar.specs.Named.{Shape, TheRow, TheScalar, cell_in, row_at, shape_in}
+use Rattle.lq_scalar.specs.Referents.{Shape, TheRow, TheScalar, cell_in, row_at, shape_in}
 use Rattle.lq_scalar.specs.Operands.{shown_scalar}
 use Rattle.lq_scalar.specs.Sums.{sums_in}
 use Rattle.lq_scalar.specs.declared.error.ScalarError.{ScalarError}
@@ -23,9 +23,16 @@ use Rattle.lq_scalar.specs.declared.evaluated.EvaluatedScalar.TheVariants as eva
 use Rattle.lq_scalar.specs.declared.operand.Operand.{Operand}
 use Rattle.lq_scalar.specs.declared.operand.Operand.TheVariants as operand
 
--- the same world, in which what has no meaning faults as a null row does
+-- the same world without host predicates, in which what has no meaning faults as a null row does
 abbrev pub faulting : {R : Type 0} → World R → World R
-faulting world = record { schemas = world.schemas; rows = world.rows; session = world.session; cell = world.cell; unknown = fault.NullReference }
+faulting world = record {
+  schemas = world.schemas;
+  rows = world.rows;
+  predicates = [];
+  session = world.session;
+  cell = world.cell;
+  unknown = fault.NullReference;
+}
 
 -- ---- what forms make of operands
 
@@ -92,7 +99,7 @@ operated_scalars sign t u x y = of_two fault.NullReference (operation_on sign t 
 
 -- the row or scalar that an expression is, or its first fault
 unfoldable pub shape_of : {R : Type 0} → World R → Scope R → Expr → Result (Shape R) Fault
-shape_of {R} world scope e = on_ok (meaning (faulting world) e scope) (λ v. shape_in (out-Value R v))
+shape_of {R} world scope e = on_ok (rule_meaning (faulting world) e scope) (λ v. shape_in (out-Value R v))
 
 -- what an argument is that is there
 abbrev pub shape_of_argument : {R : Type 0} → World R → Scope R → Option Expr → Result (Shape R) Fault

@@ -24,6 +24,7 @@ node_sums (node.And a b) = a + b
 node_sums (node.Or a b) = a + b
 node_sums (node.Coalesce a b) = a + b
 node_sums (node.Conditional c a b) = c + (a + b)
+node_sums (node.Host p row columns) = row
 node_sums (node.Method a m arguments) = a + or_zero (sole_argument arguments)
 node_sums node = 0
 

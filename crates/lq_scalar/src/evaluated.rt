@@ -41,7 +41,8 @@ impl EvaluatedScalar<'_> {
 /// The scalar that an expression means under these names, or its first fault. Copies no text
 /// that is there, and takes memory for texts that `+` makes and for nothing else.
 ///
-/// An expression that is a row or a sequence gives NullReference.
+/// An expression that is a row or a sequence gives NullReference, as does a host predicate, of which
+/// none is known here.
 pub fn evaluate<'a, N: Names>(
     alloc: Global,
     names: &'a N,
@@ -88,7 +89,7 @@ pub fn eval<N: Names>(alloc: Global, expression: &Expr, names: &N) -> Result<Sca
     };
     match evaluation.operand(expression)? {
         Operand::Row(_) => Err(ScalarError::Fault(Fault::NullReference)),
-        Operand::Scalar(scalar) => Ok(scalar.copied(alloc)?),
+        Operand::Scalar(scalar) => Ok(scalar.to_scalar(alloc)?),
         Operand::Text(text) => Ok(Scalar::Text(text)),
     }
 }

@@ -10,7 +10,7 @@ ghost use Rattle.lq_scalar.specs.Shapes.{operand_part, operand_scalar, equality_
 use crate::comparison::compared;
 use crate::error::ScalarError;
 use crate::members::{member_of, search};
-use crate::names::{Named, Names};
+use crate::names::{Names, Referent};
 use crate::operand::Operand;
 use crate::scalar_ref::ScalarRef;
 use crate::signs::{negate, operate};
@@ -88,18 +88,18 @@ pub(crate) struct Evaluation<'a, N, T> {
 }
 
 impl<'a, N: Names, T: Joins> Evaluation<'a, N, T> {
-    ghost use Rattle.std.specs.Prelude.{◌≡◌, ◌+◌};
+    ghost use Rattle.std.specs.Prelude.{◌≡◌, ◌+◌, []};
     ghost use Rattle.lq_language.specs.Operations.{on_ok};
     ghost use Rattle.lq_scalar.specs.Shapes.{operand_scalar};
-    ghost use Rattle.lq_language.specs.Worlds.{binding_of, names_at};
+    ghost use Rattle.lq_language.specs.Worlds.{binding_of};
     ghost use Rattle.lq_language.specs.OperandTypes.{is_text_type};
-    ghost use Rattle.lq_language.specs.RuleTyping.{type_of};
+    ghost use Rattle.lq_language.specs.RuleTyping.{rule_type};
     ghost use Rattle.lq_grammar.specs.declared.syntax.Expr.TheVariants as expr;
     ghost use Rattle.lq_grammar.specs.declared.syntax.Node.TheVariants as node;
     ghost use Rattle.lq_grammar.specs.declared.syntax.Unary.TheVariants as unary;
     ghost use Rattle.lq_grammar.specs.declared.syntax.Binary.TheVariants as binary;
     ghost use Rattle.lq_value.specs.declared.scalar.Scalar.TheVariants as scalar;
-    ghost use Rattle.lq_scalar.specs.Named.{cell_in, row_at, shape_at};
+    ghost use Rattle.lq_scalar.specs.Referents.{cell_in, names_among, row_at, shape_at};
     ghost use Rattle.lq_scalar.specs.Operands.{IsAnswer, shown_scalar, shown_scalars};
     ghost use Rattle.lq_language.specs.Members.{sole_argument};
     ghost use Rattle.lq_scalar.specs.Sums.{sum_sign, sums_in, sums_of_argument};
@@ -111,8 +111,8 @@ impl<'a, N: Names, T: Joins> Evaluation<'a, N, T> {
             ≡ shape_at (binding_of name.now (N.scope self.now.names.now)) }
     {
         match self.names.named(name) {
-            Some(Named::Row) => Ok(Operand::Row(name)),
-            Some(Named::Scalar(scalar)) => Ok(Operand::Scalar(scalar)),
+            Some(Referent::Row) => Ok(Operand::Row(name)),
+            Some(Referent::Scalar(scalar)) => Ok(Operand::Scalar(scalar)),
             None => Err(Fault::NullReference),
         }
     }
@@ -132,10 +132,10 @@ impl<'a, N: Names, T: Joins> Evaluation<'a, N, T> {
     /// A member of null, by the type of what is null: a row has none.
     fn member_of_null(&self, operand: &Expr, member: &str) -> Result<ScalarRef<'a>, Fault>
         ensures { shown_scalars result ≡ member_of_null
-            (type_of operand.now (names_at (N.world self.now.names.now)
+            (rule_type operand.now (names_among [] (N.world self.now.names.now)
             (N.scope self.now.names.now))) member.now }
     {
-        if is_row(type_of(self.names, operand)) {
+        if is_row(type_of(self.names, &[], operand)) {
             return Err(Fault::NullReference);
         }
         member_of(ScalarRef::Null, member)
@@ -150,7 +150,7 @@ impl<'a, N: Names, T: Joins> Evaluation<'a, N, T> {
     ) -> Result<ScalarRef<'a>, Fault>
         ensures { scalar_shape (shown_scalars result)
             ≡ member_shape (N.world self.now.names.now)
-            (type_of operand.now (names_at (N.world self.now.names.now)
+            (rule_type operand.now (names_among [] (N.world self.now.names.now)
             (N.scope self.now.names.now))) member.now
             (shown_operand (N.scope self.now.names.now) value.entry) }
     {
@@ -165,18 +165,19 @@ impl<'a, N: Names, T: Joins> Evaluation<'a, N, T> {
     /// Whether the expression has the type of texts.
     fn is_text(&self, expression: &Expr) -> bool
         ensures { result
-            ≡ is_text_type (type_of expression.now
-            (names_at (N.world self.now.names.now) (N.scope self.now.names.now))) }
+            ≡ is_text_type (rule_type expression.now
+            (names_among [] (N.world self.now.names.now) (N.scope self.now.names.now))) }
     {
-        is_text(type_of(self.names, expression))
+        is_text(type_of(self.names, &[], expression))
     }
 
     /// The sum of two nulls: the empty text where one has the type of texts, and else null.
     fn sum_of_nulls(&self, left: &Expr, right: &Expr) -> Result<Operand<'a>, ScalarError>
         ensures { IsOperand (N.scope self.now.names.now) 1
             (scalar_shape (operated_scalars binary.Add
-            (type_of left.now (names_at (N.world self.now.names.now) (N.scope self.now.names.now)))
-            (type_of right.now (names_at (N.world self.now.names.now)
+            (rule_type left.now (names_among [] (N.world self.now.names.now)
+            (N.scope self.now.names.now)))
+            (rule_type right.now (names_among [] (N.world self.now.names.now)
             (N.scope self.now.names.now))) scalar.Null scalar.Null)) result }
     {
         if self.is_text(left) || self.is_text(right) {
@@ -197,8 +198,9 @@ impl<'a, N: Names, T: Joins> Evaluation<'a, N, T> {
     ) -> Result<Operand<'a>, ScalarError>
         ensures { IsOperand (N.scope self.now.names.now) (sum_sign sign)
             (scalar_shape (operated_scalars sign
-            (type_of left.now (names_at (N.world self.now.names.now) (N.scope self.now.names.now)))
-            (type_of right.now (names_at (N.world self.now.names.now)
+            (rule_type left.now (names_among [] (N.world self.now.names.now)
+            (N.scope self.now.names.now)))
+            (rule_type right.now (names_among [] (N.world self.now.names.now)
             (N.scope self.now.names.now))) (shown_scalar x.entry) (shown_scalar y.entry))) result }
     {
         match (sign, x, y) {
@@ -223,8 +225,9 @@ impl<'a, N: Names, T: Joins> Evaluation<'a, N, T> {
         ensures { IsOperand (N.scope self.now.names.now) (sum_sign sign)
             (on_ok (operand_scalar x.entry) (λ s. on_ok (operand_scalar y.entry)
             (λ t. scalar_shape (operated_scalars sign
-            (type_of left.now (names_at (N.world self.now.names.now) (N.scope self.now.names.now)))
-            (type_of right.now (names_at (N.world self.now.names.now)
+            (rule_type left.now (names_among [] (N.world self.now.names.now)
+            (N.scope self.now.names.now)))
+            (rule_type right.now (names_among [] (N.world self.now.names.now)
             (N.scope self.now.names.now))) s t)))) result }
     {
         self.operated_scalars(sign, left, right, x.scalar()?, y.scalar()?)
@@ -270,7 +273,12 @@ impl<'a, N: Names, T: Joins> Evaluation<'a, N, T> {
             Node::Conditional(condition, left, right) => {
                 self.conditional(condition.get(), left.get(), right.get())
             }
-            Node::Host(_, _) | Node::New(_) => Err(ScalarError::Fault(Fault::NullReference)),
+            // No host predicate is known here.
+            Node::Host(_, row, _) => {
+                self.operand(row.get())?;
+                Err(ScalarError::Fault(Fault::NullReference))
+            }
+            Node::HostOther(_, _) | Node::New(_) => Err(ScalarError::Fault(Fault::NullReference)),
         }
     }
 

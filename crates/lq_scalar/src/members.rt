@@ -8,7 +8,7 @@ ghost use Rattle.lq_scalar.specs.Operands.{ints_in, shown_scalar, shown_scalars}
 ghost use Rattle.lq_scalar.specs.Shapes.{named_member};
 
 use crate::scalar_ref::ScalarRef;
-use crate::texts::{length_of, searched};
+use crate::texts::{length_of, search_text};
 use lq_language::Op;
 use lq_value::Fault;
 
@@ -63,7 +63,7 @@ pub(crate) fn search<'a>(
     let Some(op) = search_named(method) else {
         return Err(Fault::NullReference);
     };
-    Ok(ScalarRef::Bool(searched(op, text, needle)?))
+    Ok(ScalarRef::Bool(search_text(op, text, needle)?))
 }
 
 /// The method of this name that looks for a text in another.

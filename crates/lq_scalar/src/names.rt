@@ -2,7 +2,7 @@
 ghost use Rattle.std.specs.Prelude.{◌≡◌};
 ghost use Rattle.lq_language.specs.Names.{type_of_column};
 ghost use Rattle.lq_language.specs.OperandTypes.{is_scalar};
-ghost use Rattle.lq_scalar.specs.Named.{layer_of, shown_type};
+ghost use Rattle.lq_scalar.specs.Referents.{layer_of, shown_type};
 
 use crate::scalar_ref::ScalarRef;
 use lq_value::{ColumnType, Scalar, TableNumber};
@@ -52,7 +52,7 @@ impl ExprType {
 
 /// What a name refers to where an expression is evaluated.
 #[derive(Clone, Copy, Drop)]
-pub enum Named<'a> {
+pub enum Referent<'a> {
     /// A row.
     Row,
     /// A scalar.
@@ -67,7 +67,7 @@ pub trait Names {
     ghost use Rattle.lq_language.specs.Worlds.{Scope, World, binding_of, names_at};
     ghost use Rattle.lq_language.specs.Names.{column_type, local_type};
     ghost use Rattle.lq_language.specs.RuleTyping.{name_type};
-    ghost use Rattle.lq_scalar.specs.Named.{cell_in, row_at, shape_at, shown_named, shown_type};
+    ghost use Rattle.lq_scalar.specs.Referents.{cell_in, row_at, shape_at, shown_referent, shown_type};
 
     /// A row as it is meant.
     ghost Row: { Type 0 };
@@ -90,8 +90,8 @@ pub trait Names {
             ≡ column_type (world self.now).schemas table column.now };
 
     /// The row or scalar that a local name refers to.
-    fn named(&self, name: &str) -> Option<Named<'_>>
-        ensures { shown_named (row_at (binding_of name.now (scope self.now))) result
+    fn named(&self, name: &str) -> Option<Referent<'_>>
+        ensures { shown_referent (row_at (binding_of name.now (scope self.now))) result
             ≡ shape_at (binding_of name.now (scope self.now)) };
 
     /// The cell of the row that a local name refers to, under the column of this name.

@@ -9,7 +9,7 @@ use crate::comparison::compared;
 use crate::error::ScalarError;
 use crate::members::{has_value, value_of};
 use crate::scalar_ref::ScalarRef;
-use crate::texts::{joined, length_of, searched};
+use crate::texts::{joined, length_of, search_text};
 use lq_grammar::Binary;
 use lq_language::Op;
 use lq_value::{Fault, Scalar};
@@ -59,7 +59,7 @@ fn of_two(alloc: Global, op: Op, left: &Scalar, right: &Scalar) -> Result<Scalar
         Op::Equal => Ok(compared_as(Binary::Equal, left, right)?),
         Op::NotEqual => Ok(compared_as(Binary::NotEqual, left, right)?),
         Op::StartsWith | Op::EndsWith | Op::Contains => {
-            let answer = searched(op, ScalarRef::of(left), ScalarRef::of(right))?;
+            let answer = search_text(op, ScalarRef::of(left), ScalarRef::of(right))?;
             Ok(Scalar::Bool(answer))
         }
         Op::Not | Op::Minus | Op::HasValue | Op::Value | Op::Length => {

@@ -6,7 +6,7 @@ ghost use Rattle.lq_security.specs.Visible.{rule_holds};
 
 use crate::cell::cell_named;
 use crate::evaluation::Evaluation;
-use crate::names::{ExprType, Named, Names};
+use crate::names::{ExprType, Names, Referent};
 use crate::scalar_ref::ScalarRef;
 use crate::texts::NoTexts;
 use lq_grammar::Expr;
@@ -56,12 +56,12 @@ impl Names for RuleNames<'_> {
     }
 
     #[tactic(auto, using(crate::proofs::RuleLemmas::values))]
-    fn named(&self, name: &str) -> Option<Named<'_>> {
+    fn named(&self, name: &str) -> Option<Referent<'_>> {
         if "row" == name {
-            return Some(Named::Row);
+            return Some(Referent::Row);
         }
         if "user" == name {
-            return Some(Named::Scalar(ScalarRef::Text(self.user)));
+            return Some(Referent::Scalar(ScalarRef::Text(self.user)));
         }
         None
     }

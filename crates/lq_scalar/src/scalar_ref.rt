@@ -34,7 +34,7 @@ impl<'a> ScalarRef<'a> {
     }
 
     /// The scalar as a value of its own. Takes memory for a text.
-    pub fn copied(self, alloc: Global) -> Result<Scalar, AllocError>
+    pub fn to_scalar(self, alloc: Global) -> Result<Scalar, AllocError>
         ensures { IfOk result (λ copy. copy ≡ shown_scalar self.entry) }
     {
         match self {

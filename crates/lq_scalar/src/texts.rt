@@ -85,7 +85,7 @@ fn utf16_units(text: &str) -> Option<i32>
 /// Whether a text begins with another, ends with it or has it somewhere, as the operator says (.NET,
 /// `String.StartsWith` and the like, by the bytes of UTF-8). Takes no memory. NullReference where one of
 /// them isn't a text, and for any other operator.
-pub fn searched(op: Op, text: ScalarRef<'_>, needle: ScalarRef<'_>) -> Result<bool, Fault>
+pub fn search_text(op: Op, text: ScalarRef<'_>, needle: ScalarRef<'_>) -> Result<bool, Fault>
     ensures { result ≡ searched fault.NullReference op (shown_scalar text.entry)
         (shown_scalar needle.entry) }
 {

@@ -133,7 +133,7 @@ fn strength_of_node(node: &Node<Expr>) -> Strength
             }
             _ => total_where(false),
         },
-        Node::Host(_, _) | Node::New(_) => total_where(false),
+        Node::Host(_, _, _) | Node::HostOther(_, _) | Node::New(_) => total_where(false),
     }
 }
 

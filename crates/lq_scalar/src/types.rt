@@ -1,16 +1,18 @@
 //! The types of expressions over names.
-ghost use Rattle.std.specs.Prelude.{◌≡◌, ◌&&◌, option_map};
-ghost use Rattle.lq_language.specs.Worlds.{names_at};
+ghost use Rattle.std.specs.Prelude.{◌≡◌, ◌&&◌, is_some, option_map};
+ghost use Rattle.lq_language.specs.HostNames.{are_int_columns, has_ints, host_type, is_int_type, predicate_number};
+ghost use Rattle.lq_language.specs.Names.{column_type};
 ghost use Rattle.lq_language.specs.OperandMeaning.{is_row_type};
 ghost use Rattle.lq_language.specs.OperandTypes.{are_comparable, are_joined, choice_type_of_layers, coalesced, if_number, is_bool_type, is_number, is_ordering, is_text_type, joined_type, member_type, number_type, operated_type, truth_type};
-ghost use Rattle.lq_language.specs.RuleTyping.{type_of};
+ghost use Rattle.lq_language.specs.RuleTyping.{rule_type};
 ghost use Rattle.lq_grammar.specs.declared.syntax.Expr.TheVariants as expr;
-ghost use Rattle.lq_scalar.specs.Named.{layer_of, shown_type};
+ghost use Rattle.lq_scalar.specs.Referents.{layer_of, names_among, shown_type};
 ghost use Rattle.lq_scalar.specs.declared.names.ExprType.TheVariants as kind;
 
 use crate::names::{ExprType, Names};
 use crate::totality::is_search;
-use lq_grammar::{Argument, Binary, Expr, Node, Unary};
+use lq_grammar::{Argument, Binary, Expr, Node, Picked, Unary};
+use lq_language::{HostName, predicate_number};
 use lq_value::TableNumber;
 
 /// Whether values of the type are numbers or, where it is `int?`, null.
@@ -163,7 +165,8 @@ fn conditional_row(left: TableNumber, right: TableNumber) -> Option<ExprType>
 /// The type of a choice between values of these types: one type; `int?` where they are numbers; and
 /// beside null that of the other, where it may be null.
 fn conditional_type(left: ExprType, right: ExprType) -> Option<ExprType>
-    ensures { option_map shown_type result ≡ choice_type_of_layers (layer_of left) (layer_of right) }
+    ensures { option_map shown_type result
+        ≡ choice_type_of_layers (layer_of left) (layer_of right) }
 {
     match (left, right) {
         (ExprType::Int | ExprType::IntN, ExprType::Int | ExprType::IntN) => {
@@ -179,9 +182,14 @@ fn conditional_type(left: ExprType, right: ExprType) -> Option<ExprType>
 }
 
 /// The type of a member: a column of a row, or a member of an `int?` or of a text.
-fn member_type<N: Names>(names: &N, member: &str, operand: ExprType) -> Option<ExprType>
+fn member_type<N: Names>(
+    names: &N,
+    known: &[HostName],
+    member: &str,
+    operand: ExprType,
+) -> Option<ExprType>
     ensures { option_map shown_type result
-        ≡ member_type (names_at (N.world names.now) (N.scope names.now)) member.now
+        ≡ member_type (names_among known.now (N.world names.now) (N.scope names.now)) member.now
         (layer_of operand) }
 {
     match operand {
@@ -193,15 +201,72 @@ fn member_type<N: Names>(names: &N, member: &str, operand: ExprType) -> Option<E
     }
 }
 
-/// The type of an expression under these names; None where it has none.
+/// Whether there is a type, and it is `int`.
+#[tactic(auto, using(crate::proofs::TypeLaws::layer_known))]
+fn is_int(expr_type: Option<ExprType>) -> bool
+    ensures { result ≡ is_int_type (option_map shown_type expr_type) }
+{
+    matches!(expr_type, Some(ExprType::Int))
+}
+
+/// Whether the table has this column, with an int in each cell.
+fn is_int_column<N: Names>(names: &N, table: TableNumber, column: &str) -> bool
+    ensures { result ≡ is_int_type (column_type (N.world names.now).schemas table column.now) }
+{
+    is_int(names.column_type(table, column))
+}
+
+/// Whether the table has these columns, with an int in each cell.
+fn are_int_columns<N: Names>(names: &N, table: TableNumber, columns: &Picked) -> bool
+    ensures { result ≡ are_int_columns (N.world names.now).schemas table columns.now }
+{
+    match columns {
+        Picked::One(column) => is_int_column(names, table, column.as_str()),
+        Picked::Two(first, second) => {
+            is_int_column(names, table, first.as_str())
+                && is_int_column(names, table, second.as_str())
+        }
+    }
+}
+
+/// Whether what has this type is a row with such columns.
+#[tactic(auto, using(crate::proofs::TypeLaws::layer_known))]
+fn has_ints<N: Names>(names: &N, columns: &Picked, row: Option<ExprType>) -> bool
+    ensures { result
+        ≡ has_ints (N.world names.now).schemas columns.now (option_map shown_type row) }
+{
+    match row {
+        Some(ExprType::Row(table)) => are_int_columns(names, table, columns),
+        _ => false,
+    }
+}
+
+/// The type of the answer of a host predicate that is asked of columns of what has this type.
+fn host_type<N: Names>(
+    names: &N,
+    known: &[HostName],
+    predicate: &str,
+    columns: &Picked,
+    row: Option<ExprType>,
+) -> Option<ExprType>
+    ensures { option_map shown_type result
+        ≡ host_type (names_among known.now (N.world names.now) (N.scope names.now)) predicate.now
+        columns.now (option_map shown_type row) }
+{
+    let number = predicate_number(known, predicate, columns);
+    truth_type(number.is_some() && has_ints(names, columns, row))
+}
+
+/// The type of an expression under these names, where these host predicates are known; None where
+/// it has none.
 #[cycle(types)]
 #[tactic(auto, using(crate::proofs::TypeLaws::types))]
-pub fn type_of<N: Names>(names: &N, expression: &Expr) -> Option<ExprType>
+pub fn type_of<N: Names>(names: &N, known: &[HostName], expression: &Expr) -> Option<ExprType>
     ensures { option_map shown_type result
-        ≡ type_of expression.now (names_at (N.world names.now) (N.scope names.now)) }
+        ≡ rule_type expression.now (names_among known.now (N.world names.now) (N.scope names.now)) }
 {
     match expression {
-        Expr::Node(node) => type_of_node(names, node),
+        Expr::Node(node) => type_of_node(names, known, node),
         Expr::Query(_) => None,
     }
 }
@@ -209,9 +274,10 @@ pub fn type_of<N: Names>(names: &N, expression: &Expr) -> Option<ExprType>
 /// The type of the expression of a node.
 #[cycle(types)]
 #[tactic(auto, using(crate::proofs::TypeLaws::types))]
-fn type_of_node<N: Names>(names: &N, node: &Node<Expr>) -> Option<ExprType>
+fn type_of_node<N: Names>(names: &N, known: &[HostName], node: &Node<Expr>) -> Option<ExprType>
     ensures { option_map shown_type result
-        ≡ type_of (expr.Node node.now) (names_at (N.world names.now) (N.scope names.now)) }
+        ≡ rule_type (expr.Node node.now)
+        (names_among known.now (N.world names.now) (N.scope names.now)) }
 {
     match node {
         Node::Integer(_) => Some(ExprType::Int),
@@ -220,31 +286,41 @@ fn type_of_node<N: Names>(names: &N, node: &Node<Expr>) -> Option<ExprType>
         Node::Null => Some(ExprType::Null),
         Node::Name(name) => names.name_type(name.as_str()),
         Node::Member(operand, member) => {
-            member_type(names, member.as_str(), type_of(names, operand.get())?)
+            let operand = type_of(names, known, operand.get())?;
+            member_type(names, known, member.as_str(), operand)
         }
         Node::Method(receiver, method, arguments) => match arguments.as_slice() {
             [Argument::Value(argument)] if is_search(method.as_str()) => {
-                search_type(type_of(names, receiver.get()), type_of(names, argument))
+                let receiver = type_of(names, known, receiver.get());
+                search_type(receiver, type_of(names, known, argument))
             }
             _ => None,
         },
-        Node::Unary(Unary::Minus, operand) => negated(type_of(names, operand.get())),
-        Node::Unary(Unary::Not, operand) => truth_type(is_bool(type_of(names, operand.get()))),
+        Node::Unary(Unary::Minus, operand) => negated(type_of(names, known, operand.get())),
+        Node::Unary(Unary::Not, operand) => {
+            truth_type(is_bool(type_of(names, known, operand.get())))
+        }
         Node::Binary(operator, left, right) => {
-            let left = type_of(names, left.get())?;
-            result_type(*operator, left, type_of(names, right.get())?)
+            let left = type_of(names, known, left.get())?;
+            result_type(*operator, left, type_of(names, known, right.get())?)
         }
         Node::And(left, right) | Node::Or(left, right) => {
-            truth_type(is_bool(type_of(names, left.get())) && is_bool(type_of(names, right.get())))
+            let left = is_bool(type_of(names, known, left.get()));
+            truth_type(left && is_bool(type_of(names, known, right.get())))
         }
         Node::Coalesce(left, right) => {
-            let left = type_of(names, left.get())?;
-            coalesced(left, type_of(names, right.get())?)
+            let left = type_of(names, known, left.get())?;
+            coalesced(left, type_of(names, known, right.get())?)
         }
-        Node::Conditional(condition, left, right) if is_bool(type_of(names, condition.get())) => {
-            let left = type_of(names, left.get())?;
-            conditional_type(left, type_of(names, right.get())?)
+        Node::Conditional(condition, left, right)
+            if is_bool(type_of(names, known, condition.get())) => {
+            let left = type_of(names, known, left.get())?;
+            conditional_type(left, type_of(names, known, right.get())?)
         }
-        Node::Conditional(_, _, _) | Node::Host(_, _) | Node::New(_) => None,
+        Node::Host(predicate, row, columns) => {
+            let row = type_of(names, known, row.get());
+            host_type(names, known, predicate.as_str(), columns.get(), row)
+        }
+        Node::Conditional(_, _, _) | Node::HostOther(_, _) | Node::New(_) => None,
     }
 }

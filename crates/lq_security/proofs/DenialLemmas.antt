@@ -7,7 +7,7 @@ use Rattle.std.proofs.lemmas.Option.{none-some, same_Some}
 use Rattle.lq_security.proofs.MembershipLaws.{has_cases, has_first, has_later, none_in_nil}
 use Rattle.lq_security.proofs.PolicyLemmas.{found_at, found_where_listed, listed_where_found, not_true}
 use Rattle.lq_security.proofs.RightLaws.{bearing_given, bearing_told, is_column, passing, use_given, use_told}
-use Rattle.lq_security.specs.DenialLaws.{Concerns, of_column, of_insertion, of_removal, of_table, IsDeniedUnder, ungranted, withheld, IsFirstDenied, DeniesFirst, NamesDenier}
+use Rattle.lq_security.specs.DenialLaws.{Concerns, of_column, of_insertion, of_predicate, of_removal, of_table, IsDeniedUnder, ungranted, withheld, IsFirstDenied, DeniesFirst, NamesDenier}
 use Rattle.lq_security.specs.Rights.{Denied, MayUse, concerns, denial, denied_or, denier_of, first_concerning, is_column_of, may_use}
 use Rattle.lq_security.specs.Visible.{is_listed}
 use Rattle.lq_security.specs.declared.policy.PolicyParts.{PolicyParts}
@@ -23,6 +23,7 @@ module _ (roles : List Role) (role : ℕ) where
   concerning_told (of.Column t c) rule h = of_column t c (bearing_told roles role (of.Column t c) rule h)
   concerning_told (of.Insert t) rule h = of_insertion t (bearing_told roles role (of.Insert t) rule h)
   concerning_told (of.Delete t) rule h = of_removal t (bearing_told roles role (of.Delete t) rule h)
+  concerning_told (of.Host p) rule h = of_predicate p (bearing_told roles role (of.Host p) rule h)
   concerning_told (of.Table t) rule h =
       let both = and_parts (is_listed roles role rule.to) (list_any (is_column_of t) rule.rights) h in
       let right = passing (is_column_of t) rule.rights both.1 in
@@ -36,6 +37,7 @@ module _ (roles : List Role) (role : ℕ) where
   concerning_given used rule (of_column t c bears) = bearing_given roles role (of.Column t c) rule bears
   concerning_given used rule (of_insertion t bears) = bearing_given roles role (of.Insert t) rule bears
   concerning_given used rule (of_removal t bears) = bearing_given roles role (of.Delete t) rule bears
+  concerning_given used rule (of_predicate p bears) = bearing_given roles role (of.Host p) rule bears
   concerning_given used rule (of_table t c bears) =
       and_from (is_listed roles role rule.to) (list_any (is_column_of t) rule.rights) (found_where_listed roles role rule.to bears.to_role)
       (found_at (is_column_of t) rule.rights (of.Column t c) bears.covering ((Decides-eqb t t).1 refl))

@@ -8,6 +8,7 @@ pub mod ReadPolicies
 pub mod RightLaws
 pub mod RuleLemmas
 pub mod RuleMeanings
+pub mod RuleNameLaws
 pub mod RuleTypeLaws
 pub mod SeenRowLemmas
 pub mod TotalRules

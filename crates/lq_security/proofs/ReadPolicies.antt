@@ -15,7 +15,7 @@ use Rattle.lq_language.specs.Worlds.{World}
 use Rattle.lq_security.specs.PolicyLaws.{AcceptsVisible, TellsRefuser, TellsVisible}
 use Rattle.lq_security.specs.RuleLaws.{AreCellsOf, AreReadFor, IsRowOver, IsRuleOver, language_world}
 use Rattle.lq_language.specs.TableRows.{cell_named}
-use Rattle.lq_security.specs.Visible.{Admits, read, put_in, removed, Asked, HasRule, IsAdmitted, IsFirstRefusing, IsRefusedBy, default, restriction, IsSatisfied, IsTrueOn, IsVisible, unsecured, bypassing, admitted, refuser_of, rule_holds, rule_scope}
+use Rattle.lq_security.specs.Visible.{Admits, read, put_in, removed, Asked, HasRule, IsAdmitted, IsFirstRefusing, IsRefusedBy, default, restriction, IsSatisfied, IsTrueOn, IsVisible, unsecured, bypassing, admitted, language_scope, refuser_of, rule_holds}
 use Rattle.lq_language.specs.Meaning.{expression_meaning}
 use Rattle.lq_security.specs.declared.policy.Action.{Action}
 use Rattle.lq_security.specs.declared.policy.Action.TheVariants as action
@@ -34,8 +34,8 @@ use Rattle.lq_security.proofs.RuleLemmas.{meant, truth_of_value}
 -- what the language says of a rule on a row whose columns have these names
 abbrev said : List Column → List (List ℕ) → List Scalar → List ℕ → Expr → Result (Value (List Scalar)) Fault
 said columns names cells user rule =
-    let world : World (List Scalar) = record { schemas = record { name = []; columns = columns } ∷ []; rows = [] ∷ []; session = []; cell = cell_named names; unknown = fault.NullReference } in
-    expression_meaning world rule (rule_scope cells user)
+    let world : World (List Scalar) = record { schemas = record { name = []; columns = columns } ∷ []; rows = [] ∷ []; predicates = []; session = []; cell = cell_named names; unknown = fault.NullReference } in
+    expression_meaning world rule (language_scope cells user)
 
 module _ (columns : List Column) (asked : Asked) (names : asked.columns ≡ map (λ column. column.name) columns) (row : IsRowOver columns asked.cells) where
   says : (rule : Expr) → IsRuleOver columns rule

@@ -9,7 +9,7 @@ use Rattle.std.proofs.lemmas.Option.{none-some}
 use Rattle.lq_security.proofs.MembershipLaws.{has_cases, has_first, has_later, none_in_nil}
 use Rattle.lq_security.proofs.PolicyLemmas.{found_at, found_where_listed, listed_where_found, not_false, not_true}
 use Rattle.lq_security.specs.RightLaws.{DeniesTheRest, DeniesWithoutGrants, GrantsMore, HasOneRule, TellsUses, WithholdsMore}
-use Rattle.lq_security.specs.Rights.{BearsOn, Denied, HasRight, MayUse, column, insertion, removal, table, bears, covers, denial, denied_or, denier_of, first_concerning, has_right, is_column_of, is_same_use, is_withheld, may_use, opens}
+use Rattle.lq_security.specs.Rights.{BearsOn, Denied, HasRight, MayUse, column, insertion, predicate, removal, table, bears, covers, denial, denied_or, denier_of, first_concerning, has_right, is_column_of, is_same_use, is_withheld, may_use, opens}
 use Rattle.lq_security.specs.Visible.{is_listed}
 use Rattle.lq_security.specs.declared.policy.PolicyParts.{PolicyParts}
 use Rattle.lq_security.specs.declared.policy.Role.{Role}
@@ -26,6 +26,7 @@ same_use (of.Column t c) (of.Column u d) h =
     λ i. of.Column (eqb-true t u both.0 i) (eqb-true c d both.1 i)
 same_use (of.Insert t) (of.Insert u) h = ap of.Insert (eqb-true t u h)
 same_use (of.Delete t) (of.Delete u) h = ap of.Delete (eqb-true t u h)
+same_use (of.Host p) (of.Host q) h = ap of.Host (eqb-true p q h)
 same_use a b h = absurd (true≢false (sym h))
 
 pub same_itself : (a : Use) → is_same_use a a ≡ true
@@ -33,6 +34,7 @@ same_itself (of.Table t) = (Decides-eqb t t).1 refl
 same_itself (of.Column t c) = and_from (t == t) (c == c) ((Decides-eqb t t).1 refl) ((Decides-eqb c c).1 refl)
 same_itself (of.Insert t) = (Decides-eqb t t).1 refl
 same_itself (of.Delete t) = (Decides-eqb t t).1 refl
+same_itself (of.Host p) = (Decides-eqb p p).1 refl
 
 -- an item that passes a test
 pub passing : {A : Type 0} (test : A → Bool) (xs : List A) → list_any test xs ≡ true → (x : A) × Contains xs x × (test x ≡ true)
@@ -127,6 +129,7 @@ module _ (parts : PolicyParts) (role : ℕ) where
   use_told (of.Column t c) h = column t c (right_told parts role (of.Column t c) h)
   use_told (of.Insert t) h = insertion t (right_told parts role (of.Insert t) h)
   use_told (of.Delete t) h = removal t (right_told parts role (of.Delete t) h)
+  use_told (of.Host p) h = predicate p (right_told parts role (of.Host p) h)
 
   pub use_given : (used : Use) → MayUse parts role used → may_use parts role used ≡ true
   unfolding may_use
@@ -134,6 +137,7 @@ module _ (parts : PolicyParts) (role : ℕ) where
   use_given used (column t c right) = right_given parts role (of.Column t c) right
   use_given used (insertion t right) = right_given parts role (of.Insert t) right
   use_given used (removal t right) = right_given parts role (of.Delete t) right
+  use_given used (predicate p right) = right_given parts role (of.Host p) right
 
 pub tells_uses : TellsUses
 tells_uses parts role used = (use_told parts role used, use_given parts role used)
@@ -195,6 +199,7 @@ module _ (here there : PolicyParts) (role : ℕ) (kept : (used : Use) → HasRig
   use_kept used (column t c right) = column t c (kept (of.Column t c) right)
   use_kept used (insertion t right) = insertion t (kept (of.Insert t) right)
   use_kept used (removal t right) = removal t (kept (of.Delete t) right)
+  use_kept used (predicate p right) = predicate p (kept (of.Host p) right)
 
   none_denied_there : (uses : List Use) → denial here role uses ≡ None → denial there role uses ≡ None
   none_denied_there uses h =
@@ -235,3 +240,4 @@ denies_without_grants parts role none uses used has h = by used (use_told parts 
   by u (column t c right) = no_right (of.Column t c) right
   by u (insertion t right) = no_right (of.Insert t) right
   by u (removal t right) = no_right (of.Delete t) right
+  by u (predicate p right) = no_right (of.Host p) right

@@ -17,7 +17,7 @@ use Rattle.lq_value.specs.declared.value.Value.TheVariants.{outs-Scalar, rolls-S
 use Rattle.lq_value.specs.declared.value.Value.TheViews.{roll-out-Value}
 use Rattle.lq_language.specs.Worlds.{Binding, Scope, World}
 use Rattle.lq_language.specs.OperandMeaning.{scalar_of}
-use Rattle.lq_language.specs.RuleMeaning.{meaning}
+use Rattle.lq_language.specs.RuleMeaning.{rule_meaning}
 use Rattle.lq_language.specs.ValuesOfTypes.{Every, HasCells, HoldsRows, IsOf, IsOfScope, IsScalarOf, is_row, is_scalar}
 use Rattle.lq_language.specs.Operations.{on_ok, truth_of}
 use Rattle.lq_security.specs.RuleLaws.{HoldsAsMeant, HoldsWhereTrue, IsRowOver, IsRuleOver, language_world}
@@ -25,7 +25,7 @@ use Rattle.lq_security.specs.TotalityLaws.{rule_names}
 use Rattle.lq_language.specs.OperandTypes.{row_table}
 use Rattle.lq_language.specs.RuleTyping.{HasRuleType}
 use Rattle.lq_language.specs.TableRows.{cell_named}
-use Rattle.lq_security.specs.Visible.{is_true, rule_holds, rule_scope, rule_world}
+use Rattle.lq_security.specs.Visible.{is_true, language_scope, rule_holds, rule_world}
 use Rattle.lq_language.specs.Meaning.{expression_meaning}
 use Rattle.lq_language.specs.MeaningLaws.{IsScopeOfValues, IsValueOf, by_row, by_scalar}
 use Rattle.lq_grammar.specs.declared.syntax.Expr.{Expr}
@@ -52,7 +52,7 @@ module _ (columns : List Column) (cells : List Scalar) (row : IsRowOver columns 
   world = language_world columns fault.NullReference
 
   abbrev scope : Scope (List Scalar)
-  scope = rule_scope cells user
+  scope = language_scope cells user
 
   has_cells : HasCells world 0 cells
   has_cells c t h = typed_cell columns cells row.typed c t h
@@ -85,7 +85,7 @@ module _ (columns : List Column) (cells : List Scalar) (row : IsRowOver columns 
     served : HasRuleType (rule_names [] columns) rule ty.Bool
     served = type_sound rule (rule_names [] columns) ty.Bool (sym (total_alike (record { name = []; columns = columns } ∷ []) is.total) ∙ is.truth)
 
-    decided : (b : Bool) × (meaning (rule_world (map (λ column. column.name) columns)) rule scope ≡ Ok (value.Scalar (scalar.Bool b)))
+    decided : (b : Bool) × (rule_meaning (rule_world (map (λ column. column.name) columns)) rule scope ≡ Ok (value.Scalar (scalar.Bool b)))
     decided = decides_rules [] columns cells row.typed row.held user rule is.held served is.total
 
     pub meant : (unknown : Fault)

@@ -12,12 +12,12 @@ use Rattle.lq_value.specs.declared.value.Value.TheVariants as value
 use Rattle.lq_value.specs.declared.value.Value.TheVariants.{outs-Row as outs-value-Row, outs-Scalar}
 use Rattle.lq_language.specs.Worlds.{Scope, World, names_at}
 use Rattle.lq_language.specs.OperandMeaning.{as_value, cell_value, comparand, is_null, is_row_type, member_value, on_comparand, on_scalar, on_truth, operation_on, same_values, scalar_of, equality_truth, truth_value}
-use Rattle.lq_language.specs.RuleMeaning.{compared_meaning, meaning, operated_meaning}
+use Rattle.lq_language.specs.RuleMeaning.{compared_meaning, rule_meaning, operated_meaning}
 use Rattle.lq_language.specs.Members.{member_named, search_named}
 use Rattle.lq_language.specs.Operations.{negated, of_member, of_search, of_two, on_ok, truth_of}
 use Rattle.lq_security.specs.Totality.{Claim, Holds, IsTotal, Sure, Total, is_division, sure_coalesce, sure_conditional, sure_text, sure_user, total_and, total_coalesce, total_column, total_comparison, total_conditional, total_division, total_has_value, total_integer, total_minus, total_not, total_null, total_or, total_search, total_text, total_truth, total_user}
 use Rattle.lq_language.specs.OperandTypes.{is_comparison, is_equality}
-use Rattle.lq_language.specs.RuleTyping.{type_of}
+use Rattle.lq_language.specs.RuleTyping.{rule_type}
 use Rattle.lq_security.specs.Visible.{rule_scope}
 use Rattle.lq_language.specs.declared.operation.Op.{Op}
 use Rattle.lq_grammar.specs.declared.syntax.Argument.TheVariants as argument
@@ -66,10 +66,10 @@ module _ (schemas : List Schema) (rows : List (List (List Scalar))) (cell : List
   Outcome = Result V Fault
 
   abbrev pub table_world : World (List Scalar)
-  table_world = record { schemas = schemas; rows = rows; session = []; cell = cell; unknown = unknown }
+  table_world = record { schemas = schemas; rows = rows; predicates = []; session = []; cell = cell; unknown = unknown }
 
   abbrev pub bare : World (List Scalar)
-  bare = record { schemas = []; rows = []; session = []; cell = cell; unknown = unknown }
+  bare = record { schemas = []; rows = []; predicates = []; session = []; cell = cell; unknown = unknown }
 
   scalar_same : (layer : Layer) → scalar_of table_world layer ≡ scalar_of bare layer
   scalar_same (Value-F.Scalar s) = refl
@@ -132,7 +132,7 @@ module _ (schemas : List Schema) (rows : List (List (List Scalar))) (cell : List
     scope = rule_scope cells user
 
     abbrev AreSame : Expr → Type 0
-    AreSame e = meaning table_world e scope ≡ meaning bare e scope
+    AreSame e = rule_meaning table_world e scope ≡ rule_meaning bare e scope
 
     abbrev IsSame : Claim → Type 0
     IsSame (Total e) = AreSame e
@@ -152,25 +152,25 @@ module _ (schemas : List Schema) (rows : List (List (List Scalar))) (cell : List
 
     column_same : (row : Expr) (c : List ℕ) → row ≡ expr.Node (node.Name (codes "row")) → AreSame (expr.Node (node.Member row c))
     column_same row c is = of_row table_world ∙ cell_same (cell cells c) ∙ sym (of_row bare) where
-      of_row : (world : World (List Scalar)) → meaning world (expr.Node (node.Member row c)) scope ≡ cell_value world (world.cell cells c)
+      of_row : (world : World (List Scalar)) → rule_meaning world (expr.Node (node.Member row c)) scope ≡ cell_value world (world.cell cells c)
       of_row world =
           meaning_member world row c scope
-          ∙ ap (λ (o : Outcome). on_ok o (λ v. member_value world (type_of row (names_at world scope)) c (out-Value (List Scalar) v)))
-          (ap (λ (e : Expr). meaning world e scope) is ∙ meaning_name world (codes "row") scope)
-          ∙ ap (member_value world (type_of row (names_at world scope)) c) (outs-value-Row cells)
+          ∙ ap (λ (o : Outcome). on_ok o (λ v. member_value world (rule_type row (names_at world scope)) c (out-Value (List Scalar) v)))
+          (ap (λ (e : Expr). rule_meaning world e scope) is ∙ meaning_name world (codes "row") scope)
+          ∙ ap (member_value world (rule_type row (names_at world scope)) c) (outs-value-Row cells)
 
     conditional_same : (c a b : Expr) → AreSame c → AreSame a → AreSame b → AreSame (expr.Node (node.Conditional c a b))
     conditional_same c a b test left right =
         meaning_choice table_world c a b scope
         ∙ (λ i. on_truth table_world (test i) (λ t. if t then left i else right i))
-        ∙ on_truth_same (meaning bare c scope) _ _ (λ t. refl)
+        ∙ on_truth_same (rule_meaning bare c scope) _ _ (λ t. refl)
         ∙ sym (meaning_choice bare c a b scope)
 
     coalesce_same : (a b : Expr) → AreSame a → AreSame b → AreSame (expr.Node (node.Coalesce a b))
     coalesce_same a b left right =
         meaning_coalesce table_world a b scope
         ∙ (λ i. on_scalar table_world (left i) (λ s. if is_null s then right i else Ok (value.Scalar s)))
-        ∙ on_scalar_same (meaning bare a scope) _ _ (λ s. refl)
+        ∙ on_scalar_same (rule_meaning bare a scope) _ _ (λ s. refl)
         ∙ sym (meaning_coalesce bare a b scope)
 
     binary_same : (op : Binary) (a b : Expr) → is_sum op ≡ false → AreSame a → AreSame b → AreSame (expr.Node (node.Binary op a b))
@@ -183,22 +183,22 @@ module _ (schemas : List Schema) (rows : List (List (List Scalar))) (cell : List
         signed : World (List Scalar) → Outcome → Outcome → Outcome
         signed world o p =
             if is_equality op then compared_meaning world op o p
-            else operated_meaning world op (type_of a (names_at world scope)) (type_of b (names_at world scope)) o p
+            else operated_meaning world op (rule_type a (names_at world scope)) (rule_type b (names_at world scope)) o p
 
         by : (equal : Bool)
-            → (if equal then compared_meaning table_world op (meaning bare a scope) (meaning bare b scope)
-            else operated_meaning table_world op (type_of a (names_at table_world scope)) (type_of b (names_at table_world scope)) (meaning bare a scope) (meaning bare b scope))
-            ≡ (if equal then compared_meaning bare op (meaning bare a scope) (meaning bare b scope)
-            else operated_meaning bare op (type_of a (names_at bare scope)) (type_of b (names_at bare scope)) (meaning bare a scope) (meaning bare b scope))
-        by true = compared_same op (meaning bare a scope) (meaning bare b scope)
-        by false = operated_same op alone _ _ _ _ (meaning bare a scope) (meaning bare b scope)
+            → (if equal then compared_meaning table_world op (rule_meaning bare a scope) (rule_meaning bare b scope)
+            else operated_meaning table_world op (rule_type a (names_at table_world scope)) (rule_type b (names_at table_world scope)) (rule_meaning bare a scope) (rule_meaning bare b scope))
+            ≡ (if equal then compared_meaning bare op (rule_meaning bare a scope) (rule_meaning bare b scope)
+            else operated_meaning bare op (rule_type a (names_at bare scope)) (rule_type b (names_at bare scope)) (rule_meaning bare a scope) (rule_meaning bare b scope))
+        by true = compared_same op (rule_meaning bare a scope) (rule_meaning bare b scope)
+        by false = operated_same op alone _ _ _ _ (rule_meaning bare a scope) (rule_meaning bare b scope)
 
     has_value_same : (a : Expr) → IsTotal a → AreSame a → AreSame (expr.Node (node.Member a (codes "HasValue")))
     has_value_same a total operand =
         meaning_member table_world a (codes "HasValue") scope
-        ∙ ap (λ (o : Outcome). on_ok o (λ v. member_value table_world (type_of a (names_at table_world scope)) (codes "HasValue") (out-Value (List Scalar) v))) operand
-        ∙ on_ok_same (meaning bare a scope) _ _
-        (λ v. member_same (type_of a (names_at table_world scope)) (type_of a (names_at bare scope)) (codes "HasValue") (total_no_row schemas total) (total_no_row [] total)
+        ∙ ap (λ (o : Outcome). on_ok o (λ v. member_value table_world (rule_type a (names_at table_world scope)) (codes "HasValue") (out-Value (List Scalar) v))) operand
+        ∙ on_ok_same (rule_meaning bare a scope) _ _
+        (λ v. member_same (rule_type a (names_at table_world scope)) (rule_type a (names_at bare scope)) (codes "HasValue") (total_no_row schemas total) (total_no_row [] total)
         (out-Value (List Scalar) v))
         ∙ sym (meaning_member bare a (codes "HasValue") scope)
 
@@ -206,7 +206,7 @@ module _ (schemas : List Schema) (rows : List (List (List Scalar))) (cell : List
     search_same a b m left right =
         meaning_method table_world a m (argument.Value b ∷ []) scope
         ∙ (λ i. on_scalar table_world (left i) (λ s. on_scalar table_world (right i) (λ t. as_value (of_search unknown (search_named m) s t))))
-        ∙ on_scalar_same (meaning bare a scope) _ _ (λ s. on_scalar_same (meaning bare b scope) _ _ (λ t. refl))
+        ∙ on_scalar_same (rule_meaning bare a scope) _ _ (λ s. on_scalar_same (rule_meaning bare b scope) _ _ (λ t. refl))
         ∙ sym (meaning_method bare a m (argument.Value b ∷ []) scope)
 
     same : {claim : Claim} → Holds claim → IsSame claim
@@ -219,21 +219,21 @@ module _ (schemas : List Schema) (rows : List (List (List Scalar))) (cell : List
         (meaning_minus table_world a scope
         ∙ ap (λ (o : Outcome). on_scalar table_world o (λ s. as_value (negated unknown s)))
         (same_as literal (meaning_integer table_world _ scope ∙ sym (meaning_integer bare _ scope)))
-        ∙ on_scalar_same (meaning bare a scope) _ _ (λ s. refl) ∙ sym (meaning_minus bare a scope))
+        ∙ on_scalar_same (rule_meaning bare a scope) _ _ (λ s. refl) ∙ sym (meaning_minus bare a scope))
     same (total_column _ row c is of_row) = same_as is (column_same row c of_row)
     same (total_user _ is) = same_as is user_same
     same (total_not _ a is operand) =
         same_as is
         (meaning_not table_world a scope ∙ ap (λ (o : Outcome). on_truth table_world o (λ t. Ok (truth_value (not t)))) (same operand)
-        ∙ on_truth_same (meaning bare a scope) _ _ (λ t. refl) ∙ sym (meaning_not bare a scope))
+        ∙ on_truth_same (rule_meaning bare a scope) _ _ (λ t. refl) ∙ sym (meaning_not bare a scope))
     same (total_and _ a b is left right) =
         same_as is
         (meaning_both table_world a b scope ∙ ap₂ (λ (o p : Outcome). on_truth table_world o (λ t. if t then p else Ok (truth_value false))) (same left) (same right)
-        ∙ on_truth_same (meaning bare a scope) _ _ (λ t. refl) ∙ sym (meaning_both bare a b scope))
+        ∙ on_truth_same (rule_meaning bare a scope) _ _ (λ t. refl) ∙ sym (meaning_both bare a b scope))
     same (total_or _ a b is left right) =
         same_as is
         (meaning_either table_world a b scope ∙ ap₂ (λ (o p : Outcome). on_truth table_world o (λ t. if t then Ok (truth_value true) else p)) (same left) (same right)
-        ∙ on_truth_same (meaning bare a scope) _ _ (λ t. refl) ∙ sym (meaning_either bare a b scope))
+        ∙ on_truth_same (rule_meaning bare a scope) _ _ (λ t. refl) ∙ sym (meaning_either bare a b scope))
     same (total_comparison _ a b op is compares left right) = same_as is (binary_same op a b (compares_alone op compares) (same left) (same right))
     same (total_conditional _ c a b is test left right) = same_as is (conditional_same c a b (same test) (same left) (same right))
     same (total_coalesce _ a b is left right) = same_as is (coalesce_same a b (same left) (same right))
@@ -247,5 +247,5 @@ module _ (schemas : List Schema) (rows : List (List (List Scalar))) (cell : List
     same (sure_coalesce _ a b is left right) = same_as is (coalesce_same a b (same left) (same right))
     same (sure_conditional _ c a b is test left right) = same_as is (conditional_same c a b (same test) (same left) (same right))
 
-    pub total_same : {e : Expr} → IsTotal e → meaning table_world e scope ≡ meaning bare e scope
+    pub total_same : {e : Expr} → IsTotal e → rule_meaning table_world e scope ≡ rule_meaning bare e scope
     total_same total = same total

@@ -16,13 +16,12 @@ use Rattle.lq_language.specs.OperandMeaning.{is_row_type}
 use Rattle.lq_security.specs.Totality.{Claim, Holds, IsTotal, Sure, Total, sure_coalesce, sure_conditional, sure_text, sure_user, total_and, total_coalesce, total_column, total_comparison, total_conditional, total_division, total_has_value, total_integer, total_minus, total_not, total_null, total_or, total_search, total_text, total_truth, total_user}
 use Rattle.lq_language.specs.Names.{Names, column_named, type_of_column}
 use Rattle.lq_language.specs.OperandTypes.{are_comparable, are_joined, binary_type, choice_type, choice_type_of_layers, coalesced, if_number, is_bool_type, is_equality, is_number, is_ordering, is_text, is_text_type, joined_type, member_type, number_type, of_operands, operated_type, result_type, row_table, truth_type}
-use Rattle.lq_language.specs.RuleTyping.{type_of}
+use Rattle.lq_language.specs.RuleTyping.{rule_type}
 use Rattle.lq_language.specs.Typing.{are_null_tests, called_type, type_of_conditional, type_of_choice, type_of_member, type_of_operation}
 use Rattle.lq_grammar.specs.declared.syntax.Argument.TheVariants as argument
 use Rattle.lq_grammar.specs.declared.syntax.Binary.{Binary}
 use Rattle.lq_grammar.specs.declared.syntax.Binary.TheVariants as binary
 use Rattle.lq_grammar.specs.declared.syntax.Expr.{Expr}
-use Rattle.lq_grammar.specs.declared.syntax.Expr.TheOpen.{Expr-F}
 use Rattle.lq_grammar.specs.declared.syntax.Expr.TheVariants as expr
 use Rattle.lq_grammar.specs.declared.syntax.Node.{Node}
 use Rattle.lq_grammar.specs.declared.syntax.Node.TheVariants as node
@@ -246,24 +245,24 @@ rule_locals = (codes "row", ty.Row 0) ∷ (codes "user", ty.Str) ∷ []
 
 module _ (tables : List Schema) where
   abbrev names : Names
-  names = record { tables = tables; session = []; locals = rule_locals }
+  names = record { tables = tables; predicates = []; session = []; locals = rule_locals }
 
   abbrev in_language : Expr → Option Ty
   in_language e = expression_type e names
 
   abbrev served : Expr → Option Ty
-  served e = type_of e names
+  served e = rule_type e names
 
   abbrev IsAlike : Claim → Type 0
   IsAlike (Total e) = (in_language e ≡ served e) × IsPlain (served e)
   IsAlike (Sure e) = (in_language e ≡ served e) × AreTexts (served e)
 
   -- an expression that is this node, which has this type
-  typed_as : (e : Expr) (n : Node Expr) (o : Option Ty) → e ≡ expr.Node n → type_of (expr.Node n) names ≡ o → served e ≡ o
-  typed_as e n o is typed = ap (λ (x : Expr). type_of x names) is ∙ typed
+  typed_as : (e : Expr) (n : Node Expr) (o : Option Ty) → e ≡ expr.Node n → rule_type (expr.Node n) names ≡ o → served e ≡ o
+  typed_as e n o is typed = ap (λ (x : Expr). rule_type x names) is ∙ typed
 
   alike_by : (are : Option Ty → Bool) (e : Expr) (n : Node Expr) (o : Option Ty) → e ≡ expr.Node n → node_type_in n names ≡ o
-      → type_of (expr.Node n) names ≡ o → are o ≡ true → (in_language e ≡ served e) × (are (served e) ≡ true)
+      → rule_type (expr.Node n) names ≡ o → are o ≡ true → (in_language e ≡ served e) × (are (served e) ≡ true)
   alike_by are e n o is wholly typed found =
       (expression_type_is names e n is ∙ wholly ∙ sym (typed_as e n o is typed), ap are (typed_as e n o is typed) ∙ found)
 
@@ -274,7 +273,7 @@ module _ (tables : List Schema) where
   row_alike row is = expression_type_is names row (node.Name (codes "row")) is
 
   row_served : (row : Expr) → row ≡ expr.Node (node.Name (codes "row")) → served row ≡ Some (ty.Row 0)
-  row_served row is = ap (λ (x : Expr). type_of x names) is ∙ type_name (codes "row") names
+  row_served row is = ap (λ (x : Expr). rule_type x names) is ∙ type_name (codes "row") names
 
   column_alike : (e row : Expr) (c : List ℕ) → e ≡ expr.Node (node.Member row c) → row ≡ expr.Node (node.Name (codes "row")) → IsAlike (Total e)
   column_alike e row c is of_row =
@@ -371,9 +370,9 @@ module _ (tables : List Schema) where
 
 -- a total expression has one type, or none, whether it is asked for among all types or among those that are served
 pub total_alike : (tables : List Schema) {e : Expr} → IsTotal e
-    → expression_type e (record { tables = tables; session = []; locals = rule_locals }) ≡ type_of e (record { tables = tables; session = []; locals = rule_locals })
+    → expression_type e (record { tables = tables; predicates = []; session = []; locals = rule_locals }) ≡ rule_type e (record { tables = tables; predicates = []; session = []; locals = rule_locals })
 total_alike tables total = (alike tables total).0
 
 -- a total expression has no row's type
-pub total_no_row : (tables : List Schema) {e : Expr} → Holds (Total e) → is_row_type (type_of e (record { tables = tables; session = []; locals = rule_locals })) ≡ false
+pub total_no_row : (tables : List Schema) {e : Expr} → Holds (Total e) → is_row_type (rule_type e (record { tables = tables; predicates = []; session = []; locals = rule_locals })) ≡ false
 total_no_row tables total = plain_no_row _ (alike tables total).1

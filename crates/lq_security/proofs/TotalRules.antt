@@ -24,7 +24,7 @@ use Rattle.lq_value.specs.declared.value.Value.TheVariants as value
 use Rattle.lq_value.specs.declared.value.Value.TheVariants.{outs-Row as outs-value-Row, outs-Scalar}
 use Rattle.lq_language.specs.Worlds.{Scope, World, names_at}
 use Rattle.lq_language.specs.OperandMeaning.{as_value, cell_value, comparand, is_null, is_row_type, member_value, on_comparand, on_scalar, on_truth, operation_on, scalar_of, equality_truth, truth_value}
-use Rattle.lq_language.specs.RuleMeaning.{compared_meaning, meaning, operated_meaning}
+use Rattle.lq_language.specs.RuleMeaning.{compared_meaning, rule_meaning, operated_meaning}
 use Rattle.lq_language.specs.ValuesOfTypes.{HaveTypes, IsScalarOf}
 use Rattle.lq_language.specs.Members.{IsSearch, contains, ends, is_search, member_named, search_named, starts}
 use Rattle.lq_language.specs.OperationLaws.{IsNumber}
@@ -33,7 +33,7 @@ use Rattle.lq_security.specs.Totality.{Claim, Holds, Sure, Total, is_division, s
 use Rattle.lq_security.specs.TotalityLaws.{DecidesRules, is_held, is_held_rule, is_held_step, rule_names}
 use Rattle.lq_language.specs.Names.{Names, column_named, column_type, type_of_column}
 use Rattle.lq_language.specs.OperandTypes.{are_comparable, choice_type_of_layers, choice_type, coalesced, if_number, is_bool_type, is_comparison, is_equality, is_number, is_ordering, is_text_type, joined_type, member_type, number_type, of_operands, operated_type, result_type, row_table, truth_type}
-use Rattle.lq_language.specs.RuleTyping.{type_of}
+use Rattle.lq_language.specs.RuleTyping.{rule_type}
 use Rattle.lq_language.specs.TableRows.{cell_named}
 use Rattle.lq_security.specs.Visible.{rule_scope, rule_world}
 use Rattle.lq_grammar.specs.declared.syntax.Argument.TheVariants as argument
@@ -375,10 +375,10 @@ module _ (table : List ℕ) (columns : List Column) (cells : List Scalar) (fit :
   scope = rule_scope cells user
 
   abbrev meant : Expr → Result (Value (List Scalar)) Fault
-  meant e = meaning world e scope
+  meant e = rule_meaning world e scope
 
   abbrev typed : Expr → Option Ty
-  typed e = type_of e names
+  typed e = rule_type e names
 
   -- of what an expression means, where it is typed
   abbrev Gives : (Scalar → Type 0) → Expr → Type 0
@@ -452,7 +452,7 @@ module _ (table : List ℕ) (columns : List Column) (cells : List Scalar) (fit :
       row_is = ap meant of_row ∙ meaning_name world (codes "row") scope
 
       member_of : Value-F (List Scalar) (Value (List Scalar)) → Result (Value (List Scalar)) Fault
-      member_of layer = member_value world (type_of row (names_at world scope)) c layer
+      member_of layer = member_value world (rule_type row (names_at world scope)) c layer
 
   means_not : (a : Expr) → Gives IsHeld a → Gives IsHeld (expr.Node (node.Unary unary.Not a))
   means_not a operand literals t h =
@@ -512,11 +512,11 @@ module _ (table : List ℕ) (columns : List Column) (cells : List Scalar) (fit :
   sign_there : (op : Binary) (a b : Expr) (equal : Bool) → is_equality op ≡ equal
       → meant (expr.Node (node.Binary op a b))
       ≡ (if equal then compared_meaning world op (meant a) (meant b)
-      else operated_meaning world op (type_of a (names_at world scope)) (type_of b (names_at world scope)) (meant a) (meant b))
+      else operated_meaning world op (rule_type a (names_at world scope)) (rule_type b (names_at world scope)) (meant a) (meant b))
   sign_there op a b equal is =
       meaning_binary world op a b scope
       ∙ ap (λ (e : Bool). if e then compared_meaning world op (meant a) (meant b)
-      else operated_meaning world op (type_of a (names_at world scope)) (type_of b (names_at world scope)) (meant a) (meant b)) is
+      else operated_meaning world op (rule_type a (names_at world scope)) (rule_type b (names_at world scope)) (meant a) (meant b)) is
 
   means_comparison : (a b : Expr) (op : Binary) → is_comparison op ≡ true → Gives IsHeld a → Gives IsHeld b → Gives IsHeld (expr.Node (node.Binary op a b))
   means_comparison a b op compares left right literals t h = by (is_equality op) refl where
@@ -541,7 +541,7 @@ module _ (table : List ℕ) (columns : List Column) (cells : List Scalar) (fit :
         let orders = orders_else op compares is in
         let result = computed_typed op k l t is (orders.1 k l) operands.result in
         let found =
-        ordered_truth op orders.0 (type_of a (names_at world scope)) (type_of b (names_at world scope)) operands.x.scalar operands.y.scalar
+        ordered_truth op orders.0 (rule_type a (names_at world scope)) (rule_type b (names_at world scope)) operands.x.scalar operands.y.scalar
         (number_there k operands.x.scalar (number_layer k result.0) operands.x.fits) (number_there l operands.y.scalar (number_layer l result.1) operands.y.fits) in
         comes_as world (sign_there op a b false is ∙ operated_there world op _ _ (meant a) (meant b) operands.x.scalar operands.y.scalar operands.x.is operands.y.is ∙ ap as_value (found.1 world.unknown))
         (truth_comes world t found.0 (sym (ap (λ (c : Bool). if c then ty.Bool else number_type k l) orders.0) ∙ result.2))
@@ -585,7 +585,7 @@ module _ (table : List ℕ) (columns : List Column) (cells : List Scalar) (fit :
   means_has_value : (a : Expr) → Holds (Total a) → Gives IsHeld a → Gives IsHeld (expr.Node (node.Member a (codes "HasValue")))
   means_has_value a total operand literals t h = by (typed a) refl (sym (type_member a (codes "HasValue") names) ∙ h) where
     member_of : Value-F (List Scalar) (Value (List Scalar)) → Result (Value (List Scalar)) Fault
-    member_of layer = member_value world (type_of a (names_at world scope)) (codes "HasValue") layer
+    member_of layer = member_value world (rule_type a (names_at world scope)) (codes "HasValue") layer
 
     by : (o : Option Ty) → typed a ≡ o → option_and_then (λ u. member_type names (codes "HasValue") (out-Ty u)) o ≡ Some t
         → Comes world IsHeld t (meant (expr.Node (node.Member a (codes "HasValue"))))
@@ -593,7 +593,7 @@ module _ (table : List ℕ) (columns : List Column) (cells : List Scalar) (fit :
     by (Some u) is g =
         let result = has_value_typed names (out-Ty u) t (ap is_row_type (sym is) ∙ total_no_row names.tables total) g in
         let x = operand (sym (held_node (node.Member a (codes "HasValue"))) ∙ literals) u is in
-        let found = has_value_there world (type_of a (names_at world scope)) (total_no_row [] total) x.scalar (subst (λ (l : Ty-F Ty). IsScalarOf l x.scalar) result.0 x.fits) in
+        let found = has_value_there world (rule_type a (names_at world scope)) (total_no_row [] total) x.scalar (subst (λ (l : Ty-F Ty). IsScalarOf l x.scalar) result.0 x.fits) in
         comes_as world
         (meaning_member world a (codes "HasValue") scope ∙ ap (λ (o : Result (Value (List Scalar)) Fault). on_ok o (λ v. member_of (out-Value (List Scalar) v))) x.is
         ∙ ap member_of (outs-Scalar x.scalar) ∙ found.1)
@@ -620,7 +620,7 @@ module _ (table : List ℕ) (columns : List Column) (cells : List Scalar) (fit :
       result : IsComputed op k (out-Ty operands.right) t
       result = computed_typed op k (out-Ty operands.right) t alone.0 (alone.2 k (out-Ty operands.right)) operands.result
 
-      quotient : Gets (out-Ty (number_type k Ty-F.Int)) (quotient_of world.unknown op (type_of a (names_at world scope)) (type_of b (names_at world scope)) operands.x.scalar n)
+      quotient : Gets (out-Ty (number_type k Ty-F.Int)) (quotient_of world.unknown op (rule_type a (names_at world scope)) (rule_type b (names_at world scope)) operands.x.scalar n)
       quotient = quotient_there world.unknown op divides _ _ k n operands.x.scalar result.0 operands.x.fits operands.x.so operands.y.so.1
 
       -- the divisor's type is that of ints

@@ -18,6 +18,7 @@ use Rattle.lq_grammar.specs.declared.syntax.Expr.TheViews.{roll-out-Expr}
 use Rattle.lq_grammar.specs.declared.syntax.Field.{Field}
 use Rattle.lq_grammar.specs.declared.syntax.Node.{Node}
 use Rattle.lq_grammar.specs.declared.syntax.Node.TheVariants as node
+use Rattle.lq_grammar.specs.declared.syntax.Picked.{Picked}
 use Rattle.lq_grammar.specs.declared.syntax.Query.{Query}
 use Rattle.lq_grammar.specs.declared.syntax.Unary.TheVariants as unary
 use Rattle.lq_language.proofs.MemberLaws.{either_true, search_given, search_told}
@@ -83,8 +84,11 @@ pub strength_conditional : (c a b : Expr) → strength_of (expr.Node (node.Condi
     ≡ record { total = is_total c && is_total a && is_total b; sure = is_total c && is_sure a && is_sure b }
 strength_conditional c a b = node_is (node.Conditional c a b)
 
-pub strength_host : (p : List ℕ) (xs : List Expr) → strength_of (expr.Node (node.Host p xs)) ≡ total_where false
-strength_host p xs = node_is (node.Host p xs)
+pub strength_host : (p : List ℕ) (row : Expr) (columns : Picked) → strength_of (expr.Node (node.Host p row columns)) ≡ total_where false
+strength_host p row columns = node_is (node.Host p row columns)
+
+pub strength_other : (p : List ℕ) (xs : List Expr) → strength_of (expr.Node (node.HostOther p xs)) ≡ total_where false
+strength_other p xs = node_is (node.HostOther p xs)
 
 pub strength_new : (fs : List (Field Expr)) → strength_of (expr.Node (node.New fs)) ≡ total_where false
 strength_new fs = node_is (node.New fs)
@@ -319,8 +323,10 @@ given_layer x (Expr-F.Node (node.And a b)) h = given_node x (node.And a.0 b.0) h
 given_layer x (Expr-F.Node (node.Or a b)) h = given_node x (node.Or a.0 b.0) h (given_or a.0 b.0 a.1 b.1)
 given_layer x (Expr-F.Node (node.Coalesce a b)) h = given_node x (node.Coalesce a.0 b.0) h (given_coalesce a.0 b.0 a.1 b.1)
 given_layer x (Expr-F.Node (node.Conditional c a b)) h = given_node x (node.Conditional c.0 a.0 b.0) h (given_conditional c.0 a.0 b.0 c.1 a.1 b.1)
-given_layer x (Expr-F.Node (node.Host p xs)) h =
-    subst (λ d. IsGiven (roll-Expr d)) h (given_none (map-Expr Given Expr (λ e. e.0) (Expr-F.Node (node.Host p xs))) refl)
+given_layer x (Expr-F.Node (node.Host p row columns)) h =
+    subst (λ d. IsGiven (roll-Expr d)) h (given_none (map-Expr Given Expr (λ e. e.0) (Expr-F.Node (node.Host p row columns))) refl)
+given_layer x (Expr-F.Node (node.HostOther p xs)) h =
+    subst (λ d. IsGiven (roll-Expr d)) h (given_none (map-Expr Given Expr (λ e. e.0) (Expr-F.Node (node.HostOther p xs))) refl)
 given_layer x (Expr-F.Node (node.New fs)) h =
     subst (λ d. IsGiven (roll-Expr d)) h (given_none (map-Expr Given Expr (λ e. e.0) (Expr-F.Node (node.New fs))) refl)
 given_layer x (Expr-F.Node (node.Method a m [])) h = given_node x (node.Method a.0 m []) h (given_other a.0 m [] refl)

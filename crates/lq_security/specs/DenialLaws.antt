@@ -15,6 +15,7 @@ module _ (roles : List Role) (role : ℕ) (rule : RightRule) where
     of_column : (t c : ℕ) → BearsOn roles role (of.Column t c) rule → Concerns (of.Column t c)
     of_insertion : (t : ℕ) → BearsOn roles role (of.Insert t) rule → Concerns (of.Insert t)
     of_removal : (t : ℕ) → BearsOn roles role (of.Delete t) rule → Concerns (of.Delete t)
+    of_predicate : (p : ℕ) → BearsOn roles role (of.Host p) rule → Concerns (of.Host p)
     of_table : (t c : ℕ) → BearsOn roles role (of.Column t c) rule → Concerns (of.Table t)
 
 module _ (parts : PolicyParts) (role : ℕ) where

@@ -13,6 +13,7 @@ is_same_use (of.Table t) (of.Table u) = t == u
 is_same_use (of.Column t c) (of.Column u d) = (t == u) && (c == d)
 is_same_use (of.Insert t) (of.Insert u) = t == u
 is_same_use (of.Delete t) (of.Delete u) = t == u
+is_same_use (of.Host p) (of.Host q) = p == q
 is_same_use a b = false
 
 -- ---- rights
@@ -95,4 +96,5 @@ pub data MayUse (parts : PolicyParts) (role : ℕ) : Use → Type 0 where
   column : (t c : ℕ) → HasRight parts role (of.Column t c) → MayUse parts role (of.Column t c)
   insertion : (t : ℕ) → HasRight parts role (of.Insert t) → MayUse parts role (of.Insert t)
   removal : (t : ℕ) → HasRight parts role (of.Delete t) → MayUse parts role (of.Delete t)
+  predicate : (p : ℕ) → HasRight parts role (of.Host p) → MayUse parts role (of.Host p)
   table : (t c : ℕ) → HasRight parts role (of.Column t c) → MayUse parts role (of.Table t)

@@ -10,12 +10,12 @@ use Rattle.lq_value.specs.declared.value.Fault.{Fault}
 use Rattle.lq_value.specs.declared.value.Value.TheVariants as value
 use Rattle.lq_language.specs.ClauseTyping.{expression_type}
 use Rattle.lq_language.specs.Worlds.{World}
-use Rattle.lq_language.specs.RuleMeaning.{meaning}
+use Rattle.lq_language.specs.RuleMeaning.{rule_meaning}
 use Rattle.lq_language.specs.ValuesOfTypes.{HaveTypes}
 use Rattle.lq_security.specs.Totality.{IsTotal}
 use Rattle.lq_security.specs.TotalityLaws.{is_held, is_held_rule, rule_names}
 use Rattle.lq_language.specs.TableRows.{cell_named}
-use Rattle.lq_security.specs.Visible.{HasRule, rule_holds, rule_scope, rule_world}
+use Rattle.lq_security.specs.Visible.{HasRule, language_scope, rule_holds, rule_scope, rule_world}
 use Rattle.lq_language.specs.Meaning.{expression_meaning}
 use Rattle.lq_security.specs.declared.policy.Action.{Action}
 use Rattle.lq_security.specs.declared.policy.Policy.{Policy}
@@ -52,6 +52,7 @@ abbrev pub language_world : List Column → Fault → World (List Scalar)
 language_world columns unknown = record {
   schemas = record { name = []; columns = columns } ∷ [];
   rows = [] ∷ [];
+  predicates = [];
   session = [];
   cell = cell_named (map (λ column. column.name) columns);
   unknown = unknown;
@@ -63,7 +64,7 @@ abbrev pub HoldsAsMeant : Type 0
 HoldsAsMeant =
     (columns : List Column) (rule : Expr) → IsRuleOver columns rule → (cells : List Scalar) → IsRowOver columns cells
     → (user : List ℕ) (unknown : Fault)
-    → expression_meaning (language_world columns unknown) rule (rule_scope cells user)
+    → expression_meaning (language_world columns unknown) rule (language_scope cells user)
     ≡ Ok (value.Scalar (scalar.Bool (rule_holds (map (λ column. column.name) columns) rule cells user)))
 
 -- a rule holds on a row exactly where it means the truth value true: one that faults doesn't hold, nor one that means anything else
@@ -71,4 +72,4 @@ abbrev pub HoldsWhereTrue : Type 0
 HoldsWhereTrue =
     (columns : List (List ℕ)) (rule : Expr) (cells : List Scalar) (user : List ℕ)
     → (rule_holds columns rule cells user ≡ true)
-    ↔ (meaning (rule_world columns) rule (rule_scope cells user) ≡ Ok (value.Scalar (scalar.Bool true)))
+    ↔ (rule_meaning (rule_world columns) rule (rule_scope cells user) ≡ Ok (value.Scalar (scalar.Bool true)))

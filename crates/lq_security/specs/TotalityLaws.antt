@@ -6,11 +6,12 @@ use Rattle.lq_value.specs.declared.scalar.Scalar.TheVariants as scalar
 use Rattle.lq_value.specs.declared.table.Column.{Column}
 use Rattle.lq_value.specs.declared.ty.Ty.TheVariants as ty
 use Rattle.lq_value.specs.declared.value.Value.TheVariants as value
-use Rattle.lq_language.specs.RuleMeaning.{meaning}
+use Rattle.lq_language.specs.RuleMeaning.{rule_meaning}
 use Rattle.lq_language.specs.ValuesOfTypes.{HaveTypes}
 use Rattle.lq_language.specs.Operations.{is_int}
 use Rattle.lq_security.specs.Totality.{IsTotal, is_total}
 use Rattle.lq_language.specs.Names.{Names}
+use Rattle.lq_language.specs.declared.host_name.HostName.{HostName}
 use Rattle.lq_language.specs.RuleTyping.{HasRuleType}
 use Rattle.lq_security.specs.Visible.{rule_scope, rule_world}
 use Rattle.lq_grammar.specs.declared.syntax.Argument.TheVariants as argument
@@ -25,10 +26,18 @@ TellsTotal = (e : Expr) → (is_total e ≡ true) ↔ IsTotal e
 
 -- ---- what a total rule means
 
--- the names of a rule: `row`, of the table with these columns, and `user`
+-- the names of a rule where these host predicates are known: `row`, of the table with these columns, and `user`
+abbrev pub rule_names_among : List HostName → List ℕ → List Column → Names
+rule_names_among predicates table columns = record {
+  tables = record { name = table; columns = columns } ∷ [];
+  predicates = predicates;
+  session = [];
+  locals = (codes "row", ty.Row 0) ∷ (codes "user", ty.Str) ∷ [];
+}
+
+-- and where none is: a total rule asks none
 abbrev pub rule_names : List ℕ → List Column → Names
-rule_names table columns =
-    record { tables = record { name = table; columns = columns } ∷ []; session = []; locals = (codes "row", ty.Row 0) ∷ (codes "user", ty.Str) ∷ [] }
+rule_names = rule_names_among []
 
 -- An `i32` holds the number of a scalar. In the definitions numbers have no end, and the quotient of one past 32 bits may overflow;
 -- Rust holds cells and literals, so that no other scalar or rule is there.
@@ -61,4 +70,4 @@ abbrev pub DecidesRules : Type 0
 DecidesRules =
     (table : List ℕ) (columns : List Column) (cells : List Scalar) → HaveTypes columns cells → list_all is_held cells ≡ true
     → (user : List ℕ) (rule : Expr) → is_held_rule rule ≡ true → HasRuleType (rule_names table columns) rule ty.Bool → IsTotal rule
-    → (b : Bool) × (meaning (rule_world (map (λ column. column.name) columns)) rule (rule_scope cells user) ≡ Ok (value.Scalar (scalar.Bool b)))
+    → (b : Bool) × (rule_meaning (rule_world (map (λ column. column.name) columns)) rule (rule_scope cells user) ≡ Ok (value.Scalar (scalar.Bool b)))

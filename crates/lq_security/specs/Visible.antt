@@ -14,7 +14,7 @@ use Rattle.lq_value.specs.declared.value.Fault.{Fault}
 use Rattle.lq_value.specs.declared.value.Fault.TheVariants as fault
 use Rattle.lq_language.specs.TableRows.{TableRow, cell_named}
 use Rattle.lq_language.specs.Worlds.{Binding, Scope, World}
-use Rattle.lq_language.specs.RuleMeaning.{truth_at}
+use Rattle.lq_language.specs.RuleMeaning.{rule_truth}
 use Rattle.lq_language.specs.Meaning.{expression_meaning}
 use Rattle.lq_security.specs.declared.policy.Action.{Action}
 use Rattle.lq_security.specs.declared.policy.Action.TheVariants as action
@@ -26,9 +26,9 @@ use Rattle.lq_grammar.specs.declared.syntax.Expr.{Expr}
 
 -- ---- rules
 
--- a rule reads the cells of the row at hand, and no table; one without a meaning faults, and so is not true
+-- a rule reads the cells of the row at hand, and no table, and asks no host predicate; one without a meaning faults, and so is not true
 abbrev pub rule_world : List (List ℕ) → World (List Scalar)
-rule_world columns = record { schemas = []; rows = []; session = []; cell = cell_named columns; unknown = fault.NullReference }
+rule_world columns = record { schemas = []; rows = []; predicates = []; session = []; cell = cell_named columns; unknown = fault.NullReference }
 
 -- the names of a rule: `row`, of the one table that a rule is about, and `user`, which is the name of the role
 abbrev pub rule_scope : List Scalar → List ℕ → Scope (List Scalar)
@@ -41,7 +41,7 @@ is_true (Err f) = false
 
 -- whether a rule is true on a row of a table for a role
 abbrev pub rule_holds : List (List ℕ) → Expr → List Scalar → List ℕ → Bool
-rule_holds columns rule cells user = is_true (truth_at (rule_world columns) rule (rule_scope cells user))
+rule_holds columns rule cells user = is_true (rule_truth (rule_world columns) rule (rule_scope cells user))
 
 -- ---- roles
 
@@ -170,22 +170,27 @@ pub record HasCell (columns : List (List ℕ)) (cells : List Scalar) (name : Lis
   pub under : slice_get cells place ≡ Some cell
   pub first : (earlier : ℕ) → slice_get columns earlier ≡ Some name → place ≤ earlier
 
--- A rule is true on a row of a table with these columns, by the meaning of the language: `row` is the row, and `user` is
--- the name of the role. A rule reads no other row.
+-- What the names of a rule are in the language: `row` is the row, of the one table that the rule is about, and `user` is the name of
+-- the role.
+abbrev pub language_scope : List Scalar → List ℕ → Scope (List Scalar)
+language_scope cells user =
+    let row : Binding (List Scalar) = record { name = codes "row"; ty = ty.Row 0; value = value.Row cells } in
+    let name : Binding (List Scalar) = record { name = codes "user"; ty = ty.Str; value = value.Scalar (scalar.Text user) } in
+    row ∷ name ∷ []
+
+-- A rule is true on a row of a table with these columns, by the meaning of the language. It reads no other row.
 abbrev pub IsTrueOn : List Column → Asked → Expr → Type 0
 IsTrueOn columns asked rule =
     let schema : Schema = record { name = []; columns = columns } in
     let world : World (List Scalar) = record {
       schemas = schema ∷ [];
       rows = [] ∷ [];
+      predicates = [];
       session = [];
       cell = cell_named asked.columns;
       unknown = fault.NullReference;
     } in
-    let row : Binding (List Scalar) = record { name = codes "row"; ty = ty.Row 0; value = value.Row asked.cells } in
-    let user : Binding (List Scalar) = record { name = codes "user"; ty = ty.Str; value = value.Scalar (scalar.Text asked.user) } in
-    let scope : Scope (List Scalar) = row ∷ user ∷ [] in
-    expression_meaning world rule scope ≡ Ok (value.Scalar (scalar.Bool true))
+    expression_meaning world rule (language_scope asked.cells asked.user) ≡ Ok (value.Scalar (scalar.Bool true))
 
 -- A role has itself, and whatever roles a role that it is a member of has. It is a member of roles that come before it.
 pub data GoesBy (roles : List Role) : ℕ → ℕ → Type 0 where

@@ -1,6 +1,6 @@
 //! Roles and row policies as plain data (PostgreSQL, CREATE POLICY and role membership).
 use lq_grammar::Expr;
-use lq_language::RightRule;
+use lq_language::{HostName, RightRule};
 use lq_value::{List, TableNumber, Txt};
 
 /// A role that statements run under.
@@ -55,13 +55,16 @@ pub struct Policy {
     pub check: Option<Expr>,
 }
 
-/// Roles, tables by their number in the store, and policies, grants and withholds, each in file order.
+/// Roles, tables by their number in the store, host predicates by their number in the set, and policies, grants and withholds, each in
+/// file order.
 #[derive(Drop)]
 pub struct PolicyParts {
     /// The roles.
     pub roles: List<Role>,
     /// The tables.
     pub tables: List<TablePart>,
+    /// The host predicates, which rights name by their numbers.
+    pub predicates: List<HostName>,
     /// The policies.
     pub policies: List<Policy>,
     /// The rules that grant rights.

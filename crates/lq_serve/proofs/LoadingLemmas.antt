@@ -1,6 +1,6 @@
 -- Tables that come one file after another.
 use Rattle.std.proofs.Common.{◌≡◌, ◌≢◌, ℕ, List, [], ◌∷◌, ◌++◌, Option, Some, None, Result, Ok, Err, IfSome, length, take, map, refl, sym, ◌∙◌, ap, subst, append_assoc, append-nil, arith, get_or}
-use Rattle.std.proofs.Common.{◌<◌, suc, zero, drop, true, false, slice_get}
+use Rattle.std.proofs.Common.{◌<◌, suc, zero, drop, true, false}
 use Rattle.lq_value.specs.Tables.{Table}
 use Rattle.lq_store.specs.Calls.{addition_refusal_of, unless_memory}
 use Rattle.lq_store.specs.declared.error.StoreError.{StoreError}

@@ -5,14 +5,14 @@ use Rattle.std.proofs.KnownBytes.{Appends-nil, Appends-trans, Appends-kept}
 use Rattle.lq_machine.specs.States.{State}
 use Rattle.lq_machine.specs.Output.{joined}
 use Rattle.lq_machine.proofs.OutputLaws.{Runs-more, joined-more, count_of_replies-more, IsCutOff-more, IsCutOff-whole}
-use Rattle.lq_serve.specs.ScriptRun.{LineServed, LineServedInPart, Served, Stopped}
+use Rattle.lq_serve.specs.ScriptRun.{LineServed, LineServedInPart, LinesServed, Stopped}
 use Rattle.lq_serve.specs.declared.script_run.Summary.{Summary}
 
 -- the lines before rest were stepped, and their replies written
 pub record UnderWay (lines rest : List (List ℕ)) (old now : State) (before after : Option (List ℕ)) (summary : Summary) : Type 0 where
   pub front : List (List ℕ)
   pub split : lines ≡ front ++ rest
-  pub so_far : Served front old now before after summary
+  pub so_far : LinesServed front old now before after summary
 
 pub UnderWay-start : (lines : List (List ℕ)) (old : State) (before : Option (List ℕ)) → UnderWay lines lines old old before before (record { lines = 0; replies = 0 })
 UnderWay-start lines old before = record {
@@ -71,10 +71,10 @@ UnderWay-unflushed lines old now before between after summary way kept = record 
 
 -- every line was stepped, and the writer flushed
 pub UnderWay-done : (lines : List (List ℕ)) (old now : State) (before between after : Option (List ℕ)) (summary : Summary)
-    → UnderWay lines [] old now before between summary → Keeps between after → Served lines old now before after summary
+    → UnderWay lines [] old now before between summary → Keeps between after → LinesServed lines old now before after summary
 UnderWay-done lines old now before between after summary way kept =
     let all : lines ≡ way.front = way.split ∙ append-nil way.front in
-    subst (λ l. Served l old now before after summary) (sym all) (record {
+    subst (λ l. LinesServed l old now before after summary) (sym all) (record {
       replies = way.so_far.replies;
       calls = way.so_far.calls;
       run = way.so_far.run;

@@ -2,8 +2,8 @@
 use Rattle.std.specs.Prelude.{◌≡◌, ◌++◌, ℕ, List, Option, IfSome, length}
 use Rattle.std.specs.Str.{IsUtf8}
 use Rattle.std.specs.Io.KnownBytes.{Appends}
+use Rattle.lq_host.specs.declared.call.Call.{Call}
 use Rattle.lq_grammar.specs.Script.{IsInSize, stepped_lines}
-use Rattle.lq_machine.specs.HostCalls.{HostCall}
 use Rattle.lq_machine.specs.Machine.{Reply}
 use Rattle.lq_machine.specs.States.{State}
 use Rattle.lq_machine.specs.Output.{Answers, Runs, bytes_of, joined, one_if_some, count_of_replies, IsCutOff}
@@ -17,9 +17,9 @@ pub record IsScript (known : Option (List ℕ)) (script : List ℕ) : Type 0 whe
   pub utf8 : IsUtf8 script
 
 -- Each line was stepped in order, and their replies were written, whole and nothing else.
-pub record Served (all : List (List ℕ)) (old new : State) (before after : Option (List ℕ)) (summary : Summary) : Type 0 where
+pub record LinesServed (all : List (List ℕ)) (old new : State) (before after : Option (List ℕ)) (summary : Summary) : Type 0 where
   pub replies : List Reply
-  pub calls : List HostCall
+  pub calls : List Call
   pub run : Runs old all replies calls new
   pub written : Appends before after (joined replies)
   pub lines : summary.lines ≡ length all
@@ -31,7 +31,7 @@ pub record Stopped (all : List (List ℕ)) (old new : State) (before after : Opt
   pub rest : List (List ℕ)
   pub split : all ≡ front ++ rest
   pub replies : List Reply
-  pub calls : List HostCall
+  pub calls : List Call
   pub run : Runs old front replies calls new
   pub bytes : List ℕ
   pub cut : IsCutOff replies bytes
@@ -41,7 +41,7 @@ pub record Stopped (all : List (List ℕ)) (old new : State) (before after : Opt
 pub record ServedWhole (known : Option (List ℕ)) (old new : State) (before after : Option (List ℕ)) (summary : Summary) : Type 0 where
   pub script : List ℕ
   pub is_script : IsScript known script
-  pub served : Served (stepped_lines script) old new before after summary
+  pub served : LinesServed (stepped_lines script) old new before after summary
 
 -- The script that the reader had was served until the writer failed.
 pub record ServedInPart (known : Option (List ℕ)) (old new : State) (before after : Option (List ℕ)) : Type 0 where
@@ -60,7 +60,7 @@ IsNoText known = IfSome known (λ all. IsInSize all × ¬ (IsUtf8 all))
 -- One line was stepped, and its reply was written whole.
 pub record LineServed (line : List ℕ) (old new : State) (before after : Option (List ℕ)) (count : ℕ) : Type 0 where
   pub reply : Reply
-  pub calls : List HostCall
+  pub calls : List Call
   pub answer : Answers old line reply calls new
   pub written : Appends before after (bytes_of reply)
   pub counted : count ≡ one_if_some reply
@@ -68,6 +68,6 @@ pub record LineServed (line : List ℕ) (old new : State) (before after : Option
 -- One line was stepped, and a front of its reply was written.
 pub record LineServedInPart (line : List ℕ) (old new : State) (before after : Option (List ℕ)) : Type 0 where
   pub reply : Reply
-  pub calls : List HostCall
+  pub calls : List Call
   pub answer : Answers old line reply calls new
   pub written : AppendsFront before after (bytes_of reply)

@@ -1,7 +1,10 @@
 -- The session that the program starts with: over its tables, under its policies, in its role; or the line of the first fault.
 use Rattle.std.specs.Prelude.{◌≡◌, ◌≢◌, ◌+◌, ◌∷◌, ◌++◌, List, [], ℕ, map, string_bytes, Option, Some, None, IfSome, Result, Ok, Err}
 use Rattle.lq_value.specs.Tables.{Table}
-use Rattle.lq_machine.specs.States.{State}
+use Rattle.lq_host.specs.Predicates.{Predicate}
+use Rattle.lq_language.specs.Worlds.{known_predicates}
+use Rattle.lq_language.specs.declared.host_name.HostName.{HostName}
+use Rattle.lq_machine.specs.States.{State, first_state}
 use Rattle.lq_security.specs.declared.policy.PolicyParts.{PolicyParts}
 use Rattle.lq_options.specs.declared.asked.Options.{Options}
 use Rattle.lq_policy.specs.Roles.{role_number}
@@ -35,10 +38,10 @@ abbrev pub parts_or_fault : Result PolicyParts PolicyFileError → Result Policy
 parts_or_fault (Ok parts) = Ok parts
 parts_or_fault (Err error) = Err (fault_of_policy error)
 
--- the policies for these tables that mean what was read of their file
-abbrev pub policies_read : List Table → Option (List ℕ) → Result PolicyParts FileFault
-policies_read tables None = Err fault.Read
-policies_read tables (Some bytes) = parts_or_fault (policies_in tables bytes)
+-- the policies for these tables and host predicates that mean what was read of their file
+abbrev pub policies_read : List Table → List HostName → Option (List ℕ) → Result PolicyParts FileFault
+policies_read tables hosts None = Err fault.Read
+policies_read tables hosts (Some bytes) = parts_or_fault (policies_in tables hosts bytes)
 
 -- a call gave the policies that are meant, or there was no memory
 abbrev pub GivesPolicies : Result PolicyParts FileFault → Result PolicyParts FileFault → Type 0
@@ -48,17 +51,17 @@ GivesPolicies meant (Err found) = found ≢ fault.Memory → meant ≡ Err found
 -- ---- sessions
 
 -- what the command line asks for
-pub record Asked : Type 0 where
+pub record StartRequest : Type 0 where
   pub role : List ℕ
   pub policy : List ℕ
   pub tables : List (List ℕ)
 
-abbrev pub asked_by : Options → Asked
+abbrev pub asked_by : Options → StartRequest
 asked_by options = record { role = string_bytes options.role; policy = string_bytes options.policy; tables = map string_bytes options.tables.items }
 
 -- The tables were loaded, after them the policy file was read, and it gave this: its first bytes, or nothing where it can't be
 -- read. These were all the reads.
-pub record Reads (holds : List ℕ → Option (Option (List ℕ))) (before after : Option (List FileRead)) (asked : Asked) (tables : List Table)
+pub record Reads (holds : List ℕ → Option (Option (List ℕ))) (before after : Option (List FileRead)) (asked : StartRequest) (tables : List Table)
     (gave : Option (List ℕ)) : Type 0 where
   pub visits : List Visit
   pub named : map (λ visit. visit.file) visits ≡ asked.tables
@@ -67,29 +70,32 @@ pub record Reads (holds : List ℕ → Option (Option (List ℕ))) (before after
   pub agrees : IfSome (holds asked.policy) (λ there. gave ≡ first_bytes policy_read_limit there)
   pub read : Adds before after (readings_of visits ++ record { file = asked.policy; limit = policy_read_limit; gave = gave } ∷ [])
 
--- Everything was read and fine, and the session is in its first state.
-pub record Started (holds : List ℕ → Option (Option (List ℕ))) (before after : Option (List FileRead)) (asked : Asked) (state : State) : Type 0 where
+-- Everything was read and fine, and the session is in its first state, with these host predicates.
+pub record Started (holds : List ℕ → Option (Option (List ℕ))) (before after : Option (List FileRead)) (asked : StartRequest) (predicates : List Predicate)
+    (state : State) : Type 0 where
   pub tables : List Table
   pub gave : Option (List ℕ)
   pub reads : Reads holds before after asked tables gave
   pub policies : PolicyParts
-  pub meant : policies_read tables gave ≡ Ok policies
+  pub meant : policies_read tables (known_predicates predicates) gave ≡ Ok policies
   pub role : ℕ
   pub found : role_number policies asked.role ≡ Some role
-  pub first : state ≡ record { tables = tables; policies = policies; role = role; definitions = [] }
+  pub first : state ≡ first_state tables policies predicates role
 
 -- The line reports the first fault: of a table, then of the policies, then of the role.
-pub data StartRefused (holds : List ℕ → Option (Option (List ℕ))) (before after : Option (List FileRead)) (asked : Asked) (line : List ℕ) : Type 0 where
-  of_table : Refused holds before after asked.tables line → StartRefused holds before after asked line
+pub data StartRefused (holds : List ℕ → Option (Option (List ℕ))) (before after : Option (List FileRead)) (asked : StartRequest) (predicates : List Predicate)
+    (line : List ℕ) : Type 0 where
+  of_table : Refused holds before after asked.tables line → StartRefused holds before after asked predicates line
   of_policies : (tables : List Table) (gave : Option (List ℕ)) → Reads holds before after asked tables gave
-      → (found : FileFault) → policies_read tables gave ≡ Err found → line ≡ fault_line asked.policy found → StartRefused holds before after asked line
+      → (found : FileFault) → policies_read tables (known_predicates predicates) gave ≡ Err found → line ≡ fault_line asked.policy found
+      → StartRefused holds before after asked predicates line
   of_role : (tables : List Table) (gave : Option (List ℕ)) → Reads holds before after asked tables gave
-      → (policies : PolicyParts) → policies_read tables gave ≡ Ok policies → role_number policies asked.role ≡ None
-      → line ≡ fault_line asked.role fault.Role → StartRefused holds before after asked line
+      → (policies : PolicyParts) → policies_read tables (known_predicates predicates) gave ≡ Ok policies → role_number policies asked.role ≡ None
+      → line ≡ fault_line asked.role fault.Role → StartRefused holds before after asked predicates line
 
 -- There was no memory to go on. Some first tables were visited; the policy file was read, if at all, after all of them; and no
 -- other file was.
-pub record GivenUp (holds : List ℕ → Option (Option (List ℕ))) (before after : Option (List FileRead)) (asked : Asked) : Type 0 where
+pub record GivenUp (holds : List ℕ → Option (Option (List ℕ))) (before after : Option (List FileRead)) (asked : StartRequest) : Type 0 where
   pub visits : List Visit
   pub unseen : List (List ℕ)
   pub named : asked.tables ≡ map (λ visit. visit.file) visits ++ unseen
@@ -99,6 +105,6 @@ pub record GivenUp (holds : List ℕ → Option (Option (List ℕ))) (before aft
   pub in_order : unseen ≢ [] → AddsFront before after (readings_of visits)
 
 -- why there is no session
-abbrev pub NotStarted : (List ℕ → Option (Option (List ℕ))) → Option (List FileRead) → Option (List FileRead) → Asked → StartError → Type 0
-NotStarted holds before after asked start.Memory = GivenUp holds before after asked
-NotStarted holds before after asked (start.Refused line) = StartRefused holds before after asked line
+abbrev pub NotStarted : (List ℕ → Option (Option (List ℕ))) → Option (List FileRead) → Option (List FileRead) → StartRequest → List Predicate → StartError → Type 0
+NotStarted holds before after asked predicates start.Memory = GivenUp holds before after asked
+NotStarted holds before after asked predicates (start.Refused line) = StartRefused holds before after asked predicates line

@@ -3,7 +3,7 @@ ghost use Rattle.std.specs.Prelude.{◌≡◌, ◌≢◌, ◌+◌, ◌≤◌, �
 ghost use Rattle.lq_grammar.specs.Script.{lines_of, script_limit};
 ghost use Rattle.lq_session.specs.States.{state_of};
 ghost use Rattle.lq_serve.specs.Devices.{inner_of, read_count, late_count, late_count_next, is_ended, is_failed, TakesAtMost};
-ghost use Rattle.lq_serve.specs.ScriptRun.{IsNoText, IsTooLong, LineServed, LineServedInPart, Served, ServedInPart, ServedWhole, Stopped};
+ghost use Rattle.lq_serve.specs.ScriptRun.{IsNoText, IsTooLong, LineServed, LineServedInPart, LinesServed, ServedInPart, ServedWhole, Stopped};
 
 use crate::device::Device;
 use crate::script_bytes::{SCRIPT_LIMIT, fits, read_script};
@@ -93,7 +93,7 @@ fn serve_text<W: Write>(
     requires small { length text.now ≤ script_limit }
     requires writer { is_failed writer.old ≡ false }
     ensures ok { IfOk result (λ summary.
-        Served (lines_of text.now) (state_of session.old) (state_of session.new)
+        LinesServed (lines_of text.now) (state_of session.old) (state_of session.new)
         (W.contents (inner_of writer.old)) (W.contents (inner_of writer.new)) summary) }
     ensures err { OnErr result (Stopped (lines_of text.now) (state_of session.old)
         (state_of session.new)

@@ -9,24 +9,27 @@ use Rattle.lq_value.specs.declared.value.End.{End}
 use Rattle.lq_value.specs.declared.value.End.TheVariants as end
 use Rattle.lq_value.specs.declared.value.Fault.{Fault}
 use Rattle.lq_store.specs.Calls.{count_listed, is_listed, without_rows}
+use Rattle.lq_host.specs.Predicates.{Predicate}
 use Rattle.lq_security.specs.Rights.{Denied, denial}
 use Rattle.lq_machine.specs.DefinitionLaws.{AreDefined}
 use Rattle.lq_machine.specs.Served.{deleted_data, error_data, fault_data, line_of}
-use Rattle.lq_machine.specs.States.{State, names_in, schemas_of}
+use Rattle.lq_machine.specs.States.{State, host_names, names_in, schemas_of}
 use Rattle.lq_machine.specs.Statements.{Outcome, allowed_by, removed_items, deleted, if_allowed, refused, rows_of, rows_of_named, rows_removed, with_table, without}
 use Rattle.lq_language.specs.ClauseTyping.{expression_type}
 use Rattle.lq_language.specs.Names.{Names, table_number, with_local}
 use Rattle.lq_language.specs.OperandTypes.{is_bool, is_bool_type}
+use Rattle.lq_language.specs.Mentions.{uses_of}
 use Rattle.lq_language.specs.Uses.{expression_uses}
 use Rattle.lq_language.specs.TableRows.{TableRow}
 use Rattle.lq_language.specs.declared.rights.Use.{Use}
 use Rattle.lq_language.specs.declared.rights.Use.TheVariants as used
 use Rattle.lq_grammar.specs.declared.syntax.Expr.{Expr}
+use Rattle.lq_run.specs.States.{SessionState, state_with}
 use Rattle.lq_run.specs.Statements.{FindsTree, HasRights, condition_in}
 use Rattle.lq_run.specs.Stops.{Stops, StopsWith}
 use Rattle.lq_run.specs.declared.stop.Stop.{Stop}
 use Rattle.lq_run.proofs.StopLaws.{same_stop, stops_denied, stops_refused, stops_with}
-use Rattle.lq_tree.specs.UsesOfForms.{form_uses}
+use Rattle.lq_use.specs.FormRights.{form_rights}
 use Rattle.lq_tree.specs.declared.tree.Tree.{Tree}
 use Rattle.lq_session.specs.Performed.{Performs}
 use Rattle.lq_session.proofs.ConditionLemmas.{condition_is, no_condition_type, uses_same}
@@ -54,6 +57,24 @@ module _ (s : State) (n : ℕ) (table : Table) (gone : List TableRow) (ending : 
         gone_there.1 ∙ ap (λ (ns : List ℕ). with_table s n (without_rows table ns)) are ∙ ap (with_table s n) (without_same s table gone),
       )
 
+-- what is removed of a session's tables is removed of the machine's
+pub removed_with : (predicates : List Predicate) (old new : SessionState) (n count : ℕ) (numbers : List ℕ) (o : Option Table)
+    → IfSome o (λ t. (count ≡ count_listed t numbers) × (new ≡ record old { tables = set old.tables n (without_rows t numbers) }))
+    → IfSome o (λ t. (count ≡ count_listed t numbers)
+    × (state_with predicates new ≡ state_with predicates (record old { tables = set old.tables n (without_rows t numbers) })))
+removed_with predicates old new n count numbers None gone = gone
+removed_with predicates old new n count numbers (Some t) gone = (gone.0, ap (state_with predicates) gone.1)
+
+-- and the session knows the same host predicates after it
+pub kept_hosts : (old new : SessionState) (n count : ℕ) (numbers : List ℕ) (table : Table) → slice_get old.tables n ≡ Some table
+    → IfSome (slice_get old.tables n) (λ t. (count ≡ count_listed t numbers) × (new ≡ record old { tables = set old.tables n (without_rows t numbers) }))
+    → new.policies.predicates ≡ old.policies.predicates
+kept_hosts old new n count numbers table at gone =
+    let there : (count ≡ count_listed table numbers) × (new ≡ record old { tables = set old.tables n (without_rows table numbers) }) =
+    subst (λ (o : Option Table). IfSome o (λ t. (count ≡ count_listed t numbers) × (new ≡ record old { tables = set old.tables n (without_rows t numbers) })))
+    at gone in
+    ap (λ (s : SessionState). s.policies.predicates) there.1
+
 -- ---- the parts of a deletion, one after the other
 
 module _ (s : State) (name x : List ℕ) (e : Expr) (n : ℕ) (table : Table) (number : table_number name (schemas_of s.tables) ≡ Some n)
@@ -64,7 +85,7 @@ module _ (s : State) (name x : List ℕ) (e : Expr) (n : ℕ) (table : Table) (n
   abbrev by_type : Bool → Outcome
   by_type b =
       if b
-      then if_allowed s (used.Delete n ∷ expression_uses e names) (rows_removed s n table (removed_items s x e n table.rows).0 (removed_items s x e n table.rows).1)
+      then if_allowed s (used.Delete n ∷ uses_of (expression_uses e names)) (rows_removed s n table (removed_items s x e n table.rows).0 (removed_items s x e n table.rows).1)
       else refused s (codes "type")
 
   of_type : (b : Bool) → is_bool_type (expression_type e (with_local (names_in s) x (ty.Row n))) ≡ b → deleted s name x e ≡ by_type b
@@ -80,8 +101,8 @@ module _ (s : State) (name x : List ℕ) (e : Expr) (n : ℕ) (table : Table) (n
     no_condition why isnt so =
         stops_with s (error_data (codes "type")) (deleted s name x e) why (of_type false (condition_is s x n e tree is b false t same tells isnt)) so
 
-    module _ (condition : b ≡ true) (defined : AreDefined (schemas_of s.tables) s.definitions) (uses : List Use)
-        (are : uses ≡ used.Delete n ∷ (form_uses tree.form ++ [])) where
+    module _ (condition : b ≡ true) (defined : AreDefined (schemas_of s.tables) (host_names s) s.definitions) (uses : List Use)
+        (are : uses ≡ used.Delete n ∷ (form_rights tree.form ++ [])) where
       allowed_as : deleted s name x e ≡ if_allowed s uses (rows_removed s n table (removed_items s x e n table.rows).0 (removed_items s x e n table.rows).1)
       allowed_as =
           of_type true (condition_is s x n e tree is b true t same tells condition)

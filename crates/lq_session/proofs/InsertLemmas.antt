@@ -16,7 +16,7 @@ use Rattle.lq_store.specs.declared.error.StoreError.TheVariants.{Arity, CellType
 use Rattle.lq_security.specs.Rights.{Denied, denial}
 use Rattle.lq_security.specs.Visible.{refuser_of}
 use Rattle.lq_machine.specs.Served.{denied_data, error_data, inserted_data, line_of}
-use Rattle.lq_machine.specs.States.{State, schemas_of}
+use Rattle.lq_machine.specs.States.{State, host_names, schemas_of}
 use Rattle.lq_machine.specs.Statements.{Outcome, allowed_by, are_of_columns, are_within_ranges, if_allowed, inserted, is_of_column, is_within_range, refused, row_checked, row_for, row_for_named, row_within, with_row, with_table}
 use Rattle.lq_language.specs.Names.{table_number}
 use Rattle.lq_language.specs.declared.rights.Use.TheVariants as used
@@ -166,7 +166,7 @@ stays old new n cells refused table at inserts =
 
 -- the rule that keeps a row out
 pub keeps_out : (s : State) (n : ℕ) (cells : List Scalar) (rule : List ℕ) (why : Stop) → refuser_of s.policies s.role n cells ≡ Some rule
-    → StopsWith (denied_data (schemas_of s.tables) rule (used.Insert n)) why → ChecksRow s n cells (Err why)
+    → StopsWith (denied_data (schemas_of s.tables) (host_names s) rule (used.Insert n)) why → ChecksRow s n cells (Err why)
 keeps_out s n cells rule why is so table =
-    stops_with s (denied_data (schemas_of s.tables) rule (used.Insert n)) (row_checked s n table cells (refuser_of s.policies s.role n cells)) why
+    stops_with s (denied_data (schemas_of s.tables) (host_names s) rule (used.Insert n)) (row_checked s n table cells (refuser_of s.policies s.role n cells)) why
     (ap (row_checked s n table cells) is) so

@@ -21,6 +21,15 @@ use Rattle.lq_session.proofs.VariableLemmas.{no_type, type_of}
 
 -- ---- statements
 
+-- a statement other than `run` serves nothing
+pub serves_only_runs : (s : State) (x : Statement) → ((e : Expr) → x ≡ statement.Run e → ⊥) → statement_type s x ≡ None
+serves_only_runs s (statement.Run e) other = absurd (other e refl)
+serves_only_runs s (statement.Define name e) other = refl
+serves_only_runs s (statement.Assign name e) other = refl
+serves_only_runs s (statement.As name) other = refl
+serves_only_runs s (statement.Insert name cells) other = refl
+serves_only_runs s (statement.Delete name row e) other = refl
+
 -- none is served of what opens too much, nor of a statement that serves none
 within_none : (past : Bool) (t : Option Ty) → t ≡ None → None ≡ (if past then None else t)
 within_none true t is = refl

@@ -1,6 +1,8 @@
 -- From what a statement's calls give to the machine's step.
 use Rattle.std.proofs.Common.{◌≡◌, ◌∷◌, List, [], ℕ, Bool, true, false, if◌then◌else◌, Option, Some, None, IsSome, Ok, Err, ap, ap₂, ◌∙◌, sym, refl, codes}
 use Rattle.std.proofs.lemmas.Option.{none-some, same_Some}
+use Rattle.lq_language.proofs.ItemLaws.{every_none}
+use Rattle.lq_machine.specs.HostCalls.{IsAllowed, MayCall, line_named}
 use Rattle.lq_machine.specs.Machine.{Reply, perform, replied, step, step_by}
 use Rattle.lq_machine.specs.Opening.{is_past_opening, opening_of}
 use Rattle.lq_machine.specs.Output.{Answers, as_machine}
@@ -96,11 +98,15 @@ module _ (old : State) (line : List ℕ) where
 
   -- ---- steps that the session answers
 
+  -- no call is logged
+  pub no_calls : MayCall old line []
+  no_calls = every_none (IsAllowed old (line_named old line))
+
   pub answers_blank : tokens_of line ≡ Some [] → Answers old line None [] old
-  answers_blank h = as_machine (blank_step h) refl
+  answers_blank h = as_machine (blank_step h) no_calls
 
   pub answers_stepped : (new : State) (reply : Reply) → Steps (step old line) old (Ok reply) new → Answers old line reply [] new
-  answers_stepped new reply h = as_machine (ap₂ (λ (r : Reply) (s : State). (r, s)) h.0 h.1) refl
+  answers_stepped new reply h = as_machine (ap₂ (λ (r : Reply) (s : State). (r, s)) h.0 h.1) no_calls
 
   pub answers_stopped : (new : State) (reply : List ℕ) → Steps (step old line) old (Err (stop.Answer reply)) new → Answers old line (Some reply) [] new
-  answers_stopped new reply h = as_machine (ap₂ (λ (r : Reply) (s : State). (r, s)) h.0 (h.2 ∙ h.1)) refl
+  answers_stopped new reply h = as_machine (ap₂ (λ (r : Reply) (s : State). (r, s)) h.0 (h.2 ∙ h.1)) no_calls

@@ -11,7 +11,7 @@ use Rattle.lq_language.specs.ClauseTyping.{expression_type}
 use Rattle.lq_machine.specs.DefinitionLaws.{IsNew}
 use Rattle.lq_machine.specs.Definitions.{definition_of, known_after, known_names}
 use Rattle.lq_machine.specs.Served.{assigned_data, defined_data, error_data, line_of}
-use Rattle.lq_machine.specs.States.{State, names_in, schemas_of}
+use Rattle.lq_machine.specs.States.{State, host_names, names_in, schemas_of}
 use Rattle.lq_machine.specs.Statements.{Outcome, assigned, assigning, defined, defined_as, defined_by, defining_also, evaluated, is_taken, refused}
 use Rattle.lq_language.specs.Names.{table_number}
 use Rattle.lq_language.specs.OperandTypes.{is_scalar, item_of}
@@ -26,7 +26,7 @@ use Rattle.lq_machine.proofs.StatementLaws.{assigned_other, assigned_query, assi
 use Rattle.lq_language.proofs.ValueLaws.{is_plain}
 use Rattle.lq_tree.specs.declared.tree.Tree.{Tree}
 use Rattle.lq_tree.proofs.SessionPlaceLaws.{types_of_statements}
-use Rattle.lq_run.specs.States.{Assigns, IsValueFor}
+use Rattle.lq_run.specs.States.{IsValueFor}
 use Rattle.lq_run.specs.Statements.{EvaluatesTree, FindsTree, is_of_scalars, tree_in}
 use Rattle.lq_run.specs.Stops.{Stops, StopsWith}
 use Rattle.lq_run.specs.declared.stop.Stop.{Stop}
@@ -39,12 +39,12 @@ use Rattle.lq_session.specs.Variables.{DefinesBy, type_if_variable, variable_typ
 module _ (s : State) (name : List ℕ) where
   -- a name that isn't taken is new
   new_by : (o : Option ℕ) (p : Option Definition) → table_number name (schemas_of s.tables) ≡ o → definition_of name s.definitions ≡ p → (is_some o || is_some p) ≡ false
-      → IsNew (schemas_of s.tables) (known_after (schemas_of s.tables) [] s.definitions) name
-  new_by None None table definition free = (table, unknown_name name (schemas_of s.tables) [] s.definitions refl definition)
+      → IsNew (schemas_of s.tables) (known_after (schemas_of s.tables) (host_names s) [] s.definitions) name
+  new_by None None table definition free = (table, unknown_name name (schemas_of s.tables) (host_names s) [] s.definitions refl definition)
   new_by None (Some d) table definition free = absurd (true≢false free)
   new_by (Some n) p table definition free = absurd (true≢false free)
 
-  pub is_new : is_taken s name ≡ false → IsNew (schemas_of s.tables) (known_names (schemas_of s.tables) s.definitions) name
+  pub is_new : is_taken s name ≡ false → IsNew (schemas_of s.tables) (known_names (schemas_of s.tables) (host_names s) s.definitions) name
   unfolding known_names
   is_new free = new_by (table_number name (schemas_of s.tables)) (definition_of name s.definitions) refl refl free
 
@@ -53,10 +53,10 @@ module _ (s : State) (name : List ℕ) where
 module _ (s : State) (e : Expr) where
   -- an expression has a tree exactly where it has a type, which is the tree's
   pub no_type : tree_in s e ≡ None → expression_type e (names_in s) ≡ None
-  no_type none = sym (types_of_statements (schemas_of s.tables) s.definitions e) ∙ ap (option_map (λ (tree : Tree). tree.ty)) none
+  no_type none = sym (types_of_statements (schemas_of s.tables) (host_names s) s.definitions e) ∙ ap (option_map (λ (tree : Tree). tree.ty)) none
 
   pub type_of : (tree : Tree) → tree_in s e ≡ Some tree → expression_type e (names_in s) ≡ Some tree.ty
-  type_of tree is = sym (types_of_statements (schemas_of s.tables) s.definitions e) ∙ ap (option_map (λ (t : Tree). t.ty)) is
+  type_of tree is = sym (types_of_statements (schemas_of s.tables) (host_names s) s.definitions e) ∙ ap (option_map (λ (t : Tree). t.ty)) is
 
 -- ---- names that are taken
 
@@ -167,7 +167,7 @@ module _ (s : State) (name : List ℕ) where
     )
     by (of.Query e opened) at h = absurd (none-some t h)
 
-  pub variable_found : (t : Ty) → variable_type s name ≡ Some t
+  pub variable_found : (t : Ty) → variable_type s.definitions name ≡ Some t
       → (before : Scalar) × (definition_of name s.definitions ≡ Some (record { name = name; defined = of.Variable t before }))
   variable_found t is = variable_by t (definition_of name s.definitions) refl is
 
@@ -181,11 +181,11 @@ module _ (s : State) (name : List ℕ) where
       by (of.Query query opened) at h = assigned_query s name e d found query opened at
 
     -- no variable has the name
-    pub unassigned : (why : Stop) → variable_type s name ≡ None → StopsWith (error_data (codes "type")) why → Stops s (assigned s name e) why
+    pub unassigned : (why : Stop) → variable_type s.definitions name ≡ None → StopsWith (error_data (codes "type")) why → Stops s (assigned s name e) why
     unassigned why is so =
         stops_with s (error_data (codes "type")) (assigned s name e) why (unassigned_by (definition_of name s.definitions) refl is) so
 
-    module _ (t : Ty) (is : variable_type s name ≡ Some t) where
+    module _ (t : Ty) (is : variable_type s.definitions name ≡ Some t) where
       abbrev variable : Definition
       variable = record { name = name; defined = of.Variable t (variable_found t is).0 }
 
@@ -222,10 +222,8 @@ module _ (s : State) (name : List ℕ) where
               pub value_for : IsValueFor s.definitions name v
               value_for = (t, (variable_found t is).0, (variable_found t is).1, (converted tree.ty t scalar place).fits v (evaluates e bound).1)
 
-              pub assigns_value : (line : List ℕ) (new : State) → line ≡ line_of (assigned_data name) → Assigns s name v new
+              pub assigns_value : (line : List ℕ) (new : State) → line ≡ line_of (assigned_data name) → new ≡ assigning s name t v
                   → Performs (assigned s name e) s (Ok line) new
               assigns_value line new so gives =
-                  let same = sym (assigned_of ∙ (evaluates e bound).0 (λ w. (assigned_data name, assigning s name t w))) in (
-                    so ∙ ap (λ (o : Outcome). line_of o.0) same,
-                    gives t (variable_found t is).0 (variable_found t is).1 ∙ ap (λ (o : Outcome). o.1) same,
-                  )
+                  let same = sym (assigned_of ∙ (evaluates e bound).0 (λ w. (assigned_data name, assigning s name t w))) in
+                  (so ∙ ap (λ (o : Outcome). line_of o.0) same, gives ∙ ap (λ (o : Outcome). o.1) same)

@@ -2,11 +2,13 @@
 ghost use Rattle.std.specs.Prelude.{◌≡◌, false};
 ghost use Rattle.lq_machine.specs.Opening.{is_past_opening};
 ghost use Rattle.lq_machine.specs.Statements.{deleted, inserted};
-ghost use Rattle.lq_session.specs.Performed.{Performs};
+ghost use Rattle.lq_run.specs.States.{AreKnown, HoldsOf, state_with};
+ghost use Rattle.lq_session.specs.Performed.{PerformsWith, PerformsWithAny};
 ghost use Rattle.lq_session.specs.Rows.{ChecksRow, is_full, is_typed, is_within};
 
 use crate::replies::reply;
 use lq_grammar::Expr;
+use lq_host::Asks;
 use lq_json::{Line, Reply};
 use lq_machine::Opened;
 use lq_policy::Use;
@@ -20,11 +22,14 @@ use std::alloc::Global;
 
 /// `Ok` exactly where no policy keeps a new row from the session's role; else stops with the denial by the rule that does.
 fn check_row(alloc: Global, table: TableNumber, cells: &[Scalar], state: &State) -> Result<(), Stop>
-    ensures { ChecksRow state.now table cells.now result }
+    ensures { HoldsOf state.now (λ s. ChecksRow s table cells.now result) }
 {
     match state.policies().check(state.role(), table, cells) {
         Ok(()) => Ok(()),
-        Err(rule) => Err(denial(alloc, state.store(), rule, Use::Insert(table))),
+        Err(rule) => {
+            let used = Use::Insert(table);
+            Err(denial(alloc, state.store(), state.hosts(), rule, used))
+        }
     }
 }
 
@@ -62,7 +67,9 @@ pub(crate) fn insert(
     cells: Vec<Scalar>,
     state: &mut State,
 ) -> Result<Line, Stop>
-    ensures { Performs (inserted state.old name.now cells.items) state.old result state.new }
+    ensures performs { PerformsWithAny (λ s. inserted s name.now cells.items) state.old result
+        state.new }
+    ensures hosts { state.new.policies.predicates ≡ state.old.policies.predicates }
 {
     let Some(table) = state.store().find(name) else {
         return Err(refusal(alloc, "type"));
@@ -89,17 +96,21 @@ pub(crate) fn insert(
 /// Removes the rows of the table of this name on which a condition is true, of those that the role may remove. It is
 /// refused as `type` where there is no such table, or the condition isn't a truth value; then it is denied
 /// where the role has no right to remove rows there, or to what the condition uses. A fault removes none.
-pub(crate) fn delete(
+pub(crate) fn delete<H: Asks>(
     alloc: Global,
     name: &str,
     row: &Txt,
     condition: &Expr,
     opened: Opened,
     state: &mut State,
+    hosts: &H,
 ) -> Result<Line, Stop>
-    requires { is_past_opening opened ≡ false }
-    ensures { Performs (deleted state.old name.now row.now condition.now) state.old result
-        state.new }
+    requires within { is_past_opening opened ≡ false }
+    requires known { AreKnown (H.known hosts.now) state.old }
+    ensures performs { PerformsWith (H.known hosts.now)
+        (deleted (state_with (H.known hosts.now) state.old) name.now row.now condition.now)
+        state.old result state.new }
+    ensures hosts { state.new.policies.predicates ≡ state.old.policies.predicates }
 {
     let Some(table) = state.store().find(name) else {
         return Err(refusal(alloc, "type"));
@@ -111,7 +122,7 @@ pub(crate) fn delete(
     let mut used = uses(alloc, &tree, state.store(), false)?;
     used.insert(0, Use::Delete(table))?;
     check_rights(alloc, used.as_slice(), state)?;
-    let (numbers, end) = chosen_rows(alloc, table, &tree, state)?;
+    let (numbers, end) = chosen_rows(alloc, table, &tree, state, hosts)?;
     match end {
         End::Fault(met) => Err(fault(alloc, met)),
         End::Done => {

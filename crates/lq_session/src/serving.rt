@@ -3,6 +3,7 @@ ghost use Rattle.std.specs.Prelude.{◌≡◌, Some, IfOk};
 ghost use Rattle.lq_value.specs.declared.ty.Ty.{out-Ty};
 ghost use Rattle.lq_language.specs.Types.{has_place, when};
 ghost use Rattle.lq_machine.specs.ServedTypes.{line_type};
+ghost use Rattle.lq_run.specs.States.{HoldsOf};
 ghost use Rattle.lq_session.specs.ServedTypes.{ServesLine};
 
 use crate::lines::{opening_of, statement_of, tokens_of};
@@ -27,7 +28,7 @@ fn placed_type(alloc: Global, given: &Ty) -> Result<Option<Ty>, AllocError>
 
 /// The type that a line is served by, where nothing stops its statement before it is served.
 fn type_of_run(alloc: Global, line: &str, state: &State) -> Result<Option<Ty>, Stop>
-    ensures { ServesLine state.now line.now result }
+    ensures { HoldsOf state.now (λ s. ServesLine s line.now result) }
 {
     let tokens = tokens_of(alloc, line)?;
     let Some(statement) = statement_of(alloc, line, &tokens)? else {
@@ -49,7 +50,7 @@ pub(crate) fn type_of_line(
     line: &str,
     state: &State,
 ) -> Result<Option<Ty>, AllocError>
-    ensures { IfOk result (λ ty. ty ≡ line_type state.now line.now) }
+    ensures { IfOk result (λ ty. HoldsOf state.now (λ s. ty ≡ line_type s line.now)) }
 {
     match type_of_run(alloc, line, state) {
         Ok(served_type) => Ok(served_type),

@@ -1,9 +1,11 @@
 //! The session and its step.
-ghost use Rattle.lq_policy.specs.Roles.{number_of};
+ghost use Rattle.lq_host.specs.Hosts.{predicates_of};
+ghost use Rattle.lq_run.specs.States.{AreKnown, AreKnown-prop};
 
 use crate::lines::{opening_of, statement_of, tokens_of};
 use crate::serving::type_of_line;
 use crate::statements::perform;
+use lq_host::HostSet;
 use lq_json::Line;
 use lq_lex::is_blank;
 use lq_policy::{Policies, RoleId};
@@ -12,35 +14,46 @@ use lq_store::Store;
 use lq_value::Ty;
 use std::alloc::{AllocError, Global};
 
-/// A session: the tables that its statements work on, the policies for them, the role that it
-/// has, and what it has defined.
+/// A session: the tables that its statements work on, the policies for them, the host predicates that
+/// its statements may ask, the role that it has, and what it has defined.
 #[derive(Drop)]
 pub struct Session {
     alloc: Global,
     state: State,
+    hosts: HostSet,
+    ghost known: { AreKnown (predicates_of hosts.predicates) state } by { AreKnown-prop _ state },
 }
 
 impl Session {
-    ghost use Rattle.std.specs.Prelude.{◌≡◌, [], IfOk};
+    ghost use Rattle.std.specs.Prelude.{◌≡◌, ◌<◌, [], IfOk};
+    ghost use Rattle.lq_host.specs.Hosts.{hosts_of};
+    ghost use Rattle.lq_language.specs.Worlds.{known_predicates};
+    ghost use Rattle.lq_policy.specs.Roles.{number_of};
     ghost use Rattle.lq_machine.specs.Machine.{step};
+    ghost use Rattle.lq_machine.specs.States.{first_state};
     ghost use Rattle.lq_machine.specs.Output.{Answers};
     ghost use Rattle.lq_session.specs.Performed.{Steps};
     ghost use Rattle.lq_machine.specs.ServedTypes.{line_type};
-    ghost use Rattle.lq_session.specs.States.{state_of};
+    ghost use Rattle.lq_session.specs.States.{hosts_in, session_state, state_of};
 
-    /// The first state of a session over these tables, with these policies, under this role. No name is
-    /// defined. Takes no memory.
-    pub fn new(alloc: Global, store: Store, policies: Policies, role: RoleId) -> Session
-        ensures { state_of result ≡ record {
-          tables = store;
-          policies = policies;
-          role = number_of role;
-          definitions = [];
-        } }
+    /// The first state of a session over these tables, with these policies and host predicates, under
+    /// this role. The policies were read for these predicates. No name is defined. Takes no memory.
+    pub fn new(
+        alloc: Global,
+        store: Store,
+        policies: Policies,
+        hosts: HostSet,
+        role: RoleId,
+    ) -> Session
+        requires { known_predicates (hosts_of hosts).predicates ≡ policies.predicates }
+        ensures state { state_of result
+            ≡ first_state store policies (hosts_of hosts).predicates (number_of role) }
+        ensures hosts { hosts_in result ≡ hosts_of hosts }
     {
         Session {
             alloc,
             state: State::new(alloc, store, policies, role),
+            hosts,
         }
     }
 
@@ -51,9 +64,16 @@ impl Session {
         self.state.store()
     }
 
-    /// The state of the session as it is now.
+    /// The host predicates, and the log of their calls. No line changes the predicates.
+    pub fn hosts(&self) -> &HostSet
+        ensures { hosts_of result.now ≡ hosts_in self.now }
+    {
+        &self.hosts
+    }
+
+    /// The state of the session as it is now, the host predicates aside.
     pub fn state(&self) -> &State
-        ensures { result.now ≡ state_of self.now }
+        ensures { result.now ≡ session_state self.now }
     {
         &self.state
     }
@@ -68,10 +88,14 @@ impl Session {
     }
 
     /// Answers one line of a script: a step of the session machine, or the memory line in place
-    /// of its reply, which leaves the session as it was. No line asks a host. A line without a token has no reply, and
-    /// one of more than 65,536 bytes is refused as `syntax`.
+    /// of its reply, which leaves the session as it was. The calls of host predicates that a line makes aren't logged. A line
+    /// without a token has no reply, and one of more than 65,536 bytes is refused as `syntax`.
     #[tactic(auto, using(crate::proofs::StepLemmas::answers_blank))]
     pub fn step(&mut self, line: &str) -> Option<Line>
+        // This is always so. Without a condition, the proof of a caller in another crate would have to allow
+        // that a step puts a closure of its own into the session.
+        requires { 0 < 1 }
+
         ensures { Answers (state_of self.old) line.now result [] (state_of self.new) }
     {
         if is_blank(line) {
@@ -95,6 +119,7 @@ impl Session {
             return Ok(None);
         };
         let opened = opening_of(self.alloc, line, &tokens, &self.state)?;
-        Ok(Some(perform(self.alloc, statement, opened, &mut self.state)?))
+        let hosts = &self.hosts.predicates;
+        Ok(Some(perform(self.alloc, statement, opened, &mut self.state, hosts)?))
     }
 }

@@ -5,13 +5,15 @@ ghost use Rattle.lq_value.specs.declared.ty.Ty.{out-Ty};
 ghost use Rattle.lq_machine.specs.Opening.{is_past_opening};
 ghost use Rattle.lq_machine.specs.Statements.{assigned, defined, is_taken};
 ghost use Rattle.lq_language.specs.OperandTypes.{is_scalar};
+ghost use Rattle.lq_run.specs.States.{AreKnown, state_with, without_hosts};
 ghost use Rattle.lq_run.specs.Statements.{tree_in};
-ghost use Rattle.lq_session.specs.Performed.{Performs};
+ghost use Rattle.lq_session.specs.Performed.{PerformsWith};
 ghost use Rattle.lq_session.specs.Variables.{DefinesBy, variable_type};
 
 use crate::opening::definition_of;
 use crate::replies::reply;
 use lq_grammar::Expr;
+use lq_host::Asks;
 use lq_json::{Line, Reply};
 use lq_machine::{Defined, Opened};
 use lq_run::{State, Stop, evaluate_scalar, refusal, tree_of};
@@ -22,7 +24,7 @@ use std::alloc::Global;
 
 /// Whether a name is taken by a table, a variable or a named query.
 fn is_taken(name: &str, state: &State) -> bool
-    ensures { result ≡ is_taken state.now name.now }
+    ensures { result ≡ is_taken (without_hosts state.now) name.now }
 {
     state.store().find(name).is_some()
         || definition_of(state.definitions(), name.as_bytes()).is_some()
@@ -30,20 +32,22 @@ fn is_taken(name: &str, state: &State) -> bool
 
 /// What a name is defined as by an expression that has this tree: a named query where its type is a sequence's, and a variable with the
 /// value that it has now where it is a scalar's; refused as `type` where it is another one. A denial or a fault stops the statement.
-fn definition_by(
+fn definition_by<H: Asks>(
     alloc: Global,
     expr: Expr,
     tree: Tree,
     opened: Opened,
     state: &State,
+    hosts: &H,
 ) -> Result<Defined, Stop>
-    requires { tree_in state.now expr ≡ Some tree }
-    ensures { DefinesBy state.now opened expr tree result }
+    requires bound { tree_in (state_with (H.known hosts.now) state.now) expr ≡ Some tree }
+    requires known { AreKnown (H.known hosts.now) state.now }
+    ensures { DefinesBy (state_with (H.known hosts.now) state.now) opened expr tree result }
 {
     match ty(&tree) {
         Ty::Seq(_) => Ok(Defined::Query(expr, opened)),
         Ty::Int | Ty::IntN | Ty::Bool | Ty::Str => {
-            let value = evaluate_scalar(alloc, &tree, state)?;
+            let value = evaluate_scalar(alloc, &tree, state, hosts)?;
             Ok(Defined::Variable(tree.ty, value))
         }
         Ty::Null | Ty::Row(_) | Ty::Rec(_) | Ty::Group(_, _) => Err(refusal(alloc, "type")),
@@ -53,21 +57,26 @@ fn definition_by(
 /// Defines a name: as a variable, with the value that the expression has now, where it is of a scalar's
 /// type, and as a named query where it is of a sequence's. It is refused as `type` where the name is
 /// taken, or the expression has no type or another one.
-pub(crate) fn define(
+pub(crate) fn define<H: Asks>(
     alloc: Global,
     name: Txt,
     expr: Expr,
     opened: Opened,
     state: &mut State,
+    hosts: &H,
 ) -> Result<Line, Stop>
-    requires { is_past_opening opened ≡ false }
-    ensures { Performs (defined state.old name opened expr) state.old result state.new }
+    requires within { is_past_opening opened ≡ false }
+    requires known { AreKnown (H.known hosts.now) state.old }
+    ensures performs { PerformsWith (H.known hosts.now)
+        (defined (state_with (H.known hosts.now) state.old) name opened expr)
+        state.old result state.new }
+    ensures hosts { state.new.policies.predicates ≡ state.old.policies.predicates }
 {
     if is_taken(name.as_str(), state) {
         return Err(refusal(alloc, "type"));
     }
     let tree = tree_of(alloc, &expr, opened, state)?;
-    let defined = definition_by(alloc, expr, tree, opened, state)?;
+    let defined = definition_by(alloc, expr, tree, opened, state, hosts)?;
     let line = reply(alloc, Reply::Defined(name.as_str()))?;
     state.define(name, defined)?;
     Ok(line)
@@ -75,7 +84,7 @@ pub(crate) fn define(
 
 /// The type of the variable of this name, which is that of a scalar; none where no variable has the name.
 fn variable_type<'a>(name: &str, state: &'a State) -> Option<&'a Ty>
-    ensures value { option_copied result ≡ variable_type state.now name.now }
+    ensures value { option_copied result ≡ variable_type state.now.definitions name.now }
     ensures scalar { IfSome result (λ ty. is_scalar (out-Ty ty.now) ≡ true) }
 {
     match &definition_of(state.definitions(), name.as_bytes())?.defined {
@@ -86,15 +95,20 @@ fn variable_type<'a>(name: &str, state: &'a State) -> Option<&'a Ty>
 
 /// Gives a variable the value that an expression has now. It is refused as `type` where no variable has
 /// the name, or the expression has no type, or none that converts to the variable's. A denial or a fault stops the statement.
-pub(crate) fn assign(
+pub(crate) fn assign<H: Asks>(
     alloc: Global,
     name: &str,
     expr: &Expr,
     opened: Opened,
     state: &mut State,
+    hosts: &H,
 ) -> Result<Line, Stop>
-    requires { is_past_opening opened ≡ false }
-    ensures { Performs (assigned state.old name.now expr.now) state.old result state.new }
+    requires within { is_past_opening opened ≡ false }
+    requires known { AreKnown (H.known hosts.now) state.old }
+    ensures performs { PerformsWith (H.known hosts.now)
+        (assigned (state_with (H.known hosts.now) state.old) name.now expr.now)
+        state.old result state.new }
+    ensures hosts { state.new.policies.predicates ≡ state.old.policies.predicates }
 {
     let Some(place) = variable_type(name, state) else {
         return Err(refusal(alloc, "type"));
@@ -103,7 +117,7 @@ pub(crate) fn assign(
     if !converts(ty(&tree), place) {
         return Err(refusal(alloc, "type"));
     }
-    let value = evaluate_scalar(alloc, &tree, state)?;
+    let value = evaluate_scalar(alloc, &tree, state, hosts)?;
     let line = reply(alloc, Reply::Assigned(name))?;
     state.assign(name, value);
     Ok(line)

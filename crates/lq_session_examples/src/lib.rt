@@ -1,14 +1,10 @@
-//! Tests of values, operators, tables, policies and sessions, by public calls, where the built program can't show it. They are here
+//! Tests of tables, policies and sessions, by public calls, where the built program can't show it. They are here
 //! and not in the crates that they test: a crate without tests is proved once.
 #![tactic(auto)]
 
-#[cfg(test)]
-mod evaluations;
 #[cfg(test)]
 mod policies;
 #[cfg(test)]
 mod sessions;
 #[cfg(test)]
 mod tables;
-#[cfg(test)]
-mod values;

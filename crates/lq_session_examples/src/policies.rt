@@ -1,10 +1,11 @@
 //! What policies decide where the built program doesn't ask (tests/cli has the other decisions): rows for each action and table, also a
 //! table that isn't there, for roles of other policies, and for memberships that no file has.
-ghost use Rattle.std.specs.Prelude.{◌≡◌, true};
+ghost use Rattle.std.specs.Prelude.{◌≡◌, [], IfOk, true};
 ghost use Rattle.lq_policy.specs.Rules.{are_rules_total};
 
 use crate::tables::cells;
 use lq_grammar::Expr;
+use lq_host::HostSet;
 use lq_load::table_from_csv;
 use lq_policy::{Action, Policies, RoleId, are_rules_total};
 use lq_policyfile::policies_from_toml;
@@ -125,8 +126,11 @@ fn store(alloc: Global) -> Result<Store, Fail> {
     Ok(store)
 }
 
-pub(crate) fn policies(alloc: Global, store: &Store, file: &str) -> Result<Policies, Fail> {
-    match policies_from_toml(alloc, file.as_bytes(), store) {
+pub(crate) fn policies(alloc: Global, store: &Store, file: &str) -> Result<Policies, Fail>
+    ensures { IfOk result (λ policies. [] ≡ policies.predicates) }
+{
+    let hosts = HostSet::new(alloc);
+    match policies_from_toml(alloc, file.as_bytes(), store, &hosts) {
         Ok(policies) => Ok(policies),
         Err(_) => Err(Fail::from("the policies are refused")),
     }
@@ -347,6 +351,7 @@ fn members_parts(alloc: Global) -> Result<PolicyParts, Fail> {
     let mut parts = PolicyParts {
         roles: List::new(alloc),
         tables: List::new(alloc),
+        predicates: List::new(alloc),
         policies: List::new(alloc),
         grants: List::new(alloc),
         withholds: List::new(alloc),

@@ -1,9 +1,11 @@
 //! Lines of a session that no script of the built program can have: one too long, and rows for a table whose row numbers are used
 //! up; and the tables that a session shows. Other replies are shown by the built program (tests/cli).
-ghost use Rattle.std.specs.Prelude.{◌≤◌};
+ghost use Rattle.std.specs.Prelude.{◌≡◌, ◌≤◌, []};
+ghost use Rattle.lq_host.specs.Hosts.{hosts_of};
 
 use crate::policies::policies;
 use crate::tables::{add, has_numbers, rows_of};
+use lq_host::HostSet;
 use lq_policy::Policies;
 use lq_session::Session;
 use lq_store::Store;
@@ -26,21 +28,30 @@ fn store(alloc: Global, next: u64) -> Result<Store, Fail>
     Ok(store)
 }
 
-// A session over these tables, as the role a.
-fn session_over(alloc: Global, store: Store, policies: Policies) -> Result<Session, Fail> {
+// A session over these tables, as the role a, without host predicates.
+fn session_over(
+    alloc: Global,
+    store: Store,
+    policies: Policies,
+    hosts: HostSet,
+) -> Result<Session, Fail>
+    requires hosts { (hosts_of hosts).predicates ≡ [] }
+    requires names { [] ≡ policies.predicates }
+{
     match policies.role("a") {
-        Some(role) => Ok(Session::new(alloc, store, policies, role)),
+        Some(role) => Ok(Session::new(alloc, store, policies, hosts, role)),
         None => Err(Fail::from("there is no role a")),
     }
 }
 
-// A session over an empty table t whose first row has this number.
-fn session(alloc: Global, next: u64) -> Result<Session, Fail>
-    requires { 1 ≤ next }
+// A session over an empty table t whose first row has this number, without host predicates.
+fn session(alloc: Global, next: u64, hosts: HostSet) -> Result<Session, Fail>
+    requires hosts { (hosts_of hosts).predicates ≡ [] }
+    requires number { 1 ≤ next }
 {
     let store = store(alloc, next)?;
     let policies = policies(alloc, &store, OPEN)?;
-    session_over(alloc, store, policies)
+    session_over(alloc, store, policies, hosts)
 }
 
 fn assert_replies(rt: &impl Abort, session: &mut Session, lines: &[(&str, &str)]) {
@@ -73,7 +84,7 @@ fn assert_takes_one_row(rt: &impl Abort, session: &mut Session) {
 
 #[test]
 fn a_full_table_takes_no_row(rt: HostRuntime) -> Result<(), Fail> {
-    let mut session = session(rt.alloc(), u64::MAX)?;
+    let mut session = session(rt.alloc(), u64::MAX, HostSet::new(rt.alloc()))?;
     assert_takes_one_row(&rt, &mut session);
     Ok(())
 }
@@ -103,7 +114,7 @@ fn assert_unchanged_by(rt: &impl Abort, session: &mut Session, long: &str) {
 #[test]
 fn a_line_too_long_leaves_the_session(rt: HostRuntime) -> Result<(), Fail> {
     let long = spaces(rt.alloc(), 65_537)?;
-    let mut session = session(rt.alloc(), 1)?;
+    let mut session = session(rt.alloc(), 1, HostSet::new(rt.alloc()))?;
     assert_unchanged_by(&rt, &mut session, &long);
     Ok(())
 }

@@ -35,7 +35,7 @@ fn table(alloc: Global, name: &str, next: u64) -> Result<Table, AllocError>
 pub(crate) fn cells(alloc: Global, scalars: &[ScalarRef<'_>]) -> Result<Vec<Scalar>, AllocError> {
     let mut cells = Vec::new(alloc);
     for scalar in scalars {
-        cells.push(scalar.copied(alloc)?)?;
+        cells.push(scalar.to_scalar(alloc)?)?;
     }
     Ok(cells)
 }
@@ -138,7 +138,7 @@ fn takes_one_more(alloc: Global, store: &mut Store, number: TableNumber) -> Resu
 }
 
 // Whether an empty store takes 64 tables and no more.
-fn takes_all(alloc: Global, store: &mut Store) -> Result<bool, Fail> {
+fn are_all_taken(alloc: Global, store: &mut Store) -> Result<bool, Fail> {
     for number in 0..64 {
         if !takes_one_more(alloc, store, number)? {
             return Ok(false);
@@ -151,7 +151,7 @@ fn takes_all(alloc: Global, store: &mut Store) -> Result<bool, Fail> {
 fn a_refused_table_is_handed_back(rt: HostRuntime) -> Result<(), Fail> {
     let mut store = Store::new(rt.alloc());
     assert!(rt; store.is_empty());
-    assert!(rt; takes_all(rt.alloc(), &mut store)?);
+    assert!(rt; are_all_taken(rt.alloc(), &mut store)?);
     assert!(rt; store.len() == 64 && store.find("t1") == Some(1) && store.find("u") == None);
     Ok(())
 }
@@ -247,7 +247,7 @@ fn removes(rt: &impl Abort, store: &mut Store, numbers: &[u64], gone: u64, left:
 }
 
 // Whether that is so of two tables, and no number is used again.
-fn removes_rows(
+fn are_removed(
     rt: &impl Abort,
     alloc: Global,
     numbers: &[u64],
@@ -262,7 +262,7 @@ fn removes_rows(
 fn rows_of_some_numbers_are_removed(rt: HostRuntime) -> Result<(), Fail> {
     for (numbers, gone, left) in &REMOVALS {
         assert!(rt;
-            removes_rows(&rt, rt.alloc(), numbers, *gone, left)?,
+            are_removed(&rt, rt.alloc(), numbers, *gone, left)?,
             "{numbers:?}"
         );
     }

@@ -1,4 +1,5 @@
 pub mod Fronts
+pub mod Layers
 pub mod LevelLemmas
 pub mod Readers
 pub mod Readings

@@ -2,7 +2,8 @@
 use Rattle.std.specs.Prelude.{◌∷◌, if◌then◌else◌, List, [], ℕ, Option, Some, None, Result, Ok, Err, ℤ, length}
 use Rattle.lq_value.specs.declared.scalar.Scalar.{Scalar}
 use Rattle.lq_value.specs.declared.scalar.Scalar.TheVariants as scalar
-use Rattle.lq_grammar.specs.Parsing.{◌>>=◌, Parser, cell_below_zero, cells, clause_by, clauses, continuations, expect, field_by, fields, group_name, last_before, name, pure, refuse, same_kind, source, value_and_end}
+use Rattle.lq_grammar.specs.Grammar.{host_call}
+use Rattle.lq_grammar.specs.Parsing.{◌>>=◌, Parser, asked, cell_below_zero, cells, clause_by, clauses, continuations, expect, field_by, fields, group_name, last_before, name, pure, refuse, same_kind, source, value_and_end}
 use Rattle.lq_grammar.specs.Tokens.{decimal_value, text_of}
 use Rattle.lq_grammar.specs.declared.syntax.Clause.{Clause}
 use Rattle.lq_grammar.specs.declared.syntax.Clause.TheVariants as clause
@@ -44,8 +45,8 @@ module _ (line : List ℕ) (inner : Level → Parser Expr) where
   -- after "Host"
   abbrev pub host : Parser Expr
   host =
-      expect k.Dot >>= (λ dot. name line >>= (λ p. expect k.LeftParenthesis >>= (λ opening. inner level.Conditional >>= (λ x.
-      expect k.RightParenthesis >>= (λ closing. pure (expr.Node (node.Host p (x ∷ []))))))))
+      expect k.Dot >>= (λ dot. name line >>= (λ p. expect k.LeftParenthesis >>= (λ opening. asked line inner >>= (λ xs.
+      expect k.RightParenthesis >>= (λ closing. pure (host_call p xs.0 xs.1))))))
 
   -- after "new"
   abbrev pub record_of : Parser Expr

@@ -14,6 +14,7 @@ mod error;
 mod expressions;
 mod fields;
 mod grammar;
+mod hosts;
 mod literals;
 mod operators;
 mod parse;

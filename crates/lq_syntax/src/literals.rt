@@ -10,12 +10,9 @@ ghost use Rattle.std.specs.Prelude.{IfErr};
 use crate::cursor::Tokens;
 use crate::error::ParseError;
 use lq_grammar::{Kind, Token};
-use lq_lex::{int_value, text_value};
+use lq_lex::{LARGEST_INTEGER, int_value, text_value};
 use lq_value::Txt;
 use std::alloc::Global;
-
-/// The greatest value that digits may spell: after a minus sign they spell the least `int`.
-const LARGEST: u32 = 2147483648;
 
 /// The bytes of the line that a token takes.
 pub fn bytes_of<'a>(line: &'a [u8], token: Token) -> &'a [u8]
@@ -68,7 +65,7 @@ fn value_of(digits: &[u8]) -> Option<u32>
     let mut value: u64 = 0;
     for digit in digits {
         value = value * 10 + u64::from((*digit).saturating_sub(48));
-        if value > u64::from(LARGEST) {
+        if value > u64::from(LARGEST_INTEGER) {
             return None;
         }
     }
@@ -96,5 +93,5 @@ pub fn negative_of(digits: &[u8]) -> Option<i32>
 pub fn is_largest(digits: &[u8]) -> bool
     ensures { result ≡ (decimal_value digits.now == 2147483648) }
 {
-    value_of(digits) == Some(LARGEST)
+    value_of(digits) == Some(LARGEST_INTEGER)
 }

@@ -11,9 +11,9 @@ ghost use Rattle.lq_syntax.specs.Parts as part;
 use crate::cursor::Tokens;
 use crate::error::ParseError;
 use crate::grammar::Grammar;
-use crate::literals;
+use crate::{hosts, literals};
 use lq_grammar::{Expr, Kind, Level, Node, Token};
-use lq_value::{Held, List};
+use lq_value::Held;
 use std::alloc::Global;
 
 impl<'a, F: Fn(Global, &[u8], &mut Tokens<'_>, usize, Level) -> Result<Expr, ParseError>> Grammar<
@@ -31,7 +31,23 @@ impl<'a, F: Fn(Global, &[u8], &mut Tokens<'_>, usize, Level) -> Result<Expr, Par
         Ok(x)
     }
 
-    /// After `Host`: `"." name "(" cond ")"`
+    /// `cond ["," cond]`
+    #[tactic(auto, unfolding(lq_grammar::specs::Parsing::asked, lq_grammar::specs::Parsing::after))]
+    fn asked(&self, tokens: &mut Tokens<'_>) -> Result<(Expr, Option<Expr>), ParseError>
+        requires { Nests self.now.depth (F.pre self.now.inner) (F.post self.now.inner) }
+        ensures { Reads (parsing.asked self.now.line.now
+            (expression self.now.line.now self.now.depth) tokens.old) result tokens.new }
+    {
+        let first = self.inner(tokens, Level::Conditional)?;
+        if !tokens.eat(Kind::Comma) {
+            return Ok((first, None));
+        }
+        let first = Held::new(self.alloc, first)?;
+        let second = self.inner(tokens, Level::Conditional)?;
+        Ok((first.into_inner(), Some(second)))
+    }
+
+    /// After `Host`: `"." name "(" cond ["," cond] ")"`
     fn host(&self, tokens: &mut Tokens<'_>) -> Result<Expr, ParseError>
         requires { Nests self.now.depth (F.pre self.now.inner) (F.post self.now.inner) }
         ensures { Reads (part.host self.now.line.now (expression self.now.line.now self.now.depth)
@@ -40,11 +56,9 @@ impl<'a, F: Fn(Global, &[u8], &mut Tokens<'_>, usize, Level) -> Result<Expr, Par
         tokens.expect(Kind::Dot)?;
         let predicate = literals::name(self.alloc, self.line, tokens)?;
         tokens.expect(Kind::LeftParenthesis)?;
-        let x = self.inner(tokens, Level::Conditional)?;
+        let (first, second) = self.asked(tokens)?;
         tokens.expect(Kind::RightParenthesis)?;
-        let mut asked = List::new(self.alloc);
-        asked.push(x)?;
-        Ok(Expr::Node(Node::Host(predicate, asked)))
+        Ok(hosts::host_call(self.alloc, predicate, first, second)?)
     }
 
     /// After `new`: `"{" [member {"," member} [","]] "}"`

@@ -1,7 +1,9 @@
-//! Tests of tokens, of trees, of total rules and of the calls that queries stand for, by the public calls that give them. They are here
-//! and not in the crates that they test: a crate without tests is proved once.
+//! Tests of tokens, trees, total rules, values, operators and the calls that queries stand for, by the public calls that give them. They are
+//! here and not in the crates that they test: a crate without tests is proved once.
 #![tactic(auto)]
 
+#[cfg(test)]
+mod evaluations;
 #[cfg(test)]
 mod queries;
 #[cfg(test)]
@@ -10,3 +12,5 @@ mod rules;
 mod tokens;
 #[cfg(test)]
 mod trees;
+#[cfg(test)]
+mod values;

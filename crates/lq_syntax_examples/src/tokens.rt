@@ -222,7 +222,7 @@ const BLANK: [&str; 7] = ["", " ", " \t\r\n", "//", "///", "// #\n\t// \"", "\r"
 const NOT_BLANK: [&str; 8] = ["/", "/ /", "a", "//\na", "#", "\u{a0}", "\u{c}", "\u{feff}"];
 
 /// What a line that is one text many times over is.
-enum Found {
+enum Outcome {
     /// This many tokens.
     Tokens(usize),
     Faulty,
@@ -230,16 +230,16 @@ enum Found {
 }
 
 /// Lines at the limit of 65,536 bytes, and over it: bytes count, and not characters.
-const LENGTHS: [(&str, usize, Found); 8] = [
-    ("a ", 32768, Found::Tokens(32768)),
-    ("a", 65537, Found::TooLong),
-    ("\u{e9}", 32768, Found::Tokens(1)),
-    ("\u{e9}", 32769, Found::TooLong),
+const LENGTHS: [(&str, usize, Outcome); 8] = [
+    ("a ", 32768, Outcome::Tokens(32768)),
+    ("a", 65537, Outcome::TooLong),
+    ("\u{e9}", 32768, Outcome::Tokens(1)),
+    ("\u{e9}", 32769, Outcome::TooLong),
     // A line over the limit is too long, whatever is in it.
-    ("#", 65536, Found::Faulty),
-    ("#", 65537, Found::TooLong),
-    (" ", 65536, Found::Tokens(0)),
-    (" ", 65537, Found::TooLong),
+    ("#", 65536, Outcome::Faulty),
+    ("#", 65537, Outcome::TooLong),
+    (" ", 65536, Outcome::Tokens(0)),
+    (" ", 65537, Outcome::TooLong),
 ];
 
 /// The line's tokens in the words of the rows.
@@ -279,11 +279,11 @@ fn repeated(alloc: Global, text: &str, times: usize) -> Result<String, Fail> {
     Ok(all)
 }
 
-fn is_found(alloc: Global, line: &str, expected: &Found) -> bool {
+fn is_found(alloc: Global, line: &str, expected: &Outcome) -> bool {
     match (tokens(alloc, line), expected) {
-        (Ok(tokens), Found::Tokens(number)) => tokens.len() == *number,
-        (Err(LexError::Lexical), Found::Faulty) => true,
-        (Err(LexError::TooLong), Found::TooLong) => true,
+        (Ok(tokens), Outcome::Tokens(number)) => tokens.len() == *number,
+        (Err(LexError::Lexical), Outcome::Faulty) => true,
+        (Err(LexError::TooLong), Outcome::TooLong) => true,
         _ => false,
     }
 }
@@ -368,7 +368,7 @@ fn a_line_has_a_greatest_length(rt: HostRuntime) -> Result<(), Fail> {
     for (text, times, found) in &LENGTHS {
         let line = repeated(rt.alloc(), text, *times)?;
         assert!(rt; is_found(rt.alloc(), &line, found), "{times} times {text}");
-        assert!(rt; is_blank(&line) == matches!(found, Found::Tokens(0)));
+        assert!(rt; is_blank(&line) == matches!(found, Outcome::Tokens(0)));
     }
     Ok(())
 }

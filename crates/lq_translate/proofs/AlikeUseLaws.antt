@@ -2,13 +2,13 @@
 use Rattle.std.proofs.Common.{◌≡◌, List, Some, ap, ◌∙◌, sym, if◌then◌else◌}
 use Rattle.lq_language.specs.ClauseTyping.{expression_type}
 use Rattle.lq_language.specs.Terms.{term_type}
+use Rattle.lq_language.specs.Mentions.{Mention}
 use Rattle.lq_language.specs.Names.{Names, local_type, with_local}
 use Rattle.lq_language.specs.Uses.{Used, expression_uses, name_uses, node_uses, query_uses, uses_step}
 use Rattle.lq_language.specs.UsesOfCalls.{UsedTerm, call_uses, term_uses, term_uses_step}
 use Rattle.lq_language.specs.declared.calls.Call.{Call}
 use Rattle.lq_language.specs.declared.calls.Term.{Term}
 use Rattle.lq_language.specs.declared.calls.Term.TheVariants as term
-use Rattle.lq_language.specs.declared.rights.Use.{Use}
 use Rattle.lq_grammar.specs.declared.syntax.Expr.{Expr}
 use Rattle.lq_grammar.specs.declared.syntax.Expr.TheVariants as expr
 use Rattle.lq_grammar.specs.declared.syntax.Node.{Node}
@@ -25,7 +25,7 @@ use Rattle.lq_translate.proofs.UsePullLaws.{call_pull, node_pull, query_pull}
 
 -- what expressions and terms use, layer by layer
 abbrev Uses : Type 0
-Uses = Names → List Use
+Uses = Names → List Mention
 
 abbrev beside : Expr → Used
 beside e = (e, expression_uses e)

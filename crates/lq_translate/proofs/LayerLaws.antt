@@ -19,7 +19,7 @@ use Rattle.lq_grammar.specs.declared.syntax.Node.TheVariants as node
 use Rattle.lq_translate.specs.Maps.{map_argument, map_call, map_node, map_operator, map_part}
 
 module _ {X Y : Type 0} (f : X → Y) where
-  at_term_argument : (a : Argument X) → calls.former-Term-Node-0-at-46.map X Y f a ≡ map_argument f a
+  at_term_argument : (a : Argument X) → calls.former-Term-Node-0-at-50.map X Y f a ≡ map_argument f a
   at_term_argument (argument.Value x) = refl
   at_term_argument (argument.Lambda n x) = refl
 
@@ -36,9 +36,10 @@ module _ {X Y : Type 0} (f : X → Y) where
   at_term_node (node.Or x y) = refl
   at_term_node (node.Coalesce x y) = refl
   at_term_node (node.Conditional c x y) = refl
-  at_term_node (node.Host p xs) = refl
+  at_term_node (node.Host p x columns) = refl
+  at_term_node (node.HostOther p xs) = refl
   at_term_node (node.New fields) = refl
-  at_term_node (node.Method x m xs) = ap (node.Method (f x) m) (map_ext (calls.former-Term-Node-0-at-46.map X Y f) (map_argument f) at_term_argument xs)
+  at_term_node (node.Method x m xs) = ap (node.Method (f x) m) (map_ext (calls.former-Term-Node-0-at-50.map X Y f) (map_argument f) at_term_argument xs)
 
   at_operator : (op : Operator X) → calls.former-Term-Call-0-at-25.map X Y f op ≡ map_operator f op
   at_operator (operator.Where x) = refl

@@ -7,7 +7,7 @@ use Rattle.lq_value.specs.declared.value.Fault.{Fault}
 use Rattle.lq_value.specs.declared.value.Value.{Value}
 use Rattle.lq_value.specs.declared.value.Value.TheVariants.{outs-Rec}
 use Rattle.lq_language.specs.ClauseTyping.{joined_name, source_type}
-use Rattle.lq_language.specs.Worlds.{Meaning, Scope, World, bound, bound_stream, names_at, or_null, typed_locals, session_names}
+use Rattle.lq_language.specs.Worlds.{Meaning, Scope, World, bound, bound_stream, known_predicates, names_at, or_null, typed_locals, session_names}
 use Rattle.lq_language.specs.OperandMeaning.{stream_of}
 use Rattle.lq_language.specs.ClauseMeaning.{as_group, body_meaning, body_type_at, clause_meaning, clauses_meaning, condition_at, continued, extended, inner_items, item_type_at, joined_type, joined_values, last_meaning, query_meaning, sort_key_at}
 use Rattle.lq_language.specs.Operations.{on_ok}
@@ -55,7 +55,7 @@ module _ {R X : Type 0} (is_name : X → List ℕ → Bool) (world : World R) (t
   locals_same (With p n t) v = ap (λ ls. (n, t) ∷ ls) (locals_same p (first v))
 
   names_same : (p : Pattern) (v : Value R) → names_at world (at p v) ≡ names_of (names_at world outer) p
-  names_same p v = ap (λ (ls : List (List ℕ × Ty)). record { tables = world.schemas; session = session_names world.session; locals = ls }) (locals_same p v)
+  names_same p v = ap (λ (ls : List (List ℕ × Ty)). record { tables = world.schemas; predicates = known_predicates world.predicates; session = session_names world.session; locals = ls }) (locals_same p v)
 
   type_same : (p : Pattern) (f : X) (v : Value R) → or_null (typed f (names_at world (at p v))) ≡ type_under world typed meant outer p f
   type_same p f v = ap (λ (names : Names). or_null (typed f names)) (names_same p v)

@@ -48,7 +48,8 @@ module _ {X Y Z : Type 0} (g : Y → Z) (f : X → Y) where
   map_nodes (node.Or x y) = refl
   map_nodes (node.Coalesce x y) = refl
   map_nodes (node.Conditional c x y) = refl
-  map_nodes (node.Host p xs) = ap (node.Host p) (map_twice f g xs)
+  map_nodes (node.Host p x columns) = refl
+  map_nodes (node.HostOther p xs) = ap (node.HostOther p) (map_twice f g xs)
   map_nodes (node.New fields) = ap node.New (map_fields fields)
   map_nodes (node.Method x m xs) = ap (node.Method (g (f x)) m) (map_arguments xs)
 
@@ -152,6 +153,7 @@ module _ {R E X : Type 0} (world : World R) (type_of : E → Names → Option Ty
   node_pull (node.Or x y) scope = refl
   node_pull (node.Coalesce x y) scope = refl
   node_pull (node.Conditional c x y) scope = refl
-  node_pull (node.Host p xs) scope = refl
+  node_pull (node.Host p x columns) scope = refl
+  node_pull (node.HostOther p xs) scope = refl
   node_pull (node.New fields) scope = ap (λ (o : Result (List (List ℕ × Value R)) Fault). on_ok o (λ members. Ok (value.Rec members))) (members_pull fields scope)
   node_pull (node.Method x m xs) scope = method_pull x m xs scope

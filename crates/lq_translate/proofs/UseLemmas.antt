@@ -4,6 +4,7 @@ use Rattle.std.proofs.lemmas.List.{append-nil}
 use Rattle.lq_value.specs.declared.ty.Ty.{Ty}
 use Rattle.lq_language.specs.ClauseTyping.{are_sort_keys, body_items, from_type, is_fresh, join_type, joined_name, let_type, sole_name, source_type, when}
 use Rattle.lq_language.specs.Operators.{Pattern, One, With, names_of, operators_items, paired_pattern, pattern_after, sole_pattern}
+use Rattle.lq_language.specs.Mentions.{Mention}
 use Rattle.lq_language.specs.Names.{Names, with_local}
 use Rattle.lq_language.specs.OperandTypes.{is_bool_type}
 use Rattle.lq_language.specs.Uses.{body_uses, clause_uses, clauses_uses, continued_uses, last_uses, query_uses, under}
@@ -11,7 +12,6 @@ use Rattle.lq_language.specs.UsesOfCalls.{call_uses, operators_uses, paired_uses
 use Rattle.lq_language.specs.declared.calls.Operator.{Operator}
 use Rattle.lq_language.specs.declared.calls.Operator.TheVariants as operator
 use Rattle.lq_language.specs.declared.calls.Paired.TheVariants as paired
-use Rattle.lq_language.specs.declared.rights.Use.{Use}
 use Rattle.lq_grammar.specs.declared.syntax.Body.{Body}
 use Rattle.lq_grammar.specs.declared.syntax.Clause.{Clause}
 use Rattle.lq_grammar.specs.declared.syntax.Clause.TheVariants as clause
@@ -23,16 +23,16 @@ use Rattle.lq_translate.specs.Translation.{body_operators, call_of, last_operato
 use Rattle.lq_translate.specs.TranslationLaws.{NamesTyped, NamesUsed}
 use Rattle.lq_translate.proofs.TypingLemmas.{Fits, body_same as body_typed, fits_any, still_fits}
 
-module _ {X : Type 0} (is_name : X → List ℕ → Bool) (typed : X → Names → Option Ty) (uses : X → Names → List Use) (named : NamesTyped is_name typed)
+module _ {X : Type 0} (is_name : X → List ℕ → Bool) (typed : X → Names → Option Ty) (uses : X → Names → List Mention) (named : NamesTyped is_name typed)
     (used : NamesUsed is_name uses) (outer : Names) where
-  abbrev calls : List (Operator X) → Pattern → List Use
+  abbrev calls : List (Operator X) → Pattern → List Mention
   calls ops p = operators_uses typed uses outer ops p
 
-  abbrev texts : List (Clause X) → Last X → Names → List Use
+  abbrev texts : List (Clause X) → Last X → Names → List Mention
   texts cs l names = clauses_uses typed uses outer cs l names
 
   -- after the last call nothing is used
-  ended : (us : List Use) (o : Option Pattern) → us ++ under o (operators_uses typed uses outer []) ≡ us
+  ended : (us : List Mention) (o : Option Pattern) → us ++ under o (operators_uses typed uses outer []) ≡ us
   ended us None = append-nil us
   ended us (Some p) = append-nil us
 
@@ -67,20 +67,20 @@ module _ {X : Type 0} (is_name : X → List ℕ → Bool) (typed : X → Names �
   last_same n (last.Group v key) before sole p fits = grouped n v key before sole p fits
 
   -- a clause that only asks
-  asked : (us : List Use) (ops : List (Operator X)) (cs : List (Clause X)) (l : Last X) (p : Pattern) → calls ops p ≡ texts cs l (names_of outer p) → (b : Bool)
+  asked : (us : List Mention) (ops : List (Operator X)) (cs : List (Clause X)) (l : Last X) (p : Pattern) → calls ops p ≡ texts cs l (names_of outer p) → (b : Bool)
       → us ++ under (when b (Some p)) (operators_uses typed uses outer ops) ≡ us ++ under (when b (Some (names_of outer p))) (clauses_uses typed uses outer cs l)
   asked us ops cs l p h true = ap (λ more. us ++ more) h
   asked us ops cs l p h false = refl
 
   -- a clause that brings a name in
-  entered : (us : List Use) (n : List ℕ) (ops : List (Operator X)) (cs : List (Clause X)) (l : Last X) (p : Pattern)
+  entered : (us : List Mention) (n : List ℕ) (ops : List (Operator X)) (cs : List (Clause X)) (l : Last X) (p : Pattern)
       → ((t : Ty) → calls ops (With p n t) ≡ texts cs l (names_of outer (With p n t))) → (o : Option Ty)
       → us ++ under (option_map (With p n) o) (operators_uses typed uses outer ops)
       ≡ us ++ under (option_map (with_local (names_of outer p) n) o) (clauses_uses typed uses outer cs l)
   entered us n ops cs l p h None = refl
   entered us n ops cs l p h (Some t) = ap (λ more. us ++ more) (h t)
 
-  paired_in : (us : List Use) (n : List ℕ) (ops : List (Operator X)) (cs : List (Clause X)) (l : Last X) (p : Pattern)
+  paired_in : (us : List Mention) (n : List ℕ) (ops : List (Operator X)) (cs : List (Clause X)) (l : Last X) (p : Pattern)
       → ((t : Ty) → calls ops (With p n t) ≡ texts cs l (names_of outer (With p n t))) → (o : Option Ty)
       → (us ++ under o (paired_uses typed uses outer p n paired.Pair)) ++ under (option_and_then (paired_pattern typed outer p n paired.Pair) o) (operators_uses typed uses outer ops)
       ≡ us ++ under (option_map (with_local (names_of outer p) n) o) (clauses_uses typed uses outer cs l)
@@ -88,14 +88,14 @@ module _ {X : Type 0} (is_name : X → List ℕ → Bool) (typed : X → Names �
   paired_in us n ops cs l p h (Some t) = λ i. append-nil us i ++ h t i
 
   -- one whose call produces the value at once
-  fused : (us : List Use) (n : List ℕ) (v : X) (p : Pattern) (o : Option Ty)
+  fused : (us : List Mention) (n : List ℕ) (v : X) (p : Pattern) (o : Option Ty)
       → (us ++ under o (paired_uses typed uses outer p n (paired.Value v)))
       ++ under (option_and_then (paired_pattern typed outer p n (paired.Value v)) o) (operators_uses typed uses outer [])
       ≡ us ++ under (option_map (with_local (names_of outer p) n) o) (clauses_uses typed uses outer [] (last.Select v))
   fused us n v p None = append-nil (us ++ [])
   fused us n v p (Some t) = ended (us ++ uses v (names_of outer (With p n t))) (paired_pattern typed outer p n (paired.Value v) t)
 
-  abbrev from_uses : X → Pattern → List Use
+  abbrev from_uses : X → Pattern → List Mention
   from_uses f p = uses f (names_of outer p)
 
   clauses_same : (n : List ℕ) (cs : List (Clause X)) (l : Last X) (before sole : Bool) (p : Pattern) → Fits n sole p
@@ -136,7 +136,7 @@ module _ {X : Type 0} (is_name : X → List ℕ → Bool) (typed : X → Names �
   body_same n t body = clauses_same n body.clauses body.last false true (One n t) (t, refl)
 
   -- and what follows it
-  body_over : (n : List ℕ) (t : Ty) (body : Body X) (rest : Ty → List Use) (b : Bool)
+  body_over : (n : List ℕ) (t : Ty) (body : Body X) (rest : Ty → List Mention) (b : Bool)
       → under (when b (Some (One n t)))
       (λ p. calls (body_operators is_name n body) p ++ under (operators_items typed outer (body_operators is_name n body) p) rest)
       ≡ under (when b (Some (with_local outer n t))) (λ names. body_uses typed uses outer body names ++ under (body_items typed outer body names) rest)

@@ -3,6 +3,7 @@ use Rattle.std.proofs.Common.{◌≡◌, ◌∷◌, ◌++◌, List, [], map, fla
 use Rattle.lq_value.specs.declared.ty.Ty.{Ty}
 use Rattle.lq_language.specs.ClauseTyping.{sole_name, source_type}
 use Rattle.lq_language.specs.Operators.{Pattern, sole_pattern}
+use Rattle.lq_language.specs.Mentions.{Mention}
 use Rattle.lq_language.specs.Names.{Names}
 use Rattle.lq_language.specs.Uses.{argument_uses, body_uses, clause_uses, clauses_uses, continued_uses, last_uses, node_uses, query_uses, under}
 use Rattle.lq_language.specs.UsesOfCalls.{call_uses, operator_uses, operators_uses, parts_uses}
@@ -11,7 +12,6 @@ use Rattle.lq_language.specs.declared.calls.Operator.{Operator}
 use Rattle.lq_language.specs.declared.calls.Operator.TheVariants as operator
 use Rattle.lq_language.specs.declared.calls.Paired.TheVariants as paired
 use Rattle.lq_language.specs.declared.calls.Part.{Part}
-use Rattle.lq_language.specs.declared.rights.Use.{Use}
 use Rattle.lq_grammar.specs.declared.syntax.Argument.{Argument}
 use Rattle.lq_grammar.specs.declared.syntax.Argument.TheVariants as argument
 use Rattle.lq_grammar.specs.declared.syntax.Body.{Body}
@@ -29,12 +29,12 @@ use Rattle.lq_translate.specs.Maps.{map_argument, map_body, map_call, map_clause
 use Rattle.lq_language.proofs.QueryPullLaws.{body_typed, clause_typed}
 use Rattle.lq_translate.proofs.CallPullLaws.{items_typed, operator_typed}
 
-module _ {X Y : Type 0} (f : X → Y) (typed : Y → Names → Option Ty) (uses : Y → Names → List Use) where
+module _ {X Y : Type 0} (f : X → Y) (typed : Y → Names → Option Ty) (uses : Y → Names → List Mention) where
   -- the type of what an expression is replaced by, and what that uses
   abbrev typed_before : X → Names → Option Ty
   typed_before x = typed (f x)
 
-  abbrev used_before : X → Names → List Use
+  abbrev used_before : X → Names → List Mention
   used_before x = uses (f x)
 
   -- ---- nodes
@@ -64,7 +64,8 @@ module _ {X Y : Type 0} (f : X → Y) (typed : Y → Names → Option Ty) (uses 
   node_pull (node.Or x y) names = refl
   node_pull (node.Coalesce x y) names = refl
   node_pull (node.Conditional c x y) names = refl
-  node_pull (node.Host p xs) names = refl
+  node_pull (node.Host p x columns) names = refl
+  node_pull (node.HostOther p xs) names = refl
   node_pull (node.New fields) names = fields_pull names fields
   node_pull (node.Method x m xs) names = ap (λ us. uses (f x) names ++ us) (arguments_pull names (source_type typed (f x) names) xs)
 

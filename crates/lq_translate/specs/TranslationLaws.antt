@@ -7,11 +7,11 @@ use Rattle.lq_language.specs.Worlds.{Meaning, Scope, World}
 use Rattle.lq_language.specs.ClauseMeaning.{query_meaning}
 use Rattle.lq_language.specs.Operators.{call_items, call_meaning}
 use Rattle.lq_language.specs.Terms.{term_meaning, term_type}
+use Rattle.lq_language.specs.Mentions.{Mention}
 use Rattle.lq_language.specs.Names.{Names, with_local}
 use Rattle.lq_language.specs.Uses.{expression_uses, query_uses}
 use Rattle.lq_language.specs.UsesOfCalls.{call_uses, term_uses}
 use Rattle.lq_language.specs.Meaning.{expression_meaning, items_meaning}
-use Rattle.lq_language.specs.declared.rights.Use.{Use}
 use Rattle.lq_grammar.specs.declared.syntax.Expr.{Expr}
 use Rattle.lq_grammar.specs.declared.syntax.Query.{Query}
 use Rattle.lq_translate.specs.Translated.{translated, translated_query}
@@ -28,7 +28,7 @@ module _ {X : Type 0} (is_name : X → List ℕ → Bool) where
       (x : X) (n : List ℕ) → is_name x n ≡ true → (t : Ty) (v : Value R) (scope : Scope R) → meant x (record { name = n; ty = t; value = v } ∷ scope) ≡ Ok v
 
   -- and uses nothing, being a local name
-  abbrev pub NamesUsed : (X → Names → List Use) → Type 0
+  abbrev pub NamesUsed : (X → Names → List Mention) → Type 0
   NamesUsed uses = (x : X) (n : List ℕ) → is_name x n ≡ true → (names : Names) (t : Ty) → uses x (with_local names n t) ≡ []
 
 -- at the place of any scope the calls of a query have its stream: items and ending, faults alike
@@ -46,7 +46,7 @@ TypedAlike X =
 -- and they use what its clauses use, in the same order
 abbrev pub UsedAlike : Type 0 → Type 0
 UsedAlike X =
-    (is_name : X → List ℕ → Bool) (typed : X → Names → Option Ty) (uses : X → Names → List Use) → NamesTyped is_name typed → NamesUsed is_name uses
+    (is_name : X → List ℕ → Bool) (typed : X → Names → Option Ty) (uses : X → Names → List Mention) → NamesTyped is_name typed → NamesUsed is_name uses
     → (q : Query X) (outer : Names) → call_uses typed uses (call_of is_name q) outer ≡ query_uses typed uses q outer
 
 -- ---- whole expressions

@@ -10,7 +10,7 @@ use lq_value::{List, Txt};
 use std::alloc::{AllocError, Global};
 
 /// What represents an expression, as far as the translation looks at it.
-pub trait Named: Drop {
+pub trait TellsName: Drop {
     ghost use Rattle.std.specs.Prelude.{◌≡◌, List, ℕ, Bool};
 
     /// Whether it is nothing but this name.
@@ -23,7 +23,7 @@ pub trait Named: Drop {
 
 /// The calls that a query is translated to, built from its own parts.
 #[tactic(auto, unfolding(crate::specs::Translation::call_of))]
-pub fn call_of_query<X: Named>(alloc: Global, query: Query<X>) -> Result<Call<X>, AllocError>
+pub fn call_of_query<X: TellsName>(alloc: Global, query: Query<X>) -> Result<Call<X>, AllocError>
     ensures { IfOk result (λ call. call ≡ call_of X.naming query) }
 {
     let Query {
@@ -43,7 +43,7 @@ pub fn call_of_query<X: Named>(alloc: Global, query: Query<X>) -> Result<Call<X>
 }
 
 /// The calls of what follows by `into`.
-fn parts_of<X: Named>(
+fn parts_of<X: TellsName>(
     alloc: Global,
     rest: List<Continuation<X>>,
 ) -> Result<List<Part<X>>, AllocError>
@@ -57,7 +57,7 @@ fn parts_of<X: Named>(
 }
 
 /// The calls of a body that follows by `into`.
-fn part<X: Named>(alloc: Global, next: Continuation<X>) -> Result<Part<X>, AllocError>
+fn part<X: TellsName>(alloc: Global, next: Continuation<X>) -> Result<Part<X>, AllocError>
     ensures { IfOk result (λ part. part ≡ part_of X.naming next) }
 {
     let Continuation { name, body } = next;
@@ -67,7 +67,7 @@ fn part<X: Named>(alloc: Global, next: Continuation<X>) -> Result<Part<X>, Alloc
 
 /// The calls of a body over this range variable.
 #[tactic(auto, using(crate::proofs::CallLemmas::body_up_to_last))]
-fn operators_of_body<X: Named>(
+fn operators_of_body<X: TellsName>(
     alloc: Global,
     name: &Txt,
     body: Body<X>,
@@ -145,7 +145,7 @@ fn operator_of<X: Drop>(clause: Clause<X>, outcome: Paired<X>) -> Operator<X>
 }
 
 /// Puts the calls of the last clause and of what ends the body after the others.
-fn push_final<X: Named>(
+fn push_final<X: TellsName>(
     operators: &mut List<Operator<X>>,
     name: &Txt,
     sole: bool,
@@ -175,7 +175,7 @@ fn push_final<X: Named>(
 }
 
 /// Puts the call of what ends a body after the others.
-fn push_last<X: Named>(
+fn push_last<X: TellsName>(
     operators: &mut List<Operator<X>>,
     name: &Txt,
     used: bool,
@@ -192,7 +192,7 @@ fn push_last<X: Named>(
 }
 
 /// Puts the call of a `select` after the others, where there is one.
-fn push_select<X: Named>(
+fn push_select<X: TellsName>(
     operators: &mut List<Operator<X>>,
     name: &Txt,
     used: bool,
@@ -209,7 +209,7 @@ fn push_select<X: Named>(
 }
 
 /// Puts the call of a `group` after the others.
-fn push_group<X: Named>(
+fn push_group<X: TellsName>(
     operators: &mut List<Operator<X>>,
     name: &Txt,
     sole: bool,

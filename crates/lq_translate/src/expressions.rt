@@ -6,16 +6,16 @@ ghost use Rattle.lq_grammar.specs.declared.syntax.Node.TheVariants as node;
 ghost use Rattle.lq_translate.specs.Maps.{map_argument, map_body, map_clause, map_field, map_join, map_key, map_last, map_next, map_node, map_query};
 ghost use Rattle.lq_translate.specs.Translated.{translated, translated_query};
 
-use crate::calls::{Named, call_of_query};
+use crate::calls::{TellsName, call_of_query};
 use lq_grammar::{
-    Argument, Binary, Body, Clause, Continuation, Expr, Field, Join, Last, Node, Query, SortKey,
-    Unary,
+    Argument, Binary, Body, Clause, Continuation, Expr, Field, Join, Last, Node, Picked, Query,
+    SortKey, Unary,
 };
 use lq_language::{Call, Term};
 use lq_value::{Held, List, Txt};
 use std::alloc::{AllocError, Global};
 
-impl Named for Term {
+impl TellsName for Term {
     ghost use Rattle.lq_translate.specs.Translated.{is_name};
 
     ghost naming = { is_name };
@@ -101,7 +101,8 @@ fn term_of(alloc: Global, form: &Node<Expr>) -> Result<Term, AllocError>
         Node::Conditional(condition, left, right) => {
             conditional_of(alloc, condition.get(), left.get(), right.get())
         }
-        Node::Host(predicate, asked) => host_of(alloc, asked, predicate),
+        Node::Host(predicate, row, columns) => host_of(alloc, row.get(), predicate, columns.get()),
+        Node::HostOther(predicate, asked) => host_other_of(alloc, asked, predicate),
         Node::New(fields) => record_of(alloc, fields),
         Node::Method(receiver, method, arguments) => {
             let receiver = held(alloc, receiver.get())?;
@@ -200,14 +201,39 @@ fn conditional_of(
     Ok(Term::Node(Node::Conditional(condition, left, held(alloc, right)?)))
 }
 
+/// A copy of the names of columns.
+fn picked_of(alloc: Global, columns: &Picked) -> Result<Picked, AllocError>
+    ensures { IfOk result (λ copy. copy ≡ columns.now) }
+{
+    match columns {
+        Picked::One(column) => Ok(Picked::One(copied(alloc, column)?)),
+        Picked::Two(first, second) => {
+            let first = copied(alloc, first)?;
+            Ok(Picked::Two(first, copied(alloc, second)?))
+        }
+    }
+}
+
 #[cycle(translating)]
 #[inline(never)]
-fn host_of(alloc: Global, asked: &List<Expr>, predicate: &Txt) -> Result<Term, AllocError>
+fn host_of(alloc: Global, row: &Expr, predicate: &Txt, columns: &Picked) -> Result<Term, AllocError>
     ensures { IfOk result (λ translation. translation
-        ≡ term.Node (node.Host predicate.now (map translated asked.now))) }
+        ≡ term.Node (node.Host predicate.now (translated row.now) columns.now)) }
+{
+    let row = held(alloc, row)?;
+    let predicate = copied(alloc, predicate)?;
+    let columns = Held::new(alloc, picked_of(alloc, columns)?)?;
+    Ok(Term::Node(Node::Host(predicate, row, columns)))
+}
+
+#[cycle(translating)]
+#[inline(never)]
+fn host_other_of(alloc: Global, asked: &List<Expr>, predicate: &Txt) -> Result<Term, AllocError>
+    ensures { IfOk result (λ translation. translation
+        ≡ term.Node (node.HostOther predicate.now (map translated asked.now))) }
 {
     let predicate = copied(alloc, predicate)?;
-    Ok(Term::Node(Node::Host(predicate, expressions_of(alloc, asked)?)))
+    Ok(Term::Node(Node::HostOther(predicate, expressions_of(alloc, asked)?)))
 }
 
 #[cycle(translating)]

@@ -9,5 +9,5 @@ mod calls;
 mod expressions;
 pub mod translation_laws;
 
-pub use calls::{Named, call_of_query};
+pub use calls::{TellsName, call_of_query};
 pub use expressions::{translate, translate_expression};

@@ -1,6 +1,6 @@
 -- The tree of the calls of a query is the sequence of their stream, call by call, if the trees of the expressions in them mean what those
 -- mean.
-use Rattle.std.proofs.Common.{◌≡◌, ◌∷◌, ◌++◌, ◌+◌, if◌then◌else◌, List, [], map, ℕ, Bool, true, false, Option, Some, None, Result, Ok, ap, ap₂, ◌∙◌, sym, refl, subst, option_and_then}
+use Rattle.std.proofs.Common.{◌≡◌, ◌∷◌, ◌++◌, ◌+◌, List, [], map, ℕ, Bool, true, Option, Some, None, Result, Ok, ap, ap₂, ◌∙◌, sym, refl, subst, option_and_then}
 use Rattle.std.proofs.lemmas.Option.{none-some, option_and_then_some, same_Some}
 use Rattle.std.specs.List.{fold}
 use Rattle.std.specs.Prelude.{is_some}
@@ -12,18 +12,18 @@ use Rattle.lq_value.specs.declared.ty.Ty.TheVariants.{outs-Group}
 use Rattle.lq_value.specs.declared.value.End.{End}
 use Rattle.lq_value.specs.declared.value.End.TheVariants as end
 use Rattle.lq_value.specs.declared.value.Fault.{Fault}
-use Rattle.lq_value.specs.declared.value.Value.{Value, out-Value}
+use Rattle.lq_value.specs.declared.value.Value.{Value}
 use Rattle.lq_value.specs.declared.value.Value.TheVariants as value
 use Rattle.lq_language.specs.Arrangement.{Keyed, all_of, arranged, keyed, order_by, with_key}
 use Rattle.lq_language.specs.ClauseTyping.{element_type, has_place, is_fresh, is_key, is_within, joined_name, when}
 use Rattle.lq_language.specs.Maps.{map_key}
 use Rattle.lq_language.specs.Worlds.{Meaning, Scope, World, bound, names_at, or_null}
 use Rattle.lq_language.specs.OperandMeaning.{on_scalar, sequence, stream_of}
-use Rattle.lq_language.specs.ClauseMeaning.{as_group, condition_at, inner_items, is_null_layer, item_type_at, joined_type, joined_values, matches, sort_key_at}
+use Rattle.lq_language.specs.ClauseMeaning.{as_group, condition_at, inner_items, item_type_at, joined_type, joined_values, matches, sort_key_at}
 use Rattle.lq_language.specs.ValuesOfTypes.{Every, HoldsRows}
 use Rattle.lq_language.specs.Operations.{on_ok}
 use Rattle.lq_language.specs.Operators.{Pattern, One, With, bind, call_meaning, element_at, lambda, names_of, operator_meaning, operators_items, operators_meaning, operators_type_at, pair, parts_meaning, pattern_after, pattern_behind, pattern_type, result_of, unnamed}
-use Rattle.lq_language.specs.Stream.{Stream, both, elements_of, expand_by, join_by, on_value, select_by, where_by, with_keys}
+use Rattle.lq_language.specs.Stream.{Stream, both, expand_by, join_by, on_value, select_by, where_by, with_keys}
 use Rattle.lq_language.specs.Names.{Names}
 use Rattle.lq_language.specs.OperandTypes.{is_scalar}
 use Rattle.lq_language.specs.Meaning.{as_sequence}
@@ -36,7 +36,7 @@ use Rattle.lq_language.specs.declared.calls.Paired.TheVariants as paired
 use Rattle.lq_language.specs.declared.calls.Part.{Part}
 use Rattle.lq_grammar.specs.declared.syntax.Join.{Join}
 use Rattle.lq_grammar.specs.declared.syntax.SortKey.{SortKey}
-use Rattle.lq_language.proofs.AlikeStreamLaws.{Agree, Alike, KeysAlike, Pair, agree_ok, both_agree, every_element, expand_alike, group_alike, join_alike, on_ok_agree, order_alike, select_alike, where_alike}
+use Rattle.lq_language.proofs.AlikeStreamLaws.{Agree, Alike, KeysAlike, Pair, agree_ok, both_agree, expand_alike, group_alike, join_alike, on_ok_agree, order_alike, select_alike, where_alike}
 use Rattle.lq_language.proofs.MatchLaws.{every_match}
 use Rattle.lq_language.proofs.ItemLaws.{every_more, every_none, first_of, others_of}
 use Rattle.lq_language.proofs.FindingLaws.{map_by, when_by}

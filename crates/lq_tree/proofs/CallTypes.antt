@@ -36,7 +36,7 @@ locals_alike (With p n t) item places = ap (λ locals. (n, t) ∷ locals) (local
 pub names_alike : (schemas : List Schema) (places : Places) (p : Pattern) → names_of_places schemas (with_item places p)
     ≡ names_of (names_of_places schemas places) p
 names_alike schemas places p =
-    ap (λ (locals : List (List ℕ × Ty)). record { tables = schemas; session = map (λ place. place.known) places.session; locals = locals }) (sym (locals_alike p (form.Slot places.depth) places.locals))
+    ap (λ (locals : List (List ℕ × Ty)). record { tables = schemas; predicates = places.predicates; session = map (λ place. place.known) places.session; locals = locals }) (sym (locals_alike p (form.Slot places.depth) places.locals))
 
 -- what a stage's items represent
 abbrev pub pattern_found : Option PipelineForm → Option Pattern

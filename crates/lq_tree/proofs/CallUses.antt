@@ -17,7 +17,7 @@ use Rattle.lq_language.specs.declared.calls.Operator.TheVariants as operator
 use Rattle.lq_language.specs.declared.calls.Paired.{Paired}
 use Rattle.lq_language.specs.declared.calls.Paired.TheVariants as paired
 use Rattle.lq_language.specs.declared.calls.Part.{Part}
-use Rattle.lq_language.specs.declared.rights.Use.{Use}
+use Rattle.lq_language.specs.Mentions.{Mention}
 use Rattle.lq_grammar.specs.declared.syntax.Join.{Join}
 use Rattle.lq_grammar.specs.declared.syntax.SortKey.{SortKey}
 use Rattle.lq_language.specs.Maps.{map_key}
@@ -39,7 +39,7 @@ use Rattle.lq_tree.proofs.WalkLaws.{gathered_all, traversed, walk_none}
 kept_by : (test : Tree → Bool) (o : Option Tree) (found : Tree) → option_and_then (λ x. when (test x) (Some x)) o ≡ Some found → o ≡ Some found
 kept_by test o found h = option_and_then_some _ o found h (λ x there passed. when_by (test x) (Some x) found passed (λ passes same. there ∙ same))
 
-module _ (schemas : List Schema) {X : Type 0} (tree : X → Binds) (typed : X → Names → Option Ty) (uses : X → Names → List Use)
+module _ (schemas : List Schema) {X : Type 0} (tree : X → Binds) (typed : X → Names → Option Ty) (uses : X → Names → List Mention)
     (alike : (x : X) (places : Places) → type_found (tree x places) ≡ typed x (names_of_places schemas places))
     (used : (x : X) (places : Places) → UseWhatIsKnown places → (r : Tree) → tree x places ≡ Some r → form_uses r.form ≡ uses x (names_of_places schemas places))
     (places : Places) (nothing : UseWhatIsKnown places) where
@@ -56,7 +56,7 @@ module _ (schemas : List Schema) {X : Type 0} (tree : X → Binds) (typed : X �
       ∙ ap (λ (ns : Names). uses x (with_local ns n t)) (names_alike schemas places p)
 
   -- what comes after a call uses what came before it, and this
-  abbrev Behind : List Use → PipelineForm → PipelineForm → Type 0
+  abbrev Behind : List Mention → PipelineForm → PipelineForm → Type 0
   Behind us stage next = form_uses next.form ≡ form_uses stage.form ++ us
 
   -- ---- calls that pair items
@@ -72,7 +72,7 @@ module _ (schemas : List Schema) {X : Type 0} (tree : X → Binds) (typed : X �
       (at_pair p n t v found (kept_by (λ x. has_place (out-Ty x.ty)) _ found there)))
 
   -- the form of a source's items
-  items_used : (us : List Use) (o : Option Tree) (items : Tree) → ((r : Tree) → o ≡ Some r → form_uses r.form ≡ us)
+  items_used : (us : List Mention) (o : Option Tree) (items : Tree) → ((r : Tree) → o ≡ Some r → form_uses r.form ≡ us)
       → option_and_then items_of_tree o ≡ Some items → form_uses items.form ≡ us
   items_used us o items have h =
       option_and_then_some items_of_tree o items h
@@ -152,13 +152,13 @@ module _ (schemas : List Schema) {X : Type 0} (tree : X → Binds) (typed : X �
   -- ---- keys
 
   keys_used : (p : Pattern) (ks : List (SortKey X)) (keys : List (SortKey Form)) → traversed (key_tree schemas tree (with_item places p)) ks ≡ Some keys
-      → flat_map (λ (k : SortKey (List Use)). k.value) (map (map_key form_uses) keys) ≡ flat_map (λ k. uses k.value (names_of names p)) ks
+      → flat_map (λ (k : SortKey (List Mention)). k.value) (map (map_key form_uses) keys) ≡ flat_map (λ k. uses k.value (names_of names p)) ks
   keys_used p [] keys h =
-      subst (λ (found : List (SortKey Form)). flat_map (λ (k : SortKey (List Use)). k.value) (map (map_key form_uses) found) ≡ []) (same_Some [] keys h) refl
+      subst (λ (found : List (SortKey Form)). flat_map (λ (k : SortKey (List Mention)). k.value) (map (map_key form_uses) found) ≡ []) (same_Some [] keys h) refl
   keys_used p (k ∷ ks) keys h =
       option_and_then_some _ (key_tree schemas tree (with_item places p) k) keys h
       (λ y y_there made. map_by _ (traversed (key_tree schemas tree (with_item places p)) ks) keys made
-      (λ ys ys_there is. subst (λ (found : List (SortKey Form)). flat_map (λ (z : SortKey (List Use)). z.value) (map (map_key form_uses) found)
+      (λ ys ys_there is. subst (λ (found : List (SortKey Form)). flat_map (λ (z : SortKey (List Mention)). z.value) (map (map_key form_uses) found)
       ≡ uses k.value (names_of names p) ++ flat_map (λ z. uses z.value (names_of names p)) ks) is
       (ap₂ (λ us vs. us ++ vs)
       (map_by _ (option_and_then sortable_tree (tree k.value (with_item places p))) y y_there
@@ -237,7 +237,7 @@ module _ (schemas : List Schema) {X : Type 0} (tree : X → Binds) (typed : X �
   -- ---- bodies, and what follows
 
   -- a body over items, and what follows it
-  body_used : (n : List ℕ) (ops : List (Operator X)) (items r : Tree) (rest : Ty → List Use) → body_tree schemas tree places n ops items ≡ Some r
+  body_used : (n : List ℕ) (ops : List (Operator X)) (items r : Tree) (rest : Ty → List Mention) → body_tree schemas tree places n ops items ≡ Some r
       → form_uses r.form ++ rest r.ty
       ≡ form_uses items.form ++ under (sole_pattern typed names n items.ty)
       (λ p. operators_uses typed uses names ops p ++ under (operators_items typed names ops p) rest)
@@ -294,7 +294,7 @@ module _ (schemas : List Schema) {X : Type 0} (tree : X → Binds) (typed : X �
       (sym (source_found schemas tree typed alike places c.source) ∙ ap type_found source_there)))))))
     where
       -- what is used after the source, where its items are of this type
-      behind : Call X → Ty → List Use
+      behind : Call X → Ty → List Mention
       behind d t =
           under (sole_pattern typed names d.name t)
           (λ p. operators_uses typed uses names d.operators p ++ under (operators_items typed names d.operators p) (parts_uses typed uses names d.rest))

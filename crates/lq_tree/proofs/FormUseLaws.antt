@@ -2,11 +2,12 @@
 use Rattle.std.proofs.Common.{◌≡◌, List, map, ℕ, Bool}
 use Rattle.lq_value.specs.declared.scalar.Scalar.{Scalar}
 use Rattle.lq_value.specs.declared.ty.Ty.{Ty}
+use Rattle.lq_host.specs.declared.call.Pick.{Pick}
 use Rattle.lq_language.specs.Maps.{map_field, map_key}
 use Rattle.lq_language.specs.declared.methods.Given.{Given}
 use Rattle.lq_language.specs.declared.methods.Simple.{Simple}
 use Rattle.lq_language.specs.declared.operation.Op.{Op}
-use Rattle.lq_language.specs.declared.rights.Use.{Use}
+use Rattle.lq_language.specs.Mentions.{Mention}
 use Rattle.lq_grammar.specs.declared.syntax.Field.{Field}
 use Rattle.lq_grammar.specs.declared.syntax.SortKey.{SortKey}
 use Rattle.lq_tree.specs.UsesOfForms.{form_uses, form_uses_step}
@@ -16,13 +17,13 @@ use Rattle.lq_tree.specs.declared.tree.Form.TheVariants as form
 use Rattle.lq_tree.specs.declared.tree.Joined.{Joined}
 use Rattle.lq_tree.proofs.FormSteps.{folded_at}
 
-abbrev used : Form → List Use
+abbrev used : Form → List Mention
 used = form_uses
 
-abbrev step : Form-F (List Use) → List Use
+abbrev step : Form-F (List Mention) → List Mention
 step = form_uses_step
 
-pub uses_at : (f : Form) {layer : Form-F Form} → out-Form f ≡ layer → used f ≡ step (map-Form Form (List Use) used layer)
+pub uses_at : (f : Form) {layer : Form-F Form} → out-Form f ≡ layer → used f ≡ step (map-Form Form (List Mention) used layer)
 unfolding form_uses
 uses_at f is = folded_at step f is
 
@@ -43,6 +44,9 @@ of_table n = uses_at _ (form.outs-Table n)
 
 pub of_column : (a : Form) (n c : ℕ) → used (form.Column a n c) ≡ step (Form-F.Column (used a) n c)
 of_column a n c = uses_at _ (form.outs-Column a n c)
+
+pub of_host : (p : ℕ) (a : Form) (n : ℕ) (columns : Pick) → used (form.Host p a n columns) ≡ step (Form-F.Host p (used a) n columns)
+of_host p a n columns = uses_at _ (form.outs-Host p a n columns)
 
 pub of_member : (a : Form) (n : ℕ) → used (form.Member a n) ≡ step (Form-F.Member (used a) n)
 of_member a n = uses_at _ (form.outs-Member a n)
@@ -98,7 +102,7 @@ of_all a f = uses_at _ (form.outs-All a f)
 pub of_select_many : (a inner result : Form) → used (form.SelectMany a inner result) ≡ step (Form-F.SelectMany (used a) (used inner) (used result))
 of_select_many a inner result = uses_at _ (form.outs-SelectMany a inner result)
 
-abbrev pub join_used : Joined Form → Joined (List Use)
+abbrev pub join_used : Joined Form → Joined (List Mention)
 join_used j = record { inner = used j.inner; outer_key = used j.outer_key; inner_key = used j.inner_key; grouped = j.grouped; result = used j.result }
 
 pub of_join : (a : Form) (j : Joined Form) → used (form.Join a j) ≡ step (Form-F.Join (used a) (join_used j))

@@ -22,8 +22,8 @@ use Rattle.lq_language.specs.OperandMeaning.{items_of}
 use Rattle.lq_language.specs.OperationLaws.{AreOfOneKind, IsNumber, IsText, IsTruth}
 use Rattle.lq_language.specs.Operations.{same_content}
 use Rattle.lq_language.specs.Operators.{first, first_member, pair, second, second_member}
-use Rattle.lq_language.specs.Typing.{has_default, is_int}
-use Rattle.lq_language.specs.OperandTypes.{is_number as is_number_type}
+use Rattle.lq_language.specs.Typing.{has_default}
+use Rattle.lq_language.specs.OperandTypes.{is_int, is_number as is_number_type}
 use Rattle.lq_language.specs.ValuesOfTypes.{Every}
 use Rattle.lq_language.specs.Worlds.{World}
 use Rattle.lq_language.specs.declared.methods.Given.{Given}
@@ -359,6 +359,7 @@ module _ {R : Type 0} (world : World R) where
   runs_on (kind.at_first a slots h kinds) = at_layer slots _ _ (form.outs-First a) (λ v is. pairs_have_parts R v (kinds v is))
   runs_on (kind.at_second a slots h kinds) = at_layer slots _ _ (form.outs-Second a) (λ v is. pairs_have_parts R v (kinds v is))
   runs_on (kind.at_column a n c slots h kinds) = at_layer slots _ _ (form.outs-Column a n c) tt
+  runs_on (kind.at_host p a n columns slots h kinds) = at_layer slots _ _ (form.outs-Host p a n columns) tt
   runs_on (kind.at_member a place slots h kinds) = at_layer slots _ _ (form.outs-Member a place) tt
   runs_on (kind.at_key a slots h kinds) = at_layer slots _ _ (form.outs-Key a) tt
   runs_on (kind.at_one o a slots h kinds) =

@@ -1,6 +1,6 @@
 -- What is run on operands of the kinds that are asked of them means the same whatever is put where there is no meaning: by induction over
 -- what is run.
-use Rattle.std.proofs.Common.{◌≡◌, ◌∷◌, ◌++◌, ◌&&◌, if◌then◌else◌, List, [], map, ℕ, zero, suc, ℤ, Bool, true, false, Some, Result, Ok, Err, ap, ap₂, ◌∙◌, not, sym, refl, subst, true≢false, option_and_then, option_map, slice_get}
+use Rattle.std.proofs.Common.{◌≡◌, ◌∷◌, ◌++◌, ◌&&◌, if◌then◌else◌, List, [], map, ℕ, zero, suc, ℤ, Bool, true, false, Option, Some, None, Result, Ok, Err, ap, ap₂, ◌∙◌, not, sym, refl, subst, true≢false, option_and_then, option_map, slice_get}
 use Rattle.lq_value.specs.SameAndOrder.{same_values as same_keys}
 use Rattle.lq_value.specs.declared.scalar.Scalar.{Scalar}
 use Rattle.lq_value.specs.declared.scalar.Scalar.TheVariants as scalar
@@ -14,8 +14,11 @@ use Rattle.lq_value.specs.declared.value.Value.TheVariants.{outs-Group as outs-v
 use Rattle.lq_language.specs.Arrangement.{Keyed, all_of, arranged, keyed, order_by, with_key}
 use Rattle.lq_language.specs.Enumerable.{all, as_count, concat, contains, element_at, except, intersect, skip, take_first, union}
 use Rattle.lq_language.specs.Maps.{map_field, map_key}
+use Rattle.lq_host.specs.Predicates.{answer_in}
+use Rattle.lq_host.specs.declared.call.Pick.{Pick}
+use Rattle.lq_host.specs.declared.call.Pick.TheVariants as numbers
 use Rattle.lq_language.specs.Worlds.{World}
-use Rattle.lq_language.specs.OperandMeaning.{as_value, cell_value, is_null, items_of, on_scalar, on_truth, scalar_of, stream_of, table_value}
+use Rattle.lq_language.specs.OperandMeaning.{answer_value, as_value, asked, asked_about, cell_value, is_null, items_of, on_scalar, on_truth, scalar_of, stream_of, table_value}
 use Rattle.lq_language.specs.ClauseMeaning.{as_group}
 use Rattle.lq_language.specs.ValuesOfTypes.{assuming}
 use Rattle.lq_language.specs.Operations.{of_one, of_two, on_ok, truth_of}
@@ -28,8 +31,8 @@ use Rattle.lq_language.specs.declared.operation.Op.{Op}
 use Rattle.lq_language.specs.declared.operation.Op.TheVariants as op
 use Rattle.lq_grammar.specs.declared.syntax.SortKey.{SortKey}
 use Rattle.lq_language.proofs.ItemLaws.{each_same}
-use Rattle.lq_tree.specs.FormMeaning.{Means, Slots, cell_in, form_meaning, form_step, if_there, is_null_value, is_true, joined_stream, key_in, matched, member_at, members_of, name_of_column, sort_key}
-use Rattle.lq_tree.specs.OperandKinds.{Among, Finds, HasCell, HasMember, IsEnumerable, IsGroup, IsScalar, IsScalarThat, MeetsKinds, Run, Runs, RunsFields, RunsKeys, TakesArgument, is_count, is_number, is_text, is_truth, items_in, takes_one, takes_two}
+use Rattle.lq_tree.specs.FormMeaning.{Means, Slots, arguments_at, cell_in, form_meaning, form_step, if_there, is_null_value, is_true, joined_stream, key_in, matched, member_at, members_of, name_of_column, sort_key}
+use Rattle.lq_tree.specs.OperandKinds.{Among, Finds, HasArguments, HasCell, HasMember, IsEnumerable, IsGroup, IsScalar, IsScalarThat, MeetsKinds, Run, Runs, RunsFields, RunsKeys, TakesArgument, is_count, is_number, is_text, is_truth, items_in, takes_one, takes_two}
 use Rattle.lq_tree.specs.OperandKinds as kind
 use Rattle.lq_tree.specs.TypedFormLaws.{KindsSuffice}
 use Rattle.lq_tree.specs.declared.tree.Form.{Form, map-Form, out-Form}
@@ -267,6 +270,28 @@ module _ {R : Type 0} (world : World R) (unknown : Fault) where
       ap (λ (x : Value R). cell_in other n c (out-Value R x)) is ∙ ap (cell_in other n c) (outs-Scalar scalar.Null)
       ∙ sym (ap (λ (x : Value R). cell_in world n c (out-Value R x)) is ∙ ap (cell_in world n c) (outs-Scalar scalar.Null))
 
+  arguments_alike : (n : ℕ) (columns : Pick) (r : R) → arguments_at other n columns r ≡ arguments_at world n columns r
+  arguments_alike n (numbers.One c) r = refl
+  arguments_alike n (numbers.Two c d) r = refl
+
+  answer_same : (o : Option Bool) → answer_value other o ≡ answer_value world o
+  answer_same (Some b) = refl
+  answer_same None = refl
+
+  asked_same : (p n : ℕ) (columns : Pick) (v : Value R) → HasArguments world n columns v
+      → asked_about other (Some p) (arguments_at other n columns) (out-Value R v) ≡ asked_about world (Some p) (arguments_at world n columns) (out-Value R v)
+  asked_same p n columns v (kind.an_asked r xs is there) =
+      ap (λ (x : Value R). asked_about other (Some p) (arguments_at other n columns) (out-Value R x)) is
+      ∙ ap (asked_about other (Some p) (arguments_at other n columns)) (outs-value-Row r)
+      ∙ ap (asked other (Some p)) (arguments_alike n columns r ∙ there) ∙ answer_same (answer_in world.predicates p xs)
+      ∙ sym (ap (λ (x : Value R). asked_about world (Some p) (arguments_at world n columns) (out-Value R x)) is
+      ∙ ap (asked_about world (Some p) (arguments_at world n columns)) (outs-value-Row r) ∙ ap (asked world (Some p)) there)
+  asked_same p n columns v (kind.none_asked is) =
+      ap (λ (x : Value R). asked_about other (Some p) (arguments_at other n columns) (out-Value R x)) is
+      ∙ ap (asked_about other (Some p) (arguments_at other n columns)) (outs-Scalar scalar.Null)
+      ∙ sym (ap (λ (x : Value R). asked_about world (Some p) (arguments_at world n columns) (out-Value R x)) is
+      ∙ ap (asked_about world (Some p) (arguments_at world n columns)) (outs-Scalar scalar.Null))
+
   member_same : (place : ℕ) (v : Value R) → HasMember place v → member_at other place (out-Value R v) ≡ member_at world place (out-Value R v)
   member_same place v (kind.a_member vs m is at) =
       let there : option_map (λ (d : List ℕ × Value R). d.1) (slice_get vs place) ≡ Some m.1 = ap (option_map (λ (d : List ℕ × Value R). d.1)) at in
@@ -346,6 +371,10 @@ module _ {R : Type 0} (world : World R) (unknown : Fault) where
       by_layer slots _ (form.outs-Column a n c)
       (after_same (mean' a slots) (mean a slots) (λ v. cell_in other n c (out-Value R v)) (λ v. cell_in world n c (out-Value R v)) (same h)
       (λ v is. cell_same n c v (kinds v is)))
+  same (kind.at_host p a n columns slots h kinds) =
+      by_layer slots _ (form.outs-Host p a n columns)
+      (after_same (mean' a slots) (mean a slots) (λ v. asked_about other (Some p) (arguments_at other n columns) (out-Value R v))
+      (λ v. asked_about world (Some p) (arguments_at world n columns) (out-Value R v)) (same h) (λ v is. asked_same p n columns v (kinds v is)))
   same (kind.at_member a place slots h kinds) =
       by_layer slots _ (form.outs-Member a place)
       (after_same (mean' a slots) (mean a slots) (λ v. member_at other place (out-Value R v)) (λ v. member_at world place (out-Value R v)) (same h)

@@ -3,6 +3,8 @@ pub mod CallTypes
 pub mod CallUses
 pub mod FormSteps
 pub mod FormUseLaws
+pub mod HostTrees
+pub mod HostMeans
 pub mod KindAnswers
 pub mod KindsSuffice
 pub mod MappedItems

@@ -188,7 +188,7 @@ module _ {R : Type 0} (world : World R) (slots : Slots R) where
 
   member_goal : (m : List ℕ) (t : Ty) (layer : Ty-F Ty) (f : Form) (r : Tree) → out-Ty t ≡ layer → Member world.schemas m f layer r → Goal m t f r
   member_goal m t _ f _ is (a_column n c schema column there named at) =
-      let known = column_known world.schemas m f n c schema column there named at in
+      let known = column_known world.schemas m n c schema column there named at in
       subst (λ (u : Ty). Goal m u f (tree_of (type_of_column column.ty) (form.Column f n c))) (sym (is_of_layer t ∙ ap type_with is))
       (by_step m (ty.Row n) (type_of_column column.ty) f (form.Column f n c) (λ v. cell_in world n c (out-Value R v))
       (meaning_at world slots _ (form.outs-Column f n c)) (column_step n c m (type_of_column column.ty) known.0 known.1))

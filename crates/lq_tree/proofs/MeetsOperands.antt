@@ -1,29 +1,37 @@
 -- Wherever a typed form is run, its operands are faults or of the kinds that are asked of them: by induction over the rules, as evaluation
 -- keeps what they say.
-use Rattle.std.proofs.Common.{◌≡◌, ◌∷◌, ◌++◌, List, [], ℕ, true, Some, Ok, ap, refl, slice_get}
+use Rattle.std.proofs.Common.{◌≡◌, ◌∷◌, ◌++◌, List, [], ℕ, true, Some, Ok, ap, ◌∙◌, refl, slice_get}
 use Rattle.lq_value.specs.declared.ty.Ty.{Ty, out-Ty}
 use Rattle.lq_value.specs.declared.ty.Ty.TheOpen.{Ty-F}
+use Rattle.lq_value.specs.declared.ty.Ty.TheVariants as ty
+use Rattle.lq_value.specs.declared.ty.Ty.TheVariants.{outs-Row}
 use Rattle.lq_value.specs.declared.value.Value.{Value}
-use Rattle.lq_language.specs.Worlds.{World}
+use Rattle.lq_value.specs.declared.value.Value.TheVariants as value
+use Rattle.lq_host.specs.declared.call.Pick.{Pick}
+use Rattle.lq_grammar.specs.declared.syntax.Picked.{Picked}
+use Rattle.lq_language.specs.HostNames.{are_int_columns}
+use Rattle.lq_language.specs.Worlds.{World, known_predicates}
 use Rattle.lq_language.specs.OperandMeaning.{stream_of}
 use Rattle.lq_language.specs.ValuesOfTypes.{HoldsRows}
 use Rattle.lq_language.specs.Names.{column_type}
 use Rattle.lq_language.specs.OperandTypes.{is_number, is_text}
-use Rattle.lq_language.specs.MeaningLaws.{IsValueOf}
+use Rattle.lq_language.specs.MeaningLaws.{IsValueOf, by_row}
 use Rattle.lq_language.specs.declared.operation.Op.TheVariants as op
 use Rattle.lq_language.proofs.AlikeStreamLaws.{Pair, agree_ok, both_agree, select_alike}
+use Rattle.lq_language.proofs.HostMeaningLaws.{arguments_there}
 use Rattle.lq_language.proofs.TypedOperatorLaws.{coalesced_plain}
 use Rattle.lq_language.proofs.ValueLaws.{RecordOrNull, RowOrNull, a_record, a_row, group_value, is_plain, no_record, no_row, plain_value, record_value, row_value}
 use Rattle.lq_tree.specs.FormMeaning.{Slots, form_meaning, name_of_column}
-use Rattle.lq_tree.specs.OperandKinds.{Finds, HasCell, HasMember, IsEnumerable, IsGroup, IsPair, IsScalar, IsScalarThat, MeetsKinds, Runs, RunsFields, RunsKeys, SortAlike, takes_one, takes_two}
+use Rattle.lq_tree.specs.OperandKinds.{Finds, HasArguments, HasCell, HasMember, IsEnumerable, IsGroup, IsPair, IsScalar, IsScalarThat, MeetsKinds, Runs, RunsFields, RunsKeys, SortAlike, takes_one, takes_two}
 use Rattle.lq_tree.specs.OperandKinds as kind
-use Rattle.lq_tree.specs.TypedForms.{Both, FormClaim, Gives, Has, IsTyped, Many, Members, Of, Shape, Sorts, matched_items, with_slot}
+use Rattle.lq_tree.specs.TypedForms.{ArePicked, Both, FormClaim, Gives, Has, IsTyped, Many, Members, Of, Shape, Sorts, matched_items, with_slot}
 use Rattle.lq_tree.specs.TypedForms as rule
-use Rattle.lq_tree.specs.TypedFormLaws.{AreOfShapes, MeetsOperands, StatementsMeetOperands}
+use Rattle.lq_tree.specs.TypedFormLaws.{AreOfShapes, ConditionsMeetOperands, MeetsOperands, StatementsMeetOperands}
 use Rattle.lq_tree.specs.declared.tree.Form.{Form}
+use Rattle.lq_tree.proofs.HostMeans.{arguments_same}
 use Rattle.lq_tree.proofs.OperandLemmas.{alike_values, argument_taken, beside_taken, both_so, join_kind, pairs_taken, same_kind, two_taken, enumerable_value, item_taken, items_taken, join_keys, key_value, number_value, object_value, scalar_value, search_taken, second_items, sign_taken, suited, text_value, truth_value}
 use Rattle.lq_tree.proofs.TypedMeanings.{found_fit, keeps, one_more, placed, slot_there, two_more}
-use Rattle.lq_tree.proofs.TypedStatements.{typed_statements}
+use Rattle.lq_tree.proofs.TypedStatements.{typed_conditions, typed_statements}
 
 module _ {R : Type 0} (world : World R) (holds : HoldsRows world) where
   abbrev Val : Ty → Value R → Type 0
@@ -40,6 +48,14 @@ module _ {R : Type 0} (world : World R) (holds : HoldsRows world) where
     by : RowOrNull world n v → HasCell world n c v
     by (a_row r cells same) = let cell = cells m u typed in kind.a_cell r m cell.0 same name cell.1
     by (no_row same) = kind.no_row same
+
+  arguments_found : (n : ℕ) (columns : Pick) (named : Picked) (t : Ty) → out-Ty t ≡ Ty-F.Row n → ArePicked world.schemas n columns named
+      → are_int_columns world.schemas n named ≡ true → (v : Value R) → Val t v → HasArguments world n columns v
+  arguments_found n columns named t is picked ints v fits = by (row_value world t n v is fits) where
+    by : RowOrNull world n v → HasArguments world n columns v
+    by (a_row r cells same) =
+        let xs = arguments_there world n r cells named ints in kind.an_asked r xs.0 same (arguments_same world n columns named picked r ∙ xs.1)
+    by (no_row same) = kind.none_asked same
 
   member_there : (t : Ty) (ms : List (List ℕ × Ty)) (place : ℕ) (m : List ℕ × Ty) → out-Ty t ≡ Ty-F.Rec ms → slice_get ms place ≡ Some m
       → (v : Value R) → Val t v → HasMember place v
@@ -82,6 +98,9 @@ module _ {R : Type 0} (world : World R) (holds : HoldsRows world) where
   meets (rule.of_column shapes row n c m t u h is name typed) =
       λ slots fit. kind.at_column row n c slots (meets h slots fit)
       (λ v v_is. cell_there n c m t u is name typed v (keeps world holds h slots fit v v_is))
+  meets (rule.of_host shapes p row n columns named t h is picked ints) =
+      λ slots fit. kind.at_host p row n columns slots (meets h slots fit)
+      (λ v v_is. arguments_found n columns named t is picked ints v (keeps world holds h slots fit v v_is))
   meets (rule.of_member shapes a place t ms m h is there) =
       λ slots fit. kind.at_member a place slots (meets h slots fit)
       (λ v v_is. member_there t ms place m is there v (keeps world holds h slots fit v v_is))
@@ -223,4 +242,9 @@ pub meets_operands : {R : Type 0} → MeetsOperands R
 meets_operands world holds shapes f s typed slots fit = meets world holds typed slots fit
 
 pub statements_meet_operands : {R : Type 0} → StatementsMeetOperands R
-statements_meet_operands world definitions holds all e tree bound = meets world holds (typed_statements world.schemas definitions all e tree bound) [] tt
+statements_meet_operands world definitions holds all e tree bound = meets world holds (typed_statements world.schemas (known_predicates world.predicates) definitions all e tree bound) [] tt
+
+pub conditions_meet_operands : {R : Type 0} → ConditionsMeetOperands R
+conditions_meet_operands world definitions holds all x n e tree bound row cells =
+    meets world holds (typed_conditions world.schemas (known_predicates world.predicates) definitions all x n e tree bound) (value.Row row ∷ [])
+    (by_row (ty.Row n) n row (outs-Row n) cells, tt)

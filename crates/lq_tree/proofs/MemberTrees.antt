@@ -27,6 +27,20 @@ first_passes test (y ∷ ys) x h = by (test y) refl h (first_passes test ys x) w
   by true is found rest = ap test (sym (same_Some y x found)) ∙ is
   by false is found rest = rest found
 
+module _ (schemas : List Schema) (m : List ℕ) where
+  -- a column at the number that its name has is of that name and of the type that the name has
+  pub column_known : (n c : ℕ) (schema : Schema) (column : Column) → slice_get schemas n ≡ Some schema → first_named (λ d. d.name) m schema.columns ≡ Some c
+      → slice_get schema.columns c ≡ Some column
+      → (name_of_column schemas n c ≡ Some m) × (column_type schemas n m ≡ Some (type_of_column column.ty))
+  column_known n c schema column there named at =
+      let first : first_with (λ (d : Column). bytes_eq d.name m) schema.columns ≡ Some column =
+      sym (first_position (λ (d : Column). bytes_eq d.name m) schema.columns) ∙ ap (get_at schema.columns) named ∙ at in (
+        ap (option_and_then (column_name c)) there ∙ ap (option_map (λ (d : Column). d.name)) at
+            ∙ ap Some ((bytes_eq-Decides column.name m).0 (first_passes _ schema.columns column first)),
+        ap (option_and_then (λ (s : Schema). option_map (λ (d : Column). type_of_column d.ty) (column_named m s.columns))) there
+            ∙ ap (option_map (λ (d : Column). type_of_column d.ty)) (sym (column_first m schema.columns) ∙ first),
+      )
+
 module _ (schemas : List Schema) (m : List ℕ) (a : Form) where
   -- the trees of the member of this name, for each layer of the type that has one
   pub data Member : Ty-F Ty → Tree → Type 0 where
@@ -66,16 +80,3 @@ module _ (schemas : List Schema) (m : List ℕ) (a : Form) where
   member_by Ty-F.Bool r h = absurd (none-some r h)
   member_by Ty-F.Null r h = absurd (none-some r h)
   member_by (Ty-F.Seq t) r h = absurd (none-some r h)
-
-  -- a column at the number that its name has is of that name and of the type that the name has
-  pub column_known : (n c : ℕ) (schema : Schema) (column : Column) → slice_get schemas n ≡ Some schema → first_named (λ d. d.name) m schema.columns ≡ Some c
-      → slice_get schema.columns c ≡ Some column
-      → (name_of_column schemas n c ≡ Some m) × (column_type schemas n m ≡ Some (type_of_column column.ty))
-  column_known n c schema column there named at =
-      let first : first_with (λ (d : Column). bytes_eq d.name m) schema.columns ≡ Some column =
-      sym (first_position (λ (d : Column). bytes_eq d.name m) schema.columns) ∙ ap (get_at schema.columns) named ∙ at in (
-        ap (option_and_then (column_name c)) there ∙ ap (option_map (λ (d : Column). d.name)) at
-            ∙ ap Some ((bytes_eq-Decides column.name m).0 (first_passes _ schema.columns column first)),
-        ap (option_and_then (λ (s : Schema). option_map (λ (d : Column). type_of_column d.ty) (column_named m s.columns))) there
-            ∙ ap (option_map (λ (d : Column). type_of_column d.ty)) (sym (column_first m schema.columns) ∙ first),
-      )

@@ -24,6 +24,7 @@ use Rattle.lq_language.specs.Operators.{One}
 use Rattle.lq_language.specs.Stream.{Stream}
 use Rattle.lq_language.specs.Types.{element_type, is_fresh, is_within}
 use Rattle.lq_language.specs.Names.{Names, table_number, with_local, SessionName}
+use Rattle.lq_language.specs.declared.host_name.HostName.{HostName}
 use Rattle.lq_language.specs.OperandTypes.{is_text, is_text_type}
 use Rattle.lq_language.specs.Meaning.{argument_meaning, as_sequence, called_meaning, enumerable_meaning, given_meaning, is_sequence_layer, members_meaning, method_type_at, search_meaning, settled, simple_meaning, through_meaning, node_meaning, value_of_member, global_value, session_value, value_of_name}
 use Rattle.lq_language.specs.MeaningLaws.{AreMembers, Fits, IsValueOf, by_record, by_row, no_member, one_member, IsSessionOfValues}
@@ -43,13 +44,14 @@ use Rattle.lq_language.proofs.ScalarResultLaws.{given_of, search_given}
 use Rattle.lq_language.proofs.TypedMethodLaws.{given_agree, given_typed, scalar_after, simple_typed, stream_alike, through_typed, truth_same}
 use Rattle.lq_language.proofs.TypingLaws.{is_text_of, is_truth}
 use Rattle.lq_language.proofs.ValueLaws.{scalar_is, sequence_is}
-use Rattle.lq_tree.specs.Binding.{Binds, and_tree, binary_tree, coalesce_tree, conditional_tree, member_tree, of_two_trees, or_tree, called_tree, enumerable_tree, field_tree, fields_tree, form_of_field, gathered, lambda_tree, name_tree, node_tree, placed_tree, record_tree, search_form, search_tree, settled_tree, tree_of, type_of_field, within_tree, global_tree}
+use Rattle.lq_tree.specs.Binding.{Binds, and_tree, binary_tree, coalesce_tree, conditional_tree, member_tree, of_two_trees, or_tree, called_tree, enumerable_tree, field_tree, fields_tree, form_of_field, gathered, host_tree, lambda_tree, name_tree, node_tree, placed_tree, record_tree, search_form, search_tree, settled_tree, tree_of, type_of_field, within_tree, global_tree}
 use Rattle.lq_tree.specs.FormMeaning.{Slots, form_meaning, is_true, members_of}
 use Rattle.lq_tree.specs.Places.{Place, Places, names_of_places, place_of, with_name, SessionPlace, session_place}
 use Rattle.lq_tree.specs.declared.tree.Form.{Form}
 use Rattle.lq_tree.specs.declared.tree.Form.TheVariants as form
 use Rattle.lq_tree.specs.declared.tree.Tree.{Tree}
 use Rattle.lq_tree.proofs.FormSteps.{meaning_at}
+use Rattle.lq_tree.proofs.HostMeans.{host_means}
 use Rattle.lq_tree.proofs.MeansMembers.{member_means, same_agree, settled_goal}
 use Rattle.lq_tree.proofs.MeansOperators.{and_means, binary_means, coalesce_means, conditional_means, minus_means, not_means, or_means}
 use Rattle.lq_tree.proofs.MethodForms.{method_form_means}
@@ -423,7 +425,11 @@ module _ {R : Type 0} (world : World R) (holds : HoldsRows world) (fits : IsSess
         (λ z z_there found. two_bound (conditional_tree z) a b r _ found
         (λ x y x_there y_there made. conditional_means world slots z x y r (meant c scope) (meant a scope) (meant b scope) made (here c z z_there)
         (here a x x_there) (here b y y_there)))
-    node_means (node.Host p xs) r h = absurd (none-some r h)
+    node_means (node.Host p row columns) r h =
+        option_and_then_some (host_tree world.schemas places.predicates p columns) (tree row places) r h
+        (λ found bound made. host_means world slots p columns found r (meant row scope)
+        (ap (λ (known : List HostName). host_tree world.schemas known p columns found) (sym at.1.3) ∙ made) (here row found bound))
+    node_means (node.HostOther p xs) r h = absurd (none-some r h)
     node_means (node.New fields) r h = record_means fields r h
     node_means (node.Method a m arguments) r h =
         option_and_then_some _ (tree a places) r h

@@ -7,6 +7,7 @@ use Rattle.lq_language.specs.EnumerableCalls.{EnumerableCall, By, Plain, With, e
 use Rattle.lq_language.specs.Maps.{map_argument, map_enumerable, map_field, map_node}
 use Rattle.lq_language.specs.Members.{is_search, sole_argument}
 use Rattle.lq_language.specs.Types.{if_placed, when}
+use Rattle.lq_language.specs.HostNames.{host_type}
 use Rattle.lq_language.specs.Names.{Names}
 use Rattle.lq_language.specs.OperandTypes.{coalesced, is_bool, is_number, is_text_type, truth_type}
 use Rattle.lq_language.specs.Typing.{argument_type, are_distinct, called_type, if_limited, members_type, method_type, record_type, type_of_member, type_of_operation, node_type, type_of_name}
@@ -21,6 +22,7 @@ use Rattle.lq_tree.specs.Binding.{Binds, and_tree, binary_form, binary_tree, coa
 use Rattle.lq_tree.specs.Places.{Places, names_of_places, place_of}
 use Rattle.lq_tree.specs.declared.tree.Form.TheVariants as form
 use Rattle.lq_tree.specs.declared.tree.Tree.{Tree}
+use Rattle.lq_tree.proofs.HostTrees.{host_typed}
 use Rattle.lq_tree.proofs.TreePullLaws.{names_kept}
 use Rattle.lq_tree.proofs.TypeLaws.{choice_found, local_place, map_then, member_found, method_found, name_found, number_found, record_found_at, truth_found, truths_found, two_found, type_found, typed_found}
 
@@ -117,7 +119,8 @@ module _ (schemas : List Schema) {X : Type 0} (tree : X → Binds) (typed : X �
   node_found (node.Conditional c a b) places =
       choice_found (tree c places) (tree a places) (tree b places)
       ∙ (λ i. node_type (node.Conditional (λ ns. alike c places i) (λ ns. alike a places i) (λ ns. alike b places i)) (names places))
-  node_found (node.Host p xs) places = refl
+  node_found (node.Host p row columns) places = host_typed schemas places p columns (tree row places) ∙ ap (host_type (names places) p columns) (alike row places)
+  node_found (node.HostOther p xs) places = refl
   node_found (node.New fields) places = record_found_at schemas tree typed alike places fields ∙ sym (record_by typed (λ t. t) fields (names places))
   node_found (node.Method a m arguments) places =
       method_found schemas tree typed alike places m arguments a (tree a places) (alike a places) ∙ sym (method_by typed (λ t. t) a m arguments (names places))

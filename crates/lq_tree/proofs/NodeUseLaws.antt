@@ -7,6 +7,8 @@ use Rattle.lq_value.specs.declared.ty.Ty.{Ty, out-Ty}
 use Rattle.lq_value.specs.declared.ty.Ty.TheOpen.{Ty-F}
 use Rattle.lq_language.specs.ClauseTyping.{source_type}
 use Rattle.lq_language.specs.EnumerableCalls.{EnumerableCall, By, Plain, With, enumerable_call, method_with_lambda, method_with_value, simple_method}
+use Rattle.lq_host.specs.declared.call.Pick.{Pick}
+use Rattle.lq_language.specs.HostNames.{column_numbers}
 use Rattle.lq_language.specs.Maps.{map_field}
 use Rattle.lq_language.specs.OperandMeaning.{equality_truth}
 use Rattle.lq_language.specs.ValuesOfTypes.{Every}
@@ -14,32 +16,33 @@ use Rattle.lq_language.specs.Members.{search_named, sole_argument}
 use Rattle.lq_language.specs.Operations.{operation_of}
 use Rattle.lq_language.specs.Operators.{Pattern, One, With as Pair}
 use Rattle.lq_language.specs.Types.{element_type, is_fresh, is_within}
-use Rattle.lq_language.specs.Names.{Names, table_number, with_local, SessionName}
+use Rattle.lq_language.specs.Names.{Names, table_number, with_local, SessionName, column_number}
 use Rattle.lq_language.specs.OperandTypes.{coalesced, is_bool, is_equality, is_number, is_text}
-use Rattle.lq_language.specs.Uses.{argument_uses, column_number, member_uses, name_uses, node_uses, under, global_uses}
+use Rattle.lq_language.specs.Uses.{argument_uses, host_named, host_uses, member_uses, name_uses, node_uses, under, global_uses}
 use Rattle.lq_language.specs.Meaning.{is_sequence_layer}
 use Rattle.lq_language.specs.Typing.{given_type, simple_type, through_type, type_of_choice, type_of_operation}
 use Rattle.lq_language.specs.declared.operation.Op.TheVariants as op
-use Rattle.lq_language.specs.declared.rights.Use.{Use}
-use Rattle.lq_language.specs.declared.rights.Use.TheVariants as of
+use Rattle.lq_language.specs.Mentions.{Mention, Column}
 use Rattle.lq_grammar.specs.declared.syntax.Argument.{Argument}
 use Rattle.lq_grammar.specs.declared.syntax.Argument.TheVariants as argument
 use Rattle.lq_grammar.specs.declared.syntax.Binary.{Binary}
 use Rattle.lq_grammar.specs.declared.syntax.Field.{Field}
 use Rattle.lq_grammar.specs.declared.syntax.Node.{Node}
 use Rattle.lq_grammar.specs.declared.syntax.Node.TheVariants as node
+use Rattle.lq_grammar.specs.declared.syntax.Picked.{Picked}
 use Rattle.lq_grammar.specs.declared.syntax.Unary.{Unary}
 use Rattle.lq_grammar.specs.declared.syntax.Unary.TheVariants as unary
 use Rattle.lq_language.proofs.ItemLaws.{every_more}
 use Rattle.lq_language.proofs.FindingLaws.{map_by, when_by}
-use Rattle.lq_tree.specs.Binding.{Binds, and_tree, binary_form, binary_tree, called_tree, coalesce_tree, conditional_tree, enumerable_tree, field_tree, fields_tree, form_of_field, gathered, is_literal, is_object, lambda_tree, member_layer, member_tree, name_tree, node_tree, of_two_trees, operation_at, or_tree, placed_tree, record_tree, search_form, search_tree, settled_form, settled_tree, tested_first, tested_second, unary_tree, within_tree, global_tree}
+use Rattle.lq_tree.specs.Binding.{Binds, and_tree, binary_form, binary_tree, called_tree, coalesce_tree, conditional_tree, enumerable_tree, field_tree, fields_tree, form_of_field, gathered, host_tree, is_literal, is_object, lambda_tree, member_layer, member_tree, name_tree, node_tree, of_two_trees, operation_at, or_tree, placed_tree, record_tree, search_form, search_tree, settled_form, settled_tree, tested_first, tested_second, unary_tree, within_tree, global_tree}
 use Rattle.lq_tree.specs.Places.{Place, Places, names_of_places, place_of, places_of, with_item, with_name, session_place}
 use Rattle.lq_tree.specs.UsesOfForms.{UseWhatIsKnown, form_uses}
 use Rattle.lq_tree.specs.declared.tree.Form.{Form, out-Form}
 use Rattle.lq_tree.specs.declared.tree.Form.TheOpen.{Form-F}
 use Rattle.lq_tree.specs.declared.tree.Form.TheVariants as form
 use Rattle.lq_tree.specs.declared.tree.Tree.{Tree}
-use Rattle.lq_tree.proofs.FormUseLaws.{of_and, of_binary, of_coalesce, of_column, of_conditional, of_first, of_given, of_is_null, of_key, of_literal, of_member, of_or, of_pair, of_record, of_second, of_sequence, of_simple, of_slot, of_table, of_unary, uses_at}
+use Rattle.lq_tree.proofs.FormUseLaws.{of_and, of_binary, of_coalesce, of_column, of_conditional, of_first, of_given, of_host, of_is_null, of_key, of_literal, of_member, of_or, of_pair, of_record, of_second, of_sequence, of_simple, of_slot, of_table, of_unary, uses_at}
+use Rattle.lq_tree.proofs.HostTrees.{asked_by}
 use Rattle.lq_tree.proofs.MemberTrees.{Member, a_column, a_key, a_member, has_value, its_length, its_value, member_by}
 use Rattle.lq_tree.proofs.MethodForms.{method_form_uses}
 use Rattle.lq_tree.proofs.ScopeLaws.{append_none}
@@ -126,9 +129,9 @@ module _ (schemas : List Schema) where
   layer_used names tables m a _ _ (a_column n c schema column there named at) =
       of_column a n c
       ∙ ap (λ us. form_uses a ++ us)
-      (sym (ap (λ (ts : List Schema). under (column_number m (slice_get ts n)) (λ k. of.Column n k ∷ [])) tables
-      ∙ ap (λ (o : Option Schema). under (column_number m o) (λ k. of.Column n k ∷ [])) there
-      ∙ ap (λ (o : Option ℕ). under o (λ k. of.Column n k ∷ [])) named))
+      (sym (ap (λ (ts : List Schema). under (column_number m (slice_get ts n)) (λ k. Column n k ∷ [])) tables
+      ∙ ap (λ (o : Option Schema). under (column_number m o) (λ k. Column n k ∷ [])) there
+      ∙ ap (λ (o : Option ℕ). under o (λ k. Column n k ∷ [])) named))
   layer_used names tables m a _ _ (a_member ms place member named there) = plain_used a (form.Member a place) (of_member a place)
   layer_used names tables m a _ _ (a_key k t) = plain_used a (form.Key a) (of_key a)
   layer_used names tables m a _ _ (has_value named) = plain_used a (form.Unary op.HasValue a) (of_unary op.HasValue a)
@@ -143,14 +146,14 @@ module _ (schemas : List Schema) where
       (settled_used found.ty found.form ∙ layer_used (names_of_places schemas places) refl m a.form (out-Ty a.ty) found
       (member_by schemas m a.form (out-Ty a.ty) found there)))
 
-  module _ {X : Type 0} (tree : X → Binds) (typed : X → Names → Option Ty) (uses : X → Names → List Use)
+  module _ {X : Type 0} (tree : X → Binds) (typed : X → Names → Option Ty) (uses : X → Names → List Mention)
       (alike : (x : X) (places : Places) → type_found (tree x places) ≡ typed x (names_of_places schemas places))
       (used : (x : X) (places : Places) → UseWhatIsKnown places → (r : Tree) → tree x places ≡ Some r → form_uses r.form ≡ uses x (names_of_places schemas places))
       (places : Places) (nothing : UseWhatIsKnown places) where
     abbrev names : Names
     names = names_of_places schemas places
 
-    abbrev Uses : List Use → Tree → Type 0
+    abbrev Uses : List Mention → Tree → Type 0
     Uses us r = form_uses r.form ≡ us
 
     here : (x : X) (r : Tree) → tree x places ≡ Some r → Uses (uses x names) r
@@ -222,7 +225,7 @@ module _ (schemas : List Schema) where
         (λ has_place first_is. subst (Uses (uses field.value names)) (same_Some first found first_is) (here field.value first bound))))))
         (fields_used fields us us_there))))
 
-    forms_used : (ts : List (Field Tree)) → flat_map (λ (f : Field (List Use)). f.value) (map (map_field form_uses) (map form_of_field ts))
+    forms_used : (ts : List (Field Tree)) → flat_map (λ (f : Field (List Mention)). f.value) (map (map_field form_uses) (map form_of_field ts))
         ≡ flat_map (λ (field : Field Tree). form_uses field.value.form) ts
     forms_used [] = refl
     forms_used (t ∷ ts) = ap (λ us. form_uses t.value.form ++ us) (forms_used ts)
@@ -239,7 +242,7 @@ module _ (schemas : List Schema) where
 
     -- ---- methods
 
-    abbrev all_arguments : Option Ty → List (Argument X) → List Use
+    abbrev all_arguments : Option Ty → List (Argument X) → List Mention
     all_arguments item arguments = flat_map (argument_uses typed uses names item) arguments
 
     -- the one argument of a search
@@ -261,7 +264,7 @@ module _ (schemas : List Schema) where
         (of_binary o a.form b.form ∙ ap (λ us. form_uses a.form ++ us) (here x b bound ∙ sym (sole_used item arguments x x_there)))))))
 
     -- what a method's argument uses, where its items are of this type
-    abbrev call_uses : Ty → EnumerableCall X → List Use
+    abbrev call_uses : Ty → EnumerableCall X → List Mention
     call_uses t (Plain method) = []
     call_uses t (With method x) = uses x names
     call_uses t (By method n body) = uses body (with_local names n t)
@@ -320,6 +323,19 @@ module _ (schemas : List Schema) where
         called_used m arguments (source_type typed a names) found r (ap (option_and_then (λ t. element_type (out-Ty t))) (type_at a found bound)) h
         ∙ ap (λ us. us ++ all_arguments (source_type typed a names) arguments) (here a found bound)
 
+    -- ---- host predicates
+
+    host_used : (p : List ℕ) (row : X) (columns : Picked) (found r : Tree) → tree row places ≡ Some found
+        → host_tree schemas places.predicates p columns found ≡ Some r → Uses (node_uses typed uses (node.Host p row columns) names) r
+    host_used p row columns found r bound h =
+        asked_by schemas places.predicates p columns found r h
+        (λ k n numbered known is ints there named same. subst (Uses (node_uses typed uses (node.Host p row columns) names)) same
+        (of_host k found.form n numbered ∙ ap (λ us. host_named k n us numbered) (here row found bound)
+        ∙ sym (ap (λ (o : Option Ty). under o (λ t. host_uses names p columns (uses row names) (out-Ty t))) (type_at row found bound)
+        ∙ ap (host_uses names p columns (uses row names)) is
+        ∙ ap (λ (o : Option ℕ). under o (λ q. under (column_numbers (slice_get schemas n) columns) (host_named q n (uses row names)))) known
+        ∙ ap (λ (o : Option Pick). under o (host_named k n (uses row names))) there)))
+
     -- ---- any node
 
     pub node_used : (n : Node X) (r : Tree) → node_tree schemas tree n places ≡ Some r → Uses (node_uses typed uses n names) r
@@ -341,7 +357,9 @@ module _ (schemas : List Schema) where
     node_used (node.Or a b) r h = two_used or_tree or_gives a b r h
     node_used (node.Coalesce a b) r h = two_used coalesce_tree coalesce_gives a b r h
     node_used (node.Conditional c a b) r h = choice_used c a b r h
-    node_used (node.Host p xs) r h = absurd (none-some r h)
+    node_used (node.Host p row columns) r h =
+        option_and_then_some (host_tree schemas places.predicates p columns) (tree row places) r h (λ found bound made. host_used p row columns found r bound made)
+    node_used (node.HostOther p xs) r h = absurd (none-some r h)
     node_used (node.New fields) r h = record_used fields r h
     node_used (node.Method a m arguments) r h =
         option_and_then_some _ (tree a places) r h (λ found bound made. method_used a m arguments found r bound (is_text (out-Ty found.ty)) made)

@@ -18,9 +18,9 @@ use Rattle.lq_language.specs.OperandMeaning.{items_of, stream_of}
 use Rattle.lq_language.specs.ValuesOfTypes.{Every, IsScalarOf}
 use Rattle.lq_language.specs.Members.{search_named}
 use Rattle.lq_language.specs.Types.{all_members, are_join_keys, are_widened, element_type, is_key, key_step, same_types}
-use Rattle.lq_language.specs.OperandTypes.{are_comparable, are_joined, is_bool, is_equality, is_number, is_scalar, is_text, joined_type, result_type, truth_type}
+use Rattle.lq_language.specs.OperandTypes.{are_comparable, are_joined, is_bool, is_equality, is_int, is_number, is_scalar, is_text, joined_type, result_type, truth_type}
 use Rattle.lq_language.specs.MeaningLaws.{AreMembers, Fits, IsA, IsValueOf, ValueClaim, by_group, by_null_record, by_record, by_row, by_scalar, by_sequence, no_member, one_member}
-use Rattle.lq_language.specs.Typing.{are_null_tests, converts, given_type, has_default, if_same, is_int, simple_type, takes_null, type_of_operation, widens}
+use Rattle.lq_language.specs.Typing.{are_null_tests, converts, given_type, has_default, if_same, simple_type, takes_null, type_of_operation, widens}
 use Rattle.lq_language.specs.declared.methods.Given.{Given}
 use Rattle.lq_language.specs.declared.methods.Given.TheVariants as given
 use Rattle.lq_language.specs.declared.methods.Simple.{Simple}

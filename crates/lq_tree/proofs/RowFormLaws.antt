@@ -21,7 +21,7 @@ use Rattle.lq_language.proofs.StreamLaws.{order_keys}
 use Rattle.lq_tree.proofs.FormSteps.{meaning_at}
 use Rattle.lq_tree.proofs.MappedStreamLaws.{arranged_natural, ok_by}
 use Rattle.lq_tree.proofs.MappedValueLaws.{mapped_Rec, mapped_member}
-use Rattle.lq_tree.proofs.RowMeaningLaws.{Like, all_like, and_like, binary_like, coalesce_like, column_like, conditional_like, first_like, given_like, group_like, join_like, key_like, many_like, member_like, null_like, or_like, over, pair_like, scalar_follows, second_like, select_like, sequence_follows, sequence_like, simple_like, slot_like, sorted_like, stream_follows, table_follows, unary_like, where_like}
+use Rattle.lq_tree.proofs.RowMeaningLaws.{Like, all_like, and_like, binary_like, coalesce_like, column_like, conditional_like, first_like, given_like, group_like, host_like, join_like, key_like, many_like, member_like, null_like, or_like, over, pair_like, scalar_follows, second_like, select_like, sequence_follows, sequence_like, simple_like, slot_like, sorted_like, stream_follows, table_follows, unary_like, where_like}
 
 -- ---- layers
 
@@ -127,6 +127,7 @@ module _ {R S : Type 0} (f : R → S) (world : World R) (session : List (Session
   steps (Form-F.Second x) = second_like f world session cell same_cells (a x.0) (b x.0) x.1
   steps (Form-F.Table n) = λ slots. table_follows f world session cell same_cells n
   steps (Form-F.Column x table c) = column_like f world session cell same_cells (a x.0) (b x.0) x.1 table c
+  steps (Form-F.Host p x table columns) = host_like f world session cell same_cells (a x.0) (b x.0) x.1 p table columns
   steps (Form-F.Member x place) = member_like f world session cell same_cells (a x.0) (b x.0) x.1 place
   steps (Form-F.Key x) = key_like f world session cell same_cells (a x.0) (b x.0) x.1
   steps (Form-F.Unary o x) = unary_like f world session cell same_cells o (a x.0) (b x.0) x.1
@@ -165,7 +166,7 @@ module _ {R S : Type 0} (f : R → S) (world : World R) (session : List (Session
 
 -- a world over the rows of another is known by the cells
 the_world : {R S : Type 0} (f : R → S) (a : World R) (b : World S) → OverRows f a b → over f a b.session b.cell ≡ b
-the_world f a b rows = sym (λ i. record { schemas = rows.schemas i; rows = rows.rows i; session = b.session; cell = b.cell; unknown = rows.unknown i })
+the_world f a b rows = sym (λ i. record { schemas = rows.schemas i; rows = rows.rows i; predicates = rows.predicates i; session = b.session; cell = b.cell; unknown = rows.unknown i })
 
 pub means_alike : {R S : Type 0} → MeansAlikeOverRows R S
 means_alike {R} {S} f a b rows form slots =

@@ -12,9 +12,13 @@ use Rattle.lq_value.specs.declared.value.Fault.{Fault}
 use Rattle.lq_value.specs.declared.value.Value.{Value, out-Value}
 use Rattle.lq_value.specs.declared.value.Value.TheOpen.{Value-F}
 use Rattle.lq_value.specs.declared.value.Value.TheVariants as value
+use Rattle.lq_host.specs.Predicates.{answer_in}
+use Rattle.lq_host.specs.declared.call.Pick.{Pick}
+use Rattle.lq_host.specs.declared.call.Pick.TheVariants as numbers
+use Rattle.lq_host.specs.declared.call.Pick2.{Pick2}
 use Rattle.lq_language.specs.Enumerable.{all, as_count, concat, contains, element_at, except, intersect, skip, take_first, union}
 use Rattle.lq_language.specs.Worlds.{SessionValue, World}
-use Rattle.lq_language.specs.OperandMeaning.{as_value, cell_value, is_null, items_of, on_scalar, on_truth, scalar_of, sequence, stream_of, table_value, truth_value}
+use Rattle.lq_language.specs.OperandMeaning.{answer_value, as_value, asked, asked_about, cell_value, is_null, items_of, on_scalar, on_truth, one_argument, scalar_of, sequence, stream_of, table_value, truth_value, two_arguments}
 use Rattle.lq_language.specs.ClauseMeaning.{as_group, matches}
 use Rattle.lq_language.specs.Operations.{of_one, of_two, on_ok, truth_of}
 use Rattle.lq_language.specs.Operators.{first, pair, second}
@@ -24,7 +28,7 @@ use Rattle.lq_language.specs.declared.methods.Given.{Given}
 use Rattle.lq_language.specs.declared.methods.Given.TheVariants as given
 use Rattle.lq_language.specs.declared.methods.Simple.{Simple}
 use Rattle.lq_language.specs.declared.operation.Op.{Op}
-use Rattle.lq_tree.specs.FormMeaning.{Means, Slots, cell_in, form_step, if_there, is_null_value, is_true, joined_stream, key_in, matched, member_at, name_of_column, with_item, with_items}
+use Rattle.lq_tree.specs.FormMeaning.{Means, Slots, arguments_at, cell_in, form_step, if_there, is_null_value, is_true, joined_stream, key_in, matched, member_at, name_of_column, with_item, with_items}
 use Rattle.lq_tree.specs.Rows.{mapped, result_map, stream_map}
 use Rattle.lq_tree.specs.declared.tree.Form.TheOpen.{Form-F}
 use Rattle.lq_tree.specs.declared.tree.Joined.{Joined}
@@ -35,7 +39,14 @@ use Rattle.lq_tree.proofs.MappedValueLaws.{mapped_Row, mapped_Scalar, mapped_Seq
 
 -- the world over the rows that represent those of another, whatever its session's names refer to: no form reads these
 abbrev pub over : {R S : Type 0} → (R → S) → World R → List (SessionValue S) → (S → List ℕ → Option Scalar) → World S
-over f world session cell = record { schemas = world.schemas; rows = map (map f) world.rows; session = session; cell = cell; unknown = world.unknown }
+over f world session cell = record {
+  schemas = world.schemas;
+  rows = map (map f) world.rows;
+  predicates = world.predicates;
+  session = session;
+  cell = cell;
+  unknown = world.unknown;
+}
 
 module _ {R S : Type 0} (f : R → S) (world : World R) (session : List (SessionValue S)) (cell : S → List ℕ → Option Scalar)
     (same_cells : (r : R) (column : List ℕ) → cell (f r) column ≡ world.cell r column) where
@@ -156,6 +167,33 @@ module _ {R S : Type 0} (f : R → S) (world : World R) (session : List (Session
   pub column_follows : (table c : ℕ) (v : Value R) → Follows (cell_in a table c (out-Value R v)) (cell_in b table c (out-Value S (m v)))
   column_follows table c v = ap (cell_in b table c) (mapped_out f v) ∙ column_by table c (out-Value R v)
 
+  answer_by : (o : Option Bool) → Follows (answer_value a o) (answer_value b o)
+  answer_by (Some answer) = truth_follows answer
+  answer_by None = refl
+
+  asked_by : (p : ℕ) (o : Option Pick2) → Follows (asked a (Some p) o) (asked b (Some p) o)
+  asked_by p (Some xs) = answer_by (answer_in world.predicates p xs)
+  asked_by p None = refl
+
+  arguments_alike : (table : ℕ) (columns : Pick) (r : R) → arguments_at b table columns (f r) ≡ arguments_at a table columns r
+  arguments_alike table (numbers.One c) r = λ i. one_argument (option_and_then (λ column. same_cells r column i) (name_of_column world.schemas table c))
+  arguments_alike table (numbers.Two c d) r =
+      λ i. two_arguments (option_and_then (λ column. same_cells r column i) (name_of_column world.schemas table c))
+      (option_and_then (λ column. same_cells r column i) (name_of_column world.schemas table d))
+
+  host_by : (p table : ℕ) (columns : Pick) (layer : Value-F R (Value R))
+      → Follows (asked_about a (Some p) (arguments_at a table columns) layer) (asked_about b (Some p) (arguments_at b table columns) (mapped_layer f layer))
+  host_by p table columns (Value-F.Row r) = ap (asked b (Some p)) (arguments_alike table columns r) ∙ asked_by p (arguments_at a table columns r)
+  host_by p table columns (Value-F.Scalar scalar.Null) = refl
+  host_by p table columns (Value-F.Scalar s) = refl
+  host_by p table columns (Value-F.Rec members) = refl
+  host_by p table columns (Value-F.Group key items) = refl
+  host_by p table columns (Value-F.Seq items e) = refl
+
+  host_follows : (p table : ℕ) (columns : Pick) (v : Value R)
+      → Follows (asked_about a (Some p) (arguments_at a table columns) (out-Value R v)) (asked_about b (Some p) (arguments_at b table columns) (out-Value S (m v)))
+  host_follows p table columns v = ap (asked_about b (Some p) (arguments_at b table columns)) (mapped_out f v) ∙ host_by p table columns (out-Value R v)
+
   member_there : (o : Option (List ℕ × Value R))
       → Follows (if_there a (option_map (λ n. n.1) o)) (if_there b (option_map (λ n. n.1) (option_map (mapped_member f) o)))
   member_there (Some n) = refl
@@ -275,6 +313,12 @@ module _ {R S : Type 0} (f : R → S) (world : World R) (session : List (Session
   column_like x y h table c slots =
       ok_follows (λ v. cell_in a table c (out-Value R v)) (λ v. cell_in b table c (out-Value S v)) (column_follows table c)
       (x slots) (y (map m slots)) (h slots)
+
+  pub host_like : (x : Means R) (y : Means S) → Like x y → (p table : ℕ) (columns : Pick)
+      → Like (form_step a (Form-F.Host p x table columns)) (form_step b (Form-F.Host p y table columns))
+  host_like x y h p table columns slots =
+      ok_follows (λ v. asked_about a (Some p) (arguments_at a table columns) (out-Value R v))
+      (λ v. asked_about b (Some p) (arguments_at b table columns) (out-Value S v)) (host_follows p table columns) (x slots) (y (map m slots)) (h slots)
 
   pub member_like : (x : Means R) (y : Means S) → Like x y → (place : ℕ) → Like (form_step a (Form-F.Member x place)) (form_step b (Form-F.Member y place))
   member_like x y h place slots =

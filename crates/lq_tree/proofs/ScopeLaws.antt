@@ -63,8 +63,12 @@ module _ {R : Type 0} (world : World R) where
   pub names_same : (slots : Slots R) (places : Places) (scope : Scope R) → Holds world slots places scope → names_at world scope
       ≡ names_of_places world.schemas places
   names_same slots places scope holds =
-      ap₂ (λ (session : List SessionName) (locals : List (List ℕ × Ty)). record { tables = world.schemas; session = session; locals = locals })
-      (session_same places.session world.session holds.2) (locals_same slots places.locals scope holds.1)
+      λ i. record {
+        tables = world.schemas;
+        predicates = sym holds.3 i;
+        session = session_same places.session world.session holds.2 i;
+        locals = locals_same slots places.locals scope holds.1 i;
+      }
 
   -- a place and a binding that are found by one name, or neither
   abbrev pub Found : Slots R → Option Place → Option (Binding R) → Type 0
@@ -175,6 +179,7 @@ module _ {R : Type 0} (world : World R) where
       parts_reached (slots ++ v ∷ []) p (form.Slot places.depth) v places.locals scope (slot_reached slots places.depth v at.1.0)
           (wider slots v places.locals scope at.1.1),
       at.1.2,
+      at.1.3,
     ),
   )
 

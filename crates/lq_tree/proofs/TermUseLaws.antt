@@ -10,7 +10,7 @@ use Rattle.lq_language.specs.UsesOfCalls.{call_uses, term_uses}
 use Rattle.lq_language.specs.declared.calls.Call.{Call}
 use Rattle.lq_language.specs.declared.calls.Term.{Term}
 use Rattle.lq_language.specs.declared.calls.Term.TheVariants as term
-use Rattle.lq_language.specs.declared.rights.Use.{Use}
+use Rattle.lq_language.specs.Mentions.{Mention}
 use Rattle.lq_grammar.specs.declared.syntax.Expr.{Expr}
 use Rattle.lq_grammar.specs.declared.syntax.Node.{Node}
 use Rattle.lq_translate.specs.Maps.{map_call, map_node}
@@ -42,7 +42,7 @@ module _ (schemas : List Schema) where
   abbrev type_at : Such UsesAlike → Names → Option Ty
   type_at z = term_type z.0
 
-  abbrev uses_at : Such UsesAlike → Names → List Use
+  abbrev uses_at : Such UsesAlike → Names → List Mention
   uses_at z = term_uses z.0
 
   typed : (z : Such UsesAlike) (places : Places) → type_found (tree_at z places) ≡ type_at z (names_of_places schemas places)
@@ -53,14 +53,14 @@ module _ (schemas : List Schema) where
       node_used schemas tree_at type_at uses_at typed (λ z. z.1) places nothing n r
       (sym (ap (λ (b : Binds). b places) (tree_of_node schemas (map_node base n)) ∙ node_pull schemas base (term_tree schemas) n places) ∙ h)
       ∙ sym (node_uses_pull base term_type term_uses n (names_of_places schemas places))
-      ∙ ap (λ (g : Names → List Use). g (names_of_places schemas places)) (sym (term_uses_of_node (map_node base n)))
+      ∙ ap (λ (g : Names → List Mention). g (names_of_places schemas places)) (sym (term_uses_of_node (map_node base n)))
 
   at_call : (c : Call (Such UsesAlike)) → UsesAlike (term.Call (map_call base c))
   at_call c places nothing r h =
       call_used schemas tree_at type_at uses_at typed (λ z. z.1) places nothing c r
       (sym (ap (λ (b : Binds). b places) (tree_of_call schemas (map_call base c)) ∙ call_pull schemas base (term_tree schemas) c places) ∙ h)
       ∙ sym (call_uses_pull base term_type term_uses c (names_of_places schemas places))
-      ∙ ap (λ (g : Names → List Use). g (names_of_places schemas places)) (sym (term_uses_of_call (map_call base c)))
+      ∙ ap (λ (g : Names → List Mention). g (names_of_places schemas places)) (sym (term_uses_of_call (map_call base c)))
 
   pub uses_same : (t : Term) → UsesAlike t
   uses_same = of_every UsesAlike at_node at_call

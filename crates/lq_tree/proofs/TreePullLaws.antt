@@ -83,7 +83,8 @@ module _ (schemas : List Schema) {X Y : Type 0} (f : X → Y) (tree : Y → Bind
   node_pull (node.Or a b) places = refl
   node_pull (node.Coalesce a b) places = refl
   node_pull (node.Conditional c a b) places = refl
-  node_pull (node.Host p xs) places = refl
+  node_pull (node.Host p row columns) places = refl
+  node_pull (node.HostOther p xs) places = refl
   node_pull (node.New fields) places = record_pull fields places
   node_pull (node.Method a m xs) places = λ i. option_and_then (λ found. method_pull m xs found places i) (tree (f a) places)
 

@@ -81,7 +81,7 @@ two_found given types same (Some x) (Some y) = same x y
 two_found given types same (Some x) None = refl
 two_found given types same None p = refl
 
-truth_and : (b : Bool) → truth_type (b && false) ≡ None
+pub truth_and : (b : Bool) → truth_type (b && false) ≡ None
 truth_and true = refl
 truth_and false = refl
 

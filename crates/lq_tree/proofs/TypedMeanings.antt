@@ -1,5 +1,5 @@
 -- What a typed form gives, where it gives a value, is such as it is typed to give: by induction over the rules.
-use Rattle.std.proofs.Common.{◌≡◌, ◌∷◌, ◌++◌, ◌&&◌, if◌then◌else◌, List, [], map, ℕ, zero, suc, Bool, true, false, Option, Some, Result, Ok, Err, ap, ap₂, ◌∙◌, sym, refl, subst, option_map, slice_get}
+use Rattle.std.proofs.Common.{◌≡◌, ◌∷◌, ◌++◌, ◌&&◌, if◌then◌else◌, List, [], map, ℕ, zero, suc, Bool, true, false, Option, Some, None, Result, Ok, Err, ap, ap₂, ◌∙◌, sym, refl, subst, option_map, slice_get}
 use Rattle.std.proofs.lemmas.Option.{none-some, same_Some}
 use Rattle.lq_value.specs.SameAndOrder.{same_values as same_keys}
 use Rattle.lq_value.specs.declared.scalar.Scalar.{Scalar}
@@ -12,17 +12,20 @@ use Rattle.lq_value.specs.declared.value.End.TheVariants as end
 use Rattle.lq_value.specs.declared.value.Fault.{Fault}
 use Rattle.lq_value.specs.declared.value.Fault.TheVariants as fault
 use Rattle.lq_value.specs.declared.value.Value.{Value, out-Value}
+use Rattle.lq_value.specs.declared.value.Value.TheOpen.{Value-F}
 use Rattle.lq_value.specs.declared.value.Value.TheVariants as value
 use Rattle.lq_value.specs.declared.value.Value.TheVariants.{outs-Rec as outs-value-Rec, outs-Scalar, outs-Seq as outs-value-Seq}
+use Rattle.lq_host.specs.Predicates.{answer_in}
+use Rattle.lq_host.specs.declared.call.Pick2.{Pick2}
 use Rattle.lq_language.specs.Maps.{map_field, map_key}
 use Rattle.lq_language.specs.Worlds.{World}
-use Rattle.lq_language.specs.OperandMeaning.{as_value, items_of, on_scalar, scalar_of, sequence, stream_of, table_value, truth_value}
-use Rattle.lq_language.specs.ClauseMeaning.{as_group, is_null_layer, matches}
+use Rattle.lq_language.specs.OperandMeaning.{answer_value, as_value, asked, asked_about, items_of, on_scalar, scalar_of, sequence, stream_of, table_value, truth_value}
+use Rattle.lq_language.specs.ClauseMeaning.{as_group, matches}
 use Rattle.lq_language.specs.ValuesOfTypes.{Every, HasCells, HoldsRows, IsScalarOf}
 use Rattle.lq_language.specs.Members.{search_named}
 use Rattle.lq_language.specs.Operations.{of_one, of_two, on_ok, searched, truth}
 use Rattle.lq_language.specs.Operators.{first, pair, pair_type, second}
-use Rattle.lq_language.specs.Stream.{Stream, elements_of}
+use Rattle.lq_language.specs.Stream.{Stream}
 use Rattle.lq_language.specs.Types.{when}
 use Rattle.lq_language.specs.MeaningLaws.{AreMembers, Fits, IsA, IsValueOf, ValueClaim, by_group, by_null_record, by_record, by_row, by_scalar, by_sequence, no_member, one_member}
 use Rattle.lq_language.specs.declared.operation.Op.{Op}
@@ -30,7 +33,7 @@ use Rattle.lq_language.specs.declared.operation.Op.TheVariants as op
 use Rattle.lq_grammar.specs.declared.syntax.Binary.{Binary}
 use Rattle.lq_grammar.specs.declared.syntax.Binary.TheVariants as binary
 use Rattle.lq_grammar.specs.declared.syntax.SortKey.{SortKey}
-use Rattle.lq_language.proofs.AlikeStreamLaws.{Agree, KeysAlike, Pair, agree_err, both_agree, agree_ok, every_element, expand_alike, group_alike, join_alike, order_alike, select_alike, where_alike}
+use Rattle.lq_language.proofs.AlikeStreamLaws.{Agree, KeysAlike, Pair, agree_err, both_agree, agree_ok, expand_alike, group_alike, join_alike, order_alike, select_alike, where_alike}
 use Rattle.lq_language.proofs.MatchLaws.{every_match}
 use Rattle.lq_language.proofs.ItemLaws.{every_map, every_more, every_none}
 use Rattle.lq_language.proofs.ScalarResultLaws.{Gives as Given_as, given_of, has_value_given, length_given, value_given}
@@ -38,7 +41,7 @@ use Rattle.lq_language.proofs.TypedMethodLaws.{given_agree, given_typed, scalar_
 use Rattle.lq_language.proofs.TypingLaws.{is_of_layer, type_with}
 use Rattle.lq_language.proofs.ValueLaws.{RecordOrNull, a_record, gets_truth as answer_typed, is_plain, no_record, record_value, truth_is}
 use Rattle.lq_tree.specs.Binding.{binary_form, is_object, operation_at, tested_first, tested_second, tree_of}
-use Rattle.lq_tree.specs.FormMeaning.{Means, Slots, cell_in, form_meaning, if_there, is_true, key_in, matched, member_at, members_of, sort_key}
+use Rattle.lq_tree.specs.FormMeaning.{Means, Slots, arguments_at, cell_in, form_meaning, if_there, is_true, key_in, matched, member_at, members_of, sort_key}
 use Rattle.lq_tree.specs.TypedForms.{Both, FormClaim, Gives, Has, IsTyped, IsTypedForm, Many, Members, Of, Shape, Sorts, matched_items, type_of_shape, with_slot, with_slots}
 use Rattle.lq_tree.specs.TypedForms as rule
 use Rattle.lq_tree.specs.TypedFormLaws.{AreOfShapes, IsOfShape, KeepsItems, KeepsShapes}
@@ -144,6 +147,24 @@ module _ {R : Type 0} (world : World R) (holds : HoldsRows world) where
   search_gets o m h x y =
       search_holds (λ p. Gets (Of ty.Bool) (as_value (of_two world.unknown p x y))) o m h (gets_truth (searched world.unknown op.StartsWith x y))
       (gets_truth (searched world.unknown op.EndsWith x y)) (gets_truth (searched world.unknown op.Contains x y))
+
+  -- ---- host predicates
+
+  answer_gets : (o : Option Bool) → Gets (Of ty.Bool) (answer_value world o)
+  answer_gets (Some b) = gets_ok (Of ty.Bool) (truth_value b) (truth_is world b)
+  answer_gets None = gets_err (Of ty.Bool) fault.ArgumentOutOfRange
+
+  asked_gets : (p : ℕ) (o : Option Pick2) → Gets (Of ty.Bool) (asked world (Some p) o)
+  asked_gets p (Some xs) = answer_gets (answer_in world.predicates p xs)
+  asked_gets p None = gets_err (Of ty.Bool) world.unknown
+
+  host_gets : (p : ℕ) (arguments : R → Option Pick2) (layer : Value-F R (Value R)) → Gets (Of ty.Bool) (asked_about world (Some p) arguments layer)
+  host_gets p arguments (Value-F.Row r) = asked_gets p (arguments r)
+  host_gets p arguments (Value-F.Scalar scalar.Null) = gets_err (Of ty.Bool) fault.NullReference
+  host_gets p arguments (Value-F.Scalar s) = gets_err (Of ty.Bool) world.unknown
+  host_gets p arguments (Value-F.Rec members) = gets_err (Of ty.Bool) world.unknown
+  host_gets p arguments (Value-F.Group key items) = gets_err (Of ty.Bool) world.unknown
+  host_gets p arguments (Value-F.Seq items e) = gets_err (Of ty.Bool) world.unknown
 
   -- ---- members by their places
 
@@ -258,6 +279,10 @@ module _ {R : Type 0} (world : World R) (holds : HoldsRows world) where
       gets_as (Of u) _ _ (meaning_at world slots _ (form.outs-Column row n c))
       (then_gets (Of t) (Of u) (mean row slots) (λ v. cell_in world n c (out-Value R v)) (keeps h slots fit)
       (λ v p. (column_step world slots n c m u name typed v (subst (λ (x : Ty). Val x v) (is_of_layer t ∙ ap type_with is) p)).1))
+  keeps (rule.of_host shapes p row n columns named t h is names ints) = λ slots fit.
+      gets_as (Of ty.Bool) _ _ (meaning_at world slots _ (form.outs-Host p row n columns))
+      (then_gets (Of t) (Of ty.Bool) (mean row slots) (λ v. asked_about world (Some p) (arguments_at world n columns) (out-Value R v)) (keeps h slots fit)
+      (λ v fits. host_gets p (arguments_at world n columns) (out-Value R v)))
   keeps (rule.of_member shapes a place t ms m h is there) = λ slots fit.
       gets_as (Of m.1) _ _ (meaning_at world slots _ (form.outs-Member a place))
       (then_gets (Of t) (Of m.1) (mean a slots) (λ v. member_at world place (out-Value R v)) (keeps h slots fit)

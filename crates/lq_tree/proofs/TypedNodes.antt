@@ -32,7 +32,7 @@ use Rattle.lq_language.proofs.ItemLaws.{every_more, table_there}
 use Rattle.lq_language.proofs.FindingLaws.{map_by, when_by}
 use Rattle.lq_language.proofs.TypingLaws.{is_of_layer, type_with}
 use Rattle.lq_language.proofs.ValueLaws.{is_plain}
-use Rattle.lq_tree.specs.Binding.{Binds, and_tree, binary_form, binary_tree, called_tree, coalesce_tree, conditional_tree, enumerable_tree, field_tree, fields_tree, form_of_field, gathered, global_tree, is_literal, is_object, lambda_tree, member_layer, member_tree, name_tree, node_tree, of_two_trees, operation_at, or_tree, placed_tree, record_tree, search_form, search_tree, settled_tree, tested_first, tested_second, type_of_field, unary_tree, within_tree}
+use Rattle.lq_tree.specs.Binding.{Binds, and_tree, binary_form, binary_tree, called_tree, coalesce_tree, conditional_tree, enumerable_tree, field_tree, fields_tree, form_of_field, gathered, global_tree, host_tree, is_literal, is_object, lambda_tree, member_layer, member_tree, name_tree, node_tree, of_two_trees, operation_at, or_tree, placed_tree, record_tree, search_form, search_tree, settled_tree, tested_first, tested_second, type_of_field, unary_tree, within_tree}
 use Rattle.lq_tree.specs.Places.{Place, Places, names_of_places, place_of, places_of, session_place, with_item, with_name}
 use Rattle.lq_tree.specs.TypedForms.{Both, Gives, IsTyped, IsTypedForm, Many, Members, Of, Shape, shape_of, with_slot}
 use Rattle.lq_tree.specs.TypedForms as rule
@@ -40,6 +40,7 @@ use Rattle.lq_tree.specs.TypedFormLaws.{AreTyped}
 use Rattle.lq_tree.specs.declared.tree.Form.{Form, out-Form}
 use Rattle.lq_tree.specs.declared.tree.Form.TheVariants as form
 use Rattle.lq_tree.specs.declared.tree.Tree.{Tree}
+use Rattle.lq_tree.proofs.HostTrees.{asked_by}
 use Rattle.lq_tree.proofs.MemberTrees.{Member, a_column, a_key, a_member, column_known, has_value, its_length, its_value, member_by}
 use Rattle.lq_tree.proofs.MethodForms.{method_form_typed}
 use Rattle.lq_tree.proofs.OperandLemmas.{computed_plain, type_of_computed, type_of_equality}
@@ -157,7 +158,7 @@ module _ (schemas : List Schema) where
   layer_typed : (shapes : List Shape) (m : List ℕ) (t : Ty) (layer : Ty-F Ty) (a : Form) (r : Tree) → out-Ty t ≡ layer → Typed shapes a (Of t)
       → Member schemas m a layer r → IsTypedTree shapes r
   layer_typed shapes m t _ a _ is h (a_column n c schema column there named at) =
-      let known = column_known schemas m a n c schema column there named at in
+      let known = column_known schemas m n c schema column there named at in
       rule.of_column shapes a n c m t (type_of_column column.ty) h is known.0 known.1
   layer_typed shapes m t _ a _ is h (a_member ms place member named there) = rule.of_member shapes a place t ms member h is there
   layer_typed shapes m t _ a _ is h (a_key k u) = rule.of_key shapes a t k u h is
@@ -346,7 +347,12 @@ module _ (schemas : List Schema) where
     node_typed (node.Conditional c a b) r h =
         option_and_then_some _ (tree c places) r h
         (λ z z_there found. two_typed (conditional_tree z) (choice_joins shapes z (here c z z_there)) a b r found)
-    node_typed (node.Host p xs) r h = absurd (none-some r h)
+    node_typed (node.Host p row columns) r h =
+        option_and_then_some (host_tree schemas places.predicates p columns) (tree row places) r h
+        (λ found bound made. asked_by schemas places.predicates p columns found r made
+        (λ k n numbered number is ints there named same. subst (IsTypedTree shapes) same
+        (rule.of_host shapes k found.form n numbered columns found.ty (here row found bound) is named ints)))
+    node_typed (node.HostOther p xs) r h = absurd (none-some r h)
     node_typed (node.New fields) r h = record_typed fields r h
     node_typed (node.Method a m arguments) r h =
         option_and_then_some _ (tree a places) r h

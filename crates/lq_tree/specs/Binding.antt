@@ -9,8 +9,10 @@ use Rattle.lq_value.specs.declared.table.Schema.{Schema}
 use Rattle.lq_value.specs.declared.ty.Ty.{Ty, out-Ty}
 use Rattle.lq_value.specs.declared.ty.Ty.TheOpen.{Ty-F}
 use Rattle.lq_value.specs.declared.ty.Ty.TheVariants as ty
+use Rattle.lq_host.specs.declared.call.Pick.{Pick}
 use Rattle.lq_language.specs.ClauseTyping.{joined_name}
 use Rattle.lq_language.specs.EnumerableCalls.{EnumerableCall, By, Plain, With, enumerable_call}
+use Rattle.lq_language.specs.HostNames.{are_int_columns, column_numbers, predicate_number}
 use Rattle.lq_language.specs.OperandMeaning.{equality_truth}
 use Rattle.lq_language.specs.Members.{search_named, sole_argument}
 use Rattle.lq_language.specs.Operations.{operation_of}
@@ -29,6 +31,7 @@ use Rattle.lq_language.specs.declared.calls.Paired.TheVariants as paired
 use Rattle.lq_language.specs.declared.calls.Part.{Part}
 use Rattle.lq_language.specs.declared.calls.Term.{Term, fold-Term}
 use Rattle.lq_language.specs.declared.calls.Term.TheOpen.{Term-F}
+use Rattle.lq_language.specs.declared.host_name.HostName.{HostName}
 use Rattle.lq_language.specs.declared.methods.Through.{Through}
 use Rattle.lq_language.specs.declared.methods.Through.TheVariants as through
 use Rattle.lq_language.specs.declared.operation.Op.{Op}
@@ -40,6 +43,7 @@ use Rattle.lq_grammar.specs.declared.syntax.Field.{Field}
 use Rattle.lq_grammar.specs.declared.syntax.Join.{Join}
 use Rattle.lq_grammar.specs.declared.syntax.Node.{Node}
 use Rattle.lq_grammar.specs.declared.syntax.Node.TheVariants as node
+use Rattle.lq_grammar.specs.declared.syntax.Picked.{Picked}
 use Rattle.lq_grammar.specs.declared.syntax.SortKey.{SortKey}
 use Rattle.lq_grammar.specs.declared.syntax.Unary.{Unary}
 use Rattle.lq_grammar.specs.declared.syntax.Unary.TheVariants as unary
@@ -189,6 +193,15 @@ condition_tree found = when (is_bool (out-Ty found.ty)) (Some found)
 abbrev pub sortable_tree : Tree → Option Tree
 sortable_tree found = when (is_sort_key (Some found.ty)) (Some found)
 
+-- a member of a record with this name and value
+abbrev pub field_with : List ℕ → Option Tree → Option (Field Tree)
+field_with name value = option_map (λ found. record { name = name; value = found }) (option_and_then placed_tree value)
+
+-- a key of `orderby` with this value
+abbrev pub key_with : Bool → Option Tree → Option (SortKey Form)
+key_with is_descending value =
+    option_map (λ (found : Tree). record { value = found.form; descending = is_descending }) (option_and_then sortable_tree value)
+
 abbrev pub keyed_tree : Tree → Option Tree
 keyed_tree found = when (is_key found.ty) (Some found)
 
@@ -218,6 +231,15 @@ form_of_field field = record { name = field.name; value = field.value.form }
 abbrev pub fields_tree : List (Field Tree) → Tree
 fields_tree fields = tree_of (ty.Rec (map type_of_field fields)) (form.Record (map form_of_field fields))
 
+-- ---- host predicates
+
+-- a host predicate of this number, which is asked of columns of a row
+abbrev pub host_form : ℕ → Form → Pick → ℕ → Tree
+host_form n row columns p = tree_of ty.Bool (form.Host p row n columns)
+
+abbrev pub asked_tree : List HostName → List ℕ → Picked → ℕ → Form → Pick → Option Tree
+asked_tree known p columns n row numbers = option_map (host_form n row numbers) (predicate_number known p columns)
+
 -- ---- queries: what comes after a call
 
 -- what its items represent, and the form that gives them
@@ -245,6 +267,15 @@ module _ (schemas : List Schema) where
 
   abbrev pub member_tree : List ℕ → Tree → Option Tree
   member_tree m a = option_map settled_tree (member_layer m a.form (out-Ty a.ty))
+
+  -- a host predicate, which is asked of columns of a row: the columns are found by their names, and it by its own
+  abbrev pub host_layer : List HostName → List ℕ → Picked → Form → Ty-F Ty → Option Tree
+  host_layer known p columns row (Ty-F.Row n) =
+      when (are_int_columns schemas n columns) (option_and_then (asked_tree known p columns n row) (column_numbers (slice_get schemas n) columns))
+  host_layer known p columns row layer = None
+
+  abbrev pub host_tree : List HostName → List ℕ → Picked → Tree → Option Tree
+  host_tree known p columns row = host_layer known p columns row.form (out-Ty row.ty)
 
   -- a table's rows, else what a name of the session refers to
   abbrev pub global_tree : Places → List ℕ → Option ℕ → Option Tree
@@ -290,8 +321,7 @@ module _ (schemas : List Schema) where
     -- ---- records
 
     abbrev pub field_tree : Places → Field X → Option (Field Tree)
-    field_tree places field =
-        option_map (λ found. record { name = field.name; value = found }) (option_and_then placed_tree (tree field.value places))
+    field_tree places field = field_with field.name (tree field.value places)
 
     abbrev pub record_tree : List (Field X) → Places → Option Tree
     record_tree fields places =
@@ -313,6 +343,7 @@ module _ (schemas : List Schema) where
     node_tree (node.Or a b) places = of_two_trees or_tree (tree a places) (tree b places)
     node_tree (node.Coalesce a b) places = of_two_trees coalesce_tree (tree a places) (tree b places)
     node_tree (node.Conditional c a b) places = of_three_trees conditional_tree (tree c places) (tree a places) (tree b places)
+    node_tree (node.Host p row columns) places = option_and_then (host_tree places.predicates p columns) (tree row places)
     node_tree (node.New fields) places = record_tree fields places
     node_tree (node.Method a m arguments) places = option_and_then (λ found. method_tree m arguments found places) (tree a places)
     node_tree other places = None
@@ -396,8 +427,7 @@ module _ (schemas : List Schema) where
 
     -- `OrderBy`
     abbrev pub key_tree : Places → SortKey X → Option (SortKey Form)
-    key_tree places k =
-        option_map (λ found. record { value = found.form; descending = k.descending }) (option_and_then sortable_tree (tree k.value places))
+    key_tree places k = key_with k.descending (tree k.value places)
 
     abbrev pub order_stage : Places → List (SortKey X) → PipelineForm → Option PipelineForm
     order_stage places ks stage =

@@ -5,7 +5,7 @@ use Rattle.lq_value.specs.declared.ty.Ty.{Ty}
 use Rattle.lq_value.specs.declared.ty.Ty.TheVariants as ty
 use Rattle.lq_value.specs.declared.value.Value.{Value}
 use Rattle.lq_language.specs.ClauseTyping.{expression_type, query_items}
-use Rattle.lq_language.specs.Worlds.{names_at, Binding, Scope, World, SessionValue}
+use Rattle.lq_language.specs.Worlds.{names_at, Binding, Scope, World, SessionValue, known_predicates}
 use Rattle.lq_language.specs.OperandMeaning.{sequence}
 use Rattle.lq_language.specs.ValuesOfTypes.{HoldsRows}
 use Rattle.lq_language.specs.Operators.{call_items, call_meaning}
@@ -61,9 +61,11 @@ module _ {R : Type 0} (world : World R) (slots : Slots R) where
   ReachesAll (place ∷ places) (b ∷ scope) = Reaches place b × ReachesAll places scope
   ReachesAll places scope = ⊥
 
-  -- the slots are those of the places, and hold what reaches the values of all local names
+  -- the slots are those of the places, and hold what reaches the values of all local names; the predicates are the same
   abbrev pub Holds : Places → Scope R → Type 0
-  Holds places scope = (length slots ≡ places.depth) × ReachesAll places.locals scope × GivesAll world places.session world.session
+  Holds places scope =
+      (length slots ≡ places.depth) × ReachesAll places.locals scope × GivesAll world places.session world.session
+      × (places.predicates ≡ known_predicates world.predicates)
 
 -- where the slots hold the local names of a scope, whose values are of their types, a tree means what its term means; and if that is a
 -- value, it is one of the tree's type

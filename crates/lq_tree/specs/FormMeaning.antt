@@ -10,9 +10,12 @@ use Rattle.lq_value.specs.declared.value.Fault.TheVariants as fault
 use Rattle.lq_value.specs.declared.value.Value.{Value, out-Value}
 use Rattle.lq_value.specs.declared.value.Value.TheOpen.{Value-F}
 use Rattle.lq_value.specs.declared.value.Value.TheVariants as value
+use Rattle.lq_host.specs.declared.call.Pick.{Pick}
+use Rattle.lq_host.specs.declared.call.Pick.TheVariants as numbers
+use Rattle.lq_host.specs.declared.call.Pick2.{Pick2}
 use Rattle.lq_language.specs.Arrangement.{order_by}
 use Rattle.lq_language.specs.Worlds.{World}
-use Rattle.lq_language.specs.OperandMeaning.{as_value, cell_value, is_null, on_scalar, on_truth, sequence, stream_of, table_value, truth_value}
+use Rattle.lq_language.specs.OperandMeaning.{as_value, asked_about, cell_value, is_null, on_scalar, on_truth, one_argument, sequence, stream_of, table_value, truth_value, two_arguments}
 use Rattle.lq_language.specs.ClauseMeaning.{as_group, matches}
 use Rattle.lq_language.specs.Enumerable.{all}
 use Rattle.lq_language.specs.Operations.{of_one, of_two, on_ok, truth_of}
@@ -59,6 +62,14 @@ module _ {R : Type 0} (world : World R) where
   cell_in table c (Value-F.Scalar scalar.Null) = Err fault.NullReference
   cell_in table c layer = Err world.unknown
 
+  -- the arguments that a row has in columns of these numbers
+  abbrev pub numbered_cell : ℕ → R → ℕ → Option Scalar
+  numbered_cell table r c = option_and_then (world.cell r) (name_of_column world.schemas table c)
+
+  abbrev pub arguments_at : ℕ → Pick → R → Option Pick2
+  arguments_at table (numbers.One c) r = one_argument (numbered_cell table r c)
+  arguments_at table (numbers.Two c d) r = two_arguments (numbered_cell table r c) (numbered_cell table r d)
+
   abbrev pub member_at : ℕ → Value-F R (Value R) → Result (Value R) Fault
   member_at place (Value-F.Rec members) = if_there (option_map (λ member. member.1) (slice_get members place))
   member_at place (Value-F.Scalar scalar.Null) = Err fault.NullReference
@@ -102,6 +113,7 @@ module _ {R : Type 0} (world : World R) where
   form_step (Form-F.Second a) slots = on_ok (a slots) (λ v. Ok (second v))
   form_step (Form-F.Table n) slots = table_value world (slice_get world.rows n)
   form_step (Form-F.Column a table c) slots = on_ok (a slots) (λ v. cell_in table c (out-Value R v))
+  form_step (Form-F.Host p a table columns) slots = on_ok (a slots) (λ v. asked_about world (Some p) (arguments_at table columns) (out-Value R v))
   form_step (Form-F.Member a place) slots = on_ok (a slots) (λ v. member_at place (out-Value R v))
   form_step (Form-F.Key a) slots = on_ok (a slots) (λ v. key_in (out-Value R v))
   form_step (Form-F.Unary o a) slots = on_scalar world (a slots) (λ s. as_value (of_one world.unknown o s))

@@ -10,6 +10,8 @@ use Rattle.lq_value.specs.declared.ty.Ty.TheOpen.{Ty-F}
 use Rattle.lq_value.specs.declared.value.End.{End}
 use Rattle.lq_value.specs.declared.value.Value.{Value}
 use Rattle.lq_value.specs.declared.value.Value.TheVariants as value
+use Rattle.lq_host.specs.declared.call.Pick.{Pick}
+use Rattle.lq_host.specs.declared.call.Pick2.{Pick2}
 use Rattle.lq_language.specs.Worlds.{World}
 use Rattle.lq_language.specs.OperandMeaning.{stream_of}
 use Rattle.lq_language.specs.Operators.{pair}
@@ -24,7 +26,7 @@ use Rattle.lq_language.specs.declared.operation.Op.{Op}
 use Rattle.lq_language.specs.declared.operation.Op.TheVariants as op
 use Rattle.lq_grammar.specs.declared.syntax.Field.{Field}
 use Rattle.lq_grammar.specs.declared.syntax.SortKey.{SortKey}
-use Rattle.lq_tree.specs.FormMeaning.{Slots, form_meaning, matched, name_of_column}
+use Rattle.lq_tree.specs.FormMeaning.{Slots, arguments_at, form_meaning, matched, name_of_column}
 use Rattle.lq_tree.specs.declared.tree.Form.{Form}
 use Rattle.lq_tree.specs.declared.tree.Form.TheVariants as form
 use Rattle.lq_tree.specs.declared.tree.Joined.{Joined}
@@ -191,6 +193,11 @@ module _ {R : Type 0} (world : World R) where
     a_cell : (r : R) (m : List ℕ) (s : Scalar) → v ≡ value.Row r → name_of_column world.schemas table c ≡ Some m → world.cell r m ≡ Some s → HasCell table c v
     no_row : v ≡ value.Scalar scalar.Null → HasCell table c v
 
+  -- a row with an integer in each of these columns of the table, or null (`asked_about`)
+  pub data HasArguments (table : ℕ) (columns : Pick) (v : Value R) : Type 0 where
+    an_asked : (r : R) (xs : Pick2) → v ≡ value.Row r → arguments_at world table columns r ≡ Some xs → HasArguments table columns v
+    none_asked : v ≡ value.Scalar scalar.Null → HasArguments table columns v
+
   -- what a form gives is a fault, or of this kind
   abbrev pub Finds : Form → Slots R → (Value R → Type 0) → Type 0
   Finds f slots Is = (v : Value R) → form_meaning world f slots ≡ Ok v → Is v
@@ -228,6 +235,8 @@ module _ {R : Type 0} (world : World R) where
     at_second : (a : Form) (slots : Slots R) → MeetsKinds (Runs a slots) → Finds a slots IsPair → MeetsKinds (Runs (form.Second a) slots)
     at_column : (a : Form) (table c : ℕ) (slots : Slots R) → MeetsKinds (Runs a slots) → Finds a slots (HasCell table c)
         → MeetsKinds (Runs (form.Column a table c) slots)
+    at_host : (p : ℕ) (a : Form) (table : ℕ) (columns : Pick) (slots : Slots R) → MeetsKinds (Runs a slots) → Finds a slots (HasArguments table columns)
+        → MeetsKinds (Runs (form.Host p a table columns) slots)
     at_member : (a : Form) (place : ℕ) (slots : Slots R) → MeetsKinds (Runs a slots) → Finds a slots (HasMember place)
         → MeetsKinds (Runs (form.Member a place) slots)
     at_key : (a : Form) (slots : Slots R) → MeetsKinds (Runs a slots) → Finds a slots IsGroup → MeetsKinds (Runs (form.Key a) slots)

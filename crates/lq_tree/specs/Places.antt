@@ -5,6 +5,7 @@ use Rattle.lq_value.specs.declared.table.Schema.{Schema}
 use Rattle.lq_value.specs.declared.ty.Ty.{Ty}
 use Rattle.lq_language.specs.Operators.{Pattern, One, With}
 use Rattle.lq_language.specs.Names.{Names, SessionName}
+use Rattle.lq_language.specs.declared.host_name.HostName.{HostName}
 use Rattle.lq_tree.specs.declared.tree.Form.{Form}
 use Rattle.lq_tree.specs.declared.tree.Form.TheVariants as form
 
@@ -19,8 +20,9 @@ pub record SessionPlace : Type 0 where
   pub known : SessionName
   pub form : ℕ → Form
 
--- the names of the session, the local names, the innermost first, and how many slots are in use
+-- the host predicates, by number, the names of the session, the local names, the innermost first, and how many slots are in use
 pub record Places : Type 0 where
+  pub predicates : List HostName
   pub session : List SessionPlace
   pub locals : List Place
   pub depth : ℕ
@@ -38,7 +40,12 @@ place_of name (place ∷ places) = if bytes_eq place.name name then Some place e
 -- the names that typing sees
 abbrev pub names_of_places : List Schema → Places → Names
 names_of_places schemas places =
-    record { tables = schemas; session = map (λ place. place.known) places.session; locals = map (λ place. (place.name, place.ty)) places.locals }
+    record {
+      tables = schemas;
+      predicates = places.predicates;
+      session = map (λ place. place.known) places.session;
+      locals = map (λ place. (place.name, place.ty)) places.locals;
+    }
 
 -- the places of an item's names, in front of those around it: this form reaches the item, which is a nested pair
 abbrev pub places_of : Pattern → Form → List Place → List Place
@@ -47,7 +54,12 @@ places_of (With p n t) item places = record { name = n; ty = t; form = form.Seco
 
 -- one slot more, which holds an item
 abbrev pub with_item : Places → Pattern → Places
-with_item places p = record { session = places.session; locals = places_of p (form.Slot places.depth) places.locals; depth = places.depth + 1 }
+with_item places p = record {
+  predicates = places.predicates;
+  session = places.session;
+  locals = places_of p (form.Slot places.depth) places.locals;
+  depth = places.depth + 1;
+}
 
 -- one slot more, which holds the value of one name
 abbrev pub with_name : Places → List ℕ → Ty → Places

@@ -1,18 +1,20 @@
 -- Laws of typed forms: each tree that binding gives is one, and evaluation keeps what its forms are typed to give.
-use Rattle.std.specs.Prelude.{◌≡◌, ◌∷◌, ◌++◌, List, [], Some, Ok, length}
+use Rattle.std.specs.Prelude.{◌≡◌, ◌∷◌, ◌++◌, List, [], ℕ, Some, Ok, length}
 use Rattle.lq_value.specs.declared.table.Schema.{Schema}
+use Rattle.lq_value.specs.declared.ty.Ty.TheVariants as ty
 use Rattle.lq_value.specs.declared.value.End.{End}
 use Rattle.lq_value.specs.declared.value.Fault.{Fault}
 use Rattle.lq_value.specs.declared.value.Value.{Value}
 use Rattle.lq_value.specs.declared.value.Value.TheVariants as value
 use Rattle.lq_machine.specs.DefinitionLaws.{AreDefined}
-use Rattle.lq_language.specs.Worlds.{World}
+use Rattle.lq_language.specs.Worlds.{World, known_predicates}
 use Rattle.lq_language.specs.OperandMeaning.{stream_of}
-use Rattle.lq_language.specs.ValuesOfTypes.{Every, HoldsRows, assuming}
+use Rattle.lq_language.specs.ValuesOfTypes.{Every, HasCells, HoldsRows, assuming}
 use Rattle.lq_language.specs.Operators.{pair}
 use Rattle.lq_language.specs.MeaningLaws.{IsValueOf}
 use Rattle.lq_language.specs.declared.calls.Call.{Call}
 use Rattle.lq_language.specs.declared.calls.Term.{Term}
+use Rattle.lq_language.specs.declared.host_name.HostName.{HostName}
 use Rattle.lq_machine.specs.declared.session.Definition.{Definition}
 use Rattle.lq_grammar.specs.declared.syntax.Expr.{Expr}
 use Rattle.lq_translate.specs.Translated.{translated}
@@ -20,7 +22,7 @@ use Rattle.lq_tree.specs.Binding.{call_tree, term_tree}
 use Rattle.lq_tree.specs.FormMeaning.{Slots, form_meaning}
 use Rattle.lq_tree.specs.OperandKinds.{MeetsKinds, Runs}
 use Rattle.lq_tree.specs.Places.{Places}
-use Rattle.lq_tree.specs.SessionPlaces.{statement_places}
+use Rattle.lq_tree.specs.SessionPlaces.{condition_places, statement_places}
 use Rattle.lq_tree.specs.TypedForms.{Both, Gives, IsTyped, IsTypedForm, Many, Of, Shape}
 use Rattle.lq_tree.specs.declared.tree.Form.{Form}
 use Rattle.lq_tree.specs.declared.tree.Tree.{Tree}
@@ -68,13 +70,22 @@ TypedExpressions =
 -- the places of a statement are typed, where each named query has a type
 abbrev pub PlacesAreTyped : Type 0
 PlacesAreTyped =
-    (schemas : List Schema) (definitions : List Definition) → AreDefined schemas definitions → AreTyped schemas [] (statement_places schemas definitions)
+    (schemas : List Schema) (predicates : List HostName) (definitions : List Definition) → AreDefined schemas predicates definitions
+    → AreTyped schemas [] (statement_places schemas predicates definitions)
 
 -- so the tree of a statement's expression is typed, with no slot in use
 abbrev pub TypedStatements : Type 0
 TypedStatements =
-    (schemas : List Schema) (definitions : List Definition) → AreDefined schemas definitions → (e : Expr) (tree : Tree)
-    → term_tree schemas (translated e) (statement_places schemas definitions) ≡ Some tree → IsTypedForm schemas [] tree.form (Of tree.ty)
+    (schemas : List Schema) (predicates : List HostName) (definitions : List Definition) → AreDefined schemas predicates definitions → (e : Expr) (tree : Tree)
+    → term_tree schemas (translated e) (statement_places schemas predicates definitions) ≡ Some tree → IsTypedForm schemas [] tree.form (Of tree.ty)
+
+-- and so is that of a condition, with a row of its table in the first slot
+abbrev pub TypedConditions : Type 0
+TypedConditions =
+    (schemas : List Schema) (predicates : List HostName) (definitions : List Definition) → AreDefined schemas predicates definitions
+    → (x : List ℕ) (n : ℕ) (e : Expr) (tree : Tree)
+    → term_tree schemas (translated e) (condition_places schemas predicates definitions x n) ≡ Some tree
+    → IsTypedForm schemas (Of (ty.Row n) ∷ []) tree.form (Of tree.ty)
 
 -- ---- evaluation
 
@@ -99,8 +110,18 @@ MeetsOperands R =
 -- so is it where the tree of a statement's expression is run
 abbrev pub StatementsMeetOperands : Type 0 → Type 0
 StatementsMeetOperands R =
-    (world : World R) (definitions : List Definition) → HoldsRows world → AreDefined world.schemas definitions → (e : Expr) (tree : Tree)
-    → term_tree world.schemas (translated e) (statement_places world.schemas definitions) ≡ Some tree → MeetsKinds world (Runs tree.form [])
+    (world : World R) (definitions : List Definition) → HoldsRows world → AreDefined world.schemas (known_predicates world.predicates) definitions
+    → (e : Expr) (tree : Tree)
+    → term_tree world.schemas (translated e) (statement_places world.schemas (known_predicates world.predicates) definitions) ≡ Some tree
+    → MeetsKinds world (Runs tree.form [])
+
+-- and where that of a condition is run on a row with the table's cells
+abbrev pub ConditionsMeetOperands : Type 0 → Type 0
+ConditionsMeetOperands R =
+    (world : World R) (definitions : List Definition) → HoldsRows world → AreDefined world.schemas (known_predicates world.predicates) definitions
+    → (x : List ℕ) (n : ℕ) (e : Expr) (tree : Tree)
+    → term_tree world.schemas (translated e) (condition_places world.schemas (known_predicates world.predicates) definitions x n) ≡ Some tree
+    → (row : R) → HasCells world n row → MeetsKinds world (Runs tree.form (value.Row row ∷ []))
 
 -- what is run so means the same whatever is put where there is no meaning: no arm for an operand of another kind that answers it is reached
 abbrev pub KindsSuffice : Type 0 → Type 0

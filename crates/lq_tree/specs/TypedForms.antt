@@ -6,6 +6,9 @@ use Rattle.lq_value.specs.declared.table.Schema.{Schema}
 use Rattle.lq_value.specs.declared.ty.Ty.{Ty, out-Ty}
 use Rattle.lq_value.specs.declared.ty.Ty.TheOpen.{Ty-F}
 use Rattle.lq_value.specs.declared.ty.Ty.TheVariants as ty
+use Rattle.lq_host.specs.declared.call.Pick.{Pick}
+use Rattle.lq_host.specs.declared.call.Pick.TheVariants as numbers
+use Rattle.lq_language.specs.HostNames.{are_int_columns}
 use Rattle.lq_language.specs.ValuesOfTypes.{IsScalarOf}
 use Rattle.lq_language.specs.Members.{search_named}
 use Rattle.lq_language.specs.Operators.{Pattern, One, With, pair_type}
@@ -19,6 +22,8 @@ use Rattle.lq_language.specs.declared.operation.Op.{Op}
 use Rattle.lq_language.specs.declared.operation.Op.TheVariants as op
 use Rattle.lq_grammar.specs.declared.syntax.Binary.{Binary}
 use Rattle.lq_grammar.specs.declared.syntax.Field.{Field}
+use Rattle.lq_grammar.specs.declared.syntax.Picked.{Picked}
+use Rattle.lq_grammar.specs.declared.syntax.Picked.TheVariants as names
 use Rattle.lq_grammar.specs.declared.syntax.SortKey.{SortKey}
 use Rattle.lq_tree.specs.Binding.{is_object, operation_at}
 use Rattle.lq_tree.specs.FormMeaning.{name_of_column}
@@ -55,6 +60,12 @@ abbrev pub matched_items : Bool → Ty → Ty
 matched_items true t = ty.Seq t
 matched_items false t = t
 
+-- columns of a table by their numbers and by their names
+abbrev pub ArePicked : List Schema → ℕ → Pick → Picked → Type 0
+ArePicked schemas n (numbers.One c) (names.One m) = name_of_column schemas n c ≡ Some m
+ArePicked schemas n (numbers.Two c d) (names.Two m k) = (name_of_column schemas n c ≡ Some m) × (name_of_column schemas n d ≡ Some k)
+ArePicked schemas n columns named = ⊥
+
 -- What is said of the forms in slots that hold such.
 pub data FormClaim : Type 0 where
   -- the form gives such values
@@ -82,6 +93,9 @@ module _ (schemas : List Schema) where
     -- a row of the table, and its column of this number, by the column's name
     of_column : (slots : List Shape) (row : Form) (n c : ℕ) (m : List ℕ) (t u : Ty) → IsTyped (Has slots row (Of t)) → out-Ty t ≡ Ty-F.Row n
         → name_of_column schemas n c ≡ Some m → column_type schemas n m ≡ Some u → IsTyped (Has slots (form.Column row n c) (Of u))
+    -- a row of the table, and its columns of these numbers, by their names
+    of_host : (slots : List Shape) (p : ℕ) (row : Form) (n : ℕ) (columns : Pick) (named : Picked) (t : Ty) → IsTyped (Has slots row (Of t)) → out-Ty t ≡ Ty-F.Row n
+        → ArePicked schemas n columns named → are_int_columns schemas n named ≡ true → IsTyped (Has slots (form.Host p row n columns) (Of ty.Bool))
     of_member : (slots : List Shape) (a : Form) (place : ℕ) (t : Ty) (ms : List (List ℕ × Ty)) (m : List ℕ × Ty) → IsTyped (Has slots a (Of t))
         → out-Ty t ≡ Ty-F.Rec ms → slice_get ms place ≡ Some m → IsTyped (Has slots (form.Member a place) (Of m.1))
     of_key : (slots : List Shape) (a : Form) (t k u : Ty) → IsTyped (Has slots a (Of t)) → out-Ty t ≡ Ty-F.Group k u → IsTyped (Has slots (form.Key a) (Of k))

@@ -3,6 +3,7 @@
 ghost use Rattle.std.specs.Prelude.{◌≡◌};
 
 use lq_grammar::{Field, SortKey};
+use lq_host::{Pick, PredicateNumber};
 use lq_language::{Given, Op, Simple};
 use lq_value::{ColumnNumber, Held, List, Scalar, TableNumber, Ty};
 
@@ -37,6 +38,9 @@ pub enum Form {
     Table(TableNumber),
     /// The cell of a row of the table with this number, by the number of its column.
     Column(Held<Form>, TableNumber, ColumnNumber),
+    /// What a host predicate answers, by its number, about a row of the table with this number: it is asked of the cells in these
+    /// columns.
+    Host(PredicateNumber, Held<Form>, TableNumber, Pick),
     /// A member of a record, by its place.
     Member(Held<Form>, usize),
     /// The key of a group.

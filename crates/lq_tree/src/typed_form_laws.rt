@@ -2,8 +2,9 @@
 //! themselves do nothing.
 ghost use Rattle.lq_tree.specs.KindLaws.{DefaultsAreThere, EqualsOneKind, ItemsAreEnumerated, KeysAreSame, NoNumbersAreThere};
 ghost use Rattle.lq_tree.specs.KindLaws.{NullIsNull, NumbersAreRead, OrdersNumbers, PairsHaveParts, RunsOnKinds, SortsOneKind, TakesOneAlike, TakesTwoAlike};
-ghost use Rattle.lq_tree.specs.TypedFormLaws.{KeepsItems, KeepsShapes, KindsSuffice, MeetsOperands, PlacesAreTyped};
-ghost use Rattle.lq_tree.specs.TypedFormLaws.{StatementsMeetOperands, TypedCalls, TypedExpressions, TypedStatements, TypedTrees};
+ghost use Rattle.lq_tree.specs.TypedFormLaws.{ConditionsMeetOperands, KeepsItems, KeepsShapes, KindsSuffice, MeetsOperands};
+ghost use Rattle.lq_tree.specs.TypedFormLaws.{PlacesAreTyped, StatementsMeetOperands, TypedCalls, TypedConditions};
+ghost use Rattle.lq_tree.specs.TypedFormLaws.{TypedExpressions, TypedStatements, TypedTrees};
 
 /// The tree that a term is bound to is a typed form, under what the slots of its place hold, and gives
 /// what the tree's type says; so are the tree of a query's calls, and that of a whole expression.
@@ -14,10 +15,12 @@ pub fn trees_are_typed()
 {}
 
 /// Where each named query has a type, the places of a statement are typed; so the tree of
-/// its expression is a typed form with no slot in use.
+/// its expression is a typed form with no slot in use, and that of a condition on the rows of a table
+/// one with a row of the table in the first slot.
 pub fn statements_are_typed()
     ensures places { PlacesAreTyped }
     ensures statements { TypedStatements }
+    ensures conditions { TypedConditions }
 {}
 
 /// Where tables have their rows, a typed form whose slots hold what they are said to hold gives a
@@ -28,10 +31,12 @@ pub fn evaluation_keeps_types<R>()
 {}
 
 /// And wherever it is run so, each operand that it meets, in a lambda too, is a fault or of the kind
-/// that is asked of it, decided by the values alone: so it is where a statement's tree is run.
+/// that is asked of it, decided by the values alone: so it is where a statement's tree is run, and
+/// where that of a condition is, on a row with the cells of its table.
 pub fn operands_are_of_their_kinds<R>()
     ensures forms { MeetsOperands R }
     ensures statements { StatementsMeetOperands R }
+    ensures conditions { ConditionsMeetOperands R }
 {}
 
 /// What is run on operands of these kinds means the same whatever is put where there is no meaning: no

@@ -12,6 +12,6 @@ pub use types::{
     is_sort_key, is_text, is_within,
 };
 pub use typing::{
-    are_join_keys, choice_type, coalesced, given_type, is_equality, operated_type, simple_type,
-    through_type,
+    are_join_keys, choice_type, coalesced_type, given_type, is_equality, operated_type,
+    simple_type, through_type,
 };

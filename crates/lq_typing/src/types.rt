@@ -2,9 +2,9 @@
 ghost use Rattle.std.specs.Prelude.{◌≡◌, ◌+◌, ◌<◌, IfOk, IfSome, IfNone, Some};
 ghost use Rattle.lq_value.specs.declared.ty.Ty.{out-Ty};
 ghost use Rattle.lq_language.specs.Types.{element_type, has_place, is_key, is_sort_key, is_within, parts_of, same_types};
-ghost use Rattle.lq_language.specs.OperandTypes.{is_bool, is_number, is_text};
+ghost use Rattle.lq_language.specs.OperandTypes.{is_bool, is_int, is_number, is_text};
 ghost use Rattle.lq_language.specs.Meaning.{is_sequence_layer};
-ghost use Rattle.lq_language.specs.Typing.{converts, has_default, is_int, takes_null, widens};
+ghost use Rattle.lq_language.specs.Typing.{converts, has_default, takes_null, widens};
 ghost use Rattle.lq_typing.specs.TypeParts.{are_keys, member_parts, same_members};
 
 use lq_value::{Held, List, Txt, Ty};

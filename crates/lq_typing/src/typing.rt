@@ -112,7 +112,7 @@ pub fn operated_type(sign: Binary, left: &Ty, right: &Ty) -> Option<Ty>
 /// The type of `left ?? right`, whose first operand may be null; None where the two have none (ECMA-334, the null
 /// coalescing operator).
 #[tactic(auto, using(crate::proofs::TypeLayers::layers))]
-pub fn coalesced(left: &Ty, right: &Ty) -> Option<Ty>
+pub fn coalesced_type(left: &Ty, right: &Ty) -> Option<Ty>
     ensures { result ≡ coalesced (out-Ty left.now) (out-Ty right.now) }
 {
     match left {

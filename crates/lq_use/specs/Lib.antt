@@ -1,2 +1,3 @@
 pub mod Decisions
-pub mod Served
+pub mod FormRights
+pub mod Hosts

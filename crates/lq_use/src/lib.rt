@@ -1,4 +1,4 @@
-//! Uses and denials: which tables and columns a statement uses, and the first of them to which its role has no right.
+//! Uses and denials: which tables, columns and host predicates a statement uses, and the first of them to which its role has no right.
 //!
 //! `uses` lists exactly what a tree uses, in the order of its text, and `decide` answers the first use
 //! that is denied, with the name of the rule that denies it.

@@ -1,11 +1,12 @@
 //! The uses of typed trees.
 ghost use Rattle.std.specs.Prelude.{◌≡◌, ◌∷◌, ◌++◌, [], flat_map, IfOk, OnOk};
 ghost use Rattle.lq_machine.specs.States.{schemas_of};
-ghost use Rattle.lq_tree.specs.UsesOfForms.{form_uses};
-ghost use Rattle.lq_use.specs.Served.{join_uses, uses_served};
+ghost use Rattle.lq_use.specs.FormRights.{form_rights, join_uses, uses_served};
+ghost use Rattle.lq_use.specs.Hosts.{picked_uses};
 
 use crate::shown::add_columns;
 use lq_grammar::{Field, SortKey};
+use lq_host::{Pick, PredicateNumber};
 use lq_policy::Use;
 use lq_store::Store;
 use lq_tree::{Form, Joined, Tree, ty};
@@ -17,7 +18,7 @@ use std::alloc::{AllocError, Global};
 #[inline(never)]
 #[tactic(auto, using(crate::proofs::UseLemmas::forms))]
 fn add_form(form: &Form, uses: &mut Vec<Use>) -> Result<(), AllocError>
-    ensures { OnOk result (uses.new.items ≡ uses.old.items ++ form_uses form.now) }
+    ensures { OnOk result (uses.new.items ≡ uses.old.items ++ form_rights form.now) }
 {
     match form {
         Form::Literal(_) => Ok(()),
@@ -26,6 +27,9 @@ fn add_form(form: &Form, uses: &mut Vec<Use>) -> Result<(), AllocError>
         Form::Second(pair) => add_form(pair.get(), uses),
         Form::Table(table) => Ok(uses.push(Use::Table(*table))?),
         Form::Column(row, table, column) => add_column(row.get(), *table, *column, uses),
+        Form::Host(predicate, row, table, columns) => {
+            add_host(row.get(), *predicate, *table, *columns, uses)
+        }
         Form::Member(value, _) => add_form(value.get(), uses),
         Form::Key(group) => add_form(group.get(), uses),
         Form::Unary(_, operand) => add_form(operand.get(), uses),
@@ -67,17 +71,48 @@ fn add_column(
     uses: &mut Vec<Use>,
 ) -> Result<(), AllocError>
     ensures { OnOk result (uses.new.items
-        ≡ uses.old.items ++ (form_uses row.now ++ Use.Column table column ∷ [])) }
+        ≡ uses.old.items ++ (form_rights row.now ++ Use.Column table column ∷ [])) }
 {
     add_form(row, uses)?;
     Ok(uses.push(Use::Column(table, column))?)
+}
+
+/// Columns of a table.
+fn add_picked(table: TableNumber, columns: Pick, uses: &mut Vec<Use>) -> Result<(), AllocError>
+    ensures { OnOk result (uses.new.items ≡ uses.old.items ++ picked_uses table columns) }
+{
+    match columns {
+        Pick::One(only) => Ok(uses.push(Use::Column(table, only))?),
+        Pick::Two(first, second) => {
+            uses.push(Use::Column(table, first))?;
+            Ok(uses.push(Use::Column(table, second))?)
+        }
+    }
+}
+
+/// A host predicate, what the row uses that is asked about, and its columns.
+#[cycle(gathering)]
+fn add_host(
+    asked: &Form,
+    predicate: PredicateNumber,
+    table: TableNumber,
+    columns: Pick,
+    uses: &mut Vec<Use>,
+) -> Result<(), AllocError>
+    ensures { OnOk result (uses.new.items
+        ≡ uses.old.items
+        ++ (Use.Host predicate ∷ (form_rights asked.now ++ picked_uses table columns))) }
+{
+    uses.push(Use::Host(predicate))?;
+    add_form(asked, uses)?;
+    add_picked(table, columns, uses)
 }
 
 /// What two forms use, one after the other.
 #[cycle(gathering)]
 fn add_two(first: &Form, second: &Form, uses: &mut Vec<Use>) -> Result<(), AllocError>
     ensures { OnOk result (uses.new.items
-        ≡ uses.old.items ++ (form_uses first.now ++ form_uses second.now)) }
+        ≡ uses.old.items ++ (form_rights first.now ++ form_rights second.now)) }
 {
     add_form(first, uses)?;
     add_form(second, uses)
@@ -92,8 +127,8 @@ fn add_three(
     uses: &mut Vec<Use>,
 ) -> Result<(), AllocError>
     ensures { OnOk result (uses.new.items
-        ≡ uses.old.items ++ (form_uses first.now
-        ++ (form_uses second.now ++ form_uses third.now))) }
+        ≡ uses.old.items ++ (form_rights first.now
+        ++ (form_rights second.now ++ form_rights third.now))) }
 {
     add_form(first, uses)?;
     add_two(second, third, uses)
@@ -103,7 +138,7 @@ fn add_three(
 #[cycle(gathering)]
 fn add_fields(fields: &[Field<Form>], uses: &mut Vec<Use>) -> Result<(), AllocError>
     ensures { OnOk result (uses.new.items
-        ≡ uses.old.items ++ flat_map (λ field. form_uses field.value) fields.now) }
+        ≡ uses.old.items ++ flat_map (λ field. form_rights field.value) fields.now) }
 {
     for field in fields {
         add_form(&field.value, uses)?;
@@ -115,7 +150,7 @@ fn add_fields(fields: &[Field<Form>], uses: &mut Vec<Use>) -> Result<(), AllocEr
 #[cycle(gathering)]
 fn add_keys(keys: &[SortKey<Form>], uses: &mut Vec<Use>) -> Result<(), AllocError>
     ensures { OnOk result (uses.new.items
-        ≡ uses.old.items ++ flat_map (λ key. form_uses key.value) keys.now) }
+        ≡ uses.old.items ++ flat_map (λ key. form_rights key.value) keys.now) }
 {
     for key in keys {
         add_form(&key.value, uses)?;
@@ -133,8 +168,8 @@ fn add_four(
     uses: &mut Vec<Use>,
 ) -> Result<(), AllocError>
     ensures { OnOk result (uses.new.items
-        ≡ uses.old.items ++ (form_uses first.now
-        ++ (form_uses second.now ++ (form_uses third.now ++ form_uses fourth.now)))) }
+        ≡ uses.old.items ++ (form_rights first.now
+        ++ (form_rights second.now ++ (form_rights third.now ++ form_rights fourth.now)))) }
 {
     add_form(first, uses)?;
     add_three(second, third, fourth, uses)
@@ -154,11 +189,12 @@ fn add_joined(joined: &Joined<Form>, uses: &mut Vec<Use>) -> Result<(), AllocErr
     )
 }
 
-/// What a tree uses of the tables, in the order of the text that it comes from: tables and columns; and where it is `served`,
-/// after them each column of each row type in its type, all of which a reply shows. Refused where memory is.
+/// What a tree uses, in the order of the text that it comes from: tables, columns and host predicates, each predicate before the row
+/// that it is asked about, and that before its columns; and where it is `served`, after them each column of each row type in its type, all
+/// of which a reply shows. Refused where memory is.
 pub fn uses(alloc: Global, tree: &Tree, store: &Store, served: bool) -> Result<Vec<Use>, AllocError>
     ensures { IfOk result (λ uses. uses.items
-        ≡ form_uses tree.now.form ++ uses_served served (schemas_of store.now) tree.now.ty) }
+        ≡ form_rights tree.now.form ++ uses_served served (schemas_of store.now) tree.now.ty) }
 {
     let mut uses = Vec::new(alloc);
     add_form(tree.form.get(), &mut uses)?;

@@ -109,7 +109,7 @@ fn right_of(alloc: Global, text: &str) -> Result<RightForm, ShapeError>
 }
 
 impl Shaped for RightForm {
-    ghost use Rattle.lq_policyfile.specs.Reading.{by_text};
+    ghost use Rattle.lq_policyfile.specs.TomlValues.{by_text};
     ghost use Rattle.lq_policyfile.specs.Rights.{right_of};
 
     ghost shape = { by_text right_of };

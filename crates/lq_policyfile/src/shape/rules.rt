@@ -27,7 +27,7 @@ fn rule(alloc: Global, text: &str) -> Result<Expr, ShapeError>
 
 /// A rule that a policy may have.
 impl Shaped for Option<Expr> {
-    ghost use Rattle.lq_policyfile.specs.Reading.{by_text};
+    ghost use Rattle.lq_policyfile.specs.TomlValues.{by_text};
     ghost use Rattle.lq_policyfile.specs.Shape.{rule_of};
 
     ghost shape = { by_text rule_of };

@@ -5,7 +5,7 @@ ghost use Rattle.std.specs.Str.{bytes_eq};
 ghost use Rattle.toml.specs.Data.{get_member};
 ghost use Rattle.toml.specs.View.{items_view, table_view, view};
 ghost use Rattle.lq_policyfile.specs.Outcome.{Reads};
-ghost use Rattle.lq_policyfile.specs.Reading.{each, has_only, optional, required};
+ghost use Rattle.lq_policyfile.specs.TomlValues.{each, has_only, optional, required};
 
 use crate::error::ShapeError;
 use lq_value::{List, Txt};
@@ -62,7 +62,7 @@ fn each<T: Shaped>(alloc: Global, values: &[Value]) -> Result<List<T>, ShapeErro
 }
 
 impl<T: Shaped> Shaped for List<T> {
-    ghost use Rattle.lq_policyfile.specs.Reading.{array_of};
+    ghost use Rattle.lq_policyfile.specs.TomlValues.{array_of};
 
     ghost shape = { array_of T.shape };
 

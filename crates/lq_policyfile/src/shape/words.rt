@@ -21,7 +21,7 @@ fn kind_of(text: &str) -> Option<Kind>
 }
 
 impl Shaped for Kind {
-    ghost use Rattle.lq_policyfile.specs.Reading.{by_text};
+    ghost use Rattle.lq_policyfile.specs.TomlValues.{by_text};
     ghost use Rattle.lq_policyfile.specs.Shape.{kind_of};
 
     ghost shape = { by_text kind_of };
@@ -45,7 +45,7 @@ fn actions_of(text: &str) -> Option<Actions>
 }
 
 impl Shaped for Actions {
-    ghost use Rattle.lq_policyfile.specs.Reading.{by_text};
+    ghost use Rattle.lq_policyfile.specs.TomlValues.{by_text};
     ghost use Rattle.lq_policyfile.specs.Shape.{actions_of};
 
     ghost shape = { by_text actions_of };

@@ -4,7 +4,7 @@ use Rattle.lq_grammar.specs.Tokens.{decimal_value}
 use Rattle.lq_lex.proofs.DigitLaws.{past_limit}
 use Rattle.lq_lex.proofs.literals.int_value.Goals as goal
 
-pub returns-then-value-ge-LARGEST : goal.returns-then-value-ge-LARGEST
-returns-then-value-ge-LARGEST c =
+pub returns-then-value-from : goal.returns-then-value-from
+returns-then-value-from c =
     let above : 2147483648 ≤ decimal_value c.args.digits.now = past_limit c.args.digits.now c.loop-digit.digit-index c.loop-digit.value 2147483648 0 (omega arith) c.loop-digit.invariant.0 (omega arith) in
     grind (arith, nat_tests)

@@ -4,7 +4,7 @@ use Rattle.lq_grammar.specs.Tokens.{decimal_value}
 use Rattle.lq_lex.proofs.DigitLaws.{past_limit}
 use Rattle.lq_lex.proofs.literals.is_small.Goals as goal
 
-pub returns-then-value-gt-LARGEST : goal.returns-then-value-gt-LARGEST
-returns-then-value-gt-LARGEST c =
+pub returns-then-value-from : goal.returns-then-value-from
+returns-then-value-from c =
     let above : 2147483649 ≤ decimal_value c.args.digits.now = past_limit c.args.digits.now c.loop-digit.digit-index c.loop-digit.value 2147483649 c.digit-item.result (omega arith) c.loop-digit.invariant.0 (omega arith) in
     grind (arith, nat_tests)

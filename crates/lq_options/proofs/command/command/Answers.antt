@@ -14,4 +14,5 @@ returns c =
     let one = c.in_ok-arg.ensures.shape c.role.ensures.local ∙ ap₂ with_rule bare c.role.ensures.rule in
     let two = c.in_ok-arg-2.ensures.shape c.policy.ensures.local ∙ ap₂ with_rule one c.policy.ensures.rule in
     let three = c.in_ok-arg-3.ensures.shape c.script.ensures.local ∙ ap₂ with_rule two c.script.ensures.rule in
-    IfOk-weaker c.arg-4.result _ _ (λ command added. added.shape c.tables.ensures.local ∙ ap₂ with_rule three c.tables.ensures.rule) c.arg-4.ensures
+    let four = c.in_ok-arg-4.ensures.shape c.watch.ensures.local ∙ ap₂ with_rule three c.watch.ensures.rule in
+    IfOk-weaker c.arg-5.result _ _ (λ command added. added.shape c.tables.ensures.local ∙ ap₂ with_rule four c.tables.ensures.rule) c.arg-5.ensures

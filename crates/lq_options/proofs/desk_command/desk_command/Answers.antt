@@ -13,4 +13,5 @@ returns c =
     ∙ (ap app_of_fields c.in_ok-bin_name.ensures.0 ∙ c.new.ensures.app)) in
     let one = c.in_ok-arg.ensures.shape c.role.ensures.local ∙ ap₂ with_rule bare c.role.ensures.rule in
     let two = c.in_ok-arg-2.ensures.shape c.policy.ensures.local ∙ ap₂ with_rule one c.policy.ensures.rule in
-    IfOk-weaker c.arg-3.result _ _ (λ command added. added.shape c.tables.ensures.local ∙ ap₂ with_rule two c.tables.ensures.rule) c.arg-3.ensures
+    let three = c.in_ok-arg-3.ensures.shape c.watch.ensures.local ∙ ap₂ with_rule two c.watch.ensures.rule in
+    IfOk-weaker c.arg-4.result _ _ (λ command added. added.shape c.tables.ensures.local ∙ ap₂ with_rule three c.tables.ensures.rule) c.arg-4.ensures

@@ -1,4 +1,4 @@
-use Rattle.lq_render.proofs.ReadingLaws.{put_keeps_order, shows_data}
+use Rattle.lq_render.proofs.ReadingLemmas.{put_keeps_order, shows_data}
 use Rattle.lq_render.proofs.reading_laws.lines_of_data.Goals as goal
 
 pub returns-clause-shown : goal.returns-clause-shown

@@ -1,4 +1,4 @@
-use Rattle.lq_render.proofs.ColumnLaws.{begins_with_names, counts_all_items, has_each_cell}
+use Rattle.lq_render.proofs.ColumnLemmas.{begins_with_names, counts_all_items, has_each_cell}
 use Rattle.lq_render.proofs.table_laws.no_cell_is_lost.Goals as goal
 
 pub returns-clause-cells : goal.returns-clause-cells

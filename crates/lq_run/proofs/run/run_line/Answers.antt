@@ -4,35 +4,46 @@ use Rattle.lq_value.specs.Tables.{Table}
 use Rattle.lq_machine.specs.States.{schemas_of}
 use Rattle.lq_machine.specs.Serving.{run_in}
 use Rattle.lq_language.specs.Uses.{shown_columns}
-use Rattle.lq_tree.specs.UsesOfForms.{form_uses}
+use Rattle.lq_use.specs.FormRights.{form_rights}
+use Rattle.lq_run.specs.States.{state_with}
+use Rattle.lq_run.proofs.KnownLaws.{defined_with}
 use Rattle.lq_run.proofs.ReplyLemmas.{allowed_served, denied_answered, null_refused, told_of, untyped_refused}
 use Rattle.lq_run.proofs.StopLaws.{stops_as}
 use Rattle.lq_run.proofs.run.run_line.Goals as goal
 
 pub returns-in_err-tree : goal.returns-in_err-tree
-returns-in_err-tree c =
+returns-in_err-tree g c =
+    let predicates = g.H.Asks.known c.args.hosts.now in
     let same : c.from_residual.result ≡ Err c.in_err-tree.field-0.0 = search rules in
-    rw same (untyped_refused c.args.state.now c.args.expr.now c.in_err-tree.field-0.0 c.in_err-tree.ensures)
+    rw same (untyped_refused (state_with predicates c.args.state.now) c.args.expr.now c.in_err-tree.field-0.0
+    (c.in_err-tree.ensures predicates c.requires.known))
 
 pub returns-then-not-has_place : goal.returns-then-not-has_place
-returns-then-not-has_place c =
+returns-then-not-has_place g c =
+    let predicates = g.H.Asks.known c.args.hosts.now in
+    let s = state_with predicates c.args.state.now in
     let null = told_of c.has_place.result false c.ty.result.now c.in_ok-tree.tree.ty c.has_place.ensures c.ty.ensures c.if-not-has_place.true in
-    stops_as _ (run_in c.args.state.now c.args.expr.now) c.refusal.result
-    (null_refused c.args.state.now c.args.expr.now c.in_ok-tree.tree c.in_ok-tree.ensures null) c.refusal.ensures
+    stops_as _ (run_in s c.args.expr.now) c.refusal.result
+    (null_refused s c.args.expr.now c.in_ok-tree.tree (c.in_ok-tree.ensures predicates c.requires.known) null) c.refusal.ensures
 
 pub returns-in_err-check_rights : goal.returns-in_err-check_rights
-returns-in_err-check_rights c =
+returns-in_err-check_rights g c =
+    let predicates = g.H.Asks.known c.args.hosts.now in
+    let defined = defined_with predicates c.args.state.now c.requires.known c.store.ensures.kept in
     let there = told_of c.has_place.result true c.ty.result.now c.in_ok-tree.tree.ty c.has_place.ensures c.ty.ensures c.if-not-has_place.false in
     let uses = c.as_slice.ensures.value ∙ c.in_ok-used.ensures
-    ∙ ap (λ (tables : List Table). form_uses c.in_ok-tree.tree.form ++ shown_columns (schemas_of tables) c.in_ok-tree.tree.ty) c.store.ensures.value in
+    ∙ ap (λ (tables : List Table). form_rights c.in_ok-tree.tree.form ++ shown_columns (schemas_of tables) c.in_ok-tree.tree.ty) c.store.ensures.value in
     let same : c.from_residual-in_err-check_rights.result ≡ Err c.in_err-check_rights.field-0.0 = search rules in
-    rw same (denied_answered c.args.state.now c.store.ensures.kept c.in_ok-tree.tree there c.as_slice.result.now uses c.args.expr.now c.in_ok-tree.ensures
-    c.in_err-check_rights.field-0.0 c.in_err-check_rights.ensures)
+    rw same (denied_answered (state_with predicates c.args.state.now) defined c.in_ok-tree.tree there c.as_slice.result.now uses c.args.expr.now
+    (c.in_ok-tree.ensures predicates c.requires.known) c.in_err-check_rights.field-0.0 (c.in_err-check_rights.ensures predicates c.requires.known))
 
 pub returns : goal.returns
-returns c =
+returns g c =
+    let predicates = g.H.Asks.known c.args.hosts.now in
+    let defined = defined_with predicates c.args.state.now c.requires.known c.store.ensures.kept in
     let there = told_of c.has_place.result true c.ty.result.now c.in_ok-tree.tree.ty c.has_place.ensures c.ty.ensures c.if-not-has_place.false in
     let uses = c.as_slice.ensures.value ∙ c.in_ok-used.ensures
-    ∙ ap (λ (tables : List Table). form_uses c.in_ok-tree.tree.form ++ shown_columns (schemas_of tables) c.in_ok-tree.tree.ty) c.store.ensures.value in
-    allowed_served c.args.state.now c.store.ensures.kept c.in_ok-tree.tree there c.as_slice.result.now uses c.args.expr.now c.in_ok-tree.ensures
-    c.in_ok-seen_line.field-0 c.in_ok-check_rights.ensures c.in_ok-seen_line.ensures
+    ∙ ap (λ (tables : List Table). form_rights c.in_ok-tree.tree.form ++ shown_columns (schemas_of tables) c.in_ok-tree.tree.ty) c.store.ensures.value in
+    allowed_served (state_with predicates c.args.state.now) defined c.in_ok-tree.tree there c.as_slice.result.now uses c.args.expr.now
+    (c.in_ok-tree.ensures predicates c.requires.known) c.in_ok-seen_line.field-0 (c.in_ok-check_rights.ensures predicates c.requires.known)
+    c.in_ok-seen_line.ensures

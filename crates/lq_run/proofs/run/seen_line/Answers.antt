@@ -8,18 +8,22 @@ use Rattle.lq_plan.specs.Worlds.{world_of}
 use Rattle.lq_plan.specs.declared.tables.TableRows.{TableRows}
 use Rattle.lq_run.specs.Replies.{ServesTree}
 use Rattle.lq_run.specs.SeenRows.{AreSeen, cells_in, number_in}
+use Rattle.lq_run.specs.States.{state_with}
 use Rattle.lq_run.specs.TreeReply.{tree_data}
 use Rattle.lq_run.specs.declared.seen.SeenRow.{SeenRow}
 use Rattle.lq_run.proofs.ReplyLemmas.{serves_tree}
 use Rattle.lq_run.proofs.run.seen_line.Goals as goal
 
 pub returns : goal.returns
-returns c =
+returns g c =
+    let predicates = g.H.Asks.known c.args.hosts.now in
+    let s = state_with predicates c.args.state.now in
     let tables = c.as_slice-2.result.now in
-    let seen = subst (λ (ts : List (TableRows SeenRow)). AreSeen c.args.state.now ts) (sym c.as_slice-2.ensures.value) c.in_ok-tables.ensures.seen in
+    let seen = subst (λ (ts : List (TableRows SeenRow)). AreSeen s ts) (sym c.as_slice-2.ensures.value)
+    (c.in_ok-tables.ensures.seen predicates c.requires) in
     IfOk-weaker c.tree_line.result
-    (λ line. line ≡ line_of (tree_data cells_in (schemas_of c.store.result.now) (world_of number_in cells_in tables) c.args.tree.now))
-    (ServesTree c.args.state.now c.args.tree.now)
-    (λ line so. serves_tree c.args.state.now tables seen c.args.tree.now line
-    (so ∙ ap (λ (given : List Table). line_of (tree_data cells_in (schemas_of given) (world_of number_in cells_in tables) c.args.tree.now)) c.store.ensures.value))
+    (λ line. line ≡ line_of (tree_data cells_in (schemas_of c.store.result.now) (world_of number_in cells_in predicates tables) c.args.tree.now))
+    (ServesTree s c.args.tree.now)
+    (λ line so. serves_tree s tables seen c.args.tree.now line
+    (so ∙ ap (λ (given : List Table). line_of (tree_data cells_in (schemas_of given) (world_of number_in cells_in predicates tables) c.args.tree.now)) c.store.ensures.value))
     c.tree_line.ensures

@@ -1,11 +1,14 @@
 use Rattle.std.proofs.Common.{◌≡◌, ◌∙◌, ◌<◌, ◌≤◌, List, Some, IfSome, ap, arith, length, option_map, refl, slice_get, subst, sym}
+use Rattle.std.proofs.lemmas.List.{take_all}
 use Rattle.std.proofs.lemmas.Option.{slice_get_read}
 use Rattle.lq_value.specs.Tables.{Table}
 use Rattle.lq_store.specs.Rules.{IsTable}
-use Rattle.lq_run.specs.SeenRows.{AreSeen}
+use Rattle.lq_machine.specs.States.{schemas_of}
+use Rattle.lq_run.specs.States.{state_with}
 use Rattle.lq_run.proofs.ColumnLemmas.{seen_distinct}
+use Rattle.lq_run.proofs.KnownLaws.{defined_with}
 use Rattle.lq_run.proofs.SeenLemmas.{as_many}
-use Rattle.lq_run.proofs.TableLemmas.{all_seen, kept_more, rows_more, schemas_more}
+use Rattle.lq_run.proofs.TableLemmas.{all_seen, kept_all, kept_more, rows_more, schemas_more}
 use Rattle.lq_run.proofs.tables.with_rows.Goals as goal
 
 pub bounds-seen-table : goal.bounds-seen-table
@@ -33,19 +36,17 @@ loop-table-preserved c =
     )
 
 pub returns-clause-seen : goal.returns-clause-seen
-returns-clause-seen c =
+returns-clause-seen c = λ predicates known.
     let many = as_many c.args.state.now.policies c.args.state.now.role c.args.seen.now c.args.state.now.tables c.requires in
     let here = ap length c.store.ensures.value in
     let all : length c.args.state.now.tables ≤ c.loop-table.table = omega (arith, c.loop-table-test.false, c.len.ensures.value, here) in
-    all_seen c.loop-table.table c.args.state.now c.args.seen.now c.loop-table.tables.items all c.requires many c.store.ensures.kept c.loop-table.invariant.0
-    c.loop-table.invariant.1 c.loop-table.invariant.2
+    all_seen c.loop-table.table (state_with predicates c.args.state.now) c.args.seen.now c.loop-table.tables.items all c.requires many
+    (defined_with predicates c.args.state.now known c.store.ensures.kept) c.loop-table.invariant.0 c.loop-table.invariant.1 c.loop-table.invariant.2
 
 pub returns-clause-columns : goal.returns-clause-columns
 returns-clause-columns c =
-    let many = as_many c.args.state.now.policies c.args.state.now.role c.args.seen.now c.args.state.now.tables c.requires in
     let here = ap length c.store.ensures.value in
     let all : length c.args.state.now.tables ≤ c.loop-table.table = omega (arith, c.loop-table-test.false, c.len.ensures.value, here) in
-    let seen : AreSeen c.args.state.now c.loop-table.tables.items =
-    all_seen c.loop-table.table c.args.state.now c.args.seen.now c.loop-table.tables.items all c.requires many c.store.ensures.kept c.loop-table.invariant.0
-    c.loop-table.invariant.1 c.loop-table.invariant.2 in
-    seen_distinct c.args.state.now c.loop-table.tables.items seen
+    seen_distinct c.args.state.now.tables c.loop-table.tables.items
+    (c.loop-table.invariant.0 ∙ ap schemas_of (take_all c.loop-table.table c.args.state.now.tables all))
+    (kept_all c.loop-table.table c.args.state.now.tables c.loop-table.invariant.2 all)

@@ -1,8 +1,17 @@
 use Rattle.std.proofs.Common.{rules, ◌≡◌, length, arith}
 use Rattle.lq_grammar.proofs.ScriptLaws.{lines_of-none}
 use Rattle.lq_serve.proofs.DeviceLemmas.{on_err}
-use Rattle.lq_serve.proofs.ScriptRunLemmas.{UnderWay-more, UnderWay-stopped, UnderWay-unflushed}
+use Rattle.lq_serve.proofs.ScriptRunLemmas.{UnderWay-more, UnderWay-start, UnderWay-stopped, UnderWay-unflushed}
 use Rattle.lq_serve.proofs.script_run.serve_text.Goals as goal
+
+pub loop-rest-init : goal.loop-rest-init
+loop-rest-init g c = record {
+  utf8 = search (rules, c.utf8.text);
+  under_way = UnderWay-start _ _ _;
+  unmarked = c.requires.writer;
+  lines = omega arith;
+  replies = omega arith;
+}
 
 pub loop-rest-preserved : goal.loop-rest-preserved
 loop-rest-preserved g c = record {

@@ -1,62 +1,84 @@
 -- Each refusal of a deletion is the machine's, in its turn; a fault removes nothing, and the rows that are removed are those that the machine chooses.
-use Rattle.std.proofs.Common.{◌≡◌, ◌∙◌, ◌∷◌, Err, List, ap, refl, rules, sym}
+use Rattle.std.proofs.Common.{◌≡◌, ◌∙◌, ◌∷◌, Err, List, ap, refl, rules, slice_get, sym}
 use Rattle.lq_language.specs.declared.rights.Use.{Use}
 use Rattle.lq_language.specs.declared.rights.Use.TheVariants as used
 use Rattle.lq_machine.specs.Statements.{deleted}
 use Rattle.lq_machine.proofs.StatementLaws.{deleted_nowhere}
+use Rattle.lq_run.specs.States.{state_with}
+use Rattle.lq_run.proofs.KnownLaws.{defined_with}
 use Rattle.lq_run.proofs.StopLaws.{stops_with}
-use Rattle.lq_session.proofs.DeletionLemmas.{faults, no_condition, removed, unallowed, untyped}
+use Rattle.lq_session.proofs.DeletionLemmas.{faults, kept_hosts, no_condition, removed, removed_with, unallowed, untyped}
 use Rattle.lq_session.proofs.TableLemmas.{number_same, table_there}
 use Rattle.lq_session.proofs.rows.delete.Goals as goal
 
-pub returns-in_default : goal.returns-in_default
-returns-in_default c =
-    let number = number_same c.args.state.now c.store.result.now c.store.ensures.value c.args.name.now c.find.result c.find.ensures.value in (
-      stops_with c.args.state.now _ (deleted c.args.state.now c.args.name.now c.args.row.now c.args.condition.now) c.refusal.result
-          (deleted_nowhere c.args.state.now c.args.name.now c.args.row.now c.args.condition.now (sym number ∙ c.in_default.is)) c.refusal.ensures,
+pub returns-in_default-clause-performs : goal.returns-in_default-clause-performs
+returns-in_default-clause-performs g c =
+    let predicates = g.H.Asks.known c.args.hosts.now in
+    let s = state_with predicates c.args.state.now in
+    let number = number_same s c.store.result.now c.store.ensures.value c.args.name.now c.find.result c.find.ensures.value in (
+      stops_with s _ (deleted s c.args.name.now c.args.row.now c.args.condition.now) c.refusal.result
+          (deleted_nowhere s c.args.name.now c.args.row.now c.args.condition.now (sym number ∙ c.in_default.is)) c.refusal.ensures,
       refl,
     )
 
-pub returns-in_err-tree : goal.returns-in_err-tree
-returns-in_err-tree c =
-    let number = number_same c.args.state.now c.store.result.now c.store.ensures.value c.args.name.now c.find.result c.find.ensures.value in
-    let found = table_there c.args.state.now c.store.result.now c.store.ensures.value c.in-Some.table c.in-Some.ensures.bound in
+pub returns-in_err-tree-clause-performs : goal.returns-in_err-tree-clause-performs
+returns-in_err-tree-clause-performs g c =
+    let predicates = g.H.Asks.known c.args.hosts.now in
+    let s = state_with predicates c.args.state.now in
+    let number = number_same s c.store.result.now c.store.ensures.value c.args.name.now c.find.result c.find.ensures.value in
+    let found = table_there s c.store.result.now c.store.ensures.value c.in-Some.table c.in-Some.ensures.bound in
     let same : c.from_residual.result ≡ Err c.in_err-tree.field-0.0 = search rules in
-    rw same (untyped c.args.state.now c.args.name.now c.args.row.now c.args.condition.now c.in-Some.table found.0 (sym number ∙ c.in-Some.is) found.1 c.in_err-tree.field-0.0 c.in_err-tree.ensures, refl)
+    rw same (untyped s c.args.name.now c.args.row.now c.args.condition.now c.in-Some.table found.0 (sym number ∙ c.in-Some.is) found.1 c.in_err-tree.field-0.0 (c.in_err-tree.ensures predicates c.requires.known), refl)
 
-pub returns-then-not-is_bool : goal.returns-then-not-is_bool
-returns-then-not-is_bool c =
-    let number = number_same c.args.state.now c.store.result.now c.store.ensures.value c.args.name.now c.find.result c.find.ensures.value in
-    let found = table_there c.args.state.now c.store.result.now c.store.ensures.value c.in-Some.table c.in-Some.ensures.bound in
-    (no_condition c.args.state.now c.args.name.now c.args.row.now c.args.condition.now c.in-Some.table found.0 (sym number ∙ c.in-Some.is) found.1 c.in_ok-tree.tree c.in_ok-tree.ensures c.is_bool.result c.ty.result.now c.ty.ensures c.is_bool.ensures c.refusal-then-not-is_bool.result c.if-not-is_bool.true c.refusal-then-not-is_bool.ensures, refl)
+pub returns-then-not-is_bool-clause-performs : goal.returns-then-not-is_bool-clause-performs
+returns-then-not-is_bool-clause-performs g c =
+    let predicates = g.H.Asks.known c.args.hosts.now in
+    let s = state_with predicates c.args.state.now in
+    let number = number_same s c.store.result.now c.store.ensures.value c.args.name.now c.find.result c.find.ensures.value in
+    let found = table_there s c.store.result.now c.store.ensures.value c.in-Some.table c.in-Some.ensures.bound in
+    (no_condition s c.args.name.now c.args.row.now c.args.condition.now c.in-Some.table found.0 (sym number ∙ c.in-Some.is) found.1 c.in_ok-tree.tree (c.in_ok-tree.ensures predicates c.requires.known) c.is_bool.result c.ty.result.now c.ty.ensures c.is_bool.ensures c.refusal-then-not-is_bool.result c.if-not-is_bool.true c.refusal-then-not-is_bool.ensures, refl)
 
-pub returns-in_err-check_rights : goal.returns-in_err-check_rights
-returns-in_err-check_rights c =
-    let number = number_same c.args.state.now c.store.result.now c.store.ensures.value c.args.name.now c.find.result c.find.ensures.value in
-    let found = table_there c.args.state.now c.store.result.now c.store.ensures.value c.in-Some.table c.in-Some.ensures.bound in
+pub returns-in_err-check_rights-clause-performs : goal.returns-in_err-check_rights-clause-performs
+returns-in_err-check_rights-clause-performs g c =
+    let predicates = g.H.Asks.known c.args.hosts.now in
+    let s = state_with predicates c.args.state.now in
+    let number = number_same s c.store.result.now c.store.ensures.value c.args.name.now c.find.result c.find.ensures.value in
+    let found = table_there s c.store.result.now c.store.ensures.value c.in-Some.table c.in-Some.ensures.bound in
     let uses = c.as_slice.ensures.value ∙ c.in_ok-insert.ensures.items ∙ ap (λ (us : List Use). used.Delete c.in-Some.table ∷ us) c.in_ok-used.ensures in
     let same : c.from_residual-in_err-check_rights.result ≡ Err c.in_err-check_rights.field-0.0 = search rules in
     rw same (
-      unallowed c.args.state.now c.args.name.now c.args.row.now c.args.condition.now c.in-Some.table found.0 (sym number ∙ c.in-Some.is) found.1 c.in_ok-tree.tree c.in_ok-tree.ensures c.is_bool.result c.ty.result.now c.ty.ensures c.is_bool.ensures c.if-not-is_bool.false c.store-2.ensures.kept c.as_slice.result.now uses c.in_err-check_rights.field-0.0 c.in_err-check_rights.ensures,
+      unallowed s c.args.name.now c.args.row.now c.args.condition.now c.in-Some.table found.0 (sym number ∙ c.in-Some.is) found.1 c.in_ok-tree.tree (c.in_ok-tree.ensures predicates c.requires.known) c.is_bool.result c.ty.result.now c.ty.ensures c.is_bool.ensures c.if-not-is_bool.false (defined_with predicates c.args.state.now c.requires.known c.store-2.ensures.kept) c.as_slice.result.now uses c.in_err-check_rights.field-0.0 (c.in_err-check_rights.ensures predicates c.requires.known),
       refl,
     )
 
-pub returns-in-Fault : goal.returns-in-Fault
-returns-in-Fault c =
-    let number = number_same c.args.state.now c.store.result.now c.store.ensures.value c.args.name.now c.find.result c.find.ensures.value in
-    let found = table_there c.args.state.now c.store.result.now c.store.ensures.value c.in-Some.table c.in-Some.ensures.bound in
+pub returns-in-Fault-clause-performs : goal.returns-in-Fault-clause-performs
+returns-in-Fault-clause-performs g c =
+    let predicates = g.H.Asks.known c.args.hosts.now in
+    let s = state_with predicates c.args.state.now in
+    let number = number_same s c.store.result.now c.store.ensures.value c.args.name.now c.find.result c.find.ensures.value in
+    let found = table_there s c.store.result.now c.store.ensures.value c.in-Some.table c.in-Some.ensures.bound in
     let uses = c.as_slice.ensures.value ∙ c.in_ok-insert.ensures.items ∙ ap (λ (us : List Use). used.Delete c.in-Some.table ∷ us) c.in_ok-used.ensures in
-    let chose = c.in_ok-numbers.ensures c.args.row.now c.args.condition.now found.0 found.1 c.in_ok-tree.ensures in (
-      faults c.args.state.now c.args.name.now c.args.row.now c.args.condition.now c.in-Some.table found.0 (sym number ∙ c.in-Some.is) found.1 c.in_ok-tree.tree c.in_ok-tree.ensures c.is_bool.result c.ty.result.now c.ty.ensures c.is_bool.ensures c.if-not-is_bool.false c.store-2.ensures.kept c.as_slice.result.now uses c.in_ok-check_rights.ensures c.in-Fault.met c.fault.result (sym chose.1 ∙ c.in-Fault.is) c.fault.ensures,
+    let chose = c.in_ok-numbers.ensures c.args.row.now c.args.condition.now found.0 found.1 (c.in_ok-tree.ensures predicates c.requires.known) in (
+      faults s c.args.name.now c.args.row.now c.args.condition.now c.in-Some.table found.0 (sym number ∙ c.in-Some.is) found.1 c.in_ok-tree.tree (c.in_ok-tree.ensures predicates c.requires.known) c.is_bool.result c.ty.result.now c.ty.ensures c.is_bool.ensures c.if-not-is_bool.false (defined_with predicates c.args.state.now c.requires.known c.store-2.ensures.kept) c.as_slice.result.now uses (c.in_ok-check_rights.ensures predicates c.requires.known) c.in-Fault.met c.fault.result (sym chose.1 ∙ c.in-Fault.is) c.fault.ensures,
       refl,
     )
 
-pub returns : goal.returns
-returns c =
-    let number = number_same c.args.state.now c.store.result.now c.store.ensures.value c.args.name.now c.find.result c.find.ensures.value in
-    let found = table_there c.args.state.now c.store.result.now c.store.ensures.value c.in-Some.table c.in-Some.ensures.bound in
+pub returns-clause-performs : goal.returns-clause-performs
+returns-clause-performs g c =
+    let predicates = g.H.Asks.known c.args.hosts.now in
+    let s = state_with predicates c.args.state.now in
+    let number = number_same s c.store.result.now c.store.ensures.value c.args.name.now c.find.result c.find.ensures.value in
+    let found = table_there s c.store.result.now c.store.ensures.value c.in-Some.table c.in-Some.ensures.bound in
     let uses = c.as_slice.ensures.value ∙ c.in_ok-insert.ensures.items ∙ ap (λ (us : List Use). used.Delete c.in-Some.table ∷ us) c.in_ok-used.ensures in
-    let chose = c.in_ok-numbers.ensures c.args.row.now c.args.condition.now found.0 found.1 c.in_ok-tree.ensures in
-    removed c.args.state.now c.args.name.now c.args.row.now c.args.condition.now c.in-Some.table found.0 (sym number ∙ c.in-Some.is) found.1 c.in_ok-tree.tree c.in_ok-tree.ensures c.is_bool.result c.ty.result.now c.ty.ensures c.is_bool.ensures c.if-not-is_bool.false c.store-2.ensures.kept c.as_slice.result.now uses c.in_ok-check_rights.ensures c.in_ok-line-in-Done.line c.deref.result.now c.len.result c.delete_rows.result
-    c.delete_rows.new.self (sym chose.1 ∙ c.in-Done.is) (c.deref.ensures.value ∙ chose.0) (c.len.ensures ∙ sym c.deref.ensures.len) c.in_ok-line-in-Done.ensures
-    c.delete_rows.ensures
+    let chose = c.in_ok-numbers.ensures c.args.row.now c.args.condition.now found.0 found.1 (c.in_ok-tree.ensures predicates c.requires.known) in
+    removed s c.args.name.now c.args.row.now c.args.condition.now c.in-Some.table found.0 (sym number ∙ c.in-Some.is) found.1 c.in_ok-tree.tree (c.in_ok-tree.ensures predicates c.requires.known) c.is_bool.result c.ty.result.now c.ty.ensures c.is_bool.ensures c.if-not-is_bool.false (defined_with predicates c.args.state.now c.requires.known c.store-2.ensures.kept) c.as_slice.result.now uses (c.in_ok-check_rights.ensures predicates c.requires.known) c.in_ok-line-in-Done.line c.deref.result.now c.len.result c.delete_rows.result
+    (state_with predicates c.delete_rows.new.self) (sym chose.1 ∙ c.in-Done.is) (c.deref.ensures.value ∙ chose.0) (c.len.ensures ∙ sym c.deref.ensures.len)
+    c.in_ok-line-in-Done.ensures
+    (removed_with predicates c.args.state.now c.delete_rows.new.self c.in-Some.table c.delete_rows.result c.deref.result.now
+    (slice_get c.args.state.now.tables c.in-Some.table) c.delete_rows.ensures)
+
+pub returns-clause-hosts : goal.returns-clause-hosts
+returns-clause-hosts g c =
+    let s = state_with (g.H.Asks.known c.args.hosts.now) c.args.state.now in
+    let found = table_there s c.store.result.now c.store.ensures.value c.in-Some.table c.in-Some.ensures.bound in
+    kept_hosts c.args.state.now c.delete_rows.new.self c.in-Some.table c.delete_rows.result c.deref.result.now found.0 found.1 c.delete_rows.ensures

@@ -1,40 +1,68 @@
 -- A name that is taken is refused, and so is an expression without a type; any other is defined as the machine defines it.
-use Rattle.std.proofs.Common.{◌≡◌, ◌∙◌, Err, List, ap, refl, rules, sym, ℕ}
+use Rattle.std.proofs.Common.{◌≡◌, ◌∙◌, Err, List, ap, refl, rules, subst, sym, ℕ}
+use Rattle.lq_language.specs.declared.host_name.HostName.{HostName}
+use Rattle.lq_machine.specs.DefinitionLaws.{IsDefined, IsNew}
+use Rattle.lq_machine.specs.Definitions.{known_names}
 use Rattle.lq_machine.specs.Served.{defined_data, line_of}
+use Rattle.lq_machine.specs.States.{schemas_of}
 use Rattle.lq_machine.specs.Statements.{is_taken}
+use Rattle.lq_run.specs.States.{state_with}
 use Rattle.lq_session.proofs.VariableLemmas.{defines, is_new, taken, undefined, untyped}
 use Rattle.lq_session.proofs.variables.define.Goals as goal
 
-pub returns-then-is_taken : goal.returns-then-is_taken
-returns-then-is_taken c =
-    let is = sym (c.is_taken.ensures ∙ ap (is_taken c.args.state.now) c.as_str.ensures) ∙ c.if-is_taken.true in
-    (taken c.args.state.now c.args.name c.args.opened c.args.expr c.refusal.result is c.refusal.ensures, refl)
+pub returns-then-is_taken-clause-performs : goal.returns-then-is_taken-clause-performs
+returns-then-is_taken-clause-performs g c =
+    let s = state_with (g.H.Asks.known c.args.hosts.now) c.args.state.now in
+    let is = sym (c.is_taken.ensures ∙ ap (is_taken s) c.as_str.ensures) ∙ c.if-is_taken.true in
+    (taken s c.args.name c.args.opened c.args.expr c.refusal.result is c.refusal.ensures, refl)
 
-pub returns-in_err-tree : goal.returns-in_err-tree
-returns-in_err-tree c =
-    let free = sym (c.is_taken.ensures ∙ ap (is_taken c.args.state.now) c.as_str.ensures) ∙ c.if-is_taken.false in
+pub returns-in_err-tree-clause-performs : goal.returns-in_err-tree-clause-performs
+returns-in_err-tree-clause-performs g c =
+    let predicates = g.H.Asks.known c.args.hosts.now in
+    let s = state_with predicates c.args.state.now in
+    let free = sym (c.is_taken.ensures ∙ ap (is_taken s) c.as_str.ensures) ∙ c.if-is_taken.false in
     let same : c.from_residual.result ≡ Err c.in_err-tree.field-0.0 = search rules in
-    rw same (untyped c.args.state.now c.args.name c.args.opened c.args.expr free c.in_err-tree.field-0.0 c.in_err-tree.ensures, refl)
+    rw same (untyped s c.args.name c.args.opened c.args.expr free c.in_err-tree.field-0.0 (c.in_err-tree.ensures predicates c.requires.known), refl)
 
-pub returns-in_err-defined : goal.returns-in_err-defined
-returns-in_err-defined c =
-    let free = sym (c.is_taken.ensures ∙ ap (is_taken c.args.state.now) c.as_str.ensures) ∙ c.if-is_taken.false in
+pub definition_by-requires-clause-bound : goal.definition_by-requires-clause-bound
+definition_by-requires-clause-bound g c = c.in_ok-tree.ensures (g.H.Asks.known c.args.hosts.now) c.requires.known
+
+pub returns-in_err-defined-clause-performs : goal.returns-in_err-defined-clause-performs
+returns-in_err-defined-clause-performs g c =
+    let predicates = g.H.Asks.known c.args.hosts.now in
+    let s = state_with predicates c.args.state.now in
+    let free = sym (c.is_taken.ensures ∙ ap (is_taken s) c.as_str.ensures) ∙ c.if-is_taken.false in
     let same : c.from_residual-in_err-defined.result ≡ Err c.in_err-defined.field-0.0 = search rules in
     rw same (
-      undefined c.args.state.now c.args.name c.args.opened c.args.expr free c.in_ok-tree.tree c.in_ok-tree.ensures c.in_err-defined.field-0.0
+      undefined s c.args.name c.args.opened c.args.expr free c.in_ok-tree.tree (c.in_ok-tree.ensures predicates c.requires.known) c.in_err-defined.field-0.0
           c.in_err-defined.ensures,
       refl,
     )
 
 pub define-requires-clause-new : goal.define-requires-clause-new
-define-requires-clause-new c =
-    is_new c.args.state.now c.args.name (sym (c.is_taken.ensures ∙ ap (is_taken c.args.state.now) c.as_str.ensures) ∙ c.if-is_taken.false)
+define-requires-clause-new g c =
+    let s = state_with (g.H.Asks.known c.args.hosts.now) c.args.state.now in
+    let free = sym (c.is_taken.ensures ∙ ap (is_taken s) c.as_str.ensures) ∙ c.if-is_taken.false in
+    subst (λ (names : List HostName). IsNew (schemas_of c.args.state.now.tables)
+    (known_names (schemas_of c.args.state.now.tables) names c.args.state.now.definitions) c.args.name) c.requires.known (is_new s c.args.name free)
 
 pub define-requires-clause-typed : goal.define-requires-clause-typed
-define-requires-clause-typed c = c.in_ok-defined.ensures.0
+define-requires-clause-typed g c =
+    subst (λ (names : List HostName). IsDefined (schemas_of c.args.state.now.tables) names
+    (known_names (schemas_of c.args.state.now.tables) names c.args.state.now.definitions) c.in_ok-defined.defined) c.requires.known
+    c.in_ok-defined.ensures.0
 
-pub returns : goal.returns
-returns c =
-    let free = sym (c.is_taken.ensures ∙ ap (is_taken c.args.state.now) c.as_str.ensures) ∙ c.if-is_taken.false in
-    defines c.args.state.now c.args.name c.args.opened c.args.expr free c.in_ok-tree.tree c.in_ok-tree.ensures c.in_ok-line.line c.define.new.self
-    c.in_ok-defined.defined c.in_ok-defined.ensures (c.in_ok-line.ensures ∙ ap (λ (n : List ℕ). line_of (defined_data n)) c.as_str-2.ensures) c.in_ok-define.ensures.ok
+pub returns-in_err-define-clause-hosts : goal.returns-in_err-define-clause-hosts
+returns-in_err-define-clause-hosts g c = ap (λ s. s.policies.predicates) c.in_err-define.ensures.err
+
+pub returns-clause-performs : goal.returns-clause-performs
+returns-clause-performs g c =
+    let predicates = g.H.Asks.known c.args.hosts.now in
+    let s = state_with predicates c.args.state.now in
+    let free = sym (c.is_taken.ensures ∙ ap (is_taken s) c.as_str.ensures) ∙ c.if-is_taken.false in
+    defines s c.args.name c.args.opened c.args.expr free c.in_ok-tree.tree (c.in_ok-tree.ensures predicates c.requires.known) c.in_ok-line.line
+    (state_with predicates c.define.new.self) c.in_ok-defined.defined c.in_ok-defined.ensures
+    (c.in_ok-line.ensures ∙ ap (λ (n : List ℕ). line_of (defined_data n)) c.as_str-2.ensures) (ap (state_with predicates) c.in_ok-define.ensures.ok)
+
+pub returns-clause-hosts : goal.returns-clause-hosts
+returns-clause-hosts g c = ap (λ s. s.policies.predicates) c.in_ok-define.ensures.ok

@@ -77,6 +77,9 @@ decreases-conditional_of l = 10 * max (size-Expr l.condition.now) (max (size-Exp
 abbrev pub decreases-host_of : goal.decreases-host_of
 decreases-host_of l = 10 * goal.size-host_of l + 5
 
+abbrev pub decreases-host_other_of : goal.decreases-host_other_of
+decreases-host_other_of l = 10 * goal.size-host_other_of l + 5
+
 abbrev pub decreases-record_of : goal.decreases-record_of
 decreases-record_of l = 10 * goal.size-record_of l + 5
 

@@ -1,11 +1,8 @@
 -- Where an item of a list or a part of it is refused, the list is; and a join is its inner side, and what comes of the pairs.
-use Rattle.std.proofs.Common.{◌≡◌, rules, List, ℕ, Bool, Option, Some, Err, ap, refl, sym, subst, ◌∙◌, option_and_then, option_map}
+use Rattle.std.proofs.Common.{◌≡◌, rules, List, Option, Some, Err, ap, refl, sym, subst, ◌∙◌, option_and_then}
 use Rattle.lq_language.specs.declared.calls.Operator.{Operator}
 use Rattle.lq_language.specs.declared.calls.Term.{Term}
-use Rattle.lq_grammar.specs.declared.syntax.Field.{Field}
-use Rattle.lq_grammar.specs.declared.syntax.SortKey.{SortKey}
-use Rattle.lq_tree.specs.Binding.{gathered, placed_tree, sortable_tree, term_tree, walked}
-use Rattle.lq_tree.specs.declared.tree.Form.{Form}
+use Rattle.lq_tree.specs.Binding.{field_with, gathered, key_with, term_tree, walked}
 use Rattle.lq_tree.specs.declared.tree.Tree.{Tree}
 use Rattle.lq_bind.specs.Bound.{body_at, field_at, inner_side_at, joined_at, operator_at, part_at, places_at, schemas_in, sort_key_at}
 use Rattle.lq_bind.specs.Frames.{GivesStage, pattern_in, stage_in}
@@ -15,14 +12,6 @@ use Rattle.lq_bind.specs.declared.variables.Variables.{Variables}
 use Rattle.lq_bind.proofs.TermLaws.{join_by_sides}
 use Rattle.lq_bind.proofs.WalkLemmas.{gather_stops, stops_beyond, walk_stops}
 use Rattle.lq_bind.proofs.binder.Binder.+binding.Goals as goal
-
--- a member and a key with what a term is bound to
-abbrev member_from : List ℕ → Option Tree → Option (Field Tree)
-member_from name value = option_map (λ found. record { name = name; value = found }) (option_and_then placed_tree value)
-
-abbrev sort_key_from : Bool → Option Tree → Option (SortKey Form)
-sort_key_from is_descending value =
-    option_map (λ (found : Tree). record { value = found.form; descending = is_descending }) (option_and_then sortable_tree value)
 
 pub operators-returns-in_err-next : goal.operators-returns-in_err-next
 operators-returns-in_err-next t c =
@@ -45,7 +34,7 @@ fields-returns-in_err-value t c =
     let same : c.from_residual.result ≡ Err c.in_err-value.field-0.0 = search rules in
     subst (λ r. Gives (gathered (field_at c.args.self.now c.args.frame.now) c.args.fields.now) r) (sym same)
     (gather_stops (field_at c.args.self.now c.args.frame.now) c.args.fields.now _ _ _ _ c.field-item.is c.loop-field-test.true
-    c.in_err-value.field-0.0 (stops_beyond (member_from c.field-item.result.name) _ refl c.in_err-value.field-0.0 c.in_err-value.ensures) c.loop-field.invariant)
+    c.in_err-value.field-0.0 (stops_beyond (field_with c.field-item.result.name) _ refl c.in_err-value.field-0.0 c.in_err-value.ensures) c.loop-field.invariant)
 
 pub fields-returns-in_err-member : goal.fields-returns-in_err-member
 fields-returns-in_err-member t c =
@@ -53,7 +42,7 @@ fields-returns-in_err-member t c =
     subst (λ r. Gives (gathered (field_at c.args.self.now c.args.frame.now) c.args.fields.now) r) (sym same)
     (gather_stops (field_at c.args.self.now c.args.frame.now) c.args.fields.now _ _ _ _ c.field-item.is c.loop-field-test.true
     c.in_err-member.field-0.0
-    (subst (λ (value : Option Tree). Gives (member_from c.field-item.result.name value) (Err c.in_err-member.field-0.0)) (sym c.in_ok-value.ensures) c.in_err-member.ensures)
+    (subst (λ (value : Option Tree). Gives (field_with c.field-item.result.name value) (Err c.in_err-member.field-0.0)) (sym c.in_ok-value.ensures) c.in_err-member.ensures)
     c.loop-field.invariant)
 
 pub sort_keys-returns-in_err-value : goal.sort_keys-returns-in_err-value
@@ -61,7 +50,7 @@ sort_keys-returns-in_err-value t c =
     let same : c.from_residual.result ≡ Err c.in_err-value.field-0.0 = search rules in
     subst (λ r. Gives (gathered (sort_key_at c.args.self.now c.args.frame.now) c.args.keys.now) r) (sym same)
     (gather_stops (sort_key_at c.args.self.now c.args.frame.now) c.args.keys.now _ _ _ _ c.key-item.is c.loop-key-test.true
-    c.in_err-value.field-0.0 (stops_beyond (sort_key_from c.key-item.result.descending) _ refl c.in_err-value.field-0.0 c.in_err-value.ensures) c.loop-key.invariant)
+    c.in_err-value.field-0.0 (stops_beyond (key_with c.key-item.result.descending) _ refl c.in_err-value.field-0.0 c.in_err-value.ensures) c.loop-key.invariant)
 
 pub sort_keys-returns-in_err-form : goal.sort_keys-returns-in_err-form
 sort_keys-returns-in_err-form t c =
@@ -69,7 +58,7 @@ sort_keys-returns-in_err-form t c =
     subst (λ r. Gives (gathered (sort_key_at c.args.self.now c.args.frame.now) c.args.keys.now) r) (sym same)
     (gather_stops (sort_key_at c.args.self.now c.args.frame.now) c.args.keys.now _ _ _ _ c.key-item.is c.loop-key-test.true
     c.in_err-form.field-0.0
-    (subst (λ (value : Option Tree). Gives (sort_key_from c.key-item.result.descending value) (Err c.in_err-form.field-0.0)) (sym c.in_ok-value.ensures) c.in_err-form.ensures)
+    (subst (λ (value : Option Tree). Gives (key_with c.key-item.result.descending value) (Err c.in_err-form.field-0.0)) (sym c.in_ok-value.ensures) c.in_err-form.ensures)
     c.loop-key.invariant)
 
 pub operator-returns-in_ok-side-in-Join : goal.operator-returns-in_ok-side-in-Join

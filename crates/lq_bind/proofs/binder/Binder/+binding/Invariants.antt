@@ -27,6 +27,9 @@ decreases-definition l = weight_of l.defined.now + 6 + weight l.self.now.definit
 abbrev pub decreases-member : goal.decreases-member
 decreases-member l = 32 * goal.size-member l + 5 + weight l.self.now.definitions.now
 
+abbrev pub decreases-host : goal.decreases-host
+decreases-host l = 32 * goal.size-host l + 5 + weight l.self.now.definitions.now
+
 abbrev pub decreases-unary : goal.decreases-unary
 decreases-unary l = 32 * goal.size-unary l + 5 + weight l.self.now.definitions.now
 
@@ -51,9 +54,6 @@ decreases-lambda_method l = 32 * goal.size-lambda_method l + 5 + weight l.self.n
 abbrev pub decreases-call : goal.decreases-call
 decreases-call l = 32 * goal.size-call l + 31 + weight l.self.now.definitions.now
 
-abbrev pub decreases-items : goal.decreases-items
-decreases-items l = 32 * goal.size-items l + 30 + weight l.self.now.definitions.now
-
 abbrev pub decreases-parts : goal.decreases-parts
 decreases-parts l = 32 * goal.size-parts l + 28 + weight l.self.now.definitions.now
 
@@ -72,23 +72,8 @@ decreases-filter l = 32 * goal.size-filter l + 5 + weight l.self.now.definitions
 abbrev pub decreases-select : goal.decreases-select
 decreases-select l = 32 * goal.size-select l + 5 + weight l.self.now.definitions.now
 
-abbrev pub decreases-let_value : goal.decreases-let_value
-decreases-let_value l = 32 * goal.size-let_value l + 3 + weight l.self.now.definitions.now
-
 abbrev pub decreases-widen : goal.decreases-widen
 decreases-widen l = 32 * goal.size-widen l + 5 + weight l.self.now.definitions.now
-
-abbrev pub decreases-item_term : goal.decreases-item_term
-decreases-item_term l = 32 * goal.size-item_term l + 2 + weight l.self.now.definitions.now
-
-abbrev pub decreases-source : goal.decreases-source
-decreases-source l = 32 * goal.size-source l + 2 + weight l.self.now.definitions.now
-
-abbrev pub decreases-inner_source : goal.decreases-inner_source
-decreases-inner_source l = 32 * goal.size-inner_source l + 4 + weight l.self.now.definitions.now
-
-abbrev pub decreases-group_key : goal.decreases-group_key
-decreases-group_key l = 32 * goal.size-group_key l + 4 + weight l.self.now.definitions.now
 
 abbrev pub decreases-order_by : goal.decreases-order_by
 decreases-order_by l = 32 * goal.size-order_by l + 12 + weight l.self.now.definitions.now
@@ -100,7 +85,7 @@ abbrev pub decreases-element : goal.decreases-element
 decreases-element l = 32 * goal.size-element l + 8 + weight l.self.now.definitions.now
 
 abbrev pub decreases-group_by : goal.decreases-group_by
-decreases-group_by l = 32 * goal.size-group_by l + 10 + weight l.self.now.definitions.now
+decreases-group_by l = 32 * max (goal.size-group_by l) (size-Term l.key.now) + 10 + weight l.self.now.definitions.now
 
 abbrev pub decreases-expand : goal.decreases-expand
 decreases-expand l = 32 * goal.size-expand l + 12 + weight l.self.now.definitions.now
@@ -108,17 +93,11 @@ decreases-expand l = 32 * goal.size-expand l + 12 + weight l.self.now.definition
 abbrev pub decreases-pair : goal.decreases-pair
 decreases-pair l = 32 * goal.size-pair l + 10 + weight l.self.now.definitions.now
 
-abbrev pub decreases-pair_value : goal.decreases-pair_value
-decreases-pair_value l = 32 * goal.size-pair_value l + 5 + weight l.self.now.definitions.now
-
 abbrev pub decreases-select_many : goal.decreases-select_many
 decreases-select_many l = 32 * max (goal.size-select_many l) (size-Term l.source.now) + 20 + weight l.self.now.definitions.now
 
 abbrev pub decreases-join : goal.decreases-join
 decreases-join l = 32 * goal.size-join l + 12 + weight l.self.now.definitions.now
-
-abbrev pub decreases-join_source : goal.decreases-join_source
-decreases-join_source l = 32 * goal.size-join_source l + 8 + weight l.self.now.definitions.now
 
 abbrev pub decreases-join_keys : goal.decreases-join_keys
 decreases-join_keys l = 32 * goal.size-join_keys l + 8 + weight l.self.now.definitions.now

@@ -1,24 +1,28 @@
 use Rattle.std.proofs.Common.{◌≡◌, [], Ok, Err, IfErr, IfOk, ap, refl, rules, subst, sym, true, ◌∙◌}
+use Rattle.lq_value.specs.declared.value.End.TheVariants as end
+use Rattle.lq_value.specs.declared.value.Value.TheVariants as value
 use Rattle.lq_operators.specs.Answers.{IsAnswer}
 use Rattle.lq_operators.specs.Matching.{pairs_of}
+use Rattle.lq_language.specs.Arrangement.{all_of}
 use Rattle.lq_language.specs.Enumerable.{all, in_front}
 use Rattle.lq_language.specs.Meaning.{as_truth, simple_meaning}
 use Rattle.lq_language.specs.OperandMeaning.{sequence}
 use Rattle.lq_tree.specs.FormMeaning.{form_meaning}
+use Rattle.lq_tree.specs.declared.tree.Form.TheVariants as form
 use Rattle.lq_plan.specs.Arrangements.{column_of, columns_of, key_at}
 use Rattle.lq_plan.specs.Meanings.{Answers, holds_of, value_of_item, scalar_in, truth_in}
 use Rattle.lq_plan.specs.PlannedRows.{IsPulled, kept_stream, pulled_value}
 use Rattle.lq_plan.specs.Pulling.{outcome_stream}
 use Rattle.lq_plan.specs.Slots.{values_in}
 use Rattle.lq_plan.proofs.PlanLaws.{row_says}
-use Rattle.lq_plan.proofs.PullLaws.{stage_items}
-use Rattle.lq_pipe.specs.Items.{keys_and_elements}
+use Rattle.lq_plan.proofs.PullLaws.{left_opened, stage_items}
+use Rattle.lq_pipe.specs.Items.{key_and_element}
 use Rattle.lq_pipe.specs.Runs.{world}
-use Rattle.lq_pipe.proofs.AnswerLemmas.{all_answer, given_answer, members_goes, select_answer, where_answer}
+use Rattle.lq_pipe.proofs.AnswerLemmas.{all_answer, given_answer, members_goes, record_ended, record_stopped, select_answer, where_answer}
 use Rattle.lq_pipe.proofs.CountLemmas.{given_read, simple_read}
 use Rattle.lq_pipe.proofs.ItemLemmas.{expansion_is, group_by_answer, join_answer, join_stops, joined_met, matched_is, select_many_answer}
-use Rattle.lq_pipe.proofs.KeyLemmas.{all_goes, all_stops, counted_answer, key_answer, order_by_answer, sorted_answer}
-use Rattle.lq_pipe.proofs.PullLemmas.{comes, next_ended, next_fault, next_item}
+use Rattle.lq_pipe.proofs.KeyLemmas.{all_goes, all_stops, counted_answer, key_answer, order_by_done, order_by_stops}
+use Rattle.lq_pipe.proofs.PullLemmas.{comes, next_ended, next_fault, next_item, selects_begin}
 use Rattle.lq_pipe.proofs.StreamLemmas.{select_goes, select_stops}
 use Rattle.lq_pipe.proofs.running.Running.+running.Goals as goal
 
@@ -32,10 +36,14 @@ evaluate-returns-in-All g t c =
     all_answer (world c.args.self.now) c.args.form.now c.in-All.source c.in-All.condition c.get-in-All.result.now c.get-in-All-2.result.now (values_in c.args.slots.now)
     c.all.result c.in-All.is c.get-in-All.ensures c.get-in-All-2.ensures c.all.ensures
 
-pub value_of_item-returns : goal.value_of_item-returns
-value_of_item-returns g t c =
+pub value_of_item-returns-in_ok-copy-in-Some : goal.value_of_item-returns-in_ok-copy-in-Some
+value_of_item-returns-in_ok-copy-in-Some g t c =
+    ap (λ s. Ok (value.Scalar s)) c.in_ok-copy-in-Some.ensures ∙ sym c.in-Some.ensures ∙ ap (λ vs. form_meaning (world c.args.self.now) c.args.body.now vs) c.with-deeper.ensures
+
+pub value_of_item-returns-in-None : goal.value_of_item-returns-in-None
+value_of_item-returns-in-None g t c =
     c.value_or_fault.ensures (value_of_item (world c.args.self.now) c.args.body.now c.args.slots.now c.args.item.now)
-    (subst (λ vs. IsAnswer (form_meaning (world c.args.self.now) c.args.body.now vs) c.evaluate.result) c.with.ensures
+    (subst (λ vs. IsAnswer (form_meaning (world c.args.self.now) c.args.body.now vs) c.evaluate.result) c.with-deeper.ensures
     c.evaluate.ensures)
 
 pub holds-returns : goal.holds-returns
@@ -44,38 +52,38 @@ holds-returns g t c =
     (subst (λ vs. Answers (truth_in (world c.args.self.now) (form_meaning (world c.args.self.now) c.args.condition.now vs)) c.truth.result) c.with.ensures
     c.truth.ensures)
 
-pub members-loop-field-preserved : goal.members-loop-field-preserved
-members-loop-field-preserved g t c =
+pub record-loop-field-preserved : goal.record-loop-field-preserved
+record-loop-field-preserved g t c =
     members_goes (world c.args.self.now) _ _ _ _ _ _ _ _
     c.field-item.is c.loop-field-test.true c.in_ok-value.ensures c.in_ok-push_member.ensures c.loop-field.invariant
 
+pub record-returns : goal.record-returns
+record-returns g t c =
+    record_ended (world c.args.self.now) c.args.fields.now _ (values_in c.args.slots.now) c.loop-field.members _ c.as_slice-field-items.ensures c.loop-field-test.false
+    c.loop-field.invariant
+
+pub record-returns-in_err-value : goal.record-returns-in_err-value
+record-returns-in_err-value g t c =
+    let stops = record_stopped (world c.args.self.now) c.args.fields.now _ (values_in c.args.slots.now) c.loop-field.members _ _ c.as_slice-field-items.ensures
+    c.field-item.is c.loop-field-test.true c.loop-field.invariant c.in_err-value.field-0.0 c.in_err-value.ensures in
+    let same : c.from_residual.result ≡ Err c.in_err-value.field-0.0 = search rules in
+    subst (λ r. IsAnswer (form_meaning (world c.args.self.now) (form.Record c.args.fields.now) (values_in c.args.slots.now)) r) (sym same) stops
+
 pub select_all-loop-item-preserved : goal.select_all-loop-item-preserved
 select_all-loop-item-preserved g t c =
-    select_goes (value_of_item (world c.args.self.now) c.args.body.now c.args.slots.now) c.args.items.now c.args.end _ c.loop-item.values _ _ _ _
+    select_goes (value_of_item (world c.args.self.now) c.args.body.now c.args.slots.now) c.args.items.now end.Done _ c.loop-item.values _ _ _ _
     c.item-item.is c.loop-item-test.true (sym c.in-Ok.is ∙ c.in_ok-value.ensures) c.in_ok-push-in-Ok.ensures.ok c.loop-item.invariant
 
 pub select_all-returns-in-Err : goal.select_all-returns-in-Err
 select_all-returns-in-Err g t c =
-    select_stops (value_of_item (world c.args.self.now) c.args.body.now c.args.slots.now) c.args.items.now c.args.end _ c.loop-item.values _ _ _
+    select_stops (value_of_item (world c.args.self.now) c.args.body.now c.args.slots.now) c.args.items.now end.Done _ c.loop-item.values _ _ _
     c.item-item.is c.loop-item-test.true (sym c.in-Err.is ∙ c.in_ok-value.ensures) c.loop-item.invariant
-
-pub match_item-returns : goal.match_item-returns
-match_item-returns g t c =
-    matched_is (world c.args.self.now) (values_in c.args.slots.now) c.args.item.now _ c.args.body.now _ _ c.select_all.result c.with-deeper.ensures c.select_all.ensures
 
 pub join_item-returns-in_ok-inner-in-Ok : goal.join_item-returns-in_ok-inner-in-Ok
 join_item-returns-in_ok-inner-in-Ok g t c =
-    joined_met (world c.args.self.now) (values_in c.args.slots.now) c.args.joined.now (pairs_of c.args.matches.now) c.args.item.now _ _ _ _ c.match_item.result
-    (sym c.in-Ok.is ∙ c.in_ok-key.ensures) (c.in_ok-inner-in-Ok.ensures (world c.args.self.now)) c.as_slice.ensures c.match_item.ensures
-
-pub sort-sort_by-requires : goal.sort-sort_by-requires
-sort-sort_by-requires g t c =
-    counted_answer (world c.args.self.now) (values_in c.args.slots.now) c.args.keys.now _ _ _ _ c.as_slice-2.ensures c.as_slice.ensures c.key_columns-columns.ensures
-
-pub sort-returns : goal.sort-returns
-sort-returns g t c =
-    sorted_answer (world c.args.self.now) (values_in c.args.slots.now) c.args.keys.now _ c.args.items _ _ _ c.sort_by.result c.as_slice-2.ensures c.as_slice.ensures
-    c.key_columns-columns.ensures (c.sort_by.ensures (world c.args.self.now) (values_in c.args.slots.now))
+    joined_met (world c.args.self.now) (values_in c.args.slots.now) c.args.joined.now (pairs_of c.args.matches.now) c.args.item.now _ _ _ _ c.select_all.result
+    (sym c.in-Ok.is ∙ c.in_ok-key.ensures) (c.in_ok-inner-in-Ok.ensures (world c.args.self.now)) c.as_slice.ensures
+    (matched_is (world c.args.self.now) (values_in c.args.slots.now) c.args.item.now _ c.args.joined.now.result _ _ c.select_all.result c.with-deeper.ensures c.select_all.ensures)
 
 pub key_columns-returns-in_err-column : goal.key_columns-returns-in_err-column
 key_columns-returns-in_err-column g t c =
@@ -85,19 +93,25 @@ key_columns-returns-in_err-column g t c =
     subst (λ r. Answers (columns_of (world c.args.self.now) (values_in c.args.slots.now) c.args.keys.now c.args.items.now) r) (sym same)
     (subst (λ ks. Answers (columns_of (world c.args.self.now) (values_in c.args.slots.now) ks c.args.items.now) (Err c.in_err-column.field-0.0)) c.as_slice-key-items.ensures stops)
 
+pub key_column-returns-in_err-scalar : goal.key_column-returns-in_err-scalar
+key_column-returns-in_err-scalar g t c =
+    let stops = all_stops (key_at (world c.args.self.now) (values_in c.args.slots.now) c.args.key.now) c.args.items.now _ c.loop-item.column _ _
+    c.item-item.is c.loop-item-test.true c.loop-item.invariant c.in_err-scalar.field-0.0
+    (key_answer (world c.args.self.now) (values_in c.args.slots.now) _ _ c.args.key.now (Err c.in_err-scalar.field-0.0) c.with.ensures c.in_err-scalar.ensures) in
+    let same : c.from_residual.result ≡ Err c.in_err-scalar.field-0.0 = search rules in
+    subst (λ r. Answers (all_of (key_at (world c.args.self.now) (values_in c.args.slots.now) c.args.key.now) c.args.items.now) r) (sym same) stops
+
 pub key_column-loop-item-preserved : goal.key_column-loop-item-preserved
 key_column-loop-item-preserved g t c =
     all_goes (key_at (world c.args.self.now) (values_in c.args.slots.now) c.args.key.now) c.args.items.now _ c.loop-item.column _ _ _ _
-    c.item-item.is c.loop-item-test.true c.in_ok-scalar.ensures c.in_ok-push.ensures.ok c.loop-item.invariant
+    c.item-item.is c.loop-item-test.true
+    (key_answer (world c.args.self.now) (values_in c.args.slots.now) _ _ c.args.key.now (Ok c.in_ok-scalar.scalar) c.with.ensures c.in_ok-scalar.ensures)
+    c.in_ok-push.ensures.ok c.loop-item.invariant
 
 pub key_columns-loop-key-preserved : goal.key_columns-loop-key-preserved
 key_columns-loop-key-preserved g t c =
     all_goes (column_of (world c.args.self.now) (values_in c.args.slots.now) c.args.items.now) _ _ c.loop-key.columns _ _ _ _
     c.key-item.is c.loop-key-test.true c.in_ok-column.ensures c.in_ok-push.ensures.ok c.loop-key.invariant
-
-pub sort_key-returns : goal.sort_key-returns
-sort_key-returns g t c =
-    key_answer (world c.args.self.now) (values_in c.args.slots.now) _ c.args.item.now c.args.key.now c.scalar.result c.with.ensures c.scalar.ensures
 
 pub truth_of_two-returns-in_ok-binary-in-None : goal.truth_of_two-returns-in_ok-binary-in-None
 truth_of_two-returns-in_ok-binary-in-None g t c =
@@ -148,13 +162,25 @@ pub base_of-returns-in_ok-items-in_default : goal.base_of-returns-in_ok-items-in
 base_of-returns-in_ok-items-in_default g t c =
     c.of_items.ensures ∙ c.in_ok-items-in_default.ensures (world c.args.self.now) _ refl c.evaluate-value.ensures
 
+pub order_by-sort_by-requires : goal.order_by-sort_by-requires
+order_by-sort_by-requires g t c =
+    counted_answer (world c.args.self.now) (values_in c.args.slots.now) c.args.keys.now _ _ _ _ c.as_slice-in-Done.ensures c.as_slice.ensures c.key_columns-columns.ensures
+
+pub order_by-returns-in-Done : goal.order_by-returns-in-Done
+order_by-returns-in-Done g t c =
+    order_by_done (world c.args.self.now) (values_in c.args.slots.now) c.args.source.now c.args.keys.now _ _ c.in_ok-items.items _ c.in_ok-items.end c.in_ok-sort_by-in-Done.field-0 _
+    c.in_ok-pipe.ensures.items c.in_ok-items.ensures c.in-Done.is c.as_slice-in-Done.ensures c.as_slice.ensures
+    c.key_columns-columns.ensures (c.in_ok-sort_by-in-Done.ensures (world c.args.self.now) (values_in c.args.slots.now))
+
 pub order_by-returns : goal.order_by-returns
 order_by-returns g t c =
-    order_by_answer (world c.args.self.now) (values_in c.args.slots.now) c.args.source.now c.args.keys.now _ _ _ _ c.in_ok-pipe.ensures.items c.in_ok-items.ensures c.in_ok-arrange.ensures
+    order_by_stops (world c.args.self.now) (values_in c.args.slots.now) c.args.source.now c.args.keys.now _ c.in_ok-items.items c.in_ok-items.end _ c.fault_sequence.result
+    c.in_ok-pipe.ensures.items c.in_ok-items.ensures c.in-Fault.is c.fault_sequence.ensures
 
-pub keys_of-returns : goal.keys_of-returns
-keys_of-returns g t c =
-    subst (λ s. IfOk c.key_pairs.result (λ pairs. pairs ≡ keys_and_elements (world c.args.self.now) (values_in c.args.slots.now) c.args.key.now c.args.element s)) c.in_ok-pipe.ensures.items c.key_pairs.ensures
+pub key_pairs-loop-pairs-init : goal.key_pairs-loop-pairs-init
+key_pairs-loop-pairs-init g t c =
+    selects_begin (key_and_element (world c.args.self.now) (values_in c.args.slots.now) c.args.key.now c.args.element) _ _ _ c.new-pairs.ensures
+    (left_opened (world c.args.self.now) (values_in c.args.slots.now) _ _ c.in_ok-base.base c.in_ok-base.ensures ∙ c.in_ok-pipe.ensures.items)
 
 pub group_by-returns : goal.group_by-returns
 group_by-returns g t c =

@@ -14,7 +14,7 @@ use Rattle.lq_operators.specs.Tallies.{tallied}
 use Rattle.lq_plan.specs.Arrangements.{column_of, key_at}
 use Rattle.lq_plan.specs.Counts.{read_first}
 use Rattle.lq_plan.specs.Lists.{field_means}
-use Rattle.lq_plan.specs.Meanings.{holds_of, value_of_item}
+use Rattle.lq_plan.specs.Meanings.{holds_of, items_meant, value_of_item}
 use Rattle.lq_plan.specs.Pipes.{all_items, items_left}
 use Rattle.lq_plan.specs.PlannedRows.{kept_stream}
 use Rattle.lq_plan.specs.Slots.{values_in}
@@ -76,9 +76,6 @@ decreases-coalesce g l = 32 * max (size-Form l.left.now) (size-Form l.right.now)
 abbrev pub decreases-choose : goal.decreases-choose
 decreases-choose g l = 32 * max (size-Form l.condition.now) (max (size-Form l.left.now) (size-Form l.right.now)) + 10
 
-abbrev pub decreases-members : goal.decreases-members
-decreases-members g l = 32 * goal.size-members g l + 10
-
 abbrev pub decreases-record : goal.decreases-record
 decreases-record g l = 32 * goal.size-record g l + 12
 
@@ -106,14 +103,8 @@ decreases-select_many g l = 32 * max (size-Form l.source.now) (max (size-Form l.
 abbrev pub decreases-key_pair : goal.decreases-key_pair
 decreases-key_pair g l = 32 * max (size-Form l.key.now) (body_size l.element) + 4
 
-abbrev pub decreases-next_key_pair : goal.decreases-next_key_pair
-decreases-next_key_pair g l = 32 * max (pipe_size l.pipe.now) (max (size-Form l.key.now) (body_size l.element)) + 16
-
 abbrev pub decreases-key_pairs : goal.decreases-key_pairs
-decreases-key_pairs g l = 32 * max (pipe_size l.pipe.now) (max (size-Form l.key.now) (body_size l.element)) + 18
-
-abbrev pub decreases-match_item : goal.decreases-match_item
-decreases-match_item g l = 32 * size-Form l.body.now + 6
+decreases-key_pairs g l = 32 * max (size-Form l.source.now) (max (size-Form l.key.now) (body_size l.element)) + 18
 
 abbrev pub decreases-join_item : goal.decreases-join_item
 decreases-join_item g l = 32 * goal.size-join_item g l + 8
@@ -124,17 +115,11 @@ decreases-join g l = 32 * max (goal.size-join g l) (size-Form l.source.now) + 20
 abbrev pub decreases-group_by : goal.decreases-group_by
 decreases-group_by g l = 32 * max (size-Form l.source.now) (max (size-Form l.key.now) (size-Form l.element.now)) + 20
 
-abbrev pub decreases-sort_key : goal.decreases-sort_key
-decreases-sort_key g l = 32 * size-Form l.key.now + 4
-
 abbrev pub decreases-key_column : goal.decreases-key_column
 decreases-key_column g l = 32 * size-Form l.key.now + 6
 
 abbrev pub decreases-key_columns : goal.decreases-key_columns
 decreases-key_columns g l = 32 * goal.size-key_columns g l + 8
-
-abbrev pub decreases-sort : goal.decreases-sort
-decreases-sort g l = 32 * goal.size-sort g l + 10
 
 abbrev pub decreases-order_by : goal.decreases-order_by
 decreases-order_by g l = 32 * max (goal.size-order_by g l) (size-Form l.source.now) + 18
@@ -166,9 +151,6 @@ decreases-tally g l = 32 * pipe_size l.pipe.now + 16
 abbrev pub decreases-has_item : goal.decreases-has_item
 decreases-has_item g l = 32 * pipe_size l.pipe.now + 16
 
-abbrev pub decreases-contains : goal.decreases-contains
-decreases-contains g l = 32 * pipe_size l.pipe.now + 17
-
 abbrev pub decreases-part : goal.decreases-part
 decreases-part g l = 32 * size-Form l.form.now + 10
 
@@ -184,9 +166,6 @@ decreases-given_items g l = 32 * pipe_size l.pipe.now + 18
 abbrev pub decreases-all_hold : goal.decreases-all_hold
 decreases-all_hold g l = 32 * max (pipe_size l.pipe.now) (size-Form l.condition.now) + 16
 
-abbrev pub decreases-element : goal.decreases-element
-decreases-element g l = 32 * body_size l.body + 3
-
 abbrev pub decreases-join_items : goal.decreases-join_items
 decreases-join_items g l = 32 * max (goal.size-join_items g l) (pipe_size l.pipe.now) + 16
 
@@ -196,23 +175,17 @@ decreases-pass_row g l = 32 * stage_size l.pipe.now.stage + 5
 abbrev pub decreases-pass_pulled : goal.decreases-pass_pulled
 decreases-pass_pulled g l = 32 * pipe_size l.pipe.now + 13
 
-abbrev pub decreases-keys_of : goal.decreases-keys_of
-decreases-keys_of g l = 32 * max (size-Form l.source.now) (max (size-Form l.key.now) (body_size l.element)) + 19
-
-abbrev pub decreases-arrange : goal.decreases-arrange
-decreases-arrange g l = 32 * goal.size-arrange g l + 12
-
 -- ---- loops
 
 -- what was made, and what comes of the items that are left
 abbrev pub invariant-select_all-loop-item : goal.invariant-select_all-loop-item
 invariant-select_all-loop-item g l =
-    Goes (λ v. one (value_of_item (world l.fn.self) l.fn.body l.fn.slots v)) l.items l.fn.end
-    (select_by (value_of_item (world l.fn.self) l.fn.body l.fn.slots) l.items l.fn.end) l.values l.item-index
+    Goes (λ v. one (value_of_item (world l.fn.self) l.fn.body l.fn.slots v)) l.items end.Done
+    (select_by (value_of_item (world l.fn.self) l.fn.body l.fn.slots) l.items end.Done) l.values l.item-index
 
 -- the members so far, and those that are left
-abbrev pub invariant-members-loop-field : goal.invariant-members-loop-field
-invariant-members-loop-field g l =
+abbrev pub invariant-record-loop-field : goal.invariant-record-loop-field
+invariant-record-loop-field g l =
     on_ok
     (members_of (world l.fn.self)
     (map (field_means (world l.fn.self)) (drop l.field-index l.field-items)) (values_in l.fn.slots))
@@ -292,8 +265,8 @@ decreases-join_items-loop-values g l = length (items_left (world l.fn.self) (val
 -- the pairs so far, and those of the items that are left
 abbrev pub invariant-key_pairs-loop-pairs : goal.invariant-key_pairs-loop-pairs
 invariant-key_pairs-loop-pairs g l =
-    then_ending l.pairs end.Done (keys_and_elements (world l.fn.self) (values_in l.fn.slots) l.fn.key l.fn.element (items_left (world l.fn.self) (values_in l.fn.slots) l.fn.pipe l.base))
-    ≡ keys_and_elements (world l.fn.self) (values_in l.fn.slots) l.fn.key l.fn.element (all_items (world l.fn.self) (values_in l.fn.slots) l.fn.pipe)
+    then_ending l.pairs end.Done (keys_and_elements (world l.fn.self) (values_in l.fn.slots) l.fn.key l.fn.element (items_left (world l.fn.self) (values_in l.fn.slots) l.pipe l.base))
+    ≡ keys_and_elements (world l.fn.self) (values_in l.fn.slots) l.fn.key l.fn.element (items_meant (world l.fn.self) l.fn.source l.fn.slots)
 
 abbrev pub decreases-key_pairs-loop-pairs : goal.decreases-key_pairs-loop-pairs
-decreases-key_pairs-loop-pairs g l = length (keys_and_elements (world l.fn.self) (values_in l.fn.slots) l.fn.key l.fn.element (items_left (world l.fn.self) (values_in l.fn.slots) l.fn.pipe l.base)).0
+decreases-key_pairs-loop-pairs g l = length (items_left (world l.fn.self) (values_in l.fn.slots) l.pipe l.base).0

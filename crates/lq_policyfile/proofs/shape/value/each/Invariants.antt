@@ -1,6 +1,6 @@
 use Rattle.std.proofs.Common.{◌≡◌, length}
 use Rattle.toml.specs.View.{items_view}
-use Rattle.lq_policyfile.specs.Reading.{each}
+use Rattle.lq_policyfile.specs.TomlValues.{each}
 use Rattle.lq_policyfile.proofs.ShapeLemmas.{put_before}
 use Rattle.lq_policyfile.proofs.shape.value.each.Given as goal
 

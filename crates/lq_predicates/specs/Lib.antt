@@ -1,0 +1,2 @@
+pub mod WatchLists
+pub mod ProgramPredicates
