@@ -18,6 +18,8 @@ CRATES = "# Each with what it uses.\nlow:\nleft: low thiserror\nright: low\nlq: 
 # They are listed in those cases alone that are about them, since it depends on the machine whether that happens.
 DESK = "aside: low\nlq_desk: left, aside\n"
 BESIDE = "lq: beside it, for ./desk: aside\n"
+# The desk's own crate is proved beside a build of `lq` too, once `aside` is, where there is time.
+DESK_BESIDE = BESIDE.replace("aside", "lq_desk")
 # What the stand-in program does. Its first line, which the stand-in rt takes away, names it as a source.
 PROGRAM = """// lq 1
 [ $# -gt 0 ] || { echo 'usage: lq WORD ..' >&2; exit 2; }
@@ -42,6 +44,11 @@ def want(what, found, wanted):
 def steady(text):
     """Replaces what differs from one run to the next: times, and the ends of a terminal's lines."""
     return re.sub(r"in (\d+ min )?\d+ s\b", "in N s", text.replace("\r\n", "\n"))
+
+
+def without_extras(errors):
+    """Returns what was printed without the lines that name the crates of the desk."""
+    return errors.replace(BESIDE, "").replace(DESK_BESIDE, "")
 
 
 class Repository:
@@ -153,7 +160,7 @@ class Repository:
         """Wants a call to build first, and rt to prove just these crates."""
         open(self.trace, "w").close()
         out, errors, status = self.run("word")
-        want("a call after a change", (out, errors.replace(BESIDE, ""), status), (self.said(made), self.building(), 0))
+        want("a call after a change", (out, without_extras(errors), status), (self.said(made), self.building(), 0))
         want("what was proved", sorted(self.traced()), sorted(proved))
 
     def wait_for(self, crate):

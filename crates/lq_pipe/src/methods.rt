@@ -6,7 +6,7 @@ use lq_operators::{RunError, Tally, given, simple};
 use lq_plan::counts::{given_limit, simple_limit};
 use lq_plan::{Pipe, Slots, Stage, TableRow, parts, scalars, sequences, stage_of};
 use lq_tree::Form;
-use lq_value::{End, Fault, List, Scalar, Ty, Value, copy_scalar, same};
+use lq_value::{End, Fault, List, Ty, Value, same};
 use std::alloc::AllocError;
 
 impl<'a, R: TableRow, H: Asks> Running<'a, R, H> {
@@ -250,7 +250,7 @@ impl<'a, R: TableRow, H: Asks> Running<'a, R, H> {
         scalars::truth_or_fault(self.truth(condition, &(&*slots).with(&*item)))
     }
 
-    /// What a form gives of an item. A cell that can be read in place is copied from there.
+    /// What a form gives of an item. The item itself, or a cell of it, is copied from where it stands.
     #[cycle(running)]
     pub(crate) fn value_of_item(
         &self,
@@ -262,11 +262,8 @@ impl<'a, R: TableRow, H: Asks> Running<'a, R, H> {
             value ≡ value_of_item (world self.now) body.now slots.now item.now) }
     {
         let deeper = (&*slots).with(&*item);
-        match self.sources.column_ref(&*body, &deeper) {
-            Some(scalar) => {
-                let copy = copy_scalar(self.sources.alloc, scalar)?;
-                Ok(Ok(Value::Scalar(copy)))
-            }
+        match self.sources.value_in_place(&*body, &deeper) {
+            Some(copy) => Ok(Ok(copy?)),
             None => sequences::value_or_fault(self.evaluate(body, &deeper)),
         }
     }

@@ -17,7 +17,7 @@ use lq_tree::Form;
 use lq_value::{
     ColumnNumber, End, Fault, List, RowRef, Scalar, TableNumber, Value, copy, copy_scalar,
 };
-use std::alloc::Global;
+use std::alloc::{AllocError, Global};
 
 /// What a form means, where it is a slot or the first or second part of what another such form
 /// means: the value stays where it is. None for every other form, which has to be evaluated, and where
@@ -169,7 +169,7 @@ impl<'a, R: TableRow, H: Asks> Sources<'a, R, H> {
     {
         match row {
             Value::Row(row) => match cell(self.tables, row, table, column) {
-                Some(cell) => Ok(Value::Scalar(copy_scalar(self.alloc, cell)?)),
+                Some(cell) => Ok(self.cell_value(cell)?),
                 None => Err(RunError::Fault(Fault::NullReference)),
             },
             Value::Scalar(_) | Value::Rec(_) | Value::Group(_, _) | Value::Seq(_, _) => {
@@ -215,7 +215,11 @@ impl<'a, R: TableRow, H: Asks> Sources<'a, R, H> {
     /// nothing: such a form, and every other one, may still mean a scalar.
     #[inline]
     #[tactic(auto, using(crate::proofs::FormLaws::form_column))]
-    pub fn column_ref<'s>(&'s self, form: &'s Form, slots: &'s Slots<'_, R>) -> Option<&'s Scalar>
+    pub(crate) fn column_ref<'s>(
+        &'s self,
+        form: &'s Form,
+        slots: &'s Slots<'_, R>,
+    ) -> Option<&'s Scalar>
         ensures { IfSome result (λ scalar.
             meant (world self.now) form.now slots.now ≡ Ok (value.Scalar scalar.now)) }
     {
@@ -224,6 +228,32 @@ impl<'a, R: TableRow, H: Asks> Sources<'a, R, H> {
                 self.cell_ref(part_ref(row.get(), slots)?, *table, *column)
             }
             _ => None,
+        }
+    }
+
+    /// A cell, as a value of its own. Refused where no memory was left.
+    fn cell_value(&self, cell: &Scalar) -> Result<Value<R>, AllocError>
+        ensures { IfOk result (λ v. v ≡ value.Scalar cell.now) }
+    {
+        Ok(Value::Scalar(copy_scalar(self.alloc, cell)?))
+    }
+
+    /// A copy of what a form means, where it is a slot, or a column of a row in one: nothing is
+    /// evaluated. None means nothing: such a form, and every other one, may still mean a value. Refused
+    /// where no memory was left.
+    #[inline]
+    #[tactic(auto, using(crate::proofs::FormLaws::form_slot))]
+    pub fn value_in_place(
+        &self,
+        form: &Form,
+        slots: &Slots<'_, R>,
+    ) -> Option<Result<Value<R>, AllocError>>
+        ensures { IfSome result (λ copy. IfOk copy (λ v.
+            meant (world self.now) form.now slots.now ≡ Ok v)) }
+    {
+        match form {
+            Form::Slot(number) => Some(copy(self.alloc, slots.get(*number)?)),
+            _ => Some(self.cell_value(self.column_ref(form, slots)?)),
         }
     }
 

@@ -1,6 +1,5 @@
 use Rattle.std.proofs.Common.{◌≡◌, [], Ok, Err, IfErr, IfOk, ap, refl, rules, subst, sym, true, ◌∙◌}
 use Rattle.lq_value.specs.declared.value.End.TheVariants as end
-use Rattle.lq_value.specs.declared.value.Value.TheVariants as value
 use Rattle.lq_operators.specs.Answers.{IsAnswer}
 use Rattle.lq_operators.specs.Matching.{pairs_of}
 use Rattle.lq_language.specs.Arrangement.{all_of}
@@ -35,10 +34,6 @@ pub evaluate-returns-in-All : goal.evaluate-returns-in-All
 evaluate-returns-in-All g t c =
     all_answer (world c.args.self.now) c.args.form.now c.in-All.source c.in-All.condition c.get-in-All.result.now c.get-in-All-2.result.now (values_in c.args.slots.now)
     c.all.result c.in-All.is c.get-in-All.ensures c.get-in-All-2.ensures c.all.ensures
-
-pub value_of_item-returns-in_ok-copy-in-Some : goal.value_of_item-returns-in_ok-copy-in-Some
-value_of_item-returns-in_ok-copy-in-Some g t c =
-    ap (λ s. Ok (value.Scalar s)) c.in_ok-copy-in-Some.ensures ∙ sym c.in-Some.ensures ∙ ap (λ vs. form_meaning (world c.args.self.now) c.args.body.now vs) c.with-deeper.ensures
 
 pub value_of_item-returns-in-None : goal.value_of_item-returns-in-None
 value_of_item-returns-in-None g t c =
