@@ -101,8 +101,8 @@ def compare_scans(program, count, time):
     counts = {name: (measuring.count(program, *files("scan"), policy) - count) / each for name, policy in policies.items()}
     times = {name: (least_time(program, "scan", policy) - time) * 1e9 / each for name, policy in policies.items()}
     ratio = counts["guarded"] / counts["open"]
-    print(f"row policies: a scan takes {counts['open']:.0f} instructions a row without them, {times['open']:.0f} ns, and"
-          f" {counts['guarded']:.0f} with three, {times['guarded']:.0f} ns ({ratio:.2f} times the instructions)")
+    print(f"row policies: a scan takes {counts['open']:.0f} instructions a row without them, {shown_time(times['open'])}, and"
+          f" {counts['guarded']:.0f} with three, {shown_time(times['guarded'])} ({ratio:.2f} times the instructions)")
     if counts["open"] > MOST_OF_SCAN:
         raise Failure(f"a scan took more than {MOST_OF_SCAN} instructions a row")
     if ratio > MOST_OF_OPEN:
@@ -113,13 +113,18 @@ def least_time(program, name, policy=None):
     return min(measuring.run(program, *files(name), policy)[0] for _ in range(RUNS))
 
 
+def shown_time(nanoseconds):
+    """What a row took over a run without it; two runs may differ by more than that, which then isn't a figure."""
+    return f"{nanoseconds:.0f} ns" if nanoseconds >= 1 else "less than two runs differ by"
+
+
 def measure_conditions(program, time):
     """Prints what conditions take: each is evaluated on every row, and keeps none."""
     for condition in CONDITIONS:
         write("condition.script", f"run from e in staff where {condition} select e.id;\n" * SCANS)
         write("condition.reply", '{"items":[]}\n' * SCANS)
         taken = least_time(program, "condition") - time
-        print(f"condition: {taken * 1e9 / (ROWS * SCANS):.0f} ns a row for where {condition}")
+        print(f"condition: {shown_time(taken * 1e9 / (ROWS * SCANS))}, a row, for where {condition}")
 
 
 def compare(program):
