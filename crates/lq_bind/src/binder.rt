@@ -105,7 +105,7 @@ impl Binder<'_> {
             (expression.Host predicate.now row.now columns.now)) result }
     {
         let row = self.term(row, frame)?;
-        hosts::asked(self.alloc, self.store, self.hosts, predicate, columns, row)
+        hosts::host_call(self.alloc, self.store, self.hosts, predicate, columns, row)
     }
 
     /// An operator with one operand.

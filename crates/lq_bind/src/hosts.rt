@@ -134,7 +134,7 @@ fn asked_of_row(
 /// The predicate of this name, where it is known, asked of columns of what has this tree.
 #[tactic(auto, using(crate::proofs::Layers::types))]
 #[inline(never)]
-pub(crate) fn asked(
+pub(crate) fn host_call(
     alloc: Global,
     store: &Store,
     known: &[HostName],

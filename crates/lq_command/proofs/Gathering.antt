@@ -118,6 +118,6 @@ Gathering-none before now after was_ended mid ended draft is_empty gathering giv
     let kept : Keeps before now = Keeps-taken before now (subst (Consumes before now) nothing gathering.taken) in
     record {
       ends = gives.0;
-      kept = Keeps-trans before now after kept gives.1;
+      keeps = Keeps-trans before now after kept gives.1;
       none_left = λ unended. IsAtEnd-before before now kept (gives.2 (gathering.same ∙ unended));
     }

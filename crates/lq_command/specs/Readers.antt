@@ -36,7 +36,7 @@ pub record TakesLine (before after : Option (List ℕ)) (ended : Bool) (given : 
 -- There is no further line, and none was taken: the end had been met before, or was met now, where nothing was left.
 pub record TakesNone (before after : Option (List ℕ)) (was_ended ended : Bool) : Type 0 where
   pub ends : ended ≡ true
-  pub kept : Keeps before after
+  pub keeps : Keeps before after
   pub none_left : was_ended ≡ false → IsAtEnd before
 
 -- what reading a line gives of the bytes that are left

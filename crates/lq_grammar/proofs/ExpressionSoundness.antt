@@ -7,7 +7,7 @@ use Rattle.std.proofs.lemmas.Option.{slice_get_read, some_pair_parts}
 use Rattle.std.proofs.Math.Seq.{get_or-append_seam}
 use Rattle.lq_grammar.specs.Grammar as s
 use Rattle.lq_grammar.specs.Grammar.{Part, Spells, levels, member_of, named, operation_of, operator}
-use Rattle.lq_grammar.specs.Parsing.{Parser, pure, ◌>>=◌, behind, expect, same_kind, argument_at, more_arguments, some_arguments, arguments, field_by, last_before, field, more_fields, fields, asked, start_by, start, selections, primary, is_least, below_zero, prefix, operation_by, operations, chain, coalescing, conditional}
+use Rattle.lq_grammar.specs.Parsing.{Parser, pure, ◌>>=◌, behind, expect, same_kind, argument_at, more_arguments, some_arguments, arguments, field_by, last_before, field, more_fields, fields, host_arguments, start_by, start, selections, primary, is_least, below_zero, prefix, operation_by, operations, chain, coalescing, conditional}
 use Rattle.lq_grammar.specs.Tokens.{decimal_value, text_of}
 use Rattle.lq_grammar.specs.declared.syntax.Argument.{Argument}
 use Rattle.lq_grammar.specs.declared.syntax.Expr.{Expr}
@@ -173,8 +173,8 @@ module _ (line : List ℕ) (inner : Level → Parser Expr) (sound_inner : (l : L
 
   -- ---- primary expressions
 
-  sound_asked : Sound line (λ found. s.HostArguments found.0 found.1) (asked line inner)
-  unfolding asked
+  sound_asked : Sound line (λ found. s.HostArguments found.0 found.1) (host_arguments line inner)
+  unfolding host_arguments
   sound_asked =
       part_then (sound_inner level.Conditional) (λ x xs one.
       after_token (λ comma comma_is. part_last _ (sound_inner level.Conditional) (λ y ys other. s.asked_of_two comma one comma_is other)) (done (stays (s.asked_of_one one))))

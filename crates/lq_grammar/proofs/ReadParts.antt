@@ -47,7 +47,7 @@ module _ (line : List ℕ) (inner : Level → Parser Expr) where
   PartReadsOver (s.Chain l x) ts = ChainReads l x ts
   PartReadsOver (s.Prefix x) ts = Reads 2 (p.prefix line inner) x ts
   PartReadsOver (s.Primary x) ts = ReadsOn 1 (p.primary line inner) (λ turns. p.selections line inner turns x) ts
-  PartReadsOver (s.HostArguments x second) ts = Reads 12 (p.asked line inner) (x, second) ts
+  PartReadsOver (s.HostArguments x second) ts = Reads 12 (p.host_arguments line inner) (x, second) ts
   PartReadsOver (s.Fields fs) ts =
       (closing : Token) (rest : List Token) → closing.kind ≡ k.RightBrace → p.fields line inner (ts ++ closing ∷ rest) ≡ Some (fs, rest)
   PartReadsOver (s.SomeFields fs) ts = ReadsOn 10 (p.fields line inner) (λ turns. p.more_fields line inner turns fs) ts

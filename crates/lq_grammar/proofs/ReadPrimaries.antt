@@ -71,28 +71,28 @@ module _ (line : List ℕ) (inner : Level → Parser Expr) where
       started x (opening ∷ (ts ++ closing ∷ [])) rest
       (start_is opening k.LeftParenthesis _ opening_is ∙ closed (inner level.Top) 13 _ x ts rest closing (omega arith) reads closing_is ∙ expect_step k.RightParenthesis _ closing rest closing_is)
 
-  pub read_asked_of_one : (x : Expr) (ts : List Token) → Reads 10 (inner level.Conditional) x ts → Reads 12 (p.asked line inner) (x, None) ts
-  unfolding p.asked
+  pub read_asked_of_one : (x : Expr) (ts : List Token) → Reads 10 (inner level.Conditional) x ts → Reads 12 (p.host_arguments line inner) (x, None) ts
+  unfolding p.host_arguments
   read_asked_of_one x ts reads rest stops =
       bind_step (inner level.Conditional) _ (ts ++ rest) rest x (reads rest (omega arith)) ∙ after_skips k.Comma _ _ rest (not_next k.Comma rest (omega arith))
 
   pub read_asked_of_two : (x y : Expr) (xs ys : List Token) (comma : Token) → Reads 10 (inner level.Conditional) x xs → comma.kind ≡ k.Comma
-      → Reads 10 (inner level.Conditional) y ys → Reads 12 (p.asked line inner) (x, Some y) (xs ++ comma ∷ ys)
-  unfolding p.asked peek
+      → Reads 10 (inner level.Conditional) y ys → Reads 12 (p.host_arguments line inner) (x, Some y) (xs ++ comma ∷ ys)
+  unfolding p.host_arguments peek
   read_asked_of_two x y xs ys comma first is second rest stops =
       let above : tight comma.kind ≡ 11 = ap tight is in
-      ap (p.asked line inner) (split_middle xs comma ys rest)
+      ap (p.host_arguments line inner) (split_middle xs comma ys rest)
       ∙ bind_step (inner level.Conditional) _ _ (comma ∷ (ys ++ rest)) x (first _ (omega arith))
       ∙ after_sees k.Comma _ _ comma _ is
       ∙ bind_step (inner level.Conditional) _ _ rest y (second rest (omega arith))
 
   pub read_host : (x : Expr) (second : Option Expr) (ts : List Token) (word dot predicate opening closing : Token) → word.kind ≡ k.Host → dot.kind ≡ k.Dot → predicate.kind ≡ k.Name
-      → opening.kind ≡ k.LeftParenthesis → Reads 12 (p.asked line inner) (x, second) ts → closing.kind ≡ k.RightParenthesis
+      → opening.kind ≡ k.LeftParenthesis → Reads 12 (p.host_arguments line inner) (x, second) ts → closing.kind ≡ k.RightParenthesis
       → Selected (host_call (text_of line predicate) x second) (word ∷ dot ∷ predicate ∷ opening ∷ (ts ++ closing ∷ []))
   read_host x second ts word dot predicate opening closing word_is dot_is predicate_is opening_is reads closing_is rest stops =
       started _ (word ∷ dot ∷ predicate ∷ opening ∷ (ts ++ closing ∷ [])) rest
       (start_is word k.Host _ word_is ∙ expect_step k.Dot _ dot _ dot_is ∙ name_step line _ predicate _ predicate_is ∙ expect_step k.LeftParenthesis _ opening _ opening_is
-      ∙ closed (p.asked line inner) 12 _ (x, second) ts rest closing (omega arith) reads closing_is ∙ expect_step k.RightParenthesis _ closing rest closing_is)
+      ∙ closed (p.host_arguments line inner) 12 _ (x, second) ts rest closing (omega arith) reads closing_is ∙ expect_step k.RightParenthesis _ closing rest closing_is)
 
   pub read_record : (fs : List (Field Expr)) (ts : List Token) (word opening closing : Token) → word.kind ≡ k.New → opening.kind ≡ k.LeftBrace → PartReadsOver line inner (s.Fields fs) ts
       → closing.kind ≡ k.RightBrace → Selected (expr.Node (node.New fs)) (word ∷ opening ∷ (ts ++ closing ∷ []))

@@ -168,8 +168,8 @@ module _ (line : List ℕ) where
     fields = after k.RightBrace (pure []) (field >>= (λ f tokens. more_fields (length tokens) (f ∷ []) tokens))
 
     -- what a host predicate is asked of: an expression, or two with a comma between them
-    unfoldable pub asked : Parser (Expr × Option Expr)
-    asked = inner level.Conditional >>= (λ x. after k.Comma (inner level.Conditional >>= (λ y. pure (x, Some y))) (pure (x, None)))
+    unfoldable pub host_arguments : Parser (Expr × Option Expr)
+    host_arguments = inner level.Conditional >>= (λ x. after k.Comma (inner level.Conditional >>= (λ y. pure (x, Some y))) (pure (x, None)))
 
     -- a primary expression, up to its first dot, by the kind of its first token
     abbrev pub start_by : Kind → Token → Parser Expr
@@ -181,7 +181,7 @@ module _ (line : List ℕ) where
     start_by k.Name token = pure (named (text_of line token))
     start_by k.LeftParenthesis token = inner level.Top >>= (λ x. expect k.RightParenthesis >>= (λ closing. pure x))
     start_by k.Host token =
-        expect k.Dot >>= (λ dot. name >>= (λ p. expect k.LeftParenthesis >>= (λ opening. asked >>= (λ xs.
+        expect k.Dot >>= (λ dot. name >>= (λ p. expect k.LeftParenthesis >>= (λ opening. host_arguments >>= (λ xs.
         expect k.RightParenthesis >>= (λ closing. pure (host_call p xs.0 xs.1))))))
     start_by k.New token = expect k.LeftBrace >>= (λ opening. fields >>= (λ fs. pure (expr.Node (node.New fs))))
     start_by kind token = refuse

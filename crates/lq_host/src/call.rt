@@ -59,7 +59,7 @@ impl Question {
     ghost use Rattle.lq_host.specs.Calls.{entry_of};
 
     /// The entry of a call that was answered so.
-    pub(crate) fn answered(self, answer: bool) -> Call
+    pub(crate) fn call_with(self, answer: bool) -> Call
         ensures { result ≡ entry_of self answer }
     {
         Call {

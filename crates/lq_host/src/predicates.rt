@@ -131,7 +131,7 @@ impl Asks for Predicates {
             return Err(HostError::Memory);
         }
         let answer = predicate.test.answer(question.arguments);
-        append(&mut log.calls, question.answered(answer));
+        append(&mut log.calls, question.call_with(answer));
         Ok(answer)
     }
 }

@@ -16,7 +16,7 @@ use Rattle.lq_host.specs.declared.call.Pick2.{Pick2}
 use Rattle.lq_host.specs.declared.call.Pick2.TheVariants as arguments
 use Rattle.lq_language.specs.HostNames.{are_int_columns, is_int_type, predicate_number}
 use Rattle.lq_language.specs.Names.{column_type}
-use Rattle.lq_language.specs.OperandMeaning.{answer_value, arguments_named, asked, host_value, truth_value}
+use Rattle.lq_language.specs.OperandMeaning.{answer_value, arguments_named, host_answer, host_value, truth_value}
 use Rattle.lq_language.specs.OperandTypes.{is_int}
 use Rattle.lq_language.specs.ValuesOfTypes.{HasCells, IsScalarOf, assuming}
 use Rattle.lq_language.specs.Worlds.{World, known_predicates}
@@ -68,7 +68,7 @@ module _ {R : Type 0} (world : World R) where
       → host_value (assuming unknown world) p columns (out-Value R (value.Row r)) ≡ answer_value (assuming unknown world) (answer_in world.predicates k xs)
   asked_row p columns k xs r known there unknown =
       ap (host_value (assuming unknown world) p columns) (outs-value-Row r)
-      ∙ ap₂ (asked (assuming unknown world)) known there
+      ∙ ap₂ (host_answer (assuming unknown world)) known there
 
   row_by : (p : List ℕ) (columns : Picked) (r : R) (o : Option Bool)
       → ((unknown : Fault) → host_value (assuming unknown world) p columns (out-Value R (value.Row r)) ≡ answer_value (assuming unknown world) o)

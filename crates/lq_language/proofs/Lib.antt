@@ -12,6 +12,7 @@ pub mod HostTypeLemmas
 pub mod IntLaws
 pub mod ItemLaws
 pub mod ItemlessTypes
+pub mod KeptMeaningLaws
 pub mod KeptMeanings
 pub mod MatchLaws
 pub mod KeptTypeLaws
@@ -28,7 +29,6 @@ pub mod QueryPullLaws
 pub mod SameTypeLaws
 pub mod ScalarResultLaws
 pub mod SequenceLaws
-pub mod ServedMeaningLaws
 pub mod StreamLaws
 pub mod TypePartLaws
 pub mod TypedMeaningLaws

@@ -140,19 +140,19 @@ module _ {R : Type 0} (world : World R) where
   answer_value None = Err fault.ArgumentOutOfRange
 
   -- what a predicate answers
-  abbrev pub asked : Option ℕ → Option Pick2 → Result (Value R) Fault
-  asked (Some p) (Some xs) = answer_value (answer_in world.predicates p xs)
-  asked p xs = Err world.unknown
+  abbrev pub host_answer : Option ℕ → Option Pick2 → Result (Value R) Fault
+  host_answer (Some p) (Some xs) = answer_value (answer_in world.predicates p xs)
+  host_answer p xs = Err world.unknown
 
   -- what it answers about a row, which gives it its arguments; a null row has no columns
-  abbrev pub asked_about : Option ℕ → (R → Option Pick2) → Value-F R (Value R) → Result (Value R) Fault
-  asked_about p arguments (Value-F.Row r) = asked p (arguments r)
-  asked_about p arguments (Value-F.Scalar scalar.Null) = Err fault.NullReference
-  asked_about p arguments layer = Err world.unknown
+  abbrev pub answer_about : Option ℕ → (R → Option Pick2) → Value-F R (Value R) → Result (Value R) Fault
+  answer_about p arguments (Value-F.Row r) = host_answer p (arguments r)
+  answer_about p arguments (Value-F.Scalar scalar.Null) = Err fault.NullReference
+  answer_about p arguments layer = Err world.unknown
 
   -- what the predicate of this name answers about columns of a row
   abbrev pub host_value : List ℕ → Picked → Value-F R (Value R) → Result (Value R) Fault
-  host_value p columns layer = asked_about (predicate_number (known_predicates world.predicates) p columns) (arguments_named columns) layer
+  host_value p columns layer = answer_about (predicate_number (known_predicates world.predicates) p columns) (arguments_named columns) layer
 
 -- a query is the sequence of its stream
 abbrev pub sequence : {R : Type 0} → Stream (Value R) → Value R

@@ -1,5 +1,5 @@
 pub mod Arrangements
 pub mod Chains
-pub mod Found
+pub mod Finding
 pub mod Numbers
 pub mod Passes

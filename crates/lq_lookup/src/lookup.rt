@@ -1,6 +1,6 @@
 //! Places by key.
 ghost use Rattle.std.specs.Prelude.{◌≡◌};
-ghost use Rattle.lq_lookup.specs.Found.{is_kept};
+ghost use Rattle.lq_lookup.specs.Finding.{is_kept};
 
 use crate::nulls::Nulls;
 use crate::rows::Rows;
@@ -28,7 +28,7 @@ impl Model for Lookup {
 impl Lookup {
     ghost use Rattle.std.specs.Prelude.{◌≡◌, IfOk};
     ghost use Rattle.lq_value.specs.declared.key.Key.{Key as KeyValue};
-    ghost use Rattle.lq_lookup.specs.Found.{places_of, matches};
+    ghost use Rattle.lq_lookup.specs.Finding.{places_of, matches};
 
     /// The lookup of `keys`. Under `Nulls::Skip` a key that is itself null is found nowhere; a record
     /// with null members is a key as any other.

@@ -22,7 +22,7 @@ pub(crate) struct Rows {
 impl Model for Rows {
     ghost use Rattle.std.specs.Prelude.{List, ℕ};
     ghost use Rattle.lq_value.specs.declared.key.Key.{Key as KeyValue};
-    ghost use Rattle.lq_lookup.specs.Found.{rows_from};
+    ghost use Rattle.lq_lookup.specs.Finding.{rows_from};
 
     ghost Value = { List (KeyValue × List ℕ) };
 

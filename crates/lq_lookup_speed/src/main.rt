@@ -79,7 +79,7 @@ fn lists(alloc: Global, subject: &str) -> Result<Vec<List<Scalar>>, AllocError> 
 }
 
 // How many places are found for all keys.
-fn found(lookup: &Lookup, keys: &[Key]) -> usize {
+fn count_found(lookup: &Lookup, keys: &[Key]) -> usize {
     let mut count: usize = 0;
     for key in keys {
         count = count.wrapping_add(lookup.find(key).len());
@@ -88,10 +88,10 @@ fn found(lookup: &Lookup, keys: &[Key]) -> usize {
 }
 
 // How many places a lookup finds for the first key, or for all.
-fn asked(lookup: &Lookup, keys: &[Key], what: &str) -> usize {
+fn count_finds(lookup: &Lookup, keys: &[Key], what: &str) -> usize {
     match keys {
         [first, ..] if what == "build" => lookup.find(first).len(),
-        _ => found(lookup, keys),
+        _ => count_found(lookup, keys),
     }
 }
 
@@ -100,7 +100,7 @@ fn looked_up(alloc: Global, keys: &[Key], what: &str) -> Result<usize, AllocErro
         return Ok(keys.len());
     }
     let lookup = Lookup::build(alloc, keys, Nulls::Keep)?;
-    Ok(asked(&lookup, keys, what))
+    Ok(count_finds(&lookup, keys, what))
 }
 
 fn grouped(alloc: Global, keys: &[Key], what: &str) -> Result<usize, AllocError> {
@@ -149,7 +149,7 @@ fn orders_done(alloc: Global, subject: &str, what: &str) -> Result<usize, AllocE
     ordered(alloc, lists.as_slice(), subject, what)
 }
 
-fn done(alloc: Global, subject: &str, what: &str) -> Result<usize, AllocError> {
+fn measure(alloc: Global, subject: &str, what: &str) -> Result<usize, AllocError> {
     match subject {
         "ints" => ints_done(alloc, what),
         "texts" => texts_done(alloc, what),
@@ -163,7 +163,7 @@ fn is_right(alloc: Global, subject: &str, what: &str) -> Result<bool, AllocError
     if subject == "growths" {
         return growths::right(alloc);
     }
-    let _ = done(alloc, subject, what)?;
+    let _ = measure(alloc, subject, what)?;
     Ok(true)
 }
 

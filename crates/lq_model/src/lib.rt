@@ -8,11 +8,12 @@
 
 pub use lq_grammar::{
     Argument, Binary, Body, Clause, Continuation, Expr, Field, Infix, Join, Kind, Last, Level,
-    Node, Query, SortKey, Statement, Token, Unary, grammar_laws, lexing_laws,
+    Node, Picked, Query, SortKey, Statement, Token, Unary, grammar_laws, lexing_laws,
 };
 pub use lq_language::{
-    Call, Given, Op, Operator, Paired, Part, RightRule, Simple, Term, Through, Use, clause_laws,
-    enumerable_laws, meaning_laws, operation_laws, typing_laws,
+    Call, Given, HostName, Op, Operator, Paired, Part, RightRule, Simple, Term, Through, Use,
+    clause_laws, enumerable_laws, host_names, meaning_laws, operation_laws, predicate_number,
+    typing_laws,
 };
 pub use lq_machine::{Defined, Definition, Opened, definition_laws, reply_laws, session_laws};
 pub use lq_security::{

@@ -9,7 +9,7 @@ use Rattle.lq_value.specs.declared.key.Key.{Key}
 use Rattle.lq_value.specs.declared.value.Value.{Value}
 use Rattle.lq_value.specs.declared.value.Value.TheVariants as value
 use Rattle.lq_language.specs.Stream.{elements_of}
-use Rattle.lq_lookup.specs.Found.{places_of}
+use Rattle.lq_lookup.specs.Finding.{places_of}
 use Rattle.lq_lookup.specs.declared.nulls.Nulls.{Nulls}
 
 -- the lookup finds each key's places, null's as well

@@ -31,10 +31,10 @@ pub fn given<R: RowRef>(
     ensures { (world : World R) → world.unknown ≡ fault.NullReference
         → IsAnswer (given_meaning world method argument (items, end)) result }
 {
-    answered(alloc, method, argument, (items, end))
+    answer_of(alloc, method, argument, (items, end))
 }
 
-fn answered<R: RowRef>(
+fn answer_of<R: RowRef>(
     alloc: Global,
     method: Given,
     argument: Result<Value<R>, Fault>,

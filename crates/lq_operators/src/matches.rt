@@ -18,7 +18,7 @@ pub struct Matches<R> {
     keys: List<Value<R>>,
     items: List<Value<R>>,
     lookup: Lookup,
-    ghost found: { FindsKeys lookup (map key_value keys) },
+    ghost finds: { FindsKeys lookup (map key_value keys) },
 }
 
 impl<R: RowRef> Matches<R> {

@@ -25,16 +25,14 @@ use Rattle.lq_plan.specs.declared.stages.Stage.TheVariants as stage
 use Rattle.lq_plan.proofs.FormLaws.{form_all, form_given, form_record, form_select, form_where}
 
 module _ {R : Type 0} (world : World R) where
-  pub all_answer : (g a f a' f' : Form) (slots : Slots R) (answer : Result (Value R) RunError) → g ≡ form.All a f → a' ≡ a → f' ≡ f
-      → IsAnswer
-      (as_truth
-      (all (λ v. is_true world (form_meaning world f') (with_item world slots v)) (stream_of world (form_meaning world a' slots)).0
-      (stream_of world (form_meaning world a' slots)).1))
-      answer
-      → IsAnswer (form_meaning world g slots) answer
-  all_answer g a f a' f' slots answer is source_is condition_is h =
+  pub all_answer : (a f : Form) (slots : Slots R) (items : Stream (Value R)) (answer : Result (Value R) RunError)
+      → items ≡ stream_of world (form_meaning world a slots)
+      → IsAnswer (as_truth (all (λ v. is_true world (form_meaning world f) (with_item world slots v)) items.0 items.1)) answer
+      → IsAnswer (form_meaning world (form.All a f) slots) answer
+  all_answer a f slots items answer items_is h =
       subst (λ m. IsAnswer m answer)
-      (sym (form_all world a' f' slots) ∙ ap (λ x. form_meaning world x slots) ((λ i. form.All (source_is i) (condition_is i)) ∙ sym is)) h
+      (ap (λ (s : Stream (Value R)). as_truth (all (λ v. is_true world (form_meaning world f) (with_item world slots v)) s.0 s.1)) items_is
+      ∙ sym (form_all world a f slots)) h
 
   pub where_answer : (g a a' f : Form) (f' : Bor Form) (slots : Slots R) (answer : Result (Value R) RunError) → g ≡ form.Where a f → a' ≡ a → f'.now ≡ f
       → IsAnswer (Ok (sequence (stream_behind world slots (stage.Where f') a'))) answer → IsAnswer (form_meaning world g slots) answer

@@ -201,9 +201,8 @@ impl<'a, R: TableRow, H: Asks> Running<'a, R, H> {
         condition: &Form,
         slots: &Slots<'_, R>,
     ) -> Result<Value<R>, RunError>
-        ensures { IsAnswer (as_truth (all (holds_of (world self.now) condition.now slots.now)
-            (items_meant (world self.now) source.now slots.now).0
-            (items_meant (world self.now) source.now slots.now).1)) result }
+        ensures { IsAnswer
+            (meant (world self.now) (form.All source.now condition.now) slots.now) result }
     {
         let pipe = self.sources.pipe_of(source, slots)?;
         self.all_hold(condition, &pipe, slots)

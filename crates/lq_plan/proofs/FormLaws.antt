@@ -9,7 +9,7 @@ use Rattle.lq_value.specs.declared.value.Value.TheVariants as value
 use Rattle.lq_host.specs.declared.call.Pick.{Pick}
 use Rattle.lq_language.specs.Arrangement.{order_by}
 use Rattle.lq_language.specs.Worlds.{World}
-use Rattle.lq_language.specs.OperandMeaning.{as_value, asked_about, is_null, on_scalar, on_truth, sequence, scalar_of, stream_of, table_value, truth_value}
+use Rattle.lq_language.specs.OperandMeaning.{as_value, answer_about, is_null, on_scalar, on_truth, sequence, scalar_of, stream_of, table_value, truth_value}
 use Rattle.lq_language.specs.ClauseMeaning.{as_group}
 use Rattle.lq_language.specs.Operations.{of_one, of_two, on_ok}
 use Rattle.lq_language.specs.Enumerable.{all}
@@ -61,7 +61,7 @@ module _ {R : Type 0} (world : World R) where
 
   pub form_host : (predicate : ℕ) (a : Form) (table : ℕ) (columns : Pick) (slots : Slots R)
       → form_meaning world (form.Host predicate a table columns) slots
-      ≡ on_ok (form_meaning world a slots) (λ v. asked_about world (Some predicate) (arguments_at world table columns) (out-Value R v))
+      ≡ on_ok (form_meaning world a slots) (λ v. answer_about world (Some predicate) (arguments_at world table columns) (out-Value R v))
   form_host predicate a table columns slots = at _ _ slots (form.outs-Host predicate a table columns)
 
   pub form_member : (a : Form) (place : ℕ) (slots : Slots R)

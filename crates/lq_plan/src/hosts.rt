@@ -11,7 +11,7 @@ impl<'a, R: TableRow, H: Asks> Sources<'a, R, H> {
     ghost use Rattle.lq_value.specs.declared.value.Value.{out-Value};
     ghost use Rattle.lq_host.specs.Calls.{number_of};
     ghost use Rattle.lq_host.specs.Predicates.{answer_in};
-    ghost use Rattle.lq_language.specs.OperandMeaning.{answer_value, asked, asked_about};
+    ghost use Rattle.lq_language.specs.OperandMeaning.{answer_value, host_answer, answer_about};
     ghost use Rattle.lq_operators.specs.Answers.{IsAnswer};
     ghost use Rattle.lq_tree.specs.FormMeaning.{arguments_at, numbered_cell};
     ghost use Rattle.lq_plan.specs.Plans.{world};
@@ -62,7 +62,7 @@ impl<'a, R: TableRow, H: Asks> Sources<'a, R, H> {
         table: TableNumber,
         columns: Pick,
     ) -> Result<Value<R>, RunError>
-        ensures { IsAnswer (asked (world self.now) (Some predicate)
+        ensures { IsAnswer (host_answer (world self.now) (Some predicate)
             (arguments_at (world self.now) table columns row.now)) result }
     {
         match self.arguments(row, table, columns) {
@@ -88,7 +88,7 @@ impl<'a, R: TableRow, H: Asks> Sources<'a, R, H> {
         table: TableNumber,
         columns: Pick,
     ) -> Result<Value<R>, RunError>
-        ensures { IsAnswer (asked_about (world self.now) (Some predicate)
+        ensures { IsAnswer (answer_about (world self.now) (Some predicate)
             (arguments_at (world self.now) table columns) (out-Value R row.now)) result }
     {
         match row {

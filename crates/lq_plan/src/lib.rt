@@ -3,8 +3,11 @@
 //! `Sources` are the tables and the host predicates that forms are run over, and `Slots` the values that
 //! lambdas take, borrowed where they stand. A `Base` holds items that are pulled one by one; a `Plan` is what is found out once
 //! about the rows of a table, for the conditions and the lambda above it; and a `Pipe` is what is pulled
-//! by one. The modules have what is done to the values, the scalars and the items that are there: parts of
-//! values, operators between scalars, sequences, limits of methods, and arrangements by keys.
+//! by one.
+//!
+//! What a plan says of a row is what its conditions and lambda mean there, or nothing. `Base::pull` gives the
+//! next item in order, without the rows that a plan leaves out. The modules give what operators, methods
+//! and clauses mean on values that are there, or their fault.
 #![tactic(auto)]
 
 pub mod arrangements;

@@ -1,6 +1,6 @@
 -- Accesses, the policies that apply to them, and rows as rules are asked about them.
 use Rattle.std.specs.Prelude.{List, Bool}
-use Rattle.lq_security.specs.Visible.{Asked as RowForUser, applies}
+use Rattle.lq_security.specs.Visible.{RowForUser, applies}
 use Rattle.lq_security.specs.declared.policy.Policy.{Policy}
 use Rattle.lq_security.specs.declared.policy.PolicyParts.{PolicyParts}
 use Rattle.lq_security.specs.declared.policy.Role.{Role}

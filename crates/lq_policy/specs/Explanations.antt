@@ -1,7 +1,7 @@
 -- Why a row is seen or hidden: the policies that apply, and the outcome.
 use Rattle.std.specs.Prelude.{◌||◌, if◌then◌else◌, List, map, filter, ℕ, Bool, Option, Some, None, is_none, slice_get}
 use Rattle.lq_value.specs.declared.scalar.Scalar.{Scalar}
-use Rattle.lq_security.specs.Visible.{Asked, applies, holds_on, refuser_of, rule_for, visible_to}
+use Rattle.lq_security.specs.Visible.{RowForUser, applies, holds_on, refuser_of, rule_for, visible_to}
 use Rattle.lq_security.specs.declared.policy.Action.{Action}
 use Rattle.lq_security.specs.declared.policy.Action.TheVariants as action
 use Rattle.lq_security.specs.declared.policy.Policy.{Policy}
@@ -20,11 +20,11 @@ has_a_say roles role action.Delete table policy = applies roles role action.Sele
 has_a_say roles role act table policy = applies roles role act table policy
 
 -- what is reported of a policy: its name, its kind, and whether its rule for the action is true on the row
-abbrev pub explained : Action → Asked → Policy → ExplainedPolicy
+abbrev pub explained : Action → RowForUser → Policy → ExplainedPolicy
 explained act asked policy = record { name = policy.name; is_restrictive = policy.restrictive; is_true = holds_on asked (rule_for act policy) }
 
 -- of each policy that has a say, and of no other, in their order
-abbrev pub explained_policies : PolicyParts → ℕ → Action → ℕ → Asked → List ExplainedPolicy
+abbrev pub explained_policies : PolicyParts → ℕ → Action → ℕ → RowForUser → List ExplainedPolicy
 explained_policies parts role act table asked = map (explained act asked) (filter (has_a_say parts.roles role act table) parts.policies)
 
 -- ---- the outcome

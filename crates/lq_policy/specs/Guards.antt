@@ -3,7 +3,7 @@ use Rattle.std.specs.Prelude.{◌≡◌, List, [], ℕ, Bool, false, Option, Som
 use Rattle.std.specs.Borrow.{Bor}
 use Rattle.std.specs.Option.{option_copied, option_or}
 use Rattle.lq_value.specs.declared.scalar.Scalar.{Scalar}
-use Rattle.lq_security.specs.Visible.{Asked, holds_on, rule_for}
+use Rattle.lq_security.specs.Visible.{RowForUser, holds_on, rule_for}
 use Rattle.lq_security.specs.declared.policy.Action.{Action}
 use Rattle.lq_security.specs.declared.policy.Action.TheVariants as action
 use Rattle.lq_security.specs.declared.policy.Policy.{Policy}
@@ -22,7 +22,7 @@ abbrev pub columns_at : List TablePart → ℕ → List (List ℕ)
 columns_at tables table = columns_of (slice_get tables table)
 
 -- a row of the table with this number, for the role of a name
-abbrev pub asked_at : List TablePart → ℕ → List Scalar → List ℕ → Asked
+abbrev pub asked_at : List TablePart → ℕ → List Scalar → List ℕ → RowForUser
 asked_at tables table cells user = record { user = user; columns = columns_at tables table; cells = cells }
 
 -- whether there is a prepared rule that is true on a row for the role of a name

@@ -8,12 +8,11 @@ ghost use Rattle.lq_policy.specs.Rules.{are_rules_total};
 
 use crate::access::{Access, RoleId};
 use crate::admission::Admission;
-use crate::error::PolicyError;
 use crate::guard::{Guard, guards, rule_at};
-use crate::role_rights::RoleRights;
 use crate::role_set::{RoleSet, goes_by, memberships};
 use crate::row_and_user::RowAndUser;
 use crate::row_rules::{RowRules, Ruled, Verdict};
+use crate::{error, role_rights};
 use lq_language::HostName;
 use lq_rule::PreparedRule;
 use lq_security::{Action, Policy, PolicyParts};
@@ -33,7 +32,7 @@ pub struct Policies {
     /// For each policy, its rules, prepared.
     guards: Vec<Guard>,
     /// What the role may use that was prepared last.
-    pub(crate) rights: Option<RoleRights>,
+    pub(crate) rights: Option<role_rights::RoleRights>,
 }
 
 impl Model for Policies {
@@ -94,7 +93,10 @@ impl Policies {
 
     /// Policies of these parts, which they keep. Where there is no memory the parts are handed
     /// back as they were. Each rule is total, as `are_rules_total` decides.
-    pub fn build(alloc: Global, parts: PolicyParts) -> Result<Policies, (PolicyError, PolicyParts)>
+    pub fn build(
+        alloc: Global,
+        parts: PolicyParts,
+    ) -> Result<Policies, (error::PolicyError, PolicyParts)>
         requires { are_rules_total parts.policies ≡ true }
         ensures ok { IfOk result (λ policies. policies ≡ parts) }
         ensures err { IfErr result (λ error. error.1 ≡ parts) }
@@ -106,7 +108,7 @@ impl Policies {
                 guards,
                 rights: None,
             }),
-            Err(AllocError) => Err((PolicyError::Memory, parts)),
+            Err(AllocError) => Err((error::PolicyError::Memory, parts)),
         }
     }
 

@@ -1,21 +1,15 @@
 //! Policy files.
-ghost use Rattle.std.specs.Prelude.{◌≡◌, [], option_map, true, IfOk, OnOk};
+ghost use Rattle.std.specs.Prelude.{◌≡◌, option_map, true, IfOk};
 ghost use Rattle.toml.specs.View.{table_view};
 ghost use Rattle.lq_host.specs.Hosts.{hosts_of};
 ghost use Rattle.lq_language.specs.Worlds.{known_predicates};
 ghost use Rattle.lq_policy.specs.Rules as totals;
-ghost use Rattle.lq_policyfile.specs.Duplicates.{are_new};
-ghost use Rattle.lq_policyfile.specs.File.{document_of, of_document, parts_in, policies_in, refusal_of};
-ghost use Rattle.lq_policyfile.specs.Names.{role_names};
-ghost use Rattle.lq_policyfile.specs.Outcome.{Answers, Refuses};
-ghost use Rattle.lq_policyfile.specs.RuleChecks as rules;
+ghost use Rattle.lq_policyfile.specs.File.{document_of, of_document, parts_in, policies_in};
+ghost use Rattle.lq_policyfile.specs.Outcome.{Answers};
 
 use crate::entry::FileEntries;
 use crate::error::PolicyFileError;
-use crate::parts::parts_of;
-use crate::rule_checks::{are_rules_total, are_rules_typed};
-use crate::shape::entries_of;
-use crate::{duplicates, names};
+use crate::{parts, refusals, shape};
 use lq_host::HostSet;
 use lq_language::{HostName, host_names};
 use lq_policy::{Policies, PolicyError};
@@ -27,33 +21,6 @@ use toml::Table;
 
 /// The most bytes that a policy file has.
 pub const MOST_BYTES: usize = 1_048_576;
-
-/// Refuses entries with the least refusal that applies.
-#[tactic(auto, unfolding(crate::specs::File::refusal_of))]
-fn check(
-    alloc: Global,
-    store: &Store,
-    hosts: &[HostName],
-    file: &FileEntries,
-) -> Result<(), PolicyFileError>
-    ensures refusal { Refuses (refusal_of store.now hosts.now file.now) result }
-    ensures distinct { OnOk result (are_new [] (role_names file.now.roles) ≡ true) }
-    ensures total { OnOk result (rules.are_rules_total file.now.policies ≡ true) }
-{
-    if !names::are_names_known(alloc, store, hosts, file)? {
-        return Err(PolicyFileError::UnknownName);
-    }
-    if !duplicates::has_no_duplicates(alloc, file)? {
-        return Err(PolicyFileError::Duplicate);
-    }
-    if !are_rules_typed(store, hosts, file.policies.as_slice()) {
-        return Err(PolicyFileError::RuleType);
-    }
-    if !are_rules_total(file.policies.as_slice()) {
-        return Err(PolicyFileError::RuleNotTotal);
-    }
-    Ok(())
-}
 
 /// What the entries of a file mean.
 #[tactic(auto, using(crate::proofs::FileLemmas::total_parts))]
@@ -67,8 +34,8 @@ fn parts_in(
     ensures total { IfOk result (λ parts. totals.are_rules_total parts.policies ≡ true) }
     ensures predicates { IfOk result (λ parts. parts.predicates ≡ hosts) }
 {
-    check(alloc, store, hosts.as_slice(), &file)?;
-    Ok(parts_of(alloc, store, hosts, file)?)
+    refusals::check(alloc, store, hosts.as_slice(), &file)?;
+    Ok(parts::parts_of(alloc, store, hosts, file)?)
 }
 
 /// The tree of a TOML document in UTF-8; None where the bytes aren't such a document.
@@ -100,7 +67,7 @@ fn parts_of_bytes(
     let Some(tree) = document(alloc, bytes)? else {
         return Err(PolicyFileError::Toml);
     };
-    let file = entries_of(alloc, &tree)?;
+    let file = shape::entries_of(alloc, &tree)?;
     parts_in(alloc, store, hosts, file)
 }
 

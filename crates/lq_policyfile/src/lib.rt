@@ -15,6 +15,7 @@ pub mod file_laws;
 mod name_set;
 mod names;
 mod parts;
+mod refusals;
 mod right_uses;
 mod rights;
 mod rule_checks;

@@ -57,7 +57,7 @@ fn are_tables_known(store: &Store, tables: &[TableEntry]) -> bool
 }
 
 /// The columns of the table of this name, none where it isn't there.
-#[tactic(auto, using(crate::proofs::RightLemmas::few_columns))]
+#[tactic(auto, using(lq_store::proofs::KeptTableLaws::few_columns))]
 pub(crate) fn columns_of<'a>(store: &'a Store, table: &str) -> &'a [Column]
     ensures columns { result.now ≡ columns_of store.now table.now }
     ensures few { length result.now ≤ 100 }

@@ -1,12 +1,10 @@
 -- Lemmas on the rows that tables give, one table after another.
-use Rattle.std.proofs.Common.{◌≡◌, ◌≤◌, ◌<◌, ◌+◌, ◌++◌, ◌∷◌, ◌&&◌, ℕ, List, [], Bool, true, Option, Some, None, IfSome, OnOk, Result, Ok, Err, length, drop, option_map, slice_get, nat_le, map, get_or, ap, ap₂, refl, sym, subst, ◌∙◌, append_assoc, arith}
-use Rattle.std.proofs.lemmas.Bool.{and_parts, leb-true}
+use Rattle.std.proofs.Common.{◌≡◌, ◌+◌, ◌++◌, ◌∷◌, ℕ, List, [], Option, Some, None, OnOk, Result, Ok, Err, drop, option_map, slice_get, ap, ap₂, refl, sym, ◌∙◌, append_assoc}
 use Rattle.std.proofs.lemmas.List.{drop_more}
 use Rattle.std.proofs.lemmas.Option.{get_or_from_slice_get, slice_get_within}
 use Rattle.lq_value.specs.Tables.{Table}
 use Rattle.lq_value.specs.declared.table.Row.{Row}
 use Rattle.lq_value.specs.declared.table.Schema.{Schema}
-use Rattle.lq_store.specs.Rules.{IsTable, are_distinct}
 use Rattle.lq_run.specs.States.{SessionState}
 use Rattle.lq_render.specs.declared.grid.Cell.{Cell}
 use Rattle.lq_prompt.specs.Rights as rights
@@ -16,17 +14,6 @@ use Rattle.lq_prompt.specs.Tables as tables
 from_number : (ts : List Table) (n : ℕ) (t : Table) → slice_get ts n ≡ Some t → drop n ts ≡ t ∷ drop (n + 1) ts
 from_number ts n t is =
     drop_more ts n t (slice_get_within ts n t is) ∙ ap (λ (x : Table). x ∷ drop (n + 1) ts) (get_or_from_slice_get ts n t t is)
-
--- the columns of a table are few
-pub few_columns : (found : Option Table) (schema : Schema) → option_map (λ t. t.schema) found ≡ Some schema → IfSome found IsTable → length schema.columns ≤ 100
-few_columns None schema is table = absurd cc
-few_columns (Some t) schema is table =
-    let same : t.schema ≡ schema = cc in
-    let n = length t.schema.columns in
-    let most = and_parts (nat_le 1 n && nat_le n 100 && are_distinct (map (λ column. column.name) t.schema.columns)) _ table.rules in
-    let bounds = and_parts (nat_le 1 n && nat_le n 100) _ most.0 in
-    let few : n ≤ 100 = leb-true n 100 (and_parts (nat_le 1 n) (nat_le n 100) bounds.0).1 in
-    subst (λ (s : Schema). length s.columns ≤ 100) same few
 
 -- the table of this number, of which the schema is known
 record TableAt (ts : List Table) (n : ℕ) (schema : Schema) : Type 0 where

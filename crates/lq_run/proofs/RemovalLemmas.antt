@@ -67,10 +67,10 @@ module _ (s : State) (tables : List (TableRows SeenRow)) (seen : AreSeen s table
         let schema_there : slice_get (schemas_of s.tables) n ≡ Some table.schema =
         slice_get-map (λ (t : Table). t.schema) s.tables n ∙ ap (option_map (λ (t : Table). t.schema)) there in
         every_map (λ row. HaveTypes table.schema.columns row.cells) (HasCells (world s) n) (λ row. record { table = n; row = row })
-        (λ row fit. column_by s (typed_tables s.tables seen.kept) fault.NullReference n table row schema_there fit)
+        (λ row fit. column_by s (typed_tables s.tables seen.are_tables) fault.NullReference n table row schema_there fit)
         (filter (λ row. visible_to s.policies s.role action.Delete n row.cells) table.rows)
         (every_filter (λ row. HaveTypes table.schema.columns row.cells) (λ row. visible_to s.policies s.role action.Delete n row.cells) table.rows
-        (typed_tables s.tables seen.kept n table there))
+        (typed_tables s.tables seen.are_tables n table there))
 
     -- what the machine asks of a row is the condition
     asked : World TableRow → TableRow → Result Bool Fault
@@ -80,7 +80,7 @@ module _ (s : State) (tables : List (TableRows SeenRow)) (seen : AreSeen s table
     unfolding asked
     same_condition r cells =
         ap (λ (found : Result (Value TableRow) Fault). on_scalar (world s) found (truth_of (world s).unknown))
-        (sym (condition_means s seen.kept seen.defined x n e tree is r cells))
+        (sym (condition_means s seen.are_tables seen.defined x n e tree is r cells))
 
     chosen_same : removed_items s x e n table.rows ≡ where_by (holds_on (world s) tree.form) (removable s n table.rows) end.Done
     unfolding asked

@@ -117,7 +117,7 @@ module _ (s : State) where
     tree_reply e tree is =
         by_layer tree.ty (out-Ty tree.ty) (form_meaning (world s) tree.form []) refl
         ∙ ap (λ (o : Option Ty). served (world s) o (form_meaning (world s) tree.form [])) (sym (type_served e tree is))
-        ∙ ap (served (world s) (served_type (names_in s) e)) (tree_means s seen.kept seen.defined e tree is)
+        ∙ ap (served (world s) (served_type (names_in s) e)) (tree_means s seen.are_tables seen.defined e tree is)
         ∙ ap (λ (w : World TableRow). served w (served_type (names_in s) e) (expression_meaning (world_in s) e [])) (sym (is_world s))
 
     -- so a run's line is the machine's

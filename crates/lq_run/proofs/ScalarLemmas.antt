@@ -67,7 +67,7 @@ module _ (s : State) where
     expression_means : (e : Expr) → tree_in s e ≡ Some tree → (m : Result (Value SeenRow) Fault) → form_meaning (read s tables seen) tree.form [] ≡ m
         → expression_meaning (world_in s) e [] ≡ result_map (mapped shown_row) m
     expression_means e is m found =
-        sym (tree_means s seen.kept seen.defined e tree is) ∙ means_alike shown_row (read s tables seen) (world s) (over s tables seen) tree.form []
+        sym (tree_means s seen.are_tables seen.defined e tree is) ∙ means_alike shown_row (read s tables seen) (world s) (over s tables seen) tree.form []
         ∙ ap (result_map (mapped shown_row)) found
 
     pub yields_fault : (f : Fault) (why : Stop) → form_meaning (read s tables seen) tree.form [] ≡ Err f → StopsWith (fault_data f) why
@@ -92,7 +92,7 @@ module _ (s : State) where
         let means = expression_means e is (Ok v) found in
         let plain =
         plain_value (world s) tree.ty (mapped shown_row v) (scalar_plain (out-Ty tree.ty) typed)
-        (tree_values s seen.kept seen.defined e tree is (mapped shown_row v) (tree_means s seen.kept seen.defined e tree is ∙ means)) in
+        (tree_values s seen.are_tables seen.defined e tree is (mapped shown_row v) (tree_means s seen.are_tables seen.defined e tree is ∙ means)) in
         let other : out-Value TableRow (mapped shown_row v) ≡ Value-F.Scalar plain.0 = ap (out-Value TableRow) plain.1 ∙ outs-Scalar plain.0 in
         let same : plain.0 ≡ scalar = cc in (
           λ next. ap (with_value s next) means ∙ ap (with_scalar s next) layer,

@@ -67,7 +67,7 @@ all_seen n s seen tables all is many defined schemas rows kept =
     record {
       schemas = schemas ∙ ap schemas_of (take_all n s.tables all);
       rows = ap (map (map shown_row)) (rows ∙ ap row_lists (take_all n seen (omega (arith, all, many)))) ∙ map-map (map shown_row) (λ rows. rows.items) seen ∙ is;
-      kept = kept_all n s.tables kept all;
+      are_tables = kept_all n s.tables kept all;
       defined = defined;
     }
 

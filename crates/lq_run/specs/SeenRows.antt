@@ -46,5 +46,5 @@ row_lists seen = map (λ rows. rows.items) seen
 pub record AreSeen (s : State) (tables : List (TableRows SeenRow)) : Type 0 where
   pub schemas : schemas_in tables ≡ schemas_of s.tables
   pub rows : map (map shown_row) (rows_in tables) ≡ seen_by_role s
-  pub kept : Every IsTable s.tables
+  pub are_tables : Every IsTable s.tables
   pub defined : AreDefined (schemas_of s.tables) (host_names s) s.definitions

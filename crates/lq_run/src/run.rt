@@ -6,13 +6,11 @@ ghost use Rattle.lq_run.specs.Replies.{ServesTree};
 ghost use Rattle.lq_run.specs.States.{AreKnown, state_with};
 ghost use Rattle.lq_run.specs.Stops.{IsAnswered};
 
-use crate::denials::check_rights;
-use crate::reply::tree_line;
 use crate::seen::seen_tables;
 use crate::state::State;
 use crate::stop::{Stop, refusal};
 use crate::tables::with_rows;
-use crate::trees::tree_of;
+use crate::{denials, reply, trees};
 use lq_grammar::Expr;
 use lq_host::Asks;
 use lq_json::Line;
@@ -34,7 +32,7 @@ fn seen_line<H: Asks>(
 {
     let seen = seen_tables(alloc, state)?;
     let tables = with_rows(alloc, state, seen.as_slice())?;
-    tree_line(alloc, state.store(), tree, tables.as_slice(), hosts)
+    reply::tree_line(alloc, state.store(), tree, tables.as_slice(), hosts)
 }
 
 /// The line that `run` of an expression is answered, where what the statement opens is within the limits of opening: the
@@ -52,11 +50,11 @@ pub fn run_line<H: Asks>(
     requires known { AreKnown (H.known hosts.now) state.now }
     ensures { IsAnswered (run_in (state_with (H.known hosts.now) state.now) expr.now) result }
 {
-    let tree = tree_of(alloc, expr, opened, state)?;
+    let tree = trees::tree_of(alloc, expr, opened, state)?;
     if !has_place(ty(&tree)) {
         return Err(refusal(alloc, "type"));
     }
     let used = uses(alloc, &tree, state.store(), true)?;
-    check_rights(alloc, used.as_slice(), state)?;
+    denials::check_rights(alloc, used.as_slice(), state)?;
     Ok(seen_line(alloc, &tree, state, hosts)?)
 }

@@ -74,7 +74,7 @@ impl State {
     /// The tables.
     pub fn store(&self) -> &Store
         ensures value { result.now ≡ self.now.tables }
-        ensures kept { AreDefined (schemas_of self.now.tables) self.now.policies.predicates
+        ensures defined { AreDefined (schemas_of self.now.tables) self.now.policies.predicates
             self.now.definitions }
     {
         &self.store
@@ -104,7 +104,7 @@ impl State {
     /// What is defined, the oldest first.
     pub fn definitions(&self) -> &[Definition]
         ensures value { result.now ≡ self.now.definitions }
-        ensures kept { AreDefined (schemas_of self.now.tables) self.now.policies.predicates
+        ensures defined { AreDefined (schemas_of self.now.tables) self.now.policies.predicates
             self.now.definitions }
     {
         self.definitions.as_slice()

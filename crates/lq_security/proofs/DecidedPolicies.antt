@@ -2,7 +2,7 @@
 use Rattle.std.specs.Prelude.{◌≡◌, ◌∷◌, ◌++◌, List, ℕ, true, false, Some, codes, slice_get}
 use Rattle.std.specs.List.{Contains}
 use Rattle.lq_value.specs.declared.scalar.Scalar.{Scalar}
-use Rattle.lq_security.specs.Visible.{Applies, Asked, HasRule, rule_holds}
+use Rattle.lq_security.specs.Visible.{Applies, RowForUser, HasRule, rule_holds}
 use Rattle.lq_security.specs.declared.policy.Action.{Action}
 use Rattle.lq_security.specs.declared.policy.Action.TheVariants as action
 use Rattle.lq_security.specs.declared.policy.Policy.{Policy}
@@ -11,15 +11,15 @@ use Rattle.lq_security.specs.declared.policy.Role.{Role}
 use Rattle.lq_security.specs.declared.policy.TablePart.{TablePart}
 use Rattle.lq_grammar.specs.declared.syntax.Expr.{Expr}
 
-abbrev pub IsTrueOn : Asked → Expr → Type 0
+abbrev pub IsTrueOn : RowForUser → Expr → Type 0
 IsTrueOn asked rule = rule_holds asked.columns rule asked.cells asked.user ≡ true
 
-pub record IsSatisfied (act : Action) (asked : Asked) (policy : Policy) : Type 0 where
+pub record IsSatisfied (act : Action) (asked : RowForUser) (policy : Policy) : Type 0 where
   pub rule : Expr
   pub has : HasRule act policy rule
   pub true_on : IsTrueOn asked rule
 
-pub record IsAdmitted (parts : PolicyParts) (role : ℕ) (act : Action) (table : ℕ) (asked : Asked) : Type 0 where
+pub record IsAdmitted (parts : PolicyParts) (role : ℕ) (act : Action) (table : ℕ) (asked : RowForUser) : Type 0 where
   pub permitting : Policy
   pub among : Contains parts.policies permitting
   pub permissive : permitting.restrictive ≡ false
@@ -28,7 +28,7 @@ pub record IsAdmitted (parts : PolicyParts) (role : ℕ) (act : Action) (table :
   pub unrestricted : (policy : Policy) → Contains parts.policies policy → policy.restrictive ≡ true → Applies parts.roles role act table policy
       → IsSatisfied act asked policy
 
-pub data Admits (parts : PolicyParts) (role : ℕ) (table : ℕ) (asked : Asked) : Action → Type 0 where
+pub data Admits (parts : PolicyParts) (role : ℕ) (table : ℕ) (asked : RowForUser) : Action → Type 0 where
   read : IsAdmitted parts role action.Select table asked → Admits parts role table asked action.Select
   put_in : IsAdmitted parts role action.Insert table asked → Admits parts role table asked action.Insert
   removed : IsAdmitted parts role action.Select table asked → IsAdmitted parts role action.Delete table asked → Admits parts role table asked action.Delete
@@ -41,12 +41,12 @@ pub data IsVisible (parts : PolicyParts) (role : ℕ) (act : Action) (table : �
       → Admits parts role table (record { user = asking.name; columns = part.columns; cells = cells }) act
       → IsVisible parts role act table cells
 
-abbrev pub IsUnpermitted : PolicyParts → ℕ → ℕ → Asked → Type 0
+abbrev pub IsUnpermitted : PolicyParts → ℕ → ℕ → RowForUser → Type 0
 IsUnpermitted parts role table asked =
     (policy : Policy) → Contains parts.policies policy → policy.restrictive ≡ false → Applies parts.roles role action.Insert table policy
     → IsSatisfied action.Insert asked policy → ⊥
 
-pub record IsFirstRefusing (parts : PolicyParts) (role : ℕ) (table : ℕ) (asked : Asked) (refusing : Policy) : Type 0 where
+pub record IsFirstRefusing (parts : PolicyParts) (role : ℕ) (table : ℕ) (asked : RowForUser) (refusing : Policy) : Type 0 where
   pub front : List Policy
   pub rest : List Policy
   pub split : parts.policies ≡ front ++ refusing ∷ rest
@@ -56,7 +56,7 @@ pub record IsFirstRefusing (parts : PolicyParts) (role : ℕ) (table : ℕ) (ask
   pub first : (policy : Policy) → Contains front policy → policy.restrictive ≡ true → Applies parts.roles role action.Insert table policy
       → IsSatisfied action.Insert asked policy
 
-pub data IsRefusedBy (parts : PolicyParts) (role : ℕ) (table : ℕ) (asked : Asked) : List ℕ → Type 0 where
+pub data IsRefusedBy (parts : PolicyParts) (role : ℕ) (table : ℕ) (asked : RowForUser) : List ℕ → Type 0 where
   default : IsUnpermitted parts role table asked → IsRefusedBy parts role table asked (codes "default-deny")
   restriction : (permitting : Policy) → Contains parts.policies permitting → permitting.restrictive ≡ false
       → Applies parts.roles role action.Insert table permitting → IsSatisfied action.Insert asked permitting

@@ -6,7 +6,7 @@ use Rattle.lq_value.specs.declared.scalar.Scalar.{Scalar}
 use Rattle.lq_security.proofs.MembershipLaws.{has_cases, has_first, has_later, none_in_nil}
 use Rattle.lq_security.proofs.PolicyLemmas.{allows_by_parts, allows_parts, applies_where_found, asked_by, found_where_it_applies, not_true, permitting_one, some_permit, told_where_visible, visible_where_told}
 use Rattle.lq_security.proofs.DecidedPolicies.{IsFirstRefusing, IsRefusedBy, IsVisible, default, restriction}
-use Rattle.lq_security.specs.Visible.{Asked, admit, allows, applies, applying, first_refusing, is_admitted, permits, admitted_to, refuser_among, refuser_for, refuser_in, refuser_of, visible_to}
+use Rattle.lq_security.specs.Visible.{RowForUser, admit, allows, applies, applying, first_refusing, is_admitted, permits, admitted_to, refuser_among, refuser_for, refuser_in, refuser_of, visible_to}
 use Rattle.lq_security.specs.declared.policy.Action.TheVariants as action
 use Rattle.lq_security.specs.declared.policy.Policy.{Policy}
 use Rattle.lq_security.specs.declared.policy.PolicyParts.{PolicyParts}
@@ -24,7 +24,7 @@ none_where_no_refuser None h = refl
 none_where_no_refuser (Some name) h = absurd (cc)
 
 -- all policies allow the row where none refuses it first
-all_where_none_refuses : (asked : Asked) (policies : List Policy) → list_all (allows action.Insert asked) policies ≡ no_refuser (first_refusing asked policies)
+all_where_none_refuses : (asked : RowForUser) (policies : List Policy) → list_all (allows action.Insert asked) policies ≡ no_refuser (first_refusing asked policies)
 all_where_none_refuses asked [] = refl
 all_where_none_refuses asked (policy ∷ policies) = by (allows action.Insert asked policy) (all_where_none_refuses asked policies) where
   by : (b : Bool) → list_all (allows action.Insert asked) policies ≡ no_refuser (first_refusing asked policies)
@@ -32,7 +32,7 @@ all_where_none_refuses asked (policy ∷ policies) = by (allows action.Insert as
   by true rest = rest
   by false rest = refl
 
-admitted_where_none_refuses : (policies : List Policy) (asked : Asked) → admit action.Insert policies asked ≡ no_refuser (refuser_among policies asked)
+admitted_where_none_refuses : (policies : List Policy) (asked : RowForUser) → admit action.Insert policies asked ≡ no_refuser (refuser_among policies asked)
 admitted_where_none_refuses policies asked = by (list_any (permits action.Insert asked) policies) where
   by : (b : Bool) → (b && list_all (allows action.Insert asked) policies) ≡ no_refuser (if b then first_refusing asked policies else Some (codes "default-deny"))
   by true = all_where_none_refuses asked policies
@@ -71,7 +71,7 @@ accepts_decided parts role table cells = (
 
 -- ---- the first that refuses
 
-module _ (asked : Asked) (test : Policy → Bool) where
+module _ (asked : RowForUser) (test : Policy → Bool) where
   -- the first policy that passes the test and doesn't allow the row
   abbrev IsFirst : List Policy → Policy → List Policy → Type 0
   IsFirst front refusing rest = (test refusing ≡ true) × (allows action.Insert asked refusing ≡ false) × ((policy : Policy) → Contains front policy → test policy ≡ true → allows action.Insert asked policy ≡ true)
@@ -117,7 +117,7 @@ not_allowed : (b : Bool) (holds : Bool) → (not b || holds) ≡ false → b ≡
 not_allowed true holds h = refl
 not_allowed false holds h = absurd (cc)
 
-module _ (parts : PolicyParts) (role table : ℕ) (asked : Asked) where
+module _ (parts : PolicyParts) (role table : ℕ) (asked : RowForUser) where
   abbrev bears : Policy → Bool
   bears = applies parts.roles role action.Insert table
 
@@ -167,7 +167,7 @@ pub tells_decided : (parts : PolicyParts) (role table : ℕ) (part : TablePart) 
     → (refuser_of parts role table cells ≡ Some name) ↔ IsRefusedBy parts role table (asked_by asking part cells) name
 unfolding refuser_of
 tells_decided parts role table part asking is secured some bound cells name = (λ h. refused_where_told parts role table asked name (sym same ∙ h), λ refused. same ∙ told_where_refused parts role table asked name refused) where
-  asked : Asked
+  asked : RowForUser
   asked = asked_by asking part cells
 
   same : refuser_of parts role table cells ≡ refuser_among (applying parts role action.Insert table) asked

@@ -12,7 +12,7 @@ use Rattle.lq_value.specs.declared.scalar.Scalar.{Scalar}
 use Rattle.lq_security.proofs.MembershipLaws.{has_cases, has_later, has_where_kept, kept_where_it_passes, tells_memberships}
 use Rattle.lq_security.specs.PolicyLaws.{HasOneMore, IsDeniedByDefault, IsDeniedToStrangers, IsOpenToBypass, IsOpenWithoutSecurity, LacksPermission, NarrowsByRestriction, ReadsWhatItRemoves, WidensByPermission}
 use Rattle.lq_security.proofs.DecidedPolicies.{Admits, read, put_in, removed, IsAdmitted, IsSatisfied, IsVisible, unsecured, bypassing, admitted}
-use Rattle.lq_security.specs.Visible.{Applies, Asked, GoesBy, HasRule, using, check, using_for_check, IsFor, every, this, IsListed, all, named, admitted_by, admitted_for, admitted_to, allows, applies, applying, check_or_using, goes_by, holds_on, is_admitted, is_listed, is_named, is_same_action, permits, rule_for, visible_to}
+use Rattle.lq_security.specs.Visible.{Applies, RowForUser, GoesBy, HasRule, using, check, using_for_check, IsFor, every, this, IsListed, all, named, admitted_by, admitted_for, admitted_to, allows, applies, applying, check_or_using, goes_by, holds_on, is_admitted, is_listed, is_named, is_same_action, permits, rule_for, visible_to}
 use Rattle.lq_security.specs.declared.policy.Action.{Action}
 use Rattle.lq_security.specs.declared.policy.Action.TheVariants as action
 use Rattle.lq_security.specs.declared.policy.Policy.{Policy}
@@ -138,7 +138,7 @@ found_where_rule act policy rule (using other is) = rule_of_others act policy ot
 found_where_rule act policy rule (check same is) = ap (λ a. rule_for a policy) same ∙ ap (λ own. check_or_using own policy.using) is
 found_where_rule act policy rule (using_for_check same none is) = ap (λ a. rule_for a policy) same ∙ ap (λ own. check_or_using own policy.using) none ∙ is
 
-module _ (act : Action) (asked : Asked) (policy : Policy) where
+module _ (act : Action) (asked : RowForUser) (policy : Policy) where
   pub satisfied_where_it_holds : holds_on asked (rule_for act policy) ≡ true → IsSatisfied act asked policy
   satisfied_where_it_holds h = by (rule_for act policy) refl h where
     by : (o : Option Expr) → rule_for act policy ≡ o → holds_on asked o ≡ true → IsSatisfied act asked policy
@@ -170,7 +170,7 @@ module _ (act : Action) (asked : Asked) (policy : Policy) where
 
 -- ---- rows that are admitted
 
-module _ (parts : PolicyParts) (role table : ℕ) (asked : Asked) (act : Action) where
+module _ (parts : PolicyParts) (role table : ℕ) (asked : RowForUser) (act : Action) where
   among_applying : (policy : Policy) → Contains parts.policies policy → Applies parts.roles role act table policy → Contains (applying parts role act table) policy
   among_applying policy has is = kept_where_it_passes (applies parts.roles role act table) parts.policies policy has (found_where_it_applies parts.roles role act table policy is)
 
@@ -212,7 +212,7 @@ module _ (parts : PolicyParts) (role table : ℕ) (asked : Asked) (act : Action)
       and_from (list_any (permits act asked) (applying parts role act table)) (list_all (allows act asked) (applying parts role act table))
       (some_permit is.permitting is.among is.permissive is.applying is.permitted) (all_allow is.unrestricted)
 
-module _ (parts : PolicyParts) (role table : ℕ) (asked : Asked) where
+module _ (parts : PolicyParts) (role table : ℕ) (asked : RowForUser) where
   admits_where_told : (act : Action) → admitted_for parts role act table asked ≡ true → Admits parts role table asked act
   admits_where_told action.Select h = read (admitted_where_told parts role table asked action.Select h)
   admits_where_told action.Insert h = put_in (admitted_where_told parts role table asked action.Insert h)
@@ -234,7 +234,7 @@ module _ (parts : PolicyParts) (role table : ℕ) (asked : Asked) where
 
 -- ---- visible rows
 
-abbrev pub asked_by : Role → TablePart → List Scalar → Asked
+abbrev pub asked_by : Role → TablePart → List Scalar → RowForUser
 asked_by asking part cells = record { user = asking.name; columns = part.columns; cells = cells }
 
 module _ (parts : PolicyParts) (role : ℕ) (act : Action) (table : ℕ) (cells : List Scalar) where
@@ -310,7 +310,7 @@ is_open_to_bypass parts role act table part asking is some bypasses cells = told
 
 pub reads_what_it_removes : ReadsWhatItRemoves
 reads_what_it_removes parts role table cells told = told_where_visible parts role action.Select table cells (seen (visible_where_told parts role action.Delete table cells told)) where
-  seen_too : (asked : Asked) (act : Action) → act ≡ action.Delete → Admits parts role table asked act → Admits parts role table asked action.Select
+  seen_too : (asked : RowForUser) (act : Action) → act ≡ action.Delete → Admits parts role table asked act → Admits parts role table asked action.Select
   seen_too asked act is (read admits) = absurd (cc)
   seen_too asked act is (put_in admits) = absurd (cc)
   seen_too asked act is (removed seen admits) = read seen
@@ -322,8 +322,8 @@ reads_what_it_removes parts role table cells told = told_where_visible parts rol
 
 -- what some policies admit, others do
 module _ (here there : PolicyParts) (role : ℕ) (table : ℕ) (cells : List Scalar) (roles : here.roles ≡ there.roles) (tables : here.tables ≡ there.tables)
-    (admit_too : (asked : Asked) (act : Action) → IsAdmitted here role act table asked → IsAdmitted there role act table asked) where
-  admits_too : (asked : Asked) (act : Action) → Admits here role table asked act → Admits there role table asked act
+    (admit_too : (asked : RowForUser) (act : Action) → IsAdmitted here role act table asked → IsAdmitted there role act table asked) where
+  admits_too : (asked : RowForUser) (act : Action) → Admits here role table asked act → Admits there role table asked act
   admits_too asked act (read is) = read (admit_too asked action.Select is)
   admits_too asked act (put_in is) = put_in (admit_too asked action.Insert is)
   admits_too asked act (removed seen is) = removed (admit_too asked action.Select seen) (admit_too asked action.Delete is)
@@ -361,7 +361,7 @@ module _ (fewer more : PolicyParts) (policy : Policy) (one : HasOneMore fewer mo
   applies_to_more role act table p = subst (λ roles. Applies roles role act table p) (sym one.roles)
 
   -- the one more is restrictive, so the permitting one is another
-  fewer_admit : policy.restrictive ≡ true → (role : ℕ) (act : Action) (table : ℕ) (asked : Asked) → IsAdmitted more role act table asked → IsAdmitted fewer role act table asked
+  fewer_admit : policy.restrictive ≡ true → (role : ℕ) (act : Action) (table : ℕ) (asked : RowForUser) → IsAdmitted more role act table asked → IsAdmitted fewer role act table asked
   fewer_admit restrictive role act table asked is =
       let permissive = is.permissive in
       record {
@@ -373,7 +373,7 @@ module _ (fewer more : PolicyParts) (policy : Policy) (one : HasOneMore fewer mo
         unrestricted = λ p has bound applying. is.unrestricted p (had p has) bound (applies_to_more role act table p applying);
       }
 
-  more_admit : policy.restrictive ≡ false → (role : ℕ) (act : Action) (table : ℕ) (asked : Asked) → IsAdmitted fewer role act table asked → IsAdmitted more role act table asked
+  more_admit : policy.restrictive ≡ false → (role : ℕ) (act : Action) (table : ℕ) (asked : RowForUser) → IsAdmitted fewer role act table asked → IsAdmitted more role act table asked
   more_admit permissive role act table asked is = record {
     permitting = is.permitting;
     among = had is.permitting is.among;

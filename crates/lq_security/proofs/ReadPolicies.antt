@@ -15,7 +15,7 @@ use Rattle.lq_language.specs.Worlds.{World}
 use Rattle.lq_security.specs.PolicyLaws.{AcceptsVisible, TellsRefuser, TellsVisible}
 use Rattle.lq_security.specs.RuleLaws.{AreCellsOf, AreReadFor, IsRowOver, IsRuleOver, language_world}
 use Rattle.lq_language.specs.TableRows.{cell_named}
-use Rattle.lq_security.specs.Visible.{Admits, read, put_in, removed, Asked, HasRule, IsAdmitted, IsFirstRefusing, IsRefusedBy, default, restriction, IsSatisfied, IsTrueOn, IsVisible, unsecured, bypassing, admitted, language_scope, refuser_of, rule_holds}
+use Rattle.lq_security.specs.Visible.{Admits, read, put_in, removed, RowForUser, HasRule, IsAdmitted, IsFirstRefusing, IsRefusedBy, default, restriction, IsSatisfied, IsTrueOn, IsVisible, unsecured, bypassing, admitted, language_scope, refuser_of, rule_holds}
 use Rattle.lq_language.specs.Meaning.{expression_meaning}
 use Rattle.lq_security.specs.declared.policy.Action.{Action}
 use Rattle.lq_security.specs.declared.policy.Action.TheVariants as action
@@ -37,7 +37,7 @@ said columns names cells user rule =
     let world : World (List Scalar) = record { schemas = record { name = []; columns = columns } ∷ []; rows = [] ∷ []; predicates = []; session = []; cell = cell_named names; unknown = fault.NullReference } in
     expression_meaning world rule (language_scope cells user)
 
-module _ (columns : List Column) (asked : Asked) (names : asked.columns ≡ map (λ column. column.name) columns) (row : IsRowOver columns asked.cells) where
+module _ (columns : List Column) (asked : RowForUser) (names : asked.columns ≡ map (λ column. column.name) columns) (row : IsRowOver columns asked.cells) where
   says : (rule : Expr) → IsRuleOver columns rule
       → said columns asked.columns asked.cells asked.user rule ≡ Ok (value.Scalar (scalar.Bool (rule_holds asked.columns rule asked.cells asked.user)))
   says rule is =
@@ -187,7 +187,7 @@ tells_refuser schemas parts for role table schema part asking at is secured some
   λ told. refused schema.columns asked names row parts role table rules name (decides.0 told),
   λ by. decides.1 (decided_refused schema.columns asked names row parts role table rules name by),
 ) where
-  asked : Asked
+  asked : RowForUser
   asked = asked_by asking part cells
 
   names : part.columns ≡ map (λ column. column.name) schema.columns

@@ -31,7 +31,7 @@ use Rattle.lq_language.specs.MeaningLaws.{IsScopeOfValues, IsValueOf, by_row, by
 use Rattle.lq_grammar.specs.declared.syntax.Expr.{Expr}
 use Rattle.lq_language.proofs.ItemLaws.{every_more, every_none}
 use Rattle.lq_security.proofs.RuleTypeLaws.{total_alike}
-use Rattle.lq_language.proofs.ServedMeaningLaws.{keeps_meanings}
+use Rattle.lq_language.proofs.KeptMeaningLaws.{keeps_meanings}
 use Rattle.lq_security.proofs.TotalRules.{decides_rules, typed_cell}
 use Rattle.lq_language.proofs.TypingLaws.{type_sound}
 use Rattle.lq_language.proofs.TypedMeaningLaws.{has_language_meaning}

@@ -250,60 +250,60 @@ module _ (tables : List Schema) where
   abbrev in_language : Expr → Option Ty
   in_language e = expression_type e names
 
-  abbrev served : Expr → Option Ty
-  served e = rule_type e names
+  abbrev in_rules : Expr → Option Ty
+  in_rules e = rule_type e names
 
   abbrev IsAlike : Claim → Type 0
-  IsAlike (Total e) = (in_language e ≡ served e) × IsPlain (served e)
-  IsAlike (Sure e) = (in_language e ≡ served e) × AreTexts (served e)
+  IsAlike (Total e) = (in_language e ≡ in_rules e) × IsPlain (in_rules e)
+  IsAlike (Sure e) = (in_language e ≡ in_rules e) × AreTexts (in_rules e)
 
   -- an expression that is this node, which has this type
-  typed_as : (e : Expr) (n : Node Expr) (o : Option Ty) → e ≡ expr.Node n → rule_type (expr.Node n) names ≡ o → served e ≡ o
+  typed_as : (e : Expr) (n : Node Expr) (o : Option Ty) → e ≡ expr.Node n → rule_type (expr.Node n) names ≡ o → in_rules e ≡ o
   typed_as e n o is typed = ap (λ (x : Expr). rule_type x names) is ∙ typed
 
   alike_by : (are : Option Ty → Bool) (e : Expr) (n : Node Expr) (o : Option Ty) → e ≡ expr.Node n → node_type_in n names ≡ o
-      → rule_type (expr.Node n) names ≡ o → are o ≡ true → (in_language e ≡ served e) × (are (served e) ≡ true)
+      → rule_type (expr.Node n) names ≡ o → are o ≡ true → (in_language e ≡ in_rules e) × (are (in_rules e) ≡ true)
   alike_by are e n o is wholly typed found =
       (expression_type_is names e n is ∙ wholly ∙ sym (typed_as e n o is typed), ap are (typed_as e n o is typed) ∙ found)
 
   sure_total : (e : Expr) → IsAlike (Sure e) → IsAlike (Total e)
-  sure_total e sure = (sure.0, texts_plain (served e) sure.1)
+  sure_total e sure = (sure.0, texts_plain (in_rules e) sure.1)
 
   row_alike : (row : Expr) → row ≡ expr.Node (node.Name (codes "row")) → in_language row ≡ Some (ty.Row 0)
   row_alike row is = expression_type_is names row (node.Name (codes "row")) is
 
-  row_served : (row : Expr) → row ≡ expr.Node (node.Name (codes "row")) → served row ≡ Some (ty.Row 0)
-  row_served row is = ap (λ (x : Expr). rule_type x names) is ∙ type_name (codes "row") names
+  row_in_rules : (row : Expr) → row ≡ expr.Node (node.Name (codes "row")) → in_rules row ≡ Some (ty.Row 0)
+  row_in_rules row is = ap (λ (x : Expr). rule_type x names) is ∙ type_name (codes "row") names
 
   column_alike : (e row : Expr) (c : List ℕ) → e ≡ expr.Node (node.Member row c) → row ≡ expr.Node (node.Name (codes "row")) → IsAlike (Total e)
   column_alike e row c is of_row =
       alike_by are_plain e (node.Member row c) (member_type names c (Ty-F.Row 0)) is
       (ap (λ (o : Option Ty). option_and_then (λ t. type_of_member names c (out-Ty t)) o) (row_alike row of_row) ∙ ap (type_of_member names c) (outs-Row 0))
       (type_member row c names
-      ∙ ap (λ (o : Option Ty). option_and_then (λ t. member_type names c (out-Ty t)) o) (row_served row of_row) ∙ ap (member_type names c) (outs-Row 0))
+      ∙ ap (λ (o : Option Ty). option_and_then (λ t. member_type names c (out-Ty t)) o) (row_in_rules row of_row) ∙ ap (member_type names c) (outs-Row 0))
       (plain_member names c (Ty-F.Row 0))
 
-  choice_is : (c a b : Expr) → IsAlike (Total c) → (in_language a ≡ served a) → (in_language b ≡ served b) → IsPlain (served a) → IsPlain (served b)
-      → node_type_in (node.Conditional c a b) names ≡ choice_type (is_bool_type (served c)) (served a) (served b)
+  choice_is : (c a b : Expr) → IsAlike (Total c) → (in_language a ≡ in_rules a) → (in_language b ≡ in_rules b) → IsPlain (in_rules a) → IsPlain (in_rules b)
+      → node_type_in (node.Conditional c a b) names ≡ choice_type (is_bool_type (in_rules c)) (in_rules a) (in_rules b)
   choice_is c a b test left right a_plain b_plain =
-      (λ i. type_of_conditional (is_bool_type (test.0 i)) (left i) (right i)) ∙ choice_alike (is_bool_type (served c)) (served a) (served b) a_plain b_plain
+      (λ i. type_of_conditional (is_bool_type (test.0 i)) (left i) (right i)) ∙ choice_alike (is_bool_type (in_rules c)) (in_rules a) (in_rules b) a_plain b_plain
 
   -- a search in a text, or in what has no type
   search_alike : (a b : Expr) (m : List ℕ) → IsSearch m → IsAlike (Sure a) → IsAlike (Sure b)
-      → node_type_in (node.Method a m (argument.Value b ∷ [])) names ≡ truth_type (is_search m && is_text_type (served a) && is_text_type (served b))
-  search_alike a b m looks left right = (λ i. searched (left.0 i) (right.0 i)) ∙ by (served a) left.1 where
+      → node_type_in (node.Method a m (argument.Value b ∷ [])) names ≡ truth_type (is_search m && is_text_type (in_rules a) && is_text_type (in_rules b))
+  search_alike a b m looks left right = (λ i. searched (left.0 i) (right.0 i)) ∙ by (in_rules a) left.1 where
     searched : Option Ty → Option Ty → Option Ty
     searched o p =
         if is_text_type o then truth_type (is_search m && is_text_type p)
         else called_type (λ (t : Names → Option Ty). t) o (enumerable_call m (argument.Value (expression_type b) ∷ [])) names
 
-    by : (o : Option Ty) → AreTexts o → searched o (served b) ≡ truth_type (is_search m && is_text_type o && is_text_type (served b))
-    by None h = sym (ap (λ (c : Bool). truth_type (c && false && is_text_type (served b))) (search_told looks))
+    by : (o : Option Ty) → AreTexts o → searched o (in_rules b) ≡ truth_type (is_search m && is_text_type o && is_text_type (in_rules b))
+    by None h = sym (ap (λ (c : Bool). truth_type (c && false && is_text_type (in_rules b))) (search_told looks))
     by (Some t) h =
-        ap (λ (c : Bool). if c then truth_type (is_search m && is_text_type (served b))
+        ap (λ (c : Bool). if c then truth_type (is_search m && is_text_type (in_rules b))
         else called_type (λ (u : Names → Option Ty). u) (Some t) (enumerable_call m (argument.Value (expression_type b) ∷ [])) names) h
-        ∙ ap (λ (c : Bool). truth_type (c && is_text_type (served b))) (search_told looks)
-        ∙ sym (ap₂ (λ (c d : Bool). truth_type (c && d && is_text_type (served b))) (search_told looks) h)
+        ∙ ap (λ (c : Bool). truth_type (c && is_text_type (in_rules b))) (search_told looks)
+        ∙ sym (ap₂ (λ (c d : Bool). truth_type (c && d && is_text_type (in_rules b))) (search_told looks) h)
 
   alike : {claim : Claim} → Holds claim → IsAlike claim
   alike (total_integer e n is) = alike_by are_plain e (node.Integer n) (Some ty.Int) is refl (type_integer n names) (plain ty.Int Ty-F.Int outs-Int refl)
@@ -311,64 +311,64 @@ module _ (tables : List Schema) where
   alike (total_truth e b is) = alike_by are_plain e (node.Bool b) (Some ty.Bool) is refl (type_truth b names) (plain ty.Bool Ty-F.Bool outs-Bool refl)
   alike (total_null e is) = alike_by are_plain e node.Null (Some ty.Null) is refl (type_null names) (plain ty.Null Ty-F.Null outs-Null refl)
   alike (total_minus e a n is literal) =
-      alike_by are_plain e (node.Unary unary.Minus a) (if_number (served a)) is (ap if_number (expression_type_is names a (node.Integer _) literal ∙ sym (typed_as a (node.Integer _) (Some ty.Int) literal (type_integer _ names))))
-      (type_minus a names) (plain_number (served a))
+      alike_by are_plain e (node.Unary unary.Minus a) (if_number (in_rules a)) is (ap if_number (expression_type_is names a (node.Integer _) literal ∙ sym (typed_as a (node.Integer _) (Some ty.Int) literal (type_integer _ names))))
+      (type_minus a names) (plain_number (in_rules a))
   alike (total_column e row c is of_row) = column_alike e row c is of_row
   alike (total_user e is) = alike_by are_plain e (node.Name (codes "user")) (Some ty.Str) is refl (type_name (codes "user") names) (plain ty.Str Ty-F.Str outs-Str refl)
   alike (total_not e a is operand) =
-      alike_by are_plain e (node.Unary unary.Not a) (truth_type (is_bool_type (served a))) is (ap (λ (o : Option Ty). truth_type (is_bool_type o)) (alike operand).0) (type_not a names)
-      (plain_truth (is_bool_type (served a)))
+      alike_by are_plain e (node.Unary unary.Not a) (truth_type (is_bool_type (in_rules a))) is (ap (λ (o : Option Ty). truth_type (is_bool_type o)) (alike operand).0) (type_not a names)
+      (plain_truth (is_bool_type (in_rules a)))
   alike (total_and e a b is left right) =
-      alike_by are_plain e (node.And a b) (truth_type (is_bool_type (served a) && is_bool_type (served b))) is
+      alike_by are_plain e (node.And a b) (truth_type (is_bool_type (in_rules a) && is_bool_type (in_rules b))) is
       (ap₂ (λ (o p : Option Ty). truth_type (is_bool_type o && is_bool_type p)) (alike left).0 (alike right).0) (type_both a b names) (plain_truth _)
   alike (total_or e a b is left right) =
-      alike_by are_plain e (node.Or a b) (truth_type (is_bool_type (served a) && is_bool_type (served b))) is
+      alike_by are_plain e (node.Or a b) (truth_type (is_bool_type (in_rules a) && is_bool_type (in_rules b))) is
       (ap₂ (λ (o p : Option Ty). truth_type (is_bool_type o && is_bool_type p)) (alike left).0 (alike right).0) (type_either a b names) (plain_truth _)
   alike (total_comparison e a b op is compares left right) =
       let a_alike = alike left in
       let b_alike = alike right in
-      alike_by are_plain e (node.Binary op a b) (binary_type op (served a) (served b)) is
-      (ap₂ (of_operands (type_of_operation op)) a_alike.0 b_alike.0 ∙ binary_alike op (served a) (served b) a_alike.1 b_alike.1) (type_binary op a b names)
-      (plain_binary op (served a) (served b))
+      alike_by are_plain e (node.Binary op a b) (binary_type op (in_rules a) (in_rules b)) is
+      (ap₂ (of_operands (type_of_operation op)) a_alike.0 b_alike.0 ∙ binary_alike op (in_rules a) (in_rules b) a_alike.1 b_alike.1) (type_binary op a b names)
+      (plain_binary op (in_rules a) (in_rules b))
   alike (total_conditional e c a b is test left right) =
       let a_alike = alike left in
       let b_alike = alike right in
-      alike_by are_plain e (node.Conditional c a b) (choice_type (is_bool_type (served c)) (served a) (served b)) is
+      alike_by are_plain e (node.Conditional c a b) (choice_type (is_bool_type (in_rules c)) (in_rules a) (in_rules b)) is
       (choice_is c a b (alike test) a_alike.0 b_alike.0 a_alike.1 b_alike.1) (type_choice c a b names)
-      (plain_choice (is_bool_type (served c)) (served a) (served b) a_alike.1 b_alike.1)
+      (plain_choice (is_bool_type (in_rules c)) (in_rules a) (in_rules b) a_alike.1 b_alike.1)
   alike (total_coalesce e a b is left right) =
-      alike_by are_plain e (node.Coalesce a b) (of_operands coalesced (served a) (served b)) is (ap₂ (of_operands coalesced) (alike left).0 (alike right).0) (type_coalesce a b names)
-      (plain_coalesce (served a) (served b))
+      alike_by are_plain e (node.Coalesce a b) (of_operands coalesced (in_rules a) (in_rules b)) is (ap₂ (of_operands coalesced) (alike left).0 (alike right).0) (type_coalesce a b names)
+      (plain_coalesce (in_rules a) (in_rules b))
   alike (total_has_value e a is operand) =
       let a_alike = alike operand in
-      alike_by are_plain e (node.Member a (codes "HasValue")) (option_and_then (λ t. member_type names (codes "HasValue") (out-Ty t)) (served a)) is
+      alike_by are_plain e (node.Member a (codes "HasValue")) (option_and_then (λ t. member_type names (codes "HasValue") (out-Ty t)) (in_rules a)) is
       (ap (λ (o : Option Ty). option_and_then (λ t. type_of_member names (codes "HasValue") (out-Ty t)) o) a_alike.0
-      ∙ any_member_alike names (codes "HasValue") (served a) a_alike.1) (type_member a (codes "HasValue") names)
-      (plain_any_member names (codes "HasValue") (served a))
+      ∙ any_member_alike names (codes "HasValue") (in_rules a) a_alike.1) (type_member a (codes "HasValue") names)
+      (plain_any_member names (codes "HasValue") (in_rules a))
   alike (total_division e a b op n is divides left literal) =
       let a_alike = alike left in
-      let b_served = typed_as b (node.Integer _) (Some ty.Int) literal (type_integer _ names) in
-      alike_by are_plain e (node.Binary op a b) (binary_type op (served a) (served b)) is
-      (ap₂ (of_operands (type_of_operation op)) a_alike.0 (expression_type_is names b (node.Integer _) literal ∙ sym b_served)
-      ∙ binary_alike op (served a) (served b) a_alike.1 (ap are_plain b_served ∙ plain ty.Int Ty-F.Int outs-Int refl)) (type_binary op a b names)
-      (plain_binary op (served a) (served b))
+      let b_in_rules = typed_as b (node.Integer _) (Some ty.Int) literal (type_integer _ names) in
+      alike_by are_plain e (node.Binary op a b) (binary_type op (in_rules a) (in_rules b)) is
+      (ap₂ (of_operands (type_of_operation op)) a_alike.0 (expression_type_is names b (node.Integer _) literal ∙ sym b_in_rules)
+      ∙ binary_alike op (in_rules a) (in_rules b) a_alike.1 (ap are_plain b_in_rules ∙ plain ty.Int Ty-F.Int outs-Int refl)) (type_binary op a b names)
+      (plain_binary op (in_rules a) (in_rules b))
   alike (total_search e a b m is looks left right) =
-      alike_by are_plain e (node.Method a m (argument.Value b ∷ [])) (truth_type (is_search m && is_text_type (served a) && is_text_type (served b))) is
+      alike_by are_plain e (node.Method a m (argument.Value b ∷ [])) (truth_type (is_search m && is_text_type (in_rules a) && is_text_type (in_rules b))) is
       (search_alike a b m looks (alike left) (alike right)) (type_method a m (argument.Value b ∷ []) names) (plain_truth _)
   alike (sure_text e x is) = alike_by are_texts e (node.Text x) (Some ty.Str) is refl (type_text x names) (ap is_text outs-Str)
   alike (sure_user e is) = alike_by are_texts e (node.Name (codes "user")) (Some ty.Str) is refl (type_name (codes "user") names) (ap is_text outs-Str)
   alike (sure_coalesce e a b is left right) =
       let b_alike = alike right in
-      alike_by are_texts e (node.Coalesce a b) (of_operands coalesced (served a) (served b)) is (ap₂ (of_operands coalesced) (alike left).0 b_alike.0) (type_coalesce a b names)
-      (texts_coalesce (served a) (served b) b_alike.1)
+      alike_by are_texts e (node.Coalesce a b) (of_operands coalesced (in_rules a) (in_rules b)) is (ap₂ (of_operands coalesced) (alike left).0 b_alike.0) (type_coalesce a b names)
+      (texts_coalesce (in_rules a) (in_rules b) b_alike.1)
   alike (sure_conditional e c a b is test left right) =
       let a_alike = alike left in
       let b_alike = alike right in
-      alike_by are_texts e (node.Conditional c a b) (choice_type (is_bool_type (served c)) (served a) (served b)) is
-      (choice_is c a b (alike test) a_alike.0 b_alike.0 (texts_plain (served a) a_alike.1) (texts_plain (served b) b_alike.1)) (type_choice c a b names)
-      (texts_choice (is_bool_type (served c)) (served a) (served b) a_alike.1 b_alike.1)
+      alike_by are_texts e (node.Conditional c a b) (choice_type (is_bool_type (in_rules c)) (in_rules a) (in_rules b)) is
+      (choice_is c a b (alike test) a_alike.0 b_alike.0 (texts_plain (in_rules a) a_alike.1) (texts_plain (in_rules b) b_alike.1)) (type_choice c a b names)
+      (texts_choice (is_bool_type (in_rules c)) (in_rules a) (in_rules b) a_alike.1 b_alike.1)
 
--- a total expression has one type, or none, whether it is asked for among all types or among those that are served
+-- a total expression has one type, or none, in the language and in the rule language
 pub total_alike : (tables : List Schema) {e : Expr} → IsTotal e
     → expression_type e (record { tables = tables; predicates = []; session = []; locals = rule_locals }) ≡ rule_type e (record { tables = tables; predicates = []; session = []; locals = rule_locals })
 total_alike tables total = (alike tables total).0

@@ -3,7 +3,7 @@ use Rattle.std.proofs.Common.{◌≡◌, ◌∷◌, ◌&&◌, ◌||◌, ◌⊎�
 use Rattle.std.proofs.lemmas.Bool.{and_parts, and_from, le-leb}
 use Rattle.std.proofs.lemmas.Slice.Eq.{bytes_eq-Decides}
 use Rattle.lq_language.specs.Members.{is_search}
-use Rattle.lq_security.specs.Totality.{Claim, Holds, IsSure, IsTotal, Strength, Sure, Told, Total, is_division, is_divisor, is_natural, is_row, is_sure, is_total, strength_of, strength_step, sure_coalesce, sure_conditional, sure_text, sure_user, total_and, total_coalesce, total_column, total_comparison, total_conditional, total_division, total_has_value, total_integer, total_minus, total_not, total_null, total_or, total_search, total_text, total_truth, total_user, total_where}
+use Rattle.lq_security.specs.Totality.{Claim, Holds, IsSure, IsTotal, Strength, Sure, RatedExpr, Total, is_division, is_divisor, is_natural, is_row, is_sure, is_total, strength_of, strength_step, sure_coalesce, sure_conditional, sure_text, sure_user, total_and, total_coalesce, total_column, total_comparison, total_conditional, total_division, total_has_value, total_integer, total_minus, total_not, total_null, total_or, total_search, total_text, total_truth, total_user, total_where}
 use Rattle.lq_security.specs.TotalityLaws.{TellsTotal}
 use Rattle.lq_language.specs.OperandTypes.{is_comparison}
 use Rattle.lq_grammar.specs.declared.syntax.Argument.{Argument}
@@ -25,11 +25,11 @@ use Rattle.lq_language.proofs.MemberLaws.{either_true, search_given, search_told
 
 -- ---- the function, form by form
 
-abbrev told : Expr → Told
-told e = (e, strength_of e)
+abbrev rated : Expr → RatedExpr
+rated e = (e, strength_of e)
 
 abbrev layer_strength : Expr-F Expr → Strength
-layer_strength layer = strength_step (map-Expr Expr Told told layer)
+layer_strength layer = strength_step (map-Expr Expr RatedExpr rated layer)
 
 rolled_strength : (layer : Expr-F Expr) → strength_of (roll-Expr layer) ≡ layer_strength layer
 unfolding strength_of

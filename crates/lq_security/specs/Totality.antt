@@ -88,15 +88,15 @@ abbrev pub total_where : Bool → Strength
 total_where b = record { total = b; sure = false }
 
 -- an expression, and what is said of it
-abbrev pub Told : Type 0
-Told = Expr × Strength
+abbrev pub RatedExpr : Type 0
+RatedExpr = Expr × Strength
 
 -- one argument, which is sure
-abbrev pub is_sure_argument : List (Argument Told) → Bool
+abbrev pub is_sure_argument : List (Argument RatedExpr) → Bool
 is_sure_argument (argument.Value a ∷ []) = a.1.sure
 is_sure_argument arguments = false
 
-abbrev pub node_strength : Node Told → Strength
+abbrev pub node_strength : Node RatedExpr → Strength
 node_strength (node.Integer n) = total_where true
 node_strength (node.Text t) = record { total = true; sure = true }
 node_strength (node.Bool b) = total_where true
@@ -114,7 +114,7 @@ node_strength (node.Conditional c a b) = record { total = c.1.total && a.1.total
 node_strength (node.Method a m arguments) = total_where (is_search m && a.1.sure && is_sure_argument arguments)
 node_strength node = total_where false
 
-abbrev pub strength_step : Expr-F Told → Strength
+abbrev pub strength_step : Expr-F RatedExpr → Strength
 strength_step (Expr-F.Node n) = node_strength n
 strength_step (Expr-F.Query q) = total_where false
 

@@ -92,33 +92,33 @@ rule_for action.Insert policy = check_or_using policy.check policy.using
 rule_for act policy = policy.using
 
 -- a row of a table as rules read it, and the name of the role that asks for it
-pub record Asked : Type 0 where
+pub record RowForUser : Type 0 where
   pub user : List ℕ
   pub columns : List (List ℕ)
   pub cells : List Scalar
 
 -- where there is no rule, none holds
-abbrev pub holds_on : Asked → Option Expr → Bool
+abbrev pub holds_on : RowForUser → Option Expr → Bool
 holds_on asked None = false
 holds_on asked (Some rule) = rule_holds asked.columns rule asked.cells asked.user
 
 -- a permissive policy whose rule is true on the row
-abbrev pub permits : Action → Asked → Policy → Bool
+abbrev pub permits : Action → RowForUser → Policy → Bool
 permits act asked policy = not policy.restrictive && holds_on asked (rule_for act policy)
 
 -- not a restrictive policy whose rule isn't true on the row
-abbrev pub allows : Action → Asked → Policy → Bool
+abbrev pub allows : Action → RowForUser → Policy → Bool
 allows act asked policy = not policy.restrictive || holds_on asked (rule_for act policy)
 
 -- of the policies that apply, some one permits the row, and each one allows it
-abbrev pub admit : Action → List Policy → Asked → Bool
+abbrev pub admit : Action → List Policy → RowForUser → Bool
 admit act policies asked = list_any (permits act asked) policies && list_all (allows act asked) policies
 
-abbrev pub admitted_by : PolicyParts → ℕ → ℕ → Asked → Action → Bool
+abbrev pub admitted_by : PolicyParts → ℕ → ℕ → RowForUser → Action → Bool
 admitted_by parts role table asked act = admit act (applying parts role act table) asked
 
 -- who removes a row has to be able to read it, too
-abbrev pub admitted_for : PolicyParts → ℕ → Action → ℕ → Asked → Bool
+abbrev pub admitted_for : PolicyParts → ℕ → Action → ℕ → RowForUser → Bool
 admitted_for parts role action.Delete table asked = admitted_by parts role table asked action.Select && admitted_by parts role table asked action.Delete
 admitted_for parts role act table asked = admitted_by parts role table asked act
 
@@ -140,12 +140,12 @@ visible_to parts role act table cells = is_admitted parts role act table cells (
 -- ---- the name of the rule that refuses a new row
 
 -- the first policy that doesn't allow the row
-abbrev pub first_refusing : Asked → List Policy → Option (List ℕ)
+abbrev pub first_refusing : RowForUser → List Policy → Option (List ℕ)
 first_refusing asked [] = None
 first_refusing asked (policy ∷ policies) = if allows action.Insert asked policy then first_refusing asked policies else Some policy.name
 
 -- where no policy permits the row, it is refused by default
-abbrev pub refuser_among : List Policy → Asked → Option (List ℕ)
+abbrev pub refuser_among : List Policy → RowForUser → Option (List ℕ)
 refuser_among policies asked = if list_any (permits action.Insert asked) policies then first_refusing asked policies else Some (codes "default-deny")
 
 abbrev pub refuser_for : PolicyParts → ℕ → ℕ → List (List ℕ) → List Scalar → Option Role → Option (List ℕ)
@@ -179,7 +179,7 @@ language_scope cells user =
     row ∷ name ∷ []
 
 -- A rule is true on a row of a table with these columns, by the meaning of the language. It reads no other row.
-abbrev pub IsTrueOn : List Column → Asked → Expr → Type 0
+abbrev pub IsTrueOn : List Column → RowForUser → Expr → Type 0
 IsTrueOn columns asked rule =
     let schema : Schema = record { name = []; columns = columns } in
     let world : World (List Scalar) = record {
@@ -222,13 +222,13 @@ pub data HasRule (act : Action) (policy : Policy) (rule : Expr) : Type 0 where
   using_for_check : act ≡ action.Insert → policy.check ≡ None → policy.using ≡ Some rule → HasRule act policy rule
 
 -- A policy's rule for an action is true on a row.
-pub record IsSatisfied (columns : List Column) (act : Action) (asked : Asked) (policy : Policy) : Type 0 where
+pub record IsSatisfied (columns : List Column) (act : Action) (asked : RowForUser) (policy : Policy) : Type 0 where
   pub rule : Expr
   pub has : HasRule act policy rule
   pub true_on : IsTrueOn columns asked rule
 
 -- Some permissive policy that applies is true on the row, and every restrictive one that applies is.
-pub record IsAdmitted (columns : List Column) (parts : PolicyParts) (role : ℕ) (act : Action) (table : ℕ) (asked : Asked) : Type 0 where
+pub record IsAdmitted (columns : List Column) (parts : PolicyParts) (role : ℕ) (act : Action) (table : ℕ) (asked : RowForUser) : Type 0 where
   pub permitting : Policy
   pub among : Contains parts.policies permitting
   pub permissive : permitting.restrictive ≡ false
@@ -238,7 +238,7 @@ pub record IsAdmitted (columns : List Column) (parts : PolicyParts) (role : ℕ)
       → IsSatisfied columns act asked policy
 
 -- The policies admit a role to an action on a row. A row that is removed has to be one that may be read, too.
-pub data Admits (columns : List Column) (parts : PolicyParts) (role : ℕ) (table : ℕ) (asked : Asked) : Action → Type 0 where
+pub data Admits (columns : List Column) (parts : PolicyParts) (role : ℕ) (table : ℕ) (asked : RowForUser) : Action → Type 0 where
   read : IsAdmitted columns parts role action.Select table asked → Admits columns parts role table asked action.Select
   put_in : IsAdmitted columns parts role action.Insert table asked → Admits columns parts role table asked action.Insert
   removed : IsAdmitted columns parts role action.Select table asked → IsAdmitted columns parts role action.Delete table asked
@@ -256,13 +256,13 @@ pub data IsVisible (schemas : List Schema) (parts : PolicyParts) (role : ℕ) (a
       → IsVisible schemas parts role act table cells
 
 -- No permissive policy that applies to putting in a row is true on it.
-abbrev pub IsUnpermitted : List Column → PolicyParts → ℕ → ℕ → Asked → Type 0
+abbrev pub IsUnpermitted : List Column → PolicyParts → ℕ → ℕ → RowForUser → Type 0
 IsUnpermitted columns parts role table asked =
     (policy : Policy) → Contains parts.policies policy → policy.restrictive ≡ false → Applies parts.roles role action.Insert table policy
     → IsSatisfied columns action.Insert asked policy → ⊥
 
 -- A restrictive policy that applies to putting in a row isn't true on it, and is the first such policy.
-pub record IsFirstRefusing (columns : List Column) (parts : PolicyParts) (role : ℕ) (table : ℕ) (asked : Asked) (refusing : Policy) : Type 0 where
+pub record IsFirstRefusing (columns : List Column) (parts : PolicyParts) (role : ℕ) (table : ℕ) (asked : RowForUser) (refusing : Policy) : Type 0 where
   pub front : List Policy
   pub rest : List Policy
   pub split : parts.policies ≡ front ++ refusing ∷ rest
@@ -274,7 +274,7 @@ pub record IsFirstRefusing (columns : List Column) (parts : PolicyParts) (role :
 
 -- A new row is refused under this name: by default, where no permissive policy is true on it; else by the first restrictive one
 -- that isn't.
-pub data IsRefusedBy (columns : List Column) (parts : PolicyParts) (role : ℕ) (table : ℕ) (asked : Asked) : List ℕ → Type 0 where
+pub data IsRefusedBy (columns : List Column) (parts : PolicyParts) (role : ℕ) (table : ℕ) (asked : RowForUser) : List ℕ → Type 0 where
   default : IsUnpermitted columns parts role table asked → IsRefusedBy columns parts role table asked (codes "default-deny")
   restriction : (permitting : Policy) → Contains parts.policies permitting → permitting.restrictive ≡ false
       → Applies parts.roles role action.Insert table permitting → IsSatisfied columns action.Insert asked permitting

@@ -191,7 +191,7 @@ Loaded-refused holds before now after files rest all tables file gave found far 
       named = named-among files rest all far.visits visit far.named split;
       agree = all_agree-more holds far.visits visit far.agree agrees;
       read = subst (Adds before after) (sym (readings_of-more far.visits visit)) (Adds-behind before now after _ _ far.read adds);
-      told = with_files-more far.visits visit [] tables far.loaded ∙ ap (λ (r : Result (List Table) FileFault). next_or_line (λ l. Ok l) file r) is;
+      refused = with_files-more far.visits visit [] tables far.loaded ∙ ap (λ (r : Result (List Table) FileFault). next_or_line (λ l. Ok l) file r) is;
     }
 
 Loaded-abandoned : (holds : List ℕ → Option (Option (List ℕ))) (before now after : Option (List FileRead)) (files rest all : List (List ℕ)) (tables : List Table)

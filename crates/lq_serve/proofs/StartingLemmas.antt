@@ -125,7 +125,7 @@ module _ (predicates : List Predicate) where
     policies = policies;
     meant = meant;
     role = number;
-    found = found;
+    role_found = found;
     first = first;
   }
 

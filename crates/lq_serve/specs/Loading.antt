@@ -86,9 +86,12 @@ pub record Visit : Type 0 where
 abbrev pub read_limit : ℕ
 read_limit = table_limit + 1
 
--- a file that is known gives its first bytes, or can't be read
+-- what a read with this limit gave of a file that is known: its first bytes, or nothing where it can't be read
+abbrev pub AreFirstBytes : (List ℕ → Option (Option (List ℕ))) → ℕ → List ℕ → Option (List ℕ) → Type 0
+AreFirstBytes holds limit file gave = IfSome (holds file) (λ there. gave ≡ first_bytes limit there)
+
 abbrev pub Agrees : (List ℕ → Option (Option (List ℕ))) → Visit → Type 0
-Agrees holds visit = IfSome (holds visit.file) (λ there. visit.gave ≡ first_bytes read_limit there)
+Agrees holds visit = AreFirstBytes holds read_limit visit.file visit.gave
 
 abbrev pub AllAgree : (List ℕ → Option (Option (List ℕ))) → List Visit → Type 0
 AllAgree holds [] = ⊤
@@ -153,7 +156,7 @@ pub record Refused (holds : List ℕ → Option (Option (List ℕ))) (before aft
   pub named : files ≡ map (λ visit. visit.file) visits ++ unseen
   pub agree : AllAgree holds visits
   pub read : Adds before after (readings_of visits)
-  pub told : with_files visits [] ≡ Err line
+  pub refused : with_files visits [] ≡ Err line
 
 -- Some first files were visited, and no other was read: there was no memory to go on.
 pub record Abandoned (holds : List ℕ → Option (Option (List ℕ))) (before after : Option (List FileRead)) (files : List (List ℕ)) : Type 0 where

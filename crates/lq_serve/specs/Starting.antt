@@ -79,7 +79,7 @@ pub record Started (holds : List ℕ → Option (Option (List ℕ))) (before aft
   pub policies : PolicyParts
   pub meant : policies_read tables (known_predicates predicates) gave ≡ Ok policies
   pub role : ℕ
-  pub found : role_number policies asked.role ≡ Some role
+  pub role_found : role_number policies asked.role ≡ Some role
   pub first : state ≡ first_state tables policies predicates role
 
 -- The line reports the first fault: of a table, then of the policies, then of the role.

@@ -1,7 +1,6 @@
 //! Reading of a whole file, up to a limit.
-ghost use Rattle.std.specs.Prelude.{◌≡◌, ◌∷◌, [], List, ℕ, Option, IfSome};
-ghost use Rattle.lq_serve.specs.Files.{first_bytes};
-ghost use Rattle.lq_serve.specs.Loading.{Answered, GivesBytes};
+ghost use Rattle.std.specs.Prelude.{◌≡◌, ◌∷◌, [], List, ℕ, Option};
+ghost use Rattle.lq_serve.specs.Loading.{Answered, AreFirstBytes, GivesBytes};
 
 use crate::file_fault::FileFault;
 use crate::files::{FileError, Files};
@@ -13,7 +12,7 @@ pub(crate) fn read_file<F: Files>(
     files: &mut F,
 ) -> Result<Vec<u8>, FileFault>
     ensures given { (gave : Option (List ℕ))
-        × IfSome (F.holds files.old file.now) (λ there. gave ≡ first_bytes limit there)
+        × AreFirstBytes (F.holds files.old) limit file.now gave
         × Answered result (F.answered files.old) (F.answered files.new)
         (record { file = file.now; limit = limit; gave = gave } ∷ [])
         × GivesBytes gave result }

@@ -1,20 +1,18 @@
 //! Starting: the session over the tables, the policies and the role that the command line names, or the line that says
 //! why there is none.
-ghost use Rattle.std.specs.Prelude.{◌≡◌, ◌<◌, ◌∷◌, [], List, ℕ, Option, Some, IfErr, IfOk, IfSome};
+ghost use Rattle.std.specs.Prelude.{◌≡◌, ◌<◌, ◌∷◌, [], List, ℕ, Option, Some, IfErr, IfOk};
 ghost use Rattle.lq_host.specs.Hosts.{hosts_of};
 ghost use Rattle.lq_language.specs.Worlds.{known_predicates};
 ghost use Rattle.lq_machine.specs.States.{first_state};
 ghost use Rattle.lq_policy.specs.Roles.{number_of, role_number};
 ghost use Rattle.lq_session.specs.States.{hosts_in, state_of};
-ghost use Rattle.lq_serve.specs.Files.{first_bytes};
-ghost use Rattle.lq_serve.specs.Loading.{Answered};
+ghost use Rattle.lq_serve.specs.Loading.{Answered, AreFirstBytes};
 ghost use Rattle.lq_serve.specs.Starting.{GivesPolicies, NotStarted, Started, asked_by, policies_read, policy_read_limit};
 
 use crate::file_fault::FileFault;
 use crate::files::Files;
-use crate::loading::load_tables;
-use crate::reading::read_file;
 use crate::start_error::{StartError, refusal};
+use crate::{loading, reading};
 use lq_host::HostSet;
 use lq_options::Options;
 use lq_policy::{Policies, RoleId};
@@ -55,7 +53,7 @@ pub fn load<F: Files>(
         NotStarted (F.holds files.old) (F.answered files.old) (F.answered files.new)
         (asked_by options.now) (hosts_of hosts).predicates error) }
 {
-    let store = load_tables(alloc, options.tables.as_slice(), files)?;
+    let store = loading::load_tables(alloc, options.tables.as_slice(), files)?;
     let policies = match load_policies(alloc, options.policy.as_str(), files, &store, &hosts) {
         Ok(policies) => policies,
         Err(fault) => return Err(refusal(alloc, options.policy.as_str(), fault)),
@@ -95,7 +93,7 @@ fn load_policies<F: Files>(
     hosts: &HostSet,
 ) -> Result<Policies, FileFault>
     ensures given { (gave : Option (List ℕ))
-        × IfSome (F.holds files.old file.now) (λ there. gave ≡ first_bytes policy_read_limit there)
+        × AreFirstBytes (F.holds files.old) policy_read_limit file.now gave
         × Answered result (F.answered files.old) (F.answered files.new)
         (record { file = file.now; limit = policy_read_limit; gave = gave } ∷ [])
         × GivesPolicies
@@ -103,7 +101,7 @@ fn load_policies<F: Files>(
     ensures predicates { IfOk result
         (λ policies. policies.predicates ≡ known_predicates (hosts_of hosts.now).predicates) }
 {
-    let bytes = read_file(file, READ_LIMIT, files)?;
+    let bytes = reading::read_file(file, READ_LIMIT, files)?;
     policies_from_bytes(alloc, &bytes, store, hosts)
 }
 

@@ -10,15 +10,13 @@ ghost use Rattle.lq_run.specs.Statements.{tree_in};
 ghost use Rattle.lq_session.specs.Performed.{PerformsWith};
 ghost use Rattle.lq_session.specs.Variables.{DefinesBy, variable_type};
 
-use crate::opening::definition_of;
-use crate::replies::reply;
+use crate::{opening, replies};
 use lq_grammar::Expr;
 use lq_host::Asks;
 use lq_json::{Line, Reply};
 use lq_machine::{Defined, Opened};
 use lq_run::{State, Stop, evaluate_scalar, refusal, tree_of};
 use lq_tree::{Tree, ty};
-use lq_typing::converts;
 use lq_value::{Txt, Ty};
 use std::alloc::Global;
 
@@ -27,7 +25,7 @@ fn is_taken(name: &str, state: &State) -> bool
     ensures { result ≡ is_taken (without_hosts state.now) name.now }
 {
     state.store().find(name).is_some()
-        || definition_of(state.definitions(), name.as_bytes()).is_some()
+        || opening::definition_of(state.definitions(), name.as_bytes()).is_some()
 }
 
 /// What a name is defined as by an expression that has this tree: a named query where its type is a sequence's, and a variable with the
@@ -77,7 +75,7 @@ pub(crate) fn define<H: Asks>(
     }
     let tree = tree_of(alloc, &expr, opened, state)?;
     let defined = definition_by(alloc, expr, tree, opened, state, hosts)?;
-    let line = reply(alloc, Reply::Defined(name.as_str()))?;
+    let line = replies::reply(alloc, Reply::Defined(name.as_str()))?;
     state.define(name, defined)?;
     Ok(line)
 }
@@ -87,7 +85,7 @@ fn variable_type<'a>(name: &str, state: &'a State) -> Option<&'a Ty>
     ensures value { option_copied result ≡ variable_type state.now.definitions name.now }
     ensures scalar { IfSome result (λ ty. is_scalar (out-Ty ty.now) ≡ true) }
 {
-    match &definition_of(state.definitions(), name.as_bytes())?.defined {
+    match &opening::definition_of(state.definitions(), name.as_bytes())?.defined {
         Defined::Variable(ty, _) => Some(ty),
         Defined::Query(_, _) => None,
     }
@@ -114,11 +112,11 @@ pub(crate) fn assign<H: Asks>(
         return Err(refusal(alloc, "type"));
     };
     let tree = tree_of(alloc, expr, opened, state)?;
-    if !converts(ty(&tree), place) {
+    if !lq_typing::converts(ty(&tree), place) {
         return Err(refusal(alloc, "type"));
     }
     let value = evaluate_scalar(alloc, &tree, state, hosts)?;
-    let line = reply(alloc, Reply::Assigned(name))?;
+    let line = replies::reply(alloc, Reply::Assigned(name))?;
     state.assign(name, value);
     Ok(line)
 }

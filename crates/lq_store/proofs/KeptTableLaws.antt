@@ -1,8 +1,9 @@
 -- What tables and stores keep as rows and tables join them and rows leave.
-use Rattle.std.proofs.Common.{◌≡◌, ◌<◌, ◌+◌, ℕ, Bool, true, false, ◌&&◌, ◌||◌, not, List, [], ◌∷◌, ◌++◌, length, map, refl, arith, nat_eq, Some, None, if◌then◌else◌, ◌==◌, ◌^◌, ◌≤◌, cond, set, ap, sym, ◌∙◌, length-set}
+use Rattle.std.proofs.Common.{IfSome, Option, nat_le, option_map, subst, ◌≡◌, ◌<◌, ◌+◌, ℕ, Bool, true, false, ◌&&◌, ◌||◌, not, List, [], ◌∷◌, ◌++◌, length, map, refl, arith, nat_eq, Some, None, if◌then◌else◌, ◌==◌, ◌^◌, ◌≤◌, cond, set, ap, sym, ◌∙◌, length-set}
 use Rattle.std.specs.Prelude.{is_some, filter, slice_get, Result, Ok, Err}
 use Rattle.std.specs.List.{list_all, list_any, position_from}
 use Rattle.std.specs.Cmp.Lexicographic.{pointwise}
+use Rattle.std.proofs.lemmas.Bool.{and_parts, leb-true}
 use Rattle.std.proofs.lemmas.List.Folds.{list_all-append, list_any-append}
 use Rattle.std.proofs.lemmas.List.Filters.{length-filter_both}
 use Rattle.std.proofs.lemmas.List.{length-append, map-append}
@@ -10,6 +11,7 @@ use Rattle.std.proofs.lemmas.Option.{get_or_from_slice_get}
 use Rattle.std.proofs.Math.Seq.{map-set_same}
 use Rattle.lq_value.specs.Tables.{Table, first_named}
 use Rattle.lq_value.specs.declared.table.Row.{Row}
+use Rattle.lq_value.specs.declared.table.Schema.{Schema}
 use Rattle.lq_value.specs.declared.scalar.Scalar.{Scalar}
 use Rattle.lq_store.specs.declared.error.StoreError.{StoreError}
 use Rattle.lq_store.specs.declared.error.StoreError.TheVariants.{Arity, CellType, CellRange, Full}
@@ -150,3 +152,15 @@ inserts tables place old changed cells result at h = rw at (changed, h, refl)
 pub counted : (numbers : List ℕ) (old new : List Row) → new ≡ filter (λ row. not (is_listed numbers row.number)) old
     → length (filter (λ row. is_listed numbers row.number) old) + length new ≡ length old
 counted numbers old new e = rw e (length-filter_both (λ row. is_listed numbers row.number) (λ row. not (is_listed numbers row.number)) (λ row. refl) old)
+
+-- the columns of a table are few
+pub few_columns : (found : Option Table) (schema : Schema) → option_map (λ table. table.schema) found ≡ Some schema → IfSome found IsTable
+    → length schema.columns ≤ 100
+few_columns None schema h table = absurd cc
+few_columns (Some t) schema h table =
+    let same : t.schema ≡ schema = cc in
+    let n = length t.schema.columns in
+    let most = and_parts (nat_le 1 n && nat_le n 100 && are_distinct (map (λ column. column.name) t.schema.columns)) _ table.rules in
+    let bounds = and_parts (nat_le 1 n && nat_le n 100) _ most.0 in
+    let few : n ≤ 100 = leb-true n 100 (and_parts (nat_le 1 n) (nat_le n 100) bounds.0).1 in
+    subst (λ (s : Schema). length s.columns ≤ 100) same few

@@ -3,7 +3,7 @@ use Rattle.std.specs.Prelude.{◌∷◌, if◌then◌else◌, List, [], ℕ, Opt
 use Rattle.lq_value.specs.declared.scalar.Scalar.{Scalar}
 use Rattle.lq_value.specs.declared.scalar.Scalar.TheVariants as scalar
 use Rattle.lq_grammar.specs.Grammar.{host_call}
-use Rattle.lq_grammar.specs.Parsing.{◌>>=◌, Parser, asked, cell_below_zero, cells, clause_by, clauses, continuations, expect, field_by, fields, group_name, last_before, name, pure, refuse, same_kind, source, value_and_end}
+use Rattle.lq_grammar.specs.Parsing.{◌>>=◌, Parser, cell_below_zero, cells, clause_by, clauses, continuations, expect, field_by, fields, group_name, host_arguments, last_before, name, pure, refuse, same_kind, source, value_and_end}
 use Rattle.lq_grammar.specs.Tokens.{decimal_value, text_of}
 use Rattle.lq_grammar.specs.declared.syntax.Clause.{Clause}
 use Rattle.lq_grammar.specs.declared.syntax.Clause.TheVariants as clause
@@ -45,7 +45,7 @@ module _ (line : List ℕ) (inner : Level → Parser Expr) where
   -- after "Host"
   abbrev pub host : Parser Expr
   host =
-      expect k.Dot >>= (λ dot. name line >>= (λ p. expect k.LeftParenthesis >>= (λ opening. asked line inner >>= (λ xs.
+      expect k.Dot >>= (λ dot. name line >>= (λ p. expect k.LeftParenthesis >>= (λ opening. host_arguments line inner >>= (λ xs.
       expect k.RightParenthesis >>= (λ closing. pure (host_call p xs.0 xs.1))))))
 
   -- after "new"

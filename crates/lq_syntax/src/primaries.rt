@@ -32,10 +32,10 @@ impl<'a, F: Fn(Global, &[u8], &mut Tokens<'_>, usize, Level) -> Result<Expr, Par
     }
 
     /// `cond ["," cond]`
-    #[tactic(auto, unfolding(lq_grammar::specs::Parsing::asked, lq_grammar::specs::Parsing::after))]
-    fn asked(&self, tokens: &mut Tokens<'_>) -> Result<(Expr, Option<Expr>), ParseError>
+    #[tactic(auto, unfolding(lq_grammar::specs::Parsing::host_arguments, lq_grammar::specs::Parsing::after))]
+    fn host_arguments(&self, tokens: &mut Tokens<'_>) -> Result<(Expr, Option<Expr>), ParseError>
         requires { Nests self.now.depth (F.pre self.now.inner) (F.post self.now.inner) }
-        ensures { Reads (parsing.asked self.now.line.now
+        ensures { Reads (parsing.host_arguments self.now.line.now
             (expression self.now.line.now self.now.depth) tokens.old) result tokens.new }
     {
         let first = self.inner(tokens, Level::Conditional)?;
@@ -56,7 +56,7 @@ impl<'a, F: Fn(Global, &[u8], &mut Tokens<'_>, usize, Level) -> Result<Expr, Par
         tokens.expect(Kind::Dot)?;
         let predicate = literals::name(self.alloc, self.line, tokens)?;
         tokens.expect(Kind::LeftParenthesis)?;
-        let (first, second) = self.asked(tokens)?;
+        let (first, second) = self.host_arguments(tokens)?;
         tokens.expect(Kind::RightParenthesis)?;
         Ok(hosts::host_call(self.alloc, predicate, first, second)?)
     }

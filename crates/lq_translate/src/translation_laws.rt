@@ -19,7 +19,7 @@ pub fn terms_and_expressions<R>()
     ensures streams { CallsMeanAlike R }
 {}
 
-/// The calls that a query is translated to use what its clauses use, tables and columns in the order of the text, whatever its
+/// The calls that a query is translated to use what its clauses use, tables, columns and host predicates in the order of the text, whatever its
 /// expressions are, provided that a name uses nothing where it is a local one.
 pub fn uses_of_calls<X>()
     ensures { UsedAlike X }

@@ -13,7 +13,7 @@ use Rattle.lq_grammar.specs.declared.syntax.Picked.{Picked}
 use Rattle.lq_grammar.specs.declared.syntax.Picked.TheVariants as picked
 use Rattle.lq_language.specs.HostNames.{are_int_columns, predicate_number}
 use Rattle.lq_language.specs.MeaningLaws.{IsValueOf}
-use Rattle.lq_language.specs.OperandMeaning.{arguments_named, asked, asked_about, host_value, one_argument, two_arguments}
+use Rattle.lq_language.specs.OperandMeaning.{arguments_named, host_answer, answer_about, host_value, one_argument, two_arguments}
 use Rattle.lq_language.specs.Operations.{on_ok}
 use Rattle.lq_language.specs.Worlds.{World, known_predicates}
 use Rattle.lq_language.proofs.AlikeStreamLaws.{Agree, on_ok_agree}
@@ -43,15 +43,15 @@ module _ {R : Type 0} (world : World R) where
       (ints : are_int_columns world.schemas n columns ≡ true) (named : ArePicked world.schemas n numbered columns) where
     -- what is asked about a value of the row's type
     abbrev asked_by_number : Value R → Result (Value R) Fault
-    asked_by_number v = asked_about world (Some k) (arguments_at world n numbered) (out-Value R v)
+    asked_by_number v = answer_about world (Some k) (arguments_at world n numbered) (out-Value R v)
 
     asked_same : (v : Value R) → RowOrNull world n v → asked_by_number v ≡ host_value world p columns (out-Value R v)
     asked_same v (a_row r cells is) =
-        ap asked_by_number is ∙ ap (asked_about world (Some k) (arguments_at world n numbered)) (outs-value-Row r)
-        ∙ ap₂ (asked world) (sym known) (arguments_same n numbered columns named r)
+        ap asked_by_number is ∙ ap (answer_about world (Some k) (arguments_at world n numbered)) (outs-value-Row r)
+        ∙ ap₂ (host_answer world) (sym known) (arguments_same n numbered columns named r)
         ∙ sym (ap (λ (w : Value R). host_value world p columns (out-Value R w)) is ∙ ap (host_value world p columns) (outs-value-Row r))
     asked_same v (no_row is) =
-        ap asked_by_number is ∙ ap (asked_about world (Some k) (arguments_at world n numbered)) (outs-Scalar scalar.Null)
+        ap asked_by_number is ∙ ap (answer_about world (Some k) (arguments_at world n numbered)) (outs-Scalar scalar.Null)
         ∙ sym (ap (λ (w : Value R). host_value world p columns (out-Value R w)) is ∙ ap (host_value world p columns) (outs-Scalar scalar.Null))
 
     pub asked_agrees : (slots : Slots R) (v : Value R) → IsValueOf world (ty.Row n) v

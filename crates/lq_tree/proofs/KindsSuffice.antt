@@ -18,7 +18,7 @@ use Rattle.lq_host.specs.Predicates.{answer_in}
 use Rattle.lq_host.specs.declared.call.Pick.{Pick}
 use Rattle.lq_host.specs.declared.call.Pick.TheVariants as numbers
 use Rattle.lq_language.specs.Worlds.{World}
-use Rattle.lq_language.specs.OperandMeaning.{answer_value, as_value, asked, asked_about, cell_value, is_null, items_of, on_scalar, on_truth, scalar_of, stream_of, table_value}
+use Rattle.lq_language.specs.OperandMeaning.{answer_value, as_value, host_answer, answer_about, cell_value, is_null, items_of, on_scalar, on_truth, scalar_of, stream_of, table_value}
 use Rattle.lq_language.specs.ClauseMeaning.{as_group}
 use Rattle.lq_language.specs.ValuesOfTypes.{assuming}
 use Rattle.lq_language.specs.Operations.{of_one, of_two, on_ok, truth_of}
@@ -279,18 +279,18 @@ module _ {R : Type 0} (world : World R) (unknown : Fault) where
   answer_same None = refl
 
   asked_same : (p n : ℕ) (columns : Pick) (v : Value R) → HasArguments world n columns v
-      → asked_about other (Some p) (arguments_at other n columns) (out-Value R v) ≡ asked_about world (Some p) (arguments_at world n columns) (out-Value R v)
+      → answer_about other (Some p) (arguments_at other n columns) (out-Value R v) ≡ answer_about world (Some p) (arguments_at world n columns) (out-Value R v)
   asked_same p n columns v (kind.an_asked r xs is there) =
-      ap (λ (x : Value R). asked_about other (Some p) (arguments_at other n columns) (out-Value R x)) is
-      ∙ ap (asked_about other (Some p) (arguments_at other n columns)) (outs-value-Row r)
-      ∙ ap (asked other (Some p)) (arguments_alike n columns r ∙ there) ∙ answer_same (answer_in world.predicates p xs)
-      ∙ sym (ap (λ (x : Value R). asked_about world (Some p) (arguments_at world n columns) (out-Value R x)) is
-      ∙ ap (asked_about world (Some p) (arguments_at world n columns)) (outs-value-Row r) ∙ ap (asked world (Some p)) there)
+      ap (λ (x : Value R). answer_about other (Some p) (arguments_at other n columns) (out-Value R x)) is
+      ∙ ap (answer_about other (Some p) (arguments_at other n columns)) (outs-value-Row r)
+      ∙ ap (host_answer other (Some p)) (arguments_alike n columns r ∙ there) ∙ answer_same (answer_in world.predicates p xs)
+      ∙ sym (ap (λ (x : Value R). answer_about world (Some p) (arguments_at world n columns) (out-Value R x)) is
+      ∙ ap (answer_about world (Some p) (arguments_at world n columns)) (outs-value-Row r) ∙ ap (host_answer world (Some p)) there)
   asked_same p n columns v (kind.none_asked is) =
-      ap (λ (x : Value R). asked_about other (Some p) (arguments_at other n columns) (out-Value R x)) is
-      ∙ ap (asked_about other (Some p) (arguments_at other n columns)) (outs-Scalar scalar.Null)
-      ∙ sym (ap (λ (x : Value R). asked_about world (Some p) (arguments_at world n columns) (out-Value R x)) is
-      ∙ ap (asked_about world (Some p) (arguments_at world n columns)) (outs-Scalar scalar.Null))
+      ap (λ (x : Value R). answer_about other (Some p) (arguments_at other n columns) (out-Value R x)) is
+      ∙ ap (answer_about other (Some p) (arguments_at other n columns)) (outs-Scalar scalar.Null)
+      ∙ sym (ap (λ (x : Value R). answer_about world (Some p) (arguments_at world n columns) (out-Value R x)) is
+      ∙ ap (answer_about world (Some p) (arguments_at world n columns)) (outs-Scalar scalar.Null))
 
   member_same : (place : ℕ) (v : Value R) → HasMember place v → member_at other place (out-Value R v) ≡ member_at world place (out-Value R v)
   member_same place v (kind.a_member vs m is at) =
@@ -373,8 +373,8 @@ module _ {R : Type 0} (world : World R) (unknown : Fault) where
       (λ v is. cell_same n c v (kinds v is)))
   same (kind.at_host p a n columns slots h kinds) =
       by_layer slots _ (form.outs-Host p a n columns)
-      (after_same (mean' a slots) (mean a slots) (λ v. asked_about other (Some p) (arguments_at other n columns) (out-Value R v))
-      (λ v. asked_about world (Some p) (arguments_at world n columns) (out-Value R v)) (same h) (λ v is. asked_same p n columns v (kinds v is)))
+      (after_same (mean' a slots) (mean a slots) (λ v. answer_about other (Some p) (arguments_at other n columns) (out-Value R v))
+      (λ v. answer_about world (Some p) (arguments_at world n columns) (out-Value R v)) (same h) (λ v is. asked_same p n columns v (kinds v is)))
   same (kind.at_member a place slots h kinds) =
       by_layer slots _ (form.outs-Member a place)
       (after_same (mean' a slots) (mean a slots) (λ v. member_at other place (out-Value R v)) (λ v. member_at world place (out-Value R v)) (same h)

@@ -18,7 +18,7 @@ use Rattle.lq_host.specs.declared.call.Pick.TheVariants as numbers
 use Rattle.lq_host.specs.declared.call.Pick2.{Pick2}
 use Rattle.lq_language.specs.Enumerable.{all, as_count, concat, contains, element_at, except, intersect, skip, take_first, union}
 use Rattle.lq_language.specs.Worlds.{SessionValue, World}
-use Rattle.lq_language.specs.OperandMeaning.{answer_value, as_value, asked, asked_about, cell_value, is_null, items_of, on_scalar, on_truth, one_argument, scalar_of, sequence, stream_of, table_value, truth_value, two_arguments}
+use Rattle.lq_language.specs.OperandMeaning.{answer_value, as_value, host_answer, answer_about, cell_value, is_null, items_of, on_scalar, on_truth, one_argument, scalar_of, sequence, stream_of, table_value, truth_value, two_arguments}
 use Rattle.lq_language.specs.ClauseMeaning.{as_group, matches}
 use Rattle.lq_language.specs.Operations.{of_one, of_two, on_ok, truth_of}
 use Rattle.lq_language.specs.Operators.{first, pair, second}
@@ -171,7 +171,7 @@ module _ {R S : Type 0} (f : R → S) (world : World R) (session : List (Session
   answer_by (Some answer) = truth_follows answer
   answer_by None = refl
 
-  asked_by : (p : ℕ) (o : Option Pick2) → Follows (asked a (Some p) o) (asked b (Some p) o)
+  asked_by : (p : ℕ) (o : Option Pick2) → Follows (host_answer a (Some p) o) (host_answer b (Some p) o)
   asked_by p (Some xs) = answer_by (answer_in world.predicates p xs)
   asked_by p None = refl
 
@@ -182,8 +182,8 @@ module _ {R S : Type 0} (f : R → S) (world : World R) (session : List (Session
       (option_and_then (λ column. same_cells r column i) (name_of_column world.schemas table d))
 
   host_by : (p table : ℕ) (columns : Pick) (layer : Value-F R (Value R))
-      → Follows (asked_about a (Some p) (arguments_at a table columns) layer) (asked_about b (Some p) (arguments_at b table columns) (mapped_layer f layer))
-  host_by p table columns (Value-F.Row r) = ap (asked b (Some p)) (arguments_alike table columns r) ∙ asked_by p (arguments_at a table columns r)
+      → Follows (answer_about a (Some p) (arguments_at a table columns) layer) (answer_about b (Some p) (arguments_at b table columns) (mapped_layer f layer))
+  host_by p table columns (Value-F.Row r) = ap (host_answer b (Some p)) (arguments_alike table columns r) ∙ asked_by p (arguments_at a table columns r)
   host_by p table columns (Value-F.Scalar scalar.Null) = refl
   host_by p table columns (Value-F.Scalar s) = refl
   host_by p table columns (Value-F.Rec members) = refl
@@ -191,8 +191,8 @@ module _ {R S : Type 0} (f : R → S) (world : World R) (session : List (Session
   host_by p table columns (Value-F.Seq items e) = refl
 
   host_follows : (p table : ℕ) (columns : Pick) (v : Value R)
-      → Follows (asked_about a (Some p) (arguments_at a table columns) (out-Value R v)) (asked_about b (Some p) (arguments_at b table columns) (out-Value S (m v)))
-  host_follows p table columns v = ap (asked_about b (Some p) (arguments_at b table columns)) (mapped_out f v) ∙ host_by p table columns (out-Value R v)
+      → Follows (answer_about a (Some p) (arguments_at a table columns) (out-Value R v)) (answer_about b (Some p) (arguments_at b table columns) (out-Value S (m v)))
+  host_follows p table columns v = ap (answer_about b (Some p) (arguments_at b table columns)) (mapped_out f v) ∙ host_by p table columns (out-Value R v)
 
   member_there : (o : Option (List ℕ × Value R))
       → Follows (if_there a (option_map (λ n. n.1) o)) (if_there b (option_map (λ n. n.1) (option_map (mapped_member f) o)))
@@ -317,8 +317,8 @@ module _ {R S : Type 0} (f : R → S) (world : World R) (session : List (Session
   pub host_like : (x : Means R) (y : Means S) → Like x y → (p table : ℕ) (columns : Pick)
       → Like (form_step a (Form-F.Host p x table columns)) (form_step b (Form-F.Host p y table columns))
   host_like x y h p table columns slots =
-      ok_follows (λ v. asked_about a (Some p) (arguments_at a table columns) (out-Value R v))
-      (λ v. asked_about b (Some p) (arguments_at b table columns) (out-Value S v)) (host_follows p table columns) (x slots) (y (map m slots)) (h slots)
+      ok_follows (λ v. answer_about a (Some p) (arguments_at a table columns) (out-Value R v))
+      (λ v. answer_about b (Some p) (arguments_at b table columns) (out-Value S v)) (host_follows p table columns) (x slots) (y (map m slots)) (h slots)
 
   pub member_like : (x : Means R) (y : Means S) → Like x y → (place : ℕ) → Like (form_step a (Form-F.Member x place)) (form_step b (Form-F.Member y place))
   member_like x y h place slots =

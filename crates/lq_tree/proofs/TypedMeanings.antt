@@ -19,7 +19,7 @@ use Rattle.lq_host.specs.Predicates.{answer_in}
 use Rattle.lq_host.specs.declared.call.Pick2.{Pick2}
 use Rattle.lq_language.specs.Maps.{map_field, map_key}
 use Rattle.lq_language.specs.Worlds.{World}
-use Rattle.lq_language.specs.OperandMeaning.{answer_value, as_value, asked, asked_about, items_of, on_scalar, scalar_of, sequence, stream_of, table_value, truth_value}
+use Rattle.lq_language.specs.OperandMeaning.{answer_value, as_value, host_answer, answer_about, items_of, on_scalar, scalar_of, sequence, stream_of, table_value, truth_value}
 use Rattle.lq_language.specs.ClauseMeaning.{as_group, matches}
 use Rattle.lq_language.specs.ValuesOfTypes.{Every, HasCells, HoldsRows, IsScalarOf}
 use Rattle.lq_language.specs.Members.{search_named}
@@ -154,11 +154,11 @@ module _ {R : Type 0} (world : World R) (holds : HoldsRows world) where
   answer_gets (Some b) = gets_ok (Of ty.Bool) (truth_value b) (truth_is world b)
   answer_gets None = gets_err (Of ty.Bool) fault.ArgumentOutOfRange
 
-  asked_gets : (p : ℕ) (o : Option Pick2) → Gets (Of ty.Bool) (asked world (Some p) o)
+  asked_gets : (p : ℕ) (o : Option Pick2) → Gets (Of ty.Bool) (host_answer world (Some p) o)
   asked_gets p (Some xs) = answer_gets (answer_in world.predicates p xs)
   asked_gets p None = gets_err (Of ty.Bool) world.unknown
 
-  host_gets : (p : ℕ) (arguments : R → Option Pick2) (layer : Value-F R (Value R)) → Gets (Of ty.Bool) (asked_about world (Some p) arguments layer)
+  host_gets : (p : ℕ) (arguments : R → Option Pick2) (layer : Value-F R (Value R)) → Gets (Of ty.Bool) (answer_about world (Some p) arguments layer)
   host_gets p arguments (Value-F.Row r) = asked_gets p (arguments r)
   host_gets p arguments (Value-F.Scalar scalar.Null) = gets_err (Of ty.Bool) fault.NullReference
   host_gets p arguments (Value-F.Scalar s) = gets_err (Of ty.Bool) world.unknown
@@ -281,7 +281,7 @@ module _ {R : Type 0} (world : World R) (holds : HoldsRows world) where
       (λ v p. (column_step world slots n c m u name typed v (subst (λ (x : Ty). Val x v) (is_of_layer t ∙ ap type_with is) p)).1))
   keeps (rule.of_host shapes p row n columns named t h is names ints) = λ slots fit.
       gets_as (Of ty.Bool) _ _ (meaning_at world slots _ (form.outs-Host p row n columns))
-      (then_gets (Of t) (Of ty.Bool) (mean row slots) (λ v. asked_about world (Some p) (arguments_at world n columns) (out-Value R v)) (keeps h slots fit)
+      (then_gets (Of t) (Of ty.Bool) (mean row slots) (λ v. answer_about world (Some p) (arguments_at world n columns) (out-Value R v)) (keeps h slots fit)
       (λ v fits. host_gets p (arguments_at world n columns) (out-Value R v)))
   keeps (rule.of_member shapes a place t ms m h is there) = λ slots fit.
       gets_as (Of m.1) _ _ (meaning_at world slots _ (form.outs-Member a place))

@@ -15,7 +15,7 @@ use Rattle.lq_host.specs.declared.call.Pick.TheVariants as numbers
 use Rattle.lq_host.specs.declared.call.Pick2.{Pick2}
 use Rattle.lq_language.specs.Arrangement.{order_by}
 use Rattle.lq_language.specs.Worlds.{World}
-use Rattle.lq_language.specs.OperandMeaning.{as_value, asked_about, cell_value, is_null, on_scalar, on_truth, one_argument, sequence, stream_of, table_value, truth_value, two_arguments}
+use Rattle.lq_language.specs.OperandMeaning.{as_value, answer_about, cell_value, is_null, on_scalar, on_truth, one_argument, sequence, stream_of, table_value, truth_value, two_arguments}
 use Rattle.lq_language.specs.ClauseMeaning.{as_group, matches}
 use Rattle.lq_language.specs.Enumerable.{all}
 use Rattle.lq_language.specs.Operations.{of_one, of_two, on_ok, truth_of}
@@ -113,7 +113,7 @@ module _ {R : Type 0} (world : World R) where
   form_step (Form-F.Second a) slots = on_ok (a slots) (λ v. Ok (second v))
   form_step (Form-F.Table n) slots = table_value world (slice_get world.rows n)
   form_step (Form-F.Column a table c) slots = on_ok (a slots) (λ v. cell_in table c (out-Value R v))
-  form_step (Form-F.Host p a table columns) slots = on_ok (a slots) (λ v. asked_about world (Some p) (arguments_at table columns) (out-Value R v))
+  form_step (Form-F.Host p a table columns) slots = on_ok (a slots) (λ v. answer_about world (Some p) (arguments_at table columns) (out-Value R v))
   form_step (Form-F.Member a place) slots = on_ok (a slots) (λ v. member_at place (out-Value R v))
   form_step (Form-F.Key a) slots = on_ok (a slots) (λ v. key_in (out-Value R v))
   form_step (Form-F.Unary o a) slots = on_scalar world (a slots) (λ s. as_value (of_one world.unknown o s))

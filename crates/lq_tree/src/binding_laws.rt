@@ -26,7 +26,7 @@ pub fn trees_of_expressions<R>()
     ensures queries { BindsQueries R }
 {}
 
-/// A tree uses what its term uses, tables and columns in the order of the text, and so what the
+/// A tree uses what its term uses, tables, columns and host predicates in the order of the text, and so what the
 /// expression uses that was translated to it; and so does the tree of the calls of a query.
 pub fn uses_of_trees()
     ensures terms { UsesOfTrees }

@@ -1,10 +1,10 @@
 -- What a form uses, and what a type shows, over the forms and types in it.
-use Rattle.std.proofs.Common.{◌≡◌, ◌∷◌, ◌++◌, ◌≤◌, ◌&&◌, nat_le, List, [], map, flat_map, ℕ, Bool, suc, zero, length, Option, Some, None, IfSome, Result, OnOk, option_map, ap, ◌∙◌, sym, refl, subst, slice_get}
-use Rattle.std.proofs.lemmas.Bool.{and_parts, leb-true}
+use Rattle.std.proofs.Common.{◌≡◌, ◌∷◌, ◌++◌, ◌≤◌, List, [], map, flat_map, ℕ, Bool, suc, zero, length, Option, Some, None, IfSome, Result, OnOk, option_map, ap, ◌∙◌, sym, refl, subst, slice_get}
 use Rattle.std.proofs.lemmas.List.{map-append}
 use Rattle.std.proofs.lemmas.Option.{slice_get_past}
 use Rattle.std.specs.declared.alloc.AllocError.{AllocError}
-use Rattle.lq_store.specs.Rules.{IsTable, are_distinct}
+use Rattle.lq_store.specs.Rules.{IsTable}
+use Rattle.lq_store.proofs.KeptTableLaws.{few_columns as few_in_schema}
 use Rattle.lq_value.specs.Tables.{Table}
 use Rattle.lq_value.specs.declared.table.Column.{Column as TableColumn}
 use Rattle.lq_value.specs.declared.table.Schema.{Schema}
@@ -217,14 +217,7 @@ columns_there result new old table o schema columns is same h =
 -- the columns of a table are few
 pub few_columns : (found : Option Table) (schema : Schema) (columns : List TableColumn) → option_map (λ table. table.schema) found ≡ Some schema → IfSome found IsTable
     → columns ≡ schema.columns → length columns ≤ 100
-few_columns None schema columns h table are = absurd cc
-few_columns (Some t) schema columns h table are =
-    let same : t.schema ≡ schema = cc in
-    let n = length t.schema.columns in
-    let most = and_parts (nat_le 1 n && nat_le n 100 && are_distinct (map (λ column. column.name) t.schema.columns)) _ table.rules in
-    let bounds = and_parts (nat_le 1 n && nat_le n 100) _ most.0 in
-    let few : n ≤ 100 = leb-true n 100 (and_parts (nat_le 1 n) (nat_le n 100) bounds.0).1 in
-    subst (λ (cs : List TableColumn). length cs ≤ 100) (ap (λ (s : Schema). s.columns) same ∙ sym are) few
+few_columns found schema columns h table are = subst (λ (cs : List TableColumn). length cs ≤ 100) (sym are) (few_in_schema found schema h table)
 
 -- the members of a record type, one by one
 types_one_by_one : (schemas : List Schema) (ms : List (List ℕ × Ty)) → flat_map (λ (m : List ℕ × List Use). m.1) (map (λ m. (m.0, shown_columns schemas m.1)) ms)

@@ -1,4 +1,4 @@
-use Rattle.lq_language.proofs.ServedMeaningLaws.{keeps_meanings}
+use Rattle.lq_language.proofs.KeptMeaningLaws.{keeps_meanings}
 use Rattle.lq_language.proofs.meaning_laws.rule_meanings_are_kept.Goals as goal
 
 pub returns : goal.returns

@@ -7,5 +7,5 @@ use Rattle.lq_operators.proofs.given_methods.given.Goals as goal
 
 pub returns : goal.returns
 returns g c world null =
-    subst (λ (meant : Result (Value g.row.R.Denot) Fault). IsAnswer meant c.answered.result)
-    (given_anywhere world null c.args.method c.args.argument (c.args.items, c.args.end)) c.answered.ensures
+    subst (λ (meant : Result (Value g.row.R.Denot) Fault). IsAnswer meant c.answer_of.result)
+    (given_anywhere world null c.args.method c.args.argument (c.args.items, c.args.end)) c.answer_of.ensures

@@ -29,7 +29,7 @@ returns-then-not-has_place g c =
 pub returns-in_err-check_rights : goal.returns-in_err-check_rights
 returns-in_err-check_rights g c =
     let predicates = g.H.Asks.known c.args.hosts.now in
-    let defined = defined_with predicates c.args.state.now c.requires.known c.store.ensures.kept in
+    let defined = defined_with predicates c.args.state.now c.requires.known c.store.ensures.defined in
     let there = told_of c.has_place.result true c.ty.result.now c.in_ok-tree.tree.ty c.has_place.ensures c.ty.ensures c.if-not-has_place.false in
     let uses = c.as_slice.ensures.value ∙ c.in_ok-used.ensures
     ∙ ap (λ (tables : List Table). form_rights c.in_ok-tree.tree.form ++ shown_columns (schemas_of tables) c.in_ok-tree.tree.ty) c.store.ensures.value in
@@ -40,7 +40,7 @@ returns-in_err-check_rights g c =
 pub returns : goal.returns
 returns g c =
     let predicates = g.H.Asks.known c.args.hosts.now in
-    let defined = defined_with predicates c.args.state.now c.requires.known c.store.ensures.kept in
+    let defined = defined_with predicates c.args.state.now c.requires.known c.store.ensures.defined in
     let there = told_of c.has_place.result true c.ty.result.now c.in_ok-tree.tree.ty c.has_place.ensures c.ty.ensures c.if-not-has_place.false in
     let uses = c.as_slice.ensures.value ∙ c.in_ok-used.ensures
     ∙ ap (λ (tables : List Table). form_rights c.in_ok-tree.tree.form ++ shown_columns (schemas_of tables) c.in_ok-tree.tree.ty) c.store.ensures.value in

@@ -41,7 +41,7 @@ returns-clause-seen c = λ predicates known.
     let here = ap length c.store.ensures.value in
     let all : length c.args.state.now.tables ≤ c.loop-table.table = omega (arith, c.loop-table-test.false, c.len.ensures.value, here) in
     all_seen c.loop-table.table (state_with predicates c.args.state.now) c.args.seen.now c.loop-table.tables.items all c.requires many
-    (defined_with predicates c.args.state.now known c.store.ensures.kept) c.loop-table.invariant.0 c.loop-table.invariant.1 c.loop-table.invariant.2
+    (defined_with predicates c.args.state.now known c.store.ensures.defined) c.loop-table.invariant.0 c.loop-table.invariant.1 c.loop-table.invariant.2
 
 pub returns-clause-columns : goal.returns-clause-columns
 returns-clause-columns c =

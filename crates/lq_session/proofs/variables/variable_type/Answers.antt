@@ -9,5 +9,5 @@ use Rattle.lq_session.proofs.variables.variable_type.Goals as goal
 pub returns-in-Variable-clause-scalar : goal.returns-in-Variable-clause-scalar
 returns-in-Variable-clause-scalar c =
     variable_scalar c.args.name.now (schemas_of c.args.state.now.tables) c.args.state.now.policies.predicates c.in-Variable.ty c.in-Variable.field-1
-    (without_hosts c.args.state.now) [] c.args.state.now.definitions c.definitions.ensures.kept c.in_ok-ty.field-0.now c.in-Variable.field-1
+    (without_hosts c.args.state.now) [] c.args.state.now.definitions c.definitions.ensures.defined c.in_ok-ty.field-0.now c.in-Variable.field-1
     ((λ i. definition_of (sym c.as_bytes.ensures.value i) (sym c.definitions.ensures.value i)) ∙ sym c.in_ok-ty.ensures) c.in-Variable.is

@@ -4,7 +4,7 @@ use Rattle.lq_value.specs.KeyTests.{key_is}
 use Rattle.lq_value.specs.Lookups.{find_in}
 use Rattle.lq_value.specs.declared.key.Key.{Key}
 use Rattle.lq_lookup.specs.Chains.{block}
-use Rattle.lq_lookup.specs.Found.{rows_from}
+use Rattle.lq_lookup.specs.Finding.{rows_from}
 use Rattle.lq_lookup.proofs.BlockLemmas.{found_block}
 use Rattle.lq_lookup.proofs.rows.Rows.find.Goals as goal
 

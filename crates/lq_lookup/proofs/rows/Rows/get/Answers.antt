@@ -2,7 +2,7 @@ use Rattle.std.proofs.Common.{◌≡◌, List, ℕ, Some, None, ap, ◌∙◌, s
 use Rattle.std.specs.Option.{option_map}
 use Rattle.lq_value.specs.declared.key.Key.{Key}
 use Rattle.lq_lookup.specs.Chains.{block}
-use Rattle.lq_lookup.specs.Found.{rows_from}
+use Rattle.lq_lookup.specs.Finding.{rows_from}
 use Rattle.lq_lookup.proofs.BlockLemmas.{row}
 use Rattle.lq_lookup.proofs.rows.Rows.get.Goals as goal
 

@@ -1,5 +1,5 @@
 use Rattle.std.proofs.Common.{◌≡◌, ap, ◌∙◌, sym, length}
-use Rattle.lq_lookup.specs.Found.{rows_from}
+use Rattle.lq_lookup.specs.Finding.{rows_from}
 use Rattle.lq_lookup.proofs.BlockLemmas.{length_rows}
 use Rattle.lq_lookup.proofs.rows.Rows.len.Goals as goal
 

@@ -3,8 +3,8 @@ use Rattle.lq_value.specs.declared.value.End.TheVariants as end
 use Rattle.lq_operators.specs.Answers.{IsAnswer}
 use Rattle.lq_operators.specs.Matching.{pairs_of}
 use Rattle.lq_language.specs.Arrangement.{all_of}
-use Rattle.lq_language.specs.Enumerable.{all, in_front}
-use Rattle.lq_language.specs.Meaning.{as_truth, simple_meaning}
+use Rattle.lq_language.specs.Enumerable.{in_front}
+use Rattle.lq_language.specs.Meaning.{simple_meaning}
 use Rattle.lq_language.specs.OperandMeaning.{sequence}
 use Rattle.lq_tree.specs.FormMeaning.{form_meaning}
 use Rattle.lq_tree.specs.declared.tree.Form.TheVariants as form
@@ -29,11 +29,6 @@ pub scalar-returns-in_ok-evaluate-in-None : goal.scalar-returns-in_ok-evaluate-i
 scalar-returns-in_ok-evaluate-in-None g t c =
     subst (λ m. Answers (scalar_in (world c.args.self.now) m) c.scalar.result) (sym c.in_ok-evaluate-in-None.ensures)
     (c.scalar.ensures (world c.args.self.now) refl)
-
-pub evaluate-returns-in-All : goal.evaluate-returns-in-All
-evaluate-returns-in-All g t c =
-    all_answer (world c.args.self.now) c.args.form.now c.in-All.source c.in-All.condition c.get-in-All.result.now c.get-in-All-2.result.now (values_in c.args.slots.now)
-    c.all.result c.in-All.is c.get-in-All.ensures c.get-in-All-2.ensures c.all.ensures
 
 pub value_of_item-returns-in-None : goal.value_of_item-returns-in-None
 value_of_item-returns-in-None g t c =
@@ -141,7 +136,8 @@ given-returns g t c =
 
 pub all-returns : goal.all-returns
 all-returns g t c =
-    subst (λ s. IsAnswer (as_truth (all (holds_of (world c.args.self.now) c.args.condition.now c.args.slots.now) s.0 s.1)) c.all_hold.result) c.in_ok-pipe.ensures.items c.all_hold.ensures
+    all_answer (world c.args.self.now) c.args.source.now c.args.condition.now (values_in c.args.slots.now) _ c.all_hold.result c.in_ok-pipe.ensures.items
+    c.all_hold.ensures
 
 pub evaluate-returns-in-Where : goal.evaluate-returns-in-Where
 evaluate-returns-in-Where g t c =

@@ -79,34 +79,34 @@ module _ {R : Type 0} (world : World R) (holds : HoldsRows world) (unknown : Fau
   abbrev in_language : Expr → Meaning R
   in_language = expression_meaning W
 
-  abbrev served : Expr → Meaning R
-  served = rule_meaning W
+  abbrev in_rules : Expr → Meaning R
+  in_rules = rule_meaning W
 
-  abbrev served_beside : Expr → Meant R
-  served_beside e = (e, served e)
+  abbrev beside_in_rules : Expr → Meant R
+  beside_in_rules e = (e, in_rules e)
 
-  served_node : (n : Node Expr) (scope : Scope R) → served (expr.Node n) scope ≡ rule_node_meaning W rule_type (map_node served_beside n) scope
+  node_in_rules : (n : Node Expr) (scope : Scope R) → in_rules (expr.Node n) scope ≡ rule_node_meaning W rule_type (map_node beside_in_rules n) scope
   unfolding rule_meaning
-  served_node n scope = ap (λ (m : Meaning R). m scope) (para_node (Meaning R) (rule_meaning_step W) n)
+  node_in_rules n scope = ap (λ (m : Meaning R). m scope) (para_node (Meaning R) (rule_meaning_step W) n)
 
   abbrev At : Names → Scope R → Type 0
   At names scope = (names ≡ names_at world scope) × IsOfScope world scope
 
   abbrev IsKept : Names → Expr → Ty → Type 0
-  IsKept names e t = (scope : Scope R) → At names scope → in_language e scope ≡ served e scope
+  IsKept names e t = (scope : Scope R) → At names scope → in_language e scope ≡ in_rules e scope
 
   node_kept : (e : Expr) (n : Node Expr) (scope : Scope R) → e ≡ expr.Node n
-      → node_meaning W expression_type (map_node (beside W) n) scope ≡ rule_node_meaning W rule_type (map_node served_beside n) scope → in_language e scope ≡ served e scope
+      → node_meaning W expression_type (map_node (beside W) n) scope ≡ rule_node_meaning W rule_type (map_node beside_in_rules n) scope → in_language e scope ≡ in_rules e scope
   node_kept e n scope is h =
-      ap (λ (x : Expr). in_language x scope) is ∙ meaning_of_node W n scope ∙ h ∙ sym (served_node n scope) ∙ ap (λ (x : Expr). served x scope) (sym is)
+      ap (λ (x : Expr). in_language x scope) is ∙ meaning_of_node W n scope ∙ h ∙ sym (node_in_rules n scope) ∙ ap (λ (x : Expr). in_rules x scope) (sym is)
 
   typed_at : (names : Names) (e : Expr) (t : Ty) (scope : Scope R) → At names scope → HasRuleType names e t → expression_type e (names_at world scope) ≡ Some t
   typed_at names e t scope at typed = ap (expression_type e) (sym at.0) ∙ rule_type_is_kept names e t typed
 
-  served_at : (names : Names) (e : Expr) (t : Ty) (scope : Scope R) → At names scope → HasRuleType names e t → rule_type e (names_at world scope) ≡ Some t
-  served_at names e t scope at typed = ap (rule_type e) (sym at.0) ∙ type_complete names typed
+  at_in_rules : (names : Names) (e : Expr) (t : Ty) (scope : Scope R) → At names scope → HasRuleType names e t → rule_type e (names_at world scope) ≡ Some t
+  at_in_rules names e t scope at typed = ap (rule_type e) (sym at.0) ∙ type_complete names typed
 
-  value_at : (names : Names) (e : Expr) (t : Ty) (scope : Scope R) → At names scope → HasRuleType names e t → (v : Value R) → served e scope ≡ Ok v → IsOf world t v
+  value_at : (names : Names) (e : Expr) (t : Ty) (scope : Scope R) → At names scope → HasRuleType names e t → (v : Value R) → in_rules e scope ≡ Ok v → IsOf world t v
   value_at names e t scope at typed = value_of_type world holds unknown names e t typed scope at.0 at.1
 
   -- what isn't a sequence is as it is
@@ -137,10 +137,10 @@ module _ {R : Type 0} (world : World R) (holds : HoldsRows world) (unknown : Fau
       (unsettled t (option_and_then (λ u. type_of_member (names_at world scope) m (out-Ty u)) (expression_type a (names_at world scope))) _
       (sym (type_of_node (node.Member a m) (names_at world scope)) ∙ ap (λ (x : Expr). expression_type x (names_at world scope)) (sym is) ∙ typed_at names e t scope at typed) none
       ∙ ap (λ (o : Result (Value R) Fault). on_ok o (λ v. value_of_member W (expression_type a (names_at world scope)) m (out-Value R v))) (alike scope at)
-      ∙ on_ok_same _ _ (served a scope)
+      ∙ on_ok_same _ _ (in_rules a scope)
       (λ v found. ap (λ (o : Option Ty). value_of_member W o m (out-Value R v)) (typed_at names a s scope at a_typed)
       ∙ member_same s m v known (value_at names a s scope at a_typed v found)
-      ∙ ap (λ (o : Option Ty). member_value W o m (out-Value R v)) (sym (served_at names a s scope at a_typed))))
+      ∙ ap (λ (o : Option Ty). member_value W o m (out-Value R v)) (sym (at_in_rules names a s scope at a_typed))))
 
   -- ---- operators
 
@@ -151,11 +151,11 @@ module _ {R : Type 0} (world : World R) (holds : HoldsRows world) (unknown : Fau
       (ap (λ (c : Bool). if c then equality_meaning W op (in_language a scope) (in_language b scope)
       else (if c then compared_meaning W op (in_language a scope) (in_language b scope)
       else operated_meaning W op (expression_type a (names_at world scope)) (expression_type b (names_at world scope)) (in_language a scope) (in_language b scope))) other
-      ∙ ap₂ (λ (o p : Option Ty). operated_meaning W op o p (in_language a scope) (in_language b scope)) (typed_at names a s scope at a_typed ∙ sym (served_at names a s scope at a_typed))
-      (typed_at names b t scope at b_typed ∙ sym (served_at names b t scope at b_typed))
+      ∙ ap₂ (λ (o p : Option Ty). operated_meaning W op o p (in_language a scope) (in_language b scope)) (typed_at names a s scope at a_typed ∙ sym (at_in_rules names a s scope at a_typed))
+      (typed_at names b t scope at b_typed ∙ sym (at_in_rules names b t scope at b_typed))
       ∙ ap₂ (λ (m n : Result (Value R) Fault). operated_meaning W op (rule_type a (names_at world scope)) (rule_type b (names_at world scope)) m n) (a_kept scope at) (b_kept scope at)
-      ∙ ap (λ (c : Bool). if c then compared_meaning W op (served a scope) (served b scope)
-      else operated_meaning W op (rule_type a (names_at world scope)) (rule_type b (names_at world scope)) (served a scope) (served b scope)) (sym other))
+      ∙ ap (λ (c : Bool). if c then compared_meaning W op (in_rules a scope) (in_rules b scope)
+      else operated_meaning W op (rule_type a (names_at world scope)) (rule_type b (names_at world scope)) (in_rules a scope) (in_rules b scope)) (sym other))
 
   -- layers that `Meaning` compares
   abbrev is_compared : Value-F R (Value R) → Bool
@@ -197,12 +197,12 @@ module _ {R : Type 0} (world : World R) (holds : HoldsRows world) (unknown : Fau
       else (if c then compared_meaning W op (in_language a scope) (in_language b scope)
       else operated_meaning W op (expression_type a (names_at world scope)) (expression_type b (names_at world scope)) (in_language a scope) (in_language b scope))) same
       ∙ ap₂ (equality_meaning W op) (a_kept scope at) (b_kept scope at)
-      ∙ comparand_step s (served a scope) s_none (value_at names a s scope at a_typed) _ _
-      (λ v v_fits. comparand_step t (served b scope) t_none (value_at names b t scope at b_typed) _ _
+      ∙ comparand_step s (in_rules a scope) s_none (value_at names a s scope at a_typed) _ _
+      (λ v v_fits. comparand_step t (in_rules b scope) t_none (value_at names b t scope at b_typed) _ _
       (λ w w_fits. ap (λ (o : Result Bool Fault). on_ok o (λ equal. Ok (truth_value (equality_truth op equal))))
       (layers_same (out-Value R v) (out-Value R w) (compared_there s v v_fits) (compared_there t w w_fits))))
-      ∙ ap (λ (c : Bool). if c then compared_meaning W op (served a scope) (served b scope)
-      else operated_meaning W op (rule_type a (names_at world scope)) (rule_type b (names_at world scope)) (served a scope) (served b scope)) (sym same))
+      ∙ ap (λ (c : Bool). if c then compared_meaning W op (in_rules a scope) (in_rules b scope)
+      else operated_meaning W op (rule_type a (names_at world scope)) (rule_type b (names_at world scope)) (in_rules a scope) (in_rules b scope)) (sym same))
 
   -- ---- searches
 
