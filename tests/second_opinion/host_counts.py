@@ -35,17 +35,36 @@ def counts_of(case, given):
         says = any(token.kind == "Host" for token in tokens)
         opens = bool(named & set(opening_names(tokens)))
         if says or opens:
-            counts.update(met(reply, says))
+            counts.update(met(reply, tokens, says))
         if "defined" in reply and (says or opens):
             named.add(reply["defined"])
     return counts
 
 
-def met(reply, says):
-    """Words for a reply to a line that asks, itself or by a named query alone."""
+def is_nested(tokens):
+    """Whether a predicate is asked in a query, or in a lambda, that is itself in one."""
+    # For each open bracket, and for the line around them, whether a query or a lambda has begun there.
+    levels = [False]
+    for token in tokens:
+        if token.kind in ("(", "{"):
+            levels.append(False)
+        elif token.kind in (")", "}"):
+            levels = levels[:-1] or [False]
+        elif token.kind in ("from", "=>"):
+            levels[-1] = True
+        elif token.kind == "Host" and sum(levels) > 1:
+            return True
+    return False
+
+
+def met(reply, tokens, says):
+    """Words for a reply to a line that asks, itself or by a named query alone. A line is nested where it asks in a query in another one, and
+    is neither refused nor denied."""
     yield "replies"
     yield kind_of(reply)
     if not says:
         yield "by a named query"
+    if is_nested(tokens) and not {"error", "denied"} & reply.keys():
+        yield "nested"
     if reply.get("use", "").startswith("Host."):
         yield "denied by no grant" if reply["denied"] == NO_GRANT else "denied by a withhold"
