@@ -77,7 +77,7 @@ IsAtEnd-before None after kept end = tt
 IsAtEnd-before (Some x) None kept end = absurd kept
 IsAtEnd-before (Some x) (Some y) kept end = sym kept ∙ end
 
--- the line feed behind a line was taken
+-- the line feed after a line was taken
 pub Gathering-ended : (before now after : Option (List ℕ)) (was_ended mid ended : Bool) (draft : Draft) (given : Input)
     → Gathering before now was_ended mid draft → GivesByte now after mid ended (Some 10)
     → ((line : List ℕ) → IsDraft line draft → IsInput line given) → Takes before after was_ended ended given
@@ -91,7 +91,7 @@ Gathering-ended before now after was_ended mid ended draft given gathering gives
       is_input = finish gathering.line gathering.draft;
     })
 
--- the end came behind a line
+-- the end came after a line
 pub Gathering-last : (before now after : Option (List ℕ)) (was_ended mid ended : Bool) (draft : Draft) (given : Input) (is_empty : Bool)
     → Gathering before now was_ended mid draft → GivesByte now after mid ended None
     → ((line : List ℕ) → IsDraft line draft → is_empty ≡ (length line == 0)) → is_empty ≡ false
@@ -108,7 +108,7 @@ Gathering-last before now after was_ended mid ended draft given is_empty gatheri
       is_input = finish gathering.line gathering.draft;
     })
 
--- the end came behind no line
+-- the end came after no line
 pub Gathering-none : (before now after : Option (List ℕ)) (was_ended mid ended : Bool) (draft : Draft) (is_empty : Bool)
     → Gathering before now was_ended mid draft → GivesByte now after mid ended None
     → ((line : List ℕ) → IsDraft line draft → is_empty ≡ (length line == 0)) → is_empty ≡ true

@@ -21,7 +21,7 @@ pieces-last : (word : List ℕ) → LacksSpace word → pieces_of word ≡ word 
 pieces-last [] lacks = refl
 pieces-last (b ∷ word) lacks = rw (LacksSpace-head b word lacks, pieces-last word (LacksSpace-tail b word lacks)) refl
 
--- the words of a text are its first piece, unless it is empty, and those behind the space
+-- the words of a text are its first piece, unless it is empty, and those after the space
 pub words-split : (word rest : List ℕ) → LacksSpace word → words_of (word ++ 32 ∷ rest) ≡ filter is_some_text (word ∷ []) ++ words_of rest
 unfolding words_of
 words-split [] rest lacks = refl

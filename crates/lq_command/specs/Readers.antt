@@ -20,12 +20,12 @@ abbrev pub GivesByte : Option (List ℕ) → Option (List ℕ) → Bool → Bool
 GivesByte before after was_ended ended (Some byte) = (was_ended ≡ false) × (ended ≡ false) × Consumes before after (byte ∷ [])
 GivesByte before after was_ended ended None = (ended ≡ true) × Keeps before after × (was_ended ≡ false → IsAtEnd before)
 
--- what stands behind a line: a line feed, or nothing at the end
+-- what comes after a line: a line feed, or nothing at the end
 abbrev pub ending : Bool → List ℕ
 ending true = []
 ending false = 10 ∷ []
 
--- One line was taken, with the line feed behind it or at the end, and is given as this.
+-- One line was taken, with the line feed after it or at the end, and is given as this.
 pub record TakesLine (before after : Option (List ℕ)) (ended : Bool) (given : Input) : Type 0 where
   pub line : List ℕ
   pub unbroken : list_all (λ c. not (c == 10)) line ≡ true

@@ -26,6 +26,6 @@ abbrev pub lacks_semicolon : Option (List Token) → Bool
 lacks_semicolon None = false
 lacks_semicolon (Some tokens) = is_open tokens
 
--- the statement on a line with the `;` that its end lacks, behind a line feed, where a comment has ended
+-- the statement on a line with the `;` that its end lacks, after a line feed, where a comment has ended
 unfoldable pub closed : List ℕ → List ℕ
 closed line = if lacks_semicolon (tokens_of line) then line ++ 10 ∷ 59 ∷ [] else line

@@ -6,7 +6,7 @@ abbrev pub onto_first : ℕ → List (List ℕ) → List (List ℕ)
 onto_first c [] = (c ∷ []) ∷ []
 onto_first c (piece ∷ pieces) = (c ∷ piece) ∷ pieces
 
--- what stands before, between and behind the spaces of a text
+-- what is before, between and after the spaces of a text
 abbrev pub pieces_of : List ℕ → List (List ℕ)
 pieces_of [] = [] ∷ []
 pieces_of (c ∷ cs) = if c == 32 then [] ∷ pieces_of cs else onto_first c (pieces_of cs)

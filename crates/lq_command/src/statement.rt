@@ -37,7 +37,7 @@ fn lacks_semicolon(alloc: Global, line: &str) -> Result<bool, AllocError>
     }
 }
 
-/// The statement on a line, with the `;` that its end lacks. The `;` goes behind a line feed, where a comment has ended.
+/// The statement on a line, with the `;` that its end lacks. The `;` goes after a line feed, where a comment has ended.
 #[tactic(auto, unfolding(crate::specs::Typing::closed))]
 pub fn closed(alloc: Global, line: &str) -> Result<String, AllocError>
     ensures { IfOk result (λ statement. string_bytes statement ≡ closed line.now) }

@@ -18,7 +18,7 @@ pub fn words_of<'a>(alloc: Global, text: &'a str) -> Result<Vec<&'a str>, AllocE
     Ok(words)
 }
 
-/// Puts a word behind the others, unless it is empty.
+/// Puts a word after the others, unless it is empty.
 fn add_word<'a>(words: &mut Vec<&'a str>, word: &'a str) -> Result<(), AllocError>
     ensures { OnOk result (map (λ word. word.now) words.new.items
         ≡ map (λ word. word.now) words.old.items ++ filter is_some_text (word.entry.now ∷ [])) }

@@ -54,7 +54,7 @@ next_tables s n ts schema rows old new all is has more so_far =
     ∙ ap₂ (λ (x : Schema) (y : List Row). old ++ (tables.table_rows s n x y ++ behind)) (sym at.same) (sym same_rows)
     ∙ ap (λ l. old ++ tables.tables_rows s n l) (sym (from_number ts n at.table at.there)) ∙ so_far
 
--- two rows behind others
+-- two rows after others
 pub two_more : {T E : Type 0} (r : Result T E) (old first second new columns : List (List Cell)) (a b c d : List Cell)
     → first ≡ old ++ columns → second ≡ first ++ a ∷ [] → OnOk r (new ≡ second ++ b ∷ []) → a ≡ c → b ≡ d
     → OnOk r (new ≡ old ++ (columns ++ (c ∷ d ∷ [])))

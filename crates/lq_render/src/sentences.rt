@@ -37,7 +37,7 @@ fn reason(name: &str) -> &'static str
     }
 }
 
-/// A fault, what happened, and what is said behind that.
+/// A fault, what happened, and what is said after that.
 fn fault_line(alloc: Global, name: &str, end: &str) -> Result<String, AllocError>
     ensures { IfOk result (λ text. string_bytes text ≡ fault_sentence name.now ++ end.now) }
 {
