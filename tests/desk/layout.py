@@ -58,7 +58,7 @@ def shortened(text):
 
 
 def word(text):
-    return text, False
+    return escaped(text), False
 
 
 def number(count):
@@ -120,7 +120,7 @@ def value_text(value, names):
     """A row or a record as a table of its members, whole; another value on a line."""
     if not isinstance(value, dict):
         return f"{text_of(value)}\n"
-    return table(["name", "value"], [[word(escaped(name)), word(text_of(value[name]))] for name in names])
+    return table(["name", "value"], [[word(name), word(text_of(value[name]))] for name in names])
 
 
 def rows_text(count):

@@ -11,7 +11,7 @@ sys.path.append(str(ROOT / "tests/second_opinion"))
 from commands import options_of  # noqa: E402
 from depth import DepthFault, check_depth  # noqa: E402
 from grammar import Tree, parse  # noqa: E402
-from layout import number, reply_text, table, word, yes  # noqa: E402
+from layout import escaped, number, reply_text, table, word, yes  # noqa: E402
 from lexer import SyntaxFault, tokens_of  # noqa: E402
 from opening import check_opened, opened_by  # noqa: E402
 from policies import failing_check, is_visible, may_remove  # noqa: E402
@@ -256,7 +256,7 @@ class Desk:
         if action not in ("delete", "insert", None):
             raise Misuse
         if name not in self.session.tables:
-            return f"There is no table {name}; .tables lists the tables.\n"
+            return f"There is no table {escaped(name)}; .tables lists the tables.\n"
         return self.reasons(name, wanted, action or "select")
 
     def command_rows(self, text):

@@ -12,7 +12,7 @@ use Rattle.lq_machine.specs.Machine.{Reply}
 use Rattle.lq_machine.specs.Output.{Answers}
 use Rattle.lq_machine.specs.States.{State, schemas_of}
 use Rattle.lq_run.specs.States.{SessionState}
-use Rattle.lq_render.specs.Replies.{front_of, line_text}
+use Rattle.lq_render.specs.Replies.{bytes_text, front_of, line_text}
 use Rattle.lq_render.specs.Types.{shape_of}
 use Rattle.lq_security.specs.declared.policy.Action.{Action}
 use Rattle.lq_machine.specs.ServedTypes.{line_type}
@@ -30,10 +30,10 @@ use Rattle.lq_prompt.specs.declared.settings.Settings.{Settings}
 
 -- ---- statements
 
--- A reply's line as people read it, by the type that it is served by.
-abbrev pub IsTextOf : Settings → List Table → Option Ty → List ℕ → List ℕ → Type 0
-IsTextOf settings tables ty line text =
-    IsUtf8 (front_of line) → text ≡ line_text (shape_of (schemas_of tables) settings.most_rows ty) (front_of line)
+-- A reply's line as people read it, by the type that it is served by; bytes that are no UTF-8 as a sentence that says so.
+pub record IsTextOf (settings : Settings) (tables : List Table) (ty : Option Ty) (line text : List ℕ) : Type 0 where
+  pub read : IsUtf8 (front_of line) → text ≡ line_text (shape_of (schemas_of tables) settings.most_rows ty) (front_of line)
+  pub other : ¬ IsUtf8 (front_of line) → text ≡ bytes_text
 
 -- A reply is shown as people read it, unless it was asked for as its line of JSON; and as that, too, where there was no memory for the
 -- text. Nothing is shown of none.
@@ -51,7 +51,7 @@ pub record Steps (settings : Settings) (statement : List ℕ) (old new : State) 
 
 -- ---- commands
 
--- what a command is about, which stands behind its name
+-- what a command is about, which follows its name
 abbrev pub object_of : List (List ℕ) → List ℕ
 object_of (name ∷ object ∷ more) = object
 object_of other = []
@@ -67,7 +67,7 @@ settings_after other settings = settings
 pub record Explains (s : SessionState) (starting : ℕ) (act : Action) (table : List ℕ) (place number : ℕ) (text : List ℕ) : Type 0 where
   pub why : Why
   pub disclosed : Discloses s.tables s.policies s.role starting act place number why
-  pub told : text ≡ why_text (record { role = present_role s; table = table; number = number; act = act }) why
+  pub reported : text ≡ why_text (record { role = present_role s; table = table; number = number; act = act }) why
 
 abbrev pub ExplainsIn : SessionState → ℕ → Action → List ℕ → ℕ → List ℕ → Option ℕ → Type 0
 ExplainsIn s starting act table number text None = text ≡ no_table_text table

@@ -5,6 +5,7 @@ use Rattle.lq_audit.specs.declared.answers.Why.TheVariants as why
 use Rattle.lq_policy.specs.declared.explaining.ExplainedPolicy.{ExplainedPolicy}
 use Rattle.lq_policy.specs.declared.explaining.Explanation.{Explanation}
 use Rattle.lq_policy.specs.declared.explaining.Explanation.TheVariants as explanation
+use Rattle.lq_render.specs.Cells.{escaped_text}
 use Rattle.lq_render.specs.Grids.{grid}
 use Rattle.lq_render.specs.declared.grid.Cell.{Cell}
 use Rattle.lq_security.specs.declared.policy.Action.{Action}
@@ -73,6 +74,6 @@ abbrev pub why_text : Question → Why → List ℕ
 why_text q (why.Explained found) = explained q found
 why_text q why.Secret = secret_text q
 
--- the table isn't there
+-- the table isn't there; what was typed for its name may have any characters
 abbrev pub no_table_text : List ℕ → List ℕ
-no_table_text table = joined (codes "There is no table " ∷ table ∷ codes "; .tables lists the tables.\n" ∷ [])
+no_table_text table = joined (codes "There is no table " ∷ escaped_text table ∷ codes "; .tables lists the tables.\n" ∷ [])

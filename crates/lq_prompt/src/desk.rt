@@ -180,7 +180,7 @@ impl Desk {
     }
 }
 
-/// What a command is about, which stands behind its name.
+/// What a command is about, which follows its name.
 fn object_of<'a>(words: &[&'a str]) -> &'a str
     ensures { result.now ≡ object_of (map (λ word. word.now) words.now) }
 {

@@ -3,7 +3,7 @@ ghost use Rattle.std.specs.Prelude.{◌≡◌, IfOk, decimal, map, string_bytes}
 ghost use Rattle.lq_render.specs.Grids.{grid};
 ghost use Rattle.lq_prompt.specs.Grids.{count, joined, word, yes};
 
-use lq_render::{Cell, grid_text};
+use lq_render::{Cell, escaped_text, grid_text};
 use lq_value::{List, Txt};
 use std::alloc::{AllocError, Global};
 
@@ -25,21 +25,14 @@ pub(crate) fn number_text(alloc: Global, number: u64) -> Result<String, AllocErr
     format!(in alloc; "{number}")
 }
 
-/// A cell with a text, which is moved and not copied.
-pub(crate) fn moved(text: String) -> Cell
-    ensures { result ≡ word (string_bytes text) }
-{
-    Cell {
-        text: Txt::from_string(text),
-        is_number: false,
-    }
-}
-
-/// A cell with a word.
+/// A cell with a word, whose control characters are escaped.
 pub(crate) fn word(alloc: Global, text: &str) -> Result<Cell, AllocError>
     ensures { IfOk result (λ cell. cell ≡ word text.now) }
 {
-    Ok(moved(String::from_str(alloc, text)?))
+    Ok(Cell {
+        text: escaped_text(alloc, text)?,
+        is_number: false,
+    })
 }
 
 /// A cell with a number.

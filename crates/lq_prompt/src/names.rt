@@ -3,7 +3,7 @@ ghost use Rattle.std.specs.Prelude.{◌≡◌, IfOk, map, string_bytes};
 ghost use Rattle.lq_session.specs.States.{state_of};
 ghost use Rattle.lq_prompt.specs.Names.{name_row, names_text, stands_for, type_of_name};
 
-use crate::grids::{joined, moved, row, table_text, word};
+use crate::grids::{joined, row, table_text, word};
 use lq_machine::{Defined, Definition};
 use lq_render::{Cell, type_text};
 use lq_session::Session;
@@ -42,8 +42,8 @@ fn name_row(
 {
     let name = definition.name.as_str();
     let kind = word(alloc, stands_for(&definition.defined))?;
-    let ty = moved(type_of_name(alloc, session, name)?);
-    row(alloc, [word(alloc, name)?, kind, ty])
+    let ty = type_of_name(alloc, session, name)?;
+    row(alloc, [word(alloc, name)?, kind, word(alloc, &ty)?])
 }
 
 /// The rows of names.

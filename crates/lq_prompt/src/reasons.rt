@@ -7,7 +7,7 @@ use crate::grids::{joined, number_text, row, table_text, word};
 use crate::question::Question;
 use lq_audit::Why;
 use lq_policy::{Action, ExplainedPolicy, Explanation};
-use lq_render::Cell;
+use lq_render::{Cell, escaped_text};
 use lq_value::List;
 use std::alloc::{AllocError, Global};
 
@@ -70,7 +70,7 @@ fn policy_rows(alloc: Global, policies: &[ExplainedPolicy]) -> Result<List<List<
     Ok(grid)
 }
 
-/// The policies that have a say, as a table.
+/// The policies that apply, as a table.
 fn policies_text(alloc: Global, policies: &[ExplainedPolicy]) -> Result<String, AllocError>
     ensures { IfOk result (λ text. string_bytes text ≡ policies_text policies.now) }
 {
@@ -126,7 +126,7 @@ fn condition_text<'a>(action: Action) -> &'a str
     }
 }
 
-/// The decision of the policies, and those that have a say in it.
+/// The decision of the policies, and those that apply.
 fn decided(
     alloc: Global,
     question: Question<'_>,
@@ -203,12 +203,17 @@ pub(crate) fn why_text(
     }
 }
 
-/// What is answered where there is no table of the name.
+/// What is answered where there is no table of the name, whose control characters are escaped.
 pub(crate) fn no_table_text(alloc: Global, table: &str) -> Result<String, AllocError>
     ensures { IfOk result (λ text. string_bytes text ≡ no_table_text table.now) }
 {
+    let table = escaped_text(alloc, table)?;
     joined(
         alloc,
-        &["There is no table ", table, "; .tables lists the tables.\n"],
+        &[
+            "There is no table ",
+            table.as_str(),
+            "; .tables lists the tables.\n",
+        ],
     )
 }

@@ -27,7 +27,7 @@ fn text_of(
         store: state.store(),
         most_rows: settings.most_rows,
     };
-    reply_text(alloc, line.bytes(), &layout)
+    Ok(reply_text(alloc, line.bytes(), &layout)?)
 }
 
 /// What is shown of the reply to a statement that is served by this type.

@@ -2,7 +2,7 @@
 ghost use Rattle.std.specs.Prelude.{◌≡◌, ◌++◌, IfOk, OnOk, map, string_bytes};
 ghost use Rattle.lq_prompt.specs.Tables.{column_row, count_seen, int_text, seen, table_rows, tables_rows, tables_text, type_of};
 
-use crate::grids::{count, joined, moved, row, table_text, word};
+use crate::grids::{count, joined, row, table_text, word};
 use lq_policy::{Action, Use};
 use lq_render::Cell;
 use lq_run::State;
@@ -63,9 +63,12 @@ fn seen(alloc: Global, state: &State, table: TableNumber, rows: &[Row]) -> Resul
 fn column_row(alloc: Global, column: &Column) -> Result<List<Cell>, AllocError>
     ensures { IfOk result (λ cells. cells ≡ column_row column.now) }
 {
-    let ty = moved(type_text(alloc, column)?);
+    let ty = type_text(alloc, column)?;
     let name = word(alloc, column.name.as_str())?;
-    row(alloc, [word(alloc, "")?, word(alloc, "")?, name, ty])
+    row(
+        alloc,
+        [word(alloc, "")?, word(alloc, "")?, name, word(alloc, &ty)?],
+    )
 }
 
 /// Adds the rows of columns.

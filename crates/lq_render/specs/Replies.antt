@@ -83,6 +83,10 @@ abbrev pub line_text : Shape → List ℕ → List ℕ
 line_text shape text =
     unwrap_or (option_and_then (text_of_reply shape) (option_and_then without_floats (read text))) (text ++ codes "\n")
 
+-- what is shown of bytes that are no UTF-8
+abbrev pub bytes_text : List ℕ
+bytes_text = codes "the reply is no text in UTF-8\n"
+
 -- a line without the line feed at its end
 abbrev pub front_of : List ℕ → List ℕ
 front_of line = if slice_index line (length line - 1) == 10 then take (length line - 1) line else line

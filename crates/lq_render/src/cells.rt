@@ -83,8 +83,9 @@ pub(crate) fn push_escaped(alloc: Global, out: &mut String, text: &str) -> Resul
     push_characters(out, characters.as_slice())
 }
 
-/// A text with its control characters escaped.
-pub(crate) fn escaped_text(alloc: Global, text: &str) -> Result<Txt, AllocError>
+/// A text with its control characters escaped as JSON escapes them, so that it stays on one line and no terminal obeys it.
+/// Refuses for want of memory alone.
+pub fn escaped_text(alloc: Global, text: &str) -> Result<Txt, AllocError>
     ensures { IfOk result (λ t. t ≡ escaped_text text.now) }
 {
     let mut out = String::new(alloc);

@@ -19,6 +19,7 @@ pub mod table_laws;
 mod types;
 mod value;
 
+pub use cells::escaped_text;
 pub use grid::{Cell, grid_text};
 pub use layout::Layout;
 pub use reply::reply_text;

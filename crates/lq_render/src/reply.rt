@@ -1,10 +1,10 @@
 //! Replies as people read them.
-ghost use Rattle.std.specs.Prelude.{◌≡◌, IfOk, IsUtf8, codes, option_and_then, option_map, string_bytes};
+ghost use Rattle.std.specs.Prelude.{◌≡◌, IfOk, IsUtf8, option_and_then, option_map, string_bytes};
 ghost use Rattle.serde_json.specs.Find.{as_str};
 ghost use Rattle.serde_json.specs.Read.{read};
 ghost use Rattle.serde_json.specs.View.{members_view, view};
 ghost use Rattle.lq_render.specs.Parts.{all_items, items_in};
-ghost use Rattle.lq_render.specs.Replies.{count_reply, denial, done_reply, front_of, items_and_fault, line_text, members_reply, pair_reply, plain_reply, sole_reply, text_of_reply, without_floats, word_reply};
+ghost use Rattle.lq_render.specs.Replies.{bytes_text, count_reply, denial, done_reply, front_of, items_and_fault, line_text, members_reply, pair_reply, plain_reply, sole_reply, text_of_reply, without_floats, word_reply};
 ghost use Rattle.lq_machine.specs.States.{schemas_of};
 ghost use Rattle.lq_render.specs.Types.{shape_of};
 
@@ -270,7 +270,7 @@ pub fn reply_text(alloc: Global, line: &[u8], layout: &Layout<'_>) -> Result<Str
         ≡ line_text (shape_of (schemas_of layout.now.store.now) layout.now.most_rows
         (option_map (λ ty. ty.now) layout.now.ty)) (front_of line.now)) }
     ensures other { IfOk result (λ text. ¬ IsUtf8 (front_of line.now) → string_bytes text
-        ≡ codes "the reply is no text in UTF-8\n") }
+        ≡ bytes_text) }
 {
     match str::from_utf8(front_of(line)) {
         Ok(line) => {
