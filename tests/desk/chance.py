@@ -28,7 +28,8 @@ LEAST = {
     r"^the role is ": 30, r"^1 row inserted$": 25, r"rows? deleted$": 22, r"^By the policies, \S+ may see": 14,
     r"^By the policies, \S+ may not see": 1, r"^By the policies, \S+ may delete": 10, r"^By the policies, \S+ may not delete": 1,
     r"^By the policies, \S+ may insert": 10, r"^By the policies, \S+ may not insert": 4, r"^\S+ sees no row": 70, r"^There is no table": 4,
-    r"^\{\"": 60, r"^Write ": 20, r"^There is no such command": 4,
+    r"^\{\"": 60, r"^Write ": 20, r"^There is no such command": 4, r"^ *Items:$": 90, r"^  +Items:$": 20, r"^  +Key: ": 35, r"^ +… \d": 6,
+    r"^\\[ntru]\S* +(permissive|restrictive) ": 10,
 }
 
 
@@ -53,7 +54,9 @@ SHOWN = [
     "run from x in T group new { b = x.C, a = x.C } by x.C into g select g", "run (from x in T group x by x.C).First()",
     "run T.Select(x => new { z = x, a = T.Select(y => y.C), n = 1 })",
     "run T.Select(x => new { x.C }).Concat(T.Select(x => true ? null : new { x.C }))",
-    "run T.Select(x => T.Select(y => y.C))", "run new { b = T.Count(), a = T, n = true }", "run T.Where(x => false)", "run new { T, k = 1 }",
+    "run T.Select(x => T.Select(y => y.C))", "run T.Select(x => T)", "run T.Select(x => (from y in T group y by x.C))",
+    "run from x in T group T.Select(y => new { y.C }) by x.C", "run from x in T group x.C by x.C into g group g by g.Count()",
+    "run new { b = T.Count(), a = T, n = true }", "run T.Where(x => false)", "run new { T, k = 1 }",
     'run T.Select(x => new { w = "TEXT", x.C })', 'run T.Select(x => "TEXT")', 'run new { w = "TEXT", n = 1 }', 'run from x in T group x by "TEXT"',
     "run T.Select(x => new { HEADING = x.C, k = 1 / T.Count() })",
 ]

@@ -24,6 +24,13 @@ DONE = {"defined": "{} is defined", "assigned": "{} is assigned", "role": "the r
 COUNTED = {"inserted": "inserted", "deleted": "deleted"}
 
 
+def depth(value):
+    """How many arrays and objects are around what is innermost in a value."""
+    if not isinstance(value, (dict, list)):
+        return 0
+    return 1 + max(map(depth, value.values() if isinstance(value, dict) else value), default=0)
+
+
 def width(text):
     """UAX 11 and 44: a wide character takes two columns, and a mark that combines, or that isn't seen, takes none."""
     return sum(map(columns_of, text))
@@ -90,30 +97,33 @@ def table(header, rows, indent=0):
     return "".join(f"{' ' * indent}{line}\n" for line in lines)
 
 
-def items_text(items, names, most, indent=0):
+def plain_text(items, names, indent):
     """Rows and records as a table of the columns of their type, in its order; other items one on a line."""
+    if names and all(isinstance(it, (dict, type(None))) for it in items):
+        return table([shortened(escaped(name)) for name in names], [[cell_of((it or {}).get(name)) for name in names] for it in items], indent)
+    return "".join(f"{' ' * indent}{text_of(it)}\n" for it in items)
+
+
+def items_text(items, shape, most, indent=0):
+    """The first items, by the shape of one, and how many more there are. A sequence and a group have theirs below a line."""
     if not items:
         return " " * indent + "no rows\n"
-    shown = items[:most]
-    if names and all(isinstance(it, (dict, type(None))) for it in shown):
-        text = table([shortened(escaped(name)) for name in names], [[cell_of((it or {}).get(name)) for name in names] for it in shown], indent)
+    shown, (kind, part) = items[:most], shape
+    if kind == "sequence":
+        text = "".join(f"{' ' * indent}Items:\n{items_text(it, part, most, indent + 2)}" for it in shown)
+    elif kind == "group":
+        text = "".join(group_text(it, part, most, indent) for it in shown)
     else:
-        text = "".join(f"{' ' * indent}{text_of(it)}\n" for it in shown)
+        text = plain_text(shown, part, indent)
     return text + left_out(len(items) - len(shown), indent)
 
 
-def left_out(count, indent=0):
+def left_out(count, indent):
     return f"{' ' * indent}… {count:,} more\n" if count else ""
 
 
-def group_text(group, names, most):
-    return f"Key: {text_of(group['Key'])}\n{items_text(group['items'], names, most, 2)}"
-
-
-def groups_text(groups, names, most):
-    if not groups:
-        return "no rows\n"
-    return "".join(group_text(it, names, most) for it in groups[:most]) + left_out(len(groups) - len(groups[:most]))
+def group_text(group, shape, most, indent=0):
+    return f"{' ' * indent}Key: {text_of(group['Key'])}\n{items_text(group['items'], shape, most, indent + 2)}"
 
 
 def value_text(value, names):
@@ -139,14 +149,14 @@ def denied_text(rule, use):
     return f"denied by {escaped(rule)}: {use}"
 
 
-def reply_text(reply, is_group, names, most):
-    """What is shown of a reply, whose items or value are groups or not, with the columns or members of these names."""
+def reply_text(reply, shape, most):
+    """What is shown of a reply by the shape of what is served: a pair of "sequence" and the shape of an item, of "group" and the shape of an
+    item, or of "plain" and the names of columns or members."""
+    kind, part = shape
     if "items" in reply:
-        items = reply["items"]
-        shown = groups_text(items, names, most) if is_group else items_text(items, names, most)
-        return shown + (f"{fault_text(reply['fault'])} (these are the items before it)\n" if "fault" in reply else "")
+        return items_text(reply["items"], part, most) + (f"{fault_text(reply['fault'])} (these are the items before it)\n" if "fault" in reply else "")
     if "value" in reply:
-        return group_text(reply["value"], names, most) if is_group else value_text(reply["value"], names)
+        return group_text(reply["value"], part, most) if kind == "group" else value_text(reply["value"], part)
     return f"{sentence_of(reply)}\n"
 
 

@@ -11,7 +11,7 @@ sys.path.append(str(ROOT / "tests/second_opinion"))
 from commands import options_of  # noqa: E402
 from depth import DepthFault, check_depth  # noqa: E402
 from grammar import Tree, parse  # noqa: E402
-from layout import escaped, number, reply_text, table, word, yes  # noqa: E402
+from layout import depth, escaped, number, reply_text, table, word, yes  # noqa: E402
 from lexer import SyntaxFault, tokens_of  # noqa: E402
 from opening import check_opened, opened_by  # noqa: E402
 from policies import failing_check, is_visible, may_remove  # noqa: E402
@@ -25,6 +25,7 @@ from tables import records_of, without_marks  # noqa: E402
 
 MOST_LINE_BYTES = 65_536
 MOST_SCRIPT_BYTES = 1_048_576
+MOST_DEPTH = 127
 HINT = "One statement per line; .help lists the commands; Ctrl-D ends.\n"
 # The Unicode characters with the property White_Space.
 WHITE = "\t\n\v\f\r \x85\xa0\u1680\u2000\u2001\u2002\u2003\u2004\u2005\u2006\u2007\u2008\u2009\u200a\u2028\u2029\u202f\u205f\u3000"
@@ -70,10 +71,13 @@ def type_text(its_type, is_part=False):
 
 
 def shape_of(its_type):
-    """Whether what is served are groups, and the columns or members of a row, a record or a group's item."""
-    item = its_type.item if isinstance(its_type, Sequence) else its_type
-    element = item.item if isinstance(item, Group) else item
-    return isinstance(item, Group), [name for name, _ in element.members] if isinstance(element, (Row, Record)) else []
+    """What a value of a type is for those who read it: a sequence or a group, with the shape of an item; or neither, with the names of the
+    columns of a row or the members of a record."""
+    if isinstance(its_type, Sequence):
+        return "sequence", shape_of(its_type.item)
+    if isinstance(its_type, Group):
+        return "group", shape_of(its_type.item)
+    return "plain", [name for name, _ in its_type.members] if isinstance(its_type, (Row, Record)) else []
 
 
 def closed(line):
@@ -212,9 +216,9 @@ class Desk:
         reply = {"error": "syntax"} if is_long else self.session.replied(line)
         if reply is None:
             return ""
-        if self.is_json:
+        if self.is_json or depth(reply) > MOST_DEPTH:
             return compact(reply)
-        return reply_text(reply, *(shape_of(its_type) if its_type else (False, [])), self.most)
+        return reply_text(reply, shape_of(its_type), self.most)
 
     # ---- commands
 

@@ -12,8 +12,8 @@ use Rattle.lq_machine.specs.Machine.{Reply}
 use Rattle.lq_machine.specs.Output.{Answers}
 use Rattle.lq_machine.specs.States.{State, schemas_of}
 use Rattle.lq_run.specs.States.{SessionState}
+use Rattle.lq_render.specs.Layouts.{shape_of}
 use Rattle.lq_render.specs.Replies.{bytes_text, front_of, line_text}
-use Rattle.lq_render.specs.Types.{shape_of}
 use Rattle.lq_security.specs.declared.policy.Action.{Action}
 use Rattle.lq_machine.specs.ServedTypes.{line_type}
 use Rattle.lq_store.specs.Rules.{name_of}

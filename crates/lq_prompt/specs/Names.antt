@@ -27,4 +27,4 @@ abbrev pub name_row : State → Definition → List Cell
 name_row s definition = word definition.name ∷ word (stands_for definition.defined) ∷ word (type_of_name s definition.name) ∷ []
 
 abbrev pub names_text : State → List ℕ
-names_text s = grid 0 (codes "name" ∷ codes "kind" ∷ codes "type" ∷ []) (map (name_row s) s.definitions)
+names_text s = grid [] (codes "name" ∷ codes "kind" ∷ codes "type" ∷ []) (map (name_row s) s.definitions)

@@ -37,7 +37,7 @@ policy_row policy = word policy.name ∷ word (kind_text policy.is_restrictive) 
 
 abbrev pub policies_text : List ExplainedPolicy → List ℕ
 policies_text [] = codes "No policy applies.\n"
-policies_text (policy ∷ policies) = grid 0 (codes "policy" ∷ codes "kind" ∷ codes "true" ∷ []) (map policy_row (policy ∷ policies))
+policies_text (policy ∷ policies) = grid [] (codes "policy" ∷ codes "kind" ∷ codes "true" ∷ []) (map policy_row (policy ∷ policies))
 
 -- ---- sentences
 

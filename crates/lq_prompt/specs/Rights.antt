@@ -37,4 +37,4 @@ rights_rows s n [] = []
 rights_rows s n (table ∷ tables) = table_rows s n table.schema ++ rights_rows s (n + 1) tables
 
 abbrev pub rights_text : SessionState → List ℕ
-rights_text s = grid 0 (codes "table" ∷ codes "use" ∷ codes "may" ∷ codes "denied by" ∷ []) (rights_rows s 0 s.tables)
+rights_text s = grid [] (codes "table" ∷ codes "use" ∷ codes "may" ∷ codes "denied by" ∷ []) (rights_rows s 0 s.tables)

@@ -15,4 +15,4 @@ role_row present role = word role.name ∷ yes (bytes_eq role.name present) ∷ 
 
 abbrev pub roles_text : SessionState → List ℕ
 roles_text s =
-    grid 0 (codes "role" ∷ codes "current" ∷ codes "bypasses row security" ∷ []) (map (role_row (present_role s)) s.policies.roles)
+    grid [] (codes "role" ∷ codes "current" ∷ codes "bypasses row security" ∷ []) (map (role_row (present_role s)) s.policies.roles)

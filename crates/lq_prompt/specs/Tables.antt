@@ -52,4 +52,4 @@ tables_rows s n [] = []
 tables_rows s n (table ∷ tables) = table_rows s n table.schema table.rows ++ tables_rows s (n + 1) tables
 
 abbrev pub tables_text : SessionState → List ℕ
-tables_text s = grid 0 (codes "table" ∷ codes "rows seen" ∷ codes "column" ∷ codes "type" ∷ []) (tables_rows s 0 s.tables)
+tables_text s = grid [] (codes "table" ∷ codes "rows seen" ∷ codes "column" ∷ codes "type" ∷ []) (tables_rows s 0 s.tables)

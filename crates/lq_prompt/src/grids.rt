@@ -1,5 +1,5 @@
 //! Texts, and the cells and headers of tables that people read.
-ghost use Rattle.std.specs.Prelude.{◌≡◌, IfOk, decimal, map, string_bytes};
+ghost use Rattle.std.specs.Prelude.{◌≡◌, [], IfOk, decimal, map, string_bytes};
 ghost use Rattle.lq_render.specs.Grids.{grid};
 ghost use Rattle.lq_prompt.specs.Grids.{count, joined, word, yes};
 
@@ -77,7 +77,7 @@ pub(crate) fn table_text(
     rows: &List<List<Cell>>,
 ) -> Result<String, AllocError>
     ensures { IfOk result (λ text. string_bytes text
-        ≡ grid 0 (map (λ name. name.now) names.now) rows.now) }
+        ≡ grid [] (map (λ name. name.now) names.now) rows.now) }
 {
     let header = header(alloc, names)?;
     grid_text(alloc, &header, rows.as_slice())

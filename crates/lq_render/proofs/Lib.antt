@@ -1,4 +1,5 @@
 pub mod ColumnLemmas
 pub mod Lists
 pub mod ReadingLemmas
+pub mod ShownTypes
 pub mod TypeFolds

@@ -48,16 +48,16 @@ abbrev pub cells_text : List ℕ → List Cell → List ℕ
 cells_text ns [] = []
 cells_text ns (cell ∷ cells) = placed_cell (first_width ns) cell (length cells == 0) ++ cells_text (other_widths ns) cells
 
--- a line of a table that is indented by so many spaces
-abbrev pub line : ℕ → List ℕ → List Cell → List ℕ
-line indent ns cells = spaces indent ++ (cells_text ns cells ++ codes "\n")
+-- a line of a table, after this indentation
+abbrev pub line : List ℕ → List ℕ → List Cell → List ℕ
+line indent ns cells = indent ++ (cells_text ns cells ++ codes "\n")
 
 -- a line of dashes under a heading
 abbrev pub dashes : ℕ → Cell
 dashes n = text_cell (repeat n (codes "-"))
 
--- a table: its header, dashes, and a line a row
-abbrev pub grid : ℕ → List (List ℕ) → List (List Cell) → List ℕ
+-- a table: its header, dashes, and a line a row, each after this indentation
+abbrev pub grid : List ℕ → List (List ℕ) → List (List Cell) → List ℕ
 grid indent header rows =
     let ns = widths header rows in
     line indent ns (map text_cell header) ++ (line indent ns (map dashes ns) ++ flat_map (line indent ns) rows)

@@ -1,5 +1,6 @@
 pub mod Cells
 pub mod Grids
+pub mod Layouts
 pub mod Parts
 pub mod Readings
 pub mod Replies

@@ -1,12 +1,11 @@
 -- What is shown of the items and the values of a reply: which cells, in which order, and how many items are left out.
-use Rattle.std.specs.Prelude.{◌∷◌, ◌++◌, ◌==◌, ◌-◌, ◌&&◌, List, [], ℕ, Bool, true, false, Option, Some, bytes_eq, codes, flat_map, fold, if◌then◌else◌, length, map, not, option_and_then, option_map, take, unwrap_or}
+use Rattle.std.specs.Prelude.{◌∷◌, ◌++◌, ◌==◌, ◌-◌, ◌&&◌, List, [], ℕ, Bool, true, false, Option, Some, None, bytes_eq, codes, flat_map, fold, if◌then◌else◌, length, map, not, option_and_then, option_map, take, unwrap_or}
 use Rattle.std.specs.List.{list_all, list_any}
 use Rattle.serde_json.specs.Data.{Data, Items, Members, item, member, no_items, no_members, null, object}
 use Rattle.serde_json.specs.Find.{as_array, get}
 use Rattle.lq_render.specs.Cells.{cell_of, count_text, short_text, ellipsis, escaped_text, text_cell, text_of}
-use Rattle.lq_render.specs.Grids.{grid, spaces}
+use Rattle.lq_render.specs.Grids.{grid}
 use Rattle.lq_render.specs.declared.grid.Cell.{Cell}
-use Rattle.lq_render.specs.declared.layout.Shape.{Shape}
 
 -- ---- what is in a value
 
@@ -63,66 +62,71 @@ abbrev pub heading : List ℕ → List ℕ
 heading name = short_text (escaped_text name)
 
 -- a table of these columns
-abbrev pub table_text : ℕ → List (List ℕ) → List Data → List ℕ
+abbrev pub table_text : List ℕ → List (List ℕ) → List Data → List ℕ
 table_text indent names items = grid indent (map heading names) (map (row_of names) items)
 
 -- ---- items
 
 -- a line of its own
-abbrev pub line_text : ℕ → Data → List ℕ
-line_text indent d = spaces indent ++ (text_of d ++ codes "\n")
+abbrev pub line_text : List ℕ → Data → List ℕ
+line_text indent d = indent ++ (text_of d ++ codes "\n")
 
 -- how many items are not shown
-abbrev pub left_out : ℕ → ℕ → List ℕ
-left_out indent n = if n == 0 then [] else spaces indent ++ (ellipsis ++ (codes " " ++ (count_text n ++ codes " more\n")))
+abbrev pub left_out : List ℕ → ℕ → List ℕ
+left_out indent n = if n == 0 then [] else indent ++ (ellipsis ++ (codes " " ++ (count_text n ++ codes " more\n")))
 
 -- rows and records as a table, other items one a line
-abbrev pub items_shown : ℕ → List (List ℕ) → List Data → List ℕ
+abbrev pub items_shown : List ℕ → List (List ℕ) → List Data → List ℕ
 items_shown indent names items =
     if is_table names items then table_text indent names items else flat_map (line_text indent) items
 
 -- by the columns of these names, and those that only the items have
-abbrev pub shown_by_columns : ℕ → List (List ℕ) → List Data → List ℕ
+abbrev pub shown_by_columns : List ℕ → List (List ℕ) → List Data → List ℕ
 shown_by_columns indent names items = items_shown indent (columns names items) items
 
 -- the first items, up to the most rows, and how many more there are
-abbrev pub first_items_text : ℕ → Shape → List Data → List ℕ
-first_items_text indent shape items =
-    shown_by_columns indent shape.names (take shape.most_rows items) ++ left_out indent (length items - shape.most_rows)
+abbrev pub first_text : ℕ → List ℕ → (List Data → List ℕ) → List Data → List ℕ
+first_text most indent shown items = shown (take most items) ++ left_out indent (length items - most)
 
-abbrev pub items_text : ℕ → Shape → List Data → List ℕ
-items_text indent shape items =
-    if length items == 0 then spaces indent ++ codes "no rows\n" else first_items_text indent shape items
+abbrev pub none_or_first : ℕ → List ℕ → (List Data → List ℕ) → List Data → List ℕ
+none_or_first most indent shown items =
+    if length items == 0 then indent ++ codes "no rows\n" else first_text most indent shown items
 
--- ---- groups
+-- ---- items below a line
 
--- a group's key as a heading, and its elements below it, indented by two
-abbrev pub group_shown : Shape → Data → List Data → List ℕ
-group_shown shape key elements = codes "Key: " ++ (text_of key ++ (codes "\n" ++ items_text 2 shape elements))
+-- how items are shown after an indentation
+abbrev pub ItemsText : Type 0
+ItemsText = List ℕ → List Data → List ℕ
 
--- a group; a value that isn't one has a line of its own
-abbrev pub group_or_line : Shape → Data → Option Data → Option (List Data) → List ℕ
-group_or_line shape d (Some key) (Some elements) = group_shown shape key elements
-group_or_line shape d key elements = line_text 0 d
+-- two blanks more
+abbrev pub deeper : List ℕ → List ℕ
+deeper indent = indent ++ codes "  "
+
+abbrev pub items_line : List ℕ → List ℕ
+items_line indent = indent ++ codes "Items:\n"
+
+-- a sequence in a sequence: its items below a line; a value that isn't one has a line of its own
+abbrev pub sequence_or_line : ItemsText → List ℕ → Data → Option (List Data) → List ℕ
+sequence_or_line below indent d (Some items) = items_line indent ++ below (deeper indent) items
+sequence_or_line below indent d None = line_text indent d
+
+abbrev pub sequence_text : ItemsText → List ℕ → Data → List ℕ
+sequence_text below indent d = sequence_or_line below indent d (items_in d)
+
+abbrev pub key_line : List ℕ → Data → List ℕ
+key_line indent key = indent ++ (codes "Key: " ++ (text_of key ++ codes "\n"))
+
+-- a group: its elements below its key; a value that isn't one has a line of its own
+abbrev pub group_or_line : ItemsText → List ℕ → Data → Option Data → Option (List Data) → List ℕ
+group_or_line below indent d (Some key) (Some elements) = key_line indent key ++ below (deeper indent) elements
+group_or_line below indent d key elements = line_text indent d
 
 -- the elements of a group
 abbrev pub elements_of : Data → Option (List Data)
 elements_of d = option_and_then items_in (get (codes "items") d)
 
-abbrev pub group_text : Shape → Data → List ℕ
-group_text shape d = group_or_line shape d (get (codes "Key") d) (elements_of d)
-
--- the first groups, up to the most rows, and how many more there are
-abbrev pub first_groups_text : Shape → List Data → List ℕ
-first_groups_text shape groups =
-    flat_map (group_text shape) (take shape.most_rows groups) ++ left_out 0 (length groups - shape.most_rows)
-
-abbrev pub groups_text : Shape → List Data → List ℕ
-groups_text shape groups = if length groups == 0 then codes "no rows\n" else first_groups_text shape groups
-
--- the items of a reply
-abbrev pub all_items : Shape → List Data → List ℕ
-all_items shape items = if shape.is_group then groups_text shape items else items_text 0 shape items
+abbrev pub group_text : ItemsText → List ℕ → Data → List ℕ
+group_text below indent d = group_or_line below indent d (get (codes "Key") d) (elements_of d)
 
 -- ---- values
 
@@ -131,13 +135,13 @@ abbrev pub member_row : Data → List ℕ → List Cell
 member_row d name = text_cell (escaped_text name) ∷ text_cell (text_of (member_of d name)) ∷ []
 
 abbrev pub member_table : List (List ℕ) → Data → List ℕ
-member_table names d = grid 0 (codes "name" ∷ codes "value" ∷ []) (map (member_row d) names)
+member_table names d = grid [] (codes "name" ∷ codes "value" ∷ []) (map (member_row d) names)
 
 -- A row or a record as a table of its members, each other value on a line.
 abbrev pub members_or_line : List (List ℕ) → Data → List ℕ
-members_or_line names (object ms) = if length names == 0 then line_text 0 (object ms) else member_table names (object ms)
-members_or_line names d = line_text 0 d
+members_or_line names (object ms) = if length names == 0 then line_text [] (object ms) else member_table names (object ms)
+members_or_line names d = line_text [] d
 
--- the value of a reply
-abbrev pub value_text : Shape → Data → List ℕ
-value_text shape d = if shape.is_group then group_text shape d else members_or_line (with_names shape.names d) d
+-- by the members of these names, and those that only the value has
+abbrev pub value_text : List (List ℕ) → Data → List ℕ
+value_text names d = members_or_line (with_names names d) d

@@ -6,8 +6,8 @@ use Rattle.std.specs.declared.cmp.Ordering.TheVariants.{Less}
 use Rattle.serde_json.specs.Data.{Data, Items, Members, Num, array, boolean, depth, float, item, member, negative, no_items, no_members, null, number, object, put, string, unsigned}
 use Rattle.serde_json.specs.Read.{max_depth}
 use Rattle.serde_json.specs.Written.{compact_text}
+use Rattle.lq_render.specs.Layouts.{Shape}
 use Rattle.lq_render.specs.Replies.{front_of, line_text, text_of_reply}
-use Rattle.lq_render.specs.declared.layout.Shape.{Shape}
 
 -- a number that is no float, within 64 bits
 abbrev pub IsInteger : Num → Type 0

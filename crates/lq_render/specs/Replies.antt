@@ -4,9 +4,9 @@ use Rattle.serde_json.specs.Data.{Data, Members, member, no_members, number, obj
 use Rattle.serde_json.specs.Find.{as_str, as_u64}
 use Rattle.serde_json.specs.Read.{read}
 use Rattle.serde_json.specs.Written.{has_float}
-use Rattle.lq_render.specs.Parts.{all_items, items_in, value_text}
+use Rattle.lq_render.specs.Layouts.{Shape}
+use Rattle.lq_render.specs.Parts.{items_in}
 use Rattle.lq_render.specs.Sentences.{assigned_text, defined_text, deleted_text, denied_text, ending_text, error_text, fault_text, inserted_text, role_text}
-use Rattle.lq_render.specs.declared.layout.Shape.{Shape}
 
 -- ---- replies of one member
 
@@ -40,8 +40,8 @@ plain_reply name d = None
 
 abbrev pub sole_reply : Shape → List ℕ → Data → Option (List ℕ)
 sole_reply shape name d =
-    if bytes_eq name (codes "items") then option_map (all_items shape) (items_in d)
-    else if bytes_eq name (codes "value") then Some (value_text shape d)
+    if bytes_eq name (codes "items") then option_map shape.items (items_in d)
+    else if bytes_eq name (codes "value") then Some (shape.value d)
     else plain_reply name d
 
 -- ---- replies of two members
@@ -52,7 +52,7 @@ denial rule used = None
 
 -- items before a fault
 abbrev pub items_and_fault : Shape → Option (List ℕ) → Option (List Data) → Option (List ℕ)
-items_and_fault shape (Some fault) (Some items) = Some (all_items shape items ++ ending_text fault)
+items_and_fault shape (Some fault) (Some items) = Some (shape.items items ++ ending_text fault)
 items_and_fault shape fault items = None
 
 abbrev pub pair_reply : Shape → List ℕ × Data → List ℕ × Data → Option (List ℕ)

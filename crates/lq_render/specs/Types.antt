@@ -1,11 +1,9 @@
 -- Types as people read them, and the columns that they give a table.
 use Rattle.std.specs.Prelude.{◌∷◌, ◌++◌, List, [], ℕ, Bool, true, false, Option, Some, None, codes, if◌then◌else◌, map, slice_get}
 use Rattle.lq_value.specs.declared.table.Schema.{Schema}
-use Rattle.lq_value.specs.declared.ty.Ty.{Ty, fold-Ty, out-Ty}
+use Rattle.lq_value.specs.declared.ty.Ty.{Ty, fold-Ty}
 use Rattle.lq_value.specs.declared.ty.Ty.TheOpen.{Ty-F}
 use Rattle.lq_machine.specs.Served.{columns_in}
-use Rattle.lq_machine.specs.States.{schemas_of}
-use Rattle.lq_render.specs.declared.layout.Shape.{Shape}
 
 abbrev pub table_name : Option Schema → List ℕ
 table_name None = []
@@ -60,22 +58,7 @@ type_text schemas ty = type_part schemas ty false
 -- ---- the columns of a type
 
 -- the names of the members of values of a type, in the type's order
-abbrev pub member_names : List Schema → Ty-F Ty → List (List ℕ)
+abbrev pub member_names : {T : Type 0} → List Schema → Ty-F T → List (List ℕ)
 member_names schemas (Ty-F.Row t) = columns_in (slice_get schemas t)
 member_names schemas (Ty-F.Rec fields) = map (λ field. field.0) fields
 member_names schemas layer = []
-
--- the shape of values of a type: whether they are groups, and the members of a row, a record or a group's element
-abbrev pub shape_in : List Schema → ℕ → Ty-F Ty → Shape
-shape_in schemas most_rows (Ty-F.Group key element) =
-    record { is_group = true; names = member_names schemas (out-Ty element); most_rows = most_rows }
-shape_in schemas most_rows layer = record { is_group = false; names = member_names schemas layer; most_rows = most_rows }
-
--- a sequence has the shape of its items
-abbrev pub shape_of_layer : List Schema → ℕ → Ty-F Ty → Shape
-shape_of_layer schemas most_rows (Ty-F.Seq item) = shape_in schemas most_rows (out-Ty item)
-shape_of_layer schemas most_rows layer = shape_in schemas most_rows layer
-
-abbrev pub shape_of : List Schema → ℕ → Option Ty → Shape
-shape_of schemas most_rows None = record { is_group = false; names = []; most_rows = most_rows }
-shape_of schemas most_rows (Some ty) = shape_of_layer schemas most_rows (out-Ty ty)

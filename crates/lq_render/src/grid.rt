@@ -1,5 +1,5 @@
 //! Tables as lines of text, with each column as wide as the widest text in it.
-ghost use Rattle.std.specs.Prelude.{◌≡◌, ◌++◌, OnOk, IfOk, map, codes, flat_map, slice_get, string_bytes};
+ghost use Rattle.std.specs.Prelude.{◌≡◌, ◌++◌, [], OnOk, IfOk, map, codes, flat_map, slice_get, string_bytes};
 ghost use Rattle.std.specs.List.{repeat};
 ghost use Rattle.lq_render.specs.Cells.{text_cell, width};
 ghost use Rattle.lq_render.specs.Grids.{cell_width, cells_text, column_width, dashes, filled_cell, first_width, grid, line, other_widths, placed_cell, widths};
@@ -37,7 +37,7 @@ pub(crate) fn width_of(text: &str) -> usize
 }
 
 /// Puts a text at the end so many times.
-pub(crate) fn push_repeated(out: &mut String, text: &str, count: usize) -> Result<(), AllocError>
+fn push_repeated(out: &mut String, text: &str, count: usize) -> Result<(), AllocError>
     ensures { OnOk result (string_bytes out.new ≡ string_bytes out.old ++ repeat count text.now) }
 {
     let mut left = count;
@@ -107,14 +107,14 @@ fn push_cells(out: &mut String, widths: &[usize], cells: &[Cell]) -> Result<(), 
 /// Puts a line of a table at the end.
 fn push_line(
     out: &mut String,
-    indent: usize,
+    indent: &str,
     widths: &[usize],
     cells: &[Cell],
 ) -> Result<(), AllocError>
     ensures { OnOk result (string_bytes out.new
-        ≡ string_bytes out.old ++ line indent widths.now cells.now) }
+        ≡ string_bytes out.old ++ line indent.now widths.now cells.now) }
 {
-    push_repeated(out, " ", indent)?;
+    out.push_str(indent)?;
     push_cells(out, widths, cells)?;
     out.push_str("\n")
 }
@@ -183,12 +183,12 @@ fn dash_cells(alloc: Global, widths: &[usize]) -> Result<Vec<Cell>, AllocError>
 /// Puts a line a row at the end.
 fn push_rows(
     out: &mut String,
-    indent: usize,
+    indent: &str,
     widths: &[usize],
     rows: &[List<Cell>],
 ) -> Result<(), AllocError>
     ensures { OnOk result (string_bytes out.new
-        ≡ string_bytes out.old ++ flat_map (line indent widths.now) rows.now) }
+        ≡ string_bytes out.old ++ flat_map (line indent.now widths.now) rows.now) }
 {
     for row in rows {
         push_line(out, indent, widths, row.as_slice())?;
@@ -196,16 +196,16 @@ fn push_rows(
     Ok(())
 }
 
-/// Puts a table at the end, each line of it indented by so many spaces.
+/// Puts a table at the end, each line of it after this indentation.
 pub(crate) fn push_grid(
     alloc: Global,
     out: &mut String,
-    indent: usize,
+    indent: &str,
     header: &[Txt],
     rows: &[List<Cell>],
 ) -> Result<(), AllocError>
     ensures { OnOk result (string_bytes out.new
-        ≡ string_bytes out.old ++ grid indent header.now rows.now) }
+        ≡ string_bytes out.old ++ grid indent.now header.now rows.now) }
 {
     let widths = widths_of(alloc, header, rows)?;
     let headings = header_cells(alloc, header)?;
@@ -220,9 +220,9 @@ pub(crate) fn push_grid(
 /// have fewer cells than there are headings; cells past the last heading follow one another unaligned.
 /// Refuses for want of memory alone.
 pub fn grid_text(alloc: Global, header: &[Txt], rows: &[List<Cell>]) -> Result<String, AllocError>
-    ensures { IfOk result (λ text. string_bytes text ≡ grid 0 header.now rows.now) }
+    ensures { IfOk result (λ text. string_bytes text ≡ grid [] header.now rows.now) }
 {
     let mut text = String::new(alloc);
-    push_grid(alloc, &mut text, 0, header, rows)?;
+    push_grid(alloc, &mut text, "", header, rows)?;
     Ok(text)
 }

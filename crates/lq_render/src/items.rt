@@ -1,15 +1,14 @@
 //! Items: rows and records as a table, others one a line.
-ghost use Rattle.std.specs.Prelude.{◌≡◌, ◌++◌, OnOk, IfOk, flat_map, length, map, option_map, string_bytes, take};
+ghost use Rattle.std.specs.Prelude.{◌≡◌, ◌++◌, OnOk, IfOk, codes, flat_map, length, map, option_map, string_bytes, take};
 ghost use Rattle.std.specs.List.{list_all};
 ghost use Rattle.serde_json.specs.View.{view};
 ghost use Rattle.lq_render.specs.Cells.{cell_of};
-ghost use Rattle.lq_render.specs.Parts.{first_items_text, heading, is_row, items_in, items_shown, items_text, left_out, line_text, member_of, row_of, shown_by_columns, table_text};
+ghost use Rattle.lq_render.specs.Parts.{heading, is_row, items_in, items_shown, left_out, line_text, member_of, row_of, shown_by_columns, table_text};
 
 use crate::cells::{cell_of, escaped_text, short_text, text_of};
 use crate::columns::columns_of;
 use crate::counts::push_count;
-use crate::grid::{Cell, push_grid, push_repeated};
-use crate::layout::Shape;
+use crate::grid::{Cell, push_grid};
 use lq_value::{List, Txt};
 use serde_json::Value;
 use std::alloc::{AllocError, Global};
@@ -91,12 +90,12 @@ fn headings(alloc: Global, names: &[Txt]) -> Result<Vec<Txt>, AllocError>
 fn push_table(
     alloc: Global,
     out: &mut String,
-    indent: usize,
+    indent: &str,
     names: &[Txt],
     items: &[Value],
 ) -> Result<(), AllocError>
     ensures { OnOk result (string_bytes out.new
-        ≡ string_bytes out.old ++ table_text indent names.now (map view items.now)) }
+        ≡ string_bytes out.old ++ table_text indent.now names.now (map view items.now)) }
 {
     let header = headings(alloc, names)?;
     let rows = rows_of(alloc, names, items)?;
@@ -107,14 +106,14 @@ fn push_table(
 pub(crate) fn push_line(
     alloc: Global,
     out: &mut String,
-    indent: usize,
+    indent: &str,
     value: &Value,
 ) -> Result<(), AllocError>
     ensures { OnOk result (string_bytes out.new
-        ≡ string_bytes out.old ++ line_text indent (view value.now)) }
+        ≡ string_bytes out.old ++ line_text indent.now (view value.now)) }
 {
     let text = text_of(alloc, value)?;
-    push_repeated(out, " ", indent)?;
+    out.push_str(indent)?;
     out.push_str(text.as_str())?;
     out.push_str("\n")
 }
@@ -123,11 +122,11 @@ pub(crate) fn push_line(
 fn push_lines(
     alloc: Global,
     out: &mut String,
-    indent: usize,
+    indent: &str,
     items: &[Value],
 ) -> Result<(), AllocError>
     ensures { OnOk result (string_bytes out.new
-        ≡ string_bytes out.old ++ flat_map (line_text indent) (map view items.now)) }
+        ≡ string_bytes out.old ++ flat_map (line_text indent.now) (map view items.now)) }
 {
     for item in items {
         push_line(alloc, out, indent, item)?;
@@ -139,12 +138,12 @@ fn push_lines(
 fn push_shown(
     alloc: Global,
     out: &mut String,
-    indent: usize,
+    indent: &str,
     names: &[Txt],
     items: &[Value],
 ) -> Result<(), AllocError>
     ensures { OnOk result (string_bytes out.new
-        ≡ string_bytes out.old ++ items_shown indent names.now (map view items.now)) }
+        ≡ string_bytes out.old ++ items_shown indent.now names.now (map view items.now)) }
 {
     if !names.is_empty() && are_rows(items) {
         return push_table(alloc, out, indent, names, items);
@@ -153,15 +152,15 @@ fn push_shown(
 }
 
 /// Puts items at the end by their columns: those of these names, and then those that only the items have.
-fn push_by_columns(
+pub(crate) fn push_by_columns(
     alloc: Global,
     out: &mut String,
-    indent: usize,
+    indent: &str,
     names: &[Txt],
     items: &[Value],
 ) -> Result<(), AllocError>
     ensures { OnOk result (string_bytes out.new
-        ≡ string_bytes out.old ++ shown_by_columns indent names.now (map view items.now)) }
+        ≡ string_bytes out.old ++ shown_by_columns indent.now names.now (map view items.now)) }
 {
     let columns = columns_of(alloc, names, items)?;
     push_shown(alloc, out, indent, columns.as_slice(), items)
@@ -171,15 +170,16 @@ fn push_by_columns(
 pub(crate) fn push_left_out(
     alloc: Global,
     out: &mut String,
-    indent: usize,
+    indent: &str,
     count: usize,
 ) -> Result<(), AllocError>
-    ensures { OnOk result (string_bytes out.new ≡ string_bytes out.old ++ left_out indent count) }
+    ensures { OnOk result (string_bytes out.new
+        ≡ string_bytes out.old ++ left_out indent.now count) }
 {
     if count == 0 {
         return Ok(());
     }
-    push_repeated(out, " ", indent)?;
+    out.push_str(indent)?;
     out.push_str("… ")?;
     push_count(alloc, out, count as u64)?;
     out.push_str(" more\n")
@@ -217,41 +217,11 @@ pub(crate) fn items_in(value: &Value) -> Option<&[Value]>
     }
 }
 
-/// Puts the first items at the end, up to the most rows, and how many more there are.
-fn push_first(
-    alloc: Global,
-    out: &mut String,
-    indent: usize,
-    shape: &Shape,
-    items: &[Value],
-) -> Result<(), AllocError>
+/// Puts at the end that there are no items.
+pub(crate) fn push_none(out: &mut String, indent: &str) -> Result<(), AllocError>
     ensures { OnOk result (string_bytes out.new
-        ≡ string_bytes out.old ++ first_items_text indent shape.now (map view items.now)) }
+        ≡ string_bytes out.old ++ (indent.now ++ codes "no rows\n")) }
 {
-    let first = first_items(items, shape.most_rows);
-    push_by_columns(alloc, out, indent, shape.names.as_slice(), first)?;
-    push_left_out(
-        alloc,
-        out,
-        indent,
-        count_of(items).saturating_sub(shape.most_rows),
-    )
-}
-
-/// Puts items at the end, up to the most rows, and how many more there are.
-pub(crate) fn push_items(
-    alloc: Global,
-    out: &mut String,
-    indent: usize,
-    shape: &Shape,
-    items: &[Value],
-) -> Result<(), AllocError>
-    ensures { OnOk result (string_bytes out.new
-        ≡ string_bytes out.old ++ items_text indent shape.now (map view items.now)) }
-{
-    if count_of(items) == 0 {
-        push_repeated(out, " ", indent)?;
-        return out.push_str("no rows\n");
-    }
-    push_first(alloc, out, indent, shape, items)
+    out.push_str(indent)?;
+    out.push_str("no rows\n")
 }

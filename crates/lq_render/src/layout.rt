@@ -1,9 +1,9 @@
 //! What a reply is shown by: the type of what a statement serves, and the most rows.
-ghost use Rattle.std.specs.Prelude.{◌≡◌, IfOk, map, option_map, slice_get};
+ghost use Rattle.std.specs.Prelude.{◌≡◌, IfOk, map, slice_get};
 ghost use Rattle.lq_value.specs.declared.ty.Ty.{out-Ty};
 ghost use Rattle.lq_machine.specs.Served.{columns_in};
 ghost use Rattle.lq_machine.specs.States.{schemas_of};
-ghost use Rattle.lq_render.specs.Types.{member_names, shape_in, shape_of};
+ghost use Rattle.lq_render.specs.Types.{member_names};
 
 use lq_store::Store;
 use lq_value::{Column, List, TableNumber, Txt, Ty};
@@ -16,18 +16,7 @@ pub struct Layout<'a> {
     pub ty: Option<&'a Ty>,
     /// The tables, whose schemas give the names of columns.
     pub store: &'a Store,
-    /// The most rows of a table, lines of a list or groups that are shown.
-    pub most_rows: usize,
-}
-
-/// The shape of what a reply holds.
-#[derive(Drop)]
-pub(crate) struct Shape {
-    /// Whether the items or the value are groups.
-    pub is_group: bool,
-    /// The members of a row, a record or a group's element, in the order of their type.
-    pub names: List<Txt>,
-    /// The most rows that are shown.
+    /// The most rows of a table, lines of a list, groups or sequences that are shown, and so at each level.
     pub most_rows: usize,
 }
 
@@ -65,7 +54,7 @@ fn names_of_fields(alloc: Global, fields: &[(Txt, Ty)]) -> Result<List<Txt>, All
 }
 
 /// The names of the members of values of a type.
-fn member_names(alloc: Global, store: &Store, ty: &Ty) -> Result<List<Txt>, AllocError>
+pub(crate) fn member_names(alloc: Global, store: &Store, ty: &Ty) -> Result<List<Txt>, AllocError>
     ensures { IfOk result (λ names. names
         ≡ member_names (schemas_of store.now) (out-Ty ty.now)) }
 {
@@ -74,40 +63,6 @@ fn member_names(alloc: Global, store: &Store, ty: &Ty) -> Result<List<Txt>, Allo
         Ty::Rec(fields) => names_of_fields(alloc, fields.as_slice()),
         Ty::Int | Ty::IntN | Ty::Bool | Ty::Str | Ty::Null | Ty::Group(_, _) | Ty::Seq(_) => {
             Ok(List::new(alloc))
-        }
-    }
-}
-
-/// The shape of values of a type that is no sequence.
-fn shape_in(alloc: Global, store: &Store, most_rows: usize, ty: &Ty) -> Result<Shape, AllocError>
-    ensures { IfOk result (λ shape. shape
-        ≡ shape_in (schemas_of store.now) most_rows (out-Ty ty.now)) }
-{
-    let (is_group, element) = match ty {
-        Ty::Group(_, element) => (true, element.get()),
-        _ => (false, ty),
-    };
-    Ok(Shape {
-        is_group,
-        names: member_names(alloc, store, element)?,
-        most_rows,
-    })
-}
-
-impl Layout<'_> {
-    /// The shape of the type; that of a sequence is the shape of its items.
-    pub(crate) fn shape(&self, alloc: Global) -> Result<Shape, AllocError>
-        ensures { IfOk result (λ shape. shape ≡ shape_of (schemas_of self.now.store.now)
-            self.now.most_rows (option_map (λ ty. ty.now) self.now.ty)) }
-    {
-        match self.ty {
-            Some(Ty::Seq(item)) => shape_in(alloc, self.store, self.most_rows, item.get()),
-            Some(ty) => shape_in(alloc, self.store, self.most_rows, ty),
-            None => Ok(Shape {
-                is_group: false,
-                names: List::new(alloc),
-                most_rows: self.most_rows,
-            }),
         }
     }
 }

@@ -1,6 +1,6 @@
 //! What people read of a reply at a prompt: the JSON line of a session's reply as a table or a sentence.
 //!
-//! The text is exactly that of the reply as `specs/Replies.antt` defines it. Each item has its line, in the
+//! The text is exactly that of the reply as `specs/Replies.antt` defines it. Each item has its line or lines, in the
 //! items' order, with a cell a column, and where there are more items than are shown, their number is said.
 #![tactic(auto)]
 
@@ -9,12 +9,13 @@ mod columns;
 mod counts;
 mod floats;
 mod grid;
-mod groups;
 mod items;
 mod layout;
+mod nested;
 pub mod reading_laws;
 mod reply;
 mod sentences;
+mod served;
 pub mod table_laws;
 mod types;
 mod value;

@@ -3,20 +3,19 @@ ghost use Rattle.std.specs.Prelude.{◌≡◌, IfOk, IsUtf8, option_and_then, op
 ghost use Rattle.serde_json.specs.Find.{as_str};
 ghost use Rattle.serde_json.specs.Read.{read};
 ghost use Rattle.serde_json.specs.View.{members_view, view};
-ghost use Rattle.lq_render.specs.Parts.{all_items, items_in};
+ghost use Rattle.lq_render.specs.Parts.{items_in};
 ghost use Rattle.lq_render.specs.Replies.{bytes_text, count_reply, denial, done_reply, front_of, items_and_fault, line_text, members_reply, pair_reply, plain_reply, sole_reply, text_of_reply, without_floats, word_reply};
 ghost use Rattle.lq_machine.specs.States.{schemas_of};
-ghost use Rattle.lq_render.specs.Types.{shape_of};
+ghost use Rattle.lq_render.specs.Layouts.{shape_by, shape_of};
 
 use crate::floats::has_float;
-use crate::groups::push_all;
 use crate::items::items_in;
-use crate::layout::{Layout, Shape};
+use crate::layout::Layout;
 use crate::sentences::{
     assigned_text, defined_text, deleted_text, denied_text, ending_text, error_text, fault_text,
     inserted_text, role_text,
 };
-use crate::value::push_value;
+use crate::served::{push_served_items, push_served_value};
 use serde_json::{Map, Value};
 use std::alloc::{AllocError, Global};
 
@@ -81,14 +80,18 @@ fn plain_reply(alloc: Global, name: &str, member: &Value) -> Result<Option<Strin
 }
 
 /// The text of the items of a reply; none of a value that is no array.
-fn items_reply(alloc: Global, shape: &Shape, member: &Value) -> Result<Option<String>, AllocError>
+fn items_reply(
+    alloc: Global,
+    layout: &Layout<'_>,
+    member: &Value,
+) -> Result<Option<String>, AllocError>
     ensures { IfOk result (λ reply. option_map string_bytes reply
-        ≡ option_map (all_items shape.now) (items_in (view member.now))) }
+        ≡ option_map (shape_by layout.now).items (items_in (view member.now))) }
 {
     match items_in(member) {
         Some(items) => {
             let mut text = String::new(alloc);
-            push_all(alloc, &mut text, shape, items)?;
+            push_served_items(alloc, &mut text, layout, items)?;
             Ok(Some(text))
         }
         None => Ok(None),
@@ -98,19 +101,19 @@ fn items_reply(alloc: Global, shape: &Shape, member: &Value) -> Result<Option<St
 /// The text of a reply of one member; none of what is no such reply.
 fn sole_reply(
     alloc: Global,
-    shape: &Shape,
+    layout: &Layout<'_>,
     name: &str,
     member: &Value,
 ) -> Result<Option<String>, AllocError>
     ensures { IfOk result (λ reply. option_map string_bytes reply
-        ≡ sole_reply shape.now name.now (view member.now)) }
+        ≡ sole_reply (shape_by layout.now) name.now (view member.now)) }
 {
     if name == "items" {
-        return items_reply(alloc, shape, member);
+        return items_reply(alloc, layout, member);
     }
     if name == "value" {
         let mut text = String::new(alloc);
-        push_value(alloc, &mut text, shape, member)?;
+        push_served_value(alloc, &mut text, layout, member)?;
         return Ok(Some(text));
     }
     plain_reply(alloc, name, member)
@@ -130,17 +133,18 @@ fn denial(alloc: Global, rule: &Value, used: &Value) -> Result<Option<String>, A
 /// The text of items before a fault; none where these are no items, or the fault has no name.
 fn items_and_fault(
     alloc: Global,
-    shape: &Shape,
+    layout: &Layout<'_>,
     fault: &Value,
     items: &Value,
 ) -> Result<Option<String>, AllocError>
     ensures { IfOk result (λ reply. option_map string_bytes reply
-        ≡ items_and_fault shape.now (as_str (view fault.now)) (items_in (view items.now))) }
+        ≡ items_and_fault (shape_by layout.now) (as_str (view fault.now))
+        (items_in (view items.now))) }
 {
     match (fault.as_str(), items_in(items)) {
         (Some(fault), Some(items)) => {
             let mut text = String::new(alloc);
-            push_all(alloc, &mut text, shape, items)?;
+            push_served_items(alloc, &mut text, layout, items)?;
             let ending = ending_text(alloc, fault)?;
             text.push_str(ending.as_str())?;
             Ok(Some(text))
@@ -152,19 +156,19 @@ fn items_and_fault(
 /// The text of a reply of two members; none of what is no such reply.
 fn pair_reply(
     alloc: Global,
-    shape: &Shape,
+    layout: &Layout<'_>,
     first: (&str, &Value),
     second: (&str, &Value),
 ) -> Result<Option<String>, AllocError>
     ensures { IfOk result (λ reply. option_map string_bytes reply
-        ≡ pair_reply shape.now (first.entry.0.now, view first.entry.1.now)
+        ≡ pair_reply (shape_by layout.now) (first.entry.0.now, view first.entry.1.now)
         (second.entry.0.now, view second.entry.1.now)) }
 {
     if first.0 == "denied" && second.0 == "use" {
         return denial(alloc, first.1, second.1);
     }
     if first.0 == "fault" && second.0 == "items" {
-        return items_and_fault(alloc, shape, first.1, second.1);
+        return items_and_fault(alloc, layout, first.1, second.1);
     }
     Ok(None)
 }
@@ -172,37 +176,41 @@ fn pair_reply(
 /// The text of a reply of these members; none of what is no reply.
 fn members_reply(
     alloc: Global,
-    shape: &Shape,
+    layout: &Layout<'_>,
     members: &Map<String, Value>,
 ) -> Result<Option<String>, AllocError>
     ensures { IfOk result (λ reply. option_map string_bytes reply
-        ≡ members_reply shape.now (members_view members.now.entries)) }
+        ≡ members_reply (shape_by layout.now) (members_view members.now.entries)) }
 {
     let mut left = members.iter();
     let Some((name, member)) = left.next() else {
         return Ok(None);
     };
     let Some((other_name, other)) = left.next() else {
-        return sole_reply(alloc, shape, name.as_str(), member);
+        return sole_reply(alloc, layout, name.as_str(), member);
     };
     if left.next().is_some() {
         return Ok(None);
     }
     pair_reply(
         alloc,
-        shape,
+        layout,
         (name.as_str(), member),
         (other_name.as_str(), other),
     )
 }
 
 /// The text of a reply; none of what is no reply.
-fn text_of_reply(alloc: Global, shape: &Shape, reply: &Value) -> Result<Option<String>, AllocError>
+fn text_of_reply(
+    alloc: Global,
+    layout: &Layout<'_>,
+    reply: &Value,
+) -> Result<Option<String>, AllocError>
     ensures { IfOk result (λ text. option_map string_bytes text
-        ≡ text_of_reply shape.now (view reply.now)) }
+        ≡ text_of_reply (shape_by layout.now) (view reply.now)) }
 {
     match reply {
-        Value::Object(members) => members_reply(alloc, shape, members),
+        Value::Object(members) => members_reply(alloc, layout, members),
         Value::Null | Value::Bool(_) | Value::Number(_) | Value::String(_) | Value::Array(_) => Ok(
             None,
         ),
@@ -231,22 +239,22 @@ fn read_reply(alloc: Global, line: &str) -> Result<Option<Value>, AllocError>
 }
 
 /// The text of a reply's line, if it is one.
-fn shown_reply(alloc: Global, shape: &Shape, line: &str) -> Result<Option<String>, AllocError>
+fn shown_reply(alloc: Global, layout: &Layout<'_>, line: &str) -> Result<Option<String>, AllocError>
     ensures { IfOk result (λ reply. option_map string_bytes reply
-        ≡ option_and_then (text_of_reply shape.now)
+        ≡ option_and_then (text_of_reply (shape_by layout.now))
         (option_and_then without_floats (read line.now))) }
 {
     match read_reply(alloc, line)? {
-        Some(reply) => text_of_reply(alloc, shape, &reply),
+        Some(reply) => text_of_reply(alloc, layout, &reply),
         None => Ok(None),
     }
 }
 
-/// The text of a line, given without its line feed, by a shape.
-fn line_text(alloc: Global, shape: &Shape, line: &str) -> Result<String, AllocError>
-    ensures { IfOk result (λ text. string_bytes text ≡ line_text shape.now line.now) }
+/// The text of a line, given without its line feed, by a layout.
+fn line_text(alloc: Global, layout: &Layout<'_>, line: &str) -> Result<String, AllocError>
+    ensures { IfOk result (λ text. string_bytes text ≡ line_text (shape_by layout.now) line.now) }
 {
-    match shown_reply(alloc, shape, line)? {
+    match shown_reply(alloc, layout, line)? {
         Some(text) => Ok(text),
         None => format!(in alloc; "{line}\n"),
     }
@@ -273,10 +281,7 @@ pub fn reply_text(alloc: Global, line: &[u8], layout: &Layout<'_>) -> Result<Str
         ≡ bytes_text) }
 {
     match str::from_utf8(front_of(line)) {
-        Ok(line) => {
-            let shape = layout.shape(alloc)?;
-            line_text(alloc, &shape, line)
-        }
+        Ok(line) => line_text(alloc, layout, line),
         Err(_) => String::from_str(alloc, "the reply is no text in UTF-8\n"),
     }
 }

@@ -1,4 +1,4 @@
-//! The value of a reply: a row or a record as a table of its members, each other value on a line.
+//! Single values: a row or a record as a table of its members, each other value on a line.
 ghost use Rattle.std.specs.Prelude.{◌≡◌, ◌++◌, ◌∷◌, [], OnOk, IfOk, map, string_bytes};
 ghost use Rattle.serde_json.specs.View.{view};
 ghost use Rattle.lq_render.specs.Cells.{text_of};
@@ -7,9 +7,7 @@ ghost use Rattle.lq_render.specs.Parts.{member_of, member_row, member_table, mem
 use crate::cells::{escaped_text, text_of};
 use crate::columns::columns_of_value;
 use crate::grid::{Cell, push_grid};
-use crate::groups::push_group;
 use crate::items::push_line;
-use crate::layout::Shape;
 use lq_value::{List, Txt};
 use serde_json::Value;
 use std::alloc::{AllocError, Global};
@@ -62,7 +60,7 @@ fn push_members(
         Txt::from_str(alloc, "name")?,
         Txt::from_str(alloc, "value")?,
     ];
-    push_grid(alloc, out, 0, &header, rows.as_slice())
+    push_grid(alloc, out, "", &header, rows.as_slice())
 }
 
 /// Puts a row or a record at the end as a table of its members, each other value on a line.
@@ -78,28 +76,25 @@ fn push_members_or_line(
     match value {
         Value::Object(_) => {
             if names.is_empty() {
-                return push_line(alloc, out, 0, value);
+                return push_line(alloc, out, "", value);
             }
             push_members(alloc, out, names, value)
         }
         Value::Null | Value::Bool(_) | Value::Number(_) | Value::String(_) | Value::Array(_) =>
-            push_line(alloc, out, 0, value),
+            push_line(alloc, out, "", value),
     }
 }
 
-/// Puts the value of a reply at the end.
+/// Puts a value at the end by the members of these names, and those that only it has.
 pub(crate) fn push_value(
     alloc: Global,
     out: &mut String,
-    shape: &Shape,
+    names: &[Txt],
     value: &Value,
 ) -> Result<(), AllocError>
     ensures { OnOk result (string_bytes out.new
-        ≡ string_bytes out.old ++ value_text shape.now (view value.now)) }
+        ≡ string_bytes out.old ++ value_text names.now (view value.now)) }
 {
-    if shape.is_group {
-        return push_group(alloc, out, shape, value);
-    }
-    let names = columns_of_value(alloc, shape.names.as_slice(), value)?;
+    let names = columns_of_value(alloc, names, value)?;
     push_members_or_line(alloc, out, names.as_slice(), value)
 }
