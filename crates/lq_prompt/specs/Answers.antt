@@ -32,8 +32,8 @@ use Rattle.lq_prompt.specs.declared.settings.Settings.{Settings}
 
 -- A reply's line as people read it, by the type that it is served by; bytes that are no UTF-8 as a sentence that says so.
 pub record IsTextOf (settings : Settings) (tables : List Table) (ty : Option Ty) (line text : List ℕ) : Type 0 where
-  pub read : IsUtf8 (front_of line) → text ≡ line_text (shape_of (schemas_of tables) settings.most_rows ty) (front_of line)
-  pub other : ¬ IsUtf8 (front_of line) → text ≡ bytes_text
+  pub is_text : IsUtf8 (front_of line) → text ≡ line_text (shape_of (schemas_of tables) settings.most_rows ty) (front_of line)
+  pub is_sentence : ¬ IsUtf8 (front_of line) → text ≡ bytes_text
 
 -- A reply is shown as people read it, unless it was asked for as its line of JSON; and as that, too, where there was no memory for the
 -- text. Nothing is shown of none.

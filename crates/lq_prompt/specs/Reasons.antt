@@ -1,5 +1,5 @@
 -- What `.why` shows.
-use Rattle.std.specs.Prelude.{◌≡◌, ◌++◌, ◌∷◌, if◌then◌else◌, List, [], ℕ, Bool, true, false, Option, codes, decimal, map}
+use Rattle.std.specs.Prelude.{◌++◌, ◌∷◌, if◌then◌else◌, List, [], ℕ, Bool, true, false, codes, decimal, map}
 use Rattle.lq_audit.specs.declared.answers.Why.{Why}
 use Rattle.lq_audit.specs.declared.answers.Why.TheVariants as why
 use Rattle.lq_policy.specs.declared.explaining.ExplainedPolicy.{ExplainedPolicy}

@@ -1,5 +1,5 @@
 -- What `.roles` shows, and the name of the present role.
-use Rattle.std.specs.Prelude.{◌∷◌, List, [], ℕ, Option, bytes_eq, codes, map, option_map, slice_get, unwrap_or}
+use Rattle.std.specs.Prelude.{◌∷◌, List, [], ℕ, bytes_eq, codes, map, option_map, slice_get, unwrap_or}
 use Rattle.lq_run.specs.States.{SessionState}
 use Rattle.lq_render.specs.Grids.{grid}
 use Rattle.lq_render.specs.declared.grid.Cell.{Cell}

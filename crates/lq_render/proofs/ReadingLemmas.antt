@@ -45,7 +45,7 @@ AllBefore (member name d found) ms = ComesBefore name ms × AllBefore found ms
 greater_of_less : (x y : List ℕ) → slice_cmp nat_cmp x y ≡ Less → slice_cmp nat_cmp y x ≡ Greater
 greater_of_less x y h = nat_list_cmp_total.antisymm y x ∙ ap ordering_reverse h
 
-less_of_greater : (x y : List ℕ) → slice_cmp nat_cmp x y ≡ Greater → slice_cmp nat_cmp y x ≡ Less
+pub less_of_greater : (x y : List ℕ) → slice_cmp nat_cmp x y ≡ Greater → slice_cmp nat_cmp y x ≡ Less
 less_of_greater x y h = nat_list_cmp_total.antisymm y x ∙ ap ordering_reverse h
 
 -- a name past all others is put at the end
@@ -196,19 +196,19 @@ shows_data shape d h shallow =
 
 -- ---- `put`
 
-before_others : (name other : List ℕ) (ms : Members) → slice_cmp nat_cmp name other ≡ Less → ComesBefore other ms → ComesBefore name ms
+pub before_others : (name other : List ℕ) (ms : Members) → slice_cmp nat_cmp name other ≡ Less → ComesBefore other ms → ComesBefore name ms
 before_others name other no_members less h = tt
 before_others name other (member next d ms) less h =
     (nat_list_cmp_total.trans name other next less h.0, before_others name other ms less h.1)
 
-before_cases : (o : Ordering) (first name next : List ℕ) (d e : Data) (ms more : Members) → slice_cmp nat_cmp first name ≡ Less
+pub before_cases : (o : Ordering) (first name next : List ℕ) (d e : Data) (ms more : Members) → slice_cmp nat_cmp first name ≡ Less
     → ComesBefore first (member next e ms) → ComesBefore first more
     → ComesBefore first (match_ordering o (member name d (member next e ms)) (member next d ms) (member next e more))
 before_cases Less first name next d e ms more less h after = (less, h)
 before_cases Equal first name next d e ms more less h after = h
 before_cases Greater first name next d e ms more less h after = (h.0, after)
 
-before_put : (first name : List ℕ) (d : Data) (ms : Members) → slice_cmp nat_cmp first name ≡ Less → ComesBefore first ms → ComesBefore first (put name d ms)
+pub before_put : (first name : List ℕ) (d : Data) (ms : Members) → slice_cmp nat_cmp first name ≡ Less → ComesBefore first ms → ComesBefore first (put name d ms)
 before_put first name d no_members less h = (less, tt)
 before_put first name d (member next e ms) less h =
     before_cases (slice_cmp nat_cmp name next) first name next d e ms (put name d ms) less h (before_put first name d ms less h.1)

@@ -15,7 +15,7 @@ text_is : (settings : Settings) (given tables : List Table) (ty : Option Ty) (by
     → (¬ IsUtf8 (front_of bytes) → text ≡ bytes_text) → IsTextOf settings tables ty line text
 text_is settings given tables ty bytes line text same_tables same_bytes read other =
     subst (λ (s : List ℕ). IsTextOf settings tables ty s text) same_bytes
-    (subst (λ (ts : List Table). IsTextOf settings ts ty bytes text) same_tables (record { read = read; other = other }))
+    (subst (λ (ts : List Table). IsTextOf settings ts ty bytes text) same_tables (record { is_text = read; is_sentence = other }))
 
 pub returns : goal.returns
 returns c =
