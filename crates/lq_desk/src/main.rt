@@ -5,11 +5,8 @@
 ghost use Rattle.std.specs.Prelude.{◌≡◌};
 ghost use Rattle.lq_predicates.specs.ProgramPredicates.{is_among, is_leap_year, is_under};
 
-mod conversation;
-mod output;
-mod script;
+mod terminal;
 
-use conversation::converse;
 use lq_options::{Options, desk_options};
 use lq_platform::{Disk, report_memory, report_options, report_watch, report_words, words};
 use lq_predicates::{
@@ -19,6 +16,7 @@ use lq_prompt::Desk;
 use lq_serve::{Device, load, refuse};
 use std::process::ExitCode;
 use std::{env, mem};
+use terminal::converse_at_terminal;
 
 /// Makes the host predicates, loads the tables and the policies, and answers lines. The desk isn't taken apart after that: the program
 /// ends, and the system takes its memory back at once.
@@ -43,7 +41,7 @@ fn serve_with_hosts(rt: &HostRuntime, options: &Options) -> Result<u8, WatchErro
     match load(alloc, options, hosts, &mut Disk::new(rt)) {
         Ok(session) => {
             let mut desk = Desk::new(alloc, session);
-            let status = converse(rt, &mut desk);
+            let status = converse_at_terminal(rt, &mut desk);
             mem::forget(desk);
             Ok(status)
         }

@@ -1,0 +1,5 @@
+mod InputLemmas
+mod ScriptLemmas
+mod TurnLemmas
+mod TypedLemmas
+mod WriterLemmas
