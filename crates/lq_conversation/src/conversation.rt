@@ -24,7 +24,6 @@ const DEVICE_FAULT: u8 = 4;
 
 /// Answers what the reader has, input by input, each once and in order, until it ends or the desk does, and returns the program's status. The
 /// lines of a file that an input names are answered in its place. The prompt and hints go to what is around.
-
 pub fn converse<R: Read + Drop, W: Write, F: Files, S: Surroundings>(
     alloc: Global,
     reader: R,
@@ -59,7 +58,6 @@ pub fn converse<R: Read + Drop, W: Write, F: Files, S: Surroundings>(
 }
 
 /// Answers the inputs of a reader, and returns whether the desk has ended: if not, nothing more can be read.
-
 fn answer_inputs<R: Read + Drop, W: Write, F: Files, S: Surroundings>(
     alloc: Global,
     reader: R,
@@ -93,7 +91,6 @@ fn answer_inputs<R: Read + Drop, W: Write, F: Files, S: Surroundings>(
 }
 
 /// Answers an input that was typed, and the lines of the file that it may name, and returns whether the desk ends.
-
 fn answer_typed<W: Write, F: Files, S: Surroundings>(
     alloc: Global,
     input: &Input,

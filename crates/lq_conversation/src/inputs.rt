@@ -17,7 +17,6 @@ use std::io::Write;
 
 /// Answers an input, once, writes the answer, and returns what is left to do. A line is answered by the desk; where memory is refused for
 /// that, the desk is as it was, and a sentence says so, as one does of an input that is no line.
-
 pub fn answer_input<W: Write, S: Surroundings>(
     input: &Input,
     desk: &mut Desk,

@@ -29,7 +29,6 @@ enum ScriptFault {
 }
 
 /// Answers the lines of a file, and returns whether the desk ends.
-
 pub(crate) fn run_file<W: Write, F: Files, S: Surroundings>(
     alloc: Global,
     file: &str,
@@ -92,7 +91,6 @@ fn fault_text(fault: ScriptFault) -> &'static str
 }
 
 /// Answers the lines of a script, and returns whether the desk ends.
-
 fn answer_script<R: Read + Drop, W: Write, S: Surroundings>(
     alloc: Global,
     script: R,
@@ -147,7 +145,6 @@ fn is_end(input: &Input) -> bool
 }
 
 /// Answers an input of a script, and returns whether the desk ends.
-
 fn answer_in_script<W: Write, S: Surroundings>(
     input: &Input,
     desk: &mut Desk,
