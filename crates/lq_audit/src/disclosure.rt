@@ -31,7 +31,7 @@ fn row_of(store: &Store, table: TableNumber, number: u64) -> Option<&Row>
 }
 
 /// Whether whoever asks may know of the row of this table.
-fn may_know(state: &State, starting: RoleId, table: TableNumber, row: &Row) -> bool
+fn is_disclosable(state: &State, starting: RoleId, table: TableNumber, row: &Row) -> bool
     ensures { result ≡ may_know state.now.policies state.now.role (number_of starting) table
         row.now }
 {
@@ -63,7 +63,7 @@ fn known_row(state: &State, starting: RoleId, table: TableNumber, number: u64) -
         table number (option_copied result) }
 {
     let row = row_of(state.store(), table, number)?;
-    if may_know(state, starting, table, row) {
+    if is_disclosable(state, starting, table, row) {
         Some(row)
     } else {
         None

@@ -29,7 +29,7 @@ fn cell_type(columns: &[Column], name: &str) -> Option<ColumnType>
 }
 
 /// Whether there is a column, with an int in each cell.
-fn holds_ints(cells: Option<ColumnType>) -> bool
+fn is_int_cell(cells: Option<ColumnType>) -> bool
     ensures { result ≡ holds_ints cells }
 {
     matches!(cells, Some(ColumnType::Int))
@@ -43,7 +43,7 @@ fn is_int_column(store: &Store, table: TableNumber, name: &str) -> bool
     let Some(schema) = schema_at(store, table) else {
         return false;
     };
-    holds_ints(cell_type(schema.columns.as_slice(), name))
+    is_int_cell(cell_type(schema.columns.as_slice(), name))
 }
 
 /// Whether the table has these columns, with an int in each cell.

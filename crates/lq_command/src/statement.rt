@@ -27,7 +27,7 @@ fn is_open(tokens: &[Token]) -> bool
 /// Whether the statement on a line lacks the `;` at its end. A line that has no tokens, since it is too long or has a lexical fault,
 /// lacks nothing.
 #[tactic(auto, unfolding(lq_grammar::specs::Tokens::tokens_of))]
-fn lacks_semicolon(alloc: Global, line: &str) -> Result<bool, AllocError>
+fn is_unterminated(alloc: Global, line: &str) -> Result<bool, AllocError>
     ensures { IfOk result (λ lacks. lacks ≡ lacks_semicolon (tokens_of line.now)) }
 {
     match tokens(alloc, line) {
@@ -42,7 +42,7 @@ fn lacks_semicolon(alloc: Global, line: &str) -> Result<bool, AllocError>
 pub fn closed(alloc: Global, line: &str) -> Result<String, AllocError>
     ensures { IfOk result (λ statement. string_bytes statement ≡ closed line.now) }
 {
-    if !lacks_semicolon(alloc, line)? {
+    if !is_unterminated(alloc, line)? {
         return String::from_str(alloc, line);
     }
     let mut statement = String::from_str(alloc, line)?;

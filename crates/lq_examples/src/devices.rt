@@ -278,7 +278,7 @@ fn is_marked(alloc: Global, bad: u64, fault: Fault, taken: usize) -> bool {
 }
 
 // Whether a device over a writer of whose calls the one numbered `bad` fails takes these bytes whole.
-fn takes_whole(alloc: Global, bytes: &[u8], bad: u64, fault: Fault) -> bool {
+fn is_taken_whole(alloc: Global, bytes: &[u8], bad: u64, fault: Fault) -> bool {
     let mut sink = taking(alloc, bad, fault);
     let mut writer = Device::new(&mut sink);
     let is_taken = writer.write_all(bytes).is_ok() && !writer.failed();
@@ -294,7 +294,7 @@ fn a_device_marks_itself_at_each_failed_write(rt: HostRuntime) {
                 "at write {bad}"
             );
         }
-        assert!(rt; takes_whole(rt.alloc(), BYTES, 4, *fault));
+        assert!(rt; is_taken_whole(rt.alloc(), BYTES, 4, *fault));
     }
 }
 
@@ -306,7 +306,7 @@ fn bytes_are_written_whole_however_many(rt: HostRuntime) -> Result<(), Fail> {
     for length in &LENGTHS {
         let bytes = vec![in rt.alloc(); b'a'; *length]?;
         assert!(rt;
-            takes_whole(rt.alloc(), &bytes, 0, Fault::Never),
+            is_taken_whole(rt.alloc(), &bytes, 0, Fault::Never),
             "{length} bytes"
         );
     }
@@ -401,7 +401,7 @@ const ENDINGS: [(&[u8], u64, u64, u64, u8, &[u8]); 5] = [
     (b"one\n\xFF\n", 0, 0, 3, 4, b"lq: script"),
 ];
 
-fn ends_so(end: &Ended, status: u8, line: &[u8], is_marked: bool) -> bool {
+fn is_ended(end: &Ended, status: u8, line: &[u8], is_marked: bool) -> bool {
     end.status == status
         && end.is_marked == is_marked
         && end.error_sink.taken.as_slice() == line
@@ -416,7 +416,7 @@ fn a_fault_ends_with_its_status_and_its_line(rt: HostRuntime) -> Result<(), Fail
         let sink = taking(rt.alloc(), *bad_call, Fault::Errs(ErrorKind::Other));
         let error_sink = taking(rt.alloc(), *bad_error, Fault::Stalls);
         let end = end_script(rt.alloc(), script, sink, error_sink)?;
-        assert!(rt; ends_so(&end, *status, line, *bad_error > 0), "{text:?}");
+        assert!(rt; is_ended(&end, *status, line, *bad_error > 0), "{text:?}");
     }
     Ok(())
 }

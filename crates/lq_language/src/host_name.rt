@@ -51,7 +51,7 @@ fn count_of(columns: &Picked) -> u16
 }
 
 /// Whether there is a predicate at this place, which takes so many arguments.
-fn takes(known: &[HostName], place: usize, count: u16) -> bool
+fn has_arity(known: &[HostName], place: usize, count: u16) -> bool
     ensures { result ≡ takes count (slice_get known.now place) }
 {
     match known.get(place) {
@@ -65,5 +65,5 @@ pub fn predicate_number(known: &[HostName], name: &str, columns: &Picked) -> Opt
     ensures { result ≡ predicate_number known.now name.now columns.now }
 {
     let place = place_of(known, name)?;
-    takes(known, place, count_of(columns)).then_some(place)
+    has_arity(known, place, count_of(columns)).then_some(place)
 }

@@ -32,7 +32,7 @@ pub fn is_digit(c: char) -> bool
 
 /// Whether a name may start with `c`.
 #[tactic(auto, unfolding(lq_grammar::specs::Words::starts_name))]
-pub fn starts_name(c: char) -> bool
+pub fn is_name_start(c: char) -> bool
     ensures { result ≡ name.starts_name c }
 {
     c == '_' || unicode_ident::is_xid_start(c)
@@ -40,7 +40,7 @@ pub fn starts_name(c: char) -> bool
 
 /// Whether a name may go on with `c`.
 #[tactic(auto, unfolding(lq_grammar::specs::Words::continues_name))]
-pub fn continues_name(c: char) -> bool
+pub fn is_name_part(c: char) -> bool
     ensures { result ≡ name.continues_name c }
 {
     unicode_ident::is_xid_continue(c)
@@ -51,7 +51,7 @@ fn is_in(class: Class, c: char) -> bool
     ensures { result ≡ spec.is_in class c }
 {
     match class {
-        Class::Name => continues_name(c),
+        Class::Name => is_name_part(c),
         Class::Digit => is_digit(c),
         Class::Comment => c != '\n',
     }

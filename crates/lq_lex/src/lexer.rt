@@ -53,7 +53,7 @@ fn integer(text: &[char], first: char, behind: &[char]) -> Option<Piece>
     ensures { result ≡ token.integer first behind.now }
 {
     let more = letters::length_of(Class::Digit, behind);
-    if literals::is_small(&text[..=more]) && !letters::continues_name(head_of(&behind[more..])) {
+    if literals::is_small(&text[..=more]) && !letters::is_name_part(head_of(&behind[more..])) {
         Some((Some(Kind::Integer), more))
     } else {
         None
@@ -79,7 +79,7 @@ fn piece(text: &[char], first: char, behind: &[char]) -> Option<Piece>
         Some((None, 0))
     } else if first == '/' && head_of(behind) == '/' {
         Some(comment(behind))
-    } else if letters::starts_name(first) {
+    } else if letters::is_name_start(first) {
         word(text, first, behind)
     } else if letters::is_digit(first) {
         integer(text, first, behind)

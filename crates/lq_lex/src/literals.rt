@@ -139,7 +139,7 @@ fn step(place: Place, c: char) -> Option<(Place, Option<char>)>
 }
 
 /// Whether `c` is the quote that closes the literal.
-fn closes(place: Place, c: char) -> bool
+fn is_closing_quote(place: Place, c: char) -> bool
     ensures { result ≡ literal.closes (spec.place_of place) c }
 {
     matches!(place, Place::Plain) && c == '"'
@@ -155,7 +155,7 @@ pub fn length_of_text(behind: &[char]) -> Option<usize>
     let mut rest = behind;
     while let [c, others @ ..] = rest {
         length += 1;
-        if closes(place, *c) {
+        if is_closing_quote(place, *c) {
             return Some(length);
         }
         let (next, _) = step(place, *c)?;
@@ -169,7 +169,7 @@ pub fn length_of_text(behind: &[char]) -> Option<usize>
 fn step_inside(place: Place, c: char) -> Option<(Place, Option<char>)>
     ensures { option_map spec.step_of result ≡ literal.step_inside (spec.place_of place) c }
 {
-    if closes(place, c) {
+    if is_closing_quote(place, c) {
         None
     } else {
         step(place, c)

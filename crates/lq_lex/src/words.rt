@@ -39,7 +39,7 @@ const RESERVED: [(&[u8], Kind); 26] = [
 ];
 
 /// Whether the characters are those of `word`, which is of ASCII.
-fn spells(mut name: &[char], mut word: &[u8]) -> bool
+fn is_spelled(mut name: &[char], mut word: &[u8]) -> bool
     ensures { result ≡ bytes_eq name.entry.now word.entry.now }
 {
     while let [c, characters @ ..] = name {
@@ -60,7 +60,7 @@ fn lookup(mut table: &[(&[u8], Kind)], name: &[char]) -> Kind
     ensures { result ≡ kind_among (spec.words table.entry.now) name.now }
 {
     while let [entry, others @ ..] = table {
-        if spells(name, entry.0) {
+        if is_spelled(name, entry.0) {
             return entry.1;
         }
         table = others;
@@ -89,13 +89,13 @@ fn is_reserved(mut table: &[(&[u8], Kind)], name: &[u8]) -> bool
 }
 
 /// Whether a name may have `c` at its start, or after it.
-fn fits(is_first: bool, c: char) -> bool
+fn is_name_letter(is_first: bool, c: char) -> bool
     ensures { result ≡ (if is_first then starts_name c else continues_name c) }
 {
     if is_first {
-        letters::starts_name(c)
+        letters::is_name_start(c)
     } else {
-        letters::continues_name(c)
+        letters::is_name_part(c)
     }
 }
 
@@ -105,7 +105,7 @@ fn is_word(text: &str) -> bool
 {
     let mut is_first = true;
     for c in text.chars() {
-        if !fits(is_first, c) {
+        if !is_name_letter(is_first, c) {
             return false;
         }
         is_first = false;

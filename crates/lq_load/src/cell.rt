@@ -51,9 +51,9 @@ fn nullable_int_cell(text: &[u8]) -> Option<Scalar>
 fn bool_cell(text: &[u8]) -> Option<Scalar>
     ensures { result ≡ bool_cell text.now }
 {
-    if spells_true(text) {
+    if is_true_word(text) {
         Some(Scalar::Bool(true))
-    } else if spells_false(text) {
+    } else if is_false_word(text) {
         Some(Scalar::Bool(false))
     } else {
         None
@@ -82,7 +82,7 @@ fn is_null(text: &[u8]) -> bool
 }
 
 // Whether a text spells true.
-fn spells_true(text: &[u8]) -> bool
+fn is_true_word(text: &[u8]) -> bool
     ensures { result ≡ spells_true text.now }
 {
     text == b"true".as_slice()
@@ -92,7 +92,7 @@ fn spells_true(text: &[u8]) -> bool
 }
 
 // Whether a text spells false.
-fn spells_false(text: &[u8]) -> bool
+fn is_false_word(text: &[u8]) -> bool
     ensures { result ≡ spells_false text.now }
 {
     text == b"false".as_slice()

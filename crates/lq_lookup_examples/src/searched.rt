@@ -70,21 +70,26 @@ fn built(alloc: Global, keys: &[Key]) -> Result<Lookups, AllocError> {
 }
 
 // Whether both lookups find what is searched for one value, but the second nothing for null.
-fn finds_by(lookups: &Lookups, values: &[Value<NoRow>], wanted: &Value<NoRow>, key: &Key) -> bool {
+fn is_found_by(
+    lookups: &Lookups,
+    values: &[Value<NoRow>],
+    wanted: &Value<NoRow>,
+    key: &Key,
+) -> bool {
     let kept = lookups.keeping.find(key);
     let skipped = if is_null(wanted) { &[] } else { kept };
     are_searched(values, wanted, kept) && lookups.skipping.find(key) == skipped
 }
 
 // The same by a copy of its key.
-fn finds(
+fn is_found(
     alloc: Global,
     lookups: &Lookups,
     values: &[Value<NoRow>],
     wanted: &Value<NoRow>,
 ) -> Result<bool, AllocError> {
     let key = copied_key(alloc, wanted)?;
-    Ok(finds_by(lookups, values, wanted, &key))
+    Ok(is_found_by(lookups, values, wanted, &key))
 }
 
 fn copied_key(alloc: Global, value: &Value<NoRow>) -> Result<Key, AllocError> {
@@ -92,13 +97,13 @@ fn copied_key(alloc: Global, value: &Value<NoRow>) -> Result<Key, AllocError> {
     copy_key(alloc, &key)
 }
 
-fn finds_each(
+fn is_each_found(
     alloc: Global,
     lookups: &Lookups,
     values: &[Value<NoRow>],
 ) -> Result<bool, AllocError> {
     for wanted in values {
-        if !finds(alloc, lookups, values, wanted)? {
+        if !is_found(alloc, lookups, values, wanted)? {
             return Ok(false);
         }
     }
@@ -106,14 +111,14 @@ fn finds_each(
 }
 
 // Whether each value is found, and one that may not be there.
-fn finds_all(
+fn are_all_found(
     alloc: Global,
     keys: &[Key],
     values: &[Value<NoRow>],
     other: &Value<NoRow>,
 ) -> Result<bool, AllocError> {
     let lookups = built(alloc, keys)?;
-    Ok(finds(alloc, &lookups, values, other)? && finds_each(alloc, &lookups, values)?)
+    Ok(is_found(alloc, &lookups, values, other)? && is_each_found(alloc, &lookups, values)?)
 }
 
 // Whether a group is of the key and the places of the value at a place.
@@ -141,7 +146,7 @@ fn are_groups(groups: &Groups, keys: &[Key], values: &[Value<NoRow>], firsts: &[
 }
 
 // Whether the groups are these values, each with what is searched.
-fn groups(
+fn are_grouped(
     alloc: Global,
     keys: &[Key],
     values: &[Value<NoRow>],
@@ -152,9 +157,12 @@ fn groups(
 }
 
 // Whether the distinct places are those of the first values, and the groups these values.
-fn tells_apart(alloc: Global, keys: &[Key], values: &[Value<NoRow>]) -> Result<bool, AllocError> {
+fn are_distinct(alloc: Global, keys: &[Key], values: &[Value<NoRow>]) -> Result<bool, AllocError> {
     let firsts = distinct(alloc, keys)?;
-    Ok(are_firsts(values, firsts.as_slice()) && groups(alloc, keys, values, firsts.as_slice())?)
+    Ok(
+        are_firsts(values, firsts.as_slice())
+            && are_grouped(alloc, keys, values, firsts.as_slice())?,
+    )
 }
 
 fn is_right_of(
@@ -164,8 +172,8 @@ fn is_right_of(
 ) -> Result<bool, AllocError> {
     let keys = keys_of(alloc, values)?;
     Ok(
-        finds_all(alloc, keys.as_slice(), values, other)?
-            && tells_apart(alloc, keys.as_slice(), values)?,
+        are_all_found(alloc, keys.as_slice(), values, other)?
+            && are_distinct(alloc, keys.as_slice(), values)?,
     )
 }
 

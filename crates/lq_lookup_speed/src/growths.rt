@@ -104,10 +104,10 @@ fn right_lookup(
     null_places: &[usize],
 ) -> Result<bool, AllocError> {
     let lookup = Lookup::build(alloc, keys, nulls)?;
-    Ok(finds(&lookup, keys, null_places) && lookup.find(&Key::Int(2)).is_empty())
+    Ok(is_found(&lookup, keys, null_places) && lookup.find(&Key::Int(2)).is_empty())
 }
 
-fn finds(lookup: &Lookup, keys: &[Key], null_places: &[usize]) -> bool {
+fn is_found(lookup: &Lookup, keys: &[Key], null_places: &[usize]) -> bool {
     match keys {
         [null, one, record, ..] => {
             lookup.find(null) == null_places

@@ -55,23 +55,23 @@ impl<'a> Admission<'a> {
     }
 
     /// Whether some permissive rule is true on the row.
-    fn permits(&self, asked: RowAndUser<'_>) -> bool
+    fn is_permitted(&self, asked: RowAndUser<'_>) -> bool
         ensures { result ≡ permitted_by asked.entry.cells.now asked.entry.user.now self.now }
     {
-        asked.satisfies_any(self.permissive.as_slice())
+        asked.is_admitted_by_any(self.permissive.as_slice())
     }
 
     /// Whether every restrictive rule is true on the row.
-    fn allows(&self, asked: RowAndUser<'_>) -> bool
+    fn is_allowed(&self, asked: RowAndUser<'_>) -> bool
         ensures { result ≡ allowed_by asked.entry.cells.now asked.entry.user.now self.now }
     {
-        asked.satisfies_all(self.restrictive.as_slice())
+        asked.is_admitted_by_all(self.restrictive.as_slice())
     }
 
     /// Whether the rules admit the row.
-    pub(crate) fn admits(&self, asked: RowAndUser<'_>) -> bool
+    pub(crate) fn is_admitted_by_rules(&self, asked: RowAndUser<'_>) -> bool
         ensures { result ≡ admits_by asked.entry.cells.now asked.entry.user.now self.now }
     {
-        self.permits(asked) && self.allows(asked)
+        self.is_permitted(asked) && self.is_allowed(asked)
     }
 }

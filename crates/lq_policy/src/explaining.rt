@@ -59,9 +59,9 @@ impl Policies {
     {
         match access.action {
             Action::Delete => {
-                self.applies(access.reading(), policy) || self.applies(access, policy)
+                self.is_applicable(access.reading(), policy) || self.is_applicable(access, policy)
             }
-            Action::Select | Action::Insert => self.applies(access, policy),
+            Action::Select | Action::Insert => self.is_applicable(access, policy),
         }
     }
 
@@ -73,7 +73,7 @@ impl Policies {
         ensures { result
             ≡ holds_on (asked_of self.now access asked.entry) (rule_for access.action policy.now) }
     {
-        asked.satisfies(self.rule_of(number, access.action))
+        asked.is_admitted_by(self.rule_of(number, access.action))
     }
 
     /// What is reported of a policy that has a say, and this number.

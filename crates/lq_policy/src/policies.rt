@@ -9,7 +9,7 @@ ghost use Rattle.lq_policy.specs.Rules.{are_rules_total};
 use crate::access::{Access, RoleId};
 use crate::admission::Admission;
 use crate::guard::{Guard, guards, rule_at};
-use crate::role_set::{RoleSet, goes_by, memberships};
+use crate::role_set::{RoleSet, has_role_named, memberships};
 use crate::row_and_user::RowAndUser;
 use crate::row_rules::{RowRules, Ruled, Verdict};
 use crate::{error, role_rights};
@@ -132,10 +132,10 @@ impl Policies {
     }
 
     /// Whether this role has a role of this name.
-    fn goes_by(&self, role: RoleId, name: &str) -> bool
+    fn has_role_named(&self, role: RoleId, name: &str) -> bool
         ensures { result ≡ goes_by_name self.now.roles (number_of role) name.now }
     {
-        goes_by(
+        has_role_named(
             self.parts.roles.as_slice(),
             self.groups.as_slice(),
             role.number,
@@ -149,7 +149,7 @@ impl Policies {
     {
         let mut left = to;
         while let [name, others @ ..] = left {
-            if name.as_str() == "public" || self.goes_by(role, name.as_str()) {
+            if name.as_str() == "public" || self.has_role_named(role, name.as_str()) {
                 return true;
             }
             left = others;
@@ -158,7 +158,7 @@ impl Policies {
     }
 
     /// Whether the policy applies to what a role does with a table.
-    pub(crate) fn applies(&self, access: Access, policy: &Policy) -> bool
+    pub(crate) fn is_applicable(&self, access: Access, policy: &Policy) -> bool
         ensures { result ≡ bears_on self.now.roles access policy.now }
     {
         policy.table == access.table
@@ -175,7 +175,7 @@ impl Policies {
     }
 
     /// Whether the rule of a policy that applies, and has this number, is true on the row.
-    fn satisfies(
+    fn is_admitted_by(
         &self,
         access: Access,
         number: usize,
@@ -187,7 +187,7 @@ impl Policies {
         ensures { result ≡ holds_on (asked_of self.now access asked.entry)
             (rule_for access.action policy.now) }
     {
-        asked.satisfies(self.rule_of(number, access.action))
+        asked.is_admitted_by(self.rule_of(number, access.action))
     }
 
     /// Whether the policy, which has this number, applies and permits the row.
@@ -202,9 +202,9 @@ impl Policies {
         ensures { result ≡ bears_on self.now.roles access policy.now
             && permits access.action (asked_of self.now access asked.entry) policy.now }
     {
-        self.applies(access, policy)
+        self.is_applicable(access, policy)
             && !policy.restrictive
-            && self.satisfies(access, number, policy, asked)
+            && self.is_admitted_by(access, number, policy, asked)
     }
 
     /// Whether the policy, which has this number, applies and doesn't allow the row.
@@ -219,9 +219,9 @@ impl Policies {
         ensures { result ≡ bears_on self.now.roles access policy.now
             && not (allows access.action (asked_of self.now access asked.entry) policy.now) }
     {
-        self.applies(access, policy)
+        self.is_applicable(access, policy)
             && policy.restrictive
-            && !self.satisfies(access, number, policy, asked)
+            && !self.is_admitted_by(access, number, policy, asked)
     }
 
     /// Whether some policy that applies permits the row.
@@ -253,7 +253,7 @@ impl Policies {
     }
 
     /// Whether the policies that apply admit the row.
-    fn admits(&self, access: Access, asked: RowAndUser<'_>) -> bool
+    fn is_admitted_by_rules(&self, access: Access, asked: RowAndUser<'_>) -> bool
         ensures { result ≡ admitted_by self.now (number_of access.role) access.table
             (asked_of self.now access asked.entry) access.action }
     {
@@ -262,13 +262,14 @@ impl Policies {
     }
 
     /// Whether the policies admit a role, which doesn't bypass them, to an action on the row.
-    fn admits_for(&self, access: Access, asked: RowAndUser<'_>) -> bool
+    fn is_role_admitted(&self, access: Access, asked: RowAndUser<'_>) -> bool
         ensures { result ≡ admitted_for self.now (number_of access.role) access.action access.table
             (asked_of self.now access asked.entry) }
     {
         match access.action {
-            Action::Delete => self.admits(access.reading(), asked) && self.admits(access, asked),
-            Action::Select | Action::Insert => self.admits(access, asked),
+            Action::Delete => self.is_admitted_by_rules(access.reading(), asked)
+                && self.is_admitted_by_rules(access, asked),
+            Action::Select | Action::Insert => self.is_admitted_by_rules(access, asked),
         }
     }
 
@@ -285,7 +286,7 @@ impl Policies {
             user: asking.name.as_str(),
             cells,
         };
-        asking.bypass || self.admits_for(access, asked)
+        asking.bypass || self.is_role_admitted(access, asked)
     }
 
     /// Whether the role may do this with the row of the table that has these cells.
@@ -424,7 +425,7 @@ impl Policies {
             || allows access.action (asked_at self.now.tables access.table cells user)
             policy.now)) }
     {
-        if self.applies(access, policy) {
+        if self.is_applicable(access, policy) {
             rules.push(policy.restrictive, self.rule_of(number, access.action))?;
         }
         Ok(())

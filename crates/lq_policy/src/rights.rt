@@ -32,7 +32,7 @@ fn is_column_of(table: TableNumber, used: Use) -> bool
 }
 
 /// Whether a rule has this use among its rights.
-fn covers(used: Use, rule: &RightRule) -> bool
+fn has_right(used: Use, rule: &RightRule) -> bool
     ensures { result ≡ covers used rule.now }
 {
     let rights = rule.rights.as_slice();
@@ -120,23 +120,23 @@ impl Policies {
         ensures { IfSome result (λ answer. answer ≡ may_use self.now (number_of role) used) }
     {
         match &self.rights {
-            Some(rights) if rights.are_of(role) => Some(rights.allowed.has(used)),
+            Some(rights) if rights.are_of(role) => Some(rights.allowed.contains(used)),
             _ => None,
         }
     }
 
     /// Whether a rule applies to the role and covers the use.
-    fn bears(&self, role: RoleId, used: Use, rule: &RightRule) -> bool
+    fn is_rule_for(&self, role: RoleId, used: Use, rule: &RightRule) -> bool
         ensures { result ≡ bears self.now.roles (number_of role) used rule.now }
     {
-        self.is_listed(role, rule.to.as_slice()) && covers(used, rule)
+        self.is_listed(role, rule.to.as_slice()) && has_right(used, rule)
     }
 
     /// Whether one of these rules applies to the role and covers the use.
     fn is_covered(&self, role: RoleId, used: Use, rules: &[RightRule]) -> bool
         ensures { result ≡ list_any (bears self.now.roles (number_of role) used) rules.now }
     {
-        rules.iter().any(|rule| self.bears(role, used, rule))
+        rules.iter().any(|rule| self.is_rule_for(role, used, rule))
     }
 
     /// Whether some withhold that applies covers the use.
@@ -165,7 +165,7 @@ impl Policies {
     }
 
     /// Whether a grant applies and covers a column of the table that isn't withheld.
-    fn opens(&self, role: RoleId, table: TableNumber, rule: &RightRule) -> bool
+    fn has_open_right(&self, role: RoleId, table: TableNumber, rule: &RightRule) -> bool
         ensures { result ≡ opens self.now (number_of role) table rule.now }
     {
         self.is_listed(role, rule.to.as_slice())
@@ -176,12 +176,14 @@ impl Policies {
     fn has_open_grant(&self, role: RoleId, table: TableNumber, grants: &[RightRule]) -> bool
         ensures { result ≡ list_any (opens self.now (number_of role) table) grants.now }
     {
-        grants.iter().any(|rule| self.opens(role, table, rule))
+        grants
+            .iter()
+            .any(|rule| self.has_open_right(role, table, rule))
     }
 
     /// Whether the role may use this, by the rules.
     #[tactic(auto, unfolding(lq_security::specs::Rights::may_use))]
-    fn may_use_by_rules(&self, role: RoleId, used: Use) -> bool
+    fn is_usable_by_rules(&self, role: RoleId, used: Use) -> bool
         ensures { result ≡ may_use self.now (number_of role) used }
     {
         let grants = self.parts.grants.as_slice();
@@ -194,17 +196,17 @@ impl Policies {
     }
 
     /// Whether the role may use this.
-    fn may_use(&self, role: RoleId, used: Use) -> bool
+    fn is_usable(&self, role: RoleId, used: Use) -> bool
         ensures { result ≡ may_use self.now (number_of role) used }
     {
         match self.known(role, used) {
             Some(may) => may,
-            None => self.may_use_by_rules(role, used),
+            None => self.is_usable_by_rules(role, used),
         }
     }
 
     /// Whether a rule applies to the role and covers the use, or of a table any of its columns.
-    fn concerns(&self, role: RoleId, used: Use, rule: &RightRule) -> bool
+    fn is_rule_about(&self, role: RoleId, used: Use, rule: &RightRule) -> bool
         ensures { result ≡ concerns self.now.roles (number_of role) used rule.now }
     {
         match used {
@@ -212,7 +214,7 @@ impl Policies {
                 self.is_listed(role, rule.to.as_slice()) && has_column(table, rule)
             }
             Use::Column(_, _) | Use::Insert(_) | Use::Delete(_) | Use::Host(_) => {
-                self.bears(role, used, rule)
+                self.is_rule_for(role, used, rule)
             }
         }
     }
@@ -222,7 +224,7 @@ impl Policies {
         ensures { result.now ≡ first_concerning self.now.roles (number_of role) used rules.now }
     {
         for rule in rules {
-            if self.concerns(role, used, rule) {
+            if self.is_rule_about(role, used, rule) {
                 return rule.name.as_str();
             }
         }
@@ -240,7 +242,7 @@ impl Policies {
     pub fn right(&self, role: RoleId, used: Use) -> Result<(), &str>
         ensures { refused_under result ≡ denier_of self.now (number_of role) used }
     {
-        if self.may_use(role, used) {
+        if self.is_usable(role, used) {
             return Ok(());
         }
         Err(self.first_concerning(role, used, self.parts.withholds.as_slice()))

@@ -62,7 +62,7 @@ fn add_unwithheld(set: &mut UseSet, right: Use, withheld: &UseSet) -> Result<(),
     ensures { IfOk result (λ _. (other : Use) → is_among set.new other
         ≡ (gives other right && not (is_among withheld.now right)) || is_among set.old other) }
 {
-    if withheld.has(right) {
+    if withheld.contains(right) {
         return Ok(());
     }
     add_given(set, right)

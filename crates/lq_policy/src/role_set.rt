@@ -154,7 +154,7 @@ fn role_of(roles: &[Role], role: usize) -> Option<&Role>
 }
 
 /// Whether this role has, as the sets give its roles, one of this name.
-pub(crate) fn goes_by(roles: &[Role], sets: &[RoleSet], role: usize, name: &str) -> bool
+pub(crate) fn has_role_named(roles: &[Role], sets: &[RoleSet], role: usize, name: &str) -> bool
     requires { DecideMemberships (memberships_after [] roles.now) sets.now }
     ensures { result ≡ goes_by_name roles.now role name.now }
 {

@@ -16,7 +16,7 @@ impl RowAndUser<'_> {
     ghost use Rattle.lq_policy.specs.Guards.{decides_on, rules_of};
 
     /// Whether there is a rule, and it is true on the row.
-    pub(crate) fn satisfies(self, rule: Option<&PreparedRule>) -> bool
+    pub(crate) fn is_admitted_by(self, rule: Option<&PreparedRule>) -> bool
         ensures { result ≡ decides_on self.entry.cells.now self.entry.user.now
             (option_copied rule.entry) }
     {
@@ -27,13 +27,13 @@ impl RowAndUser<'_> {
     }
 
     /// Whether one of the rules is true on the row.
-    pub(crate) fn satisfies_any(self, rules: &[Option<&PreparedRule>]) -> bool
+    pub(crate) fn is_admitted_by_any(self, rules: &[Option<&PreparedRule>]) -> bool
         ensures { result ≡ list_any (decides_on self.entry.cells.now self.entry.user.now)
             (rules_of rules.now) }
     {
         let mut left = rules;
         while let [rule, others @ ..] = left {
-            if self.satisfies(*rule) {
+            if self.is_admitted_by(*rule) {
                 return true;
             }
             left = others;
@@ -42,13 +42,13 @@ impl RowAndUser<'_> {
     }
 
     /// Whether each of the rules is true on the row.
-    pub(crate) fn satisfies_all(self, rules: &[Option<&PreparedRule>]) -> bool
+    pub(crate) fn is_admitted_by_all(self, rules: &[Option<&PreparedRule>]) -> bool
         ensures { result ≡ list_all (decides_on self.entry.cells.now self.entry.user.now)
             (rules_of rules.now) }
     {
         let mut left = rules;
         while let [rule, others @ ..] = left {
-            if !self.satisfies(*rule) {
+            if !self.is_admitted_by(*rule) {
                 return false;
             }
             left = others;

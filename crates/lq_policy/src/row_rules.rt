@@ -36,14 +36,16 @@ impl Ruled<'_> {
     ghost use Rattle.lq_policy.specs.RowRules.{rules_admit};
 
     /// Whether the rules admit the row.
-    fn admit(&self, cells: &[Scalar]) -> bool
+    fn is_admitted(&self, cells: &[Scalar]) -> bool
         ensures { result ≡ rules_admit self.now cells.now }
     {
         let asked = RowAndUser {
             user: self.user,
             cells,
         };
-        self.admissions.iter().all(|rules| rules.admits(asked))
+        self.admissions
+            .iter()
+            .all(|rules| rules.is_admitted_by_rules(asked))
     }
 }
 
@@ -53,13 +55,13 @@ impl RowRules<'_> {
 
     /// Whether the role's action is admitted to the row of the table that has these cells. Takes
     /// no memory.
-    pub fn admit(&self, cells: &[Scalar]) -> bool
+    pub fn is_admitted(&self, cells: &[Scalar]) -> bool
         ensures { result ≡ admits self.now cells.now }
     {
         match &self.verdict {
             Verdict::Every => true,
             Verdict::None => false,
-            Verdict::Ruled(rules) => rules.admit(cells),
+            Verdict::Ruled(rules) => rules.is_admitted(cells),
         }
     }
 }

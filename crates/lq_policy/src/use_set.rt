@@ -26,7 +26,7 @@ impl UseSet {
     }
 
     /// Whether the set has this use.
-    pub(crate) fn has(&self, used: Use) -> bool
+    pub(crate) fn contains(&self, used: Use) -> bool
         ensures { result ≡ is_among self.now used }
     {
         self.uses.contains(&used)

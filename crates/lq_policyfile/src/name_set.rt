@@ -35,7 +35,7 @@ impl<'a> NameSet<'a> {
     }
 
     /// Whether the set has the name.
-    pub fn has(&self, name: &str) -> bool
+    pub fn contains(&self, name: &str) -> bool
         ensures { result ≡ is_among self.now name.now }
     {
         self.names.contains(name)
@@ -45,7 +45,7 @@ impl<'a> NameSet<'a> {
     pub fn has_all(&self, names: &[Txt]) -> bool
         ensures { result ≡ list_all (is_among self.now) names.now }
     {
-        names.iter().all(|name| self.has(name.as_str()))
+        names.iter().all(|name| self.contains(name.as_str()))
     }
 
     /// The place of the name, from 0.

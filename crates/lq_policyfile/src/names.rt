@@ -9,7 +9,7 @@ use crate::duplicates::names_of;
 use crate::entry::{FileEntries, PolicyEntry, RoleEntry, Rules, TableEntry};
 use crate::name_set::NameSet;
 use crate::rights::are_entries_known;
-use crate::rule_names::knows;
+use crate::rule_names::is_expression_known;
 use lq_grammar::Expr;
 use lq_language::HostName;
 use lq_store::{Column, Store};
@@ -69,27 +69,27 @@ pub(crate) fn columns_of<'a>(store: &'a Store, table: &str) -> &'a [Column]
 }
 
 /// Whether a rule that is there names only what is there.
-fn knows_rule(hosts: &[HostName], columns: &[Column], rule: &Option<Expr>) -> bool
+fn is_rule_known(hosts: &[HostName], columns: &[Column], rule: &Option<Expr>) -> bool
     ensures { result ≡ passes (λ expr. knows hosts.now columns.now expr false) rule.now }
 {
     match rule {
-        Some(rule) => knows(hosts, columns, rule, false),
+        Some(rule) => is_expression_known(hosts, columns, rule, false),
         None => true,
     }
 }
 
 /// Whether the rules name only what is there.
-fn knows_rules(hosts: &[HostName], columns: &[Column], rules: &Rules) -> bool
+fn are_both_known(hosts: &[HostName], columns: &[Column], rules: &Rules) -> bool
     ensures { result ≡ all_pass (λ expr. knows hosts.now columns.now expr false) rules.now }
 {
-    knows_rule(hosts, columns, &rules.using) && knows_rule(hosts, columns, &rules.check)
+    is_rule_known(hosts, columns, &rules.using) && is_rule_known(hosts, columns, &rules.check)
 }
 
 /// Whether each name is that of a role or `public`.
 pub(crate) fn are_addressees(roles: &NameSet<'_>, names: &[Txt]) -> bool
     ensures { result ≡ list_all (is_addressee roles.now) names.now }
 {
-    names.iter().all(|name| name.as_str() == "public" || roles.has(name.as_str()))
+    names.iter().all(|name| name.as_str() == "public" || roles.contains(name.as_str()))
 }
 
 /// Whether a policy names only what is there.
@@ -103,7 +103,7 @@ fn is_policy_known(
 {
     is_table(store, policy.table.as_str())
         && are_addressees(roles, policy.to.as_slice())
-        && knows_rules(
+        && are_both_known(
             hosts,
             columns_of(store, policy.table.as_str()),
             &policy.rules,

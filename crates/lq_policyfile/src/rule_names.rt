@@ -71,64 +71,70 @@ fn is_hidden_after(clause: &Clause<Expr>, hidden: bool) -> bool
 /// hidden or not, and only these host predicates.
 #[cycle(rule_names)]
 #[tactic(auto, using(crate::proofs::RuleForms::forms))]
-pub(crate) fn knows(hosts: &[HostName], columns: &[Column], expression: &Expr, hidden: bool) -> bool
+pub(crate) fn is_expression_known(
+    hosts: &[HostName],
+    columns: &[Column],
+    expression: &Expr,
+    hidden: bool,
+) -> bool
     ensures { result ≡ knows hosts.now columns.now expression.now hidden }
 {
     match expression {
-        Expr::Node(node) => knows_node(hosts, columns, node, hidden),
-        Expr::Query(query) => knows_query(hosts, columns, query.get(), hidden),
+        Expr::Node(node) => is_node_known(hosts, columns, node, hidden),
+        Expr::Query(query) => is_query_known(hosts, columns, query.get(), hidden),
     }
 }
 
 /// The same of a node.
 #[cycle(rule_names)]
 #[tactic(auto, using(crate::proofs::RuleForms::forms))]
-fn knows_node(hosts: &[HostName], columns: &[Column], node: &Node<Expr>, hidden: bool) -> bool
+fn is_node_known(hosts: &[HostName], columns: &[Column], node: &Node<Expr>, hidden: bool) -> bool
     ensures { result ≡ knows hosts.now columns.now (expr.Node node.now) hidden }
 {
     match node {
         Node::Integer(_) | Node::Text(_) | Node::Bool(_) | Node::Null | Node::Name(_) => true,
         Node::Member(operand, member) => {
-            knows(hosts, columns, operand.get(), hidden)
+            is_expression_known(hosts, columns, operand.get(), hidden)
                 && (hidden || !is_row(operand.get()) || has_column(columns, member.as_str()))
         }
-        Node::Unary(_, operand) => knows(hosts, columns, operand.get(), hidden),
+        Node::Unary(_, operand) => is_expression_known(hosts, columns, operand.get(), hidden),
         Node::Binary(_, left, right)
         | Node::And(left, right)
         | Node::Or(left, right)
         | Node::Coalesce(left, right) => {
-            knows(hosts, columns, left.get(), hidden) && knows(hosts, columns, right.get(), hidden)
+            is_expression_known(hosts, columns, left.get(), hidden)
+                && is_expression_known(hosts, columns, right.get(), hidden)
         }
         Node::Conditional(condition, left, right) => {
-            knows(hosts, columns, condition.get(), hidden)
-                && knows(hosts, columns, left.get(), hidden)
-                && knows(hosts, columns, right.get(), hidden)
+            is_expression_known(hosts, columns, condition.get(), hidden)
+                && is_expression_known(hosts, columns, left.get(), hidden)
+                && is_expression_known(hosts, columns, right.get(), hidden)
         }
         Node::Host(predicate, row, picked) => {
             is_predicate(hosts, predicate.as_str())
-                && knows(hosts, columns, row.get(), hidden)
+                && is_expression_known(hosts, columns, row.get(), hidden)
                 && (hidden || !is_row(row.get()) || has_columns(columns, picked.get()))
         }
         Node::HostOther(predicate, asked) => {
             is_predicate(hosts, predicate.as_str())
-                && knows_all(hosts, columns, asked.as_slice(), hidden)
+                && are_all_known(hosts, columns, asked.as_slice(), hidden)
         }
-        Node::New(fields) => knows_fields(hosts, columns, fields.as_slice(), hidden),
+        Node::New(fields) => are_fields_known(hosts, columns, fields.as_slice(), hidden),
         Node::Method(receiver, _, arguments) => {
-            knows(hosts, columns, receiver.get(), hidden)
-                && knows_arguments(hosts, columns, arguments.as_slice(), hidden)
+            is_expression_known(hosts, columns, receiver.get(), hidden)
+                && are_arguments_known(hosts, columns, arguments.as_slice(), hidden)
         }
     }
 }
 
 /// The same of what a host predicate is asked of that isn't columns of a row.
 #[cycle(rule_names)]
-fn knows_all(hosts: &[HostName], columns: &[Column], expressions: &[Expr], hidden: bool) -> bool
+fn are_all_known(hosts: &[HostName], columns: &[Column], expressions: &[Expr], hidden: bool) -> bool
     ensures { result
         ≡ list_all (λ expression. knows hosts.now columns.now expression hidden) expressions.now }
 {
     for expression in expressions {
-        if !knows(hosts, columns, expression, hidden) {
+        if !is_expression_known(hosts, columns, expression, hidden) {
             return false;
         }
     }
@@ -137,7 +143,7 @@ fn knows_all(hosts: &[HostName], columns: &[Column], expressions: &[Expr], hidde
 
 /// The same of the members of a record.
 #[cycle(rule_names)]
-fn knows_fields(
+fn are_fields_known(
     hosts: &[HostName],
     columns: &[Column],
     fields: &[Field<Expr>],
@@ -147,7 +153,7 @@ fn knows_fields(
         ≡ list_all (λ field. knows hosts.now columns.now field.value hidden) fields.now }
 {
     for field in fields {
-        if !knows(hosts, columns, &field.value, hidden) {
+        if !is_expression_known(hosts, columns, &field.value, hidden) {
             return false;
         }
     }
@@ -156,7 +162,7 @@ fn knows_fields(
 
 /// The same of an argument: a lambda's parameter may hide the row.
 #[cycle(rule_names)]
-fn knows_argument(
+fn is_argument_known(
     hosts: &[HostName],
     columns: &[Column],
     argument: &Argument<Expr>,
@@ -165,9 +171,9 @@ fn knows_argument(
     ensures { result ≡ argument_knows (knows hosts.now columns.now) hidden argument.now }
 {
     match argument {
-        Argument::Value(value) => knows(hosts, columns, value, hidden),
+        Argument::Value(value) => is_expression_known(hosts, columns, value, hidden),
         Argument::Lambda(parameter, body) => {
-            knows(
+            is_expression_known(
                 hosts,
                 columns,
                 body,
@@ -179,7 +185,7 @@ fn knows_argument(
 
 /// The same of the arguments of a method.
 #[cycle(rule_names)]
-fn knows_arguments(
+fn are_arguments_known(
     hosts: &[HostName],
     columns: &[Column],
     arguments: &[Argument<Expr>],
@@ -189,7 +195,7 @@ fn knows_arguments(
         ≡ list_all (argument_knows (knows hosts.now columns.now) hidden) arguments.now }
 {
     for argument in arguments {
-        if !knows_argument(hosts, columns, argument, hidden) {
+        if !is_argument_known(hosts, columns, argument, hidden) {
             return false;
         }
     }
@@ -198,18 +204,18 @@ fn knows_arguments(
 
 /// The same of a query, at whose place the row is hidden or not.
 #[cycle(rule_names)]
-fn knows_query(hosts: &[HostName], columns: &[Column], query: &Query<Expr>, outer: bool) -> bool
+fn is_query_known(hosts: &[HostName], columns: &[Column], query: &Query<Expr>, outer: bool) -> bool
     ensures { result ≡ query_knows (knows hosts.now columns.now) outer query.now }
 {
     let hidden = is_hidden_by(query.name.as_str(), outer);
-    knows(hosts, columns, &query.source, outer)
-        && knows_body(hosts, columns, &query.body, outer, hidden)
-        && knows_continuations(hosts, columns, query.rest.as_slice(), outer)
+    is_expression_known(hosts, columns, &query.source, outer)
+        && is_body_known(hosts, columns, &query.body, outer, hidden)
+        && are_continuations_known(hosts, columns, query.rest.as_slice(), outer)
 }
 
 /// The same of what follows a query's first body: each part sees its own range variable alone.
 #[cycle(rule_names)]
-fn knows_continuations(
+fn are_continuations_known(
     hosts: &[HostName],
     columns: &[Column],
     continuations: &[Continuation<Expr>],
@@ -220,7 +226,7 @@ fn knows_continuations(
 {
     for next in continuations {
         let hidden = is_hidden_by(next.name.as_str(), outer);
-        if !knows_body(hosts, columns, &next.body, outer, hidden) {
+        if !is_body_known(hosts, columns, &next.body, outer, hidden) {
             return false;
         }
     }
@@ -229,7 +235,7 @@ fn knows_continuations(
 
 /// The same of a body, at the start of which the row is hidden or not.
 #[cycle(rule_names)]
-fn knows_body(
+fn is_body_known(
     hosts: &[HostName],
     columns: &[Column],
     body: &Body<Expr>,
@@ -239,17 +245,17 @@ fn knows_body(
     ensures { result ≡ body_knows (knows hosts.now columns.now) outer hidden body.now }
 {
     for clause in body.clauses.as_slice() {
-        if !knows_clause(hosts, columns, clause, outer, hidden) {
+        if !is_clause_known(hosts, columns, clause, outer, hidden) {
             return false;
         }
         hidden = is_hidden_after(clause, hidden);
     }
-    knows_last(hosts, columns, &body.last, hidden)
+    is_last_known(hosts, columns, &body.last, hidden)
 }
 
 /// The same of a clause.
 #[cycle(rule_names)]
-fn knows_clause(
+fn is_clause_known(
     hosts: &[HostName],
     columns: &[Column],
     clause: &Clause<Expr>,
@@ -260,17 +266,17 @@ fn knows_clause(
 {
     match clause {
         Clause::From(_, value) | Clause::Let(_, value) | Clause::Where(value) => {
-            knows(hosts, columns, value, hidden)
+            is_expression_known(hosts, columns, value, hidden)
         }
-        Clause::Join(join) => knows_join(hosts, columns, join, outer, hidden),
-        Clause::OrderBy(keys) => knows_keys(hosts, columns, keys.as_slice(), hidden),
+        Clause::Join(join) => is_join_known(hosts, columns, join, outer, hidden),
+        Clause::OrderBy(keys) => are_keys_known(hosts, columns, keys.as_slice(), hidden),
     }
 }
 
 /// The same of a `join`. Its inner sequence sees no range variable of the query, and the key of that
 /// its own alone.
 #[cycle(rule_names)]
-fn knows_join(
+fn is_join_known(
     hosts: &[HostName],
     columns: &[Column],
     join: &Join<Expr>,
@@ -280,18 +286,23 @@ fn knows_join(
     ensures { result ≡ join_knows (knows hosts.now columns.now) outer hidden join.now }
 {
     let inner = is_hidden_by(join.name.as_str(), outer);
-    knows(hosts, columns, &join.source, outer)
-        && knows(hosts, columns, &join.outer_key, hidden)
-        && knows(hosts, columns, &join.inner_key, inner)
+    is_expression_known(hosts, columns, &join.source, outer)
+        && is_expression_known(hosts, columns, &join.outer_key, hidden)
+        && is_expression_known(hosts, columns, &join.inner_key, inner)
 }
 
 /// The same of the keys of `orderby`.
 #[cycle(rule_names)]
-fn knows_keys(hosts: &[HostName], columns: &[Column], keys: &[SortKey<Expr>], hidden: bool) -> bool
+fn are_keys_known(
+    hosts: &[HostName],
+    columns: &[Column],
+    keys: &[SortKey<Expr>],
+    hidden: bool,
+) -> bool
     ensures { result ≡ list_all (λ key. knows hosts.now columns.now key.value hidden) keys.now }
 {
     for key in keys {
-        if !knows(hosts, columns, &key.value, hidden) {
+        if !is_expression_known(hosts, columns, &key.value, hidden) {
             return false;
         }
     }
@@ -300,13 +311,14 @@ fn knows_keys(hosts: &[HostName], columns: &[Column], keys: &[SortKey<Expr>], hi
 
 /// The same of the end of a body.
 #[cycle(rule_names)]
-fn knows_last(hosts: &[HostName], columns: &[Column], last: &Last<Expr>, hidden: bool) -> bool
+fn is_last_known(hosts: &[HostName], columns: &[Column], last: &Last<Expr>, hidden: bool) -> bool
     ensures { result ≡ last_knows (knows hosts.now columns.now) hidden last.now }
 {
     match last {
-        Last::Select(value) => knows(hosts, columns, value, hidden),
+        Last::Select(value) => is_expression_known(hosts, columns, value, hidden),
         Last::Group(value, key) => {
-            knows(hosts, columns, value, hidden) && knows(hosts, columns, key, hidden)
+            is_expression_known(hosts, columns, value, hidden)
+                && is_expression_known(hosts, columns, key, hidden)
         }
     }
 }

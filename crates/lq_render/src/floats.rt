@@ -12,15 +12,15 @@ pub(crate) fn has_float(value: &Value) -> bool
 {
     match value {
         Value::Number(number) => number.is_f64(),
-        Value::Array(items) => items_have_float(items),
-        Value::Object(members) => members_have_float(members),
+        Value::Array(items) => has_float_item(items),
+        Value::Object(members) => has_float_member(members),
         Value::Null | Value::Bool(_) | Value::String(_) => false,
     }
 }
 
 /// Whether one of the items has a float in it.
 #[cycle(floats)]
-fn items_have_float(items: &Vec<Value>) -> bool
+fn has_float_item(items: &Vec<Value>) -> bool
     ensures { result ≡ items_have_float (items_view items.now.items) }
 {
     for item in items {
@@ -33,7 +33,7 @@ fn items_have_float(items: &Vec<Value>) -> bool
 
 /// Whether one of the members has a float in it.
 #[cycle(floats)]
-fn members_have_float(members: &Map<String, Value>) -> bool
+fn has_float_member(members: &Map<String, Value>) -> bool
     ensures { result ≡ members_have_float (members_view members.now.entries) }
 {
     for (_, member) in members.iter() {

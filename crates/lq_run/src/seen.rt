@@ -48,7 +48,7 @@ pub(crate) fn admitted<'a>(
 {
     let mut seen = Vec::with_capacity(alloc, rows.len())?;
     for row in rows {
-        if rules.admit(row.cells.as_slice()) {
+        if rules.is_admitted(row.cells.as_slice()) {
             seen.push(SeenRow { table, row })?;
         }
     }

@@ -50,7 +50,7 @@ pub(crate) fn read_script<R: Read>(
 }
 
 // Whether no line has more than `limit` bytes, its line feed not counted.
-pub(crate) fn fits(bytes: &[u8], limit: usize) -> bool
+pub(crate) fn has_short_lines(bytes: &[u8], limit: usize) -> bool
     ensures { result ≡ fits limit bytes.now }
 {
     let mut room = limit;

@@ -6,7 +6,7 @@ ghost use Rattle.lq_serve.specs.Devices.{inner_of, read_count, late_count, late_
 ghost use Rattle.lq_serve.specs.ScriptRun.{IsNoText, IsTooLong, LineServed, LineServedInPart, LinesServed, ServedInPart, ServedWhole, Stopped};
 
 use crate::device::Device;
-use crate::script_bytes::{SCRIPT_LIMIT, fits, read_script};
+use crate::script_bytes::{SCRIPT_LIMIT, has_short_lines, read_script};
 use crate::script_lines::first_line;
 use crate::serve_error::{ServeError, WriteFailed};
 use lq_lex::{LINE_LIMIT, without_marks};
@@ -75,7 +75,7 @@ pub fn serve<R: Read, W: Write>(
     ensures in_time { late_count reader.new ≤ late_count_next reader.old }
 {
     let bytes = read_script(alloc, reader, SCRIPT_LIMIT)?;
-    if !fits(&bytes, LINE_LIMIT) {
+    if !has_short_lines(&bytes, LINE_LIMIT) {
         return Err(ServeError::TooLong);
     }
     match str::from_utf8(without_marks(&bytes)) {

@@ -112,7 +112,7 @@ pub(crate) fn assign<H: Asks>(
         return Err(refusal(alloc, "type"));
     };
     let tree = tree_of(alloc, expr, opened, state)?;
-    if !lq_typing::converts(ty(&tree), place) {
+    if !lq_typing::is_convertible(ty(&tree), place) {
         return Err(refusal(alloc, "type"));
     }
     let value = evaluate_scalar(alloc, &tree, state, hosts)?;

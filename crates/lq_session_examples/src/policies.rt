@@ -169,7 +169,10 @@ fn is_decided(
         table,
     } = access;
     let rules = policies.rules_for(alloc, role, action, table)?;
-    Ok(rules.admit(cells) == expected && policies.visible(role, action, table, cells) == expected)
+    Ok(
+        rules.is_admitted(cells) == expected
+            && policies.visible(role, action, table, cells) == expected,
+    )
 }
 
 fn is_row_decided(

@@ -129,7 +129,7 @@ pub(crate) fn add(alloc: Global, store: &mut Store, name: &str, next: u64) -> Re
 }
 
 // Whether a store takes a table as the one of this number, and then no other of the first one's name.
-fn takes_one_more(alloc: Global, store: &mut Store, number: TableNumber) -> Result<bool, Fail> {
+fn is_last_taken(alloc: Global, store: &mut Store, number: TableNumber) -> Result<bool, Fail> {
     let name = format!(in alloc; "t{number}")?;
     Ok(
         added(alloc, store, &name, 1)? == Ok(number)
@@ -140,7 +140,7 @@ fn takes_one_more(alloc: Global, store: &mut Store, number: TableNumber) -> Resu
 // Whether an empty store takes 64 tables and no more.
 fn are_all_taken(alloc: Global, store: &mut Store) -> Result<bool, Fail> {
     for number in 0..64 {
-        if !takes_one_more(alloc, store, number)? {
+        if !is_last_taken(alloc, store, number)? {
             return Ok(false);
         }
     }
@@ -241,7 +241,13 @@ const REMOVALS: [(&[u64], u64, &[u64]); 5] = [
 ];
 
 // Whether so many rows are removed from the first table of a store and these are left.
-fn removes(rt: &impl Abort, store: &mut Store, numbers: &[u64], gone: u64, left: &[u64]) -> bool {
+fn are_removed_alone(
+    rt: &impl Abort,
+    store: &mut Store,
+    numbers: &[u64],
+    gone: u64,
+    left: &[u64],
+) -> bool {
     assert!(rt; 0 < store.len());
     store.delete_rows(0, numbers) == gone && has_numbers(rows_of(rt, store, 0), left)
 }
@@ -255,7 +261,10 @@ fn are_removed(
     left: &[u64],
 ) -> Result<bool, Fail> {
     let mut store = two_tables(alloc)?;
-    Ok(removes(rt, &mut store, numbers, gone, left) && put(alloc, &mut store, 0, ONE)? == Ok(4))
+    Ok(
+        are_removed_alone(rt, &mut store, numbers, gone, left)
+            && put(alloc, &mut store, 0, ONE)? == Ok(4),
+    )
 }
 
 #[test]

@@ -28,7 +28,7 @@ fn is_in_range(range: Option<(i32, i32)>, cell: &Scalar) -> bool
 }
 
 /// Whether each of `cells` is of the type of its column.
-pub(crate) fn have_types(columns: &[Column], cells: &[Scalar]) -> bool
+pub(crate) fn are_of_types(columns: &[Column], cells: &[Scalar]) -> bool
     ensures { result ≡ have_types columns.now cells.now }
 {
     columns

@@ -5,7 +5,7 @@ ghost use Rattle.lq_store.specs.Rules.{keeps_rules};
 ghost use Rattle.lq_store.specs.Calls.{is_listed, refusal_of};
 ghost use Rattle.lq_store.specs.Numbers.{Rise, from_number, is_first};
 
-use crate::checks::{are_in_ranges, have_types};
+use crate::checks::{are_in_ranges, are_of_types};
 use crate::error::StoreError;
 use lq_value::{List, Row, Scalar, Schema};
 use std::alloc::Global;
@@ -109,7 +109,7 @@ impl Table {
         let columns = self.schema.columns.as_slice();
         if columns.len() != cells.len() {
             Some(StoreError::Arity)
-        } else if !have_types(columns, cells) {
+        } else if !are_of_types(columns, cells) {
             Some(StoreError::CellType)
         } else if !are_in_ranges(columns, cells) {
             Some(StoreError::CellRange)

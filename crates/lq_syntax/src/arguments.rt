@@ -24,7 +24,7 @@ impl<'a, F: Fn(Global, &[u8], &mut Tokens<'_>, usize, Level) -> Result<Expr, Par
         ensures { Reads (parsing.argument_at self.now.line.now
             (expression self.now.line.now self.now.depth) tokens.old) result tokens.new }
     {
-        if tokens.begins_with_two(Kind::Name, Kind::Arrow) {
+        if tokens.are_next(Kind::Name, Kind::Arrow) {
             let parameter = literals::name(self.alloc, self.line, tokens)?;
             tokens.expect(Kind::Arrow)?;
             let body = self.inner(tokens, Level::Conditional)?;

@@ -156,7 +156,7 @@ impl<'a, F: Fn(Global, &[u8], &mut Tokens<'_>, usize, Level) -> Result<Expr, Par
     }
 
     /// Whether a clause begins with a word of this kind.
-    fn begins_clause(&self, word: Kind) -> bool
+    fn is_clause_start(&self, word: Kind) -> bool
         ensures { result
             ≡ is_some (parsing.clause_by self.now.line.now
             (expression self.now.line.now self.now.depth) word) }
@@ -176,7 +176,7 @@ impl<'a, F: Fn(Global, &[u8], &mut Tokens<'_>, usize, Level) -> Result<Expr, Par
         let mut clauses = List::new(self.alloc);
         for _turn in 0..tokens.left() {
             let word = tokens.peek();
-            if !self.begins_clause(word) {
+            if !self.is_clause_start(word) {
                 return Ok(clauses);
             }
             tokens.skip();

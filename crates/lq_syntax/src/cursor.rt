@@ -86,7 +86,7 @@ impl<'a> Tokens<'a> {
 
     /// Whether a token of this kind comes next.
     #[tactic(auto, using(crate::proofs::Fronts::begins_none))]
-    pub fn begins_with(&self, kind: Kind) -> bool
+    pub fn is_next(&self, kind: Kind) -> bool
         ensures { result ≡ parsing.begins_with kind self.now }
     {
         match self.next() {
@@ -97,11 +97,11 @@ impl<'a> Tokens<'a> {
 
     /// Whether a token of the kind `first` comes next, and after it one of the kind `second`.
     #[tactic(auto, using(crate::proofs::Fronts::two_none))]
-    pub fn begins_with_two(&self, first: Kind, second: Kind) -> bool
+    pub fn are_next(&self, first: Kind, second: Kind) -> bool
         ensures { result ≡ parsing.begins_with_two first second self.now }
     {
         match self.next() {
-            Some((token, behind)) => token.kind == first && Tokens::new(behind).begins_with(second),
+            Some((token, behind)) => token.kind == first && Tokens::new(behind).is_next(second),
             None => false,
         }
     }
@@ -142,7 +142,7 @@ impl<'a> Tokens<'a> {
             ≡ Some (next_token self.old, self.new) }
         ensures left { IsFalse result → self.new ≡ self.old }
     {
-        if !self.begins_with(kind) {
+        if !self.is_next(kind) {
             return false;
         }
         self.skip();

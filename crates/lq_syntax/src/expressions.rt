@@ -127,7 +127,7 @@ impl<'a, F: Fn(Global, &[u8], &mut Tokens<'_>, usize, Level) -> Result<Expr, Par
         ensures { Reads (parsing.top self.now.line.now
             (expression self.now.line.now self.now.depth) tokens.old) result tokens.new }
     {
-        if tokens.begins_with(Kind::From) {
+        if tokens.is_next(Kind::From) {
             let query = self.query(tokens)?;
             return Ok(Expr::Query(Held::new(self.alloc, query)?));
         }

@@ -75,7 +75,7 @@ impl<'a, F: Fn(Global, &[u8], &mut Tokens<'_>, usize, Level) -> Result<Expr, Par
         ensures { Reads (parsing.field self.now.line.now
             (expression self.now.line.now self.now.depth) tokens.old) result tokens.new }
     {
-        if tokens.begins_with_two(Kind::Name, Kind::Assign) {
+        if tokens.are_next(Kind::Name, Kind::Assign) {
             return self.assigned(tokens);
         }
         self.named_last(tokens)

@@ -138,7 +138,11 @@ fn has_calls(alloc: Global, query: &Query<Expr>, calls: Calls<'_>) -> Result<boo
 }
 
 // Whether a statement runs such a query.
-fn runs_calls(alloc: Global, statement: &Statement, calls: Calls<'_>) -> Result<bool, AllocError> {
+fn is_run_of_calls(
+    alloc: Global,
+    statement: &Statement,
+    calls: Calls<'_>,
+) -> Result<bool, AllocError> {
     match statement {
         Statement::Run(Expr::Query(query)) => has_calls(alloc, query.get(), calls),
         _ => Ok(false),
@@ -147,7 +151,7 @@ fn runs_calls(alloc: Global, statement: &Statement, calls: Calls<'_>) -> Result<
 
 fn is_translated(alloc: Global, line: &str, calls: Calls<'_>) -> Result<bool, Fail> {
     match parse_statement(alloc, line)? {
-        Some(statement) => Ok(runs_calls(alloc, &statement, calls)?),
+        Some(statement) => Ok(is_run_of_calls(alloc, &statement, calls)?),
         None => Ok(false),
     }
 }

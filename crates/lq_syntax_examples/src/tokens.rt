@@ -266,7 +266,7 @@ fn is_fault(alloc: Global, line: &str) -> bool {
     matches!(tokens(alloc, line), Err(LexError::Lexical))
 }
 
-fn spells(alloc: Global, literal: &str, expected: &[u8]) -> Result<bool, Fail> {
+fn is_literal_of(alloc: Global, literal: &str, expected: &[u8]) -> Result<bool, Fail> {
     Ok(is_one(alloc, literal, Kind::Text)? && text_value(alloc, literal)?.as_bytes() == expected)
 }
 
@@ -350,7 +350,7 @@ fn blank_lines_have_no_token(rt: HostRuntime) -> Result<(), Fail> {
 #[test]
 fn texts_have_their_values(rt: HostRuntime) -> Result<(), Fail> {
     for (literal, value) in &TEXTS {
-        assert!(rt; spells(rt.alloc(), literal, value)?, "{literal}");
+        assert!(rt; is_literal_of(rt.alloc(), literal, value)?, "{literal}");
     }
     Ok(())
 }

@@ -34,7 +34,7 @@ fn is_integer(expr: &Expr, value: i32) -> bool {
 }
 
 // Whether the expression is the two operands under the operator, the first of which is that too.
-fn leans_left(expr: &Expr, operator: Binary) -> bool {
+fn is_left_grouped(expr: &Expr, operator: Binary) -> bool {
     match expr {
         Expr::Node(Node::Binary(outer, left, right)) => {
             *outer == operator
@@ -48,8 +48,8 @@ fn leans_left(expr: &Expr, operator: Binary) -> bool {
 
 // Whether the text is a rule of three operands under this operator, grouped from the left. A function of its own, like the
 // next two: what costs most to prove of a test is that it frees a tree.
-fn groups_from_the_left(alloc: Global, text: &str, operator: Binary) -> Result<bool, SyntaxError> {
-    Ok(leans_left(&parse_rule(alloc, text)?, operator))
+fn is_text_left_grouped(alloc: Global, text: &str, operator: Binary) -> Result<bool, SyntaxError> {
+    Ok(is_left_grouped(&parse_rule(alloc, text)?, operator))
 }
 
 fn is_number(alloc: Global, text: &str, value: i32) -> Result<bool, SyntaxError> {
@@ -64,13 +64,13 @@ fn is_no_rule(alloc: Global, text: &str) -> bool {
 fn repeated_operators_lean_to_the_left(rt: HostRuntime) -> Result<(), Fail> {
     for (text, operator) in &LEANING {
         assert!(rt;
-            groups_from_the_left(rt.alloc(), text, *operator)?,
+            is_text_left_grouped(rt.alloc(), text, *operator)?,
             "{text}"
         );
     }
     for text in &OTHERS {
         assert!(rt;
-            !groups_from_the_left(rt.alloc(), text, Binary::Subtract)?,
+            !is_text_left_grouped(rt.alloc(), text, Binary::Subtract)?,
             "{text}"
         );
     }

@@ -83,7 +83,7 @@ fn operators_of_body<X: TellsName>(
             Ok(operators)
         }
         Some(final_clause) => {
-            let sole = stays_sole(clauses.as_slice());
+            let sole = is_still_sole(clauses.as_slice());
             let mut operators = pairing_operators(alloc, clauses)?;
             push_final(&mut operators, name, sole, final_clause, last)?;
             Ok(operators)
@@ -92,11 +92,11 @@ fn operators_of_body<X: TellsName>(
 }
 
 /// Whether none of the clauses brings a range variable in.
-fn stays_sole<X: Drop>(clauses: &[Clause<X>]) -> bool
+fn is_still_sole<X: Drop>(clauses: &[Clause<X>]) -> bool
     ensures { result ≡ keeps_sole clauses.now }
 {
     for clause in clauses {
-        if brings_name(clause) {
+        if has_new_name(clause) {
             return false;
         }
     }
@@ -104,14 +104,14 @@ fn stays_sole<X: Drop>(clauses: &[Clause<X>]) -> bool
 }
 
 /// Whether a clause brings a range variable in.
-fn brings_name<X: Drop>(clause: &Clause<X>) -> bool
+fn has_new_name<X: Drop>(clause: &Clause<X>) -> bool
     ensures { result ≡ widens clause.now }
 {
     !matches!(clause, Clause::Where(_) | Clause::OrderBy(_))
 }
 
 /// Whether a clause's call takes a result for each pair.
-fn makes_results<X: Drop>(clause: &Clause<X>) -> bool
+fn has_result<X: Drop>(clause: &Clause<X>) -> bool
     ensures { result ≡ has_result clause.now }
 {
     matches!(clause, Clause::From(_, _) | Clause::Join(_))
@@ -155,8 +155,8 @@ fn push_final<X: TellsName>(
     ensures { OnOk result (operators.new ≡ operators.old
         ++ operators_of X.naming name.now true sole (clause ∷ []) last) }
 {
-    let sole = sole && !brings_name(&clause);
-    let makes = makes_results(&clause);
+    let sole = sole && !has_new_name(&clause);
+    let makes = has_result(&clause);
     match last {
         Last::Select(value) => {
             if makes {

@@ -8,7 +8,7 @@ mod types;
 mod typing;
 
 pub use types::{
-    converts, copy_ty, element_type, has_place, is_bool, is_key, is_number, is_sequence,
+    copy_ty, element_type, has_place, is_bool, is_convertible, is_key, is_number, is_sequence,
     is_sort_key, is_text, is_within,
 };
 pub use typing::{

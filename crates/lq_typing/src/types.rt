@@ -112,7 +112,7 @@ pub(crate) fn has_default(ty: &Ty) -> bool
 
 /// Whether values of the type may be null.
 #[tactic(auto, using(crate::proofs::TypeLayers::layers))]
-fn takes_null(ty: &Ty) -> bool
+fn is_nullable(ty: &Ty) -> bool
     ensures { result ≡ takes_null (out-Ty ty.now) }
 {
     matches!(ty, Ty::IntN | Ty::Str | Ty::Row(_) | Ty::Rec(_))
@@ -120,12 +120,12 @@ fn takes_null(ty: &Ty) -> bool
 
 /// Whether the first type widens to the second: `int` to `int?`, and null to any type that may be null.
 #[tactic(auto, using(crate::proofs::TypeLayers::layers))]
-fn widens(from: &Ty, to: &Ty) -> bool
+fn is_widening(from: &Ty, to: &Ty) -> bool
     ensures { result ≡ widens (out-Ty from.now) (out-Ty to.now) }
 {
     match from {
         Ty::Int => matches!(to, Ty::IntN),
-        Ty::Null => takes_null(to),
+        Ty::Null => is_nullable(to),
         _ => false,
     }
 }
@@ -171,7 +171,7 @@ fn are_keys(members: &[(Txt, Ty)]) -> bool
 /// Whether two types are written the same.
 #[cycle(sameness)]
 #[tactic(auto, using(crate::proofs::TypeLayers::sameness))]
-pub(crate) fn same_types(left: &Ty, right: &Ty) -> bool
+pub(crate) fn are_same_types(left: &Ty, right: &Ty) -> bool
     ensures { result ≡ same_types left.now right.now }
 {
     match left {
@@ -182,16 +182,17 @@ pub(crate) fn same_types(left: &Ty, right: &Ty) -> bool
         Ty::Null => matches!(right, Ty::Null),
         Ty::Row(table) => matches!(right, Ty::Row(other) if table == other),
         Ty::Rec(members) => match right {
-            Ty::Rec(others) => same_members(members.as_slice(), others.as_slice()),
+            Ty::Rec(others) => are_same_members(members.as_slice(), others.as_slice()),
             _ => false,
         },
         Ty::Seq(item) => match right {
-            Ty::Seq(other) => same_types(item.get(), other.get()),
+            Ty::Seq(other) => are_same_types(item.get(), other.get()),
             _ => false,
         },
         Ty::Group(key, element) => match right {
             Ty::Group(other_key, other) => {
-                same_types(key.get(), other_key.get()) && same_types(element.get(), other.get())
+                are_same_types(key.get(), other_key.get())
+                    && are_same_types(element.get(), other.get())
             }
             _ => false,
         },
@@ -200,14 +201,14 @@ pub(crate) fn same_types(left: &Ty, right: &Ty) -> bool
 
 #[cycle(sameness)]
 #[tactic(auto, using(crate::proofs::TypeLayers::sameness))]
-fn same_members(left: &[(Txt, Ty)], right: &[(Txt, Ty)]) -> bool
+fn are_same_members(left: &[(Txt, Ty)], right: &[(Txt, Ty)]) -> bool
     ensures { result ≡ same_members left.now right.now }
 {
     let mut rest = right;
     for (name, ty) in left {
         match rest.split_first() {
             Some(((other, found), others)) => {
-                if name.as_str() != other.as_str() || !same_types(ty, found) {
+                if name.as_str() != other.as_str() || !are_same_types(ty, found) {
                     return false;
                 }
                 rest = others;
@@ -219,10 +220,10 @@ fn same_members(left: &[(Txt, Ty)], right: &[(Txt, Ty)]) -> bool
 }
 
 /// Whether values of the first type may be used where those of the second are.
-pub fn converts(from: &Ty, to: &Ty) -> bool
+pub fn is_convertible(from: &Ty, to: &Ty) -> bool
     ensures { result ≡ converts from.now to.now }
 {
-    same_types(from, to) || widens(from, to)
+    are_same_types(from, to) || is_widening(from, to)
 }
 
 /// What is left of so many parts once those of the type are counted; None where it has more.

@@ -7,7 +7,8 @@ ghost use Rattle.lq_language.specs.OperandTypes.{are_comparable, are_joined, cho
 ghost use Rattle.lq_language.specs.Typing.{are_null_tests, given_type, if_int, if_same, if_same_keys, simple_type, through_type, type_of_choice, type_of_operation};
 
 use crate::types::{
-    converts, copy_ty, has_default, has_place, is_bool, is_int, is_key, is_number, same_types,
+    are_same_types, copy_ty, has_default, has_place, is_bool, is_convertible, is_int, is_key,
+    is_number,
 };
 use lq_grammar::Binary;
 use lq_language::{Given, Simple, Through};
@@ -147,7 +148,7 @@ fn choice_of_record(members: List<(Txt, Ty)>, right: Ty) -> Option<Ty>
 {
     let left = Ty::Rec(members);
     match &right {
-        Ty::Rec(_) if same_types(&left, &right) => Some(left),
+        Ty::Rec(_) if are_same_types(&left, &right) => Some(left),
         Ty::Null => Some(left),
         _ => None,
     }
@@ -246,8 +247,8 @@ fn has_items(item: &Ty, second: &Ty) -> bool
     ensures { when result (Some (ty.Seq item.now)) ≡ if_same item.now (Some second.now) }
 {
     match second {
-        Ty::Seq(other) => same_types(item, other.get()),
-        Ty::Group(_, other) => same_types(item, other.get()),
+        Ty::Seq(other) => are_same_types(item, other.get()),
+        Ty::Group(_, other) => are_same_types(item, other.get()),
         _ => false,
     }
 }
@@ -273,7 +274,7 @@ pub fn given_type(
         }
         Given::Skip | Given::Take => sequence_if(alloc, is_int(argument), item),
         Given::ElementAt => copied_if(alloc, is_int(argument), item),
-        Given::Contains => Ok((is_key(item) && converts(argument, item)).then_some(Ty::Bool)),
+        Given::Contains => Ok((is_key(item) && is_convertible(argument, item)).then_some(Ty::Bool)),
     }
 }
 
@@ -307,7 +308,7 @@ pub fn through_type(
 pub fn are_join_keys(left: &Ty, right: &Ty) -> bool
     ensures { result ≡ are_join_keys (Some left.now) (Some right.now) }
 {
-    is_key(left) && same_types(left, right) || are_widened(left, right)
+    is_key(left) && are_same_types(left, right) || are_widened(left, right)
 }
 
 /// Whether the types are `int` and `int?`, in either order.

@@ -8,7 +8,7 @@ ghost use Rattle.lq_value.specs.Keys.{atoms_of, key_of_scalar, key_value, member
 
 use crate::copies::copy_scalar;
 use crate::list::List;
-use crate::sameness::same_contents;
+use crate::sameness::are_same_contents;
 use crate::scalar::Scalar;
 use crate::txt::Txt;
 use crate::value::{RowRef, Value};
@@ -51,7 +51,7 @@ impl PartialEq for Atom {
 
     fn eq(&self, other: &Atom) -> bool {
         match (self, other) {
-            (Atom::One(left), Atom::One(right)) => same_contents(left, right),
+            (Atom::One(left), Atom::One(right)) => are_same_contents(left, right),
             (Atom::Open, Atom::Open) => true,
             (Atom::Close, Atom::Close) => true,
             _ => false,

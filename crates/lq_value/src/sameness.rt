@@ -17,13 +17,16 @@ pub fn same<R: RowRef>(left: &Value<R>, right: &Value<R>) -> bool
     ensures { result ≡ same_values left.now right.now }
 {
     match (left, right) {
-        (Value::Scalar(left), Value::Scalar(right)) => same_contents(left, right),
-        (Value::Rec(left), Value::Rec(right)) => same_members(left.as_slice(), right.as_slice()),
+        (Value::Scalar(left), Value::Scalar(right)) => are_same_contents(left, right),
+        (Value::Rec(left), Value::Rec(right)) => are_same_members(
+            left.as_slice(),
+            right.as_slice(),
+        ),
         _ => false,
     }
 }
 
-pub(crate) fn same_contents(left: &Scalar, right: &Scalar) -> bool
+pub(crate) fn are_same_contents(left: &Scalar, right: &Scalar) -> bool
     ensures { result ≡ same_scalars left.now right.now }
 {
     match (left, right) {
@@ -37,7 +40,7 @@ pub(crate) fn same_contents(left: &Scalar, right: &Scalar) -> bool
 
 #[cycle(sameness)]
 #[tactic(auto, using(crate::proofs::SamenessLaws::sameness))]
-fn same_members<R: RowRef>(left: &[(Txt, Value<R>)], right: &[(Txt, Value<R>)]) -> bool
+fn are_same_members<R: RowRef>(left: &[(Txt, Value<R>)], right: &[(Txt, Value<R>)]) -> bool
     ensures { result ≡ pointwise same_member left.now right.now }
 {
     let mut rest = right;

@@ -1,7 +1,7 @@
 use Rattle.std.proofs.Common.{◌≡◌, length}
 use Rattle.std.specs.List.{list_any}
 use Rattle.lq_policy.specs.Guards.{decides_on, rules_of}
-use Rattle.lq_policy.proofs.row_and_user.RowAndUser.satisfies_any.Given as goal
+use Rattle.lq_policy.proofs.row_and_user.RowAndUser.is_admitted_by_any.Given as goal
 
 -- the rules that are left decide
 abbrev pub invariant-loop-left : goal.invariant-loop-left

@@ -1,7 +1,7 @@
 use Rattle.std.proofs.Common.{refl, sym, ◌∙◌}
 use Rattle.lq_grammar.specs.Parsing.{same_kind}
 use Rattle.lq_syntax.proofs.Fronts.{two_other, two_found}
-use Rattle.lq_syntax.proofs.cursor.Tokens.begins_with_two.Goals as goal
+use Rattle.lq_syntax.proofs.cursor.Tokens.are_next.Goals as goal
 
 pub returns-then-eq : goal.returns-then-eq
 unfolding same_kind

@@ -2,7 +2,7 @@ use Rattle.std.proofs.Common.{◌≡◌, List, ℕ, bytes_eq, ap, ◌∙◌}
 use Rattle.std.specs.List.{list_any}
 use Rattle.lq_policyfile.specs.Names.{is_among}
 use Rattle.lq_policyfile.proofs.NameLemmas.{has_shown, shown}
-use Rattle.lq_policyfile.proofs.name_set.NameSet.has.Goals as goal
+use Rattle.lq_policyfile.proofs.name_set.NameSet.contains.Goals as goal
 
 pub returns : goal.returns
 returns c =

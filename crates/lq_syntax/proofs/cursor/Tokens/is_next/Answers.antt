@@ -1,7 +1,7 @@
 use Rattle.std.proofs.Common.{sym, ◌∙◌}
 use Rattle.lq_grammar.specs.Parsing.{same_kind}
 use Rattle.lq_syntax.proofs.Fronts.{begins_some}
-use Rattle.lq_syntax.proofs.cursor.Tokens.begins_with.Goals as goal
+use Rattle.lq_syntax.proofs.cursor.Tokens.is_next.Goals as goal
 
 pub returns-in-Some : goal.returns-in-Some
 unfolding same_kind

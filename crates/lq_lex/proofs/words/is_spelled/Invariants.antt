@@ -1,6 +1,6 @@
 use Rattle.std.proofs.Common.{◌≡◌, length}
 use Rattle.std.specs.Str.{bytes_eq}
-use Rattle.lq_lex.proofs.words.spells.Given as goal
+use Rattle.lq_lex.proofs.words.is_spelled.Given as goal
 
 abbrev pub invariant-loop-name : goal.invariant-loop-name
 invariant-loop-name l = bytes_eq l.name l.word ≡ bytes_eq l.initial.name l.initial.word

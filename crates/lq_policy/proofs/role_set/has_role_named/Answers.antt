@@ -3,7 +3,7 @@ use Rattle.std.proofs.Common.{◌∙◌, Option, ap, sym}
 use Rattle.lq_security.specs.Visible.{is_named}
 use Rattle.lq_security.specs.declared.policy.Role.{Role}
 use Rattle.lq_policy.proofs.NameLemmas.{other_name, own_name, untold_name}
-use Rattle.lq_policy.proofs.role_set.goes_by.Goals as goal
+use Rattle.lq_policy.proofs.role_set.has_role_named.Goals as goal
 
 pub returns-in_default : goal.returns-in_default
 returns-in_default c =

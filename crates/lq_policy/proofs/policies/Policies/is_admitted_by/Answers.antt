@@ -5,7 +5,7 @@ use Rattle.lq_security.specs.Visible.{holds_on, rule_for}
 use Rattle.lq_security.specs.declared.policy.Policy.{Policy}
 use Rattle.lq_policy.specs.Guards.{IsRuleOf}
 use Rattle.lq_policy.proofs.GuardLemmas.{same_columns}
-use Rattle.lq_policy.proofs.policies.Policies.satisfies.Goals as goal
+use Rattle.lq_policy.proofs.policies.Policies.is_admitted_by.Goals as goal
 
 pub returns : goal.returns
 returns c =
