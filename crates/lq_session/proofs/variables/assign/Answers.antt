@@ -21,14 +21,14 @@ returns-in_err-tree-clause-performs g c =
       refl,
     )
 
-pub returns-then-not-converts-clause-performs : goal.returns-then-not-converts-clause-performs
-returns-then-not-converts-clause-performs g c =
+pub returns-then-not-is_convertible-clause-performs : goal.returns-then-not-is_convertible-clause-performs
+returns-then-not-is_convertible-clause-performs g c =
     let predicates = g.H.Asks.known c.args.hosts.now in
     let s = state_with predicates c.args.state.now in
     let bound = c.in_ok-tree.ensures predicates c.requires.known in (
       other_value s c.args.name.now c.args.expr.now c.in-Some.place.now (sym c.in-Some.ensures.value) c.in_ok-tree.tree bound
-          c.refusal-then-not-converts.result ((λ i. converts (sym c.ty.ensures i) c.in-Some.place.now) ∙ sym c.converts.ensures ∙ c.if-not-converts.true)
-          c.refusal-then-not-converts.ensures,
+          c.refusal-then-not-is_convertible.result ((λ i. converts (sym c.ty.ensures i) c.in-Some.place.now) ∙ sym c.is_convertible.ensures ∙ c.if-not-is_convertible.true)
+          c.refusal-then-not-is_convertible.ensures,
       refl,
     )
 
@@ -38,7 +38,7 @@ evaluate_scalar-requires-clause-scalar g c =
     let s = state_with predicates c.args.state.now in
     let bound = c.in_ok-tree.ensures predicates c.requires.known in
     assigns_scalar s c.args.name.now c.args.expr.now c.in-Some.place.now (sym c.in-Some.ensures.value) c.in_ok-tree.tree bound
-    ((λ i. converts (sym c.ty.ensures i) c.in-Some.place.now) ∙ sym c.converts.ensures ∙ c.if-not-converts.false) c.in-Some.ensures.scalar
+    ((λ i. converts (sym c.ty.ensures i) c.in-Some.place.now) ∙ sym c.is_convertible.ensures ∙ c.if-not-is_convertible.false) c.in-Some.ensures.scalar
 
 pub returns-in_err-value-clause-performs : goal.returns-in_err-value-clause-performs
 returns-in_err-value-clause-performs g c =
@@ -48,7 +48,7 @@ returns-in_err-value-clause-performs g c =
     let same : c.from_residual-in_err-value.result ≡ Err c.in_err-value.field-0.0 = search rules in
     rw same (
       no_value s c.args.name.now c.args.expr.now c.in-Some.place.now (sym c.in-Some.ensures.value) c.in_ok-tree.tree bound
-          ((λ i. converts (sym c.ty.ensures i) c.in-Some.place.now) ∙ sym c.converts.ensures ∙ c.if-not-converts.false) c.in_err-value.field-0.0
+          ((λ i. converts (sym c.ty.ensures i) c.in-Some.place.now) ∙ sym c.is_convertible.ensures ∙ c.if-not-is_convertible.false) c.in_err-value.field-0.0
           c.in_err-value.ensures,
       refl,
     )
@@ -59,7 +59,7 @@ assign-requires g c =
     let s = state_with predicates c.args.state.now in
     let bound = c.in_ok-tree.ensures predicates c.requires.known in
     value_for s c.args.name.now c.args.expr.now c.in-Some.place.now (sym c.in-Some.ensures.value) c.in_ok-tree.tree bound
-    ((λ i. converts (sym c.ty.ensures i) c.in-Some.place.now) ∙ sym c.converts.ensures ∙ c.if-not-converts.false) c.in-Some.ensures.scalar c.in_ok-value.value
+    ((λ i. converts (sym c.ty.ensures i) c.in-Some.place.now) ∙ sym c.is_convertible.ensures ∙ c.if-not-is_convertible.false) c.in-Some.ensures.scalar c.in_ok-value.value
     c.in_ok-value.ensures
 
 pub returns-clause-performs : goal.returns-clause-performs
@@ -69,7 +69,7 @@ returns-clause-performs g c =
     let bound = c.in_ok-tree.ensures predicates c.requires.known in
     let before = variable_found s c.args.name.now c.in-Some.place.now (sym c.in-Some.ensures.value) in
     assigns_value s c.args.name.now c.args.expr.now c.in-Some.place.now (sym c.in-Some.ensures.value) c.in_ok-tree.tree bound
-    ((λ i. converts (sym c.ty.ensures i) c.in-Some.place.now) ∙ sym c.converts.ensures ∙ c.if-not-converts.false) c.in-Some.ensures.scalar c.in_ok-value.value
+    ((λ i. converts (sym c.ty.ensures i) c.in-Some.place.now) ∙ sym c.is_convertible.ensures ∙ c.if-not-is_convertible.false) c.in-Some.ensures.scalar c.in_ok-value.value
     c.in_ok-value.ensures c.in_ok-line.line (state_with predicates c.assign.new.self) c.in_ok-line.ensures
     (ap (state_with predicates) (c.assign.ensures c.in-Some.place.now before.0 before.1))
 

@@ -13,6 +13,6 @@ returns c =
     let cells = c.args.asked.cells.now in
     let user = c.args.asked.user.now in
     let decides = subst (λ (found : Option Policy). IsRuleOf tables c.args.access.action found (option_copied c.rule_of.result)) c.requires.numbered c.rule_of.ensures in
-    c.satisfies.ensures ∙ decides cells user
+    c.is_admitted_by.ensures ∙ decides cells user
     ∙ ap (λ (columns : List (List ℕ)). holds_on (record { user = user; columns = columns; cells = cells }) (rule_for c.args.access.action c.args.policy.now))
     (same_columns tables c.args.self.now.roles c.args.access c.args.policy.now c.requires.applies)
