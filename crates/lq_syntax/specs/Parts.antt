@@ -27,6 +27,10 @@ abbrev pub any_token : Parser Token
 any_token [] = None
 any_token (token ∷ tokens) = Some (token, tokens)
 
+-- what was read, where a token of this kind comes next, which is taken too
+abbrev pub closed_by : {A : Type 0} → Kind → A → Parser A
+closed_by kind x = expect kind >>= (λ token. pure x)
+
 -- a reading function, if there is one
 abbrev pub found_or_refuse : {A : Type 0} → Option (Parser A) → Parser A
 found_or_refuse None = refuse

@@ -63,7 +63,6 @@ impl<'a, F: Fn(Global, &[u8], &mut Tokens<'_>, usize, Level) -> Result<Expr, Par
             return Ok(List::new(self.alloc));
         }
         let arguments = self.some_arguments(tokens)?;
-        tokens.expect(Kind::RightParenthesis)?;
-        Ok(arguments)
+        tokens.close(Kind::RightParenthesis, arguments)
     }
 }

@@ -2,7 +2,7 @@
 ghost use Rattle.std.specs.Prelude.{◌≡◌, ◌==◌, ◌∷◌, [], Some, length, IsTrue, IsFalse, MatchOption};
 ghost use Rattle.lq_grammar.specs.Parsing as parsing;
 ghost use Rattle.lq_syntax.specs.Outcome.{Reads, next_token};
-ghost use Rattle.lq_syntax.specs.Parts.{any_token};
+ghost use Rattle.lq_syntax.specs.Parts.{any_token, closed_by};
 
 use crate::error::ParseError;
 use lq_grammar::{Kind, Token};
@@ -132,6 +132,16 @@ impl<'a> Tokens<'a> {
         } else {
             Err(ParseError::Syntax)
         }
+    }
+
+    /// Gives back `x`, which was read, where the next token is of this kind, and takes that token. Callers
+    /// so have no tree to drop where it isn't.
+    #[tactic(auto)]
+    pub fn close<T: Drop>(&mut self, kind: Kind, x: T) -> Result<T, ParseError>
+        ensures { Reads (closed_by kind x self.old) result self.new }
+    {
+        self.expect(kind)?;
+        Ok(x)
     }
 
     /// Passes over the next token if it is of this kind, and says whether it was.

@@ -18,7 +18,7 @@ pub enum SyntaxError {
 }
 
 /// Why the parser stops.
-#[derive(Debug, Drop)]
+#[derive(Drop)]
 pub enum ParseError {
     /// Memory was refused, so that nothing is known of the tokens.
     Memory,

@@ -12,7 +12,7 @@ use lq_value::Held;
 use std::alloc::Global;
 
 /// The rules over a line, with what reads the expressions in them.
-#[derive(Clone, Copy)]
+#[derive(Drop)]
 pub struct Grammar<'a, F> {
     /// Where trees are allocated.
     pub alloc: Global,

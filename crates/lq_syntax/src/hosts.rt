@@ -77,11 +77,10 @@ fn host_of_columns(
     ensures { IfOk result (λ call. call ≡ expr.Node (node.Host predicate
         (grammar.named name.now) (picked.Two first.now second.now))) }
 {
-    let row = Expr::Node(Node::Name(Txt::from_str(alloc, name)?));
     let first = Txt::from_str(alloc, first)?;
-    let second = Txt::from_str(alloc, second)?;
-    let row = Held::new(alloc, row)?;
-    let columns = Held::new(alloc, Picked::Two(first, second))?;
+    let columns = Held::new(alloc, Picked::Two(first, Txt::from_str(alloc, second)?))?;
+    let name = Txt::from_str(alloc, name)?;
+    let row = Held::new(alloc, Expr::Node(Node::Name(name)))?;
     Ok(Expr::Node(Node::Host(predicate, row, columns)))
 }
 

@@ -1,4 +1,5 @@
 //! Reads the tokens of a line or of a rule.
+ghost use Rattle.std.specs.Prelude.{Some};
 ghost use Rattle.lq_grammar.specs.Parsing as parsing;
 ghost use Rattle.lq_syntax.specs.Outcome.{Gives, Reads};
 
@@ -6,16 +7,27 @@ use crate::cursor::Tokens;
 use crate::error::{ParseError, SyntaxError};
 use crate::grammar::{Grammar, expression};
 use lq_grammar::{Expr, Level, Statement, Token};
-use lq_value::Held;
 use std::alloc::Global;
 
-/// The statement at the front of the tokens, in a box of its own while the end is looked for.
+/// What was read, where no token is left behind it.
+#[tactic(auto, unfolding(lq_grammar::specs::Parsing::to_the_end))]
+fn whole<T: Drop>(x: T, rest: &Tokens<'_>) -> Result<T, SyntaxError>
+    ensures { Gives (parsing.to_the_end (Some (x, rest.now))) result }
+{
+    if rest.is_empty() {
+        Ok(x)
+    } else {
+        Err(SyntaxError::Syntax)
+    }
+}
+
+/// The statement at the front of the tokens.
 fn first_statement(
     alloc: Global,
     line: &[u8],
     tokens: &mut Tokens<'_>,
     depth: usize,
-) -> Result<Held<Statement>, ParseError>
+) -> Result<Statement, ParseError>
     ensures { Reads (parsing.statement_line line.now (parsing.expression line.now depth)
         tokens.old) result tokens.new }
 {
@@ -25,7 +37,7 @@ fn first_statement(
         depth,
         inner: expression,
     };
-    Ok(Held::new(alloc, grammar.statement(tokens)?)?)
+    grammar.statement(tokens)
 }
 
 /// The statement that all of the tokens of a line spell.
@@ -35,11 +47,7 @@ pub fn statement(alloc: Global, line: &str, tokens: &[Token]) -> Result<Statemen
 {
     let mut rest = Tokens::new(tokens);
     let statement = first_statement(alloc, line.as_bytes(), &mut rest, tokens.len() + 1)?;
-    if rest.is_empty() {
-        Ok(statement.into_inner())
-    } else {
-        Err(SyntaxError::Syntax)
-    }
+    whole(statement, &rest)
 }
 
 /// The condition that all of the tokens of a rule spell.
@@ -55,9 +63,5 @@ pub fn rule(alloc: Global, text: &str, tokens: &[Token]) -> Result<Expr, SyntaxE
         tokens.len() + 1,
         Level::Conditional,
     )?;
-    if rest.is_empty() {
-        Ok(condition)
-    } else {
-        Err(SyntaxError::Syntax)
-    }
+    whole(condition, &rest)
 }

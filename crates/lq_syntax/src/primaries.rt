@@ -27,8 +27,7 @@ impl<'a, F: Fn(Global, &[u8], &mut Tokens<'_>, usize, Level) -> Result<Expr, Par
             (expression self.now.line.now self.now.depth) tokens.old) result tokens.new }
     {
         let x = self.inner(tokens, Level::Top)?;
-        tokens.expect(Kind::RightParenthesis)?;
-        Ok(x)
+        tokens.close(Kind::RightParenthesis, x)
     }
 
     /// `cond ["," cond]`
@@ -57,8 +56,8 @@ impl<'a, F: Fn(Global, &[u8], &mut Tokens<'_>, usize, Level) -> Result<Expr, Par
         let predicate = literals::name(self.alloc, self.line, tokens)?;
         tokens.expect(Kind::LeftParenthesis)?;
         let (first, second) = self.host_arguments(tokens)?;
-        tokens.expect(Kind::RightParenthesis)?;
-        Ok(hosts::host_call(self.alloc, predicate, first, second)?)
+        let call = hosts::host_call(self.alloc, predicate, first, second)?;
+        tokens.close(Kind::RightParenthesis, call)
     }
 
     /// After `new`: `"{" [member {"," member} [","]] "}"`

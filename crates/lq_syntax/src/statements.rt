@@ -25,8 +25,7 @@ impl<'a, F: Fn(Global, &[u8], &mut Tokens<'_>, usize, Level) -> Result<Expr, Par
             (expression self.now.line.now self.now.depth) tokens.old) result tokens.new }
     {
         let x = self.inner(tokens, Level::Top)?;
-        tokens.expect(Kind::Semicolon)?;
-        Ok(x)
+        tokens.close(Kind::Semicolon, x)
     }
 
     /// After `var`: `name "=" top ";"`
@@ -47,9 +46,8 @@ impl<'a, F: Fn(Global, &[u8], &mut Tokens<'_>, usize, Level) -> Result<Expr, Par
             (expression self.now.line.now self.now.depth) name tokens.old) result tokens.new }
     {
         tokens.expect(Kind::Assign)?;
-        let value = self.value_and_end(tokens)?;
         let name = literals::spelling_of(self.alloc, self.line, name)?;
-        Ok(Statement::Assign(name, value))
+        Ok(Statement::Assign(name, self.value_and_end(tokens)?))
     }
 
     /// After `as`: `name ";"`
@@ -59,8 +57,7 @@ impl<'a, F: Fn(Global, &[u8], &mut Tokens<'_>, usize, Level) -> Result<Expr, Par
             tokens.old) result tokens.new }
     {
         let role = literals::name(self.alloc, self.line, tokens)?;
-        tokens.expect(Kind::Semicolon)?;
-        Ok(Statement::As(role))
+        tokens.close(Kind::Semicolon, Statement::As(role))
     }
 
     /// After `insert`: `name "(" cells ")" ";"`
@@ -73,8 +70,7 @@ impl<'a, F: Fn(Global, &[u8], &mut Tokens<'_>, usize, Level) -> Result<Expr, Par
         tokens.expect(Kind::LeftParenthesis)?;
         let cells = cells::cells(self.alloc, self.line, tokens)?;
         tokens.expect(Kind::RightParenthesis)?;
-        tokens.expect(Kind::Semicolon)?;
-        Ok(Statement::Insert(table, cells))
+        tokens.close(Kind::Semicolon, Statement::Insert(table, cells))
     }
 
     /// After `delete`: `name name "=>" cond ";"`
@@ -87,8 +83,7 @@ impl<'a, F: Fn(Global, &[u8], &mut Tokens<'_>, usize, Level) -> Result<Expr, Par
         let row = literals::name(self.alloc, self.line, tokens)?;
         tokens.expect(Kind::Arrow)?;
         let condition = self.inner(tokens, Level::Conditional)?;
-        tokens.expect(Kind::Semicolon)?;
-        Ok(Statement::Delete(table, row, condition))
+        tokens.close(Kind::Semicolon, Statement::Delete(table, row, condition))
     }
 
     /// A statement after its first token.
