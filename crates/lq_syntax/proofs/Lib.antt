@@ -1,4 +1,5 @@
 pub mod Fronts
+pub mod HostArguments
 pub mod Layers
 pub mod LevelLemmas
 pub mod Readers

@@ -1,6 +1,6 @@
 -- What is read after the first token.
 use Rattle.std.proofs.Common.{◌≡◌, ℕ, suc, Bool, true, false, List, [], ◌∷◌, ◌++◌, refl, cond, length, ◌-◌}
-use Rattle.std.specs.Prelude.{Option, Some, None, ◌==◌, slice_get, is_some}
+use Rattle.std.specs.Prelude.{Option, Some, None, Result, Ok, Err, ◌==◌, slice_get, is_some}
 use Rattle.std.proofs.lemmas.Option.{some_pair_parts}
 use Rattle.lq_grammar.specs.Parsing.{Parser, ◌>>=◌, after, arguments, begins_with, behind, body, chain, clauses_by, continuations, expect, field, more_fields, name, operations, peek, selections, same_kind, is_least, cell, cell_by, field_by, start, start_by, statement_line, statement_by}
 use Rattle.lq_grammar.specs.Grammar.{member_of, operation_of, operator}
@@ -18,7 +18,10 @@ use Rattle.lq_grammar.specs.declared.syntax.Level.TheVariants as level
 use Rattle.lq_grammar.specs.declared.syntax.Node.TheVariants as node
 use Rattle.lq_grammar.specs.declared.token.Kind.TheVariants as k
 use Rattle.lq_grammar.specs.declared.token.Token.{Token}
-use Rattle.lq_syntax.specs.Parts.{any_token, found_or_refuse, named_by, named_last}
+use Rattle.lq_syntax.specs.declared.error.ParseError.{ParseError}
+use Rattle.lq_syntax.specs.declared.error.ParseError.TheVariants as parse
+use Rattle.lq_syntax.specs.Outcome.{Reads}
+use Rattle.lq_syntax.specs.Parts.{any_token, field_as, found_or_refuse, named_by, named_last}
 
 pub cell_none : (line : List ℕ) (tokens : List Token) → any_token tokens ≡ None → cell line tokens ≡ None
 unfolding cell
@@ -98,6 +101,12 @@ module _ (line : List ℕ) (inner : Level → Parser Expr) where
   pub named : (tokens left : List Token) (x : Expr) (name : List ℕ) → inner level.Primary tokens ≡ Some (x, left)
       → named_by line (slice_get tokens (length tokens - length left - 1)) left ≡ Some (name, left) → named_last line inner tokens ≡ Some (field_of name x, left)
   named tokens left x name read some = rw read (field_some x (slice_get tokens (length tokens - length left - 1)) left left name some)
+
+  pub named_or_not : (tokens left : List Token) (x : Expr) (name : Result (List ℕ) ParseError) → inner level.Primary tokens ≡ Some (x, left)
+      → Reads (named_by line (slice_get tokens (length tokens - length left - 1)) left) name left → Reads (named_last line inner tokens) (field_as name x) left
+  named_or_not tokens left x (Ok name) read some = named tokens left x name read some
+  named_or_not tokens left x (Err parse.Syntax) read none = unnamed tokens left x read none
+  named_or_not tokens left x (Err parse.Memory) read unknown = tt
 
   -- ---- one turn over clauses
 

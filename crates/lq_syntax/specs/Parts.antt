@@ -31,10 +31,20 @@ any_token (token ∷ tokens) = Some (token, tokens)
 abbrev pub closed_by : {A : Type 0} → Kind → A → Parser A
 closed_by kind x = expect kind >>= (λ token. pure x)
 
+-- one item or two
+abbrev pub listed : {A : Type 0} → A → Option A → List A
+listed x None = x ∷ []
+listed x (Some y) = x ∷ y ∷ []
+
 -- a reading function, if there is one
 abbrev pub found_or_refuse : {A : Type 0} → Option (Parser A) → Parser A
 found_or_refuse None = refuse
 found_or_refuse (Some found) = found
+
+-- a member whose name was read, or the refusal of the name
+abbrev pub field_as : {A : Type 0} → Result (List ℕ) ParseError → A → Result (Field A) ParseError
+field_as (Ok x) value = Ok (record { name = x; value = value })
+field_as (Err stopped) value = Err stopped
 
 -- the name that a token is
 abbrev pub named_by : List ℕ → Option Token → Parser (List ℕ)

@@ -93,9 +93,9 @@ impl<'a, F: Fn(Global, &[u8], &mut Tokens<'_>, usize, Level) -> Result<Expr, Par
             tokens.new }
     {
         tokens.expect(Kind::On)?;
-        let outer_key = self.held(tokens)?;
+        let outer_key = self.held(tokens, Level::Conditional)?;
         tokens.expect(Kind::Equals)?;
-        let inner_key = self.held(tokens)?;
+        let inner_key = self.held(tokens, Level::Conditional)?;
         let into = self.group_name(tokens)?;
         Ok(Clause::Join(Join {
             name,

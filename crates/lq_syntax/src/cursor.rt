@@ -136,7 +136,6 @@ impl<'a> Tokens<'a> {
 
     /// Gives back `x`, which was read, where the next token is of this kind, and takes that token. Callers
     /// so have no tree to drop where it isn't.
-    #[tactic(auto)]
     pub fn close<T: Drop>(&mut self, kind: Kind, x: T) -> Result<T, ParseError>
         ensures { Reads (closed_by kind x self.old) result self.new }
     {

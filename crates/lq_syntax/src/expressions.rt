@@ -43,8 +43,8 @@ impl<'a, F: Fn(Global, &[u8], &mut Tokens<'_>, usize, Level) -> Result<Expr, Par
             tokens.expect(Kind::Integer)?;
             return Ok(Expr::Node(Node::Integer(i32::MIN)));
         }
-        let x = self.inner(tokens, Level::Unary)?;
-        Ok(Expr::Node(Node::Unary(Unary::Minus, Held::new(self.alloc, x)?)))
+        let x = self.held(tokens, Level::Unary)?;
+        Ok(Expr::Node(Node::Unary(Unary::Minus, x)))
     }
 
     /// `primary | ("!" | "-") unary`
@@ -55,8 +55,8 @@ impl<'a, F: Fn(Global, &[u8], &mut Tokens<'_>, usize, Level) -> Result<Expr, Par
             (expression self.now.line.now self.now.depth) tokens.old) result tokens.new }
     {
         if tokens.eat(Kind::Not) {
-            let x = self.inner(tokens, Level::Unary)?;
-            return Ok(Expr::Node(Node::Unary(Unary::Not, Held::new(self.alloc, x)?)));
+            let x = self.held(tokens, Level::Unary)?;
+            return Ok(Expr::Node(Node::Unary(Unary::Not, x)));
         }
         if tokens.eat(Kind::Minus) {
             return self.below_zero(tokens);
@@ -98,8 +98,8 @@ impl<'a, F: Fn(Global, &[u8], &mut Tokens<'_>, usize, Level) -> Result<Expr, Par
             return Ok(x);
         }
         let x = Held::new(self.alloc, x)?;
-        let y = self.inner(tokens, Level::Coalescing)?;
-        Ok(Expr::Node(Node::Coalesce(x, Held::new(self.alloc, y)?)))
+        let y = self.held(tokens, Level::Coalescing)?;
+        Ok(Expr::Node(Node::Coalesce(x, y)))
     }
 
     /// `coal ["?" cond ":" cond]`
@@ -114,9 +114,9 @@ impl<'a, F: Fn(Global, &[u8], &mut Tokens<'_>, usize, Level) -> Result<Expr, Par
             return Ok(x);
         }
         let x = Held::new(self.alloc, x)?;
-        let y = self.held(tokens)?;
+        let y = self.held(tokens, Level::Conditional)?;
         tokens.expect(Kind::Colon)?;
-        let z = self.held(tokens)?;
+        let z = self.held(tokens, Level::Conditional)?;
         Ok(Expr::Node(Node::Conditional(x, y, z)))
     }
 

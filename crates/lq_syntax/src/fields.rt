@@ -15,6 +15,16 @@ use lq_grammar::{Expr, Field, Kind, Level, Token};
 use lq_value::{List, Txt};
 use std::alloc::Global;
 
+/// The member `value`, whose name was read or not.
+fn named_as<T: Drop>(name: Result<Txt, ParseError>, value: T) -> Result<Field<T>, ParseError>
+    ensures { result ≡ part.field_as name value }
+{
+    match name {
+        Ok(name) => Ok(Field { name, value }),
+        Err(stopped) => Err(stopped),
+    }
+}
+
 /// The last of the tokens `all` in front of those that are left, which are so many.
 fn last_before(all: &[Token], left: usize) -> Option<Token>
     ensures { result ≡ slice_get all.now (length all.now - left - 1) }
@@ -56,7 +66,6 @@ impl<'a, F: Fn(Global, &[u8], &mut Tokens<'_>, usize, Level) -> Result<Expr, Par
     }
 
     /// `name | primary "." name`: a member that is called as its last token, which is a name.
-    #[tactic(auto, using(crate::proofs::Readers::unnamed, crate::proofs::Readers::named))]
     fn named_last(&self, tokens: &mut Tokens<'_>) -> Result<Field<Expr>, ParseError>
         requires { Nests self.now.depth (F.pre self.now.inner) (F.post self.now.inner) }
         ensures { Reads (part.named_last self.now.line.now
@@ -64,8 +73,7 @@ impl<'a, F: Fn(Global, &[u8], &mut Tokens<'_>, usize, Level) -> Result<Expr, Par
     {
         let all = tokens.rest();
         let value = self.inner(tokens, Level::Primary)?;
-        let name = self.named_by(last_before(all, tokens.left()))?;
-        Ok(Field { name, value })
+        named_as(self.named_by(last_before(all, tokens.left())), value)
     }
 
     /// `name "=" cond | name | primary "." name`

@@ -37,13 +37,13 @@ impl<'a, F: Fn(Global, &[u8], &mut Tokens<'_>, usize, Level) -> Result<Expr, Par
         (self.inner)(self.alloc, self.line, tokens, self.depth, level)
     }
 
-    /// A conditional expression in a box of its own, as which it waits while more is read.
-    pub fn held(&self, tokens: &mut Tokens<'_>) -> Result<Held<Expr>, ParseError>
+    /// A line of the grammar that is led back to, in a box of its own, as which it waits while more is read.
+    pub fn held(&self, tokens: &mut Tokens<'_>, level: Level) -> Result<Held<Expr>, ParseError>
         requires { Nests self.now.depth (F.pre self.now.inner) (F.post self.now.inner) }
-        ensures { Reads (parsing.expression self.now.line.now self.now.depth Level.Conditional
-            tokens.old) result tokens.new }
+        ensures { Reads (parsing.expression self.now.line.now self.now.depth level tokens.old)
+            result tokens.new }
     {
-        Ok(Held::new(self.alloc, self.inner(tokens, Level::Conditional)?)?)
+        Ok(Held::new(self.alloc, self.inner(tokens, level)?)?)
     }
 }
 

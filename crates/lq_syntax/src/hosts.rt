@@ -2,6 +2,7 @@
 ghost use Rattle.std.specs.Prelude.{◌≡◌, IfOk};
 ghost use Rattle.std.specs.Option.{option_map};
 ghost use Rattle.lq_grammar.specs.Grammar as grammar;
+ghost use Rattle.lq_syntax.specs.Parts.{listed};
 ghost use Rattle.lq_grammar.specs.declared.syntax.Expr.{out-Expr};
 ghost use Rattle.lq_grammar.specs.declared.syntax.Expr.TheVariants as expr;
 ghost use Rattle.lq_grammar.specs.declared.syntax.Node.TheVariants as node;
@@ -34,7 +35,20 @@ fn column_in(x: &Expr) -> Option<(&str, &str)>
     }
 }
 
+/// A list of one item or of two.
+fn list_of<T: Drop>(alloc: Global, first: T, second: Option<T>) -> Result<List<T>, AllocError>
+    ensures { IfOk result (λ items. items ≡ listed first second) }
+{
+    let mut items = List::new(alloc);
+    items.push(first)?;
+    if let Some(second) = second {
+        items.push(second)?;
+    }
+    Ok(items)
+}
+
 /// A predicate that is asked of these, which are not columns of one row.
+#[tactic(auto, using(crate::proofs::HostArguments::listed_arguments))]
 fn host_other(
     alloc: Global,
     predicate: Txt,
@@ -44,11 +58,7 @@ fn host_other(
     ensures { IfOk result (λ call. call
         ≡ expr.Node (node.HostOther predicate (grammar.arguments_of first second))) }
 {
-    let mut asked = List::new(alloc);
-    asked.push(first)?;
-    if let Some(second) = second {
-        asked.push(second)?;
-    }
+    let asked = list_of(alloc, first, second)?;
     Ok(Expr::Node(Node::HostOther(predicate, asked)))
 }
 
@@ -91,7 +101,10 @@ fn host_of_two(alloc: Global, predicate: Txt, x: Expr, y: Expr) -> Result<Expr, 
 {
     if let (Some((name, first)), Some((other, second))) = (column_in(&x), column_in(&y)) {
         if name == other {
-            return host_of_columns(alloc, predicate, name, first, second);
+            let call = host_of_columns(alloc, predicate, name, first, second);
+            drop(x);
+            drop(y);
+            return call;
         }
     }
     host_other(alloc, predicate, x, Some(y))

@@ -29,7 +29,7 @@ impl<'a, F: Fn(Global, &[u8], &mut Tokens<'_>, usize, Level) -> Result<Expr, Par
             return Ok(Last::Select(self.inner(tokens, Level::Conditional)?));
         }
         tokens.expect(Kind::Group)?;
-        let element = self.held(tokens)?;
+        let element = self.held(tokens, Level::Conditional)?;
         tokens.expect(Kind::By)?;
         let key = self.inner(tokens, Level::Conditional)?;
         Ok(Last::Group(element.into_inner(), key))
