@@ -15,6 +15,14 @@ reader_of lines = lines.reader
 abbrev pub is_ended : {R : Type 0} → LineReader R → Bool
 is_ended lines = lines.is_ended
 
+-- the mark, which says whether a line was refused
+abbrev pub is_marked : {R : Type 0} → LineReader R → Bool
+is_marked lines = lines.is_marked
+
+-- how many inputs were given, the end among them
+abbrev pub input_count : {R : Type 0} → LineReader R → ℕ
+input_count lines = lines.input_count
+
 -- The next byte was taken; or there is none: the end had been met before, or is met now.
 abbrev pub GivesByte : Option (List ℕ) → Option (List ℕ) → Bool → Bool → Option ℕ → Type 0
 GivesByte before after was_ended ended (Some byte) = (was_ended ≡ false) × (ended ≡ false) × Consumes before after (byte ∷ [])
