@@ -1,5 +1,5 @@
 -- Lemmas on inputs that are answered one after another.
-use Rattle.std.proofs.Common.{◌≡◌, ℕ, Bool, false, List, [], ◌∷◌, ◌++◌, Option, refl, sym, ◌∙◌, ap, subst, append_assoc}
+use Rattle.std.proofs.Common.{◌≡◌, ◌+◌, ℕ, Bool, false, List, [], ◌∷◌, ◌++◌, Option, length, length-append, add-zero, refl, sym, ◌∙◌, ap, subst, append_assoc, arith}
 use Rattle.lq_command.specs.Readers.{Takes}
 use Rattle.lq_command.specs.declared.input.Input.{Input}
 use Rattle.lq_prompt.specs.Answers.{DeskState}
@@ -34,24 +34,25 @@ module _ (Step : Input → DeskState → DeskState → List ℕ → Outcome → 
   )
 
   -- no input was given
-  pub Each-start : (known left : Option (List ℕ)) (ended : Bool) (desk : DeskState) (contents : Option (List ℕ)) → left ≡ known → ended ≡ false
-      → Receives contents contents (λ bytes. AnswersEach Step known left ended desk desk bytes goes_on)
-  Each-start known left ended desk contents same open_ended =
-      Receives-none contents (record { inputs = []; given = (same, open_ended); answers = (refl, refl, refl) })
+  pub Each-start : (known left : Option (List ℕ)) (ended : Bool) (from : ℕ) (desk : DeskState) (contents : Option (List ℕ)) → left ≡ known → ended ≡ false
+      → Receives contents contents (λ bytes. AnswersEach Step known left ended from from desk desk bytes goes_on)
+  Each-start known left ended from desk contents same open_ended =
+      Receives-none contents (record { inputs = []; given = (same, open_ended); counted = sym (add-zero from); answers = (refl, refl, refl) })
 
-  AnswersEach-more : (known mid left : Option (List ℕ)) (met ended : Bool) (old now new : DeskState) (first later : List ℕ) (given : Input) (outcome : Outcome)
-      → AnswersEach Step known mid met old now first goes_on → Takes mid left met ended given → Step given now new later outcome
-      → AnswersEach Step known left ended old new (first ++ later) outcome
-  AnswersEach-more known mid left met ended old now new first later given outcome each takes step = record {
+  AnswersEach-more : (known mid left : Option (List ℕ)) (met ended : Bool) (from count upto : ℕ) (old now new : DeskState) (first later : List ℕ) (given : Input) (outcome : Outcome)
+      → AnswersEach Step known mid met from count old now first goes_on → Takes mid left met ended given → upto ≡ count + 1 → Step given now new later outcome
+      → AnswersEach Step known left ended from upto old new (first ++ later) outcome
+  AnswersEach-more known mid left met ended from count upto old now new first later given outcome each takes counted step = record {
     inputs = each.inputs ++ given ∷ [];
     given = Gives-more known mid left false met ended each.inputs given each.given takes;
+    counted = omega (arith, counted, each.counted, length-append each.inputs (given ∷ []));
     answers = InOrder-more each.inputs given old now new first later outcome each.answers step;
   }
 
   -- one more was given and answered
-  pub Each-more : (known mid left : Option (List ℕ)) (met ended : Bool) (old now new : DeskState) (before between after : Option (List ℕ)) (given : Input) (outcome : Outcome)
-      → Receives before between (λ bytes. AnswersEach Step known mid met old now bytes goes_on) → Takes mid left met ended given
+  pub Each-more : (known mid left : Option (List ℕ)) (met ended : Bool) (from count upto : ℕ) (old now new : DeskState) (before between after : Option (List ℕ)) (given : Input) (outcome : Outcome)
+      → Receives before between (λ bytes. AnswersEach Step known mid met from count old now bytes goes_on) → Takes mid left met ended given → upto ≡ count + 1
       → Receives between after (λ bytes. Step given now new bytes outcome)
-      → Receives before after (λ bytes. AnswersEach Step known left ended old new bytes outcome)
-  Each-more known mid left met ended old now new before between after given outcome way takes step =
-      Receives-more before between after (λ first later each one. AnswersEach-more known mid left met ended old now new first later given outcome each takes one) way step
+      → Receives before after (λ bytes. AnswersEach Step known left ended from upto old new bytes outcome)
+  Each-more known mid left met ended from count upto old now new before between after given outcome way takes counted step =
+      Receives-more before between after (λ first later each one. AnswersEach-more known mid left met ended from count upto old now new first later given outcome each takes counted one) way step

@@ -1,11 +1,11 @@
 -- Lemmas on inputs that are typed.
-use Rattle.std.proofs.Common.{◌≡◌, ◌+◌, ℕ, Bool, List, Option, Result, IfSome, Vec, Global, string_bytes, subst}
+use Rattle.std.proofs.Common.{◌≡◌, ◌+◌, ◌||◌, if◌then◌else◌, ◌∙◌, not, ℕ, Bool, List, Option, Result, IfSome, Vec, Global, string_bytes, subst}
 use Rattle.lq_command.specs.Readers.{Takes}
 use Rattle.lq_command.specs.declared.input.Input.{Input}
 use Rattle.lq_grammar.specs.Script.{script_limit}
 use Rattle.lq_prompt.specs.Answers.{DeskState}
 use Rattle.lq_serve.specs.Files.{IsAnswer}
-use Rattle.lq_conversation.specs.Conversations.{AnswersInputs, AnswersTyped, Conversation, is_failure, status_of}
+use Rattle.lq_conversation.specs.Conversations.{AnswersInputs, AnswersTyped, Conversation, is_failure, is_refusal}
 use Rattle.lq_conversation.specs.Inputs.{cuts, quits, runs, says}
 use Rattle.lq_conversation.specs.Outcomes.{Outcome, goes_on, outcome_of}
 use Rattle.lq_conversation.specs.Scripts.{ReadsScript}
@@ -33,38 +33,51 @@ module _ (old_holds new_holds : List ℕ → Option (Option (List ℕ))) (keeps 
   AnswersTyped-kept given old new written outcome (cuts rest said is) = cuts rest said is
 
   -- one more input was given and answered
-  pub Typed-more : (known mid left : Option (List ℕ)) (met ended : Bool) (old now new : DeskState) (before between after : Option (List ℕ)) (given : Input) (outcome : Outcome)
-      → Receives before between (λ bytes. AnswersEach (AnswersTyped old_holds) known mid met old now bytes goes_on) → Takes mid left met ended given
+  pub Typed-more : (known mid left : Option (List ℕ)) (met ended : Bool) (from count upto : ℕ) (old now new : DeskState) (before between after : Option (List ℕ)) (given : Input) (outcome : Outcome)
+      → Receives before between (λ bytes. AnswersEach (AnswersTyped old_holds) known mid met from count old now bytes goes_on) → Takes mid left met ended given → upto ≡ count + 1
       → Receives between after (λ bytes. AnswersTyped new_holds given now new bytes outcome)
-      → Receives before after (λ bytes. AnswersEach (AnswersTyped old_holds) known left ended old new bytes outcome)
-  Typed-more known mid left met ended old now new before between after given outcome way takes step =
-      Each-more (AnswersTyped old_holds) known mid left met ended old now new before between after given outcome way takes
+      → Receives before after (λ bytes. AnswersEach (AnswersTyped old_holds) known left ended from upto old new bytes outcome)
+  Typed-more known mid left met ended from count upto old now new before between after given outcome way takes counted step =
+      Each-more (AnswersTyped old_holds) known mid left met ended from count upto old now new before between after given outcome way takes counted
       (Receives-weaker between after (λ bytes one. AnswersTyped-kept given now new bytes outcome one) step)
 
 pub typed-is : (holds : List ℕ → Option (Option (List ℕ))) (given : Input) (old new : DeskState) (before after : Option (List ℕ)) (ends is : Bool) → ends ≡ is
     → Receives before after (λ bytes. AnswersTyped holds given old new bytes (outcome_of ends)) → Receives before after (λ bytes. AnswersTyped holds given old new bytes (outcome_of is))
 typed-is holds given old new before after ends is same = outcome_is (λ bytes outcome. AnswersTyped holds given old new bytes outcome) before after ends is same
 
-pub inputs-is : (holds : List ℕ → Option (Option (List ℕ))) (known : Option (List ℕ)) (old new : DeskState) (before after : Option (List ℕ)) (ends is : Bool) → ends ≡ is
-    → Receives before after (λ bytes. AnswersInputs holds known old new bytes (outcome_of ends)) → Receives before after (λ bytes. AnswersInputs holds known old new bytes (outcome_of is))
-inputs-is holds known old new before after ends is same = outcome_is (λ bytes outcome. AnswersInputs holds known old new bytes outcome) before after ends is same
+pub inputs-is : (holds : List ℕ → Option (Option (List ℕ))) (known : Option (List ℕ)) (from upto : ℕ) (old new : DeskState) (before after : Option (List ℕ)) (ends is : Bool) → ends ≡ is
+    → Receives before after (λ bytes. AnswersInputs holds known from upto old new bytes (outcome_of ends)) → Receives before after (λ bytes. AnswersInputs holds known from upto old new bytes (outcome_of is))
+inputs-is holds known from upto old new before after ends is same = outcome_is (λ bytes outcome. AnswersInputs holds known from upto old new bytes outcome) before after ends is same
 
 -- what was given was answered
-pub inputs-answered : (holds : List ℕ → Option (Option (List ℕ))) (known left : Option (List ℕ)) (ended : Bool) (old new : DeskState) (before after : Option (List ℕ)) (outcome : Outcome)
-    → Receives before after (λ bytes. AnswersEach (AnswersTyped holds) known left ended old new bytes outcome)
-    → Receives before after (λ bytes. AnswersInputs holds known old new bytes outcome)
-inputs-answered holds known left ended old new before after outcome way =
-    Receives-weaker before after (λ bytes each. record { left = left; ended = ended; each = each }) way
+pub inputs-answered : (holds : List ℕ → Option (Option (List ℕ))) (known left : Option (List ℕ)) (ended : Bool) (from count upto : ℕ) (old new : DeskState) (before after : Option (List ℕ)) (outcome : Outcome)
+    → upto ≡ count → Receives before after (λ bytes. AnswersEach (AnswersTyped holds) known left ended from count old new bytes outcome)
+    → Receives before after (λ bytes. AnswersInputs holds known from upto old new bytes outcome)
+inputs-answered holds known left ended from count upto old new before after outcome same way =
+    Receives-weaker before after (λ bytes each. record {
+      left = left;
+      ended = ended;
+      each = record { inputs = each.inputs; given = each.given; counted = same ∙ each.counted; answers = each.answers };
+    }) way
 
 -- what a conversation came to
-pub conversation : (holds : List ℕ → Option (Option (List ℕ))) (known : Option (List ℕ)) (old new : DeskState) (before after : Option (List ℕ)) (failed : Bool) (status : ℕ) (outcome : Outcome)
-    → Receives before after (λ bytes. AnswersInputs holds known old new bytes outcome) → failed ≡ is_failure outcome → status ≡ status_of outcome
-    → Conversation holds known old new before after failed status
-conversation holds known old new before after failed status outcome received marks is = record {
+pub conversation : (holds : List ℕ → Option (Option (List ℕ))) (known : Option (List ℕ)) (from upto : ℕ) (old new : DeskState) (before after : Option (List ℕ)) (refused failed : Bool) (outcome : Outcome)
+    → Receives before after (λ bytes. AnswersInputs holds known from upto old new bytes outcome) → refused ≡ is_refusal outcome → failed ≡ is_failure outcome
+    → Conversation holds known from upto old new before after refused failed
+conversation holds known from upto old new before after refused failed outcome received marks_reader marks_writer = record {
   written = received.bytes;
   outcome = outcome;
   answers = received.is_meant;
   took = received.took;
-  marks = marks;
-  is_status = is;
+  marks_reader = marks_reader;
+  marks_writer = marks_writer;
 }
+
+-- the line reader is marked where the desk has not ended
+pub refused-is : (refused ends is : Bool) → ends ≡ is → refused ≡ not ends → refused ≡ not is
+refused-is refused ends is same marks = subst (λ e. refused ≡ not e) same marks
+
+-- the status that the marks give
+pub status_by : (refused failed is_refused is_written : Bool) (status : ℕ) → refused ≡ is_refused → failed ≡ is_written
+    → status ≡ (if is_refused || is_written then 4 else 0) → status ≡ (if refused || failed then 4 else 0)
+status_by refused failed is_refused is_written status reader writer is = rw (reader, writer) is

@@ -26,6 +26,13 @@ pub err_marked : {T E : Type 0} (r : Result T E) (failed : Bool) → (IsErr r �
 err_marked (Ok x) failed marked = tt
 err_marked (Err e) failed marked = marked.0 refl
 
+-- the same of a result that is this one
+pub unmarked_by_ok : {T E : Type 0} (r : Result T E) (failed : Bool) (x : T) → r ≡ Ok x → (IsErr r ↔ (failed ≡ true)) → failed ≡ false
+unmarked_by_ok r failed x is marked = subst (λ o. OnOk o (failed ≡ false)) is (ok_unmarked r failed marked)
+
+pub marked_by_err : {T E : Type 0} (r : Result T E) (failed : Bool) (e : E) → r ≡ Err e → (IsErr r ↔ (failed ≡ true)) → failed ≡ true
+marked_by_err r failed e is marked = subst (λ o. OnErr o (failed ≡ true)) is (err_marked r failed marked)
+
 -- all the bytes were taken before the writer failed
 pub AppendsFront-kept : (before between after : Option (List ℕ)) (bytes : List ℕ) → Appends before between bytes → Keeps between after → AppendsFront before after bytes
 AppendsFront-kept before between after bytes written kept = record {

@@ -12,18 +12,18 @@ use Rattle.lq_conversation.specs.Turns.{AnswersEach}
 abbrev pub AnswersTyped : (List ℕ → Option (Option (List ℕ))) → Input → DeskState → DeskState → List ℕ → Outcome → Type 0
 AnswersTyped holds given old new written outcome = AnswersBy (RunsFile holds) given old new written outcome
 
--- Inputs of a reader are answered in order.
-pub record AnswersInputs (holds : List ℕ → Option (Option (List ℕ))) (known : Option (List ℕ)) (old new : DeskState) (written : List ℕ)
-    (outcome : Outcome) : Type 0 where
+-- Inputs of a reader are answered in order; it has counted them.
+pub record AnswersInputs (holds : List ℕ → Option (Option (List ℕ))) (known : Option (List ℕ)) (from upto : ℕ) (old new : DeskState)
+    (written : List ℕ) (outcome : Outcome) : Type 0 where
   pub left : Option (List ℕ)
   pub ended : Bool
-  pub each : AnswersEach (AnswersTyped holds) known left ended old new written outcome
+  pub each : AnswersEach (AnswersTyped holds) known left ended from upto old new written outcome
 
--- the program's status: 0 where the desk has ended, and 4 where nothing more can be read or written
-abbrev pub status_of : Outcome → ℕ
-status_of has_ended = 0
-status_of goes_on = 4
-status_of has_failed = 4
+-- the one outcome after which the line reader is marked: it has refused the next input
+abbrev pub is_refusal : Outcome → Bool
+is_refusal goes_on = true
+is_refusal has_ended = false
+is_refusal has_failed = false
 
 -- the one outcome after which the writer is marked
 abbrev pub is_failure : Outcome → Bool
@@ -32,12 +32,13 @@ is_failure goes_on = false
 is_failure has_ended = false
 
 -- A conversation over what a reader has. Each input that it gave was answered once, in order, and the writer took what was answered, in that
--- order, whole unless it failed. What came last decides the status: the desk has ended, or nothing more can be read or written.
-pub record Conversation (holds : List ℕ → Option (Option (List ℕ))) (known : Option (List ℕ)) (old new : DeskState)
-    (before after : Option (List ℕ)) (failed : Bool) (status : ℕ) : Type 0 where
+-- order, whole unless it failed. It ends where the desk ends, or where the line reader has refused the next input, or the writer has failed, and
+-- these two then show it.
+pub record Conversation (holds : List ℕ → Option (Option (List ℕ))) (known : Option (List ℕ)) (from upto : ℕ) (old new : DeskState)
+    (before after : Option (List ℕ)) (refused failed : Bool) : Type 0 where
   pub written : List ℕ
   pub outcome : Outcome
-  pub answers : AnswersInputs holds known old new written outcome
+  pub answers : AnswersInputs holds known from upto old new written outcome
   pub took : Appends before after written
-  pub marks : failed ≡ is_failure outcome
-  pub is_status : status ≡ status_of outcome
+  pub marks_reader : refused ≡ is_refusal outcome
+  pub marks_writer : failed ≡ is_failure outcome

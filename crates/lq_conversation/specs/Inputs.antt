@@ -1,5 +1,5 @@
 -- How one input is answered.
-use Rattle.std.specs.Prelude.{◌≡◌, ◌++◌, List, [], ℕ, Bool, true, false, Result, Ok, Err, String, codes, string_bytes}
+use Rattle.std.specs.Prelude.{◌≡◌, ◌++◌, List, [], ℕ, Result, Ok, Err, String, codes, string_bytes}
 use Rattle.std.specs.declared.alloc.AllocError.{AllocError}
 use Rattle.std.specs.declared.alloc.Global.{Global}
 use Rattle.lq_command.specs.declared.input.Input.{Input}
@@ -74,10 +74,6 @@ AnswersInput input.TooLong old new written left = Complains too_long_text old ne
 AnswersInput input.NoText old new written left = Complains no_text_text old new written left
 AnswersInput input.NoMemory old new written left = Complains refused_line_text old new written left
 AnswersInput input.End old new written left = (new ≡ old) × (written ≡ []) × (left ≡ next.Nothing)
-
-abbrev pub is_end : Input → Bool
-is_end input.End = true
-is_end given = false
 
 -- What is done with the script of a name: what it does to the desk, what is written, and how that leaves the conversation.
 abbrev pub Running : Type 1

@@ -1,39 +1,36 @@
 -- How the lines of a script are answered.
-use Rattle.std.specs.Prelude.{◌≡◌, ◌+◌, ◌++◌, if◌then◌else◌, List, ℕ, Bool, false, Option, Some, Result, Ok, Err, Vec, IfSome, codes, length, nat_lt}
+use Rattle.std.specs.Prelude.{◌≡◌, ◌+◌, if◌then◌else◌, List, [], ℕ, Option, Result, Ok, Err, Vec, IfSome, codes, length, nat_lt}
 use Rattle.std.specs.declared.alloc.Global.{Global}
 use Rattle.lq_command.specs.declared.input.Input.{Input}
-use Rattle.lq_grammar.specs.Script.{script_limit}
+use Rattle.lq_grammar.specs.Script.{lines_of, script_limit}
 use Rattle.lq_prompt.specs.Answers.{DeskState}
 use Rattle.lq_serve.specs.Files.{IsAnswer}
 use Rattle.lq_serve.specs.declared.files.FileError.{FileError}
 use Rattle.lq_serve.specs.declared.files.FileError.TheVariants as error
-use Rattle.lq_conversation.specs.Inputs.{AnswersBy, is_end}
+use Rattle.lq_conversation.specs.Inputs.{AnswersBy}
 use Rattle.lq_conversation.specs.Outcomes.{Outcome, Tells, goes_on}
-use Rattle.lq_conversation.specs.Turns.{AnswersEach, GivesNoMore}
+use Rattle.lq_conversation.specs.Turns.{Begins, InOrder}
 use Rattle.lq_conversation.specs.declared.script.ScriptFault.{ScriptFault}
 use Rattle.lq_conversation.specs.declared.script.ScriptFault.TheVariants as fault
 
 abbrev pub no_other_text : List ℕ
 no_other_text = codes "A script can't run another one.\n"
 
-abbrev pub unread_text : List ℕ
-unread_text = codes "The rest of the script can't be read.\n"
-
 -- a script is refused with a sentence, and the desk stays as it is
 abbrev pub RefusesScript : List ℕ → DeskState → DeskState → List ℕ → Outcome → Type 0
 RefusesScript name old new written outcome = (new ≡ old) × Tells no_other_text written outcome
 
--- an input of a script, before its end, is answered as one that was typed, but that another script isn't run
+-- an input of a script is answered as one that was typed, but that another script isn't run
 abbrev pub AnswersInScript : Input → DeskState → DeskState → List ℕ → Outcome → Type 0
-AnswersInScript given old new written outcome = (is_end given ≡ false) × AnswersBy RefusesScript given old new written outcome
+AnswersInScript given old new written outcome = AnswersBy RefusesScript given old new written outcome
 
--- The lines of a script are answered in order: to its end, unless the desk ends or the writer fails before, or up to where it can't be read
--- any further, as a sentence then says.
-pub data RunsScript (known : Option (List ℕ)) (old new : DeskState) (written : List ℕ) (outcome : Outcome) : Type 0 where
-  all_lines : (left : Option (List ℕ)) → (ended : Bool) → AnswersEach AnswersInScript known left ended old new written outcome
-      → (outcome ≡ goes_on → GivesNoMore left ended) → RunsScript known old new written outcome
-  first_lines : (left : Option (List ℕ)) → (ended : Bool) → (said told : List ℕ) → AnswersEach AnswersInScript known left ended old new said goes_on
-      → Tells unread_text told outcome → written ≡ said ++ told → RunsScript known old new written outcome
+-- The lines of a script are answered in order: to its end, unless the desk ends or the writer fails before.
+pub record RunsScript (script : List ℕ) (old new : DeskState) (written : List ℕ) (outcome : Outcome) : Type 0 where
+  pub inputs : List Input
+  pub left : List (List ℕ)
+  pub given : Begins (lines_of script) left inputs
+  pub answers : InOrder AnswersInScript inputs old new written outcome
+  pub is_whole : outcome ≡ goes_on → left ≡ []
 
 -- ---- files
 
@@ -54,7 +51,7 @@ IsRead holds name gave = IfSome (holds name) (λ there. IsAnswer there (script_l
 
 -- the lines of a script are answered, or a sentence says why there is none, and then the desk is as it was
 abbrev pub Follows : Result (Vec ℕ Global) ScriptFault → DeskState → DeskState → List ℕ → Outcome → Type 0
-Follows (Ok script) old new written outcome = RunsScript (Some script.items) old new written outcome
+Follows (Ok script) old new written outcome = RunsScript script.items old new written outcome
 Follows (Err why) old new written outcome = (new ≡ old) × Tells (fault_text why) written outcome
 
 -- The file of this name was read, and gave this script, or there is none for this reason.

@@ -1,5 +1,6 @@
 //! Conversations, in which the inputs of a reader are answered in order.
-ghost use Rattle.std.specs.Prelude.{◌≡◌, List, ℕ, false, true, IfOk, OnOk, OnErr};
+ghost use Rattle.std.specs.Prelude.{◌≡◌, ◌||◌, if◌then◌else◌, not, List, ℕ, false, true, IfOk, OnOk, OnErr};
+ghost use Rattle.lq_command.specs.Readers.{input_count, is_ended, is_marked, reader_of};
 ghost use Rattle.lq_prompt.specs.Desks.{desk_of};
 ghost use Rattle.lq_serve.specs.Devices.{inner_of, is_failed};
 ghost use Rattle.lq_conversation.specs.Conversations.{AnswersInputs, AnswersTyped, Conversation};
@@ -22,26 +23,32 @@ const ENDED: u8 = 0;
 /// The status for a fault of the input or the output.
 const DEVICE_FAULT: u8 = 4;
 
-/// Answers what the reader has, input by input, each once and in order, until it ends or the desk does, and returns the program's status. The
-/// lines of a file that an input names are answered in its place. The prompt and hints go to what is around.
-pub fn converse<R: Read + Drop, W: Write, F: Files, S: Surroundings>(
+/// Answers what the line reader has, input by input, each once and in order, until it ends or the desk does, and returns the program's
+/// status: 4 where the line reader or the writer has failed, and otherwise 0. The lines of a file that an input names are answered in its
+/// place. The prompt and hints go to what is around.
+pub fn converse<R: Read, W: Write, F: Files, S: Surroundings>(
     alloc: Global,
-    reader: R,
+    lines: &mut LineReader<R>,
     desk: &mut Desk,
     writer: &mut Device<W>,
     files: &mut F,
     around: &mut S,
 ) -> u8
-    requires { is_failed writer.old ≡ false }
+    requires open { is_ended lines.old ≡ false }
+    requires lines { is_marked lines.old ≡ false }
+    requires writer { is_failed writer.old ≡ false }
 
     // Each input is answered once, in order, and the writer takes what is answered.
-    ensures { Conversation (F.holds files.old) (R.remaining reader)
-        (desk_of desk.old) (desk_of desk.new)
+    ensures answers { Conversation (F.holds files.old) (R.remaining (reader_of lines.old))
+        (input_count lines.old) (input_count lines.new) (desk_of desk.old) (desk_of desk.new)
         (W.contents (inner_of writer.old)) (W.contents (inner_of writer.new))
-        (is_failed writer.new) result }
+        (is_marked lines.new) (is_failed writer.new) }
+
+    // The status is 4 exactly where one of the two is marked at the end.
+    ensures status { result ≡ (if is_marked lines.new || is_failed writer.new then 4 else 0) }
 {
     around.hint("One statement per line; .help lists the commands; Ctrl-D ends.\n");
-    match answer_inputs(alloc, reader, desk, writer, files, around) {
+    match answer_inputs(alloc, lines, desk, writer, files, around) {
         Ok(true) => {
             around.hint("\n");
             ENDED
@@ -57,27 +64,34 @@ pub fn converse<R: Read + Drop, W: Write, F: Files, S: Surroundings>(
     }
 }
 
-/// Answers the inputs of a reader, and returns whether the desk has ended: if not, nothing more can be read.
-fn answer_inputs<R: Read + Drop, W: Write, F: Files, S: Surroundings>(
+/// Answers the inputs of a line reader, and returns whether the desk has ended: if not, nothing more can be read.
+fn answer_inputs<R: Read, W: Write, F: Files, S: Surroundings>(
     alloc: Global,
-    reader: R,
+    lines: &mut LineReader<R>,
     desk: &mut Desk,
     writer: &mut Device<W>,
     files: &mut F,
     around: &mut S,
 ) -> Result<bool, WriteFailed>
-    requires { is_failed writer.old ≡ false }
+    requires open { is_ended lines.old ≡ false }
+    requires lines { is_marked lines.old ≡ false }
+    requires writer { is_failed writer.old ≡ false }
     ensures ok { IfOk result (λ ends. Receives (W.contents (inner_of writer.old))
         (W.contents (inner_of writer.new)) (λ bytes. AnswersInputs (F.holds files.old)
-        (R.remaining reader) (desk_of desk.old) (desk_of desk.new) bytes (outcome_of ends))) }
+        (R.remaining (reader_of lines.old)) (input_count lines.old) (input_count lines.new)
+        (desk_of desk.old) (desk_of desk.new) bytes (outcome_of ends))) }
     ensures err { OnErr result (Receives (W.contents (inner_of writer.old))
         (W.contents (inner_of writer.new)) (λ bytes. AnswersInputs (F.holds files.old)
-        (R.remaining reader) (desk_of desk.old) (desk_of desk.new) bytes has_failed)) }
+        (R.remaining (reader_of lines.old)) (input_count lines.old) (input_count lines.new)
+        (desk_of desk.old) (desk_of desk.new) bytes has_failed)) }
     ensures unmarked { OnOk result (is_failed writer.new ≡ false) }
     ensures marked { OnErr result (is_failed writer.new ≡ true) }
+
+    // Where the desk has not ended, the line reader has refused.
+    ensures refused { IfOk result (λ ends. is_marked lines.new ≡ not ends) }
+    ensures unrefused { OnErr result (is_marked lines.new ≡ false) }
 {
-    let mut lines = LineReader::new(reader);
-    for _ in 0..u64::MAX {
+    loop {
         around.prompt(desk.role());
         let Ok(input) = lines.next_line(alloc) else {
             return Ok(false);
@@ -87,7 +101,6 @@ fn answer_inputs<R: Read + Drop, W: Write, F: Files, S: Surroundings>(
             return Ok(true);
         }
     }
-    Ok(false)
 }
 
 /// Answers an input that was typed, and the lines of the file that it may name, and returns whether the desk ends.

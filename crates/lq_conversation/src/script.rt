@@ -2,8 +2,7 @@
 ghost use Rattle.std.specs.Prelude.{◌≡◌, List, ℕ, false, true, IfOk, OnOk, OnErr};
 ghost use Rattle.lq_prompt.specs.Desks.{desk_of};
 ghost use Rattle.lq_serve.specs.Devices.{inner_of, is_failed};
-ghost use Rattle.lq_conversation.specs.Scripts.{AnswersInScript, ReadsScript, RunsFile, RunsScript, fault_text, script_of, unread_text};
-ghost use Rattle.lq_conversation.specs.Inputs.{is_end};
+ghost use Rattle.lq_conversation.specs.Scripts.{AnswersInScript, ReadsScript, RunsFile, RunsScript, fault_text, script_of};
 ghost use Rattle.lq_conversation.specs.Outcomes.{Tells, has_failed, outcome_of};
 ghost use Rattle.lq_conversation.specs.Writers.{Receives};
 
@@ -11,11 +10,11 @@ use crate::inputs::answer_input;
 use crate::next::Next;
 use crate::output::write_answer;
 use crate::surroundings::Surroundings;
-use lq_command::{Input, LineReader};
+use lq_command::{Input, first_line, input_of};
 use lq_prompt::Desk;
 use lq_serve::{Device, FileError, Files, SCRIPT_LIMIT, WriteFailed};
 use std::alloc::Global;
-use std::io::{Read, Write};
+use std::io::Write;
 
 /// Why no line of a script is answered.
 #[derive(Clone, Copy, Drop)]
@@ -91,57 +90,34 @@ fn fault_text(fault: ScriptFault) -> &'static str
 }
 
 /// Answers the lines of a script, and returns whether the desk ends.
-fn answer_script<R: Read + Drop, W: Write, S: Surroundings>(
+fn answer_script<W: Write, S: Surroundings>(
     alloc: Global,
-    script: R,
+    script: &[u8],
     desk: &mut Desk,
     writer: &mut Device<W>,
     around: &mut S,
 ) -> Result<bool, WriteFailed>
     requires { is_failed writer.old ≡ false }
     ensures ok { IfOk result (λ ends. Receives (W.contents (inner_of writer.old))
-        (W.contents (inner_of writer.new)) (λ bytes. RunsScript (R.remaining script)
+        (W.contents (inner_of writer.new)) (λ bytes. RunsScript script.now
         (desk_of desk.old) (desk_of desk.new) bytes (outcome_of ends))) }
     ensures err { OnErr result (Receives (W.contents (inner_of writer.old))
-        (W.contents (inner_of writer.new)) (λ bytes. RunsScript (R.remaining script)
+        (W.contents (inner_of writer.new)) (λ bytes. RunsScript script.now
         (desk_of desk.old) (desk_of desk.new) bytes has_failed)) }
     ensures unmarked { OnOk result (is_failed writer.new ≡ false) }
     ensures marked { OnErr result (is_failed writer.new ≡ true) }
 {
-    let mut lines = LineReader::new(script);
-    for _ in 0..u64::MAX {
-        let Ok(input) = lines.next_line(alloc) else {
-            return give_up(writer);
-        };
-        if is_end(&input) {
-            return Ok(false);
-        }
+    let mut rest = script;
+    while !rest.is_empty() {
+        let (line, behind) = first_line(rest);
+        rest = behind;
+        let input = input_of(alloc, line);
         let ends = answer_in_script(&input, desk, writer, around)?;
         if ends {
             return Ok(true);
         }
     }
-    give_up(writer)
-}
-
-/// Says that the rest of a script can't be read, after which the desk goes on.
-fn give_up<W: Write>(writer: &mut Device<W>) -> Result<bool, WriteFailed>
-    requires { is_failed writer.old ≡ false }
-    ensures ok { IfOk result (λ ends. Receives (W.contents (inner_of writer.old))
-        (W.contents (inner_of writer.new)) (λ bytes. Tells unread_text bytes (outcome_of ends))) }
-    ensures err { OnErr result (Receives (W.contents (inner_of writer.old))
-        (W.contents (inner_of writer.new)) (λ bytes. Tells unread_text bytes has_failed)) }
-    ensures unmarked { OnOk result (is_failed writer.new ≡ false) }
-    ensures marked { OnErr result (is_failed writer.new ≡ true) }
-{
-    say(writer, "The rest of the script can't be read.\n")
-}
-
-/// Whether an input is the end.
-fn is_end(input: &Input) -> bool
-    ensures { result ≡ is_end input.now }
-{
-    matches!(input, Input::End)
+    Ok(false)
 }
 
 /// Answers an input of a script, and returns whether the desk ends.
@@ -151,8 +127,7 @@ fn answer_in_script<W: Write, S: Surroundings>(
     writer: &mut Device<W>,
     around: &mut S,
 ) -> Result<bool, WriteFailed>
-    requires writer { is_failed writer.old ≡ false }
-    requires input { is_end input.now ≡ false }
+    requires { is_failed writer.old ≡ false }
     ensures ok { IfOk result (λ ends. Receives (W.contents (inner_of writer.old))
         (W.contents (inner_of writer.new)) (λ bytes. AnswersInScript input.now
         (desk_of desk.old) (desk_of desk.new) bytes (outcome_of ends))) }

@@ -1,4 +1,5 @@
 //! The terminal that a conversation is held at.
+use lq_command::LineReader;
 use lq_conversation::{Surroundings, converse};
 use lq_platform::{Disk, report_memory};
 use lq_prompt::Desk;
@@ -51,11 +52,12 @@ pub(crate) fn converse_at_terminal(rt: &HostRuntime, desk: &mut Desk) -> u8 {
     let Ok(input) = BufReader::new(rt.alloc(), rt.stdin()) else {
         return report_memory(rt);
     };
+    let mut lines = LineReader::new(input);
     let mut writer = Device::new(rt.stdout());
     let mut terminal = Terminal { rt, begin: None };
     converse(
         rt.alloc(),
-        input,
+        &mut lines,
         desk,
         &mut writer,
         &mut Disk::new(rt),

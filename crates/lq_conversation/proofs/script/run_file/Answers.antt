@@ -1,4 +1,4 @@
-use Rattle.std.proofs.Common.{Some, refl}
+use Rattle.std.proofs.Common.{refl}
 use Rattle.lq_prompt.specs.Desks.{desk_of}
 use Rattle.lq_conversation.specs.Outcomes.{Tells}
 use Rattle.lq_conversation.specs.Scripts.{RunsFile, RunsScript, fault_text}
@@ -8,7 +8,7 @@ use Rattle.lq_conversation.proofs.script.run_file.Goals as goal
 
 pub returns-in-Ok-clause-ok : goal.returns-in-Ok-clause-ok
 returns-in-Ok-clause-ok g c =
-    each_ok (λ bytes outcome. RunsScript (Some c.in-Ok.script.items) (desk_of c.args.desk.now) (desk_of c.answer_script.new.desk) bytes outcome)
+    each_ok (λ bytes outcome. RunsScript c.in-Ok.script.items (desk_of c.args.desk.now) (desk_of c.answer_script.new.desk) bytes outcome)
     (λ bytes outcome. RunsFile (g.F.Files.holds c.args.files.now) c.args.file.now (desk_of c.args.desk.now) (desk_of c.answer_script.new.desk) bytes outcome) _ _ _ c.answer_script.result
     (λ outcome ran. file-lines _ _ _ _ _ _ outcome c.in-Ok.script _ c.in-Ok.ensures.script refl ran) (rw c.as_slice.ensures.value at c.answer_script.ensures.ok)
 
@@ -20,7 +20,7 @@ returns-in-Err-clause-ok g c =
 
 pub returns-in-Ok-clause-err : goal.returns-in-Ok-clause-err
 returns-in-Ok-clause-err g c =
-    each_err (λ bytes outcome. RunsScript (Some c.in-Ok.script.items) (desk_of c.args.desk.now) (desk_of c.answer_script.new.desk) bytes outcome)
+    each_err (λ bytes outcome. RunsScript c.in-Ok.script.items (desk_of c.args.desk.now) (desk_of c.answer_script.new.desk) bytes outcome)
     (λ bytes outcome. RunsFile (g.F.Files.holds c.args.files.now) c.args.file.now (desk_of c.args.desk.now) (desk_of c.answer_script.new.desk) bytes outcome) _ _ _ c.answer_script.result
     (λ outcome ran. file-lines _ _ _ _ _ _ outcome c.in-Ok.script _ c.in-Ok.ensures.script refl ran) (rw c.as_slice.ensures.value at c.answer_script.ensures.err)
 
