@@ -1,5 +1,5 @@
 -- Lemmas on inputs that are answered one after another.
-use Rattle.std.proofs.Common.{◌≡◌, ◌+◌, ℕ, Bool, false, List, [], ◌∷◌, ◌++◌, Option, length, length-append, add-zero, refl, sym, ◌∙◌, ap, subst, append_assoc, arith}
+use Rattle.std.proofs.Common.{◌≡◌, ◌+◌, ℕ, Bool, false, List, [], ◌∷◌, ◌++◌, Option, length-append, add-zero, refl, sym, ◌∙◌, ap, subst, append_assoc, arith}
 use Rattle.lq_command.specs.Readers.{Takes}
 use Rattle.lq_command.specs.declared.input.Input.{Input}
 use Rattle.lq_prompt.specs.Answers.{DeskState}

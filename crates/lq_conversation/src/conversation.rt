@@ -96,7 +96,7 @@ fn answer_inputs<R: Read, W: Write, F: Files, S: Surroundings>(
         let Ok(input) = lines.next_line(alloc) else {
             return Ok(false);
         };
-        let ends = answer_typed(alloc, &input, desk, writer, files, around)?;
+        let ends = answer_typed(alloc, input, desk, writer, files, around)?;
         if ends {
             return Ok(true);
         }
@@ -106,7 +106,7 @@ fn answer_inputs<R: Read, W: Write, F: Files, S: Surroundings>(
 /// Answers an input that was typed, and the lines of the file that it may name, and returns whether the desk ends.
 fn answer_typed<W: Write, F: Files, S: Surroundings>(
     alloc: Global,
-    input: &Input,
+    input: Input,
     desk: &mut Desk,
     writer: &mut Device<W>,
     files: &mut F,
@@ -114,16 +114,16 @@ fn answer_typed<W: Write, F: Files, S: Surroundings>(
 ) -> Result<bool, WriteFailed>
     requires { is_failed writer.old ≡ false }
     ensures ok { IfOk result (λ ends. Receives (W.contents (inner_of writer.old))
-        (W.contents (inner_of writer.new)) (λ bytes. AnswersTyped (F.holds files.old) input.now
+        (W.contents (inner_of writer.new)) (λ bytes. AnswersTyped (F.holds files.old) input
         (desk_of desk.old) (desk_of desk.new) bytes (outcome_of ends))) }
     ensures err { OnErr result (Receives (W.contents (inner_of writer.old))
-        (W.contents (inner_of writer.new)) (λ bytes. AnswersTyped (F.holds files.old) input.now
+        (W.contents (inner_of writer.new)) (λ bytes. AnswersTyped (F.holds files.old) input
         (desk_of desk.old) (desk_of desk.new) bytes has_failed)) }
     ensures unmarked { OnOk result (is_failed writer.new ≡ false) }
     ensures marked { OnErr result (is_failed writer.new ≡ true) }
     ensures keeps { (name : List ℕ) → F.holds files.new name ≡ F.holds files.old name }
 {
-    match answer_input(input, desk, writer, around)? {
+    match answer_input(&input, desk, writer, around)? {
         Next::Line => Ok(false),
         Next::Nothing => Ok(true),
         Next::Script(file) => run_file(alloc, file.as_str(), desk, writer, files, around),

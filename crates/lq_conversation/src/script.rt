@@ -111,8 +111,7 @@ fn answer_script<W: Write, S: Surroundings>(
     while !rest.is_empty() {
         let (line, behind) = first_line(rest);
         rest = behind;
-        let input = input_of(alloc, line);
-        let ends = answer_in_script(&input, desk, writer, around)?;
+        let ends = answer_in_script(&input_of(alloc, line), desk, writer, around)?;
         if ends {
             return Ok(true);
         }

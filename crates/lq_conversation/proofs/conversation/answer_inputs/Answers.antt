@@ -23,19 +23,8 @@ loop-input-preserved g c = record {
   keeps = λ name. c.in_ok-ends.ensures.keeps name ∙ c.loop-input.invariant.keeps name;
 }
 
-pub loop-input-preserved-else-ends : goal.loop-input-preserved-else-ends
-loop-input-preserved-else-ends g c = record {
-  way = (Typed-more (g.F.Files.holds c.args.files.now) _ c.loop-input.invariant.keeps _ _ _ _ _ _ _ _ _ _ _ _ _ _ c.in-Ok.input goes_on c.loop-input.invariant.way c.in-Ok.ensures.line c.in-Ok.ensures.counted (typed-is _ c.in-Ok.input _ _ _ _ c.in_ok-ends.ends false c.if-ends.false c.in_ok-ends.ensures.ok));
-  unmarked = c.in_ok-ends.ensures.unmarked;
-  unrefused = unmarked_by_ok _ _ _ c.in-Ok.is (c.next_line.ensures.marked c.loop-input.invariant.unrefused);
-  keeps = λ name. c.in_ok-ends.ensures.keeps name ∙ c.loop-input.invariant.keeps name;
-}
-
 pub loop-input-smaller : goal.loop-input-smaller
 loop-input-smaller g c = omega (arith, c.in-Ok.ensures.counted, c.in-Ok.ensures.few)
-
-pub loop-input-smaller-else-ends : goal.loop-input-smaller-else-ends
-loop-input-smaller-else-ends g c = omega (arith, c.in-Ok.ensures.counted, c.in-Ok.ensures.few)
 
 pub returns-then-ends-clause-ok : goal.returns-then-ends-clause-ok
 returns-then-ends-clause-ok g c = inputs-answered _ _ _ _ _ _ _ _ _ _ _ has_ended refl (Typed-more (g.F.Files.holds c.args.files.now) _ c.loop-input.invariant.keeps _ _ _ _ _ _ _ _ _ _ _ _ _ _ c.in-Ok.input has_ended c.loop-input.invariant.way c.in-Ok.ensures.line c.in-Ok.ensures.counted (typed-is _ c.in-Ok.input _ _ _ _ c.in_ok-ends.ends true c.if-ends.true c.in_ok-ends.ensures.ok))

@@ -53,23 +53,23 @@ returns-in-Nothing-clause-marked g c = tt
 pub returns-in-Nothing-clause-keeps : goal.returns-in-Nothing-clause-keeps
 returns-in-Nothing-clause-keeps g c = λ name. refl
 
-pub returns-in-Script-clause-ok : goal.returns-in-Script-clause-ok
-returns-in-Script-clause-ok g c =
+pub returns-clause-ok : goal.returns-clause-ok
+returns-clause-ok g c =
     each_ok (λ bytes outcome. RunsFile (g.F.Files.holds c.args.files.now) (string_bytes c.in-Script.file) (desk_of c.answer_input.new.desk) (desk_of c.run_file.new.desk) bytes outcome)
-    (λ bytes outcome. AnswersTyped (g.F.Files.holds c.args.files.now) c.args.input.now (desk_of c.args.desk.now) (desk_of c.run_file.new.desk) bytes outcome) _ _ _ c.run_file.result
+    (λ bytes outcome. AnswersTyped (g.F.Files.holds c.args.files.now) c.args.input (desk_of c.args.desk.now) (desk_of c.run_file.new.desk) bytes outcome) _ _ _ c.run_file.result
     (λ outcome ran. by-run (RunsFile (g.F.Files.holds c.args.files.now)) _ _ _ _ _ _ _ _ outcome (said_next _ _ _ _ _ _ (next.Script c.in-Script.file) c.in-Script.is c.in_ok-answer_input.ensures.ok) ran) (rw c.as_str.ensures.value at c.run_file.ensures.ok)
 
-pub returns-in-Script-clause-err : goal.returns-in-Script-clause-err
-returns-in-Script-clause-err g c =
+pub returns-clause-err : goal.returns-clause-err
+returns-clause-err g c =
     each_err (λ bytes outcome. RunsFile (g.F.Files.holds c.args.files.now) (string_bytes c.in-Script.file) (desk_of c.answer_input.new.desk) (desk_of c.run_file.new.desk) bytes outcome)
-    (λ bytes outcome. AnswersTyped (g.F.Files.holds c.args.files.now) c.args.input.now (desk_of c.args.desk.now) (desk_of c.run_file.new.desk) bytes outcome) _ _ _ c.run_file.result
+    (λ bytes outcome. AnswersTyped (g.F.Files.holds c.args.files.now) c.args.input (desk_of c.args.desk.now) (desk_of c.run_file.new.desk) bytes outcome) _ _ _ c.run_file.result
     (λ outcome ran. by-run (RunsFile (g.F.Files.holds c.args.files.now)) _ _ _ _ _ _ _ _ outcome (said_next _ _ _ _ _ _ (next.Script c.in-Script.file) c.in-Script.is c.in_ok-answer_input.ensures.ok) ran) (rw c.as_str.ensures.value at c.run_file.ensures.err)
 
-pub returns-in-Script-clause-unmarked : goal.returns-in-Script-clause-unmarked
-returns-in-Script-clause-unmarked g c = c.run_file.ensures.unmarked
+pub returns-clause-unmarked : goal.returns-clause-unmarked
+returns-clause-unmarked g c = c.run_file.ensures.unmarked
 
-pub returns-in-Script-clause-marked : goal.returns-in-Script-clause-marked
-returns-in-Script-clause-marked g c = c.run_file.ensures.marked
+pub returns-clause-marked : goal.returns-clause-marked
+returns-clause-marked g c = c.run_file.ensures.marked
 
-pub returns-in-Script-clause-keeps : goal.returns-in-Script-clause-keeps
-returns-in-Script-clause-keeps g c = c.run_file.ensures.keeps
+pub returns-clause-keeps : goal.returns-clause-keeps
+returns-clause-keeps g c = c.run_file.ensures.keeps

@@ -11,18 +11,12 @@ loop-rest-init g c = record { way = UnderWay-start _ _ _; unmarked = c.requires 
 
 pub loop-rest-preserved : goal.loop-rest-preserved
 loop-rest-preserved g c = record {
-  way = (UnderWay-more _ _ _ _ _ _ _ _ _ _ _ goes_on c.loop-rest.invariant.way c.first_line.ensures.lines c.input_of-input.ensures (in_script-is _ _ _ _ _ c.in_ok-ends.ends false c.if-ends.false c.in_ok-ends.ensures.ok));
-  unmarked = c.in_ok-ends.ensures.unmarked;
-}
-
-pub loop-rest-preserved-else-ends : goal.loop-rest-preserved-else-ends
-loop-rest-preserved-else-ends g c = record {
-  way = (UnderWay-more _ _ _ _ _ _ _ _ _ _ _ goes_on c.loop-rest.invariant.way c.first_line.ensures.lines c.input_of-input.ensures (in_script-is _ _ _ _ _ c.in_ok-ends.ends false c.if-ends.false c.in_ok-ends.ensures.ok));
+  way = (UnderWay-more _ _ _ _ _ _ _ _ _ _ _ goes_on c.loop-rest.invariant.way c.first_line.ensures.lines c.input_of.ensures (in_script-is _ _ _ _ _ c.in_ok-ends.ends false c.if-ends.false c.in_ok-ends.ensures.ok));
   unmarked = c.in_ok-ends.ensures.unmarked;
 }
 
 pub returns-then-ends-clause-ok : goal.returns-then-ends-clause-ok
-returns-then-ends-clause-ok g c = script-until _ _ _ _ _ _ has_ended (λ e. cc) (UnderWay-more _ _ _ _ _ _ _ _ _ _ _ has_ended c.loop-rest.invariant.way c.first_line.ensures.lines c.input_of-input.ensures (in_script-is _ _ _ _ _ c.in_ok-ends.ends true c.if-ends.true c.in_ok-ends.ensures.ok))
+returns-then-ends-clause-ok g c = script-until _ _ _ _ _ _ has_ended (λ e. cc) (UnderWay-more _ _ _ _ _ _ _ _ _ _ _ has_ended c.loop-rest.invariant.way c.first_line.ensures.lines c.input_of.ensures (in_script-is _ _ _ _ _ c.in_ok-ends.ends true c.if-ends.true c.in_ok-ends.ensures.ok))
 
 pub returns-then-ends-clause-err : goal.returns-then-ends-clause-err
 returns-then-ends-clause-err g c = tt
@@ -37,7 +31,7 @@ pub returns-in_err-ends-clause-ok : goal.returns-in_err-ends-clause-ok
 returns-in_err-ends-clause-ok g c = let p = err_from_is_err_and c.from_residual.result c.from_residual.ensures.1 in rw p.1 tt
 
 pub returns-in_err-ends-clause-err : goal.returns-in_err-ends-clause-err
-returns-in_err-ends-clause-err g c = on_err _ (script-until _ _ _ _ _ _ has_failed (λ e. cc) (UnderWay-more _ _ _ _ _ _ _ _ _ _ _ has_failed c.loop-rest.invariant.way c.first_line.ensures.lines c.input_of-input.ensures c.in_err-ends.ensures.err))
+returns-in_err-ends-clause-err g c = on_err _ (script-until _ _ _ _ _ _ has_failed (λ e. cc) (UnderWay-more _ _ _ _ _ _ _ _ _ _ _ has_failed c.loop-rest.invariant.way c.first_line.ensures.lines c.input_of.ensures c.in_err-ends.ensures.err))
 
 pub returns-in_err-ends-clause-unmarked : goal.returns-in_err-ends-clause-unmarked
 returns-in_err-ends-clause-unmarked g c = let p = err_from_is_err_and c.from_residual.result c.from_residual.ensures.1 in rw p.1 tt
