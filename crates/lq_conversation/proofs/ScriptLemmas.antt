@@ -1,7 +1,9 @@
 -- Lemmas on the lines of a script.
-use Rattle.std.proofs.Common.{◌≡◌, ◌≢◌, ℕ, Bool, List, [], ◌∷◌, ◌++◌, Option, Result, Ok, Err, String, Vec, Global, refl, sym, ◌∙◌, subst}
+use Rattle.std.proofs.Common.{◌≡◌, ◌≢◌, ◌<◌, ◌==◌, ℕ, Bool, true, false, List, [], ◌∷◌, ◌++◌, Option, Result, Ok, Err, String, Vec, Global, length, refl, sym, ◌∙◌, subst, arith}
+use Rattle.std.proofs.lemmas.Bool.{eqb-true}
 use Rattle.lq_command.specs.Inputs.{IsInput}
 use Rattle.lq_command.specs.declared.input.Input.{Input}
+use Rattle.lq_grammar.proofs.ScriptLaws.{lines_of-none}
 use Rattle.lq_grammar.specs.Script.{lines_of}
 use Rattle.lq_prompt.specs.Answers.{DeskState}
 use Rattle.lq_conversation.specs.Inputs.{AnswersInput}
@@ -28,6 +30,14 @@ pub in_script-is : (given : Input) (old new : DeskState) (before after : Option 
 in_script-is given old new before after ends is same = outcome_is (λ bytes outcome. AnswersInScript given old new bytes outcome) before after ends is same
 
 -- ---- the lines
+
+-- bytes of which a test says whether they are none
+pub some_bytes : (bytes : List ℕ) (is_empty : Bool) → is_empty ≡ (length bytes == 0) → is_empty ≡ false → 0 < length bytes
+some_bytes [] is_empty tests some = let never : false ≡ true = sym some ∙ tests in cc
+some_bytes (b ∷ bytes) is_empty tests some = omega arith
+
+pub no_lines : (bytes : List ℕ) (is_empty : Bool) → is_empty ≡ (length bytes == 0) → is_empty ≡ true → lines_of bytes ≡ []
+no_lines bytes is_empty tests none = lines_of-none bytes (eqb-true (length bytes) 0 (sym tests ∙ none))
 
 -- one more line gave an input
 Begins-more : (lines left rest : List (List ℕ)) (line : List ℕ) (inputs : List Input) (given : Input)

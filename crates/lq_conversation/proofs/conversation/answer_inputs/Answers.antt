@@ -26,6 +26,9 @@ loop-input-preserved g c = record {
 pub loop-input-smaller : goal.loop-input-smaller
 loop-input-smaller g c = omega (arith, c.in-Ok.ensures.counted, c.in-Ok.ensures.few)
 
+pub answer_typed-requires : goal.answer_typed-requires
+answer_typed-requires g c = c.loop-input.invariant.unmarked
+
 pub returns-then-ends-clause-ok : goal.returns-then-ends-clause-ok
 returns-then-ends-clause-ok g c = inputs-answered _ _ _ _ _ _ _ _ _ _ _ has_ended refl (Typed-more (g.F.Files.holds c.args.files.now) _ c.loop-input.invariant.keeps _ _ _ _ _ _ _ _ _ _ _ _ _ _ c.in-Ok.input has_ended c.loop-input.invariant.way c.in-Ok.ensures.line c.in-Ok.ensures.counted (typed-is _ c.in-Ok.input _ _ _ _ c.in_ok-ends.ends true c.if-ends.true c.in_ok-ends.ensures.ok))
 

@@ -3,6 +3,15 @@ use Rattle.lq_conversation.specs.Outcomes.{goes_on, has_ended, has_failed}
 use Rattle.lq_conversation.proofs.TypedLemmas.{conversation, inputs-is, refused-is, status_by}
 use Rattle.lq_conversation.proofs.conversation.converse.Goals as goal
 
+pub answer_inputs-requires-clause-open : goal.answer_inputs-requires-clause-open
+answer_inputs-requires-clause-open g c = c.requires.open
+
+pub answer_inputs-requires-clause-lines : goal.answer_inputs-requires-clause-lines
+answer_inputs-requires-clause-lines g c = c.requires.lines
+
+pub answer_inputs-requires-clause-writer : goal.answer_inputs-requires-clause-writer
+answer_inputs-requires-clause-writer g c = c.requires.writer
+
 pub returns-in-Ok-true-clause-answers : goal.returns-in-Ok-true-clause-answers
 returns-in-Ok-true-clause-answers g c =
     conversation _ _ _ _ _ _ _ _ _ _ has_ended (inputs-is _ _ _ _ _ _ _ _ c.in-Ok-true.field-0 true c.in-Ok-true.field-0-test c.in-Ok-true.ensures.ok)
