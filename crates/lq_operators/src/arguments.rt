@@ -1,5 +1,5 @@
 //! What an argument represents: a sequence, or a number.
-ghost use Rattle.std.specs.Prelude.{◌≡◌};
+ghost use Rattle.std.specs.Prelude.{◌≡◌, Ok};
 ghost use Rattle.lq_value.specs.declared.value.Value.{out-Value};
 ghost use Rattle.lq_language.specs.OperandMeaning.{items_of, on_scalar, stream_of};
 ghost use Rattle.lq_language.specs.Meaning.{number_of};
@@ -35,18 +35,20 @@ fn items_of<R: RowRef>(alloc: Global, value: Value<R>) -> Stream<Value<R>>
     }
 }
 
-// The number that an argument is; a null reference where it isn't one.
+// The number that a value is; a null reference where it isn't one.
 #[tactic(auto, using(crate::proofs::Opens::layers))]
+fn int_of<R: RowRef>(value: &Value<R>) -> Result<i32, Fault>
+    ensures { result ≡ on_scalar nowhere (Ok value.now) (number_of {R = R} nowhere) }
+{
+    match value {
+        Value::Scalar(Scalar::Int(number)) => Ok(*number),
+        _ => Err(Fault::NullReference),
+    }
+}
+
+// The number that an argument is; a null reference where it isn't one.
 pub(crate) fn number_of<R: RowRef>(argument: Result<Value<R>, Fault>) -> Result<i32, Fault>
     ensures { result ≡ on_scalar nowhere argument (number_of {R = R} nowhere) }
 {
-    match argument {
-        Ok(Value::Scalar(Scalar::Int(number))) => Ok(number),
-        Ok(Value::Scalar(_)) => Err(Fault::NullReference),
-        Ok(Value::Row(_)) => Err(Fault::NullReference),
-        Ok(Value::Rec(_)) => Err(Fault::NullReference),
-        Ok(Value::Group(_, _)) => Err(Fault::NullReference),
-        Ok(Value::Seq(_, _)) => Err(Fault::NullReference),
-        Err(fault) => Err(fault),
-    }
+    int_of(&argument?)
 }

@@ -1,13 +1,15 @@
 //! The types by which the values are served that lines ask for.
 ghost use Rattle.std.specs.Prelude.{◌≡◌, Some, IfOk};
 ghost use Rattle.lq_value.specs.declared.ty.Ty.{out-Ty};
+ghost use Rattle.lq_grammar.specs.Reading.{Says, reading_of};
+ghost use Rattle.lq_grammar.specs.Tokens.{tokens_of};
 ghost use Rattle.lq_language.specs.Types.{has_place, when};
 ghost use Rattle.lq_machine.specs.ServedTypes.{line_type};
 ghost use Rattle.lq_run.specs.States.{HoldsOf};
 ghost use Rattle.lq_session.specs.ServedTypes.{ServesLine};
 
 use crate::lines::{opening_of, statement_of, tokens_of};
-use lq_grammar::Statement;
+use lq_grammar::{Statement, Token};
 use lq_run::{State, Stop, tree_of};
 use lq_tree::ty;
 use lq_typing::{copy_ty, has_place};
@@ -26,20 +28,36 @@ fn placed_type(alloc: Global, given: &Ty) -> Result<Option<Ty>, AllocError>
     }
 }
 
+/// The type that the statement of a line is served by, where nothing stops it before it is served. The statement is borrowed, so that
+/// no path out of here drops a part of it.
+fn type_of_statement(
+    alloc: Global,
+    line: &str,
+    tokens: &[Token],
+    statement: &Statement,
+    state: &State,
+) -> Result<Option<Ty>, Stop>
+    requires tokens { tokens_of line.now ≡ Some tokens.now }
+    requires says { reading_of line.now ≡ Says statement.now }
+    ensures { HoldsOf state.now (λ s. ServesLine s line.now result) }
+{
+    let Statement::Run(expr) = statement else {
+        return Ok(None);
+    };
+    let opened = opening_of(alloc, line, tokens, state)?;
+    let tree = tree_of(alloc, expr, opened, state)?;
+    Ok(placed_type(alloc, ty(&tree))?)
+}
+
 /// The type that a line is served by, where nothing stops its statement before it is served.
 fn type_of_run(alloc: Global, line: &str, state: &State) -> Result<Option<Ty>, Stop>
     ensures { HoldsOf state.now (λ s. ServesLine s line.now result) }
 {
     let tokens = tokens_of(alloc, line)?;
-    let Some(statement) = statement_of(alloc, line, &tokens)? else {
-        return Ok(None);
-    };
-    let Statement::Run(expr) = statement else {
-        return Ok(None);
-    };
-    let opened = opening_of(alloc, line, &tokens, state)?;
-    let tree = tree_of(alloc, &expr, opened, state)?;
-    Ok(placed_type(alloc, ty(&tree))?)
+    match statement_of(alloc, line, &tokens)? {
+        Some(statement) => type_of_statement(alloc, line, &tokens, &statement, state),
+        None => Ok(None),
+    }
 }
 
 /// The type that a line is served by in this state: that of the expression of its `run`. None where the

@@ -3,8 +3,8 @@ use Rattle.std.proofs.Common.{◌≡◌, refl}
 use Rattle.std.specs.Prelude.{Option, Some, None}
 use Rattle.lq_grammar.specs.Grammar.{arguments_of}
 use Rattle.lq_grammar.specs.declared.syntax.Expr.{Expr}
-use Rattle.lq_syntax.specs.Parts.{listed}
+use Rattle.lq_syntax.specs.Parts.{one_or_two}
 
-pub listed_arguments : (x : Expr) (second : Option Expr) → listed x second ≡ arguments_of x second
-listed_arguments x None = refl
-listed_arguments x (Some y) = refl
+pub arguments_are_one_or_two : (x : Expr) (second : Option Expr) → one_or_two x second ≡ arguments_of x second
+arguments_are_one_or_two x None = refl
+arguments_are_one_or_two x (Some y) = refl

@@ -32,9 +32,9 @@ abbrev pub closed_by : {A : Type 0} → Kind → A → Parser A
 closed_by kind x = expect kind >>= (λ token. pure x)
 
 -- one item or two
-abbrev pub listed : {A : Type 0} → A → Option A → List A
-listed x None = x ∷ []
-listed x (Some y) = x ∷ y ∷ []
+abbrev pub one_or_two : {A : Type 0} → A → Option A → List A
+one_or_two x None = x ∷ []
+one_or_two x (Some y) = x ∷ y ∷ []
 
 -- a reading function, if there is one
 abbrev pub found_or_refuse : {A : Type 0} → Option (Parser A) → Parser A

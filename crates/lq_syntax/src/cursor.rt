@@ -134,8 +134,8 @@ impl<'a> Tokens<'a> {
         }
     }
 
-    /// Gives back `x`, which was read, where the next token is of this kind, and takes that token. Callers
-    /// so have no tree to drop where it isn't.
+    /// Gives back `x`, which was read, where the next token is of this kind, and takes that token. It takes
+    /// `x` over, so that a caller has no tree to drop where the token is missing.
     pub fn close<T: Drop>(&mut self, kind: Kind, x: T) -> Result<T, ParseError>
         ensures { Reads (closed_by kind x self.old) result self.new }
     {

@@ -2,7 +2,7 @@
 ghost use Rattle.std.specs.Prelude.{◌≡◌, IfOk};
 ghost use Rattle.std.specs.Option.{option_map};
 ghost use Rattle.lq_grammar.specs.Grammar as grammar;
-ghost use Rattle.lq_syntax.specs.Parts.{listed};
+ghost use Rattle.lq_syntax.specs.Parts.{one_or_two};
 ghost use Rattle.lq_grammar.specs.declared.syntax.Expr.{out-Expr};
 ghost use Rattle.lq_grammar.specs.declared.syntax.Expr.TheVariants as expr;
 ghost use Rattle.lq_grammar.specs.declared.syntax.Node.TheVariants as node;
@@ -37,7 +37,7 @@ fn column_in(x: &Expr) -> Option<(&str, &str)>
 
 /// A list of one item or of two.
 fn list_of<T: Drop>(alloc: Global, first: T, second: Option<T>) -> Result<List<T>, AllocError>
-    ensures { IfOk result (λ items. items ≡ listed first second) }
+    ensures { IfOk result (λ items. items ≡ one_or_two first second) }
 {
     let mut items = List::new(alloc);
     items.push(first)?;
@@ -48,7 +48,7 @@ fn list_of<T: Drop>(alloc: Global, first: T, second: Option<T>) -> Result<List<T
 }
 
 /// A predicate that is asked of these, which are not columns of one row.
-#[tactic(auto, using(crate::proofs::HostArguments::listed_arguments))]
+#[tactic(auto, using(crate::proofs::HostArguments::arguments_are_one_or_two))]
 fn host_other(
     alloc: Global,
     predicate: Txt,

@@ -16,32 +16,7 @@ returns-in_err-statement c = λ predicates known.
     let same : c.from_residual-in_err-statement.result ≡ Err c.in_err-statement.field-0.0 = search rules in
     rw same (unread (state_with predicates c.args.state.now) c.args.line.now c.in_err-statement.field-0.0 c.in_err-statement.ensures)
 
-pub returns-in_default : goal.returns-in_default
-returns-in_default c = λ predicates known.
-    let read : reading_of c.args.line.now ≡ Nothing = search rules in
-    says_nothing (state_with predicates c.args.state.now) c.args.line.now read
-
-pub returns-in_default-statement : goal.returns-in_default-statement
-returns-in_default-statement c = λ predicates known.
-    let s = state_with predicates c.args.state.now in
-    let read : reading_of c.args.line.now ≡ Says c.in-Some.statement = search rules in
-    serves_none s c.args.line.now c.in-Some.statement read (serves_only_runs s c.in-Some.statement c.in_default-statement.not-Run)
-
-pub returns-in_err-opened : goal.returns-in_err-opened
-returns-in_err-opened c = λ predicates known.
-    let read : reading_of c.args.line.now ≡ Says (statement.Run c.in-Run.expr) = search rules in
-    let same : c.from_residual-in_err-opened.result ≡ Err c.in_err-opened.field-0.0 = search rules in
-    rw same (past (state_with predicates c.args.state.now) c.args.line.now (statement.Run c.in-Run.expr) read c.in_err-opened.field-0.0 c.in_err-opened.ensures)
-
-pub returns-in_err-tree : goal.returns-in_err-tree
-returns-in_err-tree c = λ predicates known.
-    let read : reading_of c.args.line.now ≡ Says (statement.Run c.in-Run.expr) = search rules in
-    let same : c.from_residual-in_err-tree.result ≡ Err c.in_err-tree.field-0.0 = search rules in
-    rw same (unserved (state_with predicates c.args.state.now) c.args.line.now c.in-Run.expr read c.in_ok-opened.opened c.in_ok-opened.ensures c.in_err-tree.field-0.0
-    (c.in_err-tree.ensures predicates known))
-
 pub returns : goal.returns
 returns c = λ predicates known.
-    let read : reading_of c.args.line.now ≡ Says (statement.Run c.in-Run.expr) = search rules in
-    served_of (state_with predicates c.args.state.now) c.args.line.now c.in-Run.expr read c.in_ok-opened.opened c.in_ok-opened.ensures c.in_ok-tree.tree c.ty.result.now
-    c.in_ok-placed_type.field-0 (c.in_ok-tree.ensures predicates known) c.ty.ensures c.in_ok-placed_type.ensures
+    let read : reading_of c.args.line.now ≡ Nothing = search rules in
+    says_nothing (state_with predicates c.args.state.now) c.args.line.now read
