@@ -15,7 +15,7 @@ use lq_session::Session;
 use std::fs::File;
 use std::io::Read;
 use std::process::ExitCode;
-use std::{env, mem};
+use std::env;
 
 /// Serves the script from where the options say it is.
 fn serve_script(rt: &HostRuntime, script: Option<&str>, session: &mut Session) -> u8 {
@@ -59,7 +59,7 @@ fn serve_with_hosts(rt: &HostRuntime, options: &Options) -> Result<u8, WatchErro
     match load(alloc, options, hosts, &mut Disk::new(rt)) {
         Ok(mut session) => {
             let status = serve_script(rt, options.script.as_deref(), &mut session);
-            mem::forget(session);
+            session.forget();
             Ok(status)
         }
         Err(error) => Ok(refuse(&error, &mut Device::new(rt.stderr()))),

@@ -2,7 +2,7 @@
 use lq_policy::Explanation;
 
 /// The answer to whoever asks about a row.
-#[derive(Debug, Drop)]
+#[derive(Drop)]
 pub enum Why {
     /// Why the present role may or may not do something with the row.
     Explained(Explanation),

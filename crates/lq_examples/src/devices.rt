@@ -157,8 +157,7 @@ pub(crate) fn taking(alloc: Global, bad: u64, fault: Fault) -> Taker {
     }
 }
 
-// What is left of serving a script: the outcome, and what the devices show. The functions that make it are apart from the
-// tests: what costs most to prove of a test is that it frees a session.
+// What is left of serving a script: the outcome, and what the devices show.
 #[derive(Drop)]
 struct ServedScript {
     outcome: Result<Summary, ServeError>,
@@ -177,6 +176,7 @@ fn serve_script<R: Read + Drop>(
     let mut reader = Device::new(script);
     let mut writer = Device::new(&mut sink);
     let outcome = serve(alloc, &mut reader, &mut writer, &mut session);
+    session.close();
     let write_failed = writer.failed();
     Ok(ServedScript {
         outcome,
@@ -381,6 +381,7 @@ fn end_script(
     let mut writer = Device::new(&mut sink);
     let mut errors = Device::new(&mut error_sink);
     let status = finish(alloc, &mut reader, &mut writer, &mut errors, &mut session);
+    session.close();
     let is_marked = errors.failed();
     Ok(Ended {
         status,

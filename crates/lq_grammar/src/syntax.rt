@@ -3,7 +3,7 @@
 use lq_value::{Held, List, Scalar, Txt};
 
 /// An operator with one operand (ECMA-334, unary operators).
-#[derive(Clone, Copy, Debug, Drop, Eq, PartialEq)]
+#[derive(Clone, Copy, Drop, Eq, PartialEq)]
 pub enum Unary {
     /// `!`
     Not,
@@ -13,7 +13,7 @@ pub enum Unary {
 
 /// An operator that evaluates both of its operands (ECMA-334, arithmetic, relational and equality
 /// operators).
-#[derive(Clone, Copy, Debug, Drop, Eq, PartialEq)]
+#[derive(Clone, Copy, Drop, Eq, PartialEq)]
 pub enum Binary {
     /// `*`
     Multiply,
@@ -40,7 +40,7 @@ pub enum Binary {
 }
 
 /// An operator between two operands, as the grammar groups them.
-#[derive(Clone, Copy, Debug, Drop, Eq, PartialEq)]
+#[derive(Clone, Copy, Drop, Eq, PartialEq)]
 pub enum Infix {
     /// An operator that evaluates both.
     Binary(Binary),
@@ -51,7 +51,7 @@ pub enum Infix {
 }
 
 /// A line of the grammar that a line of expressions leads back to.
-#[derive(Clone, Copy, Debug, Drop, Eq, PartialEq)]
+#[derive(Clone, Copy, Drop, Eq, PartialEq)]
 pub enum Level {
     /// A query or a conditional expression.
     Top,

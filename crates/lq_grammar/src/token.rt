@@ -116,7 +116,7 @@ pub enum Kind {
 }
 
 /// A token: what it is, and where it is in its line.
-#[derive(Clone, Copy, Debug, Drop)]
+#[derive(Clone, Copy, Drop)]
 pub struct Token {
     /// What it is.
     pub kind: Kind,

@@ -27,7 +27,7 @@ fn has_name(alloc: Global, predicate: HostPredicate, name: &str) -> bool {
 }
 
 /// What adding a predicate of a name answers, and where it is handed back, whether it has its name.
-fn added(
+fn add_predicate(
     alloc: Global,
     hosts: &mut HostSet,
     name: &str,
@@ -58,7 +58,7 @@ pub(crate) fn print_additions(rt: &HostRuntime) -> io::Result<()> {
             ensures { result ≡ true }
         { true };
         let test = Box::new(rt.alloc(), any)?;
-        match added(rt.alloc(), &mut hosts, name, range, test)? {
+        match add_predicate(rt.alloc(), &mut hosts, name, range, test)? {
             Ok(number) => println!(rt; "{name}: number {number}")?,
             Err((error, true)) => println!(rt; "{name}: {error}, and handed back")?,
             Err((error, false)) => println!(rt; "{name}: {error}")?,

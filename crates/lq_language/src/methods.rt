@@ -1,7 +1,7 @@
 //! Methods of sequences, by what they take (.NET, Enumerable).
 
 /// A method without an argument.
-#[derive(Clone, Copy, Debug, Drop, Eq, PartialEq)]
+#[derive(Clone, Copy, Drop, Eq, PartialEq)]
 pub enum Simple {
     /// Each item at its first appearance.
     Distinct,
@@ -32,7 +32,7 @@ pub enum Simple {
 }
 
 /// A method with a second sequence, with a number of items, or with a value.
-#[derive(Clone, Copy, Debug, Drop, Eq, PartialEq)]
+#[derive(Clone, Copy, Drop, Eq, PartialEq)]
 pub enum Given {
     /// Both sequences, one after the other.
     Concat,
@@ -53,7 +53,7 @@ pub enum Given {
 }
 
 /// A method with a lambda.
-#[derive(Clone, Copy, Debug, Drop, Eq, PartialEq)]
+#[derive(Clone, Copy, Drop, Eq, PartialEq)]
 pub enum Through {
     /// The items on which the lambda is true.
     Where,

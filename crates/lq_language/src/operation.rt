@@ -3,7 +3,7 @@
 /// An operator, or a member of `int?` or `string`, that evaluates all its operands (ECMA-334,
 /// arithmetic, relational, equality and logical negation operators; .NET, `Nullable<int>` and
 /// `String`). `+` is two of them: its operands' types decide which.
-#[derive(Clone, Copy, Debug, Drop, Eq, PartialEq)]
+#[derive(Clone, Copy, Drop, Eq, PartialEq)]
 pub enum Op {
     /// `!` of a truth value.
     Not,

@@ -3,7 +3,7 @@ use lq_host::PredicateNumber;
 use lq_value::{ColumnNumber, List, TableNumber, Txt};
 
 /// What a statement uses of the tables and of the host, and what a right is for.
-#[derive(Clone, Copy, Debug, Drop, Eq, Hash, PartialEq)]
+#[derive(Clone, Copy, Drop, Eq, Hash, PartialEq)]
 pub enum Use {
     /// The table with this number.
     Table(TableNumber),

@@ -8,7 +8,7 @@ use crate::letters;
 use crate::lexer::LINE_LIMIT;
 
 /// The state of a scan that has met no token.
-#[derive(Clone, Copy, Debug)]
+#[derive(Clone, Copy)]
 enum Scan {
     /// Between blanks and comments.
     Between,

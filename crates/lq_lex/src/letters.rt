@@ -6,7 +6,7 @@ ghost use Rattle.lq_grammar.specs.Words as name;
 ghost use Rattle.lq_lex.specs.Letters as spec;
 
 /// A class of characters.
-#[derive(Clone, Copy, Debug)]
+#[derive(Clone, Copy)]
 pub enum Class {
     /// What continues a name.
     Name,

@@ -41,7 +41,7 @@ pub fn int_value(digits: &[u8]) -> Option<i32>
 }
 
 /// The state of a reader of a text literal after its opening quote.
-#[derive(Clone, Copy, Debug)]
+#[derive(Clone, Copy)]
 enum Place {
     /// Between two characters.
     Plain,

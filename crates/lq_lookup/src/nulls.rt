@@ -1,7 +1,7 @@
 //! What a lookup does with null.
 
 /// Whether a lookup finds null.
-#[derive(Clone, Copy, Debug, Eq, PartialEq)]
+#[derive(Clone, Copy, Eq, PartialEq)]
 pub enum Nulls {
     /// Null has no match, as in a join.
     Skip,

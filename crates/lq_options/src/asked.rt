@@ -1,7 +1,7 @@
 //! What the words of a command line ask for.
 
 /// The options of the program, each as it is among the words.
-#[derive(Debug, Drop)]
+#[derive(Drop)]
 pub struct Options {
     /// The role whose rows are served first.
     pub role: String,

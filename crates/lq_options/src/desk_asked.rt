@@ -2,7 +2,7 @@
 use crate::asked::Options;
 
 /// The options of the desk, each as it is among the words.
-#[derive(Debug, Drop)]
+#[derive(Drop)]
 pub struct DeskOptions {
     /// The role that the desk begins with.
     pub role: String,

@@ -23,7 +23,7 @@ use command::matches_of_words;
 pub use desk_asked::DeskOptions;
 use desk_command::desk_matches;
 use std::alloc::Global;
-use values::{given_text, given_texts, text_of};
+use values::{shared_options, text_of};
 
 /// The options that `words` name; the first word is the program's name, as in `std::env::args`.
 ///
@@ -49,11 +49,13 @@ pub fn options(alloc: Global, words: &[String]) -> Result<Options, Error>
     ensures refused { FailsBy (fault_of lq_app (map string_bytes words.entry.now)) result }
 {
     let matches = matches_of_words(alloc, words)?;
-    let role = given_text(alloc, &matches, "role")?;
-    let policy = given_text(alloc, &matches, "policy")?;
     let script = text_of(alloc, &matches, "script")?;
-    let watch = text_of(alloc, &matches, "watch")?;
-    let tables = given_texts(alloc, &matches, "tables")?;
+    let DeskOptions {
+        role,
+        policy,
+        watch,
+        tables,
+    } = shared_options(alloc, &matches)?;
     Ok(Options {
         role,
         policy,
@@ -82,10 +84,5 @@ pub fn desk_options(alloc: Global, words: &[String]) -> Result<DeskOptions, Erro
     ensures refused { FailsBy (fault_of desk_app (map string_bytes words.entry.now)) result }
 {
     let matches = desk_matches(alloc, words)?;
-    Ok(DeskOptions {
-        role: given_text(alloc, &matches, "role")?,
-        policy: given_text(alloc, &matches, "policy")?,
-        watch: text_of(alloc, &matches, "watch")?,
-        tables: given_texts(alloc, &matches, "tables")?,
-    })
+    Ok(shared_options(alloc, &matches)?)
 }

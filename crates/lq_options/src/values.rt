@@ -1,8 +1,9 @@
 //! The values that the words gave to an argument, copied.
-ghost use Rattle.std.specs.Prelude.{◌≡◌, ◌≢◌, [], Some, IfOk, map, option_map};
+ghost use Rattle.std.specs.Prelude.{◌≡◌, ◌≢◌, [], Some, IfOk, codes, map, option_map};
 ghost use Rattle.std.specs.String.{string_bytes};
 ghost use Rattle.clap.specs.Words.{all_of, first_of, found_of, rows_of};
 
+use crate::desk_asked::DeskOptions;
 use clap::ArgMatches;
 use std::alloc::{AllocError, Global};
 
@@ -49,12 +50,8 @@ pub(crate) fn text_of(
     }
 }
 
-/// The first value of an argument that `clap` requires.
-pub(crate) fn given_text(
-    alloc: Global,
-    matches: &ArgMatches<'_>,
-    id: &str,
-) -> Result<String, AllocError>
+// The first value of an argument that `clap` requires.
+fn given_text(alloc: Global, matches: &ArgMatches<'_>, id: &str) -> Result<String, AllocError>
     ensures { IfOk result (λ text. first_of id.now (rows_of (found_of matches.now))
         ≡ Some (string_bytes text)) }
 {
@@ -64,12 +61,8 @@ pub(crate) fn given_text(
     }
 }
 
-/// The values of an argument that `clap` requires.
-pub(crate) fn given_texts(
-    alloc: Global,
-    matches: &ArgMatches<'_>,
-    id: &str,
-) -> Result<Vec<String>, AllocError>
+// The values of an argument that `clap` requires.
+fn given_texts(alloc: Global, matches: &ArgMatches<'_>, id: &str) -> Result<Vec<String>, AllocError>
     ensures values { IfOk result (λ texts. all_of id.now (rows_of (found_of matches.now))
         ≡ Some (map string_bytes texts.items)) }
     ensures some { IfOk result (λ texts. texts.items ≢ []) }
@@ -78,4 +71,35 @@ pub(crate) fn given_texts(
         Some([]) | None => Err(AllocError),
         Some(texts) => copies(alloc, texts),
     }
+}
+
+/// The values of the arguments that both programs have.
+pub(crate) fn shared_options(
+    alloc: Global,
+    matches: &ArgMatches<'_>,
+) -> Result<DeskOptions, AllocError>
+    ensures role { IfOk result (λ options.
+        first_of (codes "role") (rows_of (found_of matches.now))
+        ≡ Some (string_bytes options.role)) }
+    ensures policy { IfOk result (λ options.
+        first_of (codes "policy") (rows_of (found_of matches.now))
+        ≡ Some (string_bytes options.policy)) }
+    ensures watch { IfOk result (λ options.
+        first_of (codes "watch") (rows_of (found_of matches.now))
+        ≡ option_map string_bytes options.watch) }
+    ensures tables { IfOk result (λ options.
+        all_of (codes "tables") (rows_of (found_of matches.now))
+        ≡ Some (map string_bytes options.tables.items)) }
+    ensures some_table { IfOk result (λ options. options.tables.items ≢ []) }
+{
+    let role = given_text(alloc, matches, "role")?;
+    let policy = given_text(alloc, matches, "policy")?;
+    let watch = text_of(alloc, matches, "watch")?;
+    let tables = given_texts(alloc, matches, "tables")?;
+    Ok(DeskOptions {
+        role,
+        policy,
+        watch,
+        tables,
+    })
 }

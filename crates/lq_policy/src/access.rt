@@ -3,7 +3,7 @@ use lq_security::Action;
 use lq_value::TableNumber;
 
 /// A role, by its number among the roles of its policies.
-#[derive(Clone, Copy, Debug, Drop, Eq, PartialEq)]
+#[derive(Clone, Copy, Drop, Eq, PartialEq)]
 pub struct RoleId {
     pub(crate) number: usize,
 }

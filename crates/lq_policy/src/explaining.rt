@@ -7,7 +7,7 @@ use lq_value::{List, Scalar, TableNumber, Txt};
 use std::alloc::{AllocError, Global};
 
 /// What is reported of a policy that has a say in an action on a row.
-#[derive(Debug, Drop)]
+#[derive(Drop)]
 pub struct ExplainedPolicy {
     /// Its name.
     pub name: Txt,
@@ -18,7 +18,7 @@ pub struct ExplainedPolicy {
 }
 
 /// Why a role may or may not do something with a row.
-#[derive(Debug, Drop)]
+#[derive(Drop)]
 pub enum Explanation {
     /// The policies don't know the table: nobody may do anything with its rows.
     NoTable,

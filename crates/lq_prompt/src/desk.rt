@@ -19,8 +19,7 @@ use lq_policy::{Action, RoleId};
 use lq_session::Session;
 use std::alloc::{AllocError, Global};
 
-/// A session that is asked line by line, and how its replies are shown.
-#[derive(Drop)]
+/// A session that is asked line by line, and how its replies are shown. Like a session, it is ended by `forget` alone.
 pub struct Desk {
     alloc: Global,
     session: Session,
@@ -56,6 +55,17 @@ impl Desk {
             starting,
             settings: FIRST,
         }
+    }
+
+    /// Ends the desk where its program ends too: the system takes its memory back at once.
+    pub fn forget(self) {
+        let Desk {
+            alloc: _,
+            session,
+            starting: _,
+            settings: _,
+        } = self;
+        session.forget();
     }
 
     /// The name of the present role.

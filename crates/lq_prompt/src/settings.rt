@@ -1,7 +1,7 @@
 //! How a desk shows its replies.
 
 /// How a desk shows its replies.
-#[derive(Clone, Copy, Debug, Drop, Eq, PartialEq)]
+#[derive(Clone, Copy, Drop, Eq, PartialEq)]
 pub struct Settings {
     /// The most rows of a reply that are shown.
     pub most_rows: usize,

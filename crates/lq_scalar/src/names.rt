@@ -8,7 +8,7 @@ use crate::scalar_ref::ScalarRef;
 use lq_value::{ColumnType, Scalar, TableNumber};
 
 /// The type of an expression that is evaluated to a row or a scalar, or of a table (ECMA-334, types).
-#[derive(Clone, Copy, Debug, Drop, Eq, PartialEq)]
+#[derive(Clone, Copy, Drop, Eq, PartialEq)]
 pub enum ExprType {
     /// `int`
     Int,

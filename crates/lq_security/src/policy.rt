@@ -24,7 +24,7 @@ pub struct TablePart {
 }
 
 /// What a role does with a row.
-#[derive(Clone, Copy, Debug, Drop, Eq, PartialEq)]
+#[derive(Clone, Copy, Drop, Eq, PartialEq)]
 pub enum Action {
     /// It reads the row.
     Select,

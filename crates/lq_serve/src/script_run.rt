@@ -16,7 +16,7 @@ use std::io::{Read, Write};
 use std::str;
 
 /// How much was served.
-#[derive(Clone, Copy, Debug, PartialEq, Eq)]
+#[derive(Clone, Copy, PartialEq, Eq)]
 pub struct Summary {
     /// The lines that were stepped.
     pub lines: u64,

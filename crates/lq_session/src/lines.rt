@@ -1,5 +1,5 @@
 //! What a line says: its tokens, the statement that they spell, and what this opens.
-ghost use Rattle.std.specs.Prelude.{◌≡◌, Some};
+ghost use Rattle.std.specs.Prelude.{◌≡◌, Some, IfOk};
 ghost use Rattle.lq_grammar.specs.Tokens.{tokens_of};
 ghost use Rattle.lq_machine.specs.Opening.{opening_of};
 ghost use Rattle.lq_session.specs.Lines.{HasTokens, OpensWithin, SaysStatement};
@@ -10,7 +10,8 @@ use lq_lex::{LexError, tokens};
 use lq_machine::Opened;
 use lq_run::{State, Stop, refusal};
 use lq_syntax::{SyntaxError, parse_tokens};
-use std::alloc::Global;
+use lq_value::Held;
+use std::alloc::{AllocError, Global};
 
 /// The tokens of a line; refused as `syntax` where it is too long, or something in it begins no token.
 #[tactic(auto, using(crate::proofs::LineLemmas::cut_lines))]
@@ -24,18 +25,28 @@ pub(crate) fn tokens_of(alloc: Global, line: &str) -> Result<Vec<Token>, Stop>
     }
 }
 
+/// A value that may be there, in a box of its own.
+fn boxed<T: Drop>(alloc: Global, value: Option<T>) -> Result<Option<Held<T>>, AllocError>
+    ensures { IfOk result (λ holder. holder ≡ value) }
+{
+    match value {
+        Some(value) => Ok(Some(Held::new(alloc, value)?)),
+        None => Ok(None),
+    }
+}
+
 /// The statement that the tokens of a line spell; none where there are none. Refused as `syntax` where they spell no statement, and before
-/// that as `too-deep` where they are past the limits of depth.
+/// that as `too-deep` where they are past the limits of depth. It is in a box, which each path of a caller drops by one call.
 pub(crate) fn statement_of(
     alloc: Global,
     line: &str,
     tokens: &[Token],
-) -> Result<Option<Statement>, Stop>
+) -> Result<Option<Held<Statement>>, Stop>
     requires { tokens_of line.now ≡ Some tokens.now }
     ensures { SaysStatement line.now result }
 {
     match parse_tokens(alloc, line, tokens) {
-        Ok(statement) => Ok(statement),
+        Ok(statement) => Ok(boxed(alloc, statement)?),
         Err(SyntaxError::Syntax) => Err(refusal(alloc, "syntax")),
         Err(SyntaxError::TooDeep) => Err(refusal(alloc, "too-deep")),
         Err(SyntaxError::Memory) => Err(Stop::Memory),

@@ -17,7 +17,7 @@ use lq_store::StoreError;
 use lq_tree::ty;
 use lq_typing::is_bool;
 use lq_use::uses;
-use lq_value::{End, Scalar, TableNumber, Txt};
+use lq_value::{End, Held, Scalar, TableNumber, Txt};
 use std::alloc::Global;
 
 /// `Ok` exactly where no policy keeps a new row from the session's role; else stops with the denial by the rule that does.
@@ -116,13 +116,16 @@ pub(crate) fn delete<H: Asks>(
         return Err(refusal(alloc, "type"));
     };
     let tree = condition_of(alloc, condition, row, table, opened, state)?;
-    if !is_bool(ty(&tree)) {
+    // In its box, each path below drops the tree by one call.
+    let holder = Held::new(alloc, tree)?;
+    let tree = holder.get();
+    if !is_bool(ty(tree)) {
         return Err(refusal(alloc, "type"));
     }
-    let mut used = uses(alloc, &tree, state.store(), false)?;
+    let mut used = uses(alloc, tree, state.store(), false)?;
     used.insert(0, Use::Delete(table))?;
     check_rights(alloc, used.as_slice(), state)?;
-    let (numbers, end) = chosen_rows(alloc, table, &tree, state, hosts)?;
+    let (numbers, end) = chosen_rows(alloc, table, tree, state, hosts)?;
     match end {
         End::Fault(met) => Err(fault(alloc, met)),
         End::Done => {

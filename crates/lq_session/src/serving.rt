@@ -28,8 +28,8 @@ fn placed_type(alloc: Global, given: &Ty) -> Result<Option<Ty>, AllocError>
     }
 }
 
-/// The type that the statement of a line is served by, where nothing stops it before it is served. The statement is borrowed, so that
-/// no path out of here drops a part of it.
+/// The type that the statement of a line is served by, where nothing stops it before it is served. The statement is borrowed, and
+/// the tree dropped by a call, so that no path out of here drops their parts one by one.
 fn type_of_statement(
     alloc: Global,
     line: &str,
@@ -46,7 +46,9 @@ fn type_of_statement(
     };
     let opened = opening_of(alloc, line, tokens, state)?;
     let tree = tree_of(alloc, expr, opened, state)?;
-    Ok(placed_type(alloc, ty(&tree))?)
+    let answer = placed_type(alloc, ty(&tree));
+    drop(tree);
+    Ok(answer?)
 }
 
 /// The type that a line is served by, where nothing stops its statement before it is served.
@@ -55,7 +57,7 @@ fn type_of_run(alloc: Global, line: &str, state: &State) -> Result<Option<Ty>, S
 {
     let tokens = tokens_of(alloc, line)?;
     match statement_of(alloc, line, &tokens)? {
-        Some(statement) => type_of_statement(alloc, line, &tokens, &statement, state),
+        Some(statement) => type_of_statement(alloc, line, &tokens, statement.get(), state),
         None => Ok(None),
     }
 }

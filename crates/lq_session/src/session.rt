@@ -13,10 +13,11 @@ use lq_run::{State, Stop};
 use lq_store::Store;
 use lq_value::Ty;
 use std::alloc::{AllocError, Global};
+use std::mem;
 
 /// A session: the tables that its statements work on, the policies for them, the host predicates that
-/// its statements may ask, the role that it has, and what it has defined.
-#[derive(Drop)]
+/// its statements may ask, the role that it has, and what it has defined. A session is ended by
+/// `close`, or by `forget` where its program ends: leaving a block ends none, so that what takes one apart is compiled and proved once.
 pub struct Session {
     alloc: Global,
     state: State,
@@ -108,6 +109,28 @@ impl Session {
         }
     }
 
+    /// Ends the session, and gives the memory of its tables, policies, definitions and host predicates back.
+    pub fn close(self) {
+        let Session {
+            alloc: _,
+            state,
+            hosts,
+        } = self;
+        drop(state);
+        drop(hosts);
+    }
+
+    /// Ends the session where its program ends too: the system takes its memory back at once.
+    pub fn forget(self) {
+        let Session {
+            alloc: _,
+            state,
+            hosts,
+        } = self;
+        mem::forget(state);
+        mem::forget(hosts);
+    }
+
     /// The reply to a line, or why its statement stops: the line is cut into tokens, which are read as a statement; what this
     /// opens is counted, and it is performed.
     fn answer(&mut self, line: &str) -> Result<Option<Line>, Stop>
@@ -120,6 +143,7 @@ impl Session {
         };
         let opened = opening_of(self.alloc, line, &tokens, &self.state)?;
         let hosts = &self.hosts.predicates;
+        let statement = statement.into_inner();
         Ok(Some(perform(self.alloc, statement, opened, &mut self.state, hosts)?))
     }
 }

@@ -14,10 +14,12 @@ use lq_host::Asks;
 use lq_json::{Line, Reply};
 use lq_machine::Opened;
 use lq_run::{State, Stop, refusal, run_line};
+use lq_value::Held;
 use std::alloc::Global;
 
 /// Performs a statement that opens no more than it may, by what these host predicates answer, and answers its line. Where it
-/// stops before its end, the state is as it was.
+/// stops before its end, the state is as it was. An expression is dropped by a call, or handed on in a box: at the end of a block, each of
+/// its parts would be dropped there by itself.
 pub(crate) fn perform<H: Asks>(
     alloc: Global,
     statement: Statement,
@@ -33,20 +35,28 @@ pub(crate) fn perform<H: Asks>(
     ensures hosts { state.new.policies.predicates ≡ state.old.policies.predicates }
 {
     match statement {
-        Statement::Run(expr) => run_line(alloc, &expr, opened, state, hosts),
-        Statement::Define(name, expr) => define(alloc, name, expr, opened, state, hosts),
-        Statement::Assign(name, expr) => assign(alloc, name.as_str(), &expr, opened, state, hosts),
+        Statement::Run(expr) => {
+            let answer = run_line(alloc, &expr, opened, state, hosts);
+            drop(expr);
+            answer
+        }
+        Statement::Define(name, expr) => {
+            let holder = Held::new(alloc, expr)?;
+            define(alloc, name, holder, opened, state, hosts)
+        }
+        Statement::Assign(name, value) => {
+            let answer = assign(alloc, name.as_str(), &value, opened, state, hosts);
+            drop(value);
+            answer
+        }
         Statement::As(name) => take_role(alloc, name.as_str(), state),
         Statement::Insert(table, cells) => insert(alloc, table.as_str(), cells.into_vec(), state),
-        Statement::Delete(table, row, condition) => delete(
-            alloc,
-            table.as_str(),
-            &row,
-            &condition,
-            opened,
-            state,
-            hosts,
-        ),
+        Statement::Delete(table, row, condition) => {
+            let name = table.as_str();
+            let answer = delete(alloc, name, &row, &condition, opened, state, hosts);
+            drop(condition);
+            answer
+        }
     }
 }
 

@@ -17,7 +17,7 @@ use lq_json::{Line, Reply};
 use lq_machine::{Defined, Opened};
 use lq_run::{State, Stop, evaluate_scalar, refusal, tree_of};
 use lq_tree::{Tree, ty};
-use lq_value::{Txt, Ty};
+use lq_value::{Held, Txt, Ty};
 use std::alloc::Global;
 
 /// Whether a name is taken by a table, a variable or a named query.
@@ -32,8 +32,8 @@ fn is_taken(name: &str, state: &State) -> bool
 /// value that it has now where it is a scalar's; refused as `type` where it is another one. A denial or a fault stops the statement.
 fn definition_by<H: Asks>(
     alloc: Global,
-    expr: Expr,
-    tree: Tree,
+    expr: Held<Expr>,
+    tree: Held<Tree>,
     opened: Opened,
     state: &State,
     hosts: &H,
@@ -42,10 +42,12 @@ fn definition_by<H: Asks>(
     requires known { AreKnown (H.known hosts.now) state.now }
     ensures { DefinesBy (state_with (H.known hosts.now) state.now) opened expr tree result }
 {
-    match ty(&tree) {
-        Ty::Seq(_) => Ok(Defined::Query(expr, opened)),
+    let inner = tree.get();
+    match ty(inner) {
+        Ty::Seq(_) => Ok(Defined::Query(expr.into_inner(), opened)),
         Ty::Int | Ty::IntN | Ty::Bool | Ty::Str => {
-            let value = evaluate_scalar(alloc, &tree, state, hosts)?;
+            let value = evaluate_scalar(alloc, inner, state, hosts)?;
+            let tree = tree.into_inner();
             Ok(Defined::Variable(tree.ty, value))
         }
         Ty::Null | Ty::Row(_) | Ty::Rec(_) | Ty::Group(_, _) => Err(refusal(alloc, "type")),
@@ -58,7 +60,7 @@ fn definition_by<H: Asks>(
 pub(crate) fn define<H: Asks>(
     alloc: Global,
     name: Txt,
-    expr: Expr,
+    expr: Held<Expr>,
     opened: Opened,
     state: &mut State,
     hosts: &H,
@@ -73,9 +75,10 @@ pub(crate) fn define<H: Asks>(
     if is_taken(name.as_str(), state) {
         return Err(refusal(alloc, "type"));
     }
-    let tree = tree_of(alloc, &expr, opened, state)?;
-    let defined = definition_by(alloc, expr, tree, opened, state, hosts)?;
     let line = replies::reply(alloc, Reply::Defined(name.as_str()))?;
+    let tree = tree_of(alloc, expr.get(), opened, state)?;
+    let holder = Held::new(alloc, tree)?;
+    let defined = definition_by(alloc, expr, holder, opened, state, hosts)?;
     state.define(name, defined)?;
     Ok(line)
 }
@@ -112,10 +115,13 @@ pub(crate) fn assign<H: Asks>(
         return Err(refusal(alloc, "type"));
     };
     let tree = tree_of(alloc, expr, opened, state)?;
-    if !lq_typing::is_convertible(ty(&tree), place) {
+    // In its box, each path below drops the tree by one call.
+    let holder = Held::new(alloc, tree)?;
+    let tree = holder.get();
+    if !lq_typing::is_convertible(ty(tree), place) {
         return Err(refusal(alloc, "type"));
     }
-    let value = evaluate_scalar(alloc, &tree, state, hosts)?;
+    let value = evaluate_scalar(alloc, tree, state, hosts)?;
     let line = replies::reply(alloc, Reply::Assigned(name))?;
     state.assign(name, value);
     Ok(line)

@@ -68,8 +68,7 @@ fn has_rows(rt: &impl Abort, session: &Session, numbers: &[u64]) -> bool {
     has_numbers(rows_of(rt, session.store(), 0), numbers)
 }
 
-// What a session answers where the first row of its table has the last number. A function of its own, like the other one that takes a
-// session: what costs most to prove of a test is that it frees one wherever it can end.
+// What a session answers where the first row of its table has the last number.
 fn assert_takes_one_row(rt: &impl Abort, session: &mut Session) {
     let lines = [
         ("insert t (7);", "{\"inserted\":1}\n"),
@@ -86,6 +85,7 @@ fn assert_takes_one_row(rt: &impl Abort, session: &mut Session) {
 fn a_full_table_takes_no_row(rt: HostRuntime) -> Result<(), Fail> {
     let mut session = session(rt.alloc(), u64::MAX, HostSet::new(rt.alloc()))?;
     assert_takes_one_row(&rt, &mut session);
+    session.close();
     Ok(())
 }
 
@@ -116,5 +116,6 @@ fn a_line_too_long_leaves_the_session(rt: HostRuntime) -> Result<(), Fail> {
     let long = spaces(rt.alloc(), 65_537)?;
     let mut session = session(rt.alloc(), 1, HostSet::new(rt.alloc()))?;
     assert_unchanged_by(&rt, &mut session, &long);
+    session.close();
     Ok(())
 }

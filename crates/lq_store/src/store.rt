@@ -11,7 +11,7 @@ use std::marker::Model;
 const MOST_TABLES: usize = 64;
 
 /// Tables of different names, at most 64. A table's number is its place, from 0.
-#[derive(Debug, Drop)]
+#[derive(Drop)]
 pub struct Store {
     tables: Vec<Table>,
 }

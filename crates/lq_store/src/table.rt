@@ -13,7 +13,7 @@ use std::marker::Model;
 
 /// A table: its schema and its rows, each of which has a number that no other row of the
 /// table has or had. Every row has one cell a column, of its type and in its range.
-#[derive(Debug, Drop)]
+#[derive(Drop)]
 pub struct Table {
     schema: Schema,
     rows: Vec<Row>,

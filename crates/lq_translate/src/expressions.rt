@@ -313,17 +313,18 @@ fn argument_of(alloc: Global, argument: &Argument<Expr>) -> Result<Argument<Term
     }
 }
 
+/// The source waits in a box while the rest is translated, and the body comes last, so that no path drops a term in place.
 #[cycle(translating)]
 fn query_of(alloc: Global, query: &Query<Expr>) -> Result<Query<Term>, AllocError>
     ensures { IfOk result (λ translation. translation ≡ map_query translated query.now) }
 {
     let name = copied(alloc, &query.name)?;
-    let source = translate_expression(alloc, &query.source)?;
-    let body = body_of(alloc, &query.body)?;
+    let source = held(alloc, &query.source)?;
     let rest = rest_of(alloc, &query.rest)?;
+    let body = body_of(alloc, &query.body)?;
     Ok(Query {
         name,
-        source,
+        source: source.into_inner(),
         body,
         rest,
     })
@@ -384,19 +385,20 @@ fn clause_of(alloc: Global, clause: &Clause<Expr>) -> Result<Clause<Term>, Alloc
     }
 }
 
+/// Terms wait in boxes while others are translated, so that no path drops one in place.
 #[cycle(translating)]
 fn join_of(alloc: Global, join: &Join<Expr>) -> Result<Join<Term>, AllocError>
     ensures { IfOk result (λ translation. translation ≡ map_join translated join.now) }
 {
     let name = copied(alloc, &join.name)?;
-    let source = translate_expression(alloc, &join.source)?;
-    let outer_key = translate_expression(alloc, &join.outer_key)?;
-    let inner_key = translate_expression(alloc, &join.inner_key)?;
     let into = matches_name(alloc, &join.into)?;
+    let source = held(alloc, &join.source)?;
+    let outer_key = held(alloc, &join.outer_key)?;
+    let inner_key = translate_expression(alloc, &join.inner_key)?;
     Ok(Join {
         name,
-        source,
-        outer_key,
+        source: source.into_inner(),
+        outer_key: outer_key.into_inner(),
         inner_key,
         into,
     })
@@ -434,8 +436,9 @@ fn last_of(alloc: Global, last: &Last<Expr>) -> Result<Last<Term>, AllocError>
     match last {
         Last::Select(value) => Ok(Last::Select(translate_expression(alloc, value)?)),
         Last::Group(element, key) => {
-            let element = translate_expression(alloc, element)?;
-            Ok(Last::Group(element, translate_expression(alloc, key)?))
+            let element = held(alloc, element)?;
+            let key = translate_expression(alloc, key)?;
+            Ok(Last::Group(element.into_inner(), key))
         }
     }
 }

@@ -5,7 +5,6 @@ use std::alloc::{AllocError, Global};
 use std::marker::Model;
 
 /// A `Box` that contracts see as the value it holds, so that a tree of them is plain data.
-#[derive(Debug)]
 pub struct Held<T> {
     /// The box itself.
     pub inner: Box<T>,

@@ -16,7 +16,7 @@ use std::alloc::{AllocError, Global};
 use std::hash::{Hash, Hasher};
 
 /// A piece of the key of a record.
-#[derive(Debug, Drop)]
+#[derive(Drop)]
 pub enum Atom {
     /// A member that is a scalar.
     One(Scalar),
@@ -30,7 +30,7 @@ pub enum Atom {
 /// hashed and compared in one go: a scalar's content, or the scalars in a record in their order, with
 /// marks at the head and the end of each record in it. For two values of one key type, the keys are
 /// equal exactly where the values are the same.
-#[derive(Debug, Drop)]
+#[derive(Drop)]
 pub enum Key {
     /// The key of null, also of a null record.
     Null,

@@ -5,7 +5,7 @@ use std::alloc::{AllocError, Global};
 use std::marker::Model;
 
 /// A `Vec` that contracts see as the list of its items, also inside a type that reaches itself.
-#[derive(Debug, Drop)]
+#[derive(Drop)]
 pub struct List<T> {
     /// The vector itself.
     pub items: Vec<T>,

@@ -2,7 +2,7 @@
 use crate::txt::Txt;
 
 /// A scalar: null, an int, a truth value or a text. Cells of rows are scalars.
-#[derive(Debug, Drop)]
+#[derive(Drop)]
 pub enum Scalar {
     /// The value of an absent `int?` or `string`.
     Null,

@@ -4,7 +4,7 @@ use crate::scalar::Scalar;
 use crate::txt::Txt;
 
 /// The type of a column.
-#[derive(Clone, Copy, Debug, Eq, PartialEq)]
+#[derive(Clone, Copy, Eq, PartialEq)]
 pub enum ColumnType {
     /// `int`.
     Int,
@@ -17,7 +17,7 @@ pub enum ColumnType {
 }
 
 /// A column of a table.
-#[derive(Debug, Drop)]
+#[derive(Drop)]
 pub struct Column {
     /// Its name, unlike those of the table's other columns.
     pub name: Txt,
@@ -28,7 +28,7 @@ pub struct Column {
 }
 
 /// What a table is called and what its rows hold.
-#[derive(Debug, Drop)]
+#[derive(Drop)]
 pub struct Schema {
     /// The table's name.
     pub name: Txt,
@@ -37,7 +37,7 @@ pub struct Schema {
 }
 
 /// A row of a table.
-#[derive(Debug, Drop)]
+#[derive(Drop)]
 pub struct Row {
     /// Its number, from 1; no other row of the table has or had it.
     pub number: u64,

@@ -1,5 +1,5 @@
 -- Each refusal of a deletion is the machine's, in its turn; a fault removes nothing, and the rows that are removed are those that the machine chooses.
-use Rattle.std.proofs.Common.{◌≡◌, ◌∙◌, ◌∷◌, Err, List, ap, refl, rules, slice_get, sym}
+use Rattle.std.proofs.Common.{◌≡◌, ◌∙◌, ◌∷◌, Err, List, Some, ap, refl, rules, slice_get, sym}
 use Rattle.lq_language.specs.declared.rights.Use.{Use}
 use Rattle.lq_language.specs.declared.rights.Use.TheVariants as used
 use Rattle.lq_machine.specs.Statements.{deleted}
@@ -36,7 +36,8 @@ returns-then-not-is_bool-clause-performs g c =
     let s = state_with predicates c.args.state.now in
     let number = number_same s c.store.result.now c.store.ensures.value c.args.name.now c.find.result c.find.ensures.value in
     let found = table_there s c.store.result.now c.store.ensures.value c.in-Some.table c.in-Some.ensures.bound in
-    (no_condition s c.args.name.now c.args.row.now c.args.condition.now c.in-Some.table found.0 (sym number ∙ c.in-Some.is) found.1 c.in_ok-tree.tree (c.in_ok-tree.ensures predicates c.requires.known) c.is_bool.result c.ty.result.now c.ty.ensures c.is_bool.ensures c.refusal-then-not-is_bool.result c.if-not-is_bool.true c.refusal-then-not-is_bool.ensures, refl)
+    let bound = c.in_ok-tree.ensures predicates c.requires.known ∙ ap Some (sym (c.get-tree.ensures ∙ c.in_ok-holder.ensures)) in
+    (no_condition s c.args.name.now c.args.row.now c.args.condition.now c.in-Some.table found.0 (sym number ∙ c.in-Some.is) found.1 c.get-tree.result.now bound c.is_bool.result c.ty.result.now c.ty.ensures c.is_bool.ensures c.refusal-then-not-is_bool.result c.if-not-is_bool.true c.refusal-then-not-is_bool.ensures, refl)
 
 pub returns-in_err-check_rights-clause-performs : goal.returns-in_err-check_rights-clause-performs
 returns-in_err-check_rights-clause-performs g c =
@@ -44,10 +45,11 @@ returns-in_err-check_rights-clause-performs g c =
     let s = state_with predicates c.args.state.now in
     let number = number_same s c.store.result.now c.store.ensures.value c.args.name.now c.find.result c.find.ensures.value in
     let found = table_there s c.store.result.now c.store.ensures.value c.in-Some.table c.in-Some.ensures.bound in
+    let bound = c.in_ok-tree.ensures predicates c.requires.known ∙ ap Some (sym (c.get-tree.ensures ∙ c.in_ok-holder.ensures)) in
     let uses = c.as_slice.ensures.value ∙ c.in_ok-insert.ensures.items ∙ ap (λ (us : List Use). used.Delete c.in-Some.table ∷ us) c.in_ok-used.ensures in
     let same : c.from_residual-in_err-check_rights.result ≡ Err c.in_err-check_rights.field-0.0 = search rules in
     rw same (
-      unallowed s c.args.name.now c.args.row.now c.args.condition.now c.in-Some.table found.0 (sym number ∙ c.in-Some.is) found.1 c.in_ok-tree.tree (c.in_ok-tree.ensures predicates c.requires.known) c.is_bool.result c.ty.result.now c.ty.ensures c.is_bool.ensures c.if-not-is_bool.false (defined_with predicates c.args.state.now c.requires.known c.store-2.ensures.defined) c.as_slice.result.now uses c.in_err-check_rights.field-0.0 (c.in_err-check_rights.ensures predicates c.requires.known),
+      unallowed s c.args.name.now c.args.row.now c.args.condition.now c.in-Some.table found.0 (sym number ∙ c.in-Some.is) found.1 c.get-tree.result.now bound c.is_bool.result c.ty.result.now c.ty.ensures c.is_bool.ensures c.if-not-is_bool.false (defined_with predicates c.args.state.now c.requires.known c.store-2.ensures.defined) c.as_slice.result.now uses c.in_err-check_rights.field-0.0 (c.in_err-check_rights.ensures predicates c.requires.known),
       refl,
     )
 
@@ -57,9 +59,10 @@ returns-in-Fault-clause-performs g c =
     let s = state_with predicates c.args.state.now in
     let number = number_same s c.store.result.now c.store.ensures.value c.args.name.now c.find.result c.find.ensures.value in
     let found = table_there s c.store.result.now c.store.ensures.value c.in-Some.table c.in-Some.ensures.bound in
+    let bound = c.in_ok-tree.ensures predicates c.requires.known ∙ ap Some (sym (c.get-tree.ensures ∙ c.in_ok-holder.ensures)) in
     let uses = c.as_slice.ensures.value ∙ c.in_ok-insert.ensures.items ∙ ap (λ (us : List Use). used.Delete c.in-Some.table ∷ us) c.in_ok-used.ensures in
-    let chose = c.in_ok-numbers.ensures c.args.row.now c.args.condition.now found.0 found.1 (c.in_ok-tree.ensures predicates c.requires.known) in (
-      faults s c.args.name.now c.args.row.now c.args.condition.now c.in-Some.table found.0 (sym number ∙ c.in-Some.is) found.1 c.in_ok-tree.tree (c.in_ok-tree.ensures predicates c.requires.known) c.is_bool.result c.ty.result.now c.ty.ensures c.is_bool.ensures c.if-not-is_bool.false (defined_with predicates c.args.state.now c.requires.known c.store-2.ensures.defined) c.as_slice.result.now uses (c.in_ok-check_rights.ensures predicates c.requires.known) c.in-Fault.met c.fault.result (sym chose.1 ∙ c.in-Fault.is) c.fault.ensures,
+    let chose = c.in_ok-numbers.ensures c.args.row.now c.args.condition.now found.0 found.1 bound in (
+      faults s c.args.name.now c.args.row.now c.args.condition.now c.in-Some.table found.0 (sym number ∙ c.in-Some.is) found.1 c.get-tree.result.now bound c.is_bool.result c.ty.result.now c.ty.ensures c.is_bool.ensures c.if-not-is_bool.false (defined_with predicates c.args.state.now c.requires.known c.store-2.ensures.defined) c.as_slice.result.now uses (c.in_ok-check_rights.ensures predicates c.requires.known) c.in-Fault.met c.fault.result (sym chose.1 ∙ c.in-Fault.is) c.fault.ensures,
       refl,
     )
 
@@ -69,9 +72,10 @@ returns-clause-performs g c =
     let s = state_with predicates c.args.state.now in
     let number = number_same s c.store.result.now c.store.ensures.value c.args.name.now c.find.result c.find.ensures.value in
     let found = table_there s c.store.result.now c.store.ensures.value c.in-Some.table c.in-Some.ensures.bound in
+    let bound = c.in_ok-tree.ensures predicates c.requires.known ∙ ap Some (sym (c.get-tree.ensures ∙ c.in_ok-holder.ensures)) in
     let uses = c.as_slice.ensures.value ∙ c.in_ok-insert.ensures.items ∙ ap (λ (us : List Use). used.Delete c.in-Some.table ∷ us) c.in_ok-used.ensures in
-    let chose = c.in_ok-numbers.ensures c.args.row.now c.args.condition.now found.0 found.1 (c.in_ok-tree.ensures predicates c.requires.known) in
-    removed s c.args.name.now c.args.row.now c.args.condition.now c.in-Some.table found.0 (sym number ∙ c.in-Some.is) found.1 c.in_ok-tree.tree (c.in_ok-tree.ensures predicates c.requires.known) c.is_bool.result c.ty.result.now c.ty.ensures c.is_bool.ensures c.if-not-is_bool.false (defined_with predicates c.args.state.now c.requires.known c.store-2.ensures.defined) c.as_slice.result.now uses (c.in_ok-check_rights.ensures predicates c.requires.known) c.in_ok-line-in-Done.line c.deref.result.now c.len.result c.delete_rows.result
+    let chose = c.in_ok-numbers.ensures c.args.row.now c.args.condition.now found.0 found.1 bound in
+    removed s c.args.name.now c.args.row.now c.args.condition.now c.in-Some.table found.0 (sym number ∙ c.in-Some.is) found.1 c.get-tree.result.now bound c.is_bool.result c.ty.result.now c.ty.ensures c.is_bool.ensures c.if-not-is_bool.false (defined_with predicates c.args.state.now c.requires.known c.store-2.ensures.defined) c.as_slice.result.now uses (c.in_ok-check_rights.ensures predicates c.requires.known) c.in_ok-line-in-Done.line c.deref.result.now c.len.result c.delete_rows.result
     (state_with predicates c.delete_rows.new.self) (sym chose.1 ∙ c.in-Done.is) (c.deref.ensures.value ∙ chose.0) (c.len.ensures ∙ sym c.deref.ensures.len)
     c.in_ok-line-in-Done.ensures
     (removed_with predicates c.args.state.now c.delete_rows.new.self c.in-Some.table c.delete_rows.result c.deref.result.now

@@ -1,9 +1,8 @@
--- An expression is served by the type of its tree, and by none where its statement stops before.
+-- A line without a statement serves nothing, and the type of a `run` is that of its statement.
 use Rattle.std.proofs.Common.{◌≡◌, Err, rules}
-use Rattle.lq_grammar.specs.Reading.{Nothing, Says, reading_of}
-use Rattle.lq_grammar.specs.declared.syntax.Statement.TheVariants as statement
+use Rattle.lq_grammar.specs.Reading.{Nothing, reading_of}
 use Rattle.lq_run.specs.States.{state_with}
-use Rattle.lq_session.proofs.ServingLemmas.{past, says_nothing, served_of, serves_none, serves_only_runs, unread, unserved}
+use Rattle.lq_session.proofs.ServingLemmas.{says_nothing, unread}
 use Rattle.lq_session.proofs.serving.type_of_run.Goals as goal
 
 pub returns-in_err-tokens : goal.returns-in_err-tokens

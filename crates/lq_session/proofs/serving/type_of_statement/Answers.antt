@@ -1,9 +1,9 @@
 -- An expression is served by the type of its tree, and by none where its statement stops before.
 use Rattle.std.proofs.Common.{◌≡◌, Err, rules}
-use Rattle.lq_grammar.specs.Reading.{Nothing, Says, reading_of}
+use Rattle.lq_grammar.specs.Reading.{Says, reading_of}
 use Rattle.lq_grammar.specs.declared.syntax.Statement.TheVariants as statement
 use Rattle.lq_run.specs.States.{state_with}
-use Rattle.lq_session.proofs.ServingLemmas.{past, says_nothing, served_of, serves_none, serves_only_runs, unread, unserved}
+use Rattle.lq_session.proofs.ServingLemmas.{past, served_of, serves_none, serves_only_runs, unserved}
 use Rattle.lq_session.proofs.serving.type_of_statement.Goals as goal
 
 pub returns-in_default : goal.returns-in_default
@@ -28,4 +28,4 @@ pub returns : goal.returns
 returns c = λ predicates known.
     let read : reading_of c.args.line.now ≡ Says (statement.Run c.in-Run.expr) = search rules in
     served_of (state_with predicates c.args.state.now) c.args.line.now c.in-Run.expr read c.in_ok-opened.opened c.in_ok-opened.ensures c.in_ok-tree.tree c.ty.result.now
-    c.in_ok-placed_type.field-0 (c.in_ok-tree.ensures predicates known) c.ty.ensures c.in_ok-placed_type.ensures
+    c.in_ok-answer.field-0 (c.in_ok-tree.ensures predicates known) c.ty.ensures c.in_ok-answer.ensures

@@ -1,5 +1,5 @@
 -- Each refusal of an assignment is the machine's, in its turn, and the variable has its value where there is none.
-use Rattle.std.proofs.Common.{◌≡◌, ◌∙◌, Err, ap, refl, rules, sym}
+use Rattle.std.proofs.Common.{◌≡◌, ◌∙◌, Err, Some, ap, refl, rules, sym}
 use Rattle.lq_language.specs.Typing.{converts}
 use Rattle.lq_run.specs.States.{state_with}
 use Rattle.lq_session.proofs.VariableLemmas.{assigns_scalar, assigns_value, no_value, other_value, unassigned, untyped_value, value_for, variable_found}
@@ -25,8 +25,8 @@ pub returns-then-not-is_convertible-clause-performs : goal.returns-then-not-is_c
 returns-then-not-is_convertible-clause-performs g c =
     let predicates = g.H.Asks.known c.args.hosts.now in
     let s = state_with predicates c.args.state.now in
-    let bound = c.in_ok-tree.ensures predicates c.requires.known in (
-      other_value s c.args.name.now c.args.expr.now c.in-Some.place.now (sym c.in-Some.ensures.value) c.in_ok-tree.tree bound
+    let bound = c.in_ok-tree.ensures predicates c.requires.known ∙ ap Some (sym (c.get-tree.ensures ∙ c.in_ok-holder.ensures)) in (
+      other_value s c.args.name.now c.args.expr.now c.in-Some.place.now (sym c.in-Some.ensures.value) c.get-tree.result.now bound
           c.refusal-then-not-is_convertible.result ((λ i. converts (sym c.ty.ensures i) c.in-Some.place.now) ∙ sym c.is_convertible.ensures ∙ c.if-not-is_convertible.true)
           c.refusal-then-not-is_convertible.ensures,
       refl,
@@ -36,18 +36,18 @@ pub evaluate_scalar-requires-clause-scalar : goal.evaluate_scalar-requires-claus
 evaluate_scalar-requires-clause-scalar g c =
     let predicates = g.H.Asks.known c.args.hosts.now in
     let s = state_with predicates c.args.state.now in
-    let bound = c.in_ok-tree.ensures predicates c.requires.known in
-    assigns_scalar s c.args.name.now c.args.expr.now c.in-Some.place.now (sym c.in-Some.ensures.value) c.in_ok-tree.tree bound
+    let bound = c.in_ok-tree.ensures predicates c.requires.known ∙ ap Some (sym (c.get-tree.ensures ∙ c.in_ok-holder.ensures)) in
+    assigns_scalar s c.args.name.now c.args.expr.now c.in-Some.place.now (sym c.in-Some.ensures.value) c.get-tree.result.now bound
     ((λ i. converts (sym c.ty.ensures i) c.in-Some.place.now) ∙ sym c.is_convertible.ensures ∙ c.if-not-is_convertible.false) c.in-Some.ensures.scalar
 
 pub returns-in_err-value-clause-performs : goal.returns-in_err-value-clause-performs
 returns-in_err-value-clause-performs g c =
     let predicates = g.H.Asks.known c.args.hosts.now in
     let s = state_with predicates c.args.state.now in
-    let bound = c.in_ok-tree.ensures predicates c.requires.known in
+    let bound = c.in_ok-tree.ensures predicates c.requires.known ∙ ap Some (sym (c.get-tree.ensures ∙ c.in_ok-holder.ensures)) in
     let same : c.from_residual-in_err-value.result ≡ Err c.in_err-value.field-0.0 = search rules in
     rw same (
-      no_value s c.args.name.now c.args.expr.now c.in-Some.place.now (sym c.in-Some.ensures.value) c.in_ok-tree.tree bound
+      no_value s c.args.name.now c.args.expr.now c.in-Some.place.now (sym c.in-Some.ensures.value) c.get-tree.result.now bound
           ((λ i. converts (sym c.ty.ensures i) c.in-Some.place.now) ∙ sym c.is_convertible.ensures ∙ c.if-not-is_convertible.false) c.in_err-value.field-0.0
           c.in_err-value.ensures,
       refl,
@@ -57,8 +57,8 @@ pub assign-requires : goal.assign-requires
 assign-requires g c =
     let predicates = g.H.Asks.known c.args.hosts.now in
     let s = state_with predicates c.args.state.now in
-    let bound = c.in_ok-tree.ensures predicates c.requires.known in
-    value_for s c.args.name.now c.args.expr.now c.in-Some.place.now (sym c.in-Some.ensures.value) c.in_ok-tree.tree bound
+    let bound = c.in_ok-tree.ensures predicates c.requires.known ∙ ap Some (sym (c.get-tree.ensures ∙ c.in_ok-holder.ensures)) in
+    value_for s c.args.name.now c.args.expr.now c.in-Some.place.now (sym c.in-Some.ensures.value) c.get-tree.result.now bound
     ((λ i. converts (sym c.ty.ensures i) c.in-Some.place.now) ∙ sym c.is_convertible.ensures ∙ c.if-not-is_convertible.false) c.in-Some.ensures.scalar c.in_ok-value.value
     c.in_ok-value.ensures
 
@@ -66,9 +66,9 @@ pub returns-clause-performs : goal.returns-clause-performs
 returns-clause-performs g c =
     let predicates = g.H.Asks.known c.args.hosts.now in
     let s = state_with predicates c.args.state.now in
-    let bound = c.in_ok-tree.ensures predicates c.requires.known in
+    let bound = c.in_ok-tree.ensures predicates c.requires.known ∙ ap Some (sym (c.get-tree.ensures ∙ c.in_ok-holder.ensures)) in
     let before = variable_found s c.args.name.now c.in-Some.place.now (sym c.in-Some.ensures.value) in
-    assigns_value s c.args.name.now c.args.expr.now c.in-Some.place.now (sym c.in-Some.ensures.value) c.in_ok-tree.tree bound
+    assigns_value s c.args.name.now c.args.expr.now c.in-Some.place.now (sym c.in-Some.ensures.value) c.get-tree.result.now bound
     ((λ i. converts (sym c.ty.ensures i) c.in-Some.place.now) ∙ sym c.is_convertible.ensures ∙ c.if-not-is_convertible.false) c.in-Some.ensures.scalar c.in_ok-value.value
     c.in_ok-value.ensures c.in_ok-line.line (state_with predicates c.assign.new.self) c.in_ok-line.ensures
     (ap (state_with predicates) (c.assign.ensures c.in-Some.place.now before.0 before.1))

@@ -1,12 +1,14 @@
 -- A name that is taken is refused, and so is an expression without a type; any other is defined as the machine defines it.
-use Rattle.std.proofs.Common.{◌≡◌, ◌∙◌, Err, List, ap, refl, rules, subst, sym, ℕ}
+use Rattle.std.proofs.Common.{◌≡◌, ◌∙◌, Err, List, Some, ap, refl, rules, subst, sym, ℕ}
 use Rattle.lq_language.specs.declared.host_name.HostName.{HostName}
 use Rattle.lq_machine.specs.DefinitionLaws.{IsDefined, IsNew}
 use Rattle.lq_machine.specs.Definitions.{known_names}
 use Rattle.lq_machine.specs.Served.{defined_data, line_of}
 use Rattle.lq_machine.specs.States.{schemas_of}
 use Rattle.lq_machine.specs.Statements.{is_taken}
+use Rattle.lq_grammar.specs.declared.syntax.Expr.{Expr}
 use Rattle.lq_run.specs.States.{state_with}
+use Rattle.lq_run.specs.Statements.{FindsTree, tree_in}
 use Rattle.lq_session.proofs.VariableLemmas.{defines, is_new, taken, undefined, untyped}
 use Rattle.lq_session.proofs.variables.define.Goals as goal
 
@@ -21,21 +23,28 @@ returns-in_err-tree-clause-performs g c =
     let predicates = g.H.Asks.known c.args.hosts.now in
     let s = state_with predicates c.args.state.now in
     let free = sym (c.is_taken.ensures ∙ ap (is_taken s) c.as_str.ensures) ∙ c.if-is_taken.false in
-    let same : c.from_residual.result ≡ Err c.in_err-tree.field-0.0 = search rules in
-    rw same (untyped s c.args.name c.args.opened c.args.expr free c.in_err-tree.field-0.0 (c.in_err-tree.ensures predicates c.requires.known), refl)
+    let same : c.from_residual-in_err-tree.result ≡ Err c.in_err-tree.field-0.0 = search rules in
+    rw same (
+      untyped s c.args.name c.args.opened c.args.expr free c.in_err-tree.field-0.0
+          (subst (λ (e : Expr). FindsTree (tree_in s e) (Err c.in_err-tree.field-0.0)) c.get.ensures (c.in_err-tree.ensures predicates c.requires.known)),
+      refl,
+    )
 
 pub definition_by-requires-clause-bound : goal.definition_by-requires-clause-bound
-definition_by-requires-clause-bound g c = c.in_ok-tree.ensures (g.H.Asks.known c.args.hosts.now) c.requires.known
+definition_by-requires-clause-bound g c =
+    let predicates = g.H.Asks.known c.args.hosts.now in
+    ap (tree_in (state_with predicates c.args.state.now)) (sym c.get.ensures) ∙ c.in_ok-tree.ensures predicates c.requires.known
+    ∙ ap Some (sym c.in_ok-holder.ensures)
 
 pub returns-in_err-defined-clause-performs : goal.returns-in_err-defined-clause-performs
 returns-in_err-defined-clause-performs g c =
     let predicates = g.H.Asks.known c.args.hosts.now in
     let s = state_with predicates c.args.state.now in
     let free = sym (c.is_taken.ensures ∙ ap (is_taken s) c.as_str.ensures) ∙ c.if-is_taken.false in
+    let bound = ap (tree_in s) (sym c.get.ensures) ∙ c.in_ok-tree.ensures predicates c.requires.known ∙ ap Some (sym c.in_ok-holder.ensures) in
     let same : c.from_residual-in_err-defined.result ≡ Err c.in_err-defined.field-0.0 = search rules in
     rw same (
-      undefined s c.args.name c.args.opened c.args.expr free c.in_ok-tree.tree (c.in_ok-tree.ensures predicates c.requires.known) c.in_err-defined.field-0.0
-          c.in_err-defined.ensures,
+      undefined s c.args.name c.args.opened c.args.expr free c.in_ok-holder.holder bound c.in_err-defined.field-0.0 c.in_err-defined.ensures,
       refl,
     )
 
@@ -60,7 +69,8 @@ returns-clause-performs g c =
     let predicates = g.H.Asks.known c.args.hosts.now in
     let s = state_with predicates c.args.state.now in
     let free = sym (c.is_taken.ensures ∙ ap (is_taken s) c.as_str.ensures) ∙ c.if-is_taken.false in
-    defines s c.args.name c.args.opened c.args.expr free c.in_ok-tree.tree (c.in_ok-tree.ensures predicates c.requires.known) c.in_ok-line.line
+    let bound = ap (tree_in s) (sym c.get.ensures) ∙ c.in_ok-tree.ensures predicates c.requires.known ∙ ap Some (sym c.in_ok-holder.ensures) in
+    defines s c.args.name c.args.opened c.args.expr free c.in_ok-holder.holder bound c.in_ok-line.line
     (state_with predicates c.define.new.self) c.in_ok-defined.defined c.in_ok-defined.ensures
     (c.in_ok-line.ensures ∙ ap (λ (n : List ℕ). line_of (defined_data n)) c.as_str-2.ensures) (ap (state_with predicates) c.in_ok-define.ensures.ok)
 

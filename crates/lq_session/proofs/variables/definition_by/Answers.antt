@@ -1,19 +1,40 @@
--- A sequence is defined by its expression; what stops the evaluation of a scalar stops the definition.
-use Rattle.std.proofs.Common.{◌≡◌, ◌∙◌, Err, rules, sym, true}
-use Rattle.lq_value.specs.declared.ty.Ty.{out-Ty}
+-- A sequence is defined by its expression, and a scalar by its value; what stops the evaluation of a scalar stops the definition.
+use Rattle.std.proofs.Common.{◌≡◌, ◌∙◌, Err, Ok, ap, rules, subst, sym, true}
+use Rattle.lq_value.specs.declared.ty.Ty.{Ty, out-Ty}
 use Rattle.lq_language.specs.OperandTypes.{is_scalar}
+use Rattle.lq_grammar.specs.declared.syntax.Expr.{Expr}
+use Rattle.lq_machine.specs.declared.session.Defined.TheVariants as of
+use Rattle.lq_tree.specs.declared.tree.Tree.{Tree}
 use Rattle.lq_run.specs.States.{state_with}
-use Rattle.lq_session.proofs.VariableLemmas.{defines_query, unevaluated}
+use Rattle.lq_run.specs.Statements.{EvaluatesTree}
+use Rattle.lq_session.specs.Variables.{DefinesBy}
+use Rattle.lq_session.proofs.VariableLemmas.{defines_query, defines_variable, unevaluated}
 use Rattle.lq_session.proofs.variables.definition_by.Goals as goal
 
 pub returns-in-Seq : goal.returns-in-Seq
 returns-in-Seq g c =
-    defines_query (state_with (g.H.Asks.known c.args.hosts.now) c.args.state.now) c.args.opened c.args.expr c.args.tree c.requires.bound c.in-Seq.field-0
-    (sym c.ty.ensures ∙ c.in-Seq.is)
+    let s = state_with (g.H.Asks.known c.args.hosts.now) c.args.state.now in
+    let typed = sym (c.ty.ensures ∙ ap (λ (t : Tree). t.ty) c.get-inner.ensures) ∙ c.in-Seq.is in
+    subst (λ (e : Expr). DefinesBy s c.args.opened c.args.expr c.args.tree (Ok (of.Query e c.args.opened))) (sym c.into_inner.ensures)
+    (defines_query s c.args.opened c.args.expr c.args.tree c.requires.bound c.in-Seq.field-0 typed)
 
 pub returns-in_err-value-in-Int : goal.returns-in_err-value-in-Int
 returns-in_err-value-in-Int g c =
     let s = state_with (g.H.Asks.known c.args.hosts.now) c.args.state.now in
-    let scalar : is_scalar (out-Ty c.args.tree.ty) ≡ true = search rules in
+    let typed = c.ty.ensures ∙ ap (λ (t : Tree). t.ty) c.get-inner.ensures in
+    let there : is_scalar (out-Ty c.ty.result.now) ≡ true = search rules in
+    let scalar = ap (λ (t : Ty). is_scalar (out-Ty t)) (sym typed) ∙ there in
     let same : c.from_residual.result ≡ Err c.in_err-value-in-Int.field-0.0 = search rules in
-    rw same (unevaluated s c.args.opened c.args.expr c.args.tree c.requires.bound scalar c.in_err-value-in-Int.field-0.0 c.in_err-value-in-Int.ensures)
+    let stops = subst (λ (t : Tree). EvaluatesTree s t (Err c.in_err-value-in-Int.field-0.0)) c.get-inner.ensures c.in_err-value-in-Int.ensures in
+    rw same (unevaluated s c.args.opened c.args.expr c.args.tree c.requires.bound scalar c.in_err-value-in-Int.field-0.0 stops)
+
+pub returns-in_ok-value-in-Int : goal.returns-in_ok-value-in-Int
+returns-in_ok-value-in-Int g c =
+    let s = state_with (g.H.Asks.known c.args.hosts.now) c.args.state.now in
+    let typed = c.ty.ensures ∙ ap (λ (t : Tree). t.ty) c.get-inner.ensures in
+    let there : is_scalar (out-Ty c.ty.result.now) ≡ true = search rules in
+    let scalar = ap (λ (t : Ty). is_scalar (out-Ty t)) (sym typed) ∙ there in
+    let value = c.in_ok-value-in-Int.value in
+    let yields = subst (λ (t : Tree). EvaluatesTree s t (Ok value)) c.get-inner.ensures c.in_ok-value-in-Int.ensures in
+    subst (λ (t : Tree). DefinesBy s c.args.opened c.args.expr c.args.tree (Ok (of.Variable t.ty value))) (sym c.into_inner-tree.ensures)
+    (defines_variable s c.args.opened c.args.expr c.args.tree c.requires.bound scalar value yields)
