@@ -12,10 +12,10 @@ use lq_predicates::{
 };
 use lq_serve::{Device, finish, load, refuse};
 use lq_session::Session;
+use std::env;
 use std::fs::File;
 use std::io::Read;
 use std::process::ExitCode;
-use std::env;
 
 /// Serves the script from where the options say it is.
 fn serve_script(rt: &HostRuntime, script: Option<&str>, session: &mut Session) -> u8 {

@@ -14,8 +14,8 @@ use lq_predicates::{
 };
 use lq_prompt::Desk;
 use lq_serve::{Device, load, refuse};
-use std::process::ExitCode;
 use std::env;
+use std::process::ExitCode;
 use terminal::converse_at_terminal;
 
 /// Makes the host predicates, loads the tables and the policies, and answers lines. The desk isn't taken apart after that: the program
