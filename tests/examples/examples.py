@@ -19,7 +19,8 @@ NOT_RUN = {
 }
 # Forms, with names in place of words.
 FORMS = {
-    "./lq --role R --policy P [--script S] [--watch LIST] T.csv ..\n", "lq --role R --policy P [--script S] [--watch LIST] T.csv ..\n",
+    "./lq --role R --policy P [--script S] [--watch LIST] [--audit] T.csv ..\n",
+    "lq --role R --policy P [--script S] [--watch LIST] [--audit] T.csv ..\n",
     "run E;", "var N = E;", "N = E;",
     "as R;", "insert T (c, ..);", "delete T x => p;",
 }

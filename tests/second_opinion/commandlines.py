@@ -18,7 +18,7 @@ NO_COMMANDS = [
     ["--role", "reader", "--policy", "p.toml", "t.csv", "--watch"], ["--role", "reader", "--policy", "p.toml", "--watch", "-1", "t.csv"],
     ["--role", "reader", "--policy", "p.toml", "--watch", "1", "--watch=1", "t.csv"], ["--watch", "1"], ["--watch", "x", "t.csv"],
     ["--role", "reader", "--policy", "p.toml", "--watch", "1,,2"], ["--role", "reader", "--policy", "p.toml", "--watches", "1", "t.csv"],
-    ["--role", "reader", "--policy", "p.toml", "--audit", "t.csv"],
+    ["--role", "reader", "--policy", "p.toml", "--audit=1", "t.csv"], ["--audit", "--role", "reader", "--policy", "p.toml", "--audit", "t.csv"],
     ["--nope", "--help"], ["--role", "reader", "--role", "reader", "--help"], ["--help=1"],
     ["--role", "reader", "--policy", "p.toml", "---", "t.csv"],
     ["--", "--role", "reader", "--policy", "p.toml", "t.csv"], ["--=t.csv"], ["bad.csv"], ["none.csv", "--role", "zed"],
@@ -38,6 +38,7 @@ HELP = [
 CALLS = [
     ["--role", "reader", "--policy", "p.toml", "t.csv"], ["--role=reader", "--policy=p.toml", "t.csv"],
     ["t.csv", "--policy", "p.toml", "--role", "reader"],
+    ["--role", "reader", "--policy", "p.toml", "--audit", "t.csv"], ["--audit", "t.csv", "--policy", "p.toml", "--role", "reader"],
     ["--policy", "p.toml", "t.csv", "--role=reader", "u.csv"],
     ["--role", "reader", "--policy", "p.toml", "--", "t.csv", "u.csv"],
     ["t.csv", "--role", "reader", "--policy", "p.toml", "--", "u.csv"], ["--role=", "--policy", "p.toml", "t.csv"],

@@ -3,6 +3,7 @@
 from dataclasses import dataclass, field
 
 OPTIONS = ("--role", "--policy", "--script", "--watch")
+FLAGS = ("--audit",)
 REQUIRED = ("--role", "--policy")
 
 
@@ -16,9 +17,10 @@ class HelpWanted(Exception):
 
 @dataclass
 class Options:
-    """The value of each option by its name, and the tables' words in order."""
+    """The value of each option by its name, the flags, and the tables' words in order."""
 
     values: dict = field(default_factory=dict)
+    flags: set = field(default_factory=set)
     tables: list = field(default_factory=list)
 
 
@@ -27,11 +29,21 @@ def is_value(word):
     return not word.startswith("-") or word == "-"
 
 
+def take_flag(options, word):
+    """A flag has no value."""
+    if word in options.flags:
+        raise UsageFault(f"{word} is given twice")
+    options.flags.add(word)
+
+
 def take_option(options, word, rest):
     """Reads an option, and of the words after it its value, where that doesn't follow a `=`."""
     name, equals, value = word.partition("=")
     if word in ("--help", "-h"):
         raise HelpWanted
+    if word in FLAGS:
+        take_flag(options, word)
+        return
     if name not in OPTIONS:
         raise UsageFault(f"no option {word}")
     if not equals:

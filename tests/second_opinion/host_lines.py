@@ -28,7 +28,8 @@ OTHERS = {"id": "int", "n": "int", "boss": "int?", "s": "string", "b": "bool"}
 LISTS = ["1", "2,3", "0,1,2000", "-1,4,9999", "2147483647,-2147483648,1", "1996,2000,1,2,3"]
 
 ONE, TWO, LISTED = "LeapYear", "Under", "Watched"
-# In a form T and U are tables, x and b are rows of T and y is one of U; ASKx is a predicate asked of x, and so on, COLx a column of x.
+# In a form T and U are tables, x and b are rows of T and y is one of U; ASKx is a predicate asked of x, and so on, COLx a column of x, and
+# MAYx an int of x that faults on some rows.
 FORMS = """
     from x in T where ASKx select x . COLx
     from x in T where ASKx && ASKx select x
@@ -205,13 +206,13 @@ def asked(dice, scope):
     return asked_of_one(dice, scope, row) if row else None
 
 
-def form(dice, scope):
-    """One of the forms, with calls in the places of its words."""
+def form(dice, scope, forms=FORMS):
+    """One of these forms, with calls in the places of its words."""
     names = dict(zip("TU", dice.choices(list(scope.tables), k=2)))
     rows = {word: row_of(name, scope.tables[name]) for word, name in names.items()}
     types = {"x": rows["T"], "b": rows["T"], "z.r": rows["T"], "y": rows["U"]}
     words = []
-    for word in dice.choice(FORMS).split():
+    for word in dice.choice(forms).split():
         if word == "ASK_ONE":
             found = row_of_table(dice, scope)
             words += asked_of_one(dice, scope, found).words if found else ["true"]
@@ -219,9 +220,20 @@ def form(dice, scope):
             words += asked_by_name(dice, scope, word[3:], types[word[3:]]).words
         elif word.startswith("COL"):
             words.append(column_for(dice, types[word[3:]], "number"))
+        elif word.startswith("MAY"):
+            words += faulting(dice, word[3:], types[word[3:]])
         else:
             words.append(names.get(word, word))
     return words
+
+
+def faulting(dice, name, its_type):
+    """An int of a row, which faults where a column is null; where no column may be, where one is a small number."""
+    members = {"int?": "Value", "string": "Length"}
+    nullable = [[name, ".", column, ".", members[kind]] for column, kind in its_type.members if kind in members]
+    if nullable and dice.random() < 0.6:
+        return dice.choice(nullable)
+    return ["10", "/", "(", name, ".", column_for(dice, its_type, "number"), "-", dice.choice("123"), ")"]
 
 
 def asked_by_name(dice, scope, name, its_type):

@@ -6,6 +6,7 @@ over, and raises the Fault that it ends in. So what isn't asked for is never eva
 
 from dataclasses import dataclass
 
+from calls import MADE, spelled
 from predicates import ask
 from scalar_meaning import LITERALS, Fault, checked, concatenated, member, operate, search
 from scopes import Group, Sequence
@@ -66,8 +67,13 @@ def text_search(node, names):
 
 def asked(node, names):
     """A host predicate. A null row faults as its columns do, before any number is looked at."""
-    _, predicate, columns = node.parts
-    return ask(predicate, [value_of(column, names) for column in columns])
+    name, predicate, columns = node.parts
+    owner = columns[0].parts[0]
+    row = value_of(owner, names)
+    asked_of = {column.parts[1]: member(row, column.parts[1], owner.type) for column in columns}
+    answer = ask(predicate, [asked_of[column.parts[1]] for column in columns])
+    MADE.append(spelled(name, owner.type.table, row, columns, answer))
+    return answer
 
 
 def operation(node, names):

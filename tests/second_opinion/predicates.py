@@ -52,6 +52,12 @@ def predicates_of(watched=None):
 WITHOUT_LIST = predicates_of()
 
 
+def answer_within(predicate, numbers):
+    """What a predicate answers; None where one of the numbers lies outside of its range."""
+    is_within = all(least <= number <= largest for number, (least, largest) in zip(numbers, predicate.ranges, strict=True))
+    return bool(predicate.accepts(*numbers)) if is_within else None
+
+
 def ask(predicate, numbers):
     """What a predicate answers. It isn't asked at all where one of the numbers lies outside of its range."""
     for number, (least, largest) in zip(numbers, predicate.ranges, strict=True):

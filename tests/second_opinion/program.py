@@ -1,13 +1,15 @@
 """The whole program by this reading: words and a script give standard output, standard error and a status.
 
 It can be used in the place of `lq`, slowly: `python3 -B tests/second_opinion/program.py --role R --policy P T.csv .. <SCRIPT`.
-Like `lq` it takes `--script S` and `--watch LIST`.
+Like `lq` it takes `--script S` and `--watch LIST`, and also `--audit`, for which it prints the calls that this reading makes: of those
+that a statement may make, `lq` may make others.
 """
 
 import os
 import sys
 from dataclasses import dataclass
 
+from calls import MADE
 from commands import HelpWanted, UsageFault, options_of
 from policies import PolicyFault, as_seen, read_policies
 from predicates import ListFault, predicates_of
@@ -113,12 +115,15 @@ def lines_of(script):
         raise Fault("lq: script: utf8", 4) from None
 
 
-def replies_of(words, read_script):
+def served(words, read_script):
     """Tables, policies and the role come before the script, and the whole script before its first line is answered."""
     options = options_of(words)
     session, views = started(options)
     script = script_of(options, read_script)
-    return "".join(map(session.step, lines_of(script))).encode(), views
+    MADE.clear()
+    output = "".join(map(session.step, lines_of(script)))
+    audit = "".join(f"{call}\n" for call in MADE) if "--audit" in options.flags else ""
+    return Answer(0, output.encode(), audit.encode(), views)
 
 
 def ended_by(fault):
@@ -129,10 +134,10 @@ def ended_by(fault):
 def answer(words, read_script, can_write=True):
     """The answer to words and a script; `can_write` is whether standard output takes bytes."""
     try:
-        output, views = replies_of(words, read_script)
-        if output and not can_write:
+        given = served(words, read_script)
+        if given.output and not can_write:
             raise WRITE_FAULT
-        return Answer(0, output, b"", views)
+        return given
     except Fault as fault:
         return ended_by(fault)
     except UsageFault:

@@ -2,7 +2,7 @@
 
 A statement that is refused or denied, or that faults, changes nothing. The refusals come in the order in which they are met here:
 lexical faults, depth by the text, the grammar, depth by opening, types or the role, rights, a cell's range, a policy's check, and
-the faults of evaluating. Row numbers, which only end past 2^64 - 1, aren't kept.
+the faults of evaluating. That row numbers end past 2^64 - 1 is left out.
 """
 
 import json
@@ -50,6 +50,22 @@ class Query:
     opened: Opened
 
 
+class NumberedRow(dict):
+    """The cells of a row by its columns' names, and the number that it alone has in its table."""
+
+    __slots__ = ("number",)
+
+    def __init__(self, number, cells):
+        super().__init__(cells)
+        self.number = number
+
+
+def numbered(table):
+    """A table of the same rows, which keep their numbers; those of a file, which have none, are numbered from 1."""
+    return Table(table.columns, [row if isinstance(row, NumberedRow) else NumberedRow(number, row)
+                                 for number, row in enumerate(table.rows, 1)], table.ranges)
+
+
 def compact(reply):
     """RFC 8259: JSON without white space; members by their names' bytes, which are ordered as their characters' numbers."""
     return json.dumps(reply, separators=(",", ":"), ensure_ascii=False, sort_keys=True) + "\n"
@@ -70,7 +86,9 @@ class Session:
     """The state, and a method for each statement, which gives the members of its reply."""
 
     def __init__(self, tables, policies, user, predicates=WITHOUT_LIST):
-        self.tables = {name: Table(table.columns, list(table.rows), table.ranges) for name, table in tables.items()}
+        self.tables = {name: numbered(table) for name, table in tables.items()}
+        # Of each table the number of its next row.
+        self.next_numbers = {name: len(table.rows) + 1 for name, table in tables.items()}
         self.policies = policies
         self.user = user
         self.predicates = predicates
@@ -109,7 +127,7 @@ class Session:
     def copied(self):
         """A session in the same state, whose steps leave this one."""
         other = Session(self.tables, self.policies, self.user, self.predicates)
-        other.variables, other.queries = dict(self.variables), dict(self.queries)
+        other.variables, other.queries, other.next_numbers = dict(self.variables), dict(self.queries), dict(self.next_numbers)
         return other
 
     def scope(self):
@@ -173,7 +191,8 @@ class Session:
         rule = failing_check(self.policies, name, table, row, self.user)
         if rule is not None:
             raise Denied(rule, (name, "insert"))
-        table.rows.append(row)
+        table.rows.append(NumberedRow(self.next_numbers[name], row))
+        self.next_numbers[name] += 1
         self.seen = None
         return {"inserted": 1}
 

@@ -12,28 +12,40 @@ use lq_predicates::{
 };
 use lq_serve::{Device, finish, load, refuse};
 use lq_session::Session;
-use std::env;
 use std::fs::File;
 use std::io::Read;
 use std::process::ExitCode;
+use std::{env, mem};
 
 /// Serves the script from where the options say it is.
-fn serve_script(rt: &HostRuntime, script: Option<&str>, session: &mut Session) -> u8 {
-    let Some(path) = script else {
-        return serve_from(rt, rt.stdin(), session);
+fn serve_script(rt: &HostRuntime, options: &Options, session: &mut Session) -> u8 {
+    let Some(path) = options.script.as_deref() else {
+        return serve_from(rt, options.audit, rt.stdin(), session);
     };
     match File::open(rt, path) {
-        Ok(file) => serve_from(rt, file, session),
-        Err(_) => serve_from(rt, NoFile, session),
+        Ok(file) => serve_from(rt, options.audit, file, session),
+        Err(_) => serve_from(rt, options.audit, NoFile, session),
     }
 }
 
-/// Serves the script that a reader has.
-fn serve_from<R: Read + Drop>(rt: &HostRuntime, script: R, session: &mut Session) -> u8 {
+/// Serves the script that a reader has, and prints an audit if one is asked for.
+fn serve_from<R: Read + Drop>(
+    rt: &HostRuntime,
+    audit: bool,
+    script: R,
+    session: &mut Session,
+) -> u8 {
     let mut reader = Device::new(script);
     let mut writer = Device::new(rt.stdout());
     let mut errors = Device::new(rt.stderr());
-    finish(rt.alloc(), &mut reader, &mut writer, &mut errors, session)
+    finish(
+        rt.alloc(),
+        audit,
+        &mut reader,
+        &mut writer,
+        &mut errors,
+        session,
+    )
 }
 
 /// Makes the host predicates, loads the tables and the policies, and serves the script. The session isn't taken apart afterwards: the
@@ -58,8 +70,8 @@ fn serve_with_hosts(rt: &HostRuntime, options: &Options) -> Result<u8, WatchErro
     }
     match load(alloc, options, hosts, &mut Disk::new(rt)) {
         Ok(mut session) => {
-            let status = serve_script(rt, options.script.as_deref(), &mut session);
-            session.forget();
+            let status = serve_script(rt, options, &mut session);
+            mem::forget(session.forget());
             Ok(status)
         }
         Err(error) => Ok(refuse(&error, &mut Device::new(rt.stderr()))),

@@ -14,8 +14,8 @@ use lq_predicates::{
 };
 use lq_prompt::Desk;
 use lq_serve::{Device, load, refuse};
-use std::env;
 use std::process::ExitCode;
+use std::{env, mem};
 use terminal::converse_at_terminal;
 
 /// Makes the host predicates, loads the tables and the policies, and answers lines. The desk isn't taken apart after that: the program
@@ -42,7 +42,7 @@ fn serve_with_hosts(rt: &HostRuntime, options: &Options) -> Result<u8, WatchErro
         Ok(session) => {
             let mut desk = Desk::new(alloc, session);
             let status = converse_at_terminal(rt, &mut desk);
-            desk.forget();
+            mem::forget(desk.into_session().forget());
             Ok(status)
         }
         Err(error) => Ok(refuse(&error, &mut Device::new(rt.stderr()))),

@@ -176,7 +176,7 @@ fn serve_script<R: Read + Drop>(
     let mut reader = Device::new(script);
     let mut writer = Device::new(&mut sink);
     let outcome = serve(alloc, &mut reader, &mut writer, &mut session);
-    session.close();
+    drop(session.close());
     let write_failed = writer.failed();
     Ok(ServedScript {
         outcome,
@@ -380,8 +380,15 @@ fn end_script(
     let mut reader = Device::new(script);
     let mut writer = Device::new(&mut sink);
     let mut errors = Device::new(&mut error_sink);
-    let status = finish(alloc, &mut reader, &mut writer, &mut errors, &mut session);
-    session.close();
+    let status = finish(
+        alloc,
+        true,
+        &mut reader,
+        &mut writer,
+        &mut errors,
+        &mut session,
+    );
+    drop(session.close());
     let is_marked = errors.failed();
     Ok(Ended {
         status,

@@ -34,6 +34,7 @@ pub(crate) fn options_of(
         policy: String::from_str(alloc, policy)?,
         script: None,
         watch: None,
+        audit: false,
         tables: names_of(alloc, tables)?,
     })
 }

@@ -6,16 +6,16 @@ use crate::log::Log;
 use crate::predicate::HostPredicate;
 use crate::predicates::Predicates;
 use crate::seen_row::{SeenRow, arguments_of};
+use crate::work::Work;
 use lq_value::TableNumber;
 use std::alloc::Global;
 
-/// Host predicates, and the log of their calls. What runs a query borrows the predicates and, beside them, the log to write to.
+/// Host predicates, and the log of their calls. Predicates are asked with their log, so both are private: whoever had the predicates of
+/// one set and the log of another could ask without an entry in the log of the first. `work` lends both together.
 #[derive(Drop)]
 pub struct HostSet {
-    /// The predicates, by their numbers.
-    pub predicates: Predicates,
-    /// The calls that were made.
-    pub log: Log,
+    predicates: Predicates,
+    log: Log<Predicates>,
 }
 
 impl HostSet {
@@ -24,7 +24,7 @@ impl HostSet {
     ghost use Rattle.lq_value.specs.Tables.{first_named};
     ghost use Rattle.lq_host.specs.Predicates.{answer_in, arity_of, predicate_of, ranges_of};
     ghost use Rattle.lq_host.specs.Calls.{LogsCall, arguments_at, count_of, question_of};
-    ghost use Rattle.lq_host.specs.Hosts.{Adds, hosts_of, name_of, shown_added};
+    ghost use Rattle.lq_host.specs.Hosts.{Adds, hosts_of, name_of, predicates_of, shown_added};
 
     /// A set of no predicates, of which no call was made. Takes no memory.
     pub fn new(alloc: Global) -> HostSet
@@ -34,6 +34,13 @@ impl HostSet {
             predicates: Predicates::new(alloc),
             log: Log::new(alloc),
         }
+    }
+
+    /// The predicates, by their numbers: to look at, since they are asked with the log alone.
+    pub fn predicates(&self) -> &Predicates
+        ensures { predicates_of result.now ≡ (hosts_of self.now).predicates }
+    {
+        &self.predicates
     }
 
     /// The number of the predicate of this name.
@@ -115,5 +122,15 @@ impl HostSet {
             arguments,
         };
         self.predicates.ask(question, &mut self.log)
+    }
+
+    /// Does work that may ask the predicates, which stay; each call comes into the log.
+    pub fn work<W: Work>(&mut self, work: W, state: &mut W::State) -> W::Outcome
+        requires { W.may work (hosts_of self.old).predicates state.old }
+        ensures does { W.does work (hosts_of self.old).predicates state.old
+            (hosts_of self.old).calls result state.new (hosts_of self.new).calls }
+        ensures predicates { (hosts_of self.new).predicates ≡ (hosts_of self.old).predicates }
+    {
+        work.work(state, &self.predicates, &mut self.log)
     }
 }

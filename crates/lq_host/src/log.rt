@@ -4,15 +4,20 @@ ghost use Rattle.std.specs.Vec.{vec_capacity};
 
 use crate::call::Call;
 use std::alloc::Global;
-use std::marker::Model;
+use std::marker::{Model, PhantomData};
 
-/// The calls that were made, in their order. `Asks::ask` puts a call after the others, and nothing takes one out.
-#[derive(Debug, Drop)]
-pub struct Log {
+/// The calls of hosts of the type `H` that were made, in their order. `Asks::ask` puts a call after the others, and nothing takes one
+/// out.
+///
+/// Hosts are asked with a log of their own type. Only this crate makes one: whoever could make one elsewhere, or copy one, could ask
+/// with it and drop it, and nobody would see these calls.
+#[derive(Drop)]
+pub struct Log<H> {
     pub(crate) calls: Vec<Call>,
+    pub(crate) hosts: PhantomData<H>,
 }
 
-impl Model for Log {
+impl<H> Model for Log<H> {
     ghost use Rattle.std.specs.Prelude.{List};
     ghost use Rattle.lq_host.specs.declared.call.Call.{Call};
 
@@ -21,13 +26,14 @@ impl Model for Log {
     ghost view = { λ log. log.calls.items };
 }
 
-impl Log {
+impl<H> Log<H> {
     /// A log of no call. Takes no memory.
-    pub fn new(alloc: Global) -> Log
+    pub(crate) fn new(alloc: Global) -> Log<H>
         ensures { result ≡ [] }
     {
         Log {
             calls: Vec::new(alloc),
+            hosts: PhantomData,
         }
     }
 

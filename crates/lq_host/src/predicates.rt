@@ -13,7 +13,7 @@ const MOST_PREDICATES: usize = 64;
 
 /// Predicates of different names, at most 64. A predicate's number is its place, from 0.
 ///
-/// Their closures are called by `ask` alone, which leaves an entry of each call in a log.
+/// Their closures are called by `ask` alone, which leaves an entry of each call in the log of their set.
 #[derive(Drop)]
 pub struct Predicates {
     pub(crate) items: Vec<HostPredicate>,
@@ -85,7 +85,7 @@ impl Predicates {
 
     /// Puts `predicate` after the others and answers its number. Refuses with `DuplicateName`, `TooMany` (there are 64) or `Memory`,
     /// checked in this order; the predicates are then as they were, and the new one is handed back.
-    pub fn add(
+    pub(crate) fn add(
         &mut self,
         predicate: HostPredicate,
     ) -> Result<PredicateNumber, (HostError, HostPredicate)>
@@ -119,7 +119,7 @@ impl Asks for Predicates {
 
     ghost known = { predicates_of };
 
-    fn ask(&self, question: Question, log: &mut Log) -> Result<bool, HostError> {
+    fn ask(&self, question: Question, log: &mut Log<Predicates>) -> Result<bool, HostError> {
         let predicate = match self.items.get(question.predicate as usize) {
             Some(predicate) => predicate,
             None => return Err(HostError::Range),

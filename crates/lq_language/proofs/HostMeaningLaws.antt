@@ -35,7 +35,7 @@ module _ {R : Type 0} (world : World R) where
       → (z : ℤ) × (number_of (world.cell r c) ≡ Some z)
   cell_by n r cells c None is h = absurd (true≢false (sym h))
   cell_by n r cells c (Some t) is h =
-      let cell = cells c t is in
+      let cell = cells.1 c t is in
       let int = int_there (out-Ty t) cell.0 h cell.2 in
       (int.0, ap number_of cell.1 ∙ int.1)
 

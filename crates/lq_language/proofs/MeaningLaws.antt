@@ -202,7 +202,7 @@ module _ {R : Type 0} (world : World R) (holds : HoldsRows world) (f g : Fault) 
 
     by : IsRowOrNull world n v → IsSame world t (member_of left row c m) (member_of right row c k)
     by (a_row r cells is) =
-        let cell = cells c t column in
+        let cell = cells.1 c t column in
         same_value (value.Scalar cell.0) (is_scalar_value t cell.0 cell.2)
         (ap (member_of left row c) (h ∙ ap Ok is) ∙ ap (member_value left (Some row) c) (outs-value-Row r) ∙ ap (cell_value left) cell.1)
         (ap (member_of right row c) (l ∙ ap Ok is) ∙ ap (member_value right (Some row) c) (outs-value-Row r) ∙ ap (cell_value right) cell.1)

@@ -266,7 +266,7 @@ module _ {R : Type 0} (world : World R) (f g : Fault) where
   column_by : (n : ℕ) (c : List ℕ) (r : Ty) → column_type world.schemas n c ≡ Some r → (v : Value R) → RowOrNull world n v
       → Agree (Is world r) (member_at left (ty.Row n) c v) (member_at right (ty.Row n) c v)
   column_by n c r column v (a_row row cells is) =
-      let cell = cells c r column in
+      let cell = cells.1 c r column in
       at_value (ty.Row n) r c v (value.Row row) is
       (subst (λ (layer : Value-F R (Value R)). Agree (Is world r) (value_of_member left (Some (ty.Row n)) c layer) (value_of_member right (Some (ty.Row n)) c layer)) (sym (outs-value-Row row))
       (subst (λ (o : Option Scalar). Agree (Is world r) (cell_value left o) (cell_value right o)) (sym cell.1)

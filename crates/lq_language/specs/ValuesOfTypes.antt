@@ -34,9 +34,11 @@ IsScalarOf (Ty-F.Row n) scalar.Null = Unit {0}
 IsScalarOf layer s = ⊥
 
 module _ {R : Type 0} (world : World R) where
-  -- A row has a cell of its type under each column of the table with this number.
+  -- A row is of the table with this number, and has a cell of its type under each of its columns.
   abbrev pub HasCells : ℕ → R → Type 0
-  HasCells n r = (c : List ℕ) (t : Ty) → column_type world.schemas n c ≡ Some t → (s : Scalar) × (world.cell r c ≡ Some s) × IsScalarOf (out-Ty t) s
+  HasCells n r =
+      (world.table r ≡ n)
+      × ((c : List ℕ) (t : Ty) → column_type world.schemas n c ≡ Some t → (s : Scalar) × (world.cell r c ≡ Some s) × IsScalarOf (out-Ty t) s)
 
   -- A value is of a type.
   pub data IsOf : Ty → Value R → Type 0 where
@@ -61,6 +63,7 @@ assuming unknown world = record {
   predicates = world.predicates;
   session = world.session;
   cell = world.cell;
+  table = world.table;
   unknown = unknown;
 }
 

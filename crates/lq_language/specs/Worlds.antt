@@ -35,6 +35,8 @@ pub record World (R : Type 0) : Type 0 where
   pub predicates : List Predicate
   pub session : List (SessionValue R)
   pub cell : R → List ℕ → Option Scalar
+  -- the number of the table that a row is of
+  pub table : R → ℕ
   -- what is used where an expression has no meaning, since it has no type; nothing that is typed depends on it (MeaningLaws)
   pub unknown : Fault
 

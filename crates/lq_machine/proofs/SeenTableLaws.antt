@@ -12,7 +12,7 @@ use Rattle.lq_machine.specs.States.{State, schemas_of, seen_by_role, world_by}
 use Rattle.lq_language.specs.Worlds.{World}
 use Rattle.lq_language.specs.ValuesOfTypes.{Every, HasCells, HaveTypes, HoldsRows, IsScalarOf, IsTypedTable}
 use Rattle.lq_machine.specs.Served.{columns_in}
-use Rattle.lq_language.specs.Names.{column_named, type_of_column}
+use Rattle.lq_language.specs.Names.{column_type, column_named, type_of_column}
 use Rattle.lq_language.specs.TableRows.{TableRow, cell_named}
 use Rattle.lq_security.specs.Visible.{seen_from, seen_rows, tables_as_seen, visible_to}
 use Rattle.lq_security.specs.declared.policy.Action.TheVariants as action
@@ -44,8 +44,10 @@ module _ (s : State) (typed : Every IsTypedTable s.tables) (unknown : Fault) whe
   seen_world = world_by unknown (schemas_of s.tables) s.predicates (seen_by_role s)
 
   -- a row of a table has its cells, whether it is seen or not
-  pub column_by : (n : ℕ) (table : Table) (row : Row) → slice_get (schemas_of s.tables) n ≡ Some table.schema → HaveTypes table.schema.columns row.cells → HasCells seen_world n (record { table = n; row = row })
-  column_by n table row at fit c t found = under (column_named c table.schema.columns) refl (sym (ap (λ (o : Option Schema). column_in o) at) ∙ found) where
+  cell_under : (n : ℕ) (table : Table) (row : Row) → slice_get (schemas_of s.tables) n ≡ Some table.schema → HaveTypes table.schema.columns row.cells
+      → (c : List ℕ) (t : Ty) → column_type (schemas_of s.tables) n c ≡ Some t
+      → (cell : Scalar) × (seen_world.cell (record { table = n; row = row }) c ≡ Some cell) × IsScalarOf (out-Ty t) cell
+  cell_under n table row at fit c t found = under (column_named c table.schema.columns) refl (sym (ap (λ (o : Option Schema). column_in o) at) ∙ found) where
     column_in : Option Schema → Option Ty
     column_in o = option_and_then (λ schema. option_map (λ column. type_of_column column.ty) (column_named c schema.columns)) o
 
@@ -58,6 +60,9 @@ module _ (s : State) (typed : Every IsTypedTable s.tables) (unknown : Fault) whe
     under (Some column) is h =
         let cell = cell_there table.schema.columns row.cells fit c column is in
         (cell.0, ap cell_in at ∙ cell.1, subst (λ (u : Ty). IsScalarOf (out-Ty u) cell.0) (same_Some (type_of_column column.ty) t h) cell.2)
+
+  pub column_by : (n : ℕ) (table : Table) (row : Row) → slice_get (schemas_of s.tables) n ≡ Some table.schema → HaveTypes table.schema.columns row.cells → HasCells seen_world n (record { table = n; row = row })
+  column_by n table row at fit = (refl, cell_under n table row at fit)
 
   pub holds_seen : HoldsRows seen_world
   unfolding tables_as_seen

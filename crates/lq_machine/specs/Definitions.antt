@@ -54,6 +54,7 @@ module _ {R : Type 0} where
     predicates = world.predicates;
     session = session;
     cell = world.cell;
+    table = world.table;
     unknown = world.unknown;
   }
 

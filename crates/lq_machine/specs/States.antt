@@ -57,6 +57,7 @@ world_by unknown schemas predicates rows = record {
   predicates = predicates;
   session = [];
   cell = λ r. cell_named (columns_in (slice_get schemas r.table)) r.row.cells;
+  table = λ r. r.table;
   unknown = unknown;
 }
 

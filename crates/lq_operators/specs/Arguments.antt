@@ -5,7 +5,7 @@ use Rattle.lq_language.specs.Worlds.{World}
 
 -- A world of no tables, no host predicates and no names. Of a world an argument's meaning takes only what is put where there is none, here a null reference.
 abbrev pub nowhere : {R : Type 0} → World R
-nowhere = record { schemas = []; rows = []; predicates = []; session = []; cell = λ r name. None; unknown = fault.NullReference }
+nowhere = record { schemas = []; rows = []; predicates = []; session = []; cell = λ r name. None; table = λ r. 0; unknown = fault.NullReference }
 
 -- whether an item is kept, where those among the others are wanted, or the rest
 abbrev pub is_wanted : Bool → Bool → Bool

@@ -11,6 +11,8 @@ pub struct Options {
     pub script: Option<String>,
     /// The list of numbers that the predicate `Watched` is true on, or `None` where there is no such predicate.
     pub watch: Option<String>,
+    /// Whether each host call is printed to standard error once the script has ended.
+    pub audit: bool,
     /// The table files, in the order of the words.
     pub tables: Vec<String>,
 }

@@ -2,7 +2,7 @@
 ghost use Rattle.std.specs.Prelude.{◌≡◌, IfOk, false, map};
 ghost use Rattle.std.specs.String.{string_bytes};
 ghost use Rattle.clap.specs.Words.{FailsBy, app_of, fault_of, found_of, rows_of, rule_of};
-ghost use Rattle.lq_options.specs.CommandLine.{lq_app, lq_rows, policy_rule, role_rule, script_rule, tables_rule, watch_rule};
+ghost use Rattle.lq_options.specs.CommandLine.{audit_rule, lq_app, lq_rows, policy_rule, role_rule, script_rule, tables_rule, watch_rule};
 
 use clap::{Arg, ArgAction, ArgMatches, Command, Error};
 use std::alloc::{AllocError, Global};
@@ -93,6 +93,16 @@ pub(crate) fn watch<'a>(alloc: Global) -> Arg<'a>
         .help("Numbers with commas, on which Host.Watched is true [default: no such predicate]")
 }
 
+fn audit<'a>(alloc: Global) -> Arg<'a>
+    ensures rule { rule_of result ≡ audit_rule }
+    ensures local { result.global ≡ false }
+{
+    Arg::new(alloc, "audit")
+        .long("audit")
+        .help("Print each call of a host predicate to standard error once the script has ended")
+        .action(ArgAction::SetTrue)
+}
+
 /// The words that belong to no option, which name the table files.
 pub(crate) fn tables<'a>(alloc: Global) -> Arg<'a>
     ensures rule { rule_of result ≡ tables_rule }
@@ -117,6 +127,7 @@ fn command<'a>(alloc: Global) -> Result<Command<'a>, AllocError>
         .arg(policy(alloc))?
         .arg(script(alloc))?
         .arg(watch(alloc))?
+        .arg(audit(alloc))?
         .arg(tables(alloc))
 }
 

@@ -15,13 +15,14 @@ pub struct DeskOptions {
 }
 
 impl From<DeskOptions> for Options {
-    ghost use Rattle.std.specs.Prelude.{◌≡◌, None};
+    ghost use Rattle.std.specs.Prelude.{◌≡◌, None, false};
 
     ghost from_gives = { λ asked options. options ≡ record {
       role = asked.role;
       policy = asked.policy;
       script = None;
       watch = asked.watch;
+      audit = false;
       tables = asked.tables;
     } };
 
@@ -31,6 +32,7 @@ impl From<DeskOptions> for Options {
             policy: asked.policy,
             script: None,
             watch: asked.watch,
+            audit: false,
             tables: asked.tables,
         }
     }

@@ -8,7 +8,7 @@
 ghost use Rattle.std.specs.Prelude.{◌≡◌, ◌≢◌, [], Some, IfOk, codes, map, option_map};
 ghost use Rattle.std.specs.String.{string_bytes};
 ghost use Rattle.clap.specs.Words.{FailsBy, all_of, fault_of, first_of};
-ghost use Rattle.lq_options.specs.CommandLine.{lq_app, lq_rows};
+ghost use Rattle.lq_options.specs.CommandLine.{is_given, lq_app, lq_rows};
 ghost use Rattle.lq_options.specs.DeskCommandLine.{desk_app, desk_rows};
 
 mod asked;
@@ -23,7 +23,7 @@ use command::matches_of_words;
 pub use desk_asked::DeskOptions;
 use desk_command::desk_matches;
 use std::alloc::Global;
-use values::{shared_options, text_of};
+use values::{is_given, shared_options, text_of};
 
 /// The options that `words` name; the first word is the program's name, as in `std::env::args`.
 ///
@@ -42,6 +42,8 @@ pub fn options(alloc: Global, words: &[String]) -> Result<Options, Error>
     ensures watch { IfOk result (λ options.
         first_of (codes "watch") (lq_rows (map string_bytes words.entry.now))
         ≡ option_map string_bytes options.watch) }
+    ensures audit { IfOk result (λ options. options.audit
+        ≡ is_given (first_of (codes "audit") (lq_rows (map string_bytes words.entry.now)))) }
     ensures tables { IfOk result (λ options.
         all_of (codes "tables") (lq_rows (map string_bytes words.entry.now))
         ≡ Some (map string_bytes options.tables.items)) }
@@ -50,6 +52,7 @@ pub fn options(alloc: Global, words: &[String]) -> Result<Options, Error>
 {
     let matches = matches_of_words(alloc, words)?;
     let script = text_of(alloc, &matches, "script")?;
+    let audit = is_given(&matches, "audit");
     let DeskOptions {
         role,
         policy,
@@ -61,6 +64,7 @@ pub fn options(alloc: Global, words: &[String]) -> Result<Options, Error>
         policy,
         script,
         watch,
+        audit,
         tables,
     })
 }

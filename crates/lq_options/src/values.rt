@@ -2,6 +2,7 @@
 ghost use Rattle.std.specs.Prelude.{◌≡◌, ◌≢◌, [], Some, IfOk, codes, map, option_map};
 ghost use Rattle.std.specs.String.{string_bytes};
 ghost use Rattle.clap.specs.Words.{all_of, first_of, found_of, rows_of};
+ghost use Rattle.lq_options.specs.CommandLine.{is_given};
 
 use crate::desk_asked::DeskOptions;
 use clap::ArgMatches;
@@ -47,6 +48,16 @@ pub(crate) fn text_of(
     match first_text(matches, id) {
         Some(text) => Ok(Some(String::from_str(alloc, text)?)),
         None => Ok(None),
+    }
+}
+
+/// Whether a flag is given.
+pub(crate) fn is_given(matches: &ArgMatches<'_>, id: &str) -> bool
+    ensures { result ≡ is_given (first_of id.now (rows_of (found_of matches.now))) }
+{
+    match first_text(matches, id) {
+        Some(text) => text == "true",
+        None => false,
     }
 }
 

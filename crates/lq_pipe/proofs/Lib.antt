@@ -2,6 +2,7 @@ pub mod AnswerLemmas
 pub mod CountLemmas
 pub mod ItemLemmas
 pub mod KeyLemmas
+pub mod LogLemmas
 pub mod PullLemmas
 pub mod RowLemmas
 pub mod Sizes

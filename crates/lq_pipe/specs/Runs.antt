@@ -1,12 +1,19 @@
 -- What a run is over: the world of its tables and host predicates, and what is planned for rows in this world.
+use Rattle.std.specs.Prelude.{List, Bool, Option}
+use Rattle.std.specs.Borrow.{Bor}
 use Rattle.lq_value.specs.declared.value.RowRef as Cells
 use Rattle.lq_host.specs.declared.asks.Asks as Hosts
+use Rattle.lq_host.specs.declared.call.Call.{Call}
 use Rattle.lq_language.specs.Worlds.{World}
+use Rattle.lq_tree.specs.Watches.{Watch}
 use Rattle.lq_tree.specs.declared.tree.Form.{Form}
 use Rattle.lq_plan.specs.Plans as plans
+use Rattle.lq_plan.specs.Watching as watching
+use Rattle.lq_plan.specs.declared.bases.Base.{Base}
 use Rattle.lq_plan.specs.declared.pipes.Pipe.{Pipe}
 use Rattle.lq_plan.specs.declared.plans.Plan.{Plan}
 use Rattle.lq_plan.specs.declared.slots.Slots.{Slots}
+use Rattle.lq_plan.specs.declared.stages.Stage.{Stage}
 use Rattle.lq_plan.specs.declared.tables.TableRow as Rows
 use Rattle.lq_pipe.specs.declared.running.Running.{Running}
 
@@ -22,3 +29,23 @@ module _ {R H : Type 0} {t : Rows.Ghosts R} {r : Cells.Ghosts R} {h : Hosts.Ghos
   -- what a plan says of rows in the first slot is what a condition means there
   abbrev pub PlansRows : Form → Plan → Type 0
   PlansRows = plans.PlansRows run.sources
+
+  -- the log has grown by watched calls alone, and a pull has taken items from the front for which it has
+  abbrev pub Grown : Watch R → List Call → List Call → Type 0
+  Grown = watching.Grown run.sources
+
+  abbrev pub HasTaken : Slots R → Pipe → Base R → List Call → Base R → List Call → Type 0
+  HasTaken = watching.Pulled run.sources
+
+  -- a watch covers a form, what stands above its base, a stage, and the element of a group
+  abbrev pub covers : Watch R → Form → Bool
+  covers = watching.covers run.sources
+
+  abbrev pub covers_above : Watch R → Form → Bool
+  covers_above = watching.covers_above run.sources
+
+  abbrev pub covers_stage : Watch R → Stage → Bool
+  covers_stage = watching.covers_stage run.sources
+
+  abbrev pub covers_element : Watch R → Option (Bor Form) → Bool
+  covers_element = watching.covers_element run.sources

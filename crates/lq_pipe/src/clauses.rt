@@ -1,7 +1,7 @@
 //! The running of what several sequences or keys take part in.
 use crate::running::Running;
 use lq_grammar::SortKey;
-use lq_host::Asks;
+use lq_host::{Asks, Log};
 use lq_operators::{Matches, RunError};
 use lq_plan::{Pipe, Slots, Stage, TableRow, arrangements, sequences};
 use lq_tree::{Form, Joined};
@@ -9,7 +9,7 @@ use lq_value::{End, Fault, List, Scalar, Value};
 use std::alloc::AllocError;
 
 impl<'a, R: TableRow, H: Asks> Running<'a, R, H> {
-    ghost use Rattle.std.specs.Prelude.{◌≡◌, IfOk, Ok};
+    ghost use Rattle.std.specs.Prelude.{◌≡◌, IfOk, Ok, List, true};
     ghost use Rattle.lq_language.specs.Arrangement.{all_of};
     ghost use Rattle.lq_operators.specs.Matching.{pairs_of};
     ghost use Rattle.lq_operators.specs.Answers.{IsAnswer};
@@ -19,7 +19,10 @@ impl<'a, R: TableRow, H: Asks> Running<'a, R, H> {
     ghost use Rattle.lq_plan.specs.Pipes.{all_items};
     ghost use Rattle.lq_plan.specs.Slots.{values_in};
     ghost use Rattle.lq_pipe.specs.Items.{item_expansion, item_join, key_and_element, keys_and_elements, stream_expansion, stream_join};
-    ghost use Rattle.lq_pipe.specs.Runs.{IsPlanned, world};
+    ghost use Rattle.lq_host.specs.declared.call.Call.{Call};
+    ghost use Rattle.lq_tree.specs.Watches.{Watch, are_covered_keys, has_watched_rows, have_watched_rows, is_covered_join};
+    ghost use Rattle.lq_plan.specs.Watching.{matches_pass, watches};
+    ghost use Rattle.lq_pipe.specs.Runs.{IsPlanned, world, Grown, covers, covers_element, covers_stage};
 
     /// What comes of each item and of each item of what it leads to.
     #[cycle(running)]
@@ -30,13 +33,19 @@ impl<'a, R: TableRow, H: Asks> Running<'a, R, H> {
         inner: &Form,
         body: &Form,
         slots: &Slots<'_, R>,
+        log: &mut Log<H>,
     ) -> Result<Value<R>, RunError>
-        ensures { IsAnswer
+        ensures meant { IsAnswer
             (meant (world self.now) (form.SelectMany source.now inner.now body.now) slots.now)
             result }
+        ensures grows { (w : Watch R) (start : List Call) → covers self.now w source.now ≡ true
+            → covers self.now w inner.now ≡ true
+            → covers self.now w body.now ≡ true
+            → watches w slots.now ≡ true
+            → Grown self.now w start log.old → Grown self.now w start log.new }
     {
         let pipe = self.sources.pipe_of(source, slots)?;
-        let (values, end) = self.expand(&pipe, inner, body, slots)?;
+        let (values, end) = self.expand(&pipe, inner, body, slots, log)?;
         Ok(Value::Seq(values, end))
     }
 
@@ -48,13 +57,19 @@ impl<'a, R: TableRow, H: Asks> Running<'a, R, H> {
         body: &Form,
         item: &Value<R>,
         slots: &Slots<'_, R>,
+        log: &mut Log<H>,
     ) -> Result<(List<Value<R>>, End), AllocError>
-        ensures { IfOk result (λ s. s ≡ item_expansion (world self.now)
+        ensures meant { IfOk result (λ s. s ≡ item_expansion (world self.now)
             (values_in slots.now) inner.now body.now item.now) }
+        ensures grows { (w : Watch R) (start : List Call) → covers self.now w inner.now ≡ true
+            → covers self.now w body.now ≡ true
+            → watches w slots.now ≡ true
+            → has_watched_rows w item.now ≡ true
+            → Grown self.now w start log.old → Grown self.now w start log.new }
     {
         let deeper = (&*slots).with(&*item);
         let pipe = self.sources.pipe(Stage::Select(body), inner, &deeper)?;
-        self.read(None, &pipe, &deeper)
+        self.read(None, &pipe, &deeper, log)
     }
 
     /// The same of each item of a pipe, up to the first fault.
@@ -66,21 +81,29 @@ impl<'a, R: TableRow, H: Asks> Running<'a, R, H> {
         inner: &Form,
         body: &Form,
         slots: &Slots<'_, R>,
+        log: &mut Log<H>,
     ) -> Result<(List<Value<R>>, End), AllocError>
         requires { IsPlanned self.now slots.now pipe.now }
-        ensures { IfOk result (λ items.
+        ensures meant { IfOk result (λ items.
             items ≡ stream_expansion (world self.now) (values_in slots.now) inner.now body.now
             (all_items (world self.now) (values_in slots.now) pipe.now)) }
+        ensures grows { (w : Watch R) (start : List Call) → covers self.now w pipe.now.source.now ≡ true
+            → covers_stage self.now w pipe.now.stage ≡ true
+            → covers self.now w inner.now ≡ true
+            → covers self.now w body.now ≡ true
+            → watches w slots.now ≡ true
+            → Grown self.now w start log.old → Grown self.now w start log.new }
     {
-        let mut base = self.open(pipe.source, slots)?;
+        let mut base = self.open(pipe.source, slots, log)?;
         let mut values = List::new(self.sources.alloc);
         loop {
-            match self.next(pipe, &mut base, slots)? {
+            match self.next(pipe, &mut base, slots, log)? {
                 Ok(item) => {
-                    let (further, ending) = self.expand_item(inner, body, &item, slots)?;
+                    let (further, ending) = self.expand_item(inner, body, &item, slots, log)?;
                     values = sequences::append(values, further)?;
-                    if let End::Fault(fault) = ending {
-                        return Ok((values, End::Fault(fault)));
+                    match ending {
+                        End::Done => {}
+                        End::Fault(fault) => return Ok((values, End::Fault(fault))),
                     }
                 }
                 Err(end) => return Ok((values, end)),
@@ -97,12 +120,18 @@ impl<'a, R: TableRow, H: Asks> Running<'a, R, H> {
         key: &Form,
         element: &Form,
         slots: &Slots<'_, R>,
+        log: &mut Log<H>,
     ) -> Result<Value<R>, RunError>
-        ensures { IsAnswer
+        ensures meant { IsAnswer
             (meant (world self.now) (form.GroupBy source.now key.now element.now) slots.now)
             result }
+        ensures grows { (w : Watch R) (start : List Call) → covers self.now w source.now ≡ true
+            → covers self.now w key.now ≡ true
+            → covers self.now w element.now ≡ true
+            → watches w slots.now ≡ true
+            → Grown self.now w start log.old → Grown self.now w start log.new }
     {
-        let (pairs, end) = self.key_pairs(source, key, Some(element), slots)?;
+        let (pairs, end) = self.key_pairs(source, key, Some(element), slots, log)?;
         Ok(sequences::groups(self.sources.alloc, pairs, end)?)
     }
 
@@ -114,13 +143,19 @@ impl<'a, R: TableRow, H: Asks> Running<'a, R, H> {
         element: Option<&Form>,
         item: Value<R>,
         slots: &Slots<'_, R>,
+        log: &mut Log<H>,
     ) -> Result<Result<(Value<R>, Value<R>), Fault>, AllocError>
-        ensures { IfOk result (λ pair. pair ≡ key_and_element (world self.now)
+        ensures meant { IfOk result (λ pair. pair ≡ key_and_element (world self.now)
             (values_in slots.now) key.now element.entry item) }
+        ensures grows { (w : Watch R) (start : List Call) → covers self.now w key.now ≡ true
+            → covers_element self.now w element.entry ≡ true
+            → watches w slots.now ≡ true
+            → has_watched_rows w item ≡ true
+            → Grown self.now w start log.old → Grown self.now w start log.new }
     {
-        match self.value_of_item(key, &item, slots)? {
+        match self.value_of_item(key, &item, slots, log)? {
             Ok(key) => match element {
-                Some(body) => match self.value_of_item(body, &item, slots)? {
+                Some(body) => match self.value_of_item(body, &item, slots, log)? {
                     Ok(element) => Ok(Ok((key, element))),
                     Err(fault) => Ok(Err(fault)),
                 },
@@ -139,17 +174,23 @@ impl<'a, R: TableRow, H: Asks> Running<'a, R, H> {
         key: &Form,
         element: Option<&Form>,
         slots: &Slots<'_, R>,
+        log: &mut Log<H>,
     ) -> Result<(List<(Value<R>, Value<R>)>, End), AllocError>
-        ensures { IfOk result (λ pairs.
+        ensures meant { IfOk result (λ pairs.
             pairs ≡ keys_and_elements (world self.now) (values_in slots.now) key.now element.entry
             (items_meant (world self.now) source.now slots.now)) }
+        ensures grows { (w : Watch R) (start : List Call) → covers self.now w source.now ≡ true
+            → covers self.now w key.now ≡ true
+            → covers_element self.now w element.entry ≡ true
+            → watches w slots.now ≡ true
+            → Grown self.now w start log.old → Grown self.now w start log.new }
     {
         let pipe = self.sources.pipe_of(source, slots)?;
-        let mut base = self.open(pipe.source, slots)?;
+        let mut base = self.open(pipe.source, slots, log)?;
         let mut pairs = List::new(self.sources.alloc);
         loop {
-            match self.next(&pipe, &mut base, slots)? {
-                Ok(item) => match self.key_pair(key, element, item, slots)? {
+            match self.next(&pipe, &mut base, slots, log)? {
+                Ok(item) => match self.key_pair(key, element, item, slots, log)? {
                     Ok(pair) => pairs.push(pair)?,
                     Err(fault) => return Ok((pairs, End::Fault(fault))),
                 },
@@ -166,16 +207,27 @@ impl<'a, R: TableRow, H: Asks> Running<'a, R, H> {
         joined: &Joined<Form>,
         source: &Form,
         slots: &Slots<'_, R>,
+        log: &mut Log<H>,
     ) -> Result<Value<R>, RunError>
-        ensures { IsAnswer
+        ensures meant { IsAnswer
             (meant (world self.now) (form.Join source.now joined.now) slots.now) result }
+        ensures grows { (w : Watch R) (start : List Call) → is_covered_join (world self.now) w joined.now ≡ true
+            → covers self.now w source.now ≡ true
+            → watches w slots.now ≡ true
+            → Grown self.now w start log.old → Grown self.now w start log.new }
     {
-        let (pairs, pairs_end) = self.key_pairs(&joined.inner, &joined.inner_key, None, slots)?;
+        let (pairs, pairs_end) = self.key_pairs(
+            &joined.inner,
+            &joined.inner_key,
+            None,
+            slots,
+            log,
+        )?;
         match pairs_end {
             End::Done => {
                 let matches = Matches::build(self.sources.alloc, pairs)?;
                 let outer = self.sources.pipe_of(source, slots)?;
-                let (values, end) = self.join_items(joined, &matches, &outer, slots)?;
+                let (values, end) = self.join_items(joined, &matches, &outer, slots, log)?;
                 Ok(Value::Seq(values, end))
             }
             End::Fault(fault) => Ok(sequences::fault_sequence(self.sources.alloc, fault)),
@@ -190,11 +242,17 @@ impl<'a, R: TableRow, H: Asks> Running<'a, R, H> {
         matches: &Matches<R>,
         item: &Value<R>,
         slots: &Slots<'_, R>,
+        log: &mut Log<H>,
     ) -> Result<(List<Value<R>>, End), AllocError>
-        ensures { IfOk result (λ s. s ≡ item_join (world self.now) (values_in slots.now) joined.now
+        ensures meant { IfOk result (λ s. s ≡ item_join (world self.now) (values_in slots.now) joined.now
             (pairs_of matches.now) item.now) }
+        ensures grows { (w : Watch R) (start : List Call) → is_covered_join (world self.now) w joined.now ≡ true
+            → matches_pass w (pairs_of matches.now) ≡ true
+            → watches w slots.now ≡ true
+            → has_watched_rows w item.now ≡ true
+            → Grown self.now w start log.old → Grown self.now w start log.new }
     {
-        match self.value_of_item(&joined.outer_key, item, slots)? {
+        match self.value_of_item(&joined.outer_key, item, slots, log)? {
             Ok(key) => {
                 let inner = sequences::match_items(
                     self.sources.alloc,
@@ -203,7 +261,7 @@ impl<'a, R: TableRow, H: Asks> Running<'a, R, H> {
                     matches,
                 )?;
                 let deeper = (&*slots).with(&*item);
-                self.select_all(&joined.result, inner.as_slice(), &deeper)
+                self.select_all(&joined.result, inner.as_slice(), &deeper, log)
             }
             Err(fault) => Ok((List::new(self.sources.alloc), End::Fault(fault))),
         }
@@ -218,22 +276,30 @@ impl<'a, R: TableRow, H: Asks> Running<'a, R, H> {
         matches: &Matches<R>,
         pipe: &Pipe<'_>,
         slots: &Slots<'_, R>,
+        log: &mut Log<H>,
     ) -> Result<(List<Value<R>>, End), AllocError>
         requires { IsPlanned self.now slots.now pipe.now }
-        ensures { IfOk result (λ items.
+        ensures meant { IfOk result (λ items.
             items ≡ stream_join (world self.now) (values_in slots.now) joined.now
             (pairs_of matches.now)
             (all_items (world self.now) (values_in slots.now) pipe.now)) }
+        ensures grows { (w : Watch R) (start : List Call) → is_covered_join (world self.now) w joined.now ≡ true
+            → matches_pass w (pairs_of matches.now) ≡ true
+            → covers self.now w pipe.now.source.now ≡ true
+            → covers_stage self.now w pipe.now.stage ≡ true
+            → watches w slots.now ≡ true
+            → Grown self.now w start log.old → Grown self.now w start log.new }
     {
-        let mut base = self.open(pipe.source, slots)?;
+        let mut base = self.open(pipe.source, slots, log)?;
         let mut values = List::new(self.sources.alloc);
         loop {
-            match self.next(pipe, &mut base, slots)? {
+            match self.next(pipe, &mut base, slots, log)? {
                 Ok(item) => {
-                    let (further, ending) = self.join_item(joined, matches, &item, slots)?;
+                    let (further, ending) = self.join_item(joined, matches, &item, slots, log)?;
                     values = sequences::append(values, further)?;
-                    if let End::Fault(fault) = ending {
-                        return Ok((values, End::Fault(fault)));
+                    match ending {
+                        End::Done => {}
+                        End::Fault(fault) => return Ok((values, End::Fault(fault))),
                     }
                 }
                 Err(end) => return Ok((values, end)),
@@ -250,16 +316,21 @@ impl<'a, R: TableRow, H: Asks> Running<'a, R, H> {
         keys: &List<SortKey<Form>>,
         source: &Form,
         slots: &Slots<'_, R>,
+        log: &mut Log<H>,
     ) -> Result<Value<R>, RunError>
-        ensures { IsAnswer
+        ensures meant { IsAnswer
             (meant (world self.now) (form.OrderBy source.now keys.now) slots.now) result }
+        ensures grows { (w : Watch R) (start : List Call) → are_covered_keys (world self.now) w keys.now ≡ true
+            → covers self.now w source.now ≡ true
+            → watches w slots.now ≡ true
+            → Grown self.now w start log.old → Grown self.now w start log.new }
     {
         let pipe = self.sources.pipe_of(source, slots)?;
-        let (items, end) = self.read(None, &pipe, slots)?;
+        let (items, end) = self.read(None, &pipe, slots, log)?;
         match end {
             End::Done => {
                 let alloc = self.sources.alloc;
-                let columns = self.key_columns(keys, items.as_slice(), slots);
+                let columns = self.key_columns(keys, items.as_slice(), slots, log);
                 Ok(arrangements::sort_by(alloc, keys.as_slice(), columns, items)?)
             }
             End::Fault(fault) => Ok(sequences::fault_sequence(self.sources.alloc, fault)),
@@ -273,13 +344,18 @@ impl<'a, R: TableRow, H: Asks> Running<'a, R, H> {
         keys: &List<SortKey<Form>>,
         items: &[Value<R>],
         slots: &Slots<'_, R>,
+        log: &mut Log<H>,
     ) -> Result<List<List<Scalar>>, RunError>
-        ensures { Answers
+        ensures meant { Answers
             (columns_of (world self.now) (values_in slots.now) keys.now items.now) result }
+        ensures grows { (w : Watch R) (start : List Call) → are_covered_keys (world self.now) w keys.now ≡ true
+            → watches w slots.now ≡ true
+            → have_watched_rows w items.now ≡ true
+            → Grown self.now w start log.old → Grown self.now w start log.new }
     {
         let mut columns = List::new(self.sources.alloc);
         for key in keys.as_slice() {
-            let column = self.key_column(&key.value, items, slots)?;
+            let column = self.key_column(&key.value, items, slots, log)?;
             columns.push(column)?;
         }
         Ok(columns)
@@ -292,13 +368,18 @@ impl<'a, R: TableRow, H: Asks> Running<'a, R, H> {
         key: &Form,
         items: &[Value<R>],
         slots: &Slots<'_, R>,
+        log: &mut Log<H>,
     ) -> Result<List<Scalar>, RunError>
-        ensures { Answers
+        ensures meant { Answers
             (all_of (key_at (world self.now) (values_in slots.now) key.now) items.now) result }
+        ensures grows { (w : Watch R) (start : List Call) → covers self.now w key.now ≡ true
+            → watches w slots.now ≡ true
+            → have_watched_rows w items.now ≡ true
+            → Grown self.now w start log.old → Grown self.now w start log.new }
     {
         let mut column = List::new(self.sources.alloc);
         for item in items {
-            let scalar = self.scalar(key, &(&*slots).with(&*item))?;
+            let scalar = self.scalar(key, &(&*slots).with(&*item), log)?;
             column.push(scalar)?;
         }
         Ok(column)

@@ -1,30 +1,42 @@
 //! Conditions: truth values, which are evaluated without a value of their own.
 use crate::running::Running;
-use lq_host::Asks;
+use lq_host::{Asks, Log};
 use lq_language::Op;
 use lq_operators::RunError;
 use lq_plan::{Slots, TableRow, scalars};
 use lq_tree::Form;
 
 impl<'a, R: TableRow, H: Asks> Running<'a, R, H> {
+    ghost use Rattle.std.specs.Prelude.{◌≡◌, List, true};
     ghost use Rattle.lq_tree.specs.declared.tree.Form.TheVariants as form;
     ghost use Rattle.lq_plan.specs.Meanings.{Answers, meant, truth_in};
-    ghost use Rattle.lq_pipe.specs.Runs.{world};
+    ghost use Rattle.lq_host.specs.declared.call.Call.{Call};
+    ghost use Rattle.lq_tree.specs.Watches.{Watch};
+    ghost use Rattle.lq_plan.specs.Watching.{watches};
+    ghost use Rattle.lq_pipe.specs.Runs.{world, Grown, covers};
 
     /// The truth value that a form means.
     #[cycle(running)]
     #[inline(never)]
-    pub(crate) fn truth(&self, form: &Form, slots: &Slots<'_, R>) -> Result<bool, RunError>
-        ensures { Answers (truth_in (world self.now)
+    pub(crate) fn truth(
+        &self,
+        form: &Form,
+        slots: &Slots<'_, R>,
+        log: &mut Log<H>,
+    ) -> Result<bool, RunError>
+        ensures meant { Answers (truth_in (world self.now)
             (meant (world self.now) form.now slots.now)) result }
+        ensures grows { (w : Watch R) (start : List Call) → covers self.now w form.now ≡ true
+            → watches w slots.now ≡ true
+            → Grown self.now w start log.old → Grown self.now w start log.new }
     {
         match form {
-            Form::And(left, right) => self.truth_of_both(left.get(), right.get(), slots),
-            Form::Or(left, right) => self.truth_of_either(left.get(), right.get(), slots),
+            Form::And(left, right) => self.truth_of_both(left.get(), right.get(), slots, log),
+            Form::Or(left, right) => self.truth_of_either(left.get(), right.get(), slots, log),
             Form::Binary(op, left, right) => {
-                self.truth_of_two(*op, left.get(), right.get(), slots)
+                self.truth_of_two(*op, left.get(), right.get(), slots, log)
             }
-            _ => scalars::truth(&self.scalar(form, slots)?),
+            _ => scalars::truth(&self.scalar(form, slots, log)?),
         }
     }
 
@@ -37,12 +49,17 @@ impl<'a, R: TableRow, H: Asks> Running<'a, R, H> {
         left: &Form,
         right: &Form,
         slots: &Slots<'_, R>,
+        log: &mut Log<H>,
     ) -> Result<bool, RunError>
-        ensures { Answers (truth_in (world self.now)
+        ensures meant { Answers (truth_in (world self.now)
             (meant (world self.now) (form.And left.now right.now) slots.now)) result }
+        ensures grows { (w : Watch R) (start : List Call) → covers self.now w left.now ≡ true
+            → covers self.now w right.now ≡ true
+            → watches w slots.now ≡ true
+            → Grown self.now w start log.old → Grown self.now w start log.new }
     {
-        match self.truth(left, slots)? {
-            true => self.truth(right, slots),
+        match self.truth(left, slots, log)? {
+            true => self.truth(right, slots, log),
             false => Ok(false),
         }
     }
@@ -56,13 +73,18 @@ impl<'a, R: TableRow, H: Asks> Running<'a, R, H> {
         left: &Form,
         right: &Form,
         slots: &Slots<'_, R>,
+        log: &mut Log<H>,
     ) -> Result<bool, RunError>
-        ensures { Answers (truth_in (world self.now)
+        ensures meant { Answers (truth_in (world self.now)
             (meant (world self.now) (form.Or left.now right.now) slots.now)) result }
+        ensures grows { (w : Watch R) (start : List Call) → covers self.now w left.now ≡ true
+            → covers self.now w right.now ≡ true
+            → watches w slots.now ≡ true
+            → Grown self.now w start log.old → Grown self.now w start log.new }
     {
-        match self.truth(left, slots)? {
+        match self.truth(left, slots, log)? {
             true => Ok(true),
-            false => self.truth(right, slots),
+            false => self.truth(right, slots, log),
         }
     }
 
@@ -75,13 +97,18 @@ impl<'a, R: TableRow, H: Asks> Running<'a, R, H> {
         left: &Form,
         right: &Form,
         slots: &Slots<'_, R>,
+        log: &mut Log<H>,
     ) -> Result<bool, RunError>
-        ensures { Answers (truth_in (world self.now)
+        ensures meant { Answers (truth_in (world self.now)
             (meant (world self.now) (form.Binary op left.now right.now) slots.now)) result }
+        ensures grows { (w : Watch R) (start : List Call) → covers self.now w left.now ≡ true
+            → covers self.now w right.now ≡ true
+            → watches w slots.now ≡ true
+            → Grown self.now w start log.old → Grown self.now w start log.new }
     {
         match self.sources.truth_of_refs(op, &*left, &*right, &*slots) {
             Some(truth) => truth,
-            None => scalars::truth_in(self.binary(op, left, right, slots)?),
+            None => scalars::truth_in(self.binary(op, left, right, slots, log)?),
         }
     }
 }

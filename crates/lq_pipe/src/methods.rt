@@ -1,6 +1,6 @@
 //! The running of methods of sequences.
 use crate::running::Running;
-use lq_host::Asks;
+use lq_host::{Asks, Log};
 use lq_language::{Given, Simple};
 use lq_operators::{RunError, Tally, given, simple};
 use lq_plan::counts::{given_limit, simple_limit};
@@ -10,7 +10,7 @@ use lq_value::{End, Fault, List, Ty, Value, same};
 use std::alloc::AllocError;
 
 impl<'a, R: TableRow, H: Asks> Running<'a, R, H> {
-    ghost use Rattle.std.specs.Prelude.{◌≡◌, IfOk, Ok};
+    ghost use Rattle.std.specs.Prelude.{◌≡◌, IfOk, Ok, List, true};
     ghost use Rattle.lq_value.specs.SameAndOrder.{same_values};
     ghost use Rattle.lq_value.specs.declared.value.End.TheVariants as end;
     ghost use Rattle.lq_value.specs.declared.value.Value.TheVariants as value;
@@ -25,7 +25,10 @@ impl<'a, R: TableRow, H: Asks> Running<'a, R, H> {
     ghost use Rattle.lq_plan.specs.Pipes.{all_items};
     ghost use Rattle.lq_plan.specs.Pulling.{stream_behind};
     ghost use Rattle.lq_plan.specs.Slots.{values_in};
-    ghost use Rattle.lq_pipe.specs.Runs.{IsPlanned, world};
+    ghost use Rattle.lq_host.specs.declared.call.Call.{Call};
+    ghost use Rattle.lq_tree.specs.Watches.{Watch, has_watched_rows, have_watched_rows};
+    ghost use Rattle.lq_plan.specs.Watching.{watches};
+    ghost use Rattle.lq_pipe.specs.Runs.{IsPlanned, world, Grown, covers, covers_stage};
 
     /// The sequence of what comes of a source's items at the stage after it.
     #[cycle(running)]
@@ -35,12 +38,17 @@ impl<'a, R: TableRow, H: Asks> Running<'a, R, H> {
         stage: Stage<'_>,
         source: &Form,
         slots: &Slots<'_, R>,
+        log: &mut Log<H>,
     ) -> Result<Value<R>, RunError>
-        ensures { IsAnswer (Ok (sequence (stream_behind (world self.now) (values_in slots.now)
+        ensures meant { IsAnswer (Ok (sequence (stream_behind (world self.now) (values_in slots.now)
             stage.entry source.now))) result }
+        ensures grows { (w : Watch R) (start : List Call) → covers_stage self.now w stage.entry ≡ true
+            → covers self.now w source.now ≡ true
+            → watches w slots.now ≡ true
+            → Grown self.now w start log.old → Grown self.now w start log.new }
     {
         let pipe = self.sources.pipe(stage, source, slots)?;
-        let (items, end) = self.read(None, &pipe, slots)?;
+        let (items, end) = self.read(None, &pipe, slots, log)?;
         Ok(Value::Seq(items, end))
     }
 
@@ -54,18 +62,22 @@ impl<'a, R: TableRow, H: Asks> Running<'a, R, H> {
         of: &Ty,
         source: &Form,
         slots: &Slots<'_, R>,
+        log: &mut Log<H>,
     ) -> Result<Value<R>, RunError>
-        ensures { IsAnswer (simple_meaning method of.now
+        ensures meant { IsAnswer (simple_meaning method of.now
             (items_meant (world self.now) source.now slots.now)) result }
+        ensures grows { (w : Watch R) (start : List Call) → covers self.now w source.now ≡ true
+            → watches w slots.now ≡ true
+            → Grown self.now w start log.old → Grown self.now w start log.new }
     {
         match stage_of(source) {
             Some((stage, source)) => {
                 let pipe = self.sources.pipe(stage, source, slots)?;
-                self.simple_items(method, of, &pipe, slots)
+                self.simple_items(method, of, &pipe, slots, log)
             }
             None => {
                 let pipe = self.sources.pipe_of(source, slots)?;
-                self.simple_items(method, of, &pipe, slots)
+                self.simple_items(method, of, &pipe, slots, log)
             }
         }
     }
@@ -80,15 +92,20 @@ impl<'a, R: TableRow, H: Asks> Running<'a, R, H> {
         of: &Ty,
         pipe: &Pipe<'_>,
         slots: &Slots<'_, R>,
+        log: &mut Log<H>,
     ) -> Result<Value<R>, RunError>
         requires { IsPlanned self.now slots.now pipe.now }
-        ensures { IsAnswer (simple_meaning method of.now
+        ensures meant { IsAnswer (simple_meaning method of.now
             (all_items (world self.now) (values_in slots.now) pipe.now)) result }
+        ensures grows { (w : Watch R) (start : List Call) → covers self.now w pipe.now.source.now ≡ true
+            → covers_stage self.now w pipe.now.stage ≡ true
+            → watches w slots.now ≡ true
+            → Grown self.now w start log.old → Grown self.now w start log.new }
     {
         match Tally::of(method) {
-            Some(tally) => self.tally(tally, of, pipe, slots),
+            Some(tally) => self.tally(tally, of, pipe, slots, log),
             None => {
-                let (items, end) = self.read(simple_limit(method), pipe, slots)?;
+                let (items, end) = self.read(simple_limit(method), pipe, slots, log)?;
                 simple(self.sources.alloc, method, of, items, end)
             }
         }
@@ -104,15 +121,20 @@ impl<'a, R: TableRow, H: Asks> Running<'a, R, H> {
         of: &Ty,
         pipe: &Pipe<'_>,
         slots: &Slots<'_, R>,
+        log: &mut Log<H>,
     ) -> Result<Value<R>, RunError>
         requires { IsPlanned self.now slots.now pipe.now }
-        ensures { IsAnswer (as_value (tallied of.now tally
+        ensures meant { IsAnswer (as_value (tallied of.now tally
             (all_items (world self.now) (values_in slots.now) pipe.now))) result }
+        ensures grows { (w : Watch R) (start : List Call) → covers self.now w pipe.now.source.now ≡ true
+            → covers_stage self.now w pipe.now.stage ≡ true
+            → watches w slots.now ≡ true
+            → Grown self.now w start log.old → Grown self.now w start log.new }
     {
-        let mut base = self.open(pipe.source, slots)?;
+        let mut base = self.open(pipe.source, slots, log)?;
         let mut tally = tally;
         loop {
-            match self.next(pipe, &mut base, slots)? {
+            match self.next(pipe, &mut base, slots, log)? {
                 Ok(item) => tally = tally.with(&item)?,
                 Err(end) => return Ok(Value::Scalar(tally.result(of, end)?)),
             }
@@ -129,13 +151,18 @@ impl<'a, R: TableRow, H: Asks> Running<'a, R, H> {
         source: &Form,
         argument: &Form,
         slots: &Slots<'_, R>,
+        log: &mut Log<H>,
     ) -> Result<Value<R>, RunError>
-        ensures { IsAnswer
+        ensures meant { IsAnswer
             (meant (world self.now) (form.Given method source.now argument.now) slots.now) result }
+        ensures grows { (w : Watch R) (start : List Call) → covers self.now w source.now ≡ true
+            → covers self.now w argument.now ≡ true
+            → watches w slots.now ≡ true
+            → Grown self.now w start log.old → Grown self.now w start log.new }
     {
-        let argument = sequences::value_or_fault(self.evaluate(argument, slots))?;
+        let argument = sequences::value_or_fault(self.evaluate(argument, slots, log))?;
         let pipe = self.sources.pipe_of(source, slots)?;
-        self.given_items(method, argument, &pipe, slots)
+        self.given_items(method, argument, &pipe, slots, log)
     }
 
     /// The same on the items of a pipe, with an argument that was evaluated. Where a value that is looked
@@ -147,18 +174,23 @@ impl<'a, R: TableRow, H: Asks> Running<'a, R, H> {
         argument: Result<Value<R>, Fault>,
         pipe: &Pipe<'_>,
         slots: &Slots<'_, R>,
+        log: &mut Log<H>,
     ) -> Result<Value<R>, RunError>
         requires { IsPlanned self.now slots.now pipe.now }
-        ensures { IsAnswer (given_meaning (world self.now) method argument
+        ensures meant { IsAnswer (given_meaning (world self.now) method argument
             (all_items (world self.now) (values_in slots.now) pipe.now)) result }
+        ensures grows { (w : Watch R) (start : List Call) → covers self.now w pipe.now.source.now ≡ true
+            → covers_stage self.now w pipe.now.stage ≡ true
+            → watches w slots.now ≡ true
+            → Grown self.now w start log.old → Grown self.now w start log.new }
     {
         match method {
             Given::Contains => match argument {
-                Ok(value) => self.has_item(&value, pipe, slots),
+                Ok(value) => self.has_item(&value, pipe, slots, log),
                 Err(fault) => Err(RunError::Fault(fault)),
             },
             _ => {
-                let (items, end) = self.read(given_limit(method, &argument), pipe, slots)?;
+                let (items, end) = self.read(given_limit(method, &argument), pipe, slots, log)?;
                 given(self.sources.alloc, method, argument, items, end)
             }
         }
@@ -173,15 +205,20 @@ impl<'a, R: TableRow, H: Asks> Running<'a, R, H> {
         value: &Value<R>,
         pipe: &Pipe<'_>,
         slots: &Slots<'_, R>,
+        log: &mut Log<H>,
     ) -> Result<Value<R>, RunError>
         requires { IsPlanned self.now slots.now pipe.now }
-        ensures { IsAnswer (as_truth (contains same_values value.now
+        ensures meant { IsAnswer (as_truth (contains same_values value.now
             (all_items (world self.now) (values_in slots.now) pipe.now).0
             (all_items (world self.now) (values_in slots.now) pipe.now).1)) result }
+        ensures grows { (w : Watch R) (start : List Call) → covers self.now w pipe.now.source.now ≡ true
+            → covers_stage self.now w pipe.now.stage ≡ true
+            → watches w slots.now ≡ true
+            → Grown self.now w start log.old → Grown self.now w start log.new }
     {
-        let mut base = self.open(pipe.source, slots)?;
+        let mut base = self.open(pipe.source, slots, log)?;
         loop {
-            match self.next(pipe, &mut base, slots)? {
+            match self.next(pipe, &mut base, slots, log)? {
                 Ok(item) => {
                     if same(value, &item) {
                         return Ok(parts::truth(true));
@@ -200,12 +237,17 @@ impl<'a, R: TableRow, H: Asks> Running<'a, R, H> {
         source: &Form,
         condition: &Form,
         slots: &Slots<'_, R>,
+        log: &mut Log<H>,
     ) -> Result<Value<R>, RunError>
-        ensures { IsAnswer
+        ensures meant { IsAnswer
             (meant (world self.now) (form.All source.now condition.now) slots.now) result }
+        ensures grows { (w : Watch R) (start : List Call) → covers self.now w source.now ≡ true
+            → covers self.now w condition.now ≡ true
+            → watches w slots.now ≡ true
+            → Grown self.now w start log.old → Grown self.now w start log.new }
     {
         let pipe = self.sources.pipe_of(source, slots)?;
-        self.all_hold(condition, &pipe, slots)
+        self.all_hold(condition, &pipe, slots, log)
     }
 
     /// The same of the items of a pipe.
@@ -216,16 +258,22 @@ impl<'a, R: TableRow, H: Asks> Running<'a, R, H> {
         condition: &Form,
         pipe: &Pipe<'_>,
         slots: &Slots<'_, R>,
+        log: &mut Log<H>,
     ) -> Result<Value<R>, RunError>
         requires { IsPlanned self.now slots.now pipe.now }
-        ensures { IsAnswer (as_truth (all (holds_of (world self.now) condition.now slots.now)
+        ensures meant { IsAnswer (as_truth (all (holds_of (world self.now) condition.now slots.now)
             (all_items (world self.now) (values_in slots.now) pipe.now).0
             (all_items (world self.now) (values_in slots.now) pipe.now).1)) result }
+        ensures grows { (w : Watch R) (start : List Call) → covers self.now w condition.now ≡ true
+            → covers self.now w pipe.now.source.now ≡ true
+            → covers_stage self.now w pipe.now.stage ≡ true
+            → watches w slots.now ≡ true
+            → Grown self.now w start log.old → Grown self.now w start log.new }
     {
-        let mut base = self.open(pipe.source, slots)?;
+        let mut base = self.open(pipe.source, slots, log)?;
         loop {
-            match self.next(pipe, &mut base, slots)? {
-                Ok(item) => match self.holds(condition, &item, slots)? {
+            match self.next(pipe, &mut base, slots, log)? {
+                Ok(item) => match self.holds(condition, &item, slots, log)? {
                     Ok(true) => {}
                     Ok(false) => return Ok(parts::truth(false)),
                     Err(fault) => return Err(RunError::Fault(fault)),
@@ -242,11 +290,16 @@ impl<'a, R: TableRow, H: Asks> Running<'a, R, H> {
         condition: &Form,
         item: &Value<R>,
         slots: &Slots<'_, R>,
+        log: &mut Log<H>,
     ) -> Result<Result<bool, Fault>, AllocError>
-        ensures { IfOk result (λ truth.
+        ensures meant { IfOk result (λ truth.
             truth ≡ holds_of (world self.now) condition.now slots.now item.now) }
+        ensures grows { (w : Watch R) (start : List Call) → covers self.now w condition.now ≡ true
+            → watches w slots.now ≡ true
+            → has_watched_rows w item.now ≡ true
+            → Grown self.now w start log.old → Grown self.now w start log.new }
     {
-        scalars::truth_or_fault(self.truth(condition, &(&*slots).with(&*item)))
+        scalars::truth_or_fault(self.truth(condition, &(&*slots).with(&*item), log))
     }
 
     /// What a form gives of an item. The item itself, or a cell of it, is copied from where it stands.
@@ -256,14 +309,19 @@ impl<'a, R: TableRow, H: Asks> Running<'a, R, H> {
         body: &Form,
         item: &Value<R>,
         slots: &Slots<'_, R>,
+        log: &mut Log<H>,
     ) -> Result<Result<Value<R>, Fault>, AllocError>
-        ensures { IfOk result (λ value.
+        ensures meant { IfOk result (λ value.
             value ≡ value_of_item (world self.now) body.now slots.now item.now) }
+        ensures grows { (w : Watch R) (start : List Call) → covers self.now w body.now ≡ true
+            → watches w slots.now ≡ true
+            → has_watched_rows w item.now ≡ true
+            → Grown self.now w start log.old → Grown self.now w start log.new }
     {
         let deeper = (&*slots).with(&*item);
         match self.sources.value_in_place(&*body, &deeper) {
             Some(copy) => Ok(Ok(copy?)),
-            None => sequences::value_or_fault(self.evaluate(body, &deeper)),
+            None => sequences::value_or_fault(self.evaluate(body, &deeper, log)),
         }
     }
 
@@ -274,13 +332,18 @@ impl<'a, R: TableRow, H: Asks> Running<'a, R, H> {
         body: &Form,
         items: &[Value<R>],
         slots: &Slots<'_, R>,
+        log: &mut Log<H>,
     ) -> Result<(List<Value<R>>, End), AllocError>
-        ensures { IfOk result (λ values. values
+        ensures meant { IfOk result (λ values. values
             ≡ select_by (value_of_item (world self.now) body.now slots.now) items.now end.Done) }
+        ensures grows { (w : Watch R) (start : List Call) → covers self.now w body.now ≡ true
+            → watches w slots.now ≡ true
+            → have_watched_rows w items.now ≡ true
+            → Grown self.now w start log.old → Grown self.now w start log.new }
     {
         let mut values = List::new(self.sources.alloc);
         for item in items {
-            match self.value_of_item(body, item, slots)? {
+            match self.value_of_item(body, item, slots, log)? {
                 Ok(value) => values.push(value)?,
                 Err(fault) => return Ok((values, End::Fault(fault))),
             }

@@ -1,7 +1,7 @@
 //! The running of operators, and of what makes one value of several.
 use crate::running::Running;
 use lq_grammar::Field;
-use lq_host::Asks;
+use lq_host::{Asks, Log};
 use lq_language::Op;
 use lq_operators::RunError;
 use lq_plan::{Slots, TableRow, parts, scalars};
@@ -9,13 +9,17 @@ use lq_tree::Form;
 use lq_value::{List, Scalar, Value};
 
 impl<'a, R: TableRow, H: Asks> Running<'a, R, H> {
+    ghost use Rattle.std.specs.Prelude.{◌≡◌, List, true};
     ghost use Rattle.lq_value.specs.declared.value.Fault.TheVariants as fault;
     ghost use Rattle.lq_language.specs.OperandMeaning.{as_value, on_scalar};
     ghost use Rattle.lq_language.specs.Operations.{of_two};
     ghost use Rattle.lq_operators.specs.Answers.{IsAnswer};
     ghost use Rattle.lq_tree.specs.declared.tree.Form.TheVariants as form;
     ghost use Rattle.lq_plan.specs.Meanings.{meant};
-    ghost use Rattle.lq_pipe.specs.Runs.{world};
+    ghost use Rattle.lq_host.specs.declared.call.Call.{Call};
+    ghost use Rattle.lq_tree.specs.Watches.{Watch, are_covered_fields};
+    ghost use Rattle.lq_plan.specs.Watching.{watches};
+    ghost use Rattle.lq_pipe.specs.Runs.{world, Grown, covers};
 
     /// What an operator gives to one operand.
     #[cycle(running)]
@@ -26,10 +30,14 @@ impl<'a, R: TableRow, H: Asks> Running<'a, R, H> {
         op: Op,
         operand: &Form,
         slots: &Slots<'_, R>,
+        log: &mut Log<H>,
     ) -> Result<Value<R>, RunError>
-        ensures { IsAnswer (meant (world self.now) (form.Unary op operand.now) slots.now) result }
+        ensures meant { IsAnswer (meant (world self.now) (form.Unary op operand.now) slots.now) result }
+        ensures grows { (w : Watch R) (start : List Call) → covers self.now w operand.now ≡ true
+            → watches w slots.now ≡ true
+            → Grown self.now w start log.old → Grown self.now w start log.new }
     {
-        let operand = self.scalar(operand, slots)?;
+        let operand = self.scalar(operand, slots, log)?;
         scalars::of_one(self.sources.alloc, op, operand)
     }
 
@@ -43,15 +51,20 @@ impl<'a, R: TableRow, H: Asks> Running<'a, R, H> {
         left: &Form,
         right: &Form,
         slots: &Slots<'_, R>,
+        log: &mut Log<H>,
     ) -> Result<Value<R>, RunError>
-        ensures { IsAnswer
+        ensures meant { IsAnswer
             (meant (world self.now) (form.Binary op left.now right.now) slots.now) result }
+        ensures grows { (w : Watch R) (start : List Call) → covers self.now w left.now ≡ true
+            → covers self.now w right.now ≡ true
+            → watches w slots.now ≡ true
+            → Grown self.now w start log.old → Grown self.now w start log.new }
     {
         if let Some(value) = self.sources.binary_of_refs(op, &*left, &*right, &*slots) {
             return value;
         }
-        let left = self.scalar(left, slots)?;
-        self.binary_right(op, left, right, slots)
+        let left = self.scalar(left, slots, log)?;
+        self.binary_right(op, left, right, slots, log)
     }
 
     /// The same beside the left operand: a function of its own, so that operators that stand one below the
@@ -64,11 +77,15 @@ impl<'a, R: TableRow, H: Asks> Running<'a, R, H> {
         left: Scalar,
         right: &Form,
         slots: &Slots<'_, R>,
+        log: &mut Log<H>,
     ) -> Result<Value<R>, RunError>
-        ensures { IsAnswer (on_scalar (world self.now) (meant (world self.now) right.now slots.now)
+        ensures meant { IsAnswer (on_scalar (world self.now) (meant (world self.now) right.now slots.now)
             (λ t. as_value (of_two fault.NullReference op left t))) result }
+        ensures grows { (w : Watch R) (start : List Call) → covers self.now w right.now ≡ true
+            → watches w slots.now ≡ true
+            → Grown self.now w start log.old → Grown self.now w start log.new }
     {
-        let right = self.scalar(right, slots)?;
+        let right = self.scalar(right, slots, log)?;
         scalars::of_two(self.sources.alloc, op, &left, &right)
     }
 
@@ -81,12 +98,17 @@ impl<'a, R: TableRow, H: Asks> Running<'a, R, H> {
         left: &Form,
         right: &Form,
         slots: &Slots<'_, R>,
+        log: &mut Log<H>,
     ) -> Result<Value<R>, RunError>
-        ensures { IsAnswer
+        ensures meant { IsAnswer
             (meant (world self.now) (form.And left.now right.now) slots.now) result }
+        ensures grows { (w : Watch R) (start : List Call) → covers self.now w left.now ≡ true
+            → covers self.now w right.now ≡ true
+            → watches w slots.now ≡ true
+            → Grown self.now w start log.old → Grown self.now w start log.new }
     {
-        match self.truth(left, slots)? {
-            true => self.evaluate(right, slots),
+        match self.truth(left, slots, log)? {
+            true => self.evaluate(right, slots, log),
             false => Ok(Value::Scalar(Scalar::Bool(false))),
         }
     }
@@ -100,12 +122,17 @@ impl<'a, R: TableRow, H: Asks> Running<'a, R, H> {
         left: &Form,
         right: &Form,
         slots: &Slots<'_, R>,
+        log: &mut Log<H>,
     ) -> Result<Value<R>, RunError>
-        ensures { IsAnswer (meant (world self.now) (form.Or left.now right.now) slots.now) result }
+        ensures meant { IsAnswer (meant (world self.now) (form.Or left.now right.now) slots.now) result }
+        ensures grows { (w : Watch R) (start : List Call) → covers self.now w left.now ≡ true
+            → covers self.now w right.now ≡ true
+            → watches w slots.now ≡ true
+            → Grown self.now w start log.old → Grown self.now w start log.new }
     {
-        match self.truth(left, slots)? {
+        match self.truth(left, slots, log)? {
             true => Ok(Value::Scalar(Scalar::Bool(true))),
-            false => self.evaluate(right, slots),
+            false => self.evaluate(right, slots, log),
         }
     }
 
@@ -118,13 +145,18 @@ impl<'a, R: TableRow, H: Asks> Running<'a, R, H> {
         left: &Form,
         right: &Form,
         slots: &Slots<'_, R>,
+        log: &mut Log<H>,
     ) -> Result<Value<R>, RunError>
-        ensures { IsAnswer
+        ensures meant { IsAnswer
             (meant (world self.now) (form.Coalesce left.now right.now) slots.now) result }
+        ensures grows { (w : Watch R) (start : List Call) → covers self.now w left.now ≡ true
+            → covers self.now w right.now ≡ true
+            → watches w slots.now ≡ true
+            → Grown self.now w start log.old → Grown self.now w start log.new }
     {
-        let left = self.scalar(left, slots)?;
+        let left = self.scalar(left, slots, log)?;
         match scalars::is_null(&left) {
-            true => self.evaluate(right, slots),
+            true => self.evaluate(right, slots, log),
             false => Ok(Value::Scalar(left)),
         }
     }
@@ -139,14 +171,20 @@ impl<'a, R: TableRow, H: Asks> Running<'a, R, H> {
         left: &Form,
         right: &Form,
         slots: &Slots<'_, R>,
+        log: &mut Log<H>,
     ) -> Result<Value<R>, RunError>
-        ensures { IsAnswer
+        ensures meant { IsAnswer
             (meant (world self.now) (form.Conditional condition.now left.now right.now) slots.now)
             result }
+        ensures grows { (w : Watch R) (start : List Call) → covers self.now w condition.now ≡ true
+            → covers self.now w left.now ≡ true
+            → covers self.now w right.now ≡ true
+            → watches w slots.now ≡ true
+            → Grown self.now w start log.old → Grown self.now w start log.new }
     {
-        match self.truth(condition, slots)? {
-            true => self.evaluate(left, slots),
-            false => self.evaluate(right, slots),
+        match self.truth(condition, slots, log)? {
+            true => self.evaluate(left, slots, log),
+            false => self.evaluate(right, slots, log),
         }
     }
 
@@ -157,12 +195,16 @@ impl<'a, R: TableRow, H: Asks> Running<'a, R, H> {
         &self,
         fields: &List<Field<Form>>,
         slots: &Slots<'_, R>,
+        log: &mut Log<H>,
     ) -> Result<Value<R>, RunError>
-        ensures { IsAnswer (meant (world self.now) (form.Record fields.now) slots.now) result }
+        ensures meant { IsAnswer (meant (world self.now) (form.Record fields.now) slots.now) result }
+        ensures grows { (w : Watch R) (start : List Call) → are_covered_fields (world self.now) w fields.now ≡ true
+            → watches w slots.now ≡ true
+            → Grown self.now w start log.old → Grown self.now w start log.new }
     {
         let mut members = List::new(self.sources.alloc);
         for field in fields.as_slice() {
-            let value = self.evaluate(&field.value, slots)?;
+            let value = self.evaluate(&field.value, slots, log)?;
             parts::push_member(self.sources.alloc, &mut members, &field.name, value)?;
         }
         Ok(Value::Rec(members))
@@ -177,12 +219,17 @@ impl<'a, R: TableRow, H: Asks> Running<'a, R, H> {
         left: &Form,
         right: &Form,
         slots: &Slots<'_, R>,
+        log: &mut Log<H>,
     ) -> Result<Value<R>, RunError>
-        ensures { IsAnswer
+        ensures meant { IsAnswer
             (meant (world self.now) (form.Pair left.now right.now) slots.now) result }
+        ensures grows { (w : Watch R) (start : List Call) → covers self.now w left.now ≡ true
+            → covers self.now w right.now ≡ true
+            → watches w slots.now ≡ true
+            → Grown self.now w start log.old → Grown self.now w start log.new }
     {
-        let left = self.evaluate(left, slots)?;
-        let right = self.evaluate(right, slots)?;
+        let left = self.evaluate(left, slots, log)?;
+        let right = self.evaluate(right, slots, log)?;
         Ok(parts::pair(self.sources.alloc, left, right)?)
     }
 }

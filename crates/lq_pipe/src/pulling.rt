@@ -1,6 +1,6 @@
 //! The pulling of items: one by one from a base, each through the conditions and lambdas above it.
 use crate::running::Running;
-use lq_host::Asks;
+use lq_host::{Asks, Log};
 use lq_plan::{
     Base, Outcome, Pipe, Pulled, Slots, Stage, TableRow, counts, has_no_stage, sequences, stage_of,
 };
@@ -9,7 +9,7 @@ use lq_value::{End, List, Value, copy_scalar};
 use std::alloc::AllocError;
 
 impl<'a, R: TableRow, H: Asks> Running<'a, R, H> {
-    ghost use Rattle.std.specs.Prelude.{◌≡◌, ◌∷◌, [], Some, true, IfOk};
+    ghost use Rattle.std.specs.Prelude.{◌≡◌, ◌∷◌, [], Some, true, IfOk, List};
     ghost use Rattle.lq_value.specs.declared.value.Value.TheVariants as value;
     ghost use Rattle.lq_value.specs.declared.value.End.TheVariants as end;
     ghost use Rattle.lq_plan.specs.Counts.{read_first};
@@ -18,21 +18,34 @@ impl<'a, R: TableRow, H: Asks> Running<'a, R, H> {
     ghost use Rattle.lq_plan.specs.PlannedRows.{IsPulled, pulled_value, row_verdict};
     ghost use Rattle.lq_plan.specs.Pulling.{base_stream, item_at, items_at, last, outcome_stream, through_select, through_stage};
     ghost use Rattle.lq_plan.specs.Slots.{values_in};
-    ghost use Rattle.lq_pipe.specs.Runs.{IsPlanned, world};
+    ghost use Rattle.lq_host.specs.declared.call.Call.{Call};
+    ghost use Rattle.lq_tree.specs.Watches.{Watch, has_watched_rows, have_watched_rows};
+    ghost use Rattle.lq_plan.specs.Watching.{is_covered_pipe, watches};
+    ghost use Rattle.lq_pipe.specs.Runs.{IsPlanned, world, Grown, HasTaken, covers, covers_above, covers_stage};
     ghost use Rattle.lq_pipe.specs.Steps.{Steps};
 
     /// The items of a form, as a base of their own.
     #[cycle(running)]
     #[inline(never)]
     #[tactic(auto, using(lq_plan::proofs::PullLaws::table_opened))]
-    fn base_of(&self, form: &Form, slots: &Slots<'_, R>) -> Result<Base<'a, R>, AllocError>
-        ensures { IfOk result (λ base.
+    fn base_of(
+        &self,
+        form: &Form,
+        slots: &Slots<'_, R>,
+        log: &mut Log<H>,
+    ) -> Result<Base<'a, R>, AllocError>
+        ensures meant { IfOk result (λ base.
             base_stream base ≡ items_meant (world self.now) form.now slots.now) }
+        ensures from { IfOk result (λ base. (w : Watch R) → covers self.now w form.now ≡ true → watches w slots.now ≡ true
+            → have_watched_rows w (base_stream base).0 ≡ true) }
+        ensures grows { (w : Watch R) (start : List Call) → covers self.now w form.now ≡ true
+            → watches w slots.now ≡ true
+            → Grown self.now w start log.old → Grown self.now w start log.new }
     {
         match form {
             Form::Table(number) => Ok(self.sources.rows_of(*number)),
             _ => {
-                let value = self.evaluate(form, slots);
+                let value = self.evaluate(form, slots, log);
                 let (items, end) = sequences::stream(self.sources.alloc, value)?;
                 Ok(Base::of_items(items, end))
             }
@@ -43,14 +56,24 @@ impl<'a, R: TableRow, H: Asks> Running<'a, R, H> {
     #[cycle(running)]
     #[inline(never)]
     #[tactic(auto, using(lq_plan::proofs::PullLaws::opens))]
-    pub(crate) fn open(&self, form: &Form, slots: &Slots<'_, R>) -> Result<Base<'a, R>, AllocError>
-        ensures { IfOk result (λ base.
+    pub(crate) fn open(
+        &self,
+        form: &Form,
+        slots: &Slots<'_, R>,
+        log: &mut Log<H>,
+    ) -> Result<Base<'a, R>, AllocError>
+        ensures meant { IfOk result (λ base.
             items_at (world self.now) (values_in slots.now) form.now (base_stream base)
             ≡ items_meant (world self.now) form.now slots.now) }
+        ensures from { IfOk result (λ base. (w : Watch R) → covers self.now w form.now ≡ true → watches w slots.now ≡ true
+            → have_watched_rows w (base_stream base).0 ≡ true) }
+        ensures grows { (w : Watch R) (start : List Call) → covers self.now w form.now ≡ true
+            → watches w slots.now ≡ true
+            → Grown self.now w start log.old → Grown self.now w start log.new }
     {
         match stage_of(form) {
-            Some((_, source)) => Ok(self.open(source, slots)?),
-            None => Ok(self.base_of(form, slots)?),
+            Some((_, source)) => Ok(self.open(source, slots, log)?),
+            None => Ok(self.base_of(form, slots, log)?),
         }
     }
 
@@ -62,13 +85,18 @@ impl<'a, R: TableRow, H: Asks> Running<'a, R, H> {
         form: &Form,
         item: Value<R>,
         slots: &Slots<'_, R>,
+        log: &mut Log<H>,
     ) -> Result<Outcome<R>, AllocError>
-        ensures { IfOk result (λ outcome. outcome_stream outcome
+        ensures meant { IfOk result (λ outcome. outcome_stream outcome
             ≡ item_at (world self.now) (values_in slots.now) form.now item) }
+        ensures grows { (w : Watch R) (start : List Call) → covers_above self.now w form.now ≡ true
+            → watches w slots.now ≡ true
+            → has_watched_rows w item ≡ true
+            → Grown self.now w start log.old → Grown self.now w start log.new }
     {
         match stage_of(form) {
-            Some((Stage::Plain, source)) => Ok(self.pass(source, item, slots)?),
-            Some((stage, source)) => Ok(self.pass_through(&stage, source, item, slots)?),
+            Some((Stage::Plain, source)) => Ok(self.pass(source, item, slots, log)?),
+            Some((stage, source)) => Ok(self.pass_through(&stage, source, item, slots, log)?),
             None => Ok(Outcome::Item(item)),
         }
     }
@@ -82,16 +110,22 @@ impl<'a, R: TableRow, H: Asks> Running<'a, R, H> {
         source: &Form,
         item: Value<R>,
         slots: &Slots<'_, R>,
+        log: &mut Log<H>,
     ) -> Result<Outcome<R>, AllocError>
-        ensures { IfOk result (λ outcome. outcome_stream outcome
+        ensures meant { IfOk result (λ outcome. outcome_stream outcome
             ≡ through_stage (world self.now) (values_in slots.now) stage.now
             (item_at (world self.now) (values_in slots.now) source.now item)) }
+        ensures grows { (w : Watch R) (start : List Call) → covers_stage self.now w stage.now ≡ true
+            → covers_above self.now w source.now ≡ true
+            → watches w slots.now ≡ true
+            → has_watched_rows w item ≡ true
+            → Grown self.now w start log.old → Grown self.now w start log.new }
     {
         if has_no_stage(source) {
-            return Ok(self.pass_stage(stage, item, slots)?);
+            return Ok(self.pass_stage(stage, item, slots, log)?);
         }
-        match self.pass(source, item, slots)? {
-            Outcome::Item(item) => self.pass_stage(stage, item, slots),
+        match self.pass(source, item, slots, log)? {
+            Outcome::Item(item) => self.pass_stage(stage, item, slots, log),
             Outcome::Dropped => Ok(Outcome::Dropped),
             Outcome::Fault(fault) => Ok(Outcome::Fault(fault)),
         }
@@ -104,19 +138,24 @@ impl<'a, R: TableRow, H: Asks> Running<'a, R, H> {
         stage: &Stage<'_>,
         item: Value<R>,
         slots: &Slots<'_, R>,
+        log: &mut Log<H>,
     ) -> Result<Outcome<R>, AllocError>
-        ensures { IfOk result (λ outcome. outcome_stream outcome
+        ensures meant { IfOk result (λ outcome. outcome_stream outcome
             ≡ through_stage (world self.now) (values_in slots.now) stage.now
             (item ∷ [], end.Done)) }
+        ensures grows { (w : Watch R) (start : List Call) → covers_stage self.now w stage.now ≡ true
+            → watches w slots.now ≡ true
+            → has_watched_rows w item ≡ true
+            → Grown self.now w start log.old → Grown self.now w start log.new }
     {
         match stage {
             Stage::Plain => Ok(Outcome::Item(item)),
-            Stage::Where(condition) => match self.holds(condition, &item, slots)? {
+            Stage::Where(condition) => match self.holds(condition, &item, slots, log)? {
                 Ok(true) => Ok(Outcome::Item(item)),
                 Ok(false) => Ok(Outcome::Dropped),
                 Err(fault) => Ok(Outcome::Fault(fault)),
             },
-            Stage::Select(body) => self.pass_select(body, &item, slots),
+            Stage::Select(body) => self.pass_select(body, &item, slots, log),
         }
     }
 
@@ -127,12 +166,17 @@ impl<'a, R: TableRow, H: Asks> Running<'a, R, H> {
         body: &Form,
         item: &Value<R>,
         slots: &Slots<'_, R>,
+        log: &mut Log<H>,
     ) -> Result<Outcome<R>, AllocError>
-        ensures { IfOk result (λ outcome. outcome_stream outcome
+        ensures meant { IfOk result (λ outcome. outcome_stream outcome
             ≡ through_select (world self.now) (values_in slots.now) body.now
             (item.now ∷ [], end.Done)) }
+        ensures grows { (w : Watch R) (start : List Call) → covers self.now w body.now ≡ true
+            → watches w slots.now ≡ true
+            → has_watched_rows w item.now ≡ true
+            → Grown self.now w start log.old → Grown self.now w start log.new }
     {
-        match self.value_of_item(body, item, slots)? {
+        match self.value_of_item(body, item, slots, log)? {
             Ok(value) => Ok(Outcome::Item(value)),
             Err(fault) => Ok(Outcome::Fault(fault)),
         }
@@ -147,11 +191,16 @@ impl<'a, R: TableRow, H: Asks> Running<'a, R, H> {
         pipe: &Pipe<'_>,
         row: &R,
         slots: &Slots<'_, R>,
+        log: &mut Log<H>,
     ) -> Result<Outcome<R>, AllocError>
         requires planned { IsPlanned self.now slots.now pipe.now }
         requires passes { row_verdict R.table_of R.shown pipe.now.plan row.now ≡ Some true }
-        ensures { IfOk result (λ outcome. outcome_stream outcome
+        ensures meant { IfOk result (λ outcome. outcome_stream outcome
             ≡ last (world self.now) (values_in slots.now) pipe.now.stage (value.Row row.now)) }
+        ensures grows { (w : Watch R) (start : List Call) → covers_stage self.now w pipe.now.stage ≡ true
+            → watches w slots.now ≡ true
+            → w.row row.now ≡ true
+            → Grown self.now w start log.old → Grown self.now w start log.new }
     {
         match pipe.stage {
             Stage::Plain => Ok(Outcome::Item(Value::Row(*row))),
@@ -161,7 +210,7 @@ impl<'a, R: TableRow, H: Asks> Running<'a, R, H> {
                     self.sources.alloc,
                     cell,
                 )?))),
-                None => self.pass_select(body, &Value::Row(*row), slots),
+                None => self.pass_select(body, &Value::Row(*row), slots, log),
             },
         }
     }
@@ -174,17 +223,21 @@ impl<'a, R: TableRow, H: Asks> Running<'a, R, H> {
         pipe: &Pipe<'_>,
         pulled: Pulled<R>,
         slots: &Slots<'_, R>,
+        log: &mut Log<H>,
     ) -> Result<Outcome<R>, AllocError>
         requires planned { IsPlanned self.now slots.now pipe.now }
         requires pulled { IsPulled R.table_of R.shown pipe.now.plan pulled }
-        ensures { IfOk result (λ outcome. outcome_stream outcome
+        ensures meant { IfOk result (λ outcome. outcome_stream outcome
             ≡ through_stage (world self.now) (values_in slots.now) pipe.now.stage
             (item_at (world self.now) (values_in slots.now) pipe.now.source.now
             (pulled_value pulled))) }
+        ensures grows { (w : Watch R) (start : List Call) → is_covered_pipe (world self.now) w (values_in slots.now) pipe.now ≡ true
+            → has_watched_rows w (pulled_value pulled) ≡ true
+            → Grown self.now w start log.old → Grown self.now w start log.new }
     {
         match pulled {
-            Pulled::Row(row) => self.pass_row(pipe, &row, slots),
-            Pulled::Item(item) => self.pass_through(&pipe.stage, pipe.source, item, slots),
+            Pulled::Row(row) => self.pass_row(pipe, &row, slots, log),
+            Pulled::Item(item) => self.pass_through(&pipe.stage, pipe.source, item, slots, log),
         }
     }
 
@@ -197,15 +250,17 @@ impl<'a, R: TableRow, H: Asks> Running<'a, R, H> {
         pipe: &Pipe<'_>,
         base: &mut Base<'a, R>,
         slots: &Slots<'_, R>,
+        log: &mut Log<H>,
     ) -> Result<Result<Value<R>, End>, AllocError>
         requires { IsPlanned self.now slots.now pipe.now }
-        ensures { IfOk result (λ step. Steps
+        ensures meant { IfOk result (λ step. Steps
             (items_left (world self.now) (values_in slots.now) pipe.now base.old) step
             (items_left (world self.now) (values_in slots.now) pipe.now base.new)) }
+        ensures pulled { HasTaken self.now slots.now pipe.now base.old log.old base.new log.new }
     {
         loop {
             match base.pull(&pipe.plan) {
-                Ok(pulled) => match self.pass_pulled(pipe, pulled, slots)? {
+                Ok(pulled) => match self.pass_pulled(pipe, pulled, slots, log)? {
                     Outcome::Item(item) => return Ok(Ok(item)),
                     Outcome::Dropped => {}
                     Outcome::Fault(fault) => return Ok(Err(End::Fault(fault))),
@@ -225,19 +280,24 @@ impl<'a, R: TableRow, H: Asks> Running<'a, R, H> {
         limit: Option<usize>,
         pipe: &Pipe<'_>,
         slots: &Slots<'_, R>,
+        log: &mut Log<H>,
     ) -> Result<(List<Value<R>>, End), AllocError>
         requires { IsPlanned self.now slots.now pipe.now }
-        ensures { IfOk result (λ items. items ≡ read_first limit
+        ensures meant { IfOk result (λ items. items ≡ read_first limit
             (all_items (world self.now) (values_in slots.now) pipe.now)) }
+        ensures grows { (w : Watch R) (start : List Call) → covers self.now w pipe.now.source.now ≡ true
+            → covers_stage self.now w pipe.now.stage ≡ true
+            → watches w slots.now ≡ true
+            → Grown self.now w start log.old → Grown self.now w start log.new }
     {
         let mut items = List::new(self.sources.alloc);
         if counts::is_zero(limit) {
             return Ok((items, End::Done));
         }
-        let mut base = self.open(pipe.source, slots)?;
+        let mut base = self.open(pipe.source, slots, log)?;
         let mut left = limit;
         while let Some(less) = counts::one_less(left) {
-            match self.next(pipe, &mut base, slots)? {
+            match self.next(pipe, &mut base, slots, log)? {
                 Ok(item) => items.push(item)?,
                 Err(end) => return Ok((items, end)),
             }

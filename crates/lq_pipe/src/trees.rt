@@ -2,11 +2,13 @@
 ghost use Rattle.std.specs.Prelude.{◌≡◌, [], IfOk};
 ghost use Rattle.lq_language.specs.OperandMeaning.{stream_of};
 ghost use Rattle.lq_operators.specs.Answers.{IsAnswer};
+ghost use Rattle.lq_tree.specs.AllowedCalls.{AddsOwnCalls};
 ghost use Rattle.lq_tree.specs.FormMeaning.{form_meaning};
+ghost use Rattle.lq_plan.specs.Watching.{facts_of};
 ghost use Rattle.lq_plan.specs.Worlds.{HaveDistinctColumns, schemas_in, world_of};
 
 use crate::running::Running;
-use lq_host::Asks;
+use lq_host::{Asks, Log};
 use lq_operators::RunError;
 use lq_plan::{Slots, Sources, TableRow, TableRows, sequences};
 use lq_tree::Tree;
@@ -21,14 +23,17 @@ pub fn value<'a, R: TableRow, H: Asks>(
     tree: &Tree,
     tables: &'a [TableRows<'a, R>],
     hosts: &'a H,
+    log: &mut Log<H>,
 ) -> Result<Value<R>, RunError>
     requires { HaveDistinctColumns (schemas_in tables.now) }
-    ensures { IsAnswer (form_meaning (world_of R.table_of R.shown (H.known hosts.now) tables.now)
+    ensures calls { AddsOwnCalls (world_of R.table_of R.shown (H.known hosts.now) tables.now)
+        (facts_of R.table_of R.number_of R.shown) tree.now.form [] log.old log.new }
+    ensures meant { IsAnswer (form_meaning (world_of R.table_of R.shown (H.known hosts.now) tables.now)
         tree.now.form []) result }
 {
     let sources = Sources::new(alloc, tables, hosts);
     let running = Running { sources };
-    running.evaluate(tree.form.get(), &Slots::Empty)
+    running.evaluate(tree.form.get(), &Slots::Empty, log)
 }
 
 /// The items of a typed tree over these tables and host predicates, and how they end: a fault that is
@@ -38,12 +43,15 @@ pub fn run<'a, R: TableRow, H: Asks>(
     tree: &Tree,
     tables: &'a [TableRows<'a, R>],
     hosts: &'a H,
+    log: &mut Log<H>,
 ) -> Result<(List<Value<R>>, End), AllocError>
     requires { HaveDistinctColumns (schemas_in tables.now) }
-    ensures { IfOk result (λ s. s
+    ensures calls { AddsOwnCalls (world_of R.table_of R.shown (H.known hosts.now) tables.now)
+        (facts_of R.table_of R.number_of R.shown) tree.now.form [] log.old log.new }
+    ensures meant { IfOk result (λ s. s
         ≡ stream_of (world_of R.table_of R.shown (H.known hosts.now) tables.now)
         (form_meaning (world_of R.table_of R.shown (H.known hosts.now) tables.now)
         tree.now.form [])) }
 {
-    sequences::stream(alloc, value(alloc, tree, tables, hosts))
+    sequences::stream(alloc, value(alloc, tree, tables, hosts, log))
 }

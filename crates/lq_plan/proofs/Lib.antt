@@ -10,3 +10,4 @@ pub mod PreparedLemmas
 pub mod PullLaws
 pub mod SlotLaws
 pub mod TruthLaws
+pub mod WatchLaws

@@ -58,13 +58,13 @@ each_one f same (x ∷ xs) e =
 -- ---- forms
 
 module _ {R : Type 0} (world : World R) (slots : Slots R) where
-  abbrev Passes : Type 0
+  abbrev pub Passes : Type 0
   Passes = Value R → Stream (Value R)
 
-  abbrev layer_items : Form-F Form → Passes
+  abbrev pub layer_items : Form-F Form → Passes
   layer_items layer = item_step world slots (map-Form Form (Form × Passes) (λ f. (f, item_at world slots f)) layer)
 
-  roll_item : (layer : Form-F Form) (x : Value R) → item_at world slots (roll-Form layer) x ≡ layer_items layer x
+  pub roll_item : (layer : Form-F Form) (x : Value R) → item_at world slots (roll-Form layer) x ≡ layer_items layer x
   unfolding item_at
   roll_item layer x = ap (λ (m : Passes). m x) (para-roll-Form Passes (item_step world slots) layer)
 

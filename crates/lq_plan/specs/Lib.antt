@@ -11,4 +11,5 @@ pub mod Prepared
 pub mod Pulling
 pub mod Slots
 pub mod Stages
+pub mod Watching
 pub mod Worlds

@@ -31,6 +31,7 @@ module _ {R : Type 0} where
         predicates = predicates;
         session = [];
         cell = cell_of table_of shown tables;
+        table = table_of;
         unknown = fault.NullReference;
       }
 

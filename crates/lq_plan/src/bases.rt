@@ -65,6 +65,8 @@ impl<'a, R: TableRow> Base<'a, R> {
         ensures planned { IfOk result (IsPulled R.table_of R.shown plan.now) }
         ensures end { IfErr result (λ e. kept_stream R.table_of R.shown plan.now self.old
             ≡ ([], e)) }
+        ensures over { IfErr result (λ e. (kept_stream R.table_of R.shown plan.now self.new).0
+            ≡ []) }
     {
         match self.items.pop() {
             Some(item) => Ok(Pulled::Item(item)),
@@ -82,6 +84,8 @@ impl<'a, R: TableRow> Base<'a, R> {
         ensures planned { IfOk result (IsPulled R.table_of R.shown plan.now) }
         ensures end { IfErr result (λ e. kept_stream R.table_of R.shown plan.now self.old
             ≡ ([], e)) }
+        ensures over { IfErr result (λ e. (kept_stream R.table_of R.shown plan.now self.new).0
+            ≡ []) }
     {
         while let [row, further @ ..] = self.rows {
             self.rows = further;

@@ -10,7 +10,7 @@ use crate::parts::{self, Part};
 use crate::scalars;
 use crate::slots::Slots;
 use crate::tables::{TableRow, TableRows, cell};
-use lq_host::Asks;
+use lq_host::{Asks, Log};
 use lq_language::Op;
 use lq_operators::RunError;
 use lq_tree::Form;
@@ -60,7 +60,7 @@ pub struct Sources<'a, R: TableRow, H: Asks> {
 }
 
 impl<'a, R: TableRow, H: Asks> Sources<'a, R, H> {
-    ghost use Rattle.std.specs.Prelude.{◌≡◌, IfOk, Ok, slice_get};
+    ghost use Rattle.std.specs.Prelude.{◌≡◌, IfOk, List, Ok, slice_get, true};
     ghost use Rattle.lq_value.specs.declared.value.Value.{out-Value};
     ghost use Rattle.lq_language.specs.OperandMeaning.{stream_of, table_value};
     ghost use Rattle.lq_operators.specs.Answers.{IsAnswer};
@@ -68,7 +68,10 @@ impl<'a, R: TableRow, H: Asks> Sources<'a, R, H> {
     ghost use Rattle.lq_tree.specs.declared.tree.Form.TheVariants as form;
     ghost use Rattle.lq_plan.specs.Meanings.{Answers, meant, truth_in};
     ghost use Rattle.lq_plan.specs.Parts.{part_of};
+    ghost use Rattle.lq_host.specs.declared.call.Call.{Call};
+    ghost use Rattle.lq_tree.specs.Watches.{Watch, has_watched_rows};
     ghost use Rattle.lq_plan.specs.Plans.{world};
+    ghost use Rattle.lq_plan.specs.Watching.{Grown, covers_part};
     ghost use Rattle.lq_plan.specs.Pulling.{base_stream, end_of, rows_or_none};
     ghost use Rattle.lq_plan.specs.Slots.{values_in};
     ghost use Rattle.lq_plan.specs.Worlds.{HaveDistinctColumns, rows_in, schemas_in, world_of};
@@ -289,14 +292,19 @@ impl<'a, R: TableRow, H: Asks> Sources<'a, R, H> {
     /// A copy of what is read of a value, or what is answered about it; the fault of a form without meaning
     /// where the value has nothing of the kind: no typed tree asks for it there. `Memory` where none was left.
     #[inline(never)]
-    pub fn part(&self, part: Part, value: &Value<R>) -> Result<Value<R>, RunError>
-        ensures { IsAnswer (part_of (world self.now) part value.now) result }
+    pub fn part(&self, part: Part, value: &Value<R>, log: &mut Log<H>) -> Result<Value<R>, RunError>
+        ensures meant { IsAnswer (part_of (world self.now) part value.now) result }
+        ensures grows { (w : Watch R) (start : List Call) → covers_part w part ≡ true
+            → has_watched_rows w value.now ≡ true
+            → Grown self.now w start log.old → Grown self.now w start log.new }
     {
         match part {
             Part::First => Ok(copy(self.alloc, parts::first(value))?),
             Part::Second => Ok(copy(self.alloc, parts::second(value))?),
             Part::Cell(table, column) => self.cell_in(value, table, column),
-            Part::Host(predicate, table, columns) => self.host(predicate, value, table, columns),
+            Part::Host(predicate, table, columns) => self.host(
+                predicate, value, table, columns, log,
+            ),
             Part::Member(place) => self.member_at(value, place),
             Part::Key => self.key_in(value),
             Part::IsNull(wanted) => Ok(parts::truth(parts::is_null_as(value, wanted))),

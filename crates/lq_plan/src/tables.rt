@@ -9,16 +9,22 @@ ghost use Rattle.lq_plan.specs.Worlds.{HaveDistinctColumns, cell_of, schemas_in}
 use lq_scalar::cell_named;
 use lq_value::{Column, ColumnNumber, RowRef, Scalar, Schema, TableNumber};
 
-/// A row that knows its table.
+/// A row that knows its table, and its number there.
 pub trait TableRow: RowRef {
     ghost use Rattle.std.specs.Prelude.{◌≡◌, ℕ};
 
     ghost table_of: { Self → ℕ };
 
+    ghost number_of: { Self → ℕ };
+
     /// The number of the row's table.
     #[inline(never)]
     fn table(&self) -> TableNumber
         ensures { result ≡ table_of self.now };
+
+    /// The row's own number in its table.
+    fn number(&self) -> u64
+        ensures { result ≡ number_of self.now };
 }
 
 /// A table as a tree reads it.

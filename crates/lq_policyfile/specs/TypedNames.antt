@@ -14,6 +14,7 @@ typed_world columns = record {
   predicates = [];
   session = [];
   cell = λ row column. None;
+  table = λ row. 0;
   unknown = fault.NullReference;
 }
 

@@ -125,5 +125,5 @@ pub fn policies_from_toml(
     ensures predicates { IfOk result
         (λ policies. policies.predicates ≡ known_predicates (hosts_of hosts.now).predicates) }
 {
-    policies_among(alloc, bytes, store, host_names(alloc, &hosts.predicates)?)
+    policies_among(alloc, bytes, store, host_names(alloc, hosts.predicates())?)
 }

@@ -3,15 +3,16 @@ use Rattle.std.specs.Prelude.{◌≡◌, ◌∷◌, List, [], ℕ, false, Option
 use Rattle.std.specs.Str.{IsUtf8}
 use Rattle.lq_value.specs.Tables.{Table, first_named}
 use Rattle.lq_value.specs.declared.ty.Ty.{Ty}
+use Rattle.lq_host.specs.Hosts.{Hosts}
 use Rattle.lq_audit.specs.Disclosure.{Discloses}
 use Rattle.lq_audit.specs.declared.answers.Why.{Why}
 use Rattle.lq_command.specs.declared.command.Command.{Command}
 use Rattle.lq_command.specs.declared.command.Command.TheVariants as command
 use Rattle.lq_command.specs.declared.command.Misuse.{Misuse}
 use Rattle.lq_machine.specs.Machine.{Reply}
-use Rattle.lq_machine.specs.Output.{Answers}
 use Rattle.lq_machine.specs.States.{State, schemas_of}
 use Rattle.lq_run.specs.States.{SessionState}
+use Rattle.lq_session.specs.Calls.{AnswersAndLogs}
 use Rattle.lq_render.specs.Layouts.{shape_of}
 use Rattle.lq_render.specs.Replies.{bytes_text, front_of, line_text}
 use Rattle.lq_security.specs.declared.policy.Action.{Action}
@@ -44,9 +45,9 @@ Shows settings tables ty (Some line) (answer.Reply shown) = shown ≡ line
 Shows settings tables ty reply given = ⊥
 
 -- A statement was stepped, once, and its reply is shown.
-pub record Steps (settings : Settings) (statement : List ℕ) (old new : State) (given : Answer) : Type 0 where
+pub record Steps (settings : Settings) (statement : List ℕ) (old new : State) (hosts hosts_after : Hosts) (given : Answer) : Type 0 where
   pub reply : Reply
-  pub stepped : Answers old statement reply [] new
+  pub stepped : AnswersAndLogs old hosts statement reply new hosts_after
   pub shown : Shows settings new.tables (line_type old statement) reply given
 
 -- ---- commands
@@ -73,11 +74,12 @@ abbrev pub ExplainsIn : SessionState → ℕ → Action → List ℕ → ℕ →
 ExplainsIn s starting act table number text None = text ≡ no_table_text table
 ExplainsIn s starting act table number text (Some place) = Explains s starting act table place number text
 
--- What a desk is: the machine's state, the session's beside it, without the host predicates, the role that the session began under, and
--- how replies are shown.
+-- What a desk is: the machine's state, the session's beside it, without the host predicates, these with the log of their calls, the role
+-- that the session began under, and how replies are shown.
 pub record DeskState : Type 0 where
   pub state : State
   pub session : SessionState
+  pub hosts : Hosts
   pub starting : ℕ
   pub settings : Settings
 

@@ -19,7 +19,7 @@ use lq_policy::{Action, RoleId};
 use lq_session::Session;
 use std::alloc::{AllocError, Global};
 
-/// A session that is asked line by line, and how its replies are shown. Like a session, it is ended by `forget` alone.
+/// A session that is asked line by line, and how its replies are shown. Like a session, it has no `Drop`: `into_session` ends it.
 pub struct Desk {
     alloc: Global,
     session: Session,
@@ -29,7 +29,7 @@ pub struct Desk {
 
 impl Desk {
     ghost use Rattle.std.specs.Prelude.{◌≡◌, ◌≢◌, ◌<◌, IfOk, OnErr, false, string_bytes};
-    ghost use Rattle.lq_session.specs.States.{session_state, state_of};
+    ghost use Rattle.lq_session.specs.States.{hosts_in, session_state, state_of};
     ghost use Rattle.lq_store.specs.Rules.{name_of};
     ghost use Rattle.lq_value.specs.Tables.{first_named};
     ghost use Rattle.lq_prompt.specs.Answers.{ExplainsIn, Tells, TellsText};
@@ -44,6 +44,7 @@ impl Desk {
 
         ensures state { (desk_of result).state ≡ state_of session }
         ensures session { (desk_of result).session ≡ session_state session }
+        ensures hosts { (desk_of result).hosts ≡ hosts_in session }
         ensures starting { (desk_of result).starting ≡ (state_of session).role }
         ensures settings { (desk_of result).settings
             ≡ record { most_rows = 20; is_json = false; is_timed = false } }
@@ -57,15 +58,19 @@ impl Desk {
         }
     }
 
-    /// Ends the desk where its program ends too: the system takes its memory back at once.
-    pub fn forget(self) {
+    /// Ends the desk, and hands out its session, which is as it was.
+    pub fn into_session(self) -> Session
+        ensures state { state_of result ≡ (desk_of self).state }
+        ensures session { session_state result ≡ (desk_of self).session }
+        ensures hosts { hosts_in result ≡ (desk_of self).hosts }
+    {
         let Desk {
             alloc: _,
             session,
             starting: _,
             settings: _,
         } = self;
-        session.forget();
+        session
     }
 
     /// The name of the present role.

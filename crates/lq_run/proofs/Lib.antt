@@ -1,6 +1,8 @@
+pub mod CallLemmas
 pub mod ColumnLemmas
 pub mod DefinitionLemmas
 pub mod KnownLaws
+pub mod RemovalCallLemmas
 pub mod RemovalLemmas
 pub mod ReplyLemmas
 pub mod RowLemmas

@@ -50,14 +50,14 @@ use Rattle.lq_run.specs.Statements.{ChoosesRows, condition_in}
 use Rattle.lq_run.specs.declared.seen.SeenRow.{SeenRow}
 use Rattle.lq_run.proofs.SeenLemmas.{admitted_seen}
 use Rattle.lq_run.proofs.StoredLaws.{typed_tables}
-use Rattle.lq_run.proofs.WorldLemmas.{condition_means, is_world, over, read, same_cells, world}
+use Rattle.lq_run.proofs.WorldLemmas.{condition_means, is_world, over, read, same_cells, same_tables, world}
 
 module _ (s : State) (tables : List (TableRows SeenRow)) (seen : AreSeen s tables) (n : ℕ) (tree : Tree) where
   -- what a condition is on a row that is shown, it is on the row
   on_row : (r : SeenRow) → holds_on (world s) tree.form (shown_row r) ≡ holds_on (read s tables seen) tree.form r
   on_row r =
       ap (λ (v : Value TableRow). is_true (world s) (form_meaning (world s) tree.form) (v ∷ [])) (sym (mapped_Row shown_row r))
-      ∙ condition_like shown_row (read s tables seen) (world s).session (world s).cell (same_cells s tables seen) (form_meaning (read s tables seen) tree.form)
+      ∙ condition_like shown_row (read s tables seen) (world s).session (world s).cell (world s).table (same_cells s tables seen) (same_tables s tables seen) (form_meaning (read s tables seen) tree.form)
       (form_meaning (world s) tree.form) (means_alike shown_row (read s tables seen) (world s) (over s tables seen) tree.form) [] (value.Row r)
 
   module _ (table : Table) (there : slice_get s.tables n ≡ Some table) (x : List ℕ) (e : Expr) (is : condition_in s x n e ≡ Some tree) where
@@ -100,7 +100,7 @@ kept_behind holds (x ∷ xs) ys =
     ap (λ (rest : Stream _). then_stream (item_where (holds x) x) rest) (kept_behind holds xs ys)
     ∙ then_assoc (item_where (holds x) x).0 (item_where (holds x) x).1 (where_by holds xs end.Done).0 (where_by holds xs end.Done).1 (where_by holds ys end.Done)
 
-admitted_behind : (rules : RowRules) (n : ℕ) (xs ys : List Row) → admitted_rows rules n (xs ++ ys) ≡ admitted_rows rules n xs ++ admitted_rows rules n ys
+pub admitted_behind : (rules : RowRules) (n : ℕ) (xs ys : List Row) → admitted_rows rules n (xs ++ ys) ≡ admitted_rows rules n xs ++ admitted_rows rules n ys
 admitted_behind rules n xs ys =
     ap (map (λ (row : Row). let r : TableRow = record { table = n; row = row } in r)) (filter-append (λ (row : Row). admits rules row.cells) xs ys)
     ∙ map-append (λ (row : Row). let r : TableRow = record { table = n; row = row } in r) (filter (λ (row : Row). admits rules row.cells) xs)

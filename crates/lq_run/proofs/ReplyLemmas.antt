@@ -54,7 +54,7 @@ module _ (s : State) where
   by_layer t layer found is = sym (ap (λ (l : Ty-F Ty). served_as (world s) t l found) is)
 
   -- the type that an expression is served by
-  type_served : (e : Expr) (tree : Tree) → IsTreeOf s e tree → served_type (names_in s) e ≡ when (has_place (out-Ty tree.ty)) (Some tree.ty)
+  pub type_served : (e : Expr) (tree : Tree) → IsTreeOf s e tree → served_type (names_in s) e ≡ when (has_place (out-Ty tree.ty)) (Some tree.ty)
   type_served e tree is = sym (ap if_placed (ap (option_map (λ t. t.ty)) (sym is) ∙ tree_type e))
 
   -- nothing is denied of what can't be in a reply, and nothing of it is served
@@ -83,7 +83,7 @@ module _ (s : State) where
     shown = form_rights tree.form ++ shown_columns schemas tree.ty
 
     -- is what the machine asks for
-    used_same : (e : Expr) → IsTreeOf s e tree → form_rights tree.form ++ shown_columns schemas tree.ty ≡ used_by (names_in s) e tree.ty
+    pub used_same : (e : Expr) → IsTreeOf s e tree → form_rights tree.form ++ shown_columns schemas tree.ty ≡ used_by (names_in s) e tree.ty
     unfolding form_rights
     used_same e is = ap (λ us. uses_of us ++ shown_columns schemas tree.ty) (uses_of_statements schemas (host_names s) s.definitions defined e tree is)
 

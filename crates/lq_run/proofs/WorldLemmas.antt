@@ -61,8 +61,11 @@ module _ (s : State) where
     pub same_cells : (r : SeenRow) (column : List ℕ) → world.cell (shown_row r) column ≡ read.cell r column
     same_cells r column = ap (λ (given : List Schema). cell_named (columns_in (slice_get given r.table)) r.row.now.cells column) (sym seen.schemas)
 
+    pub same_tables : (r : SeenRow) → world.table (shown_row r) ≡ read.table r
+    same_tables r = refl
+
     pub over : OverRows shown_row read world
-    over = record { schemas = sym seen.schemas; rows = sym seen.rows; cells = same_cells; predicates = refl; unknown = refl }
+    over = record { schemas = sym seen.schemas; rows = sym seen.rows; cells = same_cells; tables = same_tables; predicates = refl; unknown = refl }
 
   module _ (kept : Every IsTable s.tables) (defined : AreDefined (schemas_of s.tables) (host_names s) s.definitions) where
     holds : HoldsRows world

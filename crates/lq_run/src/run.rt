@@ -1,7 +1,11 @@
 //! The answer to `run`.
 ghost use Rattle.std.specs.Prelude.{◌≡◌, false, IfOk};
 ghost use Rattle.lq_machine.specs.Opening.{is_past_opening};
-ghost use Rattle.lq_machine.specs.Serving.{run_in};
+ghost use Rattle.lq_machine.specs.HostCalls.{run_named};
+ghost use Rattle.lq_machine.specs.Serving.{run_in, served_type};
+ghost use Rattle.lq_machine.specs.States.{names_in};
+ghost use Rattle.lq_tree.specs.UsesOfForms.{form_uses};
+ghost use Rattle.lq_run.specs.Calls.{AddsCalls};
 ghost use Rattle.lq_run.specs.Replies.{ServesTree};
 ghost use Rattle.lq_run.specs.States.{AreKnown, state_with};
 ghost use Rattle.lq_run.specs.Stops.{IsAnswered};
@@ -12,7 +16,7 @@ use crate::stop::{Stop, refusal};
 use crate::tables::with_rows;
 use crate::{denials, reply, trees};
 use lq_grammar::Expr;
-use lq_host::Asks;
+use lq_host::{Asks, Log};
 use lq_json::Line;
 use lq_machine::Opened;
 use lq_tree::{Tree, ty};
@@ -26,13 +30,17 @@ fn seen_line<H: Asks>(
     tree: &Tree,
     state: &State,
     hosts: &H,
+    log: &mut Log<H>,
 ) -> Result<Line, AllocError>
     requires { AreKnown (H.known hosts.now) state.now }
-    ensures { IfOk result (ServesTree (state_with (H.known hosts.now) state.now) tree.now) }
+    ensures served { IfOk result
+        (ServesTree (state_with (H.known hosts.now) state.now) tree.now) }
+    ensures calls { AddsCalls (state_with (H.known hosts.now) state.now)
+        (form_uses tree.now.form) log.old log.new }
 {
     let seen = seen_tables(alloc, state)?;
     let tables = with_rows(alloc, state, seen.as_slice())?;
-    reply::tree_line(alloc, state.store(), tree, tables.as_slice(), hosts)
+    reply::tree_line(alloc, state.store(), tree, tables.as_slice(), hosts, log)
 }
 
 /// The line that `run` of an expression is answered, where what the statement opens is within the limits of opening: the
@@ -45,10 +53,16 @@ pub fn run_line<H: Asks>(
     opened: Opened,
     state: &State,
     hosts: &H,
+    log: &mut Log<H>,
 ) -> Result<Line, Stop>
     requires within { is_past_opening opened ≡ false }
     requires known { AreKnown (H.known hosts.now) state.now }
-    ensures { IsAnswered (run_in (state_with (H.known hosts.now) state.now) expr.now) result }
+    ensures answered { IsAnswered
+        (run_in (state_with (H.known hosts.now) state.now) expr.now) result }
+    ensures calls { AddsCalls (state_with (H.known hosts.now) state.now)
+        (run_named (state_with (H.known hosts.now) state.now) expr.now
+        (served_type (names_in (state_with (H.known hosts.now) state.now)) expr.now))
+        log.old log.new }
 {
     let tree = trees::tree_of(alloc, expr, opened, state)?;
     if !has_place(ty(&tree)) {
@@ -56,5 +70,5 @@ pub fn run_line<H: Asks>(
     }
     let used = uses(alloc, &tree, state.store(), true)?;
     denials::check_rights(alloc, used.as_slice(), state)?;
-    Ok(seen_line(alloc, &tree, state, hosts)?)
+    Ok(seen_line(alloc, &tree, state, hosts, log)?)
 }

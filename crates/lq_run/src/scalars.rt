@@ -1,16 +1,20 @@
 //! Scalars that a statement evaluates at once: those of `var` and of assignments.
-ghost use Rattle.std.specs.Prelude.{◌≡◌, true};
+ghost use Rattle.std.specs.Prelude.{◌≡◌, Some, true};
 ghost use Rattle.lq_value.specs.declared.ty.Ty.{out-Ty};
 ghost use Rattle.lq_value.specs.declared.value.Value.{out-Value};
+ghost use Rattle.lq_grammar.specs.declared.syntax.Expr.{Expr};
+ghost use Rattle.lq_machine.specs.HostCalls.{named_now};
+ghost use Rattle.lq_tree.specs.UsesOfForms.{form_uses};
+ghost use Rattle.lq_run.specs.Calls.{AddsCalls};
 ghost use Rattle.lq_run.specs.States.{AreKnown, state_with};
-ghost use Rattle.lq_run.specs.Statements.{EvaluatesTree, YieldsTree, is_of_scalars, scalar_in};
+ghost use Rattle.lq_run.specs.Statements.{EvaluatesTree, YieldsTree, is_of_scalars, scalar_in, tree_in};
 
 use crate::denials::check_rights;
 use crate::seen::seen_tables;
 use crate::state::State;
 use crate::stop::{Stop, fault, refusal};
 use crate::tables::with_rows;
-use lq_host::Asks;
+use lq_host::{Asks, Log};
 use lq_pipe::{RunError, value};
 use lq_tree::Tree;
 use lq_use::uses;
@@ -33,14 +37,17 @@ fn evaluate_seen<H: Asks>(
     tree: &Tree,
     state: &State,
     hosts: &H,
+    log: &mut Log<H>,
 ) -> Result<Scalar, Stop>
     requires scalar { is_of_scalars (out-Ty tree.now.ty) ≡ true }
     requires known { AreKnown (H.known hosts.now) state.now }
-    ensures { YieldsTree (state_with (H.known hosts.now) state.now) tree.now result }
+    ensures yields { YieldsTree (state_with (H.known hosts.now) state.now) tree.now result }
+    ensures calls { AddsCalls (state_with (H.known hosts.now) state.now)
+        (form_uses tree.now.form) log.old log.new }
 {
     let seen = seen_tables(alloc, state)?;
     let tables = with_rows(alloc, state, seen.as_slice())?;
-    match value(alloc, tree, tables.as_slice(), hosts) {
+    match value(alloc, tree, tables.as_slice(), hosts, log) {
         Ok(found) => match scalar_of(found) {
             Some(scalar) => Ok(scalar),
             None => Err(refusal(alloc, "type")),
@@ -57,12 +64,17 @@ pub fn evaluate_scalar<H: Asks>(
     tree: &Tree,
     state: &State,
     hosts: &H,
+    log: &mut Log<H>,
 ) -> Result<Scalar, Stop>
     requires scalar { is_of_scalars (out-Ty tree.now.ty) ≡ true }
     requires known { AreKnown (H.known hosts.now) state.now }
-    ensures { EvaluatesTree (state_with (H.known hosts.now) state.now) tree.now result }
+    ensures evaluates { EvaluatesTree (state_with (H.known hosts.now) state.now) tree.now result }
+    ensures calls { (e : Expr) → tree_in (state_with (H.known hosts.now) state.now) e
+        ≡ Some tree.now
+        → AddsCalls (state_with (H.known hosts.now) state.now)
+        (named_now (state_with (H.known hosts.now) state.now) e) log.old log.new }
 {
     let used = uses(alloc, tree, state.store(), false)?;
     check_rights(alloc, used.as_slice(), state)?;
-    evaluate_seen(alloc, tree, state, hosts)
+    evaluate_seen(alloc, tree, state, hosts, log)
 }

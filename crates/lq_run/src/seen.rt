@@ -31,8 +31,14 @@ impl RowRef for SeenRow<'_> {
 impl TableRow for SeenRow<'_> {
     ghost table_of = { λ r. r.table };
 
+    ghost number_of = { λ r. r.row.now.number };
+
     fn table(&self) -> TableNumber {
         self.table
+    }
+
+    fn number(&self) -> u64 {
+        self.row.number
     }
 }
 

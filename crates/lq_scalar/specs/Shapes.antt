@@ -31,6 +31,7 @@ faulting world = record {
   predicates = [];
   session = world.session;
   cell = world.cell;
+  table = world.table;
   unknown = fault.NullReference;
 }
 

@@ -34,7 +34,7 @@ use Rattle.lq_security.proofs.RuleLemmas.{meant, truth_of_value}
 -- what the language says of a rule on a row whose columns have these names
 abbrev said : List Column → List (List ℕ) → List Scalar → List ℕ → Expr → Result (Value (List Scalar)) Fault
 said columns names cells user rule =
-    let world : World (List Scalar) = record { schemas = record { name = []; columns = columns } ∷ []; rows = [] ∷ []; predicates = []; session = []; cell = cell_named names; unknown = fault.NullReference } in
+    let world : World (List Scalar) = record { schemas = record { name = []; columns = columns } ∷ []; rows = [] ∷ []; predicates = []; session = []; cell = cell_named names; table = λ cells. 0; unknown = fault.NullReference } in
     expression_meaning world rule (language_scope cells user)
 
 module _ (columns : List Column) (asked : RowForUser) (names : asked.columns ≡ map (λ column. column.name) columns) (row : IsRowOver columns asked.cells) where

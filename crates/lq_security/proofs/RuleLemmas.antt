@@ -55,7 +55,7 @@ module _ (columns : List Column) (cells : List Scalar) (row : IsRowOver columns 
   scope = language_scope cells user
 
   has_cells : HasCells world 0 cells
-  has_cells c t h = typed_cell columns cells row.typed c t h
+  has_cells = (refl, λ c t h. typed_cell columns cells row.typed c t h)
 
   holds_rows : HoldsRows world
   holds_rows zero schema is = ([], refl, every_none (HasCells world zero))

@@ -66,10 +66,10 @@ module _ (schemas : List Schema) (rows : List (List (List Scalar))) (cell : List
   Outcome = Result V Fault
 
   abbrev pub table_world : World (List Scalar)
-  table_world = record { schemas = schemas; rows = rows; predicates = []; session = []; cell = cell; unknown = unknown }
+  table_world = record { schemas = schemas; rows = rows; predicates = []; session = []; cell = cell; table = λ cells. 0; unknown = unknown }
 
   abbrev pub bare : World (List Scalar)
-  bare = record { schemas = []; rows = []; predicates = []; session = []; cell = cell; unknown = unknown }
+  bare = record { schemas = []; rows = []; predicates = []; session = []; cell = cell; table = λ cells. 0; unknown = unknown }
 
   scalar_same : (layer : Layer) → scalar_of table_world layer ≡ scalar_of bare layer
   scalar_same (Value-F.Scalar s) = refl

@@ -55,6 +55,7 @@ language_world columns unknown = record {
   predicates = [];
   session = [];
   cell = cell_named (map (λ column. column.name) columns);
+  table = λ cells. 0;
   unknown = unknown;
 }
 

@@ -28,7 +28,7 @@ use Rattle.lq_grammar.specs.declared.syntax.Expr.{Expr}
 
 -- a rule reads the cells of the row at hand, and no table, and asks no host predicate; one without a meaning faults, and so is not true
 abbrev pub rule_world : List (List ℕ) → World (List Scalar)
-rule_world columns = record { schemas = []; rows = []; predicates = []; session = []; cell = cell_named columns; unknown = fault.NullReference }
+rule_world columns = record { schemas = []; rows = []; predicates = []; session = []; cell = cell_named columns; table = λ cells. 0; unknown = fault.NullReference }
 
 -- the names of a rule: `row`, of the one table that a rule is about, and `user`, which is the name of the role
 abbrev pub rule_scope : List Scalar → List ℕ → Scope (List Scalar)
@@ -188,6 +188,7 @@ IsTrueOn columns asked rule =
       predicates = [];
       session = [];
       cell = cell_named asked.columns;
+      table = λ cells. 0;
       unknown = fault.NullReference;
     } in
     expression_meaning world rule (language_scope asked.cells asked.user) ≡ Ok (value.Scalar (scalar.Bool true))

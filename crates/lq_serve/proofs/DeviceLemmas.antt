@@ -2,7 +2,7 @@
 use Rattle.std.proofs.Common.{◌≡◌, ◌<◌, ◌≤◌, ◌+◌, ◌↔◌, ℕ, Bool, true, false, List, [], ◌∷◌, ◌++◌, if◌then◌else◌, Option, None, Some, Result, Ok, Err, IfSome, IsErr, OnOk, OnErr, length, take, drop, refl, sym, ◌∙◌, ap, subst, append_assoc, append-nil, take-append-drop, length-append, arith}
 use Rattle.std.specs.Io.KnownBytes.{Appends, Consumes, Keeps}
 use Rattle.std.proofs.KnownBytes.{Appends-nil, Appends-trans, Appends-kept, Consumes-trans}
-use Rattle.lq_serve.specs.Devices.{AppendsFront, TakesAtMost, Writes, is_ended, late_count, late_count_next, one_more}
+use Rattle.lq_serve.specs.Devices.{AppendsFront, TakesAtMost, Writes, WritesUnlessFailed, is_ended, late_count, late_count_next, one_more}
 use Rattle.lq_serve.specs.declared.device.Device.{Device}
 
 -- an exit by `?` whose error no clause looks at
@@ -92,6 +92,46 @@ pub Writes-stopped : (before after : Option (List ℕ)) (bytes more : List ℕ) 
     → Writes failed before after bytes → Writes failed before after (bytes ++ more)
 Writes-stopped before after bytes more false e wrote = cc
 Writes-stopped before after bytes more true e wrote = AppendsFront-more before after bytes more wrote
+
+-- ---- a device that may have failed before
+
+-- it has, and nothing is written
+pub takes_none : (failed : Bool) (before : Option (List ℕ)) (bytes : List ℕ) → failed ≡ true → WritesUnlessFailed failed before failed before bytes
+takes_none false before bytes e = cc
+takes_none true before bytes e = (refl, refl)
+
+-- it hasn't
+pub takes_front : (failed_before failed : Bool) (before after : Option (List ℕ)) (bytes : List ℕ) → failed_before ≡ false
+    → Writes failed before after bytes → WritesUnlessFailed failed_before before failed after bytes
+takes_front false failed before after bytes e wrote = wrote
+takes_front true failed before after bytes e wrote = cc
+
+pub ruleset unless_failed = (takes_none, takes_front)
+
+-- nothing is written of nothing
+pub nothing_more : (failed : Bool) (known : Option (List ℕ)) → WritesUnlessFailed failed known failed known []
+nothing_more false known = Appends-nil known
+nothing_more true known = (refl, refl)
+
+-- one text behind another
+pub Writes-next : (failed_before failed_between failed : Bool) (before between after : Option (List ℕ)) (bytes more : List ℕ)
+    → WritesUnlessFailed failed_before before failed_between between bytes → WritesUnlessFailed failed_between between failed after more
+    → WritesUnlessFailed failed_before before failed after (bytes ++ more)
+Writes-next false false failed before between after bytes more first next = Writes-more before between after bytes more failed first next
+Writes-next false true failed before between after bytes more first next =
+    subst (λ known. Writes failed before known (bytes ++ more)) (sym next.1) (Writes-stopped before between bytes more failed next.0
+    (subst (λ is. Writes is before between bytes) (sym next.0) first))
+Writes-next true failed_between failed before between after bytes more first next = stays failed_between first.0 next
+  where
+    stays : (is : Bool) → is ≡ true → WritesUnlessFailed is between failed after more → (failed ≡ true) × (after ≡ before)
+    stays true e nothing = (nothing.0, nothing.1 ∙ first.1)
+    stays false e nothing = cc
+
+-- it hadn't failed at the start
+pub Writes-from : (failed_before failed : Bool) (before after : Option (List ℕ)) (bytes : List ℕ) → failed_before ≡ false
+    → WritesUnlessFailed failed_before before failed after bytes → Writes failed before after bytes
+Writes-from false failed before after bytes e wrote = wrote
+Writes-from true failed before after bytes e wrote = cc
 
 -- a device is unmarked where a mark would be absurd
 pub unmarked : (failed : Bool) → (failed ≡ true → ⊥) → failed ≡ false

@@ -47,6 +47,11 @@ abbrev pub Writes : Bool → Option (List ℕ) → Option (List ℕ) → List �
 Writes false before after bytes = Appends before after bytes
 Writes true before after bytes = AppendsFront before after bytes
 
+-- The same of a device that may have failed before: it then took none of them, and stays as it was.
+abbrev pub WritesUnlessFailed : Bool → Option (List ℕ) → Bool → Option (List ℕ) → List ℕ → Type 0
+WritesUnlessFailed false before failed after bytes = Writes failed before after bytes
+WritesUnlessFailed true before failed after bytes = (failed ≡ true) × (after ≡ before)
+
 -- Of the known bytes a front was taken, and at most so many.
 pub record TakesAtMost (limit : ℕ) (before after : Option (List ℕ)) : Type 0 where
   pub taken : List ℕ

@@ -1,5 +1,6 @@
 -- How the program ends for its caller: by a status and a line.
 use Rattle.std.specs.Prelude.{◌≡◌, ◌∷◌, ◌++◌, ℕ, Bool, true, false, List, [], Option, Result, Ok, Err, codes}
+use Rattle.lq_host.specs.Hosts.{Hosts}
 use Rattle.lq_machine.specs.States.{State}
 use Rattle.lq_serve.specs.Devices.{Writes}
 use Rattle.lq_serve.specs.ScriptRun.{IsNoText, IsTooLong, ServedInPart, ServedWhole}
@@ -52,28 +53,28 @@ abbrev pub is_write_fault : Outcome → Bool
 is_write_fault (Err serve.Write) = true
 is_write_fault outcome = false
 
--- nothing was stepped, and nothing written
-abbrev pub IsUntouched : State → State → Option (List ℕ) → Option (List ℕ) → Type 0
-IsUntouched old new before after = (new ≡ old) × (after ≡ before)
+-- nothing was stepped, nobody asked, and nothing written
+abbrev pub IsUntouched : State → State → Hosts → Hosts → Option (List ℕ) → Option (List ℕ) → Type 0
+IsUntouched old new hosts hosts_after before after = (new ≡ old) × (hosts_after ≡ hosts) × (after ≡ before)
 
 -- What an outcome says of the script, the session and the writer. The bytes that the reader had may be
 -- known; where there was no memory for them, the reader had not come to its end.
-abbrev pub Comes : Option (List ℕ) → State → State → Option (List ℕ) → Option (List ℕ) → Bool → Outcome → Type 0
-Comes known old new before after ended (Ok summary) = ServedWhole known old new before after summary
-Comes known old new before after ended (Err serve.Read) = IsUntouched old new before after
-Comes known old new before after ended (Err serve.Write) = ServedInPart known old new before after
-Comes known old new before after ended (Err serve.TooLong) = IsTooLong known × IsUntouched old new before after
-Comes known old new before after ended (Err serve.Utf8) = IsNoText known × IsUntouched old new before after
-Comes known old new before after ended (Err serve.Memory) = (ended ≡ false) × IsUntouched old new before after
+abbrev pub Comes : Option (List ℕ) → State → State → Hosts → Hosts → Option (List ℕ) → Option (List ℕ) → Bool → Outcome → Type 0
+Comes known old new hosts hosts_after before after ended (Ok summary) = ServedWhole known old new hosts hosts_after before after summary
+Comes known old new hosts hosts_after before after ended (Err serve.Read) = IsUntouched old new hosts hosts_after before after
+Comes known old new hosts hosts_after before after ended (Err serve.Write) = ServedInPart known old new hosts hosts_after before after
+Comes known old new hosts hosts_after before after ended (Err serve.TooLong) = IsTooLong known × IsUntouched old new hosts hosts_after before after
+Comes known old new hosts hosts_after before after ended (Err serve.Utf8) = IsNoText known × IsUntouched old new hosts hosts_after before after
+Comes known old new hosts hosts_after before after ended (Err serve.Memory) = (ended ≡ false) × IsUntouched old new hosts hosts_after before after
 
 -- Serving came to one outcome, which alone decides the devices' marks, the program's status, and the line that was
--- written to the errors, whole unless their device failed.
-pub record Finished (known : Option (List ℕ)) (old new : State) (before after : Option (List ℕ))
-    (reader_failed reader_ended writer_failed : Bool)
+-- written to the errors behind the audit, both whole unless their device failed.
+pub record Finished (known : Option (List ℕ)) (old new : State) (hosts hosts_after : Hosts) (before after : Option (List ℕ))
+    (reader_failed reader_ended writer_failed : Bool) (audit : List ℕ)
     (errors_before errors_after : Option (List ℕ)) (errors_failed : Bool) (status : ℕ) : Type 0 where
   pub outcome : Outcome
-  pub comes : Comes known old new before after reader_ended outcome
+  pub comes : Comes known old new hosts hosts_after before after reader_ended outcome
   pub read : reader_failed ≡ is_read_fault outcome
   pub wrote : writer_failed ≡ is_write_fault outcome
   pub answers : status ≡ status_of_outcome outcome
-  pub tells : Writes errors_failed errors_before errors_after (outcome_line outcome)
+  pub tells : Writes errors_failed errors_before errors_after (audit ++ outcome_line outcome)

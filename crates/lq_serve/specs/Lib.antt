@@ -1,3 +1,4 @@
+pub mod Audit
 pub mod Devices
 pub mod Ending
 pub mod Files

@@ -3,11 +3,13 @@
 //!
 //! `serve` writes exactly the session machine's replies to the script's lines; `load` starts the session
 //! that the files mean, or names the first fault; `finish` and `refuse` end with the status and the line
-//! of what happened.
+//! of what happened, and `finish` with an audit of the host calls before it, if one is asked for.
 #![tactic(auto)]
 
+mod audit;
 mod device;
 mod ending;
+mod error_output;
 mod file_fault;
 mod files;
 mod loading;

@@ -1,7 +1,7 @@
 //! Serving a script: reading it whole, stepping its lines in order, and writing their replies.
 ghost use Rattle.std.specs.Prelude.{◌≡◌, ◌≢◌, ◌+◌, ◌≤◌, ◌↔◌, List, ℕ, false, true, length, IfOk, IfErr, OnOk, OnErr, IfSome};
 ghost use Rattle.lq_grammar.specs.Script.{lines_of, script_limit};
-ghost use Rattle.lq_session.specs.States.{state_of};
+ghost use Rattle.lq_session.specs.States.{hosts_in, state_of};
 ghost use Rattle.lq_serve.specs.Devices.{inner_of, read_count, late_count, late_count_next, is_ended, is_failed, TakesAtMost};
 ghost use Rattle.lq_serve.specs.ScriptRun.{IsNoText, IsTooLong, LineServed, LineServedInPart, LinesServed, ServedInPart, ServedWhole, Stopped};
 
@@ -41,16 +41,16 @@ pub fn serve<R: Read, W: Write>(
     requires reader { is_failed reader.old ≡ false }
     requires writer { is_failed writer.old ≡ false }
 
-    // What is written is the output of the machine over the script's lines.
+    // What is written is the output of the machine over the script's lines, and the log grows by the calls that these make.
     ensures ok { IfOk result (λ summary.
         ServedWhole (R.remaining (inner_of reader.old)) (state_of session.old)
-        (state_of session.new)
+        (state_of session.new) (hosts_in session.old) (hosts_in session.new)
         (W.contents (inner_of writer.old)) (W.contents (inner_of writer.new)) summary) }
 
     // After a failed write the first lines were stepped, and what was written is a front of their output.
     ensures write { result ≡ Err ServeError.Write
         → ServedInPart (R.remaining (inner_of reader.old)) (state_of session.old)
-        (state_of session.new)
+        (state_of session.new) (hosts_in session.old) (hosts_in session.new)
         (W.contents (inner_of writer.old)) (W.contents (inner_of writer.new)) }
 
     // After each other error nothing was stepped and nothing written.
@@ -94,9 +94,10 @@ fn serve_text<W: Write>(
     requires writer { is_failed writer.old ≡ false }
     ensures ok { IfOk result (λ summary.
         LinesServed (lines_of text.now) (state_of session.old) (state_of session.new)
+        (hosts_in session.old) (hosts_in session.new)
         (W.contents (inner_of writer.old)) (W.contents (inner_of writer.new)) summary) }
     ensures err { OnErr result (Stopped (lines_of text.now) (state_of session.old)
-        (state_of session.new)
+        (state_of session.new) (hosts_in session.old) (hosts_in session.new)
         (W.contents (inner_of writer.old)) (W.contents (inner_of writer.new))) }
     ensures unmarked { OnOk result (is_failed writer.new ≡ false) }
     ensures marked { OnErr result (is_failed writer.new ≡ true) }
@@ -125,10 +126,10 @@ fn serve_line<W: Write>(
 ) -> Result<u64, WriteFailed>
     requires { is_failed writer.old ≡ false }
     ensures ok { IfOk result (λ count. LineServed line.now (state_of session.old)
-        (state_of session.new)
+        (state_of session.new) (hosts_in session.old) (hosts_in session.new)
         (W.contents (inner_of writer.old)) (W.contents (inner_of writer.new)) count) }
     ensures err { OnErr result (LineServedInPart line.now (state_of session.old)
-        (state_of session.new)
+        (state_of session.new) (hosts_in session.old) (hosts_in session.new)
         (W.contents (inner_of writer.old)) (W.contents (inner_of writer.new))) }
     ensures few { IfOk result (λ count. count ≤ 1) }
     ensures unmarked { OnOk result (is_failed writer.new ≡ false) }

@@ -1,3 +1,4 @@
+pub mod CallLemmas
 pub mod ConditionLemmas
 pub mod DeletionLemmas
 pub mod InsertLemmas

@@ -1,11 +1,12 @@
 -- From what a statement's calls give to the machine's step.
-use Rattle.std.proofs.Common.{◌≡◌, ◌∷◌, List, [], ℕ, Bool, true, false, if◌then◌else◌, Option, Some, None, IsSome, Ok, Err, ap, ap₂, ◌∙◌, sym, refl, codes}
+use Rattle.std.proofs.Common.{◌≡◌, ◌∷◌, List, [], ℕ, Bool, true, false, if◌then◌else◌, Option, Some, None, IsSome, Ok, Err, ap, ap₂, append-nil, ◌∙◌, sym, refl, codes}
 use Rattle.std.proofs.lemmas.Option.{none-some, same_Some}
 use Rattle.lq_language.proofs.ItemLaws.{every_none}
-use Rattle.lq_machine.specs.HostCalls.{IsAllowed, MayCall, line_named}
-use Rattle.lq_machine.specs.Machine.{Reply, perform, replied, step, step_by}
+use Rattle.lq_host.specs.Hosts.{Hosts}
+use Rattle.lq_machine.specs.HostCalls.{IsAllowed, line_named}
+use Rattle.lq_machine.specs.Machine.{Reply, memory_line, perform, replied, step, step_by}
 use Rattle.lq_machine.specs.Opening.{is_past_opening, opening_of}
-use Rattle.lq_machine.specs.Output.{Answers, as_machine}
+use Rattle.lq_machine.specs.Output.{as_machine, no_memory}
 use Rattle.lq_machine.specs.Statements.{refused}
 use Rattle.lq_machine.specs.States.{State}
 use Rattle.lq_grammar.specs.Depth.{is_deep}
@@ -15,8 +16,10 @@ use Rattle.lq_grammar.specs.Tokens.{tokens_of}
 use Rattle.lq_machine.specs.declared.session.Opened.{Opened}
 use Rattle.lq_grammar.specs.declared.syntax.Statement.{Statement}
 use Rattle.lq_grammar.specs.declared.token.Token.{Token}
+use Rattle.lq_run.specs.Calls.{AddsCalls}
 use Rattle.lq_run.specs.declared.stop.Stop.{Stop}
 use Rattle.lq_run.specs.declared.stop.Stop.TheVariants as stop
+use Rattle.lq_session.specs.Calls.{AnswersAndLogs}
 use Rattle.lq_session.specs.Lines.{OpensWithin, RefusesLine, word_of}
 use Rattle.lq_session.specs.Performed.{Performs, Steps}
 
@@ -98,15 +101,37 @@ module _ (old : State) (line : List ℕ) where
 
   -- ---- steps that the session answers
 
-  -- no call is logged
-  pub no_calls : MayCall old line []
-  no_calls = every_none (IsAllowed old (line_named old line))
+  -- without a call
+  pub answers_blank : (hosts : Hosts) → tokens_of line ≡ Some [] → AnswersAndLogs old hosts line None old hosts
+  answers_blank hosts h = record {
+    calls = [];
+    logged = (sym (append-nil hosts.calls), refl);
+    answer = as_machine (blank_step h) (every_none (IsAllowed old (line_named old line)));
+  }
 
-  pub answers_blank : tokens_of line ≡ Some [] → Answers old line None [] old
-  answers_blank h = as_machine (blank_step h) no_calls
+  -- and with calls of what the line names
+  module _ (hosts hosts_after : Hosts) (added : AddsCalls old (line_named old line) hosts.calls hosts_after.calls)
+      (same : hosts_after.predicates ≡ hosts.predicates) (new : State) where
+    pub answers_stepped : (reply : Reply) → Steps (step old line) old (Ok reply) new → AnswersAndLogs old hosts line reply new hosts_after
+    answers_stepped reply h = record {
+      calls = added.0;
+      logged = (added.1, same);
+      answer = as_machine (ap₂ (λ (r : Reply) (s : State). (r, s)) h.0 h.1) added.2;
+    }
 
-  pub answers_stepped : (new : State) (reply : Reply) → Steps (step old line) old (Ok reply) new → Answers old line reply [] new
-  answers_stepped new reply h = as_machine (ap₂ (λ (r : Reply) (s : State). (r, s)) h.0 h.1) no_calls
+    pub answers_stopped : (reply : List ℕ) → Steps (step old line) old (Err (stop.Answer reply)) new
+        → AnswersAndLogs old hosts line (Some reply) new hosts_after
+    answers_stopped reply h = record {
+      calls = added.0;
+      logged = (added.1, same);
+      answer = as_machine (ap₂ (λ (r : Reply) (s : State). (r, s)) h.0 (h.2 ∙ h.1)) added.2;
+    }
 
-  pub answers_stopped : (new : State) (reply : List ℕ) → Steps (step old line) old (Err (stop.Answer reply)) new → Answers old line (Some reply) [] new
-  answers_stopped new reply h = as_machine (ap₂ (λ (r : Reply) (s : State). (r, s)) h.0 (h.2 ∙ h.1)) no_calls
+    -- where memory was refused the state is as it was, and the calls that were made are in the log
+    pub answers_refused : (tokens_of line ≡ Some [] → ⊥) → (reply : Reply) → reply ≡ Some memory_line → Steps (step old line) old (Err stop.Memory) new
+        → AnswersAndLogs old hosts line reply new hosts_after
+    answers_refused met reply is stays = record {
+      calls = added.0;
+      logged = (added.1, same);
+      answer = no_memory (some_reply met) is stays added.2;
+    }

@@ -1,3 +1,4 @@
+pub mod Calls
 pub mod Lines
 pub mod Openings
 pub mod Performed

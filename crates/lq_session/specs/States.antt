@@ -1,6 +1,6 @@
 -- The state that a session is in, and its host predicates.
 use Rattle.std.specs.Prelude.{List}
-use Rattle.lq_host.specs.Hosts.{Hosts, hosts_of, predicates_of}
+use Rattle.lq_host.specs.Hosts.{Hosts, hosts_of}
 use Rattle.lq_host.specs.Predicates.{Predicate}
 use Rattle.lq_machine.specs.States.{State}
 use Rattle.lq_run.specs.States.{SessionState, state_with}
@@ -12,7 +12,7 @@ hosts_in session = hosts_of session.hosts
 
 -- its host predicates, by their numbers
 abbrev pub predicates_in : {a b c d e f : _} → Session a b c d e f → List Predicate
-predicates_in session = predicates_of session.hosts.predicates
+predicates_in session = (hosts_of session.hosts).predicates
 
 -- what it is, the predicates aside
 abbrev pub session_state : {a b c d e f : _} → Session a b c d e f → SessionState
@@ -20,4 +20,4 @@ session_state session = session.state
 
 -- the state of the machine
 abbrev pub state_of : {a b c d e f : _} → Session a b c d e f → State
-state_of session = state_with (predicates_of session.hosts.predicates) session.state
+state_of session = state_with (hosts_of session.hosts).predicates session.state

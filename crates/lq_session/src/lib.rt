@@ -13,6 +13,7 @@ mod serving;
 mod session;
 mod statements;
 mod variables;
+mod work;
 
 pub use lq_json::Line;
 pub use session::Session;

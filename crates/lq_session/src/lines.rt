@@ -26,7 +26,7 @@ pub(crate) fn tokens_of(alloc: Global, line: &str) -> Result<Vec<Token>, Stop>
 }
 
 /// A value that may be there, in a box of its own.
-fn boxed<T: Drop>(alloc: Global, value: Option<T>) -> Result<Option<Held<T>>, AllocError>
+fn box_of<T: Drop>(alloc: Global, value: Option<T>) -> Result<Option<Held<T>>, AllocError>
     ensures { IfOk result (λ holder. holder ≡ value) }
 {
     match value {
@@ -46,7 +46,7 @@ pub(crate) fn statement_of(
     ensures { SaysStatement line.now result }
 {
     match parse_tokens(alloc, line, tokens) {
-        Ok(statement) => Ok(boxed(alloc, statement)?),
+        Ok(statement) => Ok(box_of(alloc, statement)?),
         Err(SyntaxError::Syntax) => Err(refusal(alloc, "syntax")),
         Err(SyntaxError::TooDeep) => Err(refusal(alloc, "too-deep")),
         Err(SyntaxError::Memory) => Err(Stop::Memory),

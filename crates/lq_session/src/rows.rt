@@ -1,14 +1,16 @@
 //! Rows that statements put into tables, and those that they remove.
 ghost use Rattle.std.specs.Prelude.{◌≡◌, false};
+ghost use Rattle.lq_grammar.specs.declared.syntax.Statement.TheVariants.{Delete};
 ghost use Rattle.lq_machine.specs.Opening.{is_past_opening};
 ghost use Rattle.lq_machine.specs.Statements.{deleted, inserted};
 ghost use Rattle.lq_run.specs.States.{AreKnown, HoldsOf, state_with};
+ghost use Rattle.lq_session.specs.Calls.{CallsWith};
 ghost use Rattle.lq_session.specs.Performed.{PerformsWith, PerformsWithAny};
 ghost use Rattle.lq_session.specs.Rows.{ChecksRow, is_full, is_typed, is_within};
 
 use crate::replies::reply;
 use lq_grammar::Expr;
-use lq_host::Asks;
+use lq_host::{Asks, Log};
 use lq_json::{Line, Reply};
 use lq_machine::Opened;
 use lq_policy::Use;
@@ -104,6 +106,7 @@ pub(crate) fn delete<H: Asks>(
     opened: Opened,
     state: &mut State,
     hosts: &H,
+    log: &mut Log<H>,
 ) -> Result<Line, Stop>
     requires within { is_past_opening opened ≡ false }
     requires known { AreKnown (H.known hosts.now) state.old }
@@ -111,6 +114,8 @@ pub(crate) fn delete<H: Asks>(
         (deleted (state_with (H.known hosts.now) state.old) name.now row.now condition.now)
         state.old result state.new }
     ensures hosts { state.new.policies.predicates ≡ state.old.policies.predicates }
+    ensures calls { CallsWith (H.known hosts.now) (Delete name.now row.now condition.now) state.old
+        log.old log.new }
 {
     let Some(table) = state.store().find(name) else {
         return Err(refusal(alloc, "type"));
@@ -125,7 +130,7 @@ pub(crate) fn delete<H: Asks>(
     let mut used = uses(alloc, tree, state.store(), false)?;
     used.insert(0, Use::Delete(table))?;
     check_rights(alloc, used.as_slice(), state)?;
-    let (numbers, end) = chosen_rows(alloc, table, tree, state, hosts)?;
+    let (numbers, end) = chosen_rows(alloc, table, tree, state, hosts, log)?;
     match end {
         End::Fault(met) => Err(fault(alloc, met)),
         End::Done => {

@@ -1,10 +1,10 @@
 //! The session and its step.
-ghost use Rattle.lq_host.specs.Hosts.{predicates_of};
+ghost use Rattle.lq_host.specs.Hosts.{hosts_of};
 ghost use Rattle.lq_run.specs.States.{AreKnown, AreKnown-prop};
 
 use crate::lines::{opening_of, statement_of, tokens_of};
 use crate::serving::type_of_line;
-use crate::statements::perform;
+use crate::work::OpenedStatement;
 use lq_host::HostSet;
 use lq_json::Line;
 use lq_lex::is_blank;
@@ -22,17 +22,19 @@ pub struct Session {
     alloc: Global,
     state: State,
     hosts: HostSet,
-    ghost known: { AreKnown (predicates_of hosts.predicates) state } by { AreKnown-prop _ state },
+    ghost known: { AreKnown (hosts_of hosts).predicates state } by { AreKnown-prop _ state },
 }
 
 impl Session {
-    ghost use Rattle.std.specs.Prelude.{◌≡◌, ◌<◌, [], IfOk};
+    ghost use Rattle.std.specs.Prelude.{◌≡◌, ◌<◌, IfOk};
     ghost use Rattle.lq_host.specs.Hosts.{hosts_of};
     ghost use Rattle.lq_language.specs.Worlds.{known_predicates};
     ghost use Rattle.lq_policy.specs.Roles.{number_of};
     ghost use Rattle.lq_machine.specs.Machine.{step};
     ghost use Rattle.lq_machine.specs.States.{first_state};
-    ghost use Rattle.lq_machine.specs.Output.{Answers};
+    ghost use Rattle.lq_machine.specs.HostCalls.{line_named};
+    ghost use Rattle.lq_run.specs.Calls.{AddsCalls};
+    ghost use Rattle.lq_session.specs.Calls.{AnswersAndLogs};
     ghost use Rattle.lq_session.specs.Performed.{Steps};
     ghost use Rattle.lq_machine.specs.ServedTypes.{line_type};
     ghost use Rattle.lq_session.specs.States.{hosts_in, session_state, state_of};
@@ -89,15 +91,16 @@ impl Session {
     }
 
     /// Answers one line of a script: a step of the session machine, or the memory line in place
-    /// of its reply, which leaves the session as it was. The calls of host predicates that a line makes aren't logged. A line
-    /// without a token has no reply, and one of more than 65,536 bytes is refused as `syntax`.
+    /// of its reply, which leaves the machine's state as it was. The calls of host predicates that the line makes are put after the others
+    /// in the log, whatever it is answered. A line without a token has no reply, and one of more than 65,536 bytes is refused as `syntax`.
     #[tactic(auto, using(crate::proofs::StepLemmas::answers_blank))]
     pub fn step(&mut self, line: &str) -> Option<Line>
         // This is always so. Without a condition, the proof of a caller in another crate would have to allow
         // that a step puts a closure of its own into the session.
         requires { 0 < 1 }
 
-        ensures { Answers (state_of self.old) line.now result [] (state_of self.new) }
+        ensures { AnswersAndLogs (state_of self.old) (hosts_in self.old) line.now result
+            (state_of self.new) (hosts_in self.new) }
     {
         if is_blank(line) {
             return None;
@@ -109,41 +112,58 @@ impl Session {
         }
     }
 
-    /// Ends the session, and gives the memory of its tables, policies, definitions and host predicates back.
-    pub fn close(self) {
-        let Session {
-            alloc: _,
-            state,
-            hosts,
-        } = self;
+    /// Ends the session, gives the memory of its tables, policies and definitions back, and hands out its host predicates
+    /// with the log of their calls.
+    pub fn close(self) -> HostSet
+        ensures { hosts_of result ≡ hosts_in self }
+    {
+        let (state, hosts) = self.into_parts();
         drop(state);
-        drop(hosts);
+        hosts
     }
 
-    /// Ends the session where its program ends too: the system takes its memory back at once.
-    pub fn forget(self) {
+    /// Ends the session where its program ends too, and hands out its host predicates with the log of their calls. The system
+    /// takes back the memory of all else.
+    pub fn forget(self) -> HostSet
+        ensures { hosts_of result ≡ hosts_in self }
+    {
+        let (rest, hosts) = self.into_parts();
+        mem::forget(rest);
+        hosts
+    }
+
+    fn into_parts(self) -> (State, HostSet)
+        ensures state { result.0 ≡ session_state self }
+        ensures hosts { hosts_of result.1 ≡ hosts_in self }
+    {
         let Session {
             alloc: _,
             state,
             hosts,
         } = self;
-        mem::forget(state);
-        mem::forget(hosts);
+        (state, hosts)
     }
 
     /// The reply to a line, or why its statement stops: the line is cut into tokens, which are read as a statement; what this
     /// opens is counted, and it is performed.
     fn answer(&mut self, line: &str) -> Result<Option<Line>, Stop>
-        ensures { Steps (step (state_of self.old) line.now) (state_of self.old) result
+        ensures steps { Steps (step (state_of self.old) line.now) (state_of self.old) result
             (state_of self.new) }
+        ensures calls { AddsCalls (state_of self.old) (line_named (state_of self.old) line.now)
+            (hosts_in self.old).calls (hosts_in self.new).calls }
+        ensures predicates { (hosts_in self.new).predicates ≡ (hosts_in self.old).predicates }
     {
         let tokens = tokens_of(self.alloc, line)?;
         let Some(statement) = statement_of(self.alloc, line, &tokens)? else {
             return Ok(None);
         };
         let opened = opening_of(self.alloc, line, &tokens, &self.state)?;
-        let hosts = &self.hosts.predicates;
         let statement = statement.into_inner();
-        Ok(Some(perform(self.alloc, statement, opened, &mut self.state, hosts)?))
+        let task = OpenedStatement {
+            alloc: self.alloc,
+            statement,
+            opened,
+        };
+        Ok(Some(self.hosts.work(task, &mut self.state)?))
     }
 }

@@ -2,17 +2,23 @@
 ghost use Rattle.std.specs.Prelude.{◌≡◌, Some, IfSome, false, true};
 ghost use Rattle.std.specs.Option.{option_copied};
 ghost use Rattle.lq_value.specs.declared.ty.Ty.{out-Ty};
+ghost use Rattle.lq_grammar.specs.declared.syntax.Statement.TheVariants.{Assign, Define};
+ghost use Rattle.lq_language.specs.ClauseTyping.{expression_type};
+ghost use Rattle.lq_machine.specs.HostCalls.{definition_named};
 ghost use Rattle.lq_machine.specs.Opening.{is_past_opening};
+ghost use Rattle.lq_machine.specs.States.{names_in};
 ghost use Rattle.lq_machine.specs.Statements.{assigned, defined, is_taken};
 ghost use Rattle.lq_language.specs.OperandTypes.{is_scalar};
+ghost use Rattle.lq_run.specs.Calls.{AddsCalls};
 ghost use Rattle.lq_run.specs.States.{AreKnown, state_with, without_hosts};
 ghost use Rattle.lq_run.specs.Statements.{tree_in};
+ghost use Rattle.lq_session.specs.Calls.{CallsWith};
 ghost use Rattle.lq_session.specs.Performed.{PerformsWith};
 ghost use Rattle.lq_session.specs.Variables.{DefinesBy, variable_type};
 
 use crate::{opening, replies};
 use lq_grammar::Expr;
-use lq_host::Asks;
+use lq_host::{Asks, Log};
 use lq_json::{Line, Reply};
 use lq_machine::{Defined, Opened};
 use lq_run::{State, Stop, evaluate_scalar, refusal, tree_of};
@@ -37,16 +43,21 @@ fn definition_by<H: Asks>(
     opened: Opened,
     state: &State,
     hosts: &H,
+    log: &mut Log<H>,
 ) -> Result<Defined, Stop>
     requires bound { tree_in (state_with (H.known hosts.now) state.now) expr ≡ Some tree }
     requires known { AreKnown (H.known hosts.now) state.now }
-    ensures { DefinesBy (state_with (H.known hosts.now) state.now) opened expr tree result }
+    ensures defines { DefinesBy (state_with (H.known hosts.now) state.now) opened expr tree result }
+    ensures calls { AddsCalls (state_with (H.known hosts.now) state.now)
+        (definition_named (state_with (H.known hosts.now) state.now) expr
+        (expression_type expr (names_in (state_with (H.known hosts.now) state.now))))
+        log.old log.new }
 {
     let inner = tree.get();
     match ty(inner) {
         Ty::Seq(_) => Ok(Defined::Query(expr.into_inner(), opened)),
         Ty::Int | Ty::IntN | Ty::Bool | Ty::Str => {
-            let value = evaluate_scalar(alloc, inner, state, hosts)?;
+            let value = evaluate_scalar(alloc, inner, state, hosts, log)?;
             let tree = tree.into_inner();
             Ok(Defined::Variable(tree.ty, value))
         }
@@ -64,6 +75,7 @@ pub(crate) fn define<H: Asks>(
     opened: Opened,
     state: &mut State,
     hosts: &H,
+    log: &mut Log<H>,
 ) -> Result<Line, Stop>
     requires within { is_past_opening opened ≡ false }
     requires known { AreKnown (H.known hosts.now) state.old }
@@ -71,6 +83,7 @@ pub(crate) fn define<H: Asks>(
         (defined (state_with (H.known hosts.now) state.old) name opened expr)
         state.old result state.new }
     ensures hosts { state.new.policies.predicates ≡ state.old.policies.predicates }
+    ensures calls { CallsWith (H.known hosts.now) (Define name expr) state.old log.old log.new }
 {
     if is_taken(name.as_str(), state) {
         return Err(refusal(alloc, "type"));
@@ -78,7 +91,7 @@ pub(crate) fn define<H: Asks>(
     let line = replies::reply(alloc, Reply::Defined(name.as_str()))?;
     let tree = tree_of(alloc, expr.get(), opened, state)?;
     let holder = Held::new(alloc, tree)?;
-    let defined = definition_by(alloc, expr, holder, opened, state, hosts)?;
+    let defined = definition_by(alloc, expr, holder, opened, state, hosts, log)?;
     state.define(name, defined)?;
     Ok(line)
 }
@@ -103,6 +116,7 @@ pub(crate) fn assign<H: Asks>(
     opened: Opened,
     state: &mut State,
     hosts: &H,
+    log: &mut Log<H>,
 ) -> Result<Line, Stop>
     requires within { is_past_opening opened ≡ false }
     requires known { AreKnown (H.known hosts.now) state.old }
@@ -110,6 +124,8 @@ pub(crate) fn assign<H: Asks>(
         (assigned (state_with (H.known hosts.now) state.old) name.now expr.now)
         state.old result state.new }
     ensures hosts { state.new.policies.predicates ≡ state.old.policies.predicates }
+    ensures calls { CallsWith (H.known hosts.now) (Assign name.now expr.now) state.old
+        log.old log.new }
 {
     let Some(place) = variable_type(name, state) else {
         return Err(refusal(alloc, "type"));
@@ -121,7 +137,7 @@ pub(crate) fn assign<H: Asks>(
     if !lq_typing::is_convertible(ty(tree), place) {
         return Err(refusal(alloc, "type"));
     }
-    let value = evaluate_scalar(alloc, tree, state, hosts)?;
+    let value = evaluate_scalar(alloc, tree, state, hosts, log)?;
     let line = replies::reply(alloc, Reply::Assigned(name))?;
     state.assign(name, value);
     Ok(line)

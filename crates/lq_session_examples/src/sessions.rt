@@ -85,7 +85,7 @@ fn assert_takes_one_row(rt: &impl Abort, session: &mut Session) {
 fn a_full_table_takes_no_row(rt: HostRuntime) -> Result<(), Fail> {
     let mut session = session(rt.alloc(), u64::MAX, HostSet::new(rt.alloc()))?;
     assert_takes_one_row(&rt, &mut session);
-    session.close();
+    drop(session.close());
     Ok(())
 }
 
@@ -116,6 +116,6 @@ fn a_line_too_long_leaves_the_session(rt: HostRuntime) -> Result<(), Fail> {
     let long = spaces(rt.alloc(), 65_537)?;
     let mut session = session(rt.alloc(), 1, HostSet::new(rt.alloc()))?;
     assert_unchanged_by(&rt, &mut session, &long);
-    session.close();
+    drop(session.close());
     Ok(())
 }

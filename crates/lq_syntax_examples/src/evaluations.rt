@@ -111,6 +111,7 @@ impl Names for NoNames {
       predicates = [];
       session = [];
       cell = λ row column. None;
+      table = λ row. 0;
       unknown = fault.NullReference;
     } };
 

@@ -1,6 +1,6 @@
 -- The layers of terms: what a fold gives to a node and to calls, by the maps of `Maps`, and the induction on terms. The formers are those
 -- that the types of the trees give, by the place of a part in them.
-use Rattle.std.proofs.Common.{◌≡◌, map, Some, None, ap, ◌∙◌, sym, refl, subst}
+use Rattle.std.proofs.Common.{◌≡◌, Some, None, ap, ◌∙◌, sym, refl, subst}
 use Rattle.lq_language.specs.declared.calls.Call.{Call}
 use Rattle.lq_language.specs.declared.calls.Operator.{Operator}
 use Rattle.lq_language.specs.declared.calls.Operator.TheVariants as operator

@@ -1,5 +1,6 @@
 -- A host predicate that is bound is asked as it is named: of the same cells, with the same answer.
-use Rattle.std.proofs.Common.{◌≡◌, ℕ, List, true, Option, Some, Result, ap, ap₂, ◌∙◌, sym, subst, option_and_then}
+use Rattle.std.proofs.Common.{◌≡◌, ◌==◌, if◌then◌else◌, ℕ, List, Bool, true, Option, Some, None, Result, ap, ap₂, ◌∙◌, sym, subst, option_and_then}
+use Rattle.std.specs.Cmp.{unsigned_Decides}
 use Rattle.lq_value.specs.declared.scalar.Scalar.TheVariants as scalar
 use Rattle.lq_value.specs.declared.ty.Ty.{Ty}
 use Rattle.lq_value.specs.declared.ty.Ty.TheVariants as ty
@@ -21,7 +22,7 @@ use Rattle.lq_language.proofs.TypedMethodLaws.{host_agrees}
 use Rattle.lq_language.proofs.TypingLaws.{is_of_layer, type_with}
 use Rattle.lq_language.proofs.ValueLaws.{RowOrNull, a_row, no_row, row_value}
 use Rattle.lq_tree.specs.Binding.{host_tree}
-use Rattle.lq_tree.specs.FormMeaning.{Slots, arguments_at, form_meaning}
+use Rattle.lq_tree.specs.FormMeaning.{Slots, arguments_at, arguments_in, form_meaning}
 use Rattle.lq_tree.specs.TypedForms.{ArePicked}
 use Rattle.lq_tree.specs.declared.tree.Form.TheVariants as form
 use Rattle.lq_tree.specs.declared.tree.Tree.{Tree}
@@ -31,13 +32,19 @@ use Rattle.lq_tree.proofs.MeansMembers.{same_agree}
 
 module _ {R : Type 0} (world : World R) where
   -- the cells at columns' numbers are those under the columns' names
-  pub arguments_same : (n : ℕ) (numbered : Pick) (columns : Picked) → ArePicked world.schemas n numbered columns → (r : R)
-      → arguments_at world n numbered r ≡ arguments_named world columns r
-  arguments_same n (numbers.One c) (picked.One m) named r = ap (λ (o : Option (List ℕ)). one_argument (option_and_then (world.cell r) o)) named
-  arguments_same n (numbers.Two c d) (picked.Two m k) named r =
+  cells_same : (n : ℕ) (numbered : Pick) (columns : Picked) → ArePicked world.schemas n numbered columns → (r : R)
+      → arguments_in world n numbered r ≡ arguments_named world columns r
+  cells_same n (numbers.One c) (picked.One m) named r = ap (λ (o : Option (List ℕ)). one_argument (option_and_then (world.cell r) o)) named
+  cells_same n (numbers.Two c d) (picked.Two m k) named r =
       ap₂ (λ (o p : Option (List ℕ)). two_arguments (option_and_then (world.cell r) o) (option_and_then (world.cell r) p)) named.0 named.1
-  arguments_same n (numbers.One c) (picked.Two m k) named r = absurd named
-  arguments_same n (numbers.Two c d) (picked.One m) named r = absurd named
+  cells_same n (numbers.One c) (picked.Two m k) named r = absurd named
+  cells_same n (numbers.Two c d) (picked.One m) named r = absurd named
+
+  -- and a row of the table has these
+  pub arguments_same : (n : ℕ) (numbered : Pick) (columns : Picked) → ArePicked world.schemas n numbered columns → (r : R) → world.table r ≡ n
+      → arguments_at world n numbered r ≡ arguments_named world columns r
+  arguments_same n numbered columns named r own =
+      ap (λ (b : Bool). if b then arguments_in world n numbered r else None) ((unsigned_Decides (world.table r) n).1 own) ∙ cells_same n numbered columns named r
 
   module _ (p : List ℕ) (columns : Picked) (k n : ℕ) (numbered : Pick) (known : predicate_number (known_predicates world.predicates) p columns ≡ Some k)
       (ints : are_int_columns world.schemas n columns ≡ true) (named : ArePicked world.schemas n numbered columns) where
@@ -48,7 +55,7 @@ module _ {R : Type 0} (world : World R) where
     asked_same : (v : Value R) → RowOrNull world n v → asked_by_number v ≡ host_value world p columns (out-Value R v)
     asked_same v (a_row r cells is) =
         ap asked_by_number is ∙ ap (answer_about world (Some k) (arguments_at world n numbered)) (outs-value-Row r)
-        ∙ ap₂ (host_answer world) (sym known) (arguments_same n numbered columns named r)
+        ∙ ap₂ (host_answer world) (sym known) (arguments_same n numbered columns named r cells.0)
         ∙ sym (ap (λ (w : Value R). host_value world p columns (out-Value R w)) is ∙ ap (host_value world p columns) (outs-value-Row r))
     asked_same v (no_row is) =
         ap asked_by_number is ∙ ap (answer_about world (Some k) (arguments_at world n numbered)) (outs-Scalar scalar.Null)

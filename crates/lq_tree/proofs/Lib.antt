@@ -1,12 +1,15 @@
+pub mod AllowedCallLaws
 pub mod CallMeans
 pub mod CallTypes
 pub mod CallUses
+pub mod CoveredLaws
 pub mod FormSteps
 pub mod FormUseLaws
-pub mod HostTrees
 pub mod HostMeans
+pub mod HostTrees
 pub mod KindAnswers
 pub mod KindsSuffice
+pub mod LogLaws
 pub mod MappedItems
 pub mod MappedMethods
 pub mod MappedReplyLaws
@@ -21,6 +24,7 @@ pub mod NodeMeans
 pub mod NodeTypes
 pub mod NodeUseLaws
 pub mod OperandLemmas
+pub mod OwnWatchLaws
 pub mod Patterns
 pub mod RowFormLaws
 pub mod RowMeaningLaws
@@ -39,3 +43,5 @@ pub mod TypedNodes
 pub mod TypedStatements
 pub mod TypedTerms
 pub mod WalkLaws
+pub mod WatchLaws
+pub mod WatchedValueLaws

@@ -46,7 +46,7 @@ module _ {R : Type 0} (world : World R) (holds : HoldsRows world) where
       → column_type world.schemas n m ≡ Some u → (v : Value R) → Val t v → HasCell world n c v
   cell_there n c m t u is name typed v fits = by (row_value world t n v is fits) where
     by : RowOrNull world n v → HasCell world n c v
-    by (a_row r cells same) = let cell = cells m u typed in kind.a_cell r m cell.0 same name cell.1
+    by (a_row r cells same) = let cell = cells.1 m u typed in kind.a_cell r m cell.0 same name cell.1
     by (no_row same) = kind.no_row same
 
   arguments_found : (n : ℕ) (columns : Pick) (named : Picked) (t : Ty) → out-Ty t ≡ Ty-F.Row n → ArePicked world.schemas n columns named
@@ -54,7 +54,7 @@ module _ {R : Type 0} (world : World R) (holds : HoldsRows world) where
   arguments_found n columns named t is picked ints v fits = by (row_value world t n v is fits) where
     by : RowOrNull world n v → HasArguments world n columns v
     by (a_row r cells same) =
-        let xs = arguments_there world n r cells named ints in kind.an_asked r xs.0 same (arguments_same world n columns named picked r ∙ xs.1)
+        let xs = arguments_there world n r cells named ints in kind.an_asked r xs.0 same (arguments_same world n columns named picked r cells.0 ∙ xs.1)
     by (no_row same) = kind.none_asked same
 
   member_there : (t : Ty) (ms : List (List ℕ × Ty)) (place : ℕ) (m : List ℕ × Ty) → out-Ty t ≡ Ty-F.Rec ms → slice_get ms place ≡ Some m

@@ -1,6 +1,6 @@
 -- A form over rows that are replaced by rows with the same cells: it means what it meant, with the rows replaced. Each form in turn,
 -- where the forms in it do so.
-use Rattle.std.proofs.Common.{◌≡◌, ◌∷◌, ◌++◌, if◌then◌else◌, List, [], map, ℕ, ℤ, Bool, true, false, not, Option, Some, None, Result, Ok, Err, ap, ◌∙◌, sym, refl, option_and_then, option_map, slice_get}
+use Rattle.std.proofs.Common.{◌≡◌, ◌∷◌, ◌++◌, if◌then◌else◌, ◌==◌, List, [], map, ℕ, ℤ, Bool, true, false, not, Option, Some, None, Result, Ok, Err, ap, ap₂, ◌∙◌, sym, refl, option_and_then, option_map, slice_get}
 use Rattle.std.proofs.lemmas.List.{map-append}
 use Rattle.std.proofs.lemmas.Option.{slice_get-map}
 use Rattle.lq_value.specs.SameAndOrder.{same_values as same_keys}
@@ -28,7 +28,7 @@ use Rattle.lq_language.specs.declared.methods.Given.{Given}
 use Rattle.lq_language.specs.declared.methods.Given.TheVariants as given
 use Rattle.lq_language.specs.declared.methods.Simple.{Simple}
 use Rattle.lq_language.specs.declared.operation.Op.{Op}
-use Rattle.lq_tree.specs.FormMeaning.{Means, Slots, arguments_at, cell_in, form_step, if_there, is_null_value, is_true, joined_stream, key_in, matched, member_at, name_of_column, with_item, with_items}
+use Rattle.lq_tree.specs.FormMeaning.{Means, Slots, arguments_at, arguments_in, cell_in, form_step, if_there, is_null_value, is_true, joined_stream, key_in, matched, member_at, name_of_column, with_item, with_items}
 use Rattle.lq_tree.specs.Rows.{mapped, result_map, stream_map}
 use Rattle.lq_tree.specs.declared.tree.Form.TheOpen.{Form-F}
 use Rattle.lq_tree.specs.declared.tree.Joined.{Joined}
@@ -38,24 +38,25 @@ use Rattle.lq_tree.proofs.MappedStreamLaws.{expand_natural, group_natural, join_
 use Rattle.lq_tree.proofs.MappedValueLaws.{mapped_Row, mapped_Scalar, mapped_Seq, mapped_layer, mapped_member, mapped_out, same_kept}
 
 -- the world over the rows that represent those of another, whatever its session's names refer to: no form reads these
-abbrev pub over : {R S : Type 0} → (R → S) → World R → List (SessionValue S) → (S → List ℕ → Option Scalar) → World S
-over f world session cell = record {
+abbrev pub over : {R S : Type 0} → (R → S) → World R → List (SessionValue S) → (S → List ℕ → Option Scalar) → (S → ℕ) → World S
+over f world session cell table = record {
   schemas = world.schemas;
   rows = map (map f) world.rows;
   predicates = world.predicates;
   session = session;
   cell = cell;
+  table = table;
   unknown = world.unknown;
 }
 
-module _ {R S : Type 0} (f : R → S) (world : World R) (session : List (SessionValue S)) (cell : S → List ℕ → Option Scalar)
-    (same_cells : (r : R) (column : List ℕ) → cell (f r) column ≡ world.cell r column) where
+module _ {R S : Type 0} (f : R → S) (world : World R) (session : List (SessionValue S)) (cell : S → List ℕ → Option Scalar) (table_of : S → ℕ)
+    (same_cells : (r : R) (column : List ℕ) → cell (f r) column ≡ world.cell r column) (same_tables : (r : R) → table_of (f r) ≡ world.table r) where
   -- the two worlds
   abbrev pub a : World R
   a = world
 
   abbrev pub b : World S
-  b = over f world session cell
+  b = over f world session cell table_of
 
   -- a value with its rows replaced
   abbrev pub m : Value R → Value S
@@ -175,11 +176,15 @@ module _ {R S : Type 0} (f : R → S) (world : World R) (session : List (Session
   asked_by p (Some xs) = answer_by (answer_in world.predicates p xs)
   asked_by p None = refl
 
-  arguments_alike : (table : ℕ) (columns : Pick) (r : R) → arguments_at b table columns (f r) ≡ arguments_at a table columns r
-  arguments_alike table (numbers.One c) r = λ i. one_argument (option_and_then (λ column. same_cells r column i) (name_of_column world.schemas table c))
-  arguments_alike table (numbers.Two c d) r =
+  cells_alike : (table : ℕ) (columns : Pick) (r : R) → arguments_in b table columns (f r) ≡ arguments_in a table columns r
+  cells_alike table (numbers.One c) r = λ i. one_argument (option_and_then (λ column. same_cells r column i) (name_of_column world.schemas table c))
+  cells_alike table (numbers.Two c d) r =
       λ i. two_arguments (option_and_then (λ column. same_cells r column i) (name_of_column world.schemas table c))
       (option_and_then (λ column. same_cells r column i) (name_of_column world.schemas table d))
+
+  arguments_alike : (table : ℕ) (columns : Pick) (r : R) → arguments_at b table columns (f r) ≡ arguments_at a table columns r
+  arguments_alike table columns r =
+      ap₂ (λ (n : ℕ) (o : Option Pick2). if n == table then o else None) (same_tables r) (cells_alike table columns r)
 
   host_by : (p table : ℕ) (columns : Pick) (layer : Value-F R (Value R))
       → Follows (answer_about a (Some p) (arguments_at a table columns) layer) (answer_about b (Some p) (arguments_at b table columns) (mapped_layer f layer))

@@ -52,6 +52,7 @@ module _ {R : Type 0} (world : World R) (session : List (SessionValue R)) where
     schemas = refl;
     rows = sym ((λ i. map (λ rows. map-id rows i) world.rows) ∙ map-id world.rows);
     cells = λ r column. refl;
+    tables = λ r. refl;
     predicates = refl;
     unknown = refl;
   }

@@ -1,5 +1,5 @@
 -- What the forms of a typed tree mean in its slots (ECMA-334, expressions; .NET, Enumerable): its value, or its first fault.
-use Rattle.std.specs.Prelude.{◌∷◌, ◌++◌, if◌then◌else◌, not, List, [], ℕ, Bool, true, false, Option, Some, None, Result, Ok, Err, slice_get, option_and_then, option_map}
+use Rattle.std.specs.Prelude.{◌==◌, ◌∷◌, ◌++◌, if◌then◌else◌, not, List, [], ℕ, Bool, true, false, Option, Some, None, Result, Ok, Err, slice_get, option_and_then, option_map}
 use Rattle.lq_value.specs.SameAndOrder.{same_values as same_keys}
 use Rattle.lq_value.specs.declared.scalar.Scalar.{Scalar}
 use Rattle.lq_value.specs.declared.scalar.Scalar.TheVariants as scalar
@@ -62,13 +62,16 @@ module _ {R : Type 0} (world : World R) where
   cell_in table c (Value-F.Scalar scalar.Null) = Err fault.NullReference
   cell_in table c layer = Err world.unknown
 
-  -- the arguments that a row has in columns of these numbers
+  -- the arguments that a row has in columns of these numbers; none where it is of another table
   abbrev pub numbered_cell : ℕ → R → ℕ → Option Scalar
   numbered_cell table r c = option_and_then (world.cell r) (name_of_column world.schemas table c)
 
+  abbrev pub arguments_in : ℕ → Pick → R → Option Pick2
+  arguments_in table (numbers.One c) r = one_argument (numbered_cell table r c)
+  arguments_in table (numbers.Two c d) r = two_arguments (numbered_cell table r c) (numbered_cell table r d)
+
   abbrev pub arguments_at : ℕ → Pick → R → Option Pick2
-  arguments_at table (numbers.One c) r = one_argument (numbered_cell table r c)
-  arguments_at table (numbers.Two c d) r = two_arguments (numbered_cell table r c) (numbered_cell table r d)
+  arguments_at table columns r = if world.table r == table then arguments_in table columns r else None
 
   abbrev pub member_at : ℕ → Value-F R (Value R) → Result (Value R) Fault
   member_at place (Value-F.Rec members) = if_there (option_map (λ member. member.1) (slice_get members place))

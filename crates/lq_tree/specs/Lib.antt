@@ -1,3 +1,4 @@
+pub mod AllowedCalls
 pub mod Binding
 pub mod BindingLaws
 pub mod FormMeaning
@@ -11,3 +12,5 @@ pub mod SessionPlaces
 pub mod TypedFormLaws
 pub mod TypedForms
 pub mod UsesOfForms
+pub mod WatchLaws
+pub mod Watches

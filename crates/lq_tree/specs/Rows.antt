@@ -30,10 +30,11 @@ module _ {R S : Type 0} (f : R → S) where
   mapped = fold-Value R (Value S) mapped_step
 
 -- A world over the rows of another: the schemas and the host predicates are the same, the rows of its tables are those of the other replaced, in their order,
--- and each has the cells of the row that it represents.
+-- and each is of the table, and has the cells, of the row that it represents.
 pub record OverRows {R S : Type 0} (f : R → S) (a : World R) (b : World S) : Type 0 where
   pub schemas : b.schemas ≡ a.schemas
   pub rows : b.rows ≡ map (map f) a.rows
   pub cells : (r : R) (column : List ℕ) → b.cell (f r) column ≡ a.cell r column
+  pub tables : (r : R) → b.table (f r) ≡ a.table r
   pub predicates : b.predicates ≡ a.predicates
   pub unknown : b.unknown ≡ a.unknown

@@ -15,4 +15,5 @@ returns c =
     let two = c.in_ok-arg-2.ensures.shape c.policy.ensures.local ∙ ap₂ with_rule one c.policy.ensures.rule in
     let three = c.in_ok-arg-3.ensures.shape c.script.ensures.local ∙ ap₂ with_rule two c.script.ensures.rule in
     let four = c.in_ok-arg-4.ensures.shape c.watch.ensures.local ∙ ap₂ with_rule three c.watch.ensures.rule in
-    IfOk-weaker c.arg-5.result _ _ (λ command added. added.shape c.tables.ensures.local ∙ ap₂ with_rule four c.tables.ensures.rule) c.arg-5.ensures
+    let five = c.in_ok-arg-5.ensures.shape c.audit.ensures.local ∙ ap₂ with_rule four c.audit.ensures.rule in
+    IfOk-weaker c.arg-6.result _ _ (λ command added. added.shape c.tables.ensures.local ∙ ap₂ with_rule five c.tables.ensures.rule) c.arg-6.ensures

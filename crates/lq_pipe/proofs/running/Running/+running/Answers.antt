@@ -1,5 +1,7 @@
-use Rattle.std.proofs.Common.{◌≡◌, [], Ok, Err, IfErr, IfOk, ap, refl, rules, subst, sym, true, ◌∙◌}
-use Rattle.lq_value.specs.declared.value.End.TheVariants as end
+use Rattle.std.proofs.Common.{◌≡◌, [], None, IfErr, IfOk, Ok, Err, ap, refl, rules, subst, sym, true, ◌∙◌}
+use Rattle.lq_value.specs.SameAndOrder.{same_values}
+use Rattle.lq_grammar.specs.declared.syntax.Field.{Field}
+use Rattle.lq_grammar.specs.declared.syntax.SortKey.{SortKey}
 use Rattle.lq_operators.specs.Answers.{IsAnswer}
 use Rattle.lq_operators.specs.Matching.{pairs_of}
 use Rattle.lq_language.specs.Arrangement.{all_of}
@@ -7,213 +9,1324 @@ use Rattle.lq_language.specs.Enumerable.{in_front}
 use Rattle.lq_language.specs.Meaning.{simple_meaning}
 use Rattle.lq_language.specs.OperandMeaning.{sequence}
 use Rattle.lq_tree.specs.FormMeaning.{form_meaning}
-use Rattle.lq_tree.specs.declared.tree.Form.TheVariants as form
+use Rattle.lq_tree.specs.Watches.{are_covered_fields, are_covered_keys, has_watched_rows, have_watched_rows, is_covered, is_covered_join}
+use Rattle.lq_tree.specs.declared.tree.Form.{Form}
+use Rattle.lq_tree.proofs.LogLaws.{pulled_more, pulled_none, pulled_over}
+use Rattle.lq_tree.proofs.WatchLaws.{stream_passes, value_passes}
+use Rattle.lq_tree.proofs.WatchedValueLaws.{passing_row, row_passes, slot_more}
 use Rattle.lq_plan.specs.Arrangements.{column_of, columns_of, key_at}
-use Rattle.lq_plan.specs.Meanings.{Answers, holds_of, value_of_item, scalar_in, truth_in}
+use Rattle.lq_plan.specs.Meanings.{Answers, holds_of, items_meant, value_of_item, scalar_in, truth_in}
+use Rattle.lq_plan.specs.Pipes.{items_left}
 use Rattle.lq_plan.specs.PlannedRows.{IsPulled, kept_stream, pulled_value}
-use Rattle.lq_plan.specs.Pulling.{outcome_stream}
+use Rattle.lq_plan.specs.Pulling.{base_stream, item_at, outcome_stream}
 use Rattle.lq_plan.specs.Slots.{values_in}
+use Rattle.lq_plan.specs.Watching.{facts, is_covered_element, is_covered_pipe, is_covered_stage, matches_pass}
 use Rattle.lq_plan.proofs.PlanLaws.{row_says}
-use Rattle.lq_plan.proofs.PullLaws.{left_opened, stage_items}
-use Rattle.lq_pipe.specs.Items.{key_and_element}
+use Rattle.lq_plan.proofs.PullLaws.{left_opened, stage_items, table_opened}
+use Rattle.lq_plan.proofs.WatchLaws.{slots_pass, source_covered, stage_covered}
+use Rattle.lq_tree.proofs.CoveredLaws.{covered_all_body, covered_all_source, covered_and_left, covered_and_right, covered_binary_left, covered_binary_right, covered_coalesce_left, covered_coalesce_right, covered_column, covered_conditional_condition, covered_conditional_first, covered_conditional_second, covered_first, covered_given_argument, covered_given_source, covered_group_by_element, covered_group_by_key, covered_group_by_source, covered_host, covered_is_null, covered_join_parts, covered_join_source, covered_key, covered_member, covered_or_left, covered_or_right, covered_order_keys, covered_order_source, covered_pair_first, covered_pair_second, covered_record, covered_second, covered_select_body, covered_select_many_inner, covered_select_many_result, covered_select_many_source, covered_select_source, covered_sequence, covered_simple, covered_unary, covered_where_body, covered_where_source, host_passes, join_inner, join_inner_key, join_outer_key, join_result}
+use Rattle.lq_pipe.specs.Items.{item_expansion, item_join, key_and_element}
 use Rattle.lq_pipe.specs.Runs.{world}
+use Rattle.lq_pipe.specs.Steps.{Steps}
 use Rattle.lq_pipe.proofs.AnswerLemmas.{all_answer, given_answer, members_goes, record_ended, record_stopped, select_answer, where_answer}
-use Rattle.lq_pipe.proofs.CountLemmas.{given_read, simple_read}
+use Rattle.lq_pipe.proofs.CountLemmas.{all_begins, contains_begins, contains_on, given_read, simple_read, tally_begins, tally_on}
 use Rattle.lq_pipe.proofs.ItemLemmas.{expansion_is, group_by_answer, join_answer, join_stops, joined_met, matched_is, select_many_answer}
 use Rattle.lq_pipe.proofs.KeyLemmas.{all_goes, all_stops, counted_answer, key_answer, order_by_done, order_by_stops}
-use Rattle.lq_pipe.proofs.PullLemmas.{comes, next_ended, next_fault, next_item, selects_begin}
+use Rattle.lq_pipe.proofs.LogLemmas.{Covers, above_source, above_stage, all_on, all_there, asked, covered_as, covers_pipe, items_read, matched_pass, next_passes, opened, pairs_match, passed_item, source_of, stage_as, stage_over, went_on}
+use Rattle.lq_pipe.proofs.PullLemmas.{begins_read, comes, comes_begins, comes_on, next_dropped, next_ended, next_fault, next_item, read_ended, read_on, selects_begin, selects_on}
 use Rattle.lq_pipe.proofs.StreamLemmas.{select_goes, select_stops}
+use Rattle.lq_value.specs.declared.value.End.TheVariants as end
+use Rattle.lq_value.specs.declared.value.Value.TheVariants as value
+use Rattle.lq_tree.specs.declared.tree.Form.TheVariants as form
 use Rattle.lq_pipe.proofs.running.Running.+running.Goals as goal
 
-pub scalar-returns-in_ok-evaluate-in-None : goal.scalar-returns-in_ok-evaluate-in-None
-scalar-returns-in_ok-evaluate-in-None g t c =
-    subst (λ m. Answers (scalar_in (world c.args.self.now) m) c.scalar.result) (sym c.in_ok-evaluate-in-None.ensures)
+pub scalar-returns-in_ok-evaluate-in-None-clause-meant : goal.scalar-returns-in_ok-evaluate-in-None-clause-meant
+scalar-returns-in_ok-evaluate-in-None-clause-meant g t c =
+    subst (λ m. Answers (scalar_in (world c.args.self.now) m) c.scalar.result) (sym c.in_ok-evaluate-in-None.ensures.meant)
     (c.scalar.ensures (world c.args.self.now) refl)
 
-pub value_of_item-returns-in-None : goal.value_of_item-returns-in-None
-value_of_item-returns-in-None g t c =
+pub value_of_item-returns-in-None-clause-meant : goal.value_of_item-returns-in-None-clause-meant
+value_of_item-returns-in-None-clause-meant g t c =
     c.value_or_fault.ensures (value_of_item (world c.args.self.now) c.args.body.now c.args.slots.now c.args.item.now)
     (subst (λ vs. IsAnswer (form_meaning (world c.args.self.now) c.args.body.now vs) c.evaluate.result) c.with-deeper.ensures
-    c.evaluate.ensures)
+    c.evaluate.ensures.meant)
 
-pub holds-returns : goal.holds-returns
-holds-returns g t c =
+pub holds-returns-clause-meant : goal.holds-returns-clause-meant
+holds-returns-clause-meant g t c =
     c.truth_or_fault.ensures (holds_of (world c.args.self.now) c.args.condition.now c.args.slots.now c.args.item.now)
     (subst (λ vs. Answers (truth_in (world c.args.self.now) (form_meaning (world c.args.self.now) c.args.condition.now vs)) c.truth.result) c.with.ensures
-    c.truth.ensures)
+    c.truth.ensures.meant)
 
-pub record-loop-field-preserved : goal.record-loop-field-preserved
-record-loop-field-preserved g t c =
-    members_goes (world c.args.self.now) _ _ _ _ _ _ _ _
-    c.field-item.is c.loop-field-test.true c.in_ok-value.ensures c.in_ok-push_member.ensures c.loop-field.invariant
-
-pub record-returns : goal.record-returns
-record-returns g t c =
+pub record-returns-clause-meant : goal.record-returns-clause-meant
+record-returns-clause-meant g t c =
     record_ended (world c.args.self.now) c.args.fields.now _ (values_in c.args.slots.now) c.loop-field.members _ c.as_slice-field-items.ensures c.loop-field-test.false
-    c.loop-field.invariant
+    c.loop-field.invariant.meant
 
-pub record-returns-in_err-value : goal.record-returns-in_err-value
-record-returns-in_err-value g t c =
+pub record-returns-in_err-value-clause-meant : goal.record-returns-in_err-value-clause-meant
+record-returns-in_err-value-clause-meant g t c =
     let stops = record_stopped (world c.args.self.now) c.args.fields.now _ (values_in c.args.slots.now) c.loop-field.members _ _ c.as_slice-field-items.ensures
-    c.field-item.is c.loop-field-test.true c.loop-field.invariant c.in_err-value.field-0.0 c.in_err-value.ensures in
+    c.field-item.is c.loop-field-test.true c.loop-field.invariant.meant c.in_err-value.field-0.0 c.in_err-value.ensures.meant in
     let same : c.from_residual.result ≡ Err c.in_err-value.field-0.0 = search rules in
     subst (λ r. IsAnswer (form_meaning (world c.args.self.now) (form.Record c.args.fields.now) (values_in c.args.slots.now)) r) (sym same) stops
 
-pub select_all-loop-item-preserved : goal.select_all-loop-item-preserved
-select_all-loop-item-preserved g t c =
-    select_goes (value_of_item (world c.args.self.now) c.args.body.now c.args.slots.now) c.args.items.now end.Done _ c.loop-item.values _ _ _ _
-    c.item-item.is c.loop-item-test.true (sym c.in-Ok.is ∙ c.in_ok-value.ensures) c.in_ok-push-in-Ok.ensures.ok c.loop-item.invariant
-
-pub select_all-returns-in-Err : goal.select_all-returns-in-Err
-select_all-returns-in-Err g t c =
+pub select_all-returns-in-Err-clause-meant : goal.select_all-returns-in-Err-clause-meant
+select_all-returns-in-Err-clause-meant g t c =
     select_stops (value_of_item (world c.args.self.now) c.args.body.now c.args.slots.now) c.args.items.now end.Done _ c.loop-item.values _ _ _
-    c.item-item.is c.loop-item-test.true (sym c.in-Err.is ∙ c.in_ok-value.ensures) c.loop-item.invariant
+    c.item-item.is c.loop-item-test.true (sym c.in-Err.is ∙ c.in_ok-value.ensures.meant) c.loop-item.invariant.meant
 
-pub join_item-returns-in_ok-inner-in-Ok : goal.join_item-returns-in_ok-inner-in-Ok
-join_item-returns-in_ok-inner-in-Ok g t c =
+pub join_item-returns-in_ok-inner-in-Ok-clause-meant : goal.join_item-returns-in_ok-inner-in-Ok-clause-meant
+join_item-returns-in_ok-inner-in-Ok-clause-meant g t c =
     joined_met (world c.args.self.now) (values_in c.args.slots.now) c.args.joined.now (pairs_of c.args.matches.now) c.args.item.now _ _ _ _ c.select_all.result
-    (sym c.in-Ok.is ∙ c.in_ok-key.ensures) (c.in_ok-inner-in-Ok.ensures (world c.args.self.now)) c.as_slice.ensures
-    (matched_is (world c.args.self.now) (values_in c.args.slots.now) c.args.item.now _ c.args.joined.now.result _ _ c.select_all.result c.with-deeper.ensures c.select_all.ensures)
+    (sym c.in-Ok.is ∙ c.in_ok-key.ensures.meant) (c.in_ok-inner-in-Ok.ensures (world c.args.self.now)) c.as_slice.ensures
+    (matched_is (world c.args.self.now) (values_in c.args.slots.now) c.args.item.now _ c.args.joined.now.result _ _ c.select_all.result c.with-deeper.ensures c.select_all.ensures.meant)
 
-pub key_columns-returns-in_err-column : goal.key_columns-returns-in_err-column
-key_columns-returns-in_err-column g t c =
+pub key_columns-returns-in_err-column-clause-meant : goal.key_columns-returns-in_err-column-clause-meant
+key_columns-returns-in_err-column-clause-meant g t c =
     let stops = all_stops (column_of (world c.args.self.now) (values_in c.args.slots.now) c.args.items.now) _ _ c.loop-key.columns _ _
-    c.key-item.is c.loop-key-test.true c.loop-key.invariant c.in_err-column.field-0.0 c.in_err-column.ensures in
+    c.key-item.is c.loop-key-test.true c.loop-key.invariant.meant c.in_err-column.field-0.0 c.in_err-column.ensures.meant in
     let same : c.from_residual.result ≡ Err c.in_err-column.field-0.0 = search rules in
     subst (λ r. Answers (columns_of (world c.args.self.now) (values_in c.args.slots.now) c.args.keys.now c.args.items.now) r) (sym same)
     (subst (λ ks. Answers (columns_of (world c.args.self.now) (values_in c.args.slots.now) ks c.args.items.now) (Err c.in_err-column.field-0.0)) c.as_slice-key-items.ensures stops)
 
-pub key_column-returns-in_err-scalar : goal.key_column-returns-in_err-scalar
-key_column-returns-in_err-scalar g t c =
+pub key_column-returns-in_err-scalar-clause-meant : goal.key_column-returns-in_err-scalar-clause-meant
+key_column-returns-in_err-scalar-clause-meant g t c =
     let stops = all_stops (key_at (world c.args.self.now) (values_in c.args.slots.now) c.args.key.now) c.args.items.now _ c.loop-item.column _ _
-    c.item-item.is c.loop-item-test.true c.loop-item.invariant c.in_err-scalar.field-0.0
-    (key_answer (world c.args.self.now) (values_in c.args.slots.now) _ _ c.args.key.now (Err c.in_err-scalar.field-0.0) c.with.ensures c.in_err-scalar.ensures) in
+    c.item-item.is c.loop-item-test.true c.loop-item.invariant.meant c.in_err-scalar.field-0.0
+    (key_answer (world c.args.self.now) (values_in c.args.slots.now) _ _ c.args.key.now (Err c.in_err-scalar.field-0.0) c.with.ensures c.in_err-scalar.ensures.meant) in
     let same : c.from_residual.result ≡ Err c.in_err-scalar.field-0.0 = search rules in
     subst (λ r. Answers (all_of (key_at (world c.args.self.now) (values_in c.args.slots.now) c.args.key.now) c.args.items.now) r) (sym same) stops
 
-pub key_column-loop-item-preserved : goal.key_column-loop-item-preserved
-key_column-loop-item-preserved g t c =
-    all_goes (key_at (world c.args.self.now) (values_in c.args.slots.now) c.args.key.now) c.args.items.now _ c.loop-item.column _ _ _ _
-    c.item-item.is c.loop-item-test.true
-    (key_answer (world c.args.self.now) (values_in c.args.slots.now) _ _ c.args.key.now (Ok c.in_ok-scalar.scalar) c.with.ensures c.in_ok-scalar.ensures)
-    c.in_ok-push.ensures.ok c.loop-item.invariant
-
-pub key_columns-loop-key-preserved : goal.key_columns-loop-key-preserved
-key_columns-loop-key-preserved g t c =
-    all_goes (column_of (world c.args.self.now) (values_in c.args.slots.now) c.args.items.now) _ _ c.loop-key.columns _ _ _ _
-    c.key-item.is c.loop-key-test.true c.in_ok-column.ensures c.in_ok-push.ensures.ok c.loop-key.invariant
-
-pub truth_of_two-returns-in_ok-binary-in-None : goal.truth_of_two-returns-in_ok-binary-in-None
-truth_of_two-returns-in_ok-binary-in-None g t c =
-    subst (λ m. Answers (truth_in (world c.args.self.now) m) c.truth_in.result) (sym c.in_ok-binary-in-None.ensures)
+pub truth_of_two-returns-in_ok-binary-in-None-clause-meant : goal.truth_of_two-returns-in_ok-binary-in-None-clause-meant
+truth_of_two-returns-in_ok-binary-in-None-clause-meant g t c =
+    subst (λ m. Answers (truth_in (world c.args.self.now) m) c.truth_in.result) (sym c.in_ok-binary-in-None.ensures.meant)
     (c.truth_in.ensures (world c.args.self.now) refl)
 
-pub select_many-returns : goal.select_many-returns
-select_many-returns g t c =
-    select_many_answer (world c.args.self.now) (values_in c.args.slots.now) c.args.source.now c.args.inner.now c.args.body.now _ _ c.in_ok-pipe.ensures.items c.in_ok-values.ensures
+pub select_many-returns-clause-meant : goal.select_many-returns-clause-meant
+select_many-returns-clause-meant g t c =
+    select_many_answer (world c.args.self.now) (values_in c.args.slots.now) c.args.source.now c.args.inner.now c.args.body.now _ _ c.in_ok-pipe.ensures.items c.in_ok-values.ensures.meant
 
-pub expand_item-returns : goal.expand_item-returns
-expand_item-returns g t c =
+pub expand_item-returns-clause-meant : goal.expand_item-returns-clause-meant
+expand_item-returns-clause-meant g t c =
     expansion_is (world c.args.self.now) (values_in c.args.slots.now) c.args.item.now _ c.args.inner.now c.args.body.now _ c.read.result c.with-deeper.ensures
-    (subst (λ s. IfOk c.read.result (λ items. items ≡ s)) c.in_ok-pipe.ensures.items c.read.ensures)
+    (subst (λ s. IfOk c.read.result (λ items. items ≡ s)) c.in_ok-pipe.ensures.items c.read.ensures.meant)
 
-pub sequence-returns : goal.sequence-returns
-sequence-returns g t c = ap (λ s. Ok (sequence s)) (sym (c.in_ok-items.ensures ∙ c.in_ok-pipe.ensures.items))
+pub sequence-returns-clause-meant : goal.sequence-returns-clause-meant
+sequence-returns-clause-meant g t c = ap (λ s. Ok (sequence s)) (sym (c.in_ok-items.ensures.meant ∙ c.in_ok-pipe.ensures.items))
 
-pub simple-returns-in_ok-pipe-in-Some : goal.simple-returns-in_ok-pipe-in-Some
-simple-returns-in_ok-pipe-in-Some g t c =
+pub simple-returns-in_ok-pipe-in-Some-clause-meant : goal.simple-returns-in_ok-pipe-in-Some-clause-meant
+simple-returns-in_ok-pipe-in-Some-clause-meant g t c =
     subst (λ s. IsAnswer (simple_meaning c.args.method c.args.of.now s) c.simple_items.result)
-    (c.in_ok-pipe-in-Some.ensures.items ∙ stage_items (world c.args.self.now) (values_in c.args.slots.now) c.in-Some.stage c.args.source.now c.in-Some.source.now c.in-Some.ensures.stage) c.simple_items.ensures
+    (c.in_ok-pipe-in-Some.ensures.items ∙ stage_items (world c.args.self.now) (values_in c.args.slots.now) c.in-Some.stage c.args.source.now c.in-Some.source.now c.in-Some.ensures.stage) c.simple_items.ensures.meant
 
-pub simple_items-returns-in_ok-items-in-None : goal.simple_items-returns-in_ok-items-in-None
-simple_items-returns-in_ok-items-in-None g t c =
-    subst (λ m. IsAnswer m c.simple.result) (simple_read c.args.method _ c.args.of.now _ _ c.simple_limit.ensures c.in_ok-items-in-None.ensures) c.simple.ensures
+pub simple_items-returns-in_ok-items-in-None-clause-meant : goal.simple_items-returns-in_ok-items-in-None-clause-meant
+simple_items-returns-in_ok-items-in-None-clause-meant g t c =
+    subst (λ m. IsAnswer m c.simple.result) (simple_read c.args.method _ c.args.of.now _ _ c.simple_limit.ensures c.in_ok-items-in-None.ensures.meant) c.simple.ensures
 
-pub given-returns : goal.given-returns
-given-returns g t c =
-    given_answer (world c.args.self.now) c.args.method c.args.source.now c.args.argument.now (values_in c.args.slots.now) _ _ c.given_items.result (c.in_ok-argument.ensures _ c.evaluate.ensures) c.in_ok-pipe.ensures.items
-    c.given_items.ensures
+pub given-returns-clause-meant : goal.given-returns-clause-meant
+given-returns-clause-meant g t c =
+    given_answer (world c.args.self.now) c.args.method c.args.source.now c.args.argument.now (values_in c.args.slots.now) _ _ c.given_items.result (c.in_ok-argument.ensures _ c.evaluate.ensures.meant) c.in_ok-pipe.ensures.items
+    c.given_items.ensures.meant
 
-pub all-returns : goal.all-returns
-all-returns g t c =
+pub all-returns-clause-meant : goal.all-returns-clause-meant
+all-returns-clause-meant g t c =
     all_answer (world c.args.self.now) c.args.source.now c.args.condition.now (values_in c.args.slots.now) _ c.all_hold.result c.in_ok-pipe.ensures.items
-    c.all_hold.ensures
+    c.all_hold.ensures.meant
 
-pub evaluate-returns-in-Where : goal.evaluate-returns-in-Where
-evaluate-returns-in-Where g t c =
+pub evaluate-returns-in-Where-clause-meant : goal.evaluate-returns-in-Where-clause-meant
+evaluate-returns-in-Where-clause-meant g t c =
     where_answer (world c.args.self.now) c.args.form.now c.in-Where.of c.get-in-Where-2.result.now c.in-Where.test c.get-in-Where.result (values_in c.args.slots.now)
-    c.sequence-in-Where.result c.in-Where.is c.get-in-Where-2.ensures c.get-in-Where.ensures c.sequence-in-Where.ensures
+    c.sequence-in-Where.result c.in-Where.is c.get-in-Where-2.ensures c.get-in-Where.ensures c.sequence-in-Where.ensures.meant
 
-pub evaluate-returns-in-Select : goal.evaluate-returns-in-Select
-evaluate-returns-in-Select g t c =
+pub evaluate-returns-in-Select-clause-meant : goal.evaluate-returns-in-Select-clause-meant
+evaluate-returns-in-Select-clause-meant g t c =
     select_answer (world c.args.self.now) c.args.form.now c.in-Select.of c.get-in-Select-2.result.now c.in-Select.body c.get-in-Select.result (values_in c.args.slots.now)
-    c.sequence-in-Select.result c.in-Select.is c.get-in-Select-2.ensures c.get-in-Select.ensures c.sequence-in-Select.ensures
+    c.sequence-in-Select.result c.in-Select.is c.get-in-Select-2.ensures c.get-in-Select.ensures c.sequence-in-Select.ensures.meant
 
-pub base_of-returns-in_ok-items-in_default : goal.base_of-returns-in_ok-items-in_default
-base_of-returns-in_ok-items-in_default g t c =
-    c.of_items.ensures ∙ c.in_ok-items-in_default.ensures (world c.args.self.now) _ refl c.evaluate-value.ensures
+pub base_of-returns-in_ok-items-in_default-clause-meant : goal.base_of-returns-in_ok-items-in_default-clause-meant
+base_of-returns-in_ok-items-in_default-clause-meant g t c =
+    c.of_items.ensures ∙ c.in_ok-items-in_default.ensures (world c.args.self.now) _ refl c.evaluate-value.ensures.meant
 
 pub order_by-sort_by-requires : goal.order_by-sort_by-requires
 order_by-sort_by-requires g t c =
-    counted_answer (world c.args.self.now) (values_in c.args.slots.now) c.args.keys.now _ _ _ _ c.as_slice-in-Done.ensures c.as_slice.ensures c.key_columns-columns.ensures
+    counted_answer (world c.args.self.now) (values_in c.args.slots.now) c.args.keys.now _ _ _ _ c.as_slice-in-Done.ensures c.as_slice.ensures c.key_columns-columns.ensures.meant
 
-pub order_by-returns-in-Done : goal.order_by-returns-in-Done
-order_by-returns-in-Done g t c =
+pub order_by-returns-in-Done-clause-meant : goal.order_by-returns-in-Done-clause-meant
+order_by-returns-in-Done-clause-meant g t c =
     order_by_done (world c.args.self.now) (values_in c.args.slots.now) c.args.source.now c.args.keys.now _ _ c.in_ok-items.items _ c.in_ok-items.end c.in_ok-sort_by-in-Done.field-0 _
-    c.in_ok-pipe.ensures.items c.in_ok-items.ensures c.in-Done.is c.as_slice-in-Done.ensures c.as_slice.ensures
-    c.key_columns-columns.ensures (c.in_ok-sort_by-in-Done.ensures (world c.args.self.now) (values_in c.args.slots.now))
+    c.in_ok-pipe.ensures.items c.in_ok-items.ensures.meant c.in-Done.is c.as_slice-in-Done.ensures c.as_slice.ensures
+    c.key_columns-columns.ensures.meant (c.in_ok-sort_by-in-Done.ensures (world c.args.self.now) (values_in c.args.slots.now))
 
-pub order_by-returns : goal.order_by-returns
-order_by-returns g t c =
+pub order_by-returns-clause-meant : goal.order_by-returns-clause-meant
+order_by-returns-clause-meant g t c =
     order_by_stops (world c.args.self.now) (values_in c.args.slots.now) c.args.source.now c.args.keys.now _ c.in_ok-items.items c.in_ok-items.end _ c.fault_sequence.result
-    c.in_ok-pipe.ensures.items c.in_ok-items.ensures c.in-Fault.is c.fault_sequence.ensures
+    c.in_ok-pipe.ensures.items c.in_ok-items.ensures.meant c.in-Fault.is c.fault_sequence.ensures
 
-pub key_pairs-loop-pairs-init : goal.key_pairs-loop-pairs-init
-key_pairs-loop-pairs-init g t c =
-    selects_begin (key_and_element (world c.args.self.now) (values_in c.args.slots.now) c.args.key.now c.args.element) _ _ _ c.new-pairs.ensures
-    (left_opened (world c.args.self.now) (values_in c.args.slots.now) _ _ c.in_ok-base.base c.in_ok-base.ensures ∙ c.in_ok-pipe.ensures.items)
+pub group_by-returns-clause-meant : goal.group_by-returns-clause-meant
+group_by-returns-clause-meant g t c =
+    group_by_answer (world c.args.self.now) (values_in c.args.slots.now) c.args.source.now c.args.key.now c.args.element _ _ _ _ refl c.in_ok-pairs.ensures.meant c.in_ok-groups.ensures
 
-pub group_by-returns : goal.group_by-returns
-group_by-returns g t c =
-    group_by_answer (world c.args.self.now) (values_in c.args.slots.now) c.args.source.now c.args.key.now c.args.element _ _ _ _ refl c.in_ok-pairs.ensures c.in_ok-groups.ensures
-
-pub join-returns-in_ok-values-in-Done : goal.join-returns-in_ok-values-in-Done
-join-returns-in_ok-values-in-Done g t c =
+pub join-returns-in_ok-values-in-Done-clause-meant : goal.join-returns-in_ok-values-in-Done-clause-meant
+join-returns-in_ok-values-in-Done-clause-meant g t c =
     join_answer (world c.args.self.now) (values_in c.args.slots.now) c.args.source.now c.args.joined.now _ _ (c.in_ok-values-in-Done.values, c.in_ok-values-in-Done.end) _ _ _
-    c.in_ok-outer-in-Done.ensures.items refl c.in_ok-pairs.ensures c.in-Done.is c.in_ok-matches-in-Done.ensures c.in_ok-values-in-Done.ensures
+    c.in_ok-outer-in-Done.ensures.items refl c.in_ok-pairs.ensures.meant c.in-Done.is c.in_ok-matches-in-Done.ensures c.in_ok-values-in-Done.ensures.meant
 
-pub join-returns-in-Fault : goal.join-returns-in-Fault
-join-returns-in-Fault g t c =
-    join_stops (world c.args.self.now) (values_in c.args.slots.now) c.args.source.now c.args.joined.now _ _ _ _ _ refl c.in_ok-pairs.ensures c.in-Fault.is c.fault_sequence.ensures
+pub join-returns-in-Fault-clause-meant : goal.join-returns-in-Fault-clause-meant
+join-returns-in-Fault-clause-meant g t c =
+    join_stops (world c.args.self.now) (values_in c.args.slots.now) c.args.source.now c.args.joined.now _ _ _ _ _ refl c.in_ok-pairs.ensures.meant c.in-Fault.is c.fault_sequence.ensures
 
-pub given_items-returns-in_ok-items-in_default : goal.given_items-returns-in_ok-items-in_default
-given_items-returns-in_ok-items-in_default g t c =
-    subst (λ m. IsAnswer m c.given.result) (given_read (world c.args.self.now) c.args.method c.args.argument _ _ _ c.given_limit.ensures c.in_ok-items-in_default.ensures) (c.given.ensures (world c.args.self.now) refl)
+pub given_items-returns-in_ok-items-in_default-clause-meant : goal.given_items-returns-in_ok-items-in_default-clause-meant
+given_items-returns-in_ok-items-in_default-clause-meant g t c =
+    subst (λ m. IsAnswer m c.given.result) (given_read (world c.args.self.now) c.args.method c.args.argument _ _ _ c.given_limit.ensures c.in_ok-items-in_default.ensures.meant) (c.given.ensures (world c.args.self.now) refl)
 
-pub simple-returns-in_ok-pipe-in-None : goal.simple-returns-in_ok-pipe-in-None
-simple-returns-in_ok-pipe-in-None g t c =
-    subst (λ s. IsAnswer (simple_meaning c.args.method c.args.of.now s) c.simple_items-in-None.result) c.in_ok-pipe-in-None.ensures.items c.simple_items-in-None.ensures
+pub simple-returns-in_ok-pipe-in-None-clause-meant : goal.simple-returns-in_ok-pipe-in-None-clause-meant
+simple-returns-in_ok-pipe-in-None-clause-meant g t c =
+    subst (λ s. IsAnswer (simple_meaning c.args.method c.args.of.now s) c.simple_items-in-None.result) c.in_ok-pipe-in-None.ensures.items c.simple_items-in-None.ensures.meant
 
-pub pass_pulled-returns-in-Row : goal.pass_pulled-returns-in-Row
-pass_pulled-returns-in-Row g t c =
+pub pass_pulled-returns-in-Row-clause-meant : goal.pass_pulled-returns-in-Row-clause-meant
+pass_pulled-returns-in-Row-clause-meant g t c =
     let passes = subst (λ p. IsPulled g.R.TableRow.table_of g.R.RowRef.shown c.args.pipe.now.plan p) c.in-Row.is c.requires.pulled in
     let says = row_says g.R.TableRow.table_of g.R.RowRef.shown (world c.args.self.now) (values_in c.args.slots.now) c.args.pipe.now.stage c.args.pipe.now.source.now c.args.pipe.now.plan c.requires.planned c.in-Row.row true passes in
     subst (λ p. IfOk c.pass_row.result (λ o. outcome_stream o ≡ comes g.R.TableRow.table_of g.R.RowRef.shown (world c.args.self.now) (values_in c.args.slots.now) c.args.pipe.now (pulled_value p))) (sym c.in-Row.is)
-    (subst (λ s. IfOk c.pass_row.result (λ o. outcome_stream o ≡ s)) (sym says) c.pass_row.ensures)
+    (subst (λ s. IfOk c.pass_row.result (λ o. outcome_stream o ≡ s)) (sym says) c.pass_row.ensures.meant)
 
-pub next-returns-in-Item : goal.next-returns-in-Item
-next-returns-in-Item g t c =
-    next_item g.R.TableRow.table_of g.R.RowRef.shown (world c.args.self.now) (values_in c.args.slots.now) c.args.pipe.now c.args.base.now c.loop-pulled.base c.pull.new.self _ _ c.requires c.loop-pulled.invariant
+pub next-returns-in-Item-clause-meant : goal.next-returns-in-Item-clause-meant
+next-returns-in-Item-clause-meant g t c =
+    next_item g.R.TableRow.table_of g.R.RowRef.shown (world c.args.self.now) (values_in c.args.slots.now) c.args.pipe.now c.args.base.now c.loop-pulled.base c.pull.new.self _ _ c.requires c.loop-pulled.invariant.meant
     (subst (λ r. IfOk r (λ p. kept_stream g.R.TableRow.table_of g.R.RowRef.shown c.args.pipe.now.plan c.loop-pulled.base ≡ in_front (pulled_value p) (kept_stream g.R.TableRow.table_of g.R.RowRef.shown c.args.pipe.now.plan c.pull.new.self))) c.in-Ok.is c.pull.ensures.item)
-    (subst (λ o. outcome_stream o ≡ comes g.R.TableRow.table_of g.R.RowRef.shown (world c.args.self.now) (values_in c.args.slots.now) c.args.pipe.now (pulled_value c.in-Ok.pulled)) c.in-Item.is c.in_ok-item-in-Ok.ensures)
+    (subst (λ o. outcome_stream o ≡ comes g.R.TableRow.table_of g.R.RowRef.shown (world c.args.self.now) (values_in c.args.slots.now) c.args.pipe.now (pulled_value c.in-Ok.pulled)) c.in-Item.is c.in_ok-item-in-Ok.ensures.meant)
 
-pub next-returns-in-Fault : goal.next-returns-in-Fault
-next-returns-in-Fault g t c =
-    next_fault g.R.TableRow.table_of g.R.RowRef.shown (world c.args.self.now) (values_in c.args.slots.now) c.args.pipe.now c.args.base.now c.loop-pulled.base c.pull.new.self _ _ c.requires c.loop-pulled.invariant
+pub next-returns-in-Fault-clause-meant : goal.next-returns-in-Fault-clause-meant
+next-returns-in-Fault-clause-meant g t c =
+    next_fault g.R.TableRow.table_of g.R.RowRef.shown (world c.args.self.now) (values_in c.args.slots.now) c.args.pipe.now c.args.base.now c.loop-pulled.base c.pull.new.self _ _ c.requires c.loop-pulled.invariant.meant
     (subst (λ r. IfOk r (λ p. kept_stream g.R.TableRow.table_of g.R.RowRef.shown c.args.pipe.now.plan c.loop-pulled.base ≡ in_front (pulled_value p) (kept_stream g.R.TableRow.table_of g.R.RowRef.shown c.args.pipe.now.plan c.pull.new.self))) c.in-Ok.is c.pull.ensures.item)
-    (subst (λ o. outcome_stream o ≡ comes g.R.TableRow.table_of g.R.RowRef.shown (world c.args.self.now) (values_in c.args.slots.now) c.args.pipe.now (pulled_value c.in-Ok.pulled)) c.in-Fault.is c.in_ok-item-in-Ok.ensures)
+    (subst (λ o. outcome_stream o ≡ comes g.R.TableRow.table_of g.R.RowRef.shown (world c.args.self.now) (values_in c.args.slots.now) c.args.pipe.now (pulled_value c.in-Ok.pulled)) c.in-Fault.is c.in_ok-item-in-Ok.ensures.meant)
 
-pub next-returns-in-Err : goal.next-returns-in-Err
-next-returns-in-Err g t c =
-    next_ended g.R.TableRow.table_of g.R.RowRef.shown (world c.args.self.now) (values_in c.args.slots.now) c.args.pipe.now c.args.base.now c.loop-pulled.base _ c.requires c.loop-pulled.invariant
+pub next-returns-in-Err-clause-meant : goal.next-returns-in-Err-clause-meant
+next-returns-in-Err-clause-meant g t c =
+    next_ended g.R.TableRow.table_of g.R.RowRef.shown (world c.args.self.now) (values_in c.args.slots.now) c.args.pipe.now c.args.base.now c.loop-pulled.base _ c.requires c.loop-pulled.invariant.meant
     (subst (λ r. IfErr r (λ e. kept_stream g.R.TableRow.table_of g.R.RowRef.shown c.args.pipe.now.plan c.loop-pulled.base ≡ ([], e))) c.in-Err.is c.pull.ensures.end)
+
+pub evaluate-returns-in-First-clause-grows : goal.evaluate-returns-in-First-clause-grows
+evaluate-returns-in-First-clause-grows g t c =
+    λ w start h s gr.
+    c.part.ensures.grows w start
+    refl
+    (covered_first (world c.args.self.now) w c.args.form.now _ _ c.in-First.is c.get.ensures h)
+    s gr
+
+pub evaluate-returns-in-Second-clause-grows : goal.evaluate-returns-in-Second-clause-grows
+evaluate-returns-in-Second-clause-grows g t c =
+    λ w start h s gr.
+    c.part-in-Second.ensures.grows w start
+    refl
+    (covered_second (world c.args.self.now) w c.args.form.now _ _ c.in-Second.is c.get-in-Second.ensures h)
+    s gr
+
+pub evaluate-returns-in-Column-clause-grows : goal.evaluate-returns-in-Column-clause-grows
+evaluate-returns-in-Column-clause-grows g t c =
+    λ w start h s gr.
+    c.part-in-Column.ensures.grows w start
+    refl
+    (covered_column (world c.args.self.now) w c.args.form.now _ _ _ _ c.in-Column.is c.get-in-Column.ensures h)
+    s gr
+
+pub evaluate-returns-in-Host-clause-grows : goal.evaluate-returns-in-Host-clause-grows
+evaluate-returns-in-Host-clause-grows g t c =
+    λ w start h s gr.
+    c.part-in-Host.ensures.grows w start
+    (host_passes (world c.args.self.now) w c.args.form.now _ _ _ _ c.in-Host.is h)
+    (covered_host (world c.args.self.now) w c.args.form.now _ _ _ _ _ c.in-Host.is c.get-in-Host.ensures h)
+    s gr
+
+pub evaluate-returns-in-Member-clause-grows : goal.evaluate-returns-in-Member-clause-grows
+evaluate-returns-in-Member-clause-grows g t c =
+    λ w start h s gr.
+    c.part-in-Member.ensures.grows w start
+    refl
+    (covered_member (world c.args.self.now) w c.args.form.now _ _ _ c.in-Member.is c.get-in-Member.ensures h)
+    s gr
+
+pub evaluate-returns-in-Key-clause-grows : goal.evaluate-returns-in-Key-clause-grows
+evaluate-returns-in-Key-clause-grows g t c =
+    λ w start h s gr.
+    c.key.ensures.grows w start
+    (covered_key (world c.args.self.now) w c.args.form.now _ _ c.in-Key.is c.get-in-Key.ensures h)
+    s gr
+
+pub evaluate-returns-in-Unary-clause-grows : goal.evaluate-returns-in-Unary-clause-grows
+evaluate-returns-in-Unary-clause-grows g t c =
+    λ w start h s gr.
+    c.unary.ensures.grows w start
+    (covered_unary (world c.args.self.now) w c.args.form.now _ _ _ c.in-Unary.is c.get-in-Unary.ensures h)
+    s gr
+
+pub evaluate-returns-in-Binary-clause-grows : goal.evaluate-returns-in-Binary-clause-grows
+evaluate-returns-in-Binary-clause-grows g t c =
+    λ w start h s gr.
+    c.binary.ensures.grows w start
+    (covered_binary_left (world c.args.self.now) w c.args.form.now _ _ _ _ c.in-Binary.is c.get-in-Binary.ensures h)
+    (covered_binary_right (world c.args.self.now) w c.args.form.now _ _ _ _ c.in-Binary.is c.get-in-Binary-2.ensures h)
+    s gr
+
+pub evaluate-returns-in-And-clause-grows : goal.evaluate-returns-in-And-clause-grows
+evaluate-returns-in-And-clause-grows g t c =
+    λ w start h s gr.
+    c.both.ensures.grows w start
+    (covered_and_left (world c.args.self.now) w c.args.form.now _ _ _ c.in-And.is c.get-in-And.ensures h)
+    (covered_and_right (world c.args.self.now) w c.args.form.now _ _ _ c.in-And.is c.get-in-And-2.ensures h)
+    s gr
+
+pub evaluate-returns-in-Or-clause-grows : goal.evaluate-returns-in-Or-clause-grows
+evaluate-returns-in-Or-clause-grows g t c =
+    λ w start h s gr.
+    c.either.ensures.grows w start
+    (covered_or_left (world c.args.self.now) w c.args.form.now _ _ _ c.in-Or.is c.get-in-Or.ensures h)
+    (covered_or_right (world c.args.self.now) w c.args.form.now _ _ _ c.in-Or.is c.get-in-Or-2.ensures h)
+    s gr
+
+pub evaluate-returns-in-Coalesce-clause-grows : goal.evaluate-returns-in-Coalesce-clause-grows
+evaluate-returns-in-Coalesce-clause-grows g t c =
+    λ w start h s gr.
+    c.coalesce.ensures.grows w start
+    (covered_coalesce_left (world c.args.self.now) w c.args.form.now _ _ _ c.in-Coalesce.is c.get-in-Coalesce.ensures h)
+    (covered_coalesce_right (world c.args.self.now) w c.args.form.now _ _ _ c.in-Coalesce.is c.get-in-Coalesce-2.ensures h)
+    s gr
+
+pub evaluate-returns-in-Conditional-clause-grows : goal.evaluate-returns-in-Conditional-clause-grows
+evaluate-returns-in-Conditional-clause-grows g t c =
+    λ w start h s gr.
+    c.choose.ensures.grows w start
+    (covered_conditional_condition (world c.args.self.now) w c.args.form.now _ _ _ _ c.in-Conditional.is c.get-in-Conditional.ensures h)
+    (covered_conditional_first (world c.args.self.now) w c.args.form.now _ _ _ _ c.in-Conditional.is c.get-in-Conditional-2.ensures h)
+    (covered_conditional_second (world c.args.self.now) w c.args.form.now _ _ _ _ c.in-Conditional.is c.get-in-Conditional-3.ensures h)
+    s gr
+
+pub evaluate-returns-in-IsNull-clause-grows : goal.evaluate-returns-in-IsNull-clause-grows
+evaluate-returns-in-IsNull-clause-grows g t c =
+    λ w start h s gr.
+    c.null_test.ensures.grows w start
+    (covered_is_null (world c.args.self.now) w c.args.form.now _ _ _ c.in-IsNull.is c.get-in-IsNull.ensures h)
+    s gr
+
+pub evaluate-returns-in-Record-clause-grows : goal.evaluate-returns-in-Record-clause-grows
+evaluate-returns-in-Record-clause-grows g t c =
+    λ w start h s gr.
+    c.record.ensures.grows w start
+    (covered_record (world c.args.self.now) w c.args.form.now _ _ c.in-Record.is refl h)
+    s gr
+
+pub evaluate-returns-in-Pair-clause-grows : goal.evaluate-returns-in-Pair-clause-grows
+evaluate-returns-in-Pair-clause-grows g t c =
+    λ w start h s gr.
+    c.pair.ensures.grows w start
+    (covered_pair_first (world c.args.self.now) w c.args.form.now _ _ _ c.in-Pair.is c.get-in-Pair.ensures h)
+    (covered_pair_second (world c.args.self.now) w c.args.form.now _ _ _ c.in-Pair.is c.get-in-Pair-2.ensures h)
+    s gr
+
+pub evaluate-returns-in-Sequence-clause-grows : goal.evaluate-returns-in-Sequence-clause-grows
+evaluate-returns-in-Sequence-clause-grows g t c =
+    λ w start h s gr.
+    c.sequence.ensures.grows w start
+    refl
+    (covered_sequence (world c.args.self.now) w c.args.form.now _ _ c.in-Sequence.is c.get-in-Sequence.ensures h)
+    s gr
+
+pub evaluate-returns-in-Simple-clause-grows : goal.evaluate-returns-in-Simple-clause-grows
+evaluate-returns-in-Simple-clause-grows g t c =
+    λ w start h s gr.
+    c.simple.ensures.grows w start
+    (covered_simple (world c.args.self.now) w c.args.form.now _ _ _ _ c.in-Simple.is c.get-in-Simple.ensures h)
+    s gr
+
+pub evaluate-returns-in-Given-clause-grows : goal.evaluate-returns-in-Given-clause-grows
+evaluate-returns-in-Given-clause-grows g t c =
+    λ w start h s gr.
+    c.given.ensures.grows w start
+    (covered_given_source (world c.args.self.now) w c.args.form.now _ _ _ _ c.in-Given.is c.get-in-Given.ensures h)
+    (covered_given_argument (world c.args.self.now) w c.args.form.now _ _ _ _ c.in-Given.is c.get-in-Given-2.ensures h)
+    s gr
+
+pub evaluate-returns-in-Where-clause-grows : goal.evaluate-returns-in-Where-clause-grows
+evaluate-returns-in-Where-clause-grows g t c =
+    λ w start h s gr.
+    c.sequence-in-Where.ensures.grows w start
+    (covered_where_body (world c.args.self.now) w c.args.form.now _ _ _ c.in-Where.is c.get-in-Where.ensures h)
+    (covered_where_source (world c.args.self.now) w c.args.form.now _ _ _ c.in-Where.is c.get-in-Where-2.ensures h)
+    s gr
+
+pub evaluate-returns-in-Select-clause-grows : goal.evaluate-returns-in-Select-clause-grows
+evaluate-returns-in-Select-clause-grows g t c =
+    λ w start h s gr.
+    c.sequence-in-Select.ensures.grows w start
+    (covered_select_body (world c.args.self.now) w c.args.form.now _ _ _ c.in-Select.is c.get-in-Select.ensures h)
+    (covered_select_source (world c.args.self.now) w c.args.form.now _ _ _ c.in-Select.is c.get-in-Select-2.ensures h)
+    s gr
+
+pub evaluate-returns-in-All-clause-grows : goal.evaluate-returns-in-All-clause-grows
+evaluate-returns-in-All-clause-grows g t c =
+    λ w start h s gr.
+    c.all.ensures.grows w start
+    (covered_all_source (world c.args.self.now) w c.args.form.now _ _ _ c.in-All.is c.get-in-All.ensures h)
+    (covered_all_body (world c.args.self.now) w c.args.form.now _ _ _ c.in-All.is c.get-in-All-2.ensures h)
+    s gr
+
+pub evaluate-returns-in-SelectMany-clause-grows : goal.evaluate-returns-in-SelectMany-clause-grows
+evaluate-returns-in-SelectMany-clause-grows g t c =
+    λ w start h s gr.
+    c.select_many.ensures.grows w start
+    (covered_select_many_source (world c.args.self.now) w c.args.form.now _ _ _ _ c.in-SelectMany.is c.get-in-SelectMany.ensures h)
+    (covered_select_many_inner (world c.args.self.now) w c.args.form.now _ _ _ _ c.in-SelectMany.is c.get-in-SelectMany-2.ensures h)
+    (covered_select_many_result (world c.args.self.now) w c.args.form.now _ _ _ _ c.in-SelectMany.is c.get-in-SelectMany-3.ensures h)
+    s gr
+
+pub evaluate-returns-in-GroupBy-clause-grows : goal.evaluate-returns-in-GroupBy-clause-grows
+evaluate-returns-in-GroupBy-clause-grows g t c =
+    λ w start h s gr.
+    c.group_by.ensures.grows w start
+    (covered_group_by_source (world c.args.self.now) w c.args.form.now _ _ _ _ c.in-GroupBy.is c.get-in-GroupBy.ensures h)
+    (covered_group_by_key (world c.args.self.now) w c.args.form.now _ _ _ _ c.in-GroupBy.is c.get-in-GroupBy-2.ensures h)
+    (covered_group_by_element (world c.args.self.now) w c.args.form.now _ _ _ _ c.in-GroupBy.is c.get-in-GroupBy-3.ensures h)
+    s gr
+
+pub evaluate-returns-in-Join-clause-grows : goal.evaluate-returns-in-Join-clause-grows
+evaluate-returns-in-Join-clause-grows g t c =
+    λ w start h s gr.
+    c.join.ensures.grows w start
+    (covered_join_parts (world c.args.self.now) w c.args.form.now _ _ _ c.in-Join.is c.get-in-Join.ensures h)
+    (covered_join_source (world c.args.self.now) w c.args.form.now _ _ _ c.in-Join.is c.get-in-Join-2.ensures h)
+    s gr
+
+pub evaluate-returns-in-OrderBy-clause-grows : goal.evaluate-returns-in-OrderBy-clause-grows
+evaluate-returns-in-OrderBy-clause-grows g t c =
+    λ w start h s gr.
+    c.order_by.ensures.grows w start
+    (covered_order_keys (world c.args.self.now) w c.args.form.now _ _ _ c.in-OrderBy.is refl h)
+    (covered_order_source (world c.args.self.now) w c.args.form.now _ _ _ c.in-OrderBy.is c.get-in-OrderBy.ensures h)
+    s gr
+
+pub key-returns-clause-grows : goal.key-returns-clause-grows
+key-returns-clause-grows g t c = λ w start h s gr. c.part.ensures.grows w start refl h s gr
+
+pub null_test-returns-clause-grows : goal.null_test-returns-clause-grows
+null_test-returns-clause-grows g t c = λ w start h s gr. c.part.ensures.grows w start refl h s gr
+
+pub part-returns-in-Some-clause-grows : goal.part-returns-in-Some-clause-grows
+part-returns-in-Some-clause-grows g t c =
+    λ w start h k s gr.
+    c.part.ensures.grows w start h (value_passes (world c.args.self.now) w c.args.form.now (values_in c.args.slots.now) _ (c.in-Some.ensures (world c.args.self.now)) k s) gr
+
+pub part-returns-in_ok-evaluate-in-None-clause-grows : goal.part-returns-in_ok-evaluate-in-None-clause-grows
+part-returns-in_ok-evaluate-in-None-clause-grows g t c =
+    λ w start h k s gr.
+    c.part-in-None.ensures.grows w start h (value_passes (world c.args.self.now) w c.args.form.now (values_in c.args.slots.now) _ c.in_ok-evaluate-in-None.ensures.meant k s) (c.evaluate.ensures.grows w start k s gr)
+
+pub truth-returns-in-And-clause-grows : goal.truth-returns-in-And-clause-grows
+truth-returns-in-And-clause-grows g t c =
+    λ w start h s gr.
+    c.truth_of_both.ensures.grows w start (covered_and_left (world c.args.self.now) w c.args.form.now _ _ _ c.in-And.is c.get.ensures h)
+    (covered_and_right (world c.args.self.now) w c.args.form.now _ _ _ c.in-And.is c.get-in-And.ensures h) s gr
+
+pub truth-returns-in-Or-clause-grows : goal.truth-returns-in-Or-clause-grows
+truth-returns-in-Or-clause-grows g t c =
+    λ w start h s gr.
+    c.truth_of_either.ensures.grows w start (covered_or_left (world c.args.self.now) w c.args.form.now _ _ _ c.in-Or.is c.get-in-Or.ensures h)
+    (covered_or_right (world c.args.self.now) w c.args.form.now _ _ _ c.in-Or.is c.get-in-Or-2.ensures h) s gr
+
+pub truth-returns-in-Binary-clause-grows : goal.truth-returns-in-Binary-clause-grows
+truth-returns-in-Binary-clause-grows g t c =
+    λ w start h s gr.
+    c.truth_of_two.ensures.grows w start (covered_binary_left (world c.args.self.now) w c.args.form.now _ _ _ _ c.in-Binary.is c.get-in-Binary.ensures h)
+    (covered_binary_right (world c.args.self.now) w c.args.form.now _ _ _ _ c.in-Binary.is c.get-in-Binary-2.ensures h) s gr
+
+pub base_of-returns-in-Table-clause-from : goal.base_of-returns-in-Table-clause-from
+base_of-returns-in-Table-clause-from g t c =
+    λ w h s.
+    stream_passes (world c.args.self.now) w c.args.form.now (values_in c.args.slots.now) _
+    (subst (λ f. base_stream c.rows_of.result ≡ items_meant (world c.args.self.now) f c.args.slots.now) (sym c.in-Table.is) (table_opened (world c.args.self.now) (values_in c.args.slots.now) _ _ c.rows_of.ensures)) h s
+
+pub base_of-returns-in_ok-items-in_default-clause-from : goal.base_of-returns-in_ok-items-in_default-clause-from
+base_of-returns-in_ok-items-in_default-clause-from g t c =
+    λ w h s.
+    stream_passes (world c.args.self.now) w c.args.form.now (values_in c.args.slots.now) _
+    (c.of_items.ensures ∙ c.in_ok-items-in_default.ensures (world c.args.self.now) _ refl c.evaluate-value.ensures.meant) h s
+
+pub open-returns-in_ok-open-in-Some-clause-grows : goal.open-returns-in_ok-open-in-Some-clause-grows
+open-returns-in_ok-open-in-Some-clause-grows g t c =
+    λ w start h s gr.
+    c.open.ensures.grows w start (source_of (world c.args.self.now) w c.in-Some.field-0-0 c.args.form.now c.in-Some.source.now c.in-Some.ensures.stage h) s gr
+
+pub open-returns-in_err-open-in-Some-clause-grows : goal.open-returns-in_err-open-in-Some-clause-grows
+open-returns-in_err-open-in-Some-clause-grows g t c =
+    λ w start h s gr.
+    c.open.ensures.grows w start (source_of (world c.args.self.now) w c.in-Some.field-0-0 c.args.form.now c.in-Some.source.now c.in-Some.ensures.stage h) s gr
+
+pub open-returns-in_ok-open-in-Some-clause-from : goal.open-returns-in_ok-open-in-Some-clause-from
+open-returns-in_ok-open-in-Some-clause-from g t c =
+    λ w h s. c.in_ok-open-in-Some.ensures.from w (source_of (world c.args.self.now) w c.in-Some.field-0-0 c.args.form.now c.in-Some.source.now c.in-Some.ensures.stage h) s
+
+pub pass-returns-in_ok-pass-in-Some-Plain-default-clause-grows : goal.pass-returns-in_ok-pass-in-Some-Plain-default-clause-grows
+pass-returns-in_ok-pass-in-Some-Plain-default-clause-grows g t c =
+    λ w start h s i gr.
+    c.pass.ensures.grows w start (above_source (world c.args.self.now) w c.in-Some-Plain-default.field-0-0 c.args.form.now c.in-Some-Plain-default.source.now c.in-Some-Plain-default.ensures.stage h) s i gr
+
+pub pass-returns-in_err-pass-in-Some-Plain-default-clause-grows : goal.pass-returns-in_err-pass-in-Some-Plain-default-clause-grows
+pass-returns-in_err-pass-in-Some-Plain-default-clause-grows g t c =
+    λ w start h s i gr.
+    c.pass.ensures.grows w start (above_source (world c.args.self.now) w c.in-Some-Plain-default.field-0-0 c.args.form.now c.in-Some-Plain-default.source.now c.in-Some-Plain-default.ensures.stage h) s i gr
+
+pub pass-returns-in_ok-pass_through-in-Some-clause-grows : goal.pass-returns-in_ok-pass_through-in-Some-clause-grows
+pass-returns-in_ok-pass_through-in-Some-clause-grows g t c =
+    λ w start h s i gr.
+    c.pass_through.ensures.grows w start (above_stage (world c.args.self.now) w c.in-Some.stage c.args.form.now c.in-Some.source.now c.in-Some.ensures.stage h) (above_source (world c.args.self.now) w c.in-Some.stage c.args.form.now c.in-Some.source.now c.in-Some.ensures.stage h) s i gr
+
+pub pass-returns-in_err-pass_through-in-Some-clause-grows : goal.pass-returns-in_err-pass_through-in-Some-clause-grows
+pass-returns-in_err-pass_through-in-Some-clause-grows g t c =
+    λ w start h s i gr.
+    c.pass_through.ensures.grows w start (above_stage (world c.args.self.now) w c.in-Some.stage c.args.form.now c.in-Some.source.now c.in-Some.ensures.stage h) (above_source (world c.args.self.now) w c.in-Some.stage c.args.form.now c.in-Some.source.now c.in-Some.ensures.stage h) s i gr
+
+pub pass_through-returns-in-Item-clause-grows : goal.pass_through-returns-in-Item-clause-grows
+pass_through-returns-in-Item-clause-grows g t c =
+    λ w start h a s i gr.
+    c.pass_stage-in-Item.ensures.grows w start h s
+    (passed_item (world c.args.self.now) w (values_in c.args.slots.now) c.args.source.now c.args.item c.in-Item.item a s i
+    (subst (λ o. outcome_stream o ≡ item_at (world c.args.self.now) (values_in c.args.slots.now) c.args.source.now c.args.item) c.in-Item.is c.in_ok-item.ensures.meant))
+    (c.pass.ensures.grows w start a s i gr)
+
+pub pass_stage-returns-in-Ok-true-clause-grows : goal.pass_stage-returns-in-Ok-true-clause-grows
+pass_stage-returns-in-Ok-true-clause-grows g t c =
+    λ w start h s i gr.
+    c.holds.ensures.grows w start (subst (λ st. is_covered_stage (world c.args.self.now) w st ≡ true) c.in-Where.is h) s i gr
+
+pub pass_stage-returns-in-Ok-false-clause-grows : goal.pass_stage-returns-in-Ok-false-clause-grows
+pass_stage-returns-in-Ok-false-clause-grows g t c =
+    λ w start h s i gr.
+    c.holds.ensures.grows w start (subst (λ st. is_covered_stage (world c.args.self.now) w st ≡ true) c.in-Where.is h) s i gr
+
+pub pass_stage-returns-in-Err-clause-grows : goal.pass_stage-returns-in-Err-clause-grows
+pass_stage-returns-in-Err-clause-grows g t c =
+    λ w start h s i gr.
+    c.holds.ensures.grows w start (subst (λ st. is_covered_stage (world c.args.self.now) w st ≡ true) c.in-Where.is h) s i gr
+
+pub pass_stage-returns-in_err-holds-in-Where-clause-grows : goal.pass_stage-returns-in_err-holds-in-Where-clause-grows
+pass_stage-returns-in_err-holds-in-Where-clause-grows g t c =
+    λ w start h s i gr.
+    c.holds.ensures.grows w start (subst (λ st. is_covered_stage (world c.args.self.now) w st ≡ true) c.in-Where.is h) s i gr
+
+pub pass_stage-returns-in-Select-clause-grows : goal.pass_stage-returns-in-Select-clause-grows
+pass_stage-returns-in-Select-clause-grows g t c =
+    λ w start h s i gr.
+    c.pass_select.ensures.grows w start (subst (λ st. is_covered_stage (world c.args.self.now) w st ≡ true) c.in-Select.is h) s i gr
+
+pub pass_row-returns-in-None-clause-grows : goal.pass_row-returns-in-None-clause-grows
+pass_row-returns-in-None-clause-grows g t c =
+    λ w start h s i gr.
+    c.pass_select.ensures.grows w start (subst (λ st. is_covered_stage (world c.args.self.now) w st ≡ true) c.in-Select.is h) s (passing_row w (value.Row c.args.row.now) c.args.row.now refl i) gr
+
+pub pass_pulled-returns-in-Row-clause-grows : goal.pass_pulled-returns-in-Row-clause-grows
+pass_pulled-returns-in-Row-clause-grows g t c =
+    λ w start h i gr.
+    c.pass_row.ensures.grows w start (stage_covered g.R.TableRow.table_of g.R.RowRef.shown (world c.args.self.now) w (values_in c.args.slots.now) c.args.pipe.now h) (slots_pass g.R.TableRow.table_of g.R.RowRef.shown (world c.args.self.now) w (values_in c.args.slots.now) c.args.pipe.now h)
+    (row_passes w (pulled_value c.args.pulled) c.in-Row.row (ap pulled_value c.in-Row.is) i) gr
+
+pub pass_pulled-returns-in-Item-clause-grows : goal.pass_pulled-returns-in-Item-clause-grows
+pass_pulled-returns-in-Item-clause-grows g t c =
+    λ w start h i gr.
+    c.pass_through.ensures.grows w start (stage_covered g.R.TableRow.table_of g.R.RowRef.shown (world c.args.self.now) w (values_in c.args.slots.now) c.args.pipe.now h) (source_covered g.R.TableRow.table_of g.R.RowRef.shown (world c.args.self.now) w (values_in c.args.slots.now) c.args.pipe.now h) (slots_pass g.R.TableRow.table_of g.R.RowRef.shown (world c.args.self.now) w (values_in c.args.slots.now) c.args.pipe.now h)
+    (ap (λ p. has_watched_rows w (pulled_value p)) (sym c.in-Item.is) ∙ i) gr
+
+pub next-returns-in_err-item-in-Ok-clause-pulled : goal.next-returns-in_err-item-in-Ok-clause-pulled
+next-returns-in_err-item-in-Ok-clause-pulled g t c =
+    pulled_more (world c.args.self.now) (facts c.args.self.now.sources) (λ w. is_covered_pipe (world c.args.self.now) w (values_in c.args.slots.now) c.args.pipe.now) _ (kept_stream g.R.TableRow.table_of g.R.RowRef.shown c.args.pipe.now.plan c.loop-pulled.base) (kept_stream g.R.TableRow.table_of g.R.RowRef.shown c.args.pipe.now.plan c.pull.new.self) _ _ _ (pulled_value c.in-Ok.pulled)
+    c.loop-pulled.invariant.pulled
+    (subst (λ r. IfOk r (λ p. (kept_stream g.R.TableRow.table_of g.R.RowRef.shown c.args.pipe.now.plan c.loop-pulled.base) ≡ in_front (pulled_value p) (kept_stream g.R.TableRow.table_of g.R.RowRef.shown c.args.pipe.now.plan c.pull.new.self))) c.in-Ok.is c.pull.ensures.item)
+    (λ w start h i gr. c.pass_pulled.ensures.grows w start h i gr)
+
+pub next-returns-in-Item-clause-pulled : goal.next-returns-in-Item-clause-pulled
+next-returns-in-Item-clause-pulled g t c =
+    pulled_more (world c.args.self.now) (facts c.args.self.now.sources) (λ w. is_covered_pipe (world c.args.self.now) w (values_in c.args.slots.now) c.args.pipe.now) _ (kept_stream g.R.TableRow.table_of g.R.RowRef.shown c.args.pipe.now.plan c.loop-pulled.base) (kept_stream g.R.TableRow.table_of g.R.RowRef.shown c.args.pipe.now.plan c.pull.new.self) _ _ _ (pulled_value c.in-Ok.pulled)
+    c.loop-pulled.invariant.pulled
+    (subst (λ r. IfOk r (λ p. (kept_stream g.R.TableRow.table_of g.R.RowRef.shown c.args.pipe.now.plan c.loop-pulled.base) ≡ in_front (pulled_value p) (kept_stream g.R.TableRow.table_of g.R.RowRef.shown c.args.pipe.now.plan c.pull.new.self))) c.in-Ok.is c.pull.ensures.item)
+    (λ w start h i gr. c.pass_pulled.ensures.grows w start h i gr)
+
+pub next-returns-in-Fault-clause-pulled : goal.next-returns-in-Fault-clause-pulled
+next-returns-in-Fault-clause-pulled g t c =
+    pulled_more (world c.args.self.now) (facts c.args.self.now.sources) (λ w. is_covered_pipe (world c.args.self.now) w (values_in c.args.slots.now) c.args.pipe.now) _ (kept_stream g.R.TableRow.table_of g.R.RowRef.shown c.args.pipe.now.plan c.loop-pulled.base) (kept_stream g.R.TableRow.table_of g.R.RowRef.shown c.args.pipe.now.plan c.pull.new.self) _ _ _ (pulled_value c.in-Ok.pulled)
+    c.loop-pulled.invariant.pulled
+    (subst (λ r. IfOk r (λ p. (kept_stream g.R.TableRow.table_of g.R.RowRef.shown c.args.pipe.now.plan c.loop-pulled.base) ≡ in_front (pulled_value p) (kept_stream g.R.TableRow.table_of g.R.RowRef.shown c.args.pipe.now.plan c.pull.new.self))) c.in-Ok.is c.pull.ensures.item)
+    (λ w start h i gr. c.pass_pulled.ensures.grows w start h i gr)
+
+pub next-returns-in-Err-clause-pulled : goal.next-returns-in-Err-clause-pulled
+next-returns-in-Err-clause-pulled g t c =
+    pulled_over (world c.args.self.now) (facts c.args.self.now.sources) (λ w. is_covered_pipe (world c.args.self.now) w (values_in c.args.slots.now) c.args.pipe.now) _ (kept_stream g.R.TableRow.table_of g.R.RowRef.shown c.args.pipe.now.plan c.loop-pulled.base) (kept_stream g.R.TableRow.table_of g.R.RowRef.shown c.args.pipe.now.plan c.pull.new.self) _ _ c.in-Err.end c.loop-pulled.invariant.pulled
+    (subst (λ r. IfErr r (λ e. (kept_stream g.R.TableRow.table_of g.R.RowRef.shown c.args.pipe.now.plan c.loop-pulled.base) ≡ ([], e))) c.in-Err.is c.pull.ensures.end)
+    (subst (λ r. IfErr r (λ e. (kept_stream g.R.TableRow.table_of g.R.RowRef.shown c.args.pipe.now.plan c.pull.new.self).0 ≡ [])) c.in-Err.is c.pull.ensures.over)
+
+pub next-loop-pulled-init : goal.next-loop-pulled-init
+next-loop-pulled-init g t c =
+    record {
+      meant = refl;
+      pulled = pulled_none (world c.args.self.now) (facts c.args.self.now.sources) (λ w. is_covered_pipe (world c.args.self.now) w (values_in c.args.slots.now) c.args.pipe.now) _ _;
+    }
+
+pub next-loop-pulled-preserved : goal.next-loop-pulled-preserved
+next-loop-pulled-preserved g t c =
+    record {
+      meant = next_dropped g.R.TableRow.table_of g.R.RowRef.shown (world c.args.self.now) (values_in c.args.slots.now) c.args.pipe.now c.args.base.now c.loop-pulled.base c.pull.new.self _ c.requires c.loop-pulled.invariant.meant
+          (subst (λ r. IfOk r (λ p. (kept_stream g.R.TableRow.table_of g.R.RowRef.shown c.args.pipe.now.plan c.loop-pulled.base) ≡ in_front (pulled_value p) (kept_stream g.R.TableRow.table_of g.R.RowRef.shown c.args.pipe.now.plan c.pull.new.self))) c.in-Ok.is c.pull.ensures.item)
+          (subst (λ o. outcome_stream o ≡ comes g.R.TableRow.table_of g.R.RowRef.shown (world c.args.self.now) (values_in c.args.slots.now) c.args.pipe.now (pulled_value c.in-Ok.pulled)) c.in-Dropped.is c.in_ok-item-in-Ok.ensures.meant);
+      pulled = pulled_more (world c.args.self.now) (facts c.args.self.now.sources) (λ w. is_covered_pipe (world c.args.self.now) w (values_in c.args.slots.now) c.args.pipe.now) _ (kept_stream g.R.TableRow.table_of g.R.RowRef.shown c.args.pipe.now.plan c.loop-pulled.base) (kept_stream g.R.TableRow.table_of g.R.RowRef.shown c.args.pipe.now.plan c.pull.new.self) _ _ _ (pulled_value c.in-Ok.pulled)
+          c.loop-pulled.invariant.pulled
+          (subst (λ r. IfOk r (λ p. (kept_stream g.R.TableRow.table_of g.R.RowRef.shown c.args.pipe.now.plan c.loop-pulled.base) ≡ in_front (pulled_value p) (kept_stream g.R.TableRow.table_of g.R.RowRef.shown c.args.pipe.now.plan c.pull.new.self))) c.in-Ok.is c.pull.ensures.item)
+          (λ w start h i gr. c.pass_pulled.ensures.grows w start h i gr);
+    }
+
+pub read-loop-less-init : goal.read-loop-less-init
+read-loop-less-init g t c =
+    record {
+      meant = begins_read _ _ _ c.args.limit c.new-items.ensures (left_opened (world c.args.self.now) (values_in c.args.slots.now) _ _ c.in_ok-base.base c.in_ok-base.ensures.meant);
+      log = opened (world c.args.self.now) (facts c.args.self.now.sources) g.R.TableRow.table_of g.R.RowRef.shown (values_in c.args.slots.now) c.args.pipe.now (Covers (world c.args.self.now) (values_in c.args.slots.now) c.args.pipe.now) _ _ c.in_ok-base.base (λ w start p gr. c.open.ensures.grows w start p.source_in p.slots_in gr) (λ w p. c.in_ok-base.ensures.from w p.source_in p.slots_in);
+    }
+
+pub read-returns-in_err-item-clause-grows : goal.read-returns-in_err-item-clause-grows
+read-returns-in_err-item-clause-grows g t c =
+    λ w start a b s gr.
+    (went_on (world c.args.self.now) (facts c.args.self.now.sources) g.R.TableRow.table_of g.R.RowRef.shown (values_in c.args.slots.now) c.args.pipe.now (Covers (world c.args.self.now) (values_in c.args.slots.now) c.args.pipe.now) (λ w p. p) _ _ _ c.loop-less.base c.next.new.base c.loop-less.invariant.log c.next.ensures.pulled).grows w start (covers_pipe (world c.args.self.now) (values_in c.args.slots.now) c.args.pipe.now w a b s) gr
+
+pub read-returns-in_err-push-in-Ok-clause-grows : goal.read-returns-in_err-push-in-Ok-clause-grows
+read-returns-in_err-push-in-Ok-clause-grows g t c =
+    λ w start a b s gr.
+    (went_on (world c.args.self.now) (facts c.args.self.now.sources) g.R.TableRow.table_of g.R.RowRef.shown (values_in c.args.slots.now) c.args.pipe.now (Covers (world c.args.self.now) (values_in c.args.slots.now) c.args.pipe.now) (λ w p. p) _ _ _ c.loop-less.base c.next.new.base c.loop-less.invariant.log c.next.ensures.pulled).grows w start (covers_pipe (world c.args.self.now) (values_in c.args.slots.now) c.args.pipe.now w a b s) gr
+
+pub read-returns-in-Err-clause-grows : goal.read-returns-in-Err-clause-grows
+read-returns-in-Err-clause-grows g t c =
+    λ w start a b s gr.
+    (went_on (world c.args.self.now) (facts c.args.self.now.sources) g.R.TableRow.table_of g.R.RowRef.shown (values_in c.args.slots.now) c.args.pipe.now (Covers (world c.args.self.now) (values_in c.args.slots.now) c.args.pipe.now) (λ w p. p) _ _ _ c.loop-less.base c.next.new.base c.loop-less.invariant.log c.next.ensures.pulled).grows w start (covers_pipe (world c.args.self.now) (values_in c.args.slots.now) c.args.pipe.now w a b s) gr
+
+pub read-returns-clause-grows : goal.read-returns-clause-grows
+read-returns-clause-grows g t c =
+    λ w start a b s gr.
+    c.loop-less.invariant.log.grows w start (covers_pipe (world c.args.self.now) (values_in c.args.slots.now) c.args.pipe.now w a b s) gr
+
+pub read-loop-less-preserved : goal.read-loop-less-preserved
+read-loop-less-preserved g t c =
+    record {
+      meant = read_on (items_left (world c.args.self.now) (values_in c.args.slots.now) c.args.pipe.now c.loop-less.base) (items_left (world c.args.self.now) (values_in c.args.slots.now) c.args.pipe.now c.next.new.base) _ c.in-Ok.item c.loop-less.items _ c.loop-less.left c.in-Some.less (subst (λ s. Steps (items_left (world c.args.self.now) (values_in c.args.slots.now) c.args.pipe.now c.loop-less.base) s (items_left (world c.args.self.now) (values_in c.args.slots.now) c.args.pipe.now c.next.new.base)) c.in-Ok.is c.in_ok-item.ensures.meant) c.in_ok-push-in-Ok.ensures.ok (sym c.one_less.ensures ∙ c.in-Some.is) c.loop-less.invariant.meant;
+      log = went_on (world c.args.self.now) (facts c.args.self.now.sources) g.R.TableRow.table_of g.R.RowRef.shown (values_in c.args.slots.now) c.args.pipe.now (Covers (world c.args.self.now) (values_in c.args.slots.now) c.args.pipe.now) (λ w p. p) _ _ _ c.loop-less.base c.next.new.base c.loop-less.invariant.log c.next.ensures.pulled;
+    }
+
+pub read-returns-in-Err-clause-meant : goal.read-returns-in-Err-clause-meant
+read-returns-in-Err-clause-meant g t c =
+    read_ended (items_left (world c.args.self.now) (values_in c.args.slots.now) c.args.pipe.now c.loop-less.base) _ c.loop-less.items c.in-Err.end c.loop-less.left c.in-Some.less (subst (λ s. Steps (items_left (world c.args.self.now) (values_in c.args.slots.now) c.args.pipe.now c.loop-less.base) s (items_left (world c.args.self.now) (values_in c.args.slots.now) c.args.pipe.now c.next.new.base)) c.in-Err.is c.in_ok-item.ensures.meant) (sym c.one_less.ensures ∙ c.in-Some.is) c.loop-less.invariant.meant
+
+pub tally-loop-base-init : goal.tally-loop-base-init
+tally-loop-base-init g t c =
+    record {
+      meant = tally_begins _ _ _ _ (left_opened (world c.args.self.now) (values_in c.args.slots.now) _ _ c.in_ok-base.base c.in_ok-base.ensures.meant);
+      log = opened (world c.args.self.now) (facts c.args.self.now.sources) g.R.TableRow.table_of g.R.RowRef.shown (values_in c.args.slots.now) c.args.pipe.now (Covers (world c.args.self.now) (values_in c.args.slots.now) c.args.pipe.now) _ _ c.in_ok-base.base (λ w start p gr. c.open.ensures.grows w start p.source_in p.slots_in gr) (λ w p. c.in_ok-base.ensures.from w p.source_in p.slots_in);
+    }
+
+pub tally-returns-in_err-item-clause-grows : goal.tally-returns-in_err-item-clause-grows
+tally-returns-in_err-item-clause-grows g t c =
+    λ w start a b s gr.
+    (went_on (world c.args.self.now) (facts c.args.self.now.sources) g.R.TableRow.table_of g.R.RowRef.shown (values_in c.args.slots.now) c.args.pipe.now (Covers (world c.args.self.now) (values_in c.args.slots.now) c.args.pipe.now) (λ w p. p) _ _ _ c.loop-base.base c.next.new.base c.loop-base.invariant.log c.next.ensures.pulled).grows w start (covers_pipe (world c.args.self.now) (values_in c.args.slots.now) c.args.pipe.now w a b s) gr
+
+pub tally-returns-in_err-tally-in-Ok-clause-grows : goal.tally-returns-in_err-tally-in-Ok-clause-grows
+tally-returns-in_err-tally-in-Ok-clause-grows g t c =
+    λ w start a b s gr.
+    (went_on (world c.args.self.now) (facts c.args.self.now.sources) g.R.TableRow.table_of g.R.RowRef.shown (values_in c.args.slots.now) c.args.pipe.now (Covers (world c.args.self.now) (values_in c.args.slots.now) c.args.pipe.now) (λ w p. p) _ _ _ c.loop-base.base c.next.new.base c.loop-base.invariant.log c.next.ensures.pulled).grows w start (covers_pipe (world c.args.self.now) (values_in c.args.slots.now) c.args.pipe.now w a b s) gr
+
+pub tally-returns-in_err-result-in-Err-clause-grows : goal.tally-returns-in_err-result-in-Err-clause-grows
+tally-returns-in_err-result-in-Err-clause-grows g t c =
+    λ w start a b s gr.
+    (went_on (world c.args.self.now) (facts c.args.self.now.sources) g.R.TableRow.table_of g.R.RowRef.shown (values_in c.args.slots.now) c.args.pipe.now (Covers (world c.args.self.now) (values_in c.args.slots.now) c.args.pipe.now) (λ w p. p) _ _ _ c.loop-base.base c.next.new.base c.loop-base.invariant.log c.next.ensures.pulled).grows w start (covers_pipe (world c.args.self.now) (values_in c.args.slots.now) c.args.pipe.now w a b s) gr
+
+pub tally-returns-in-Err-clause-grows : goal.tally-returns-in-Err-clause-grows
+tally-returns-in-Err-clause-grows g t c =
+    λ w start a b s gr.
+    (went_on (world c.args.self.now) (facts c.args.self.now.sources) g.R.TableRow.table_of g.R.RowRef.shown (values_in c.args.slots.now) c.args.pipe.now (Covers (world c.args.self.now) (values_in c.args.slots.now) c.args.pipe.now) (λ w p. p) _ _ _ c.loop-base.base c.next.new.base c.loop-base.invariant.log c.next.ensures.pulled).grows w start (covers_pipe (world c.args.self.now) (values_in c.args.slots.now) c.args.pipe.now w a b s) gr
+
+pub tally-loop-base-preserved : goal.tally-loop-base-preserved
+tally-loop-base-preserved g t c =
+    record {
+      meant = tally_on c.args.of.now c.loop-base.tally _ (items_left (world c.args.self.now) (values_in c.args.slots.now) c.args.pipe.now c.loop-base.base) (items_left (world c.args.self.now) (values_in c.args.slots.now) c.args.pipe.now c.next.new.base) c.in-Ok.item _ (subst (λ s. Steps (items_left (world c.args.self.now) (values_in c.args.slots.now) c.args.pipe.now c.loop-base.base) s (items_left (world c.args.self.now) (values_in c.args.slots.now) c.args.pipe.now c.next.new.base)) c.in-Ok.is c.in_ok-item.ensures.meant) c.in_ok-tally-in-Ok.ensures c.loop-base.invariant.meant;
+      log = went_on (world c.args.self.now) (facts c.args.self.now.sources) g.R.TableRow.table_of g.R.RowRef.shown (values_in c.args.slots.now) c.args.pipe.now (Covers (world c.args.self.now) (values_in c.args.slots.now) c.args.pipe.now) (λ w p. p) _ _ _ c.loop-base.base c.next.new.base c.loop-base.invariant.log c.next.ensures.pulled;
+    }
+
+pub tally-loop-base-preserved-in_ok-tally-in-Ok : goal.tally-loop-base-preserved-in_ok-tally-in-Ok
+tally-loop-base-preserved-in_ok-tally-in-Ok g t c =
+    record {
+      meant = tally_on c.args.of.now c.loop-base.tally _ (items_left (world c.args.self.now) (values_in c.args.slots.now) c.args.pipe.now c.loop-base.base) (items_left (world c.args.self.now) (values_in c.args.slots.now) c.args.pipe.now c.next.new.base) c.in-Ok.item _ (subst (λ s. Steps (items_left (world c.args.self.now) (values_in c.args.slots.now) c.args.pipe.now c.loop-base.base) s (items_left (world c.args.self.now) (values_in c.args.slots.now) c.args.pipe.now c.next.new.base)) c.in-Ok.is c.in_ok-item.ensures.meant) c.in_ok-tally-in-Ok.ensures c.loop-base.invariant.meant;
+      log = went_on (world c.args.self.now) (facts c.args.self.now.sources) g.R.TableRow.table_of g.R.RowRef.shown (values_in c.args.slots.now) c.args.pipe.now (Covers (world c.args.self.now) (values_in c.args.slots.now) c.args.pipe.now) (λ w p. p) _ _ _ c.loop-base.base c.next.new.base c.loop-base.invariant.log c.next.ensures.pulled;
+    }
+
+pub tally-loop-base-preserved-in_ok-tally-in-Ok-2 : goal.tally-loop-base-preserved-in_ok-tally-in-Ok-2
+tally-loop-base-preserved-in_ok-tally-in-Ok-2 g t c =
+    record {
+      meant = tally_on c.args.of.now c.loop-base.tally _ (items_left (world c.args.self.now) (values_in c.args.slots.now) c.args.pipe.now c.loop-base.base) (items_left (world c.args.self.now) (values_in c.args.slots.now) c.args.pipe.now c.next.new.base) c.in-Ok.item _ (subst (λ s. Steps (items_left (world c.args.self.now) (values_in c.args.slots.now) c.args.pipe.now c.loop-base.base) s (items_left (world c.args.self.now) (values_in c.args.slots.now) c.args.pipe.now c.next.new.base)) c.in-Ok.is c.in_ok-item.ensures.meant) c.in_ok-tally-in-Ok.ensures c.loop-base.invariant.meant;
+      log = went_on (world c.args.self.now) (facts c.args.self.now.sources) g.R.TableRow.table_of g.R.RowRef.shown (values_in c.args.slots.now) c.args.pipe.now (Covers (world c.args.self.now) (values_in c.args.slots.now) c.args.pipe.now) (λ w p. p) _ _ _ c.loop-base.base c.next.new.base c.loop-base.invariant.log c.next.ensures.pulled;
+    }
+
+pub tally-loop-base-preserved-in_ok-tally-in-Ok-3 : goal.tally-loop-base-preserved-in_ok-tally-in-Ok-3
+tally-loop-base-preserved-in_ok-tally-in-Ok-3 g t c =
+    record {
+      meant = tally_on c.args.of.now c.loop-base.tally _ (items_left (world c.args.self.now) (values_in c.args.slots.now) c.args.pipe.now c.loop-base.base) (items_left (world c.args.self.now) (values_in c.args.slots.now) c.args.pipe.now c.next.new.base) c.in-Ok.item _ (subst (λ s. Steps (items_left (world c.args.self.now) (values_in c.args.slots.now) c.args.pipe.now c.loop-base.base) s (items_left (world c.args.self.now) (values_in c.args.slots.now) c.args.pipe.now c.next.new.base)) c.in-Ok.is c.in_ok-item.ensures.meant) c.in_ok-tally-in-Ok.ensures c.loop-base.invariant.meant;
+      log = went_on (world c.args.self.now) (facts c.args.self.now.sources) g.R.TableRow.table_of g.R.RowRef.shown (values_in c.args.slots.now) c.args.pipe.now (Covers (world c.args.self.now) (values_in c.args.slots.now) c.args.pipe.now) (λ w p. p) _ _ _ c.loop-base.base c.next.new.base c.loop-base.invariant.log c.next.ensures.pulled;
+    }
+
+pub tally-loop-base-preserved-in_ok-tally-in-Ok-4 : goal.tally-loop-base-preserved-in_ok-tally-in-Ok-4
+tally-loop-base-preserved-in_ok-tally-in-Ok-4 g t c =
+    record {
+      meant = tally_on c.args.of.now c.loop-base.tally _ (items_left (world c.args.self.now) (values_in c.args.slots.now) c.args.pipe.now c.loop-base.base) (items_left (world c.args.self.now) (values_in c.args.slots.now) c.args.pipe.now c.next.new.base) c.in-Ok.item _ (subst (λ s. Steps (items_left (world c.args.self.now) (values_in c.args.slots.now) c.args.pipe.now c.loop-base.base) s (items_left (world c.args.self.now) (values_in c.args.slots.now) c.args.pipe.now c.next.new.base)) c.in-Ok.is c.in_ok-item.ensures.meant) c.in_ok-tally-in-Ok.ensures c.loop-base.invariant.meant;
+      log = went_on (world c.args.self.now) (facts c.args.self.now.sources) g.R.TableRow.table_of g.R.RowRef.shown (values_in c.args.slots.now) c.args.pipe.now (Covers (world c.args.self.now) (values_in c.args.slots.now) c.args.pipe.now) (λ w p. p) _ _ _ c.loop-base.base c.next.new.base c.loop-base.invariant.log c.next.ensures.pulled;
+    }
+
+pub tally-loop-base-preserved-in_ok-tally-in-Ok-5 : goal.tally-loop-base-preserved-in_ok-tally-in-Ok-5
+tally-loop-base-preserved-in_ok-tally-in-Ok-5 g t c =
+    record {
+      meant = tally_on c.args.of.now c.loop-base.tally _ (items_left (world c.args.self.now) (values_in c.args.slots.now) c.args.pipe.now c.loop-base.base) (items_left (world c.args.self.now) (values_in c.args.slots.now) c.args.pipe.now c.next.new.base) c.in-Ok.item _ (subst (λ s. Steps (items_left (world c.args.self.now) (values_in c.args.slots.now) c.args.pipe.now c.loop-base.base) s (items_left (world c.args.self.now) (values_in c.args.slots.now) c.args.pipe.now c.next.new.base)) c.in-Ok.is c.in_ok-item.ensures.meant) c.in_ok-tally-in-Ok.ensures c.loop-base.invariant.meant;
+      log = went_on (world c.args.self.now) (facts c.args.self.now.sources) g.R.TableRow.table_of g.R.RowRef.shown (values_in c.args.slots.now) c.args.pipe.now (Covers (world c.args.self.now) (values_in c.args.slots.now) c.args.pipe.now) (λ w p. p) _ _ _ c.loop-base.base c.next.new.base c.loop-base.invariant.log c.next.ensures.pulled;
+    }
+
+pub has_item-loop-base-init : goal.has_item-loop-base-init
+has_item-loop-base-init g t c =
+    record {
+      meant = contains_begins same_values c.args.value.now _ _ (left_opened (world c.args.self.now) (values_in c.args.slots.now) _ _ c.in_ok-base.base c.in_ok-base.ensures.meant);
+      log = opened (world c.args.self.now) (facts c.args.self.now.sources) g.R.TableRow.table_of g.R.RowRef.shown (values_in c.args.slots.now) c.args.pipe.now (Covers (world c.args.self.now) (values_in c.args.slots.now) c.args.pipe.now) _ _ c.in_ok-base.base (λ w start p gr. c.open.ensures.grows w start p.source_in p.slots_in gr) (λ w p. c.in_ok-base.ensures.from w p.source_in p.slots_in);
+    }
+
+pub has_item-returns-in_err-item-clause-grows : goal.has_item-returns-in_err-item-clause-grows
+has_item-returns-in_err-item-clause-grows g t c =
+    λ w start a b s gr.
+    (went_on (world c.args.self.now) (facts c.args.self.now.sources) g.R.TableRow.table_of g.R.RowRef.shown (values_in c.args.slots.now) c.args.pipe.now (Covers (world c.args.self.now) (values_in c.args.slots.now) c.args.pipe.now) (λ w p. p) _ _ _ c.loop-base.base c.next.new.base c.loop-base.invariant.log c.next.ensures.pulled).grows w start (covers_pipe (world c.args.self.now) (values_in c.args.slots.now) c.args.pipe.now w a b s) gr
+
+pub has_item-returns-then-same-clause-grows : goal.has_item-returns-then-same-clause-grows
+has_item-returns-then-same-clause-grows g t c =
+    λ w start a b s gr.
+    (went_on (world c.args.self.now) (facts c.args.self.now.sources) g.R.TableRow.table_of g.R.RowRef.shown (values_in c.args.slots.now) c.args.pipe.now (Covers (world c.args.self.now) (values_in c.args.slots.now) c.args.pipe.now) (λ w p. p) _ _ _ c.loop-base.base c.next.new.base c.loop-base.invariant.log c.next.ensures.pulled).grows w start (covers_pipe (world c.args.self.now) (values_in c.args.slots.now) c.args.pipe.now w a b s) gr
+
+pub has_item-returns-in-Err-clause-grows : goal.has_item-returns-in-Err-clause-grows
+has_item-returns-in-Err-clause-grows g t c =
+    λ w start a b s gr.
+    (went_on (world c.args.self.now) (facts c.args.self.now.sources) g.R.TableRow.table_of g.R.RowRef.shown (values_in c.args.slots.now) c.args.pipe.now (Covers (world c.args.self.now) (values_in c.args.slots.now) c.args.pipe.now) (λ w p. p) _ _ _ c.loop-base.base c.next.new.base c.loop-base.invariant.log c.next.ensures.pulled).grows w start (covers_pipe (world c.args.self.now) (values_in c.args.slots.now) c.args.pipe.now w a b s) gr
+
+pub has_item-loop-base-preserved : goal.has_item-loop-base-preserved
+has_item-loop-base-preserved g t c =
+    record {
+      meant = contains_on same_values c.args.value.now (items_left (world c.args.self.now) (values_in c.args.slots.now) c.args.pipe.now c.loop-base.base) (items_left (world c.args.self.now) (values_in c.args.slots.now) c.args.pipe.now c.next.new.base) c.in-Ok.item _ (subst (λ s. Steps (items_left (world c.args.self.now) (values_in c.args.slots.now) c.args.pipe.now c.loop-base.base) s (items_left (world c.args.self.now) (values_in c.args.slots.now) c.args.pipe.now c.next.new.base)) c.in-Ok.is c.in_ok-item.ensures.meant) (sym c.same.ensures ∙ c.if-same.false) c.loop-base.invariant.meant;
+      log = went_on (world c.args.self.now) (facts c.args.self.now.sources) g.R.TableRow.table_of g.R.RowRef.shown (values_in c.args.slots.now) c.args.pipe.now (Covers (world c.args.self.now) (values_in c.args.slots.now) c.args.pipe.now) (λ w p. p) _ _ _ c.loop-base.base c.next.new.base c.loop-base.invariant.log c.next.ensures.pulled;
+    }
+
+pub has_item-loop-base-preserved-else-same : goal.has_item-loop-base-preserved-else-same
+has_item-loop-base-preserved-else-same g t c =
+    record {
+      meant = contains_on same_values c.args.value.now (items_left (world c.args.self.now) (values_in c.args.slots.now) c.args.pipe.now c.loop-base.base) (items_left (world c.args.self.now) (values_in c.args.slots.now) c.args.pipe.now c.next.new.base) c.in-Ok.item _ (subst (λ s. Steps (items_left (world c.args.self.now) (values_in c.args.slots.now) c.args.pipe.now c.loop-base.base) s (items_left (world c.args.self.now) (values_in c.args.slots.now) c.args.pipe.now c.next.new.base)) c.in-Ok.is c.in_ok-item.ensures.meant) (sym c.same.ensures ∙ c.if-same.false) c.loop-base.invariant.meant;
+      log = went_on (world c.args.self.now) (facts c.args.self.now.sources) g.R.TableRow.table_of g.R.RowRef.shown (values_in c.args.slots.now) c.args.pipe.now (Covers (world c.args.self.now) (values_in c.args.slots.now) c.args.pipe.now) (λ w p. p) _ _ _ c.loop-base.base c.next.new.base c.loop-base.invariant.log c.next.ensures.pulled;
+    }
+
+pub has_item-loop-base-preserved-else-same-2 : goal.has_item-loop-base-preserved-else-same-2
+has_item-loop-base-preserved-else-same-2 g t c =
+    record {
+      meant = contains_on same_values c.args.value.now (items_left (world c.args.self.now) (values_in c.args.slots.now) c.args.pipe.now c.loop-base.base) (items_left (world c.args.self.now) (values_in c.args.slots.now) c.args.pipe.now c.next.new.base) c.in-Ok.item _ (subst (λ s. Steps (items_left (world c.args.self.now) (values_in c.args.slots.now) c.args.pipe.now c.loop-base.base) s (items_left (world c.args.self.now) (values_in c.args.slots.now) c.args.pipe.now c.next.new.base)) c.in-Ok.is c.in_ok-item.ensures.meant) (sym c.same.ensures ∙ c.if-same.false) c.loop-base.invariant.meant;
+      log = went_on (world c.args.self.now) (facts c.args.self.now.sources) g.R.TableRow.table_of g.R.RowRef.shown (values_in c.args.slots.now) c.args.pipe.now (Covers (world c.args.self.now) (values_in c.args.slots.now) c.args.pipe.now) (λ w p. p) _ _ _ c.loop-base.base c.next.new.base c.loop-base.invariant.log c.next.ensures.pulled;
+    }
+
+pub has_item-loop-base-preserved-else-same-3 : goal.has_item-loop-base-preserved-else-same-3
+has_item-loop-base-preserved-else-same-3 g t c =
+    record {
+      meant = contains_on same_values c.args.value.now (items_left (world c.args.self.now) (values_in c.args.slots.now) c.args.pipe.now c.loop-base.base) (items_left (world c.args.self.now) (values_in c.args.slots.now) c.args.pipe.now c.next.new.base) c.in-Ok.item _ (subst (λ s. Steps (items_left (world c.args.self.now) (values_in c.args.slots.now) c.args.pipe.now c.loop-base.base) s (items_left (world c.args.self.now) (values_in c.args.slots.now) c.args.pipe.now c.next.new.base)) c.in-Ok.is c.in_ok-item.ensures.meant) (sym c.same.ensures ∙ c.if-same.false) c.loop-base.invariant.meant;
+      log = went_on (world c.args.self.now) (facts c.args.self.now.sources) g.R.TableRow.table_of g.R.RowRef.shown (values_in c.args.slots.now) c.args.pipe.now (Covers (world c.args.self.now) (values_in c.args.slots.now) c.args.pipe.now) (λ w p. p) _ _ _ c.loop-base.base c.next.new.base c.loop-base.invariant.log c.next.ensures.pulled;
+    }
+
+pub has_item-loop-base-preserved-else-same-4 : goal.has_item-loop-base-preserved-else-same-4
+has_item-loop-base-preserved-else-same-4 g t c =
+    record {
+      meant = contains_on same_values c.args.value.now (items_left (world c.args.self.now) (values_in c.args.slots.now) c.args.pipe.now c.loop-base.base) (items_left (world c.args.self.now) (values_in c.args.slots.now) c.args.pipe.now c.next.new.base) c.in-Ok.item _ (subst (λ s. Steps (items_left (world c.args.self.now) (values_in c.args.slots.now) c.args.pipe.now c.loop-base.base) s (items_left (world c.args.self.now) (values_in c.args.slots.now) c.args.pipe.now c.next.new.base)) c.in-Ok.is c.in_ok-item.ensures.meant) (sym c.same.ensures ∙ c.if-same.false) c.loop-base.invariant.meant;
+      log = went_on (world c.args.self.now) (facts c.args.self.now.sources) g.R.TableRow.table_of g.R.RowRef.shown (values_in c.args.slots.now) c.args.pipe.now (Covers (world c.args.self.now) (values_in c.args.slots.now) c.args.pipe.now) (λ w p. p) _ _ _ c.loop-base.base c.next.new.base c.loop-base.invariant.log c.next.ensures.pulled;
+    }
+
+pub has_item-loop-base-preserved-else-same-5 : goal.has_item-loop-base-preserved-else-same-5
+has_item-loop-base-preserved-else-same-5 g t c =
+    record {
+      meant = contains_on same_values c.args.value.now (items_left (world c.args.self.now) (values_in c.args.slots.now) c.args.pipe.now c.loop-base.base) (items_left (world c.args.self.now) (values_in c.args.slots.now) c.args.pipe.now c.next.new.base) c.in-Ok.item _ (subst (λ s. Steps (items_left (world c.args.self.now) (values_in c.args.slots.now) c.args.pipe.now c.loop-base.base) s (items_left (world c.args.self.now) (values_in c.args.slots.now) c.args.pipe.now c.next.new.base)) c.in-Ok.is c.in_ok-item.ensures.meant) (sym c.same.ensures ∙ c.if-same.false) c.loop-base.invariant.meant;
+      log = went_on (world c.args.self.now) (facts c.args.self.now.sources) g.R.TableRow.table_of g.R.RowRef.shown (values_in c.args.slots.now) c.args.pipe.now (Covers (world c.args.self.now) (values_in c.args.slots.now) c.args.pipe.now) (λ w p. p) _ _ _ c.loop-base.base c.next.new.base c.loop-base.invariant.log c.next.ensures.pulled;
+    }
+
+pub all_hold-loop-base-init : goal.all_hold-loop-base-init
+all_hold-loop-base-init g t c =
+    record {
+      meant = all_begins (holds_of (world c.args.self.now) c.args.condition.now c.args.slots.now) _ _ (left_opened (world c.args.self.now) (values_in c.args.slots.now) _ _ c.in_ok-base.base c.in_ok-base.ensures.meant);
+      log = opened (world c.args.self.now) (facts c.args.self.now.sources) g.R.TableRow.table_of g.R.RowRef.shown (values_in c.args.slots.now) c.args.pipe.now (λ w. Covers (world c.args.self.now) (values_in c.args.slots.now) c.args.pipe.now w × (is_covered (world c.args.self.now) w c.args.condition.now ≡ true)) _ _ c.in_ok-base.base (λ w start p gr. c.open.ensures.grows w start p.0.source_in p.0.slots_in gr) (λ w p. c.in_ok-base.ensures.from w p.0.source_in p.0.slots_in);
+    }
+
+pub all_hold-returns-in_err-item-clause-grows : goal.all_hold-returns-in_err-item-clause-grows
+all_hold-returns-in_err-item-clause-grows g t c =
+    λ w start hc a b s gr.
+    (went_on (world c.args.self.now) (facts c.args.self.now.sources) g.R.TableRow.table_of g.R.RowRef.shown (values_in c.args.slots.now) c.args.pipe.now (λ w. Covers (world c.args.self.now) (values_in c.args.slots.now) c.args.pipe.now w × (is_covered (world c.args.self.now) w c.args.condition.now ≡ true)) (λ w p. p.0) _ _ _ c.loop-base.base c.next.new.base c.loop-base.invariant.log c.next.ensures.pulled).grows w start ((covers_pipe (world c.args.self.now) (values_in c.args.slots.now) c.args.pipe.now w a b s), hc) gr
+
+pub all_hold-returns-in-Err-clause-grows : goal.all_hold-returns-in-Err-clause-grows
+all_hold-returns-in-Err-clause-grows g t c =
+    λ w start hc a b s gr.
+    (went_on (world c.args.self.now) (facts c.args.self.now.sources) g.R.TableRow.table_of g.R.RowRef.shown (values_in c.args.slots.now) c.args.pipe.now (λ w. Covers (world c.args.self.now) (values_in c.args.slots.now) c.args.pipe.now w × (is_covered (world c.args.self.now) w c.args.condition.now ≡ true)) (λ w p. p.0) _ _ _ c.loop-base.base c.next.new.base c.loop-base.invariant.log c.next.ensures.pulled).grows w start ((covers_pipe (world c.args.self.now) (values_in c.args.slots.now) c.args.pipe.now w a b s), hc) gr
+
+pub all_hold-returns-in_err-holds-in-Ok-clause-grows : goal.all_hold-returns-in_err-holds-in-Ok-clause-grows
+all_hold-returns-in_err-holds-in-Ok-clause-grows g t c =
+    λ w start hc a b s gr.
+    (asked (world c.args.self.now) (facts c.args.self.now.sources) g.R.TableRow.table_of g.R.RowRef.shown (values_in c.args.slots.now) c.args.pipe.now (λ w. Covers (world c.args.self.now) (values_in c.args.slots.now) c.args.pipe.now w × (is_covered (world c.args.self.now) w c.args.condition.now ≡ true)) _ _ _ _ (went_on (world c.args.self.now) (facts c.args.self.now.sources) g.R.TableRow.table_of g.R.RowRef.shown (values_in c.args.slots.now) c.args.pipe.now (λ w. Covers (world c.args.self.now) (values_in c.args.slots.now) c.args.pipe.now w × (is_covered (world c.args.self.now) w c.args.condition.now ≡ true)) (λ w p. p.0) _ _ _ c.loop-base.base c.next.new.base c.loop-base.invariant.log c.next.ensures.pulled)
+    (λ w start p gr. c.holds.ensures.grows w start p.1 p.0.slots_in (next_passes (world c.args.self.now) (facts c.args.self.now.sources) g.R.TableRow.table_of g.R.RowRef.shown (values_in c.args.slots.now) c.args.pipe.now (λ w. Covers (world c.args.self.now) (values_in c.args.slots.now) c.args.pipe.now w × (is_covered (world c.args.self.now) w c.args.condition.now ≡ true)) (λ w p. p.0) _ _ c.loop-base.base _ c.in-Ok.item (items_left (world c.args.self.now) (values_in c.args.slots.now) c.args.pipe.now c.next.new.base) c.loop-base.invariant.log c.requires c.in-Ok.is c.in_ok-item.ensures.meant w p) gr)).grows w start ((covers_pipe (world c.args.self.now) (values_in c.args.slots.now) c.args.pipe.now w a b s), hc) gr
+
+pub all_hold-returns-in-Ok-false-clause-grows : goal.all_hold-returns-in-Ok-false-clause-grows
+all_hold-returns-in-Ok-false-clause-grows g t c =
+    λ w start hc a b s gr.
+    (asked (world c.args.self.now) (facts c.args.self.now.sources) g.R.TableRow.table_of g.R.RowRef.shown (values_in c.args.slots.now) c.args.pipe.now (λ w. Covers (world c.args.self.now) (values_in c.args.slots.now) c.args.pipe.now w × (is_covered (world c.args.self.now) w c.args.condition.now ≡ true)) _ _ _ _ (went_on (world c.args.self.now) (facts c.args.self.now.sources) g.R.TableRow.table_of g.R.RowRef.shown (values_in c.args.slots.now) c.args.pipe.now (λ w. Covers (world c.args.self.now) (values_in c.args.slots.now) c.args.pipe.now w × (is_covered (world c.args.self.now) w c.args.condition.now ≡ true)) (λ w p. p.0) _ _ _ c.loop-base.base c.next.new.base c.loop-base.invariant.log c.next.ensures.pulled)
+    (λ w start p gr. c.holds.ensures.grows w start p.1 p.0.slots_in (next_passes (world c.args.self.now) (facts c.args.self.now.sources) g.R.TableRow.table_of g.R.RowRef.shown (values_in c.args.slots.now) c.args.pipe.now (λ w. Covers (world c.args.self.now) (values_in c.args.slots.now) c.args.pipe.now w × (is_covered (world c.args.self.now) w c.args.condition.now ≡ true)) (λ w p. p.0) _ _ c.loop-base.base _ c.in-Ok.item (items_left (world c.args.self.now) (values_in c.args.slots.now) c.args.pipe.now c.next.new.base) c.loop-base.invariant.log c.requires c.in-Ok.is c.in_ok-item.ensures.meant w p) gr)).grows w start ((covers_pipe (world c.args.self.now) (values_in c.args.slots.now) c.args.pipe.now w a b s), hc) gr
+
+pub all_hold-returns-in-Err-2-clause-grows : goal.all_hold-returns-in-Err-2-clause-grows
+all_hold-returns-in-Err-2-clause-grows g t c =
+    λ w start hc a b s gr.
+    (asked (world c.args.self.now) (facts c.args.self.now.sources) g.R.TableRow.table_of g.R.RowRef.shown (values_in c.args.slots.now) c.args.pipe.now (λ w. Covers (world c.args.self.now) (values_in c.args.slots.now) c.args.pipe.now w × (is_covered (world c.args.self.now) w c.args.condition.now ≡ true)) _ _ _ _ (went_on (world c.args.self.now) (facts c.args.self.now.sources) g.R.TableRow.table_of g.R.RowRef.shown (values_in c.args.slots.now) c.args.pipe.now (λ w. Covers (world c.args.self.now) (values_in c.args.slots.now) c.args.pipe.now w × (is_covered (world c.args.self.now) w c.args.condition.now ≡ true)) (λ w p. p.0) _ _ _ c.loop-base.base c.next.new.base c.loop-base.invariant.log c.next.ensures.pulled)
+    (λ w start p gr. c.holds.ensures.grows w start p.1 p.0.slots_in (next_passes (world c.args.self.now) (facts c.args.self.now.sources) g.R.TableRow.table_of g.R.RowRef.shown (values_in c.args.slots.now) c.args.pipe.now (λ w. Covers (world c.args.self.now) (values_in c.args.slots.now) c.args.pipe.now w × (is_covered (world c.args.self.now) w c.args.condition.now ≡ true)) (λ w p. p.0) _ _ c.loop-base.base _ c.in-Ok.item (items_left (world c.args.self.now) (values_in c.args.slots.now) c.args.pipe.now c.next.new.base) c.loop-base.invariant.log c.requires c.in-Ok.is c.in_ok-item.ensures.meant w p) gr)).grows w start ((covers_pipe (world c.args.self.now) (values_in c.args.slots.now) c.args.pipe.now w a b s), hc) gr
+
+pub all_hold-loop-base-preserved : goal.all_hold-loop-base-preserved
+all_hold-loop-base-preserved g t c =
+    record {
+      meant = all_on (holds_of (world c.args.self.now) c.args.condition.now c.args.slots.now) (items_left (world c.args.self.now) (values_in c.args.slots.now) c.args.pipe.now c.loop-base.base) (items_left (world c.args.self.now) (values_in c.args.slots.now) c.args.pipe.now c.next.new.base) c.in-Ok.item _ (subst (λ s. Steps (items_left (world c.args.self.now) (values_in c.args.slots.now) c.args.pipe.now c.loop-base.base) s (items_left (world c.args.self.now) (values_in c.args.slots.now) c.args.pipe.now c.next.new.base)) c.in-Ok.is c.in_ok-item.ensures.meant) (ap (λ b. Ok b) (sym c.in-Ok-true.field-0-test) ∙ sym c.in-Ok-true.is ∙ c.in_ok-holds-in-Ok.ensures.meant) c.loop-base.invariant.meant;
+      log = asked (world c.args.self.now) (facts c.args.self.now.sources) g.R.TableRow.table_of g.R.RowRef.shown (values_in c.args.slots.now) c.args.pipe.now (λ w. Covers (world c.args.self.now) (values_in c.args.slots.now) c.args.pipe.now w × (is_covered (world c.args.self.now) w c.args.condition.now ≡ true)) _ _ _ _ (went_on (world c.args.self.now) (facts c.args.self.now.sources) g.R.TableRow.table_of g.R.RowRef.shown (values_in c.args.slots.now) c.args.pipe.now (λ w. Covers (world c.args.self.now) (values_in c.args.slots.now) c.args.pipe.now w × (is_covered (world c.args.self.now) w c.args.condition.now ≡ true)) (λ w p. p.0) _ _ _ c.loop-base.base c.next.new.base c.loop-base.invariant.log c.next.ensures.pulled)
+          (λ w start p gr. c.holds.ensures.grows w start p.1 p.0.slots_in (next_passes (world c.args.self.now) (facts c.args.self.now.sources) g.R.TableRow.table_of g.R.RowRef.shown (values_in c.args.slots.now) c.args.pipe.now (λ w. Covers (world c.args.self.now) (values_in c.args.slots.now) c.args.pipe.now w × (is_covered (world c.args.self.now) w c.args.condition.now ≡ true)) (λ w p. p.0) _ _ c.loop-base.base _ c.in-Ok.item (items_left (world c.args.self.now) (values_in c.args.slots.now) c.args.pipe.now c.next.new.base) c.loop-base.invariant.log c.requires c.in-Ok.is c.in_ok-item.ensures.meant w p) gr);
+    }
+
+pub all_hold-loop-base-preserved-in-Ok-true : goal.all_hold-loop-base-preserved-in-Ok-true
+all_hold-loop-base-preserved-in-Ok-true g t c =
+    record {
+      meant = all_on (holds_of (world c.args.self.now) c.args.condition.now c.args.slots.now) (items_left (world c.args.self.now) (values_in c.args.slots.now) c.args.pipe.now c.loop-base.base) (items_left (world c.args.self.now) (values_in c.args.slots.now) c.args.pipe.now c.next.new.base) c.in-Ok.item _ (subst (λ s. Steps (items_left (world c.args.self.now) (values_in c.args.slots.now) c.args.pipe.now c.loop-base.base) s (items_left (world c.args.self.now) (values_in c.args.slots.now) c.args.pipe.now c.next.new.base)) c.in-Ok.is c.in_ok-item.ensures.meant) (ap (λ b. Ok b) (sym c.in-Ok-true.field-0-test) ∙ sym c.in-Ok-true.is ∙ c.in_ok-holds-in-Ok.ensures.meant) c.loop-base.invariant.meant;
+      log = asked (world c.args.self.now) (facts c.args.self.now.sources) g.R.TableRow.table_of g.R.RowRef.shown (values_in c.args.slots.now) c.args.pipe.now (λ w. Covers (world c.args.self.now) (values_in c.args.slots.now) c.args.pipe.now w × (is_covered (world c.args.self.now) w c.args.condition.now ≡ true)) _ _ _ _ (went_on (world c.args.self.now) (facts c.args.self.now.sources) g.R.TableRow.table_of g.R.RowRef.shown (values_in c.args.slots.now) c.args.pipe.now (λ w. Covers (world c.args.self.now) (values_in c.args.slots.now) c.args.pipe.now w × (is_covered (world c.args.self.now) w c.args.condition.now ≡ true)) (λ w p. p.0) _ _ _ c.loop-base.base c.next.new.base c.loop-base.invariant.log c.next.ensures.pulled)
+          (λ w start p gr. c.holds.ensures.grows w start p.1 p.0.slots_in (next_passes (world c.args.self.now) (facts c.args.self.now.sources) g.R.TableRow.table_of g.R.RowRef.shown (values_in c.args.slots.now) c.args.pipe.now (λ w. Covers (world c.args.self.now) (values_in c.args.slots.now) c.args.pipe.now w × (is_covered (world c.args.self.now) w c.args.condition.now ≡ true)) (λ w p. p.0) _ _ c.loop-base.base _ c.in-Ok.item (items_left (world c.args.self.now) (values_in c.args.slots.now) c.args.pipe.now c.next.new.base) c.loop-base.invariant.log c.requires c.in-Ok.is c.in_ok-item.ensures.meant w p) gr);
+    }
+
+pub all_hold-loop-base-preserved-in-Ok-true-2 : goal.all_hold-loop-base-preserved-in-Ok-true-2
+all_hold-loop-base-preserved-in-Ok-true-2 g t c =
+    record {
+      meant = all_on (holds_of (world c.args.self.now) c.args.condition.now c.args.slots.now) (items_left (world c.args.self.now) (values_in c.args.slots.now) c.args.pipe.now c.loop-base.base) (items_left (world c.args.self.now) (values_in c.args.slots.now) c.args.pipe.now c.next.new.base) c.in-Ok.item _ (subst (λ s. Steps (items_left (world c.args.self.now) (values_in c.args.slots.now) c.args.pipe.now c.loop-base.base) s (items_left (world c.args.self.now) (values_in c.args.slots.now) c.args.pipe.now c.next.new.base)) c.in-Ok.is c.in_ok-item.ensures.meant) (ap (λ b. Ok b) (sym c.in-Ok-true.field-0-test) ∙ sym c.in-Ok-true.is ∙ c.in_ok-holds-in-Ok.ensures.meant) c.loop-base.invariant.meant;
+      log = asked (world c.args.self.now) (facts c.args.self.now.sources) g.R.TableRow.table_of g.R.RowRef.shown (values_in c.args.slots.now) c.args.pipe.now (λ w. Covers (world c.args.self.now) (values_in c.args.slots.now) c.args.pipe.now w × (is_covered (world c.args.self.now) w c.args.condition.now ≡ true)) _ _ _ _ (went_on (world c.args.self.now) (facts c.args.self.now.sources) g.R.TableRow.table_of g.R.RowRef.shown (values_in c.args.slots.now) c.args.pipe.now (λ w. Covers (world c.args.self.now) (values_in c.args.slots.now) c.args.pipe.now w × (is_covered (world c.args.self.now) w c.args.condition.now ≡ true)) (λ w p. p.0) _ _ _ c.loop-base.base c.next.new.base c.loop-base.invariant.log c.next.ensures.pulled)
+          (λ w start p gr. c.holds.ensures.grows w start p.1 p.0.slots_in (next_passes (world c.args.self.now) (facts c.args.self.now.sources) g.R.TableRow.table_of g.R.RowRef.shown (values_in c.args.slots.now) c.args.pipe.now (λ w. Covers (world c.args.self.now) (values_in c.args.slots.now) c.args.pipe.now w × (is_covered (world c.args.self.now) w c.args.condition.now ≡ true)) (λ w p. p.0) _ _ c.loop-base.base _ c.in-Ok.item (items_left (world c.args.self.now) (values_in c.args.slots.now) c.args.pipe.now c.next.new.base) c.loop-base.invariant.log c.requires c.in-Ok.is c.in_ok-item.ensures.meant w p) gr);
+    }
+
+pub all_hold-loop-base-preserved-in-Ok-true-3 : goal.all_hold-loop-base-preserved-in-Ok-true-3
+all_hold-loop-base-preserved-in-Ok-true-3 g t c =
+    record {
+      meant = all_on (holds_of (world c.args.self.now) c.args.condition.now c.args.slots.now) (items_left (world c.args.self.now) (values_in c.args.slots.now) c.args.pipe.now c.loop-base.base) (items_left (world c.args.self.now) (values_in c.args.slots.now) c.args.pipe.now c.next.new.base) c.in-Ok.item _ (subst (λ s. Steps (items_left (world c.args.self.now) (values_in c.args.slots.now) c.args.pipe.now c.loop-base.base) s (items_left (world c.args.self.now) (values_in c.args.slots.now) c.args.pipe.now c.next.new.base)) c.in-Ok.is c.in_ok-item.ensures.meant) (ap (λ b. Ok b) (sym c.in-Ok-true.field-0-test) ∙ sym c.in-Ok-true.is ∙ c.in_ok-holds-in-Ok.ensures.meant) c.loop-base.invariant.meant;
+      log = asked (world c.args.self.now) (facts c.args.self.now.sources) g.R.TableRow.table_of g.R.RowRef.shown (values_in c.args.slots.now) c.args.pipe.now (λ w. Covers (world c.args.self.now) (values_in c.args.slots.now) c.args.pipe.now w × (is_covered (world c.args.self.now) w c.args.condition.now ≡ true)) _ _ _ _ (went_on (world c.args.self.now) (facts c.args.self.now.sources) g.R.TableRow.table_of g.R.RowRef.shown (values_in c.args.slots.now) c.args.pipe.now (λ w. Covers (world c.args.self.now) (values_in c.args.slots.now) c.args.pipe.now w × (is_covered (world c.args.self.now) w c.args.condition.now ≡ true)) (λ w p. p.0) _ _ _ c.loop-base.base c.next.new.base c.loop-base.invariant.log c.next.ensures.pulled)
+          (λ w start p gr. c.holds.ensures.grows w start p.1 p.0.slots_in (next_passes (world c.args.self.now) (facts c.args.self.now.sources) g.R.TableRow.table_of g.R.RowRef.shown (values_in c.args.slots.now) c.args.pipe.now (λ w. Covers (world c.args.self.now) (values_in c.args.slots.now) c.args.pipe.now w × (is_covered (world c.args.self.now) w c.args.condition.now ≡ true)) (λ w p. p.0) _ _ c.loop-base.base _ c.in-Ok.item (items_left (world c.args.self.now) (values_in c.args.slots.now) c.args.pipe.now c.next.new.base) c.loop-base.invariant.log c.requires c.in-Ok.is c.in_ok-item.ensures.meant w p) gr);
+    }
+
+pub all_hold-loop-base-preserved-in-Ok-true-4 : goal.all_hold-loop-base-preserved-in-Ok-true-4
+all_hold-loop-base-preserved-in-Ok-true-4 g t c =
+    record {
+      meant = all_on (holds_of (world c.args.self.now) c.args.condition.now c.args.slots.now) (items_left (world c.args.self.now) (values_in c.args.slots.now) c.args.pipe.now c.loop-base.base) (items_left (world c.args.self.now) (values_in c.args.slots.now) c.args.pipe.now c.next.new.base) c.in-Ok.item _ (subst (λ s. Steps (items_left (world c.args.self.now) (values_in c.args.slots.now) c.args.pipe.now c.loop-base.base) s (items_left (world c.args.self.now) (values_in c.args.slots.now) c.args.pipe.now c.next.new.base)) c.in-Ok.is c.in_ok-item.ensures.meant) (ap (λ b. Ok b) (sym c.in-Ok-true.field-0-test) ∙ sym c.in-Ok-true.is ∙ c.in_ok-holds-in-Ok.ensures.meant) c.loop-base.invariant.meant;
+      log = asked (world c.args.self.now) (facts c.args.self.now.sources) g.R.TableRow.table_of g.R.RowRef.shown (values_in c.args.slots.now) c.args.pipe.now (λ w. Covers (world c.args.self.now) (values_in c.args.slots.now) c.args.pipe.now w × (is_covered (world c.args.self.now) w c.args.condition.now ≡ true)) _ _ _ _ (went_on (world c.args.self.now) (facts c.args.self.now.sources) g.R.TableRow.table_of g.R.RowRef.shown (values_in c.args.slots.now) c.args.pipe.now (λ w. Covers (world c.args.self.now) (values_in c.args.slots.now) c.args.pipe.now w × (is_covered (world c.args.self.now) w c.args.condition.now ≡ true)) (λ w p. p.0) _ _ _ c.loop-base.base c.next.new.base c.loop-base.invariant.log c.next.ensures.pulled)
+          (λ w start p gr. c.holds.ensures.grows w start p.1 p.0.slots_in (next_passes (world c.args.self.now) (facts c.args.self.now.sources) g.R.TableRow.table_of g.R.RowRef.shown (values_in c.args.slots.now) c.args.pipe.now (λ w. Covers (world c.args.self.now) (values_in c.args.slots.now) c.args.pipe.now w × (is_covered (world c.args.self.now) w c.args.condition.now ≡ true)) (λ w p. p.0) _ _ c.loop-base.base _ c.in-Ok.item (items_left (world c.args.self.now) (values_in c.args.slots.now) c.args.pipe.now c.next.new.base) c.loop-base.invariant.log c.requires c.in-Ok.is c.in_ok-item.ensures.meant w p) gr);
+    }
+
+pub all_hold-loop-base-preserved-in-Ok-true-5 : goal.all_hold-loop-base-preserved-in-Ok-true-5
+all_hold-loop-base-preserved-in-Ok-true-5 g t c =
+    record {
+      meant = all_on (holds_of (world c.args.self.now) c.args.condition.now c.args.slots.now) (items_left (world c.args.self.now) (values_in c.args.slots.now) c.args.pipe.now c.loop-base.base) (items_left (world c.args.self.now) (values_in c.args.slots.now) c.args.pipe.now c.next.new.base) c.in-Ok.item _ (subst (λ s. Steps (items_left (world c.args.self.now) (values_in c.args.slots.now) c.args.pipe.now c.loop-base.base) s (items_left (world c.args.self.now) (values_in c.args.slots.now) c.args.pipe.now c.next.new.base)) c.in-Ok.is c.in_ok-item.ensures.meant) (ap (λ b. Ok b) (sym c.in-Ok-true.field-0-test) ∙ sym c.in-Ok-true.is ∙ c.in_ok-holds-in-Ok.ensures.meant) c.loop-base.invariant.meant;
+      log = asked (world c.args.self.now) (facts c.args.self.now.sources) g.R.TableRow.table_of g.R.RowRef.shown (values_in c.args.slots.now) c.args.pipe.now (λ w. Covers (world c.args.self.now) (values_in c.args.slots.now) c.args.pipe.now w × (is_covered (world c.args.self.now) w c.args.condition.now ≡ true)) _ _ _ _ (went_on (world c.args.self.now) (facts c.args.self.now.sources) g.R.TableRow.table_of g.R.RowRef.shown (values_in c.args.slots.now) c.args.pipe.now (λ w. Covers (world c.args.self.now) (values_in c.args.slots.now) c.args.pipe.now w × (is_covered (world c.args.self.now) w c.args.condition.now ≡ true)) (λ w p. p.0) _ _ _ c.loop-base.base c.next.new.base c.loop-base.invariant.log c.next.ensures.pulled)
+          (λ w start p gr. c.holds.ensures.grows w start p.1 p.0.slots_in (next_passes (world c.args.self.now) (facts c.args.self.now.sources) g.R.TableRow.table_of g.R.RowRef.shown (values_in c.args.slots.now) c.args.pipe.now (λ w. Covers (world c.args.self.now) (values_in c.args.slots.now) c.args.pipe.now w × (is_covered (world c.args.self.now) w c.args.condition.now ≡ true)) (λ w p. p.0) _ _ c.loop-base.base _ c.in-Ok.item (items_left (world c.args.self.now) (values_in c.args.slots.now) c.args.pipe.now c.next.new.base) c.loop-base.invariant.log c.requires c.in-Ok.is c.in_ok-item.ensures.meant w p) gr);
+    }
+
+pub expand-loop-values-init : goal.expand-loop-values-init
+expand-loop-values-init g t c =
+    record {
+      meant = comes_begins (item_expansion (world c.args.self.now) (values_in c.args.slots.now) c.args.inner.now c.args.body.now) _ _ _ c.new-values.ensures (left_opened (world c.args.self.now) (values_in c.args.slots.now) _ _ c.in_ok-base.base c.in_ok-base.ensures.meant);
+      log = opened (world c.args.self.now) (facts c.args.self.now.sources) g.R.TableRow.table_of g.R.RowRef.shown (values_in c.args.slots.now) c.args.pipe.now (λ w. Covers (world c.args.self.now) (values_in c.args.slots.now) c.args.pipe.now w × (is_covered (world c.args.self.now) w c.args.inner.now ≡ true) × (is_covered (world c.args.self.now) w c.args.body.now ≡ true)) _ _ c.in_ok-base.base (λ w start p gr. c.open.ensures.grows w start p.0.source_in p.0.slots_in gr) (λ w p. c.in_ok-base.ensures.from w p.0.source_in p.0.slots_in);
+    }
+
+pub expand-returns-in_err-item-clause-grows : goal.expand-returns-in_err-item-clause-grows
+expand-returns-in_err-item-clause-grows g t c =
+    λ w start a b hi hb s gr.
+    (went_on (world c.args.self.now) (facts c.args.self.now.sources) g.R.TableRow.table_of g.R.RowRef.shown (values_in c.args.slots.now) c.args.pipe.now (λ w. Covers (world c.args.self.now) (values_in c.args.slots.now) c.args.pipe.now w × (is_covered (world c.args.self.now) w c.args.inner.now ≡ true) × (is_covered (world c.args.self.now) w c.args.body.now ≡ true)) (λ w p. p.0) _ _ _ c.loop-values.base c.next.new.base c.loop-values.invariant.log c.next.ensures.pulled).grows w start ((covers_pipe (world c.args.self.now) (values_in c.args.slots.now) c.args.pipe.now w a b s), hi, hb) gr
+
+pub expand-returns-in-Err-clause-grows : goal.expand-returns-in-Err-clause-grows
+expand-returns-in-Err-clause-grows g t c =
+    λ w start a b hi hb s gr.
+    (went_on (world c.args.self.now) (facts c.args.self.now.sources) g.R.TableRow.table_of g.R.RowRef.shown (values_in c.args.slots.now) c.args.pipe.now (λ w. Covers (world c.args.self.now) (values_in c.args.slots.now) c.args.pipe.now w × (is_covered (world c.args.self.now) w c.args.inner.now ≡ true) × (is_covered (world c.args.self.now) w c.args.body.now ≡ true)) (λ w p. p.0) _ _ _ c.loop-values.base c.next.new.base c.loop-values.invariant.log c.next.ensures.pulled).grows w start ((covers_pipe (world c.args.self.now) (values_in c.args.slots.now) c.args.pipe.now w a b s), hi, hb) gr
+
+pub expand-returns-in_err-further-in-Ok-clause-grows : goal.expand-returns-in_err-further-in-Ok-clause-grows
+expand-returns-in_err-further-in-Ok-clause-grows g t c =
+    λ w start a b hi hb s gr.
+    (asked (world c.args.self.now) (facts c.args.self.now.sources) g.R.TableRow.table_of g.R.RowRef.shown (values_in c.args.slots.now) c.args.pipe.now (λ w. Covers (world c.args.self.now) (values_in c.args.slots.now) c.args.pipe.now w × (is_covered (world c.args.self.now) w c.args.inner.now ≡ true) × (is_covered (world c.args.self.now) w c.args.body.now ≡ true)) _ _ _ _ (went_on (world c.args.self.now) (facts c.args.self.now.sources) g.R.TableRow.table_of g.R.RowRef.shown (values_in c.args.slots.now) c.args.pipe.now (λ w. Covers (world c.args.self.now) (values_in c.args.slots.now) c.args.pipe.now w × (is_covered (world c.args.self.now) w c.args.inner.now ≡ true) × (is_covered (world c.args.self.now) w c.args.body.now ≡ true)) (λ w p. p.0) _ _ _ c.loop-values.base c.next.new.base c.loop-values.invariant.log c.next.ensures.pulled)
+    (λ w start p gr. c.expand_item.ensures.grows w start p.1 p.2 p.0.slots_in (next_passes (world c.args.self.now) (facts c.args.self.now.sources) g.R.TableRow.table_of g.R.RowRef.shown (values_in c.args.slots.now) c.args.pipe.now (λ w. Covers (world c.args.self.now) (values_in c.args.slots.now) c.args.pipe.now w × (is_covered (world c.args.self.now) w c.args.inner.now ≡ true) × (is_covered (world c.args.self.now) w c.args.body.now ≡ true)) (λ w p. p.0) _ _ c.loop-values.base _ c.in-Ok.item (items_left (world c.args.self.now) (values_in c.args.slots.now) c.args.pipe.now c.next.new.base) c.loop-values.invariant.log c.requires c.in-Ok.is c.in_ok-item.ensures.meant w p) gr)).grows w start ((covers_pipe (world c.args.self.now) (values_in c.args.slots.now) c.args.pipe.now w a b s), hi, hb) gr
+
+pub expand-returns-in_err-values-in-Ok-clause-grows : goal.expand-returns-in_err-values-in-Ok-clause-grows
+expand-returns-in_err-values-in-Ok-clause-grows g t c =
+    λ w start a b hi hb s gr.
+    (asked (world c.args.self.now) (facts c.args.self.now.sources) g.R.TableRow.table_of g.R.RowRef.shown (values_in c.args.slots.now) c.args.pipe.now (λ w. Covers (world c.args.self.now) (values_in c.args.slots.now) c.args.pipe.now w × (is_covered (world c.args.self.now) w c.args.inner.now ≡ true) × (is_covered (world c.args.self.now) w c.args.body.now ≡ true)) _ _ _ _ (went_on (world c.args.self.now) (facts c.args.self.now.sources) g.R.TableRow.table_of g.R.RowRef.shown (values_in c.args.slots.now) c.args.pipe.now (λ w. Covers (world c.args.self.now) (values_in c.args.slots.now) c.args.pipe.now w × (is_covered (world c.args.self.now) w c.args.inner.now ≡ true) × (is_covered (world c.args.self.now) w c.args.body.now ≡ true)) (λ w p. p.0) _ _ _ c.loop-values.base c.next.new.base c.loop-values.invariant.log c.next.ensures.pulled)
+    (λ w start p gr. c.expand_item.ensures.grows w start p.1 p.2 p.0.slots_in (next_passes (world c.args.self.now) (facts c.args.self.now.sources) g.R.TableRow.table_of g.R.RowRef.shown (values_in c.args.slots.now) c.args.pipe.now (λ w. Covers (world c.args.self.now) (values_in c.args.slots.now) c.args.pipe.now w × (is_covered (world c.args.self.now) w c.args.inner.now ≡ true) × (is_covered (world c.args.self.now) w c.args.body.now ≡ true)) (λ w p. p.0) _ _ c.loop-values.base _ c.in-Ok.item (items_left (world c.args.self.now) (values_in c.args.slots.now) c.args.pipe.now c.next.new.base) c.loop-values.invariant.log c.requires c.in-Ok.is c.in_ok-item.ensures.meant w p) gr)).grows w start ((covers_pipe (world c.args.self.now) (values_in c.args.slots.now) c.args.pipe.now w a b s), hi, hb) gr
+
+pub expand-returns-in-Fault-clause-grows : goal.expand-returns-in-Fault-clause-grows
+expand-returns-in-Fault-clause-grows g t c =
+    λ w start a b hi hb s gr.
+    (asked (world c.args.self.now) (facts c.args.self.now.sources) g.R.TableRow.table_of g.R.RowRef.shown (values_in c.args.slots.now) c.args.pipe.now (λ w. Covers (world c.args.self.now) (values_in c.args.slots.now) c.args.pipe.now w × (is_covered (world c.args.self.now) w c.args.inner.now ≡ true) × (is_covered (world c.args.self.now) w c.args.body.now ≡ true)) _ _ _ _ (went_on (world c.args.self.now) (facts c.args.self.now.sources) g.R.TableRow.table_of g.R.RowRef.shown (values_in c.args.slots.now) c.args.pipe.now (λ w. Covers (world c.args.self.now) (values_in c.args.slots.now) c.args.pipe.now w × (is_covered (world c.args.self.now) w c.args.inner.now ≡ true) × (is_covered (world c.args.self.now) w c.args.body.now ≡ true)) (λ w p. p.0) _ _ _ c.loop-values.base c.next.new.base c.loop-values.invariant.log c.next.ensures.pulled)
+    (λ w start p gr. c.expand_item.ensures.grows w start p.1 p.2 p.0.slots_in (next_passes (world c.args.self.now) (facts c.args.self.now.sources) g.R.TableRow.table_of g.R.RowRef.shown (values_in c.args.slots.now) c.args.pipe.now (λ w. Covers (world c.args.self.now) (values_in c.args.slots.now) c.args.pipe.now w × (is_covered (world c.args.self.now) w c.args.inner.now ≡ true) × (is_covered (world c.args.self.now) w c.args.body.now ≡ true)) (λ w p. p.0) _ _ c.loop-values.base _ c.in-Ok.item (items_left (world c.args.self.now) (values_in c.args.slots.now) c.args.pipe.now c.next.new.base) c.loop-values.invariant.log c.requires c.in-Ok.is c.in_ok-item.ensures.meant w p) gr)).grows w start ((covers_pipe (world c.args.self.now) (values_in c.args.slots.now) c.args.pipe.now w a b s), hi, hb) gr
+
+pub expand-loop-values-preserved : goal.expand-loop-values-preserved
+expand-loop-values-preserved g t c =
+    record {
+      meant = comes_on (item_expansion (world c.args.self.now) (values_in c.args.slots.now) c.args.inner.now c.args.body.now) (items_left (world c.args.self.now) (values_in c.args.slots.now) c.args.pipe.now c.loop-values.base) (items_left (world c.args.self.now) (values_in c.args.slots.now) c.args.pipe.now c.next.new.base) c.in-Ok.item _ c.loop-values.values _ _ (subst (λ s. Steps (items_left (world c.args.self.now) (values_in c.args.slots.now) c.args.pipe.now c.loop-values.base) s (items_left (world c.args.self.now) (values_in c.args.slots.now) c.args.pipe.now c.next.new.base)) c.in-Ok.is c.in_ok-item.ensures.meant)
+          (sym c.in_ok-further-in-Ok.ensures.meant ∙ ap (λ e. (c.in_ok-further-in-Ok.further, e)) c.in-Done.is) c.in_ok-values-in-Ok.ensures c.loop-values.invariant.meant;
+      log = asked (world c.args.self.now) (facts c.args.self.now.sources) g.R.TableRow.table_of g.R.RowRef.shown (values_in c.args.slots.now) c.args.pipe.now (λ w. Covers (world c.args.self.now) (values_in c.args.slots.now) c.args.pipe.now w × (is_covered (world c.args.self.now) w c.args.inner.now ≡ true) × (is_covered (world c.args.self.now) w c.args.body.now ≡ true)) _ _ _ _ (went_on (world c.args.self.now) (facts c.args.self.now.sources) g.R.TableRow.table_of g.R.RowRef.shown (values_in c.args.slots.now) c.args.pipe.now (λ w. Covers (world c.args.self.now) (values_in c.args.slots.now) c.args.pipe.now w × (is_covered (world c.args.self.now) w c.args.inner.now ≡ true) × (is_covered (world c.args.self.now) w c.args.body.now ≡ true)) (λ w p. p.0) _ _ _ c.loop-values.base c.next.new.base c.loop-values.invariant.log c.next.ensures.pulled)
+          (λ w start p gr. c.expand_item.ensures.grows w start p.1 p.2 p.0.slots_in (next_passes (world c.args.self.now) (facts c.args.self.now.sources) g.R.TableRow.table_of g.R.RowRef.shown (values_in c.args.slots.now) c.args.pipe.now (λ w. Covers (world c.args.self.now) (values_in c.args.slots.now) c.args.pipe.now w × (is_covered (world c.args.self.now) w c.args.inner.now ≡ true) × (is_covered (world c.args.self.now) w c.args.body.now ≡ true)) (λ w p. p.0) _ _ c.loop-values.base _ c.in-Ok.item (items_left (world c.args.self.now) (values_in c.args.slots.now) c.args.pipe.now c.next.new.base) c.loop-values.invariant.log c.requires c.in-Ok.is c.in_ok-item.ensures.meant w p) gr);
+    }
+
+pub expand-loop-values-preserved-in-Done : goal.expand-loop-values-preserved-in-Done
+expand-loop-values-preserved-in-Done g t c =
+    record {
+      meant = comes_on (item_expansion (world c.args.self.now) (values_in c.args.slots.now) c.args.inner.now c.args.body.now) (items_left (world c.args.self.now) (values_in c.args.slots.now) c.args.pipe.now c.loop-values.base) (items_left (world c.args.self.now) (values_in c.args.slots.now) c.args.pipe.now c.next.new.base) c.in-Ok.item _ c.loop-values.values _ _ (subst (λ s. Steps (items_left (world c.args.self.now) (values_in c.args.slots.now) c.args.pipe.now c.loop-values.base) s (items_left (world c.args.self.now) (values_in c.args.slots.now) c.args.pipe.now c.next.new.base)) c.in-Ok.is c.in_ok-item.ensures.meant)
+          (sym c.in_ok-further-in-Ok.ensures.meant ∙ ap (λ e. (c.in_ok-further-in-Ok.further, e)) c.in-Done.is) c.in_ok-values-in-Ok.ensures c.loop-values.invariant.meant;
+      log = asked (world c.args.self.now) (facts c.args.self.now.sources) g.R.TableRow.table_of g.R.RowRef.shown (values_in c.args.slots.now) c.args.pipe.now (λ w. Covers (world c.args.self.now) (values_in c.args.slots.now) c.args.pipe.now w × (is_covered (world c.args.self.now) w c.args.inner.now ≡ true) × (is_covered (world c.args.self.now) w c.args.body.now ≡ true)) _ _ _ _ (went_on (world c.args.self.now) (facts c.args.self.now.sources) g.R.TableRow.table_of g.R.RowRef.shown (values_in c.args.slots.now) c.args.pipe.now (λ w. Covers (world c.args.self.now) (values_in c.args.slots.now) c.args.pipe.now w × (is_covered (world c.args.self.now) w c.args.inner.now ≡ true) × (is_covered (world c.args.self.now) w c.args.body.now ≡ true)) (λ w p. p.0) _ _ _ c.loop-values.base c.next.new.base c.loop-values.invariant.log c.next.ensures.pulled)
+          (λ w start p gr. c.expand_item.ensures.grows w start p.1 p.2 p.0.slots_in (next_passes (world c.args.self.now) (facts c.args.self.now.sources) g.R.TableRow.table_of g.R.RowRef.shown (values_in c.args.slots.now) c.args.pipe.now (λ w. Covers (world c.args.self.now) (values_in c.args.slots.now) c.args.pipe.now w × (is_covered (world c.args.self.now) w c.args.inner.now ≡ true) × (is_covered (world c.args.self.now) w c.args.body.now ≡ true)) (λ w p. p.0) _ _ c.loop-values.base _ c.in-Ok.item (items_left (world c.args.self.now) (values_in c.args.slots.now) c.args.pipe.now c.next.new.base) c.loop-values.invariant.log c.requires c.in-Ok.is c.in_ok-item.ensures.meant w p) gr);
+    }
+
+pub expand-loop-values-preserved-in-Done-2 : goal.expand-loop-values-preserved-in-Done-2
+expand-loop-values-preserved-in-Done-2 g t c =
+    record {
+      meant = comes_on (item_expansion (world c.args.self.now) (values_in c.args.slots.now) c.args.inner.now c.args.body.now) (items_left (world c.args.self.now) (values_in c.args.slots.now) c.args.pipe.now c.loop-values.base) (items_left (world c.args.self.now) (values_in c.args.slots.now) c.args.pipe.now c.next.new.base) c.in-Ok.item _ c.loop-values.values _ _ (subst (λ s. Steps (items_left (world c.args.self.now) (values_in c.args.slots.now) c.args.pipe.now c.loop-values.base) s (items_left (world c.args.self.now) (values_in c.args.slots.now) c.args.pipe.now c.next.new.base)) c.in-Ok.is c.in_ok-item.ensures.meant)
+          (sym c.in_ok-further-in-Ok.ensures.meant ∙ ap (λ e. (c.in_ok-further-in-Ok.further, e)) c.in-Done.is) c.in_ok-values-in-Ok.ensures c.loop-values.invariant.meant;
+      log = asked (world c.args.self.now) (facts c.args.self.now.sources) g.R.TableRow.table_of g.R.RowRef.shown (values_in c.args.slots.now) c.args.pipe.now (λ w. Covers (world c.args.self.now) (values_in c.args.slots.now) c.args.pipe.now w × (is_covered (world c.args.self.now) w c.args.inner.now ≡ true) × (is_covered (world c.args.self.now) w c.args.body.now ≡ true)) _ _ _ _ (went_on (world c.args.self.now) (facts c.args.self.now.sources) g.R.TableRow.table_of g.R.RowRef.shown (values_in c.args.slots.now) c.args.pipe.now (λ w. Covers (world c.args.self.now) (values_in c.args.slots.now) c.args.pipe.now w × (is_covered (world c.args.self.now) w c.args.inner.now ≡ true) × (is_covered (world c.args.self.now) w c.args.body.now ≡ true)) (λ w p. p.0) _ _ _ c.loop-values.base c.next.new.base c.loop-values.invariant.log c.next.ensures.pulled)
+          (λ w start p gr. c.expand_item.ensures.grows w start p.1 p.2 p.0.slots_in (next_passes (world c.args.self.now) (facts c.args.self.now.sources) g.R.TableRow.table_of g.R.RowRef.shown (values_in c.args.slots.now) c.args.pipe.now (λ w. Covers (world c.args.self.now) (values_in c.args.slots.now) c.args.pipe.now w × (is_covered (world c.args.self.now) w c.args.inner.now ≡ true) × (is_covered (world c.args.self.now) w c.args.body.now ≡ true)) (λ w p. p.0) _ _ c.loop-values.base _ c.in-Ok.item (items_left (world c.args.self.now) (values_in c.args.slots.now) c.args.pipe.now c.next.new.base) c.loop-values.invariant.log c.requires c.in-Ok.is c.in_ok-item.ensures.meant w p) gr);
+    }
+
+pub expand-loop-values-preserved-in-Done-3 : goal.expand-loop-values-preserved-in-Done-3
+expand-loop-values-preserved-in-Done-3 g t c =
+    record {
+      meant = comes_on (item_expansion (world c.args.self.now) (values_in c.args.slots.now) c.args.inner.now c.args.body.now) (items_left (world c.args.self.now) (values_in c.args.slots.now) c.args.pipe.now c.loop-values.base) (items_left (world c.args.self.now) (values_in c.args.slots.now) c.args.pipe.now c.next.new.base) c.in-Ok.item _ c.loop-values.values _ _ (subst (λ s. Steps (items_left (world c.args.self.now) (values_in c.args.slots.now) c.args.pipe.now c.loop-values.base) s (items_left (world c.args.self.now) (values_in c.args.slots.now) c.args.pipe.now c.next.new.base)) c.in-Ok.is c.in_ok-item.ensures.meant)
+          (sym c.in_ok-further-in-Ok.ensures.meant ∙ ap (λ e. (c.in_ok-further-in-Ok.further, e)) c.in-Done.is) c.in_ok-values-in-Ok.ensures c.loop-values.invariant.meant;
+      log = asked (world c.args.self.now) (facts c.args.self.now.sources) g.R.TableRow.table_of g.R.RowRef.shown (values_in c.args.slots.now) c.args.pipe.now (λ w. Covers (world c.args.self.now) (values_in c.args.slots.now) c.args.pipe.now w × (is_covered (world c.args.self.now) w c.args.inner.now ≡ true) × (is_covered (world c.args.self.now) w c.args.body.now ≡ true)) _ _ _ _ (went_on (world c.args.self.now) (facts c.args.self.now.sources) g.R.TableRow.table_of g.R.RowRef.shown (values_in c.args.slots.now) c.args.pipe.now (λ w. Covers (world c.args.self.now) (values_in c.args.slots.now) c.args.pipe.now w × (is_covered (world c.args.self.now) w c.args.inner.now ≡ true) × (is_covered (world c.args.self.now) w c.args.body.now ≡ true)) (λ w p. p.0) _ _ _ c.loop-values.base c.next.new.base c.loop-values.invariant.log c.next.ensures.pulled)
+          (λ w start p gr. c.expand_item.ensures.grows w start p.1 p.2 p.0.slots_in (next_passes (world c.args.self.now) (facts c.args.self.now.sources) g.R.TableRow.table_of g.R.RowRef.shown (values_in c.args.slots.now) c.args.pipe.now (λ w. Covers (world c.args.self.now) (values_in c.args.slots.now) c.args.pipe.now w × (is_covered (world c.args.self.now) w c.args.inner.now ≡ true) × (is_covered (world c.args.self.now) w c.args.body.now ≡ true)) (λ w p. p.0) _ _ c.loop-values.base _ c.in-Ok.item (items_left (world c.args.self.now) (values_in c.args.slots.now) c.args.pipe.now c.next.new.base) c.loop-values.invariant.log c.requires c.in-Ok.is c.in_ok-item.ensures.meant w p) gr);
+    }
+
+pub expand-loop-values-preserved-in-Done-4 : goal.expand-loop-values-preserved-in-Done-4
+expand-loop-values-preserved-in-Done-4 g t c =
+    record {
+      meant = comes_on (item_expansion (world c.args.self.now) (values_in c.args.slots.now) c.args.inner.now c.args.body.now) (items_left (world c.args.self.now) (values_in c.args.slots.now) c.args.pipe.now c.loop-values.base) (items_left (world c.args.self.now) (values_in c.args.slots.now) c.args.pipe.now c.next.new.base) c.in-Ok.item _ c.loop-values.values _ _ (subst (λ s. Steps (items_left (world c.args.self.now) (values_in c.args.slots.now) c.args.pipe.now c.loop-values.base) s (items_left (world c.args.self.now) (values_in c.args.slots.now) c.args.pipe.now c.next.new.base)) c.in-Ok.is c.in_ok-item.ensures.meant)
+          (sym c.in_ok-further-in-Ok.ensures.meant ∙ ap (λ e. (c.in_ok-further-in-Ok.further, e)) c.in-Done.is) c.in_ok-values-in-Ok.ensures c.loop-values.invariant.meant;
+      log = asked (world c.args.self.now) (facts c.args.self.now.sources) g.R.TableRow.table_of g.R.RowRef.shown (values_in c.args.slots.now) c.args.pipe.now (λ w. Covers (world c.args.self.now) (values_in c.args.slots.now) c.args.pipe.now w × (is_covered (world c.args.self.now) w c.args.inner.now ≡ true) × (is_covered (world c.args.self.now) w c.args.body.now ≡ true)) _ _ _ _ (went_on (world c.args.self.now) (facts c.args.self.now.sources) g.R.TableRow.table_of g.R.RowRef.shown (values_in c.args.slots.now) c.args.pipe.now (λ w. Covers (world c.args.self.now) (values_in c.args.slots.now) c.args.pipe.now w × (is_covered (world c.args.self.now) w c.args.inner.now ≡ true) × (is_covered (world c.args.self.now) w c.args.body.now ≡ true)) (λ w p. p.0) _ _ _ c.loop-values.base c.next.new.base c.loop-values.invariant.log c.next.ensures.pulled)
+          (λ w start p gr. c.expand_item.ensures.grows w start p.1 p.2 p.0.slots_in (next_passes (world c.args.self.now) (facts c.args.self.now.sources) g.R.TableRow.table_of g.R.RowRef.shown (values_in c.args.slots.now) c.args.pipe.now (λ w. Covers (world c.args.self.now) (values_in c.args.slots.now) c.args.pipe.now w × (is_covered (world c.args.self.now) w c.args.inner.now ≡ true) × (is_covered (world c.args.self.now) w c.args.body.now ≡ true)) (λ w p. p.0) _ _ c.loop-values.base _ c.in-Ok.item (items_left (world c.args.self.now) (values_in c.args.slots.now) c.args.pipe.now c.next.new.base) c.loop-values.invariant.log c.requires c.in-Ok.is c.in_ok-item.ensures.meant w p) gr);
+    }
+
+pub expand-loop-values-preserved-in-Done-5 : goal.expand-loop-values-preserved-in-Done-5
+expand-loop-values-preserved-in-Done-5 g t c =
+    record {
+      meant = comes_on (item_expansion (world c.args.self.now) (values_in c.args.slots.now) c.args.inner.now c.args.body.now) (items_left (world c.args.self.now) (values_in c.args.slots.now) c.args.pipe.now c.loop-values.base) (items_left (world c.args.self.now) (values_in c.args.slots.now) c.args.pipe.now c.next.new.base) c.in-Ok.item _ c.loop-values.values _ _ (subst (λ s. Steps (items_left (world c.args.self.now) (values_in c.args.slots.now) c.args.pipe.now c.loop-values.base) s (items_left (world c.args.self.now) (values_in c.args.slots.now) c.args.pipe.now c.next.new.base)) c.in-Ok.is c.in_ok-item.ensures.meant)
+          (sym c.in_ok-further-in-Ok.ensures.meant ∙ ap (λ e. (c.in_ok-further-in-Ok.further, e)) c.in-Done.is) c.in_ok-values-in-Ok.ensures c.loop-values.invariant.meant;
+      log = asked (world c.args.self.now) (facts c.args.self.now.sources) g.R.TableRow.table_of g.R.RowRef.shown (values_in c.args.slots.now) c.args.pipe.now (λ w. Covers (world c.args.self.now) (values_in c.args.slots.now) c.args.pipe.now w × (is_covered (world c.args.self.now) w c.args.inner.now ≡ true) × (is_covered (world c.args.self.now) w c.args.body.now ≡ true)) _ _ _ _ (went_on (world c.args.self.now) (facts c.args.self.now.sources) g.R.TableRow.table_of g.R.RowRef.shown (values_in c.args.slots.now) c.args.pipe.now (λ w. Covers (world c.args.self.now) (values_in c.args.slots.now) c.args.pipe.now w × (is_covered (world c.args.self.now) w c.args.inner.now ≡ true) × (is_covered (world c.args.self.now) w c.args.body.now ≡ true)) (λ w p. p.0) _ _ _ c.loop-values.base c.next.new.base c.loop-values.invariant.log c.next.ensures.pulled)
+          (λ w start p gr. c.expand_item.ensures.grows w start p.1 p.2 p.0.slots_in (next_passes (world c.args.self.now) (facts c.args.self.now.sources) g.R.TableRow.table_of g.R.RowRef.shown (values_in c.args.slots.now) c.args.pipe.now (λ w. Covers (world c.args.self.now) (values_in c.args.slots.now) c.args.pipe.now w × (is_covered (world c.args.self.now) w c.args.inner.now ≡ true) × (is_covered (world c.args.self.now) w c.args.body.now ≡ true)) (λ w p. p.0) _ _ c.loop-values.base _ c.in-Ok.item (items_left (world c.args.self.now) (values_in c.args.slots.now) c.args.pipe.now c.next.new.base) c.loop-values.invariant.log c.requires c.in-Ok.is c.in_ok-item.ensures.meant w p) gr);
+    }
+
+pub join_items-loop-values-init : goal.join_items-loop-values-init
+join_items-loop-values-init g t c =
+    record {
+      meant = comes_begins (item_join (world c.args.self.now) (values_in c.args.slots.now) c.args.joined.now (pairs_of c.args.matches.now)) _ _ _ c.new-values.ensures (left_opened (world c.args.self.now) (values_in c.args.slots.now) _ _ c.in_ok-base.base c.in_ok-base.ensures.meant);
+      log = opened (world c.args.self.now) (facts c.args.self.now.sources) g.R.TableRow.table_of g.R.RowRef.shown (values_in c.args.slots.now) c.args.pipe.now (λ w. Covers (world c.args.self.now) (values_in c.args.slots.now) c.args.pipe.now w × (is_covered_join (world c.args.self.now) w c.args.joined.now ≡ true) × (matches_pass w (pairs_of c.args.matches.now) ≡ true)) _ _ c.in_ok-base.base (λ w start p gr. c.open.ensures.grows w start p.0.source_in p.0.slots_in gr) (λ w p. c.in_ok-base.ensures.from w p.0.source_in p.0.slots_in);
+    }
+
+pub join_items-returns-in_err-item-clause-grows : goal.join_items-returns-in_err-item-clause-grows
+join_items-returns-in_err-item-clause-grows g t c =
+    λ w start h m a b s gr.
+    (went_on (world c.args.self.now) (facts c.args.self.now.sources) g.R.TableRow.table_of g.R.RowRef.shown (values_in c.args.slots.now) c.args.pipe.now (λ w. Covers (world c.args.self.now) (values_in c.args.slots.now) c.args.pipe.now w × (is_covered_join (world c.args.self.now) w c.args.joined.now ≡ true) × (matches_pass w (pairs_of c.args.matches.now) ≡ true)) (λ w p. p.0) _ _ _ c.loop-values.base c.next.new.base c.loop-values.invariant.log c.next.ensures.pulled).grows w start ((covers_pipe (world c.args.self.now) (values_in c.args.slots.now) c.args.pipe.now w a b s), h, m) gr
+
+pub join_items-returns-in-Err-clause-grows : goal.join_items-returns-in-Err-clause-grows
+join_items-returns-in-Err-clause-grows g t c =
+    λ w start h m a b s gr.
+    (went_on (world c.args.self.now) (facts c.args.self.now.sources) g.R.TableRow.table_of g.R.RowRef.shown (values_in c.args.slots.now) c.args.pipe.now (λ w. Covers (world c.args.self.now) (values_in c.args.slots.now) c.args.pipe.now w × (is_covered_join (world c.args.self.now) w c.args.joined.now ≡ true) × (matches_pass w (pairs_of c.args.matches.now) ≡ true)) (λ w p. p.0) _ _ _ c.loop-values.base c.next.new.base c.loop-values.invariant.log c.next.ensures.pulled).grows w start ((covers_pipe (world c.args.self.now) (values_in c.args.slots.now) c.args.pipe.now w a b s), h, m) gr
+
+pub join_items-returns-in_err-further-in-Ok-clause-grows : goal.join_items-returns-in_err-further-in-Ok-clause-grows
+join_items-returns-in_err-further-in-Ok-clause-grows g t c =
+    λ w start h m a b s gr.
+    (asked (world c.args.self.now) (facts c.args.self.now.sources) g.R.TableRow.table_of g.R.RowRef.shown (values_in c.args.slots.now) c.args.pipe.now (λ w. Covers (world c.args.self.now) (values_in c.args.slots.now) c.args.pipe.now w × (is_covered_join (world c.args.self.now) w c.args.joined.now ≡ true) × (matches_pass w (pairs_of c.args.matches.now) ≡ true)) _ _ _ _ (went_on (world c.args.self.now) (facts c.args.self.now.sources) g.R.TableRow.table_of g.R.RowRef.shown (values_in c.args.slots.now) c.args.pipe.now (λ w. Covers (world c.args.self.now) (values_in c.args.slots.now) c.args.pipe.now w × (is_covered_join (world c.args.self.now) w c.args.joined.now ≡ true) × (matches_pass w (pairs_of c.args.matches.now) ≡ true)) (λ w p. p.0) _ _ _ c.loop-values.base c.next.new.base c.loop-values.invariant.log c.next.ensures.pulled)
+    (λ w start p gr. c.join_item.ensures.grows w start p.1 p.2 p.0.slots_in (next_passes (world c.args.self.now) (facts c.args.self.now.sources) g.R.TableRow.table_of g.R.RowRef.shown (values_in c.args.slots.now) c.args.pipe.now (λ w. Covers (world c.args.self.now) (values_in c.args.slots.now) c.args.pipe.now w × (is_covered_join (world c.args.self.now) w c.args.joined.now ≡ true) × (matches_pass w (pairs_of c.args.matches.now) ≡ true)) (λ w p. p.0) _ _ c.loop-values.base _ c.in-Ok.item (items_left (world c.args.self.now) (values_in c.args.slots.now) c.args.pipe.now c.next.new.base) c.loop-values.invariant.log c.requires c.in-Ok.is c.in_ok-item.ensures.meant w p) gr)).grows w start ((covers_pipe (world c.args.self.now) (values_in c.args.slots.now) c.args.pipe.now w a b s), h, m) gr
+
+pub join_items-returns-in_err-values-in-Ok-clause-grows : goal.join_items-returns-in_err-values-in-Ok-clause-grows
+join_items-returns-in_err-values-in-Ok-clause-grows g t c =
+    λ w start h m a b s gr.
+    (asked (world c.args.self.now) (facts c.args.self.now.sources) g.R.TableRow.table_of g.R.RowRef.shown (values_in c.args.slots.now) c.args.pipe.now (λ w. Covers (world c.args.self.now) (values_in c.args.slots.now) c.args.pipe.now w × (is_covered_join (world c.args.self.now) w c.args.joined.now ≡ true) × (matches_pass w (pairs_of c.args.matches.now) ≡ true)) _ _ _ _ (went_on (world c.args.self.now) (facts c.args.self.now.sources) g.R.TableRow.table_of g.R.RowRef.shown (values_in c.args.slots.now) c.args.pipe.now (λ w. Covers (world c.args.self.now) (values_in c.args.slots.now) c.args.pipe.now w × (is_covered_join (world c.args.self.now) w c.args.joined.now ≡ true) × (matches_pass w (pairs_of c.args.matches.now) ≡ true)) (λ w p. p.0) _ _ _ c.loop-values.base c.next.new.base c.loop-values.invariant.log c.next.ensures.pulled)
+    (λ w start p gr. c.join_item.ensures.grows w start p.1 p.2 p.0.slots_in (next_passes (world c.args.self.now) (facts c.args.self.now.sources) g.R.TableRow.table_of g.R.RowRef.shown (values_in c.args.slots.now) c.args.pipe.now (λ w. Covers (world c.args.self.now) (values_in c.args.slots.now) c.args.pipe.now w × (is_covered_join (world c.args.self.now) w c.args.joined.now ≡ true) × (matches_pass w (pairs_of c.args.matches.now) ≡ true)) (λ w p. p.0) _ _ c.loop-values.base _ c.in-Ok.item (items_left (world c.args.self.now) (values_in c.args.slots.now) c.args.pipe.now c.next.new.base) c.loop-values.invariant.log c.requires c.in-Ok.is c.in_ok-item.ensures.meant w p) gr)).grows w start ((covers_pipe (world c.args.self.now) (values_in c.args.slots.now) c.args.pipe.now w a b s), h, m) gr
+
+pub join_items-returns-in-Fault-clause-grows : goal.join_items-returns-in-Fault-clause-grows
+join_items-returns-in-Fault-clause-grows g t c =
+    λ w start h m a b s gr.
+    (asked (world c.args.self.now) (facts c.args.self.now.sources) g.R.TableRow.table_of g.R.RowRef.shown (values_in c.args.slots.now) c.args.pipe.now (λ w. Covers (world c.args.self.now) (values_in c.args.slots.now) c.args.pipe.now w × (is_covered_join (world c.args.self.now) w c.args.joined.now ≡ true) × (matches_pass w (pairs_of c.args.matches.now) ≡ true)) _ _ _ _ (went_on (world c.args.self.now) (facts c.args.self.now.sources) g.R.TableRow.table_of g.R.RowRef.shown (values_in c.args.slots.now) c.args.pipe.now (λ w. Covers (world c.args.self.now) (values_in c.args.slots.now) c.args.pipe.now w × (is_covered_join (world c.args.self.now) w c.args.joined.now ≡ true) × (matches_pass w (pairs_of c.args.matches.now) ≡ true)) (λ w p. p.0) _ _ _ c.loop-values.base c.next.new.base c.loop-values.invariant.log c.next.ensures.pulled)
+    (λ w start p gr. c.join_item.ensures.grows w start p.1 p.2 p.0.slots_in (next_passes (world c.args.self.now) (facts c.args.self.now.sources) g.R.TableRow.table_of g.R.RowRef.shown (values_in c.args.slots.now) c.args.pipe.now (λ w. Covers (world c.args.self.now) (values_in c.args.slots.now) c.args.pipe.now w × (is_covered_join (world c.args.self.now) w c.args.joined.now ≡ true) × (matches_pass w (pairs_of c.args.matches.now) ≡ true)) (λ w p. p.0) _ _ c.loop-values.base _ c.in-Ok.item (items_left (world c.args.self.now) (values_in c.args.slots.now) c.args.pipe.now c.next.new.base) c.loop-values.invariant.log c.requires c.in-Ok.is c.in_ok-item.ensures.meant w p) gr)).grows w start ((covers_pipe (world c.args.self.now) (values_in c.args.slots.now) c.args.pipe.now w a b s), h, m) gr
+
+pub join_items-loop-values-preserved : goal.join_items-loop-values-preserved
+join_items-loop-values-preserved g t c =
+    record {
+      meant = comes_on (item_join (world c.args.self.now) (values_in c.args.slots.now) c.args.joined.now (pairs_of c.args.matches.now)) (items_left (world c.args.self.now) (values_in c.args.slots.now) c.args.pipe.now c.loop-values.base) (items_left (world c.args.self.now) (values_in c.args.slots.now) c.args.pipe.now c.next.new.base) c.in-Ok.item _ c.loop-values.values _ _ (subst (λ s. Steps (items_left (world c.args.self.now) (values_in c.args.slots.now) c.args.pipe.now c.loop-values.base) s (items_left (world c.args.self.now) (values_in c.args.slots.now) c.args.pipe.now c.next.new.base)) c.in-Ok.is c.in_ok-item.ensures.meant)
+          (sym c.in_ok-further-in-Ok.ensures.meant ∙ ap (λ e. (c.in_ok-further-in-Ok.further, e)) c.in-Done.is) c.in_ok-values-in-Ok.ensures c.loop-values.invariant.meant;
+      log = asked (world c.args.self.now) (facts c.args.self.now.sources) g.R.TableRow.table_of g.R.RowRef.shown (values_in c.args.slots.now) c.args.pipe.now (λ w. Covers (world c.args.self.now) (values_in c.args.slots.now) c.args.pipe.now w × (is_covered_join (world c.args.self.now) w c.args.joined.now ≡ true) × (matches_pass w (pairs_of c.args.matches.now) ≡ true)) _ _ _ _ (went_on (world c.args.self.now) (facts c.args.self.now.sources) g.R.TableRow.table_of g.R.RowRef.shown (values_in c.args.slots.now) c.args.pipe.now (λ w. Covers (world c.args.self.now) (values_in c.args.slots.now) c.args.pipe.now w × (is_covered_join (world c.args.self.now) w c.args.joined.now ≡ true) × (matches_pass w (pairs_of c.args.matches.now) ≡ true)) (λ w p. p.0) _ _ _ c.loop-values.base c.next.new.base c.loop-values.invariant.log c.next.ensures.pulled)
+          (λ w start p gr. c.join_item.ensures.grows w start p.1 p.2 p.0.slots_in (next_passes (world c.args.self.now) (facts c.args.self.now.sources) g.R.TableRow.table_of g.R.RowRef.shown (values_in c.args.slots.now) c.args.pipe.now (λ w. Covers (world c.args.self.now) (values_in c.args.slots.now) c.args.pipe.now w × (is_covered_join (world c.args.self.now) w c.args.joined.now ≡ true) × (matches_pass w (pairs_of c.args.matches.now) ≡ true)) (λ w p. p.0) _ _ c.loop-values.base _ c.in-Ok.item (items_left (world c.args.self.now) (values_in c.args.slots.now) c.args.pipe.now c.next.new.base) c.loop-values.invariant.log c.requires c.in-Ok.is c.in_ok-item.ensures.meant w p) gr);
+    }
+
+pub join_items-loop-values-preserved-in-Done : goal.join_items-loop-values-preserved-in-Done
+join_items-loop-values-preserved-in-Done g t c =
+    record {
+      meant = comes_on (item_join (world c.args.self.now) (values_in c.args.slots.now) c.args.joined.now (pairs_of c.args.matches.now)) (items_left (world c.args.self.now) (values_in c.args.slots.now) c.args.pipe.now c.loop-values.base) (items_left (world c.args.self.now) (values_in c.args.slots.now) c.args.pipe.now c.next.new.base) c.in-Ok.item _ c.loop-values.values _ _ (subst (λ s. Steps (items_left (world c.args.self.now) (values_in c.args.slots.now) c.args.pipe.now c.loop-values.base) s (items_left (world c.args.self.now) (values_in c.args.slots.now) c.args.pipe.now c.next.new.base)) c.in-Ok.is c.in_ok-item.ensures.meant)
+          (sym c.in_ok-further-in-Ok.ensures.meant ∙ ap (λ e. (c.in_ok-further-in-Ok.further, e)) c.in-Done.is) c.in_ok-values-in-Ok.ensures c.loop-values.invariant.meant;
+      log = asked (world c.args.self.now) (facts c.args.self.now.sources) g.R.TableRow.table_of g.R.RowRef.shown (values_in c.args.slots.now) c.args.pipe.now (λ w. Covers (world c.args.self.now) (values_in c.args.slots.now) c.args.pipe.now w × (is_covered_join (world c.args.self.now) w c.args.joined.now ≡ true) × (matches_pass w (pairs_of c.args.matches.now) ≡ true)) _ _ _ _ (went_on (world c.args.self.now) (facts c.args.self.now.sources) g.R.TableRow.table_of g.R.RowRef.shown (values_in c.args.slots.now) c.args.pipe.now (λ w. Covers (world c.args.self.now) (values_in c.args.slots.now) c.args.pipe.now w × (is_covered_join (world c.args.self.now) w c.args.joined.now ≡ true) × (matches_pass w (pairs_of c.args.matches.now) ≡ true)) (λ w p. p.0) _ _ _ c.loop-values.base c.next.new.base c.loop-values.invariant.log c.next.ensures.pulled)
+          (λ w start p gr. c.join_item.ensures.grows w start p.1 p.2 p.0.slots_in (next_passes (world c.args.self.now) (facts c.args.self.now.sources) g.R.TableRow.table_of g.R.RowRef.shown (values_in c.args.slots.now) c.args.pipe.now (λ w. Covers (world c.args.self.now) (values_in c.args.slots.now) c.args.pipe.now w × (is_covered_join (world c.args.self.now) w c.args.joined.now ≡ true) × (matches_pass w (pairs_of c.args.matches.now) ≡ true)) (λ w p. p.0) _ _ c.loop-values.base _ c.in-Ok.item (items_left (world c.args.self.now) (values_in c.args.slots.now) c.args.pipe.now c.next.new.base) c.loop-values.invariant.log c.requires c.in-Ok.is c.in_ok-item.ensures.meant w p) gr);
+    }
+
+pub join_items-loop-values-preserved-in-Done-2 : goal.join_items-loop-values-preserved-in-Done-2
+join_items-loop-values-preserved-in-Done-2 g t c =
+    record {
+      meant = comes_on (item_join (world c.args.self.now) (values_in c.args.slots.now) c.args.joined.now (pairs_of c.args.matches.now)) (items_left (world c.args.self.now) (values_in c.args.slots.now) c.args.pipe.now c.loop-values.base) (items_left (world c.args.self.now) (values_in c.args.slots.now) c.args.pipe.now c.next.new.base) c.in-Ok.item _ c.loop-values.values _ _ (subst (λ s. Steps (items_left (world c.args.self.now) (values_in c.args.slots.now) c.args.pipe.now c.loop-values.base) s (items_left (world c.args.self.now) (values_in c.args.slots.now) c.args.pipe.now c.next.new.base)) c.in-Ok.is c.in_ok-item.ensures.meant)
+          (sym c.in_ok-further-in-Ok.ensures.meant ∙ ap (λ e. (c.in_ok-further-in-Ok.further, e)) c.in-Done.is) c.in_ok-values-in-Ok.ensures c.loop-values.invariant.meant;
+      log = asked (world c.args.self.now) (facts c.args.self.now.sources) g.R.TableRow.table_of g.R.RowRef.shown (values_in c.args.slots.now) c.args.pipe.now (λ w. Covers (world c.args.self.now) (values_in c.args.slots.now) c.args.pipe.now w × (is_covered_join (world c.args.self.now) w c.args.joined.now ≡ true) × (matches_pass w (pairs_of c.args.matches.now) ≡ true)) _ _ _ _ (went_on (world c.args.self.now) (facts c.args.self.now.sources) g.R.TableRow.table_of g.R.RowRef.shown (values_in c.args.slots.now) c.args.pipe.now (λ w. Covers (world c.args.self.now) (values_in c.args.slots.now) c.args.pipe.now w × (is_covered_join (world c.args.self.now) w c.args.joined.now ≡ true) × (matches_pass w (pairs_of c.args.matches.now) ≡ true)) (λ w p. p.0) _ _ _ c.loop-values.base c.next.new.base c.loop-values.invariant.log c.next.ensures.pulled)
+          (λ w start p gr. c.join_item.ensures.grows w start p.1 p.2 p.0.slots_in (next_passes (world c.args.self.now) (facts c.args.self.now.sources) g.R.TableRow.table_of g.R.RowRef.shown (values_in c.args.slots.now) c.args.pipe.now (λ w. Covers (world c.args.self.now) (values_in c.args.slots.now) c.args.pipe.now w × (is_covered_join (world c.args.self.now) w c.args.joined.now ≡ true) × (matches_pass w (pairs_of c.args.matches.now) ≡ true)) (λ w p. p.0) _ _ c.loop-values.base _ c.in-Ok.item (items_left (world c.args.self.now) (values_in c.args.slots.now) c.args.pipe.now c.next.new.base) c.loop-values.invariant.log c.requires c.in-Ok.is c.in_ok-item.ensures.meant w p) gr);
+    }
+
+pub join_items-loop-values-preserved-in-Done-3 : goal.join_items-loop-values-preserved-in-Done-3
+join_items-loop-values-preserved-in-Done-3 g t c =
+    record {
+      meant = comes_on (item_join (world c.args.self.now) (values_in c.args.slots.now) c.args.joined.now (pairs_of c.args.matches.now)) (items_left (world c.args.self.now) (values_in c.args.slots.now) c.args.pipe.now c.loop-values.base) (items_left (world c.args.self.now) (values_in c.args.slots.now) c.args.pipe.now c.next.new.base) c.in-Ok.item _ c.loop-values.values _ _ (subst (λ s. Steps (items_left (world c.args.self.now) (values_in c.args.slots.now) c.args.pipe.now c.loop-values.base) s (items_left (world c.args.self.now) (values_in c.args.slots.now) c.args.pipe.now c.next.new.base)) c.in-Ok.is c.in_ok-item.ensures.meant)
+          (sym c.in_ok-further-in-Ok.ensures.meant ∙ ap (λ e. (c.in_ok-further-in-Ok.further, e)) c.in-Done.is) c.in_ok-values-in-Ok.ensures c.loop-values.invariant.meant;
+      log = asked (world c.args.self.now) (facts c.args.self.now.sources) g.R.TableRow.table_of g.R.RowRef.shown (values_in c.args.slots.now) c.args.pipe.now (λ w. Covers (world c.args.self.now) (values_in c.args.slots.now) c.args.pipe.now w × (is_covered_join (world c.args.self.now) w c.args.joined.now ≡ true) × (matches_pass w (pairs_of c.args.matches.now) ≡ true)) _ _ _ _ (went_on (world c.args.self.now) (facts c.args.self.now.sources) g.R.TableRow.table_of g.R.RowRef.shown (values_in c.args.slots.now) c.args.pipe.now (λ w. Covers (world c.args.self.now) (values_in c.args.slots.now) c.args.pipe.now w × (is_covered_join (world c.args.self.now) w c.args.joined.now ≡ true) × (matches_pass w (pairs_of c.args.matches.now) ≡ true)) (λ w p. p.0) _ _ _ c.loop-values.base c.next.new.base c.loop-values.invariant.log c.next.ensures.pulled)
+          (λ w start p gr. c.join_item.ensures.grows w start p.1 p.2 p.0.slots_in (next_passes (world c.args.self.now) (facts c.args.self.now.sources) g.R.TableRow.table_of g.R.RowRef.shown (values_in c.args.slots.now) c.args.pipe.now (λ w. Covers (world c.args.self.now) (values_in c.args.slots.now) c.args.pipe.now w × (is_covered_join (world c.args.self.now) w c.args.joined.now ≡ true) × (matches_pass w (pairs_of c.args.matches.now) ≡ true)) (λ w p. p.0) _ _ c.loop-values.base _ c.in-Ok.item (items_left (world c.args.self.now) (values_in c.args.slots.now) c.args.pipe.now c.next.new.base) c.loop-values.invariant.log c.requires c.in-Ok.is c.in_ok-item.ensures.meant w p) gr);
+    }
+
+pub join_items-loop-values-preserved-in-Done-4 : goal.join_items-loop-values-preserved-in-Done-4
+join_items-loop-values-preserved-in-Done-4 g t c =
+    record {
+      meant = comes_on (item_join (world c.args.self.now) (values_in c.args.slots.now) c.args.joined.now (pairs_of c.args.matches.now)) (items_left (world c.args.self.now) (values_in c.args.slots.now) c.args.pipe.now c.loop-values.base) (items_left (world c.args.self.now) (values_in c.args.slots.now) c.args.pipe.now c.next.new.base) c.in-Ok.item _ c.loop-values.values _ _ (subst (λ s. Steps (items_left (world c.args.self.now) (values_in c.args.slots.now) c.args.pipe.now c.loop-values.base) s (items_left (world c.args.self.now) (values_in c.args.slots.now) c.args.pipe.now c.next.new.base)) c.in-Ok.is c.in_ok-item.ensures.meant)
+          (sym c.in_ok-further-in-Ok.ensures.meant ∙ ap (λ e. (c.in_ok-further-in-Ok.further, e)) c.in-Done.is) c.in_ok-values-in-Ok.ensures c.loop-values.invariant.meant;
+      log = asked (world c.args.self.now) (facts c.args.self.now.sources) g.R.TableRow.table_of g.R.RowRef.shown (values_in c.args.slots.now) c.args.pipe.now (λ w. Covers (world c.args.self.now) (values_in c.args.slots.now) c.args.pipe.now w × (is_covered_join (world c.args.self.now) w c.args.joined.now ≡ true) × (matches_pass w (pairs_of c.args.matches.now) ≡ true)) _ _ _ _ (went_on (world c.args.self.now) (facts c.args.self.now.sources) g.R.TableRow.table_of g.R.RowRef.shown (values_in c.args.slots.now) c.args.pipe.now (λ w. Covers (world c.args.self.now) (values_in c.args.slots.now) c.args.pipe.now w × (is_covered_join (world c.args.self.now) w c.args.joined.now ≡ true) × (matches_pass w (pairs_of c.args.matches.now) ≡ true)) (λ w p. p.0) _ _ _ c.loop-values.base c.next.new.base c.loop-values.invariant.log c.next.ensures.pulled)
+          (λ w start p gr. c.join_item.ensures.grows w start p.1 p.2 p.0.slots_in (next_passes (world c.args.self.now) (facts c.args.self.now.sources) g.R.TableRow.table_of g.R.RowRef.shown (values_in c.args.slots.now) c.args.pipe.now (λ w. Covers (world c.args.self.now) (values_in c.args.slots.now) c.args.pipe.now w × (is_covered_join (world c.args.self.now) w c.args.joined.now ≡ true) × (matches_pass w (pairs_of c.args.matches.now) ≡ true)) (λ w p. p.0) _ _ c.loop-values.base _ c.in-Ok.item (items_left (world c.args.self.now) (values_in c.args.slots.now) c.args.pipe.now c.next.new.base) c.loop-values.invariant.log c.requires c.in-Ok.is c.in_ok-item.ensures.meant w p) gr);
+    }
+
+pub join_items-loop-values-preserved-in-Done-5 : goal.join_items-loop-values-preserved-in-Done-5
+join_items-loop-values-preserved-in-Done-5 g t c =
+    record {
+      meant = comes_on (item_join (world c.args.self.now) (values_in c.args.slots.now) c.args.joined.now (pairs_of c.args.matches.now)) (items_left (world c.args.self.now) (values_in c.args.slots.now) c.args.pipe.now c.loop-values.base) (items_left (world c.args.self.now) (values_in c.args.slots.now) c.args.pipe.now c.next.new.base) c.in-Ok.item _ c.loop-values.values _ _ (subst (λ s. Steps (items_left (world c.args.self.now) (values_in c.args.slots.now) c.args.pipe.now c.loop-values.base) s (items_left (world c.args.self.now) (values_in c.args.slots.now) c.args.pipe.now c.next.new.base)) c.in-Ok.is c.in_ok-item.ensures.meant)
+          (sym c.in_ok-further-in-Ok.ensures.meant ∙ ap (λ e. (c.in_ok-further-in-Ok.further, e)) c.in-Done.is) c.in_ok-values-in-Ok.ensures c.loop-values.invariant.meant;
+      log = asked (world c.args.self.now) (facts c.args.self.now.sources) g.R.TableRow.table_of g.R.RowRef.shown (values_in c.args.slots.now) c.args.pipe.now (λ w. Covers (world c.args.self.now) (values_in c.args.slots.now) c.args.pipe.now w × (is_covered_join (world c.args.self.now) w c.args.joined.now ≡ true) × (matches_pass w (pairs_of c.args.matches.now) ≡ true)) _ _ _ _ (went_on (world c.args.self.now) (facts c.args.self.now.sources) g.R.TableRow.table_of g.R.RowRef.shown (values_in c.args.slots.now) c.args.pipe.now (λ w. Covers (world c.args.self.now) (values_in c.args.slots.now) c.args.pipe.now w × (is_covered_join (world c.args.self.now) w c.args.joined.now ≡ true) × (matches_pass w (pairs_of c.args.matches.now) ≡ true)) (λ w p. p.0) _ _ _ c.loop-values.base c.next.new.base c.loop-values.invariant.log c.next.ensures.pulled)
+          (λ w start p gr. c.join_item.ensures.grows w start p.1 p.2 p.0.slots_in (next_passes (world c.args.self.now) (facts c.args.self.now.sources) g.R.TableRow.table_of g.R.RowRef.shown (values_in c.args.slots.now) c.args.pipe.now (λ w. Covers (world c.args.self.now) (values_in c.args.slots.now) c.args.pipe.now w × (is_covered_join (world c.args.self.now) w c.args.joined.now ≡ true) × (matches_pass w (pairs_of c.args.matches.now) ≡ true)) (λ w p. p.0) _ _ c.loop-values.base _ c.in-Ok.item (items_left (world c.args.self.now) (values_in c.args.slots.now) c.args.pipe.now c.next.new.base) c.loop-values.invariant.log c.requires c.in-Ok.is c.in_ok-item.ensures.meant w p) gr);
+    }
+
+pub key_pairs-loop-pairs-init : goal.key_pairs-loop-pairs-init
+key_pairs-loop-pairs-init g t c =
+    record {
+      meant = selects_begin (key_and_element (world c.args.self.now) (values_in c.args.slots.now) c.args.key.now c.args.element) _ _ _ c.new-pairs.ensures
+          (left_opened (world c.args.self.now) (values_in c.args.slots.now) _ _ c.in_ok-base.base c.in_ok-base.ensures.meant ∙ c.in_ok-pipe.ensures.items);
+      log = opened (world c.args.self.now) (facts c.args.self.now.sources) g.R.TableRow.table_of g.R.RowRef.shown (values_in c.args.slots.now) c.in_ok-pipe.pipe (λ w. Covers (world c.args.self.now) (values_in c.args.slots.now) c.in_ok-pipe.pipe w × (is_covered (world c.args.self.now) w c.args.key.now ≡ true) × (is_covered_element (world c.args.self.now) w c.args.element ≡ true)) _ _ c.in_ok-base.base (λ w start p gr. c.open.ensures.grows w start p.0.source_in p.0.slots_in gr) (λ w p. c.in_ok-base.ensures.from w p.0.source_in p.0.slots_in);
+    }
+
+pub key_pairs-returns-in_err-item-clause-grows : goal.key_pairs-returns-in_err-item-clause-grows
+key_pairs-returns-in_err-item-clause-grows g t c =
+    λ w start a hk he s gr.
+    (went_on (world c.args.self.now) (facts c.args.self.now.sources) g.R.TableRow.table_of g.R.RowRef.shown (values_in c.args.slots.now) c.in_ok-pipe.pipe (λ w. Covers (world c.args.self.now) (values_in c.args.slots.now) c.in_ok-pipe.pipe w × (is_covered (world c.args.self.now) w c.args.key.now ≡ true) × (is_covered_element (world c.args.self.now) w c.args.element ≡ true)) (λ w p. p.0) _ _ _ c.loop-pairs.base c.next.new.base c.loop-pairs.invariant.log c.next.ensures.pulled).grows w start (covers_pipe (world c.args.self.now) (values_in c.args.slots.now) c.in_ok-pipe.pipe w (covered_as (world c.args.self.now) w _ _ c.in_ok-pipe.ensures.source a) (stage_as (world c.args.self.now) w _ _ c.in_ok-pipe.ensures.stage refl) s, hk, he) gr
+
+pub key_pairs-returns-in-Err-clause-grows : goal.key_pairs-returns-in-Err-clause-grows
+key_pairs-returns-in-Err-clause-grows g t c =
+    λ w start a hk he s gr.
+    (went_on (world c.args.self.now) (facts c.args.self.now.sources) g.R.TableRow.table_of g.R.RowRef.shown (values_in c.args.slots.now) c.in_ok-pipe.pipe (λ w. Covers (world c.args.self.now) (values_in c.args.slots.now) c.in_ok-pipe.pipe w × (is_covered (world c.args.self.now) w c.args.key.now ≡ true) × (is_covered_element (world c.args.self.now) w c.args.element ≡ true)) (λ w p. p.0) _ _ _ c.loop-pairs.base c.next.new.base c.loop-pairs.invariant.log c.next.ensures.pulled).grows w start (covers_pipe (world c.args.self.now) (values_in c.args.slots.now) c.in_ok-pipe.pipe w (covered_as (world c.args.self.now) w _ _ c.in_ok-pipe.ensures.source a) (stage_as (world c.args.self.now) w _ _ c.in_ok-pipe.ensures.stage refl) s, hk, he) gr
+
+pub key_pairs-returns-in_err-pair-in-Ok-clause-grows : goal.key_pairs-returns-in_err-pair-in-Ok-clause-grows
+key_pairs-returns-in_err-pair-in-Ok-clause-grows g t c =
+    λ w start a hk he s gr.
+    (asked (world c.args.self.now) (facts c.args.self.now.sources) g.R.TableRow.table_of g.R.RowRef.shown (values_in c.args.slots.now) c.in_ok-pipe.pipe (λ w. Covers (world c.args.self.now) (values_in c.args.slots.now) c.in_ok-pipe.pipe w × (is_covered (world c.args.self.now) w c.args.key.now ≡ true) × (is_covered_element (world c.args.self.now) w c.args.element ≡ true)) _ _ _ _ (went_on (world c.args.self.now) (facts c.args.self.now.sources) g.R.TableRow.table_of g.R.RowRef.shown (values_in c.args.slots.now) c.in_ok-pipe.pipe (λ w. Covers (world c.args.self.now) (values_in c.args.slots.now) c.in_ok-pipe.pipe w × (is_covered (world c.args.self.now) w c.args.key.now ≡ true) × (is_covered_element (world c.args.self.now) w c.args.element ≡ true)) (λ w p. p.0) _ _ _ c.loop-pairs.base c.next.new.base c.loop-pairs.invariant.log c.next.ensures.pulled)
+    (λ w start p gr. c.key_pair.ensures.grows w start p.1 p.2 p.0.slots_in (next_passes (world c.args.self.now) (facts c.args.self.now.sources) g.R.TableRow.table_of g.R.RowRef.shown (values_in c.args.slots.now) c.in_ok-pipe.pipe (λ w. Covers (world c.args.self.now) (values_in c.args.slots.now) c.in_ok-pipe.pipe w × (is_covered (world c.args.self.now) w c.args.key.now ≡ true) × (is_covered_element (world c.args.self.now) w c.args.element ≡ true)) (λ w p. p.0) _ _ c.loop-pairs.base _ c.in-Ok.item (items_left (world c.args.self.now) (values_in c.args.slots.now) c.in_ok-pipe.pipe c.next.new.base) c.loop-pairs.invariant.log c.in_ok-pipe.ensures.planned c.in-Ok.is c.in_ok-item.ensures.meant w p) gr)).grows w start (covers_pipe (world c.args.self.now) (values_in c.args.slots.now) c.in_ok-pipe.pipe w (covered_as (world c.args.self.now) w _ _ c.in_ok-pipe.ensures.source a) (stage_as (world c.args.self.now) w _ _ c.in_ok-pipe.ensures.stage refl) s, hk, he) gr
+
+pub key_pairs-returns-in_err-push-in-Ok-2-clause-grows : goal.key_pairs-returns-in_err-push-in-Ok-2-clause-grows
+key_pairs-returns-in_err-push-in-Ok-2-clause-grows g t c =
+    λ w start a hk he s gr.
+    (asked (world c.args.self.now) (facts c.args.self.now.sources) g.R.TableRow.table_of g.R.RowRef.shown (values_in c.args.slots.now) c.in_ok-pipe.pipe (λ w. Covers (world c.args.self.now) (values_in c.args.slots.now) c.in_ok-pipe.pipe w × (is_covered (world c.args.self.now) w c.args.key.now ≡ true) × (is_covered_element (world c.args.self.now) w c.args.element ≡ true)) _ _ _ _ (went_on (world c.args.self.now) (facts c.args.self.now.sources) g.R.TableRow.table_of g.R.RowRef.shown (values_in c.args.slots.now) c.in_ok-pipe.pipe (λ w. Covers (world c.args.self.now) (values_in c.args.slots.now) c.in_ok-pipe.pipe w × (is_covered (world c.args.self.now) w c.args.key.now ≡ true) × (is_covered_element (world c.args.self.now) w c.args.element ≡ true)) (λ w p. p.0) _ _ _ c.loop-pairs.base c.next.new.base c.loop-pairs.invariant.log c.next.ensures.pulled)
+    (λ w start p gr. c.key_pair.ensures.grows w start p.1 p.2 p.0.slots_in (next_passes (world c.args.self.now) (facts c.args.self.now.sources) g.R.TableRow.table_of g.R.RowRef.shown (values_in c.args.slots.now) c.in_ok-pipe.pipe (λ w. Covers (world c.args.self.now) (values_in c.args.slots.now) c.in_ok-pipe.pipe w × (is_covered (world c.args.self.now) w c.args.key.now ≡ true) × (is_covered_element (world c.args.self.now) w c.args.element ≡ true)) (λ w p. p.0) _ _ c.loop-pairs.base _ c.in-Ok.item (items_left (world c.args.self.now) (values_in c.args.slots.now) c.in_ok-pipe.pipe c.next.new.base) c.loop-pairs.invariant.log c.in_ok-pipe.ensures.planned c.in-Ok.is c.in_ok-item.ensures.meant w p) gr)).grows w start (covers_pipe (world c.args.self.now) (values_in c.args.slots.now) c.in_ok-pipe.pipe w (covered_as (world c.args.self.now) w _ _ c.in_ok-pipe.ensures.source a) (stage_as (world c.args.self.now) w _ _ c.in_ok-pipe.ensures.stage refl) s, hk, he) gr
+
+pub key_pairs-returns-in-Err-2-clause-grows : goal.key_pairs-returns-in-Err-2-clause-grows
+key_pairs-returns-in-Err-2-clause-grows g t c =
+    λ w start a hk he s gr.
+    (asked (world c.args.self.now) (facts c.args.self.now.sources) g.R.TableRow.table_of g.R.RowRef.shown (values_in c.args.slots.now) c.in_ok-pipe.pipe (λ w. Covers (world c.args.self.now) (values_in c.args.slots.now) c.in_ok-pipe.pipe w × (is_covered (world c.args.self.now) w c.args.key.now ≡ true) × (is_covered_element (world c.args.self.now) w c.args.element ≡ true)) _ _ _ _ (went_on (world c.args.self.now) (facts c.args.self.now.sources) g.R.TableRow.table_of g.R.RowRef.shown (values_in c.args.slots.now) c.in_ok-pipe.pipe (λ w. Covers (world c.args.self.now) (values_in c.args.slots.now) c.in_ok-pipe.pipe w × (is_covered (world c.args.self.now) w c.args.key.now ≡ true) × (is_covered_element (world c.args.self.now) w c.args.element ≡ true)) (λ w p. p.0) _ _ _ c.loop-pairs.base c.next.new.base c.loop-pairs.invariant.log c.next.ensures.pulled)
+    (λ w start p gr. c.key_pair.ensures.grows w start p.1 p.2 p.0.slots_in (next_passes (world c.args.self.now) (facts c.args.self.now.sources) g.R.TableRow.table_of g.R.RowRef.shown (values_in c.args.slots.now) c.in_ok-pipe.pipe (λ w. Covers (world c.args.self.now) (values_in c.args.slots.now) c.in_ok-pipe.pipe w × (is_covered (world c.args.self.now) w c.args.key.now ≡ true) × (is_covered_element (world c.args.self.now) w c.args.element ≡ true)) (λ w p. p.0) _ _ c.loop-pairs.base _ c.in-Ok.item (items_left (world c.args.self.now) (values_in c.args.slots.now) c.in_ok-pipe.pipe c.next.new.base) c.loop-pairs.invariant.log c.in_ok-pipe.ensures.planned c.in-Ok.is c.in_ok-item.ensures.meant w p) gr)).grows w start (covers_pipe (world c.args.self.now) (values_in c.args.slots.now) c.in_ok-pipe.pipe w (covered_as (world c.args.self.now) w _ _ c.in_ok-pipe.ensures.source a) (stage_as (world c.args.self.now) w _ _ c.in_ok-pipe.ensures.stage refl) s, hk, he) gr
+
+pub key_pairs-loop-pairs-preserved : goal.key_pairs-loop-pairs-preserved
+key_pairs-loop-pairs-preserved g t c =
+    record {
+      meant = selects_on (key_and_element (world c.args.self.now) (values_in c.args.slots.now) c.args.key.now c.args.element) (items_left (world c.args.self.now) (values_in c.args.slots.now) c.in_ok-pipe.pipe c.loop-pairs.base) (items_left (world c.args.self.now) (values_in c.args.slots.now) c.in_ok-pipe.pipe c.next.new.base) c.in-Ok.item c.in-Ok-2.pair _ c.loop-pairs.pairs _ (subst (λ s. Steps (items_left (world c.args.self.now) (values_in c.args.slots.now) c.in_ok-pipe.pipe c.loop-pairs.base) s (items_left (world c.args.self.now) (values_in c.args.slots.now) c.in_ok-pipe.pipe c.next.new.base)) c.in-Ok.is c.in_ok-item.ensures.meant) (sym c.in-Ok-2.is ∙ c.in_ok-pair-in-Ok.ensures.meant) c.in_ok-push-in-Ok-2.ensures.ok c.loop-pairs.invariant.meant;
+      log = asked (world c.args.self.now) (facts c.args.self.now.sources) g.R.TableRow.table_of g.R.RowRef.shown (values_in c.args.slots.now) c.in_ok-pipe.pipe (λ w. Covers (world c.args.self.now) (values_in c.args.slots.now) c.in_ok-pipe.pipe w × (is_covered (world c.args.self.now) w c.args.key.now ≡ true) × (is_covered_element (world c.args.self.now) w c.args.element ≡ true)) _ _ _ _ (went_on (world c.args.self.now) (facts c.args.self.now.sources) g.R.TableRow.table_of g.R.RowRef.shown (values_in c.args.slots.now) c.in_ok-pipe.pipe (λ w. Covers (world c.args.self.now) (values_in c.args.slots.now) c.in_ok-pipe.pipe w × (is_covered (world c.args.self.now) w c.args.key.now ≡ true) × (is_covered_element (world c.args.self.now) w c.args.element ≡ true)) (λ w p. p.0) _ _ _ c.loop-pairs.base c.next.new.base c.loop-pairs.invariant.log c.next.ensures.pulled)
+          (λ w start p gr. c.key_pair.ensures.grows w start p.1 p.2 p.0.slots_in (next_passes (world c.args.self.now) (facts c.args.self.now.sources) g.R.TableRow.table_of g.R.RowRef.shown (values_in c.args.slots.now) c.in_ok-pipe.pipe (λ w. Covers (world c.args.self.now) (values_in c.args.slots.now) c.in_ok-pipe.pipe w × (is_covered (world c.args.self.now) w c.args.key.now ≡ true) × (is_covered_element (world c.args.self.now) w c.args.element ≡ true)) (λ w p. p.0) _ _ c.loop-pairs.base _ c.in-Ok.item (items_left (world c.args.self.now) (values_in c.args.slots.now) c.in_ok-pipe.pipe c.next.new.base) c.loop-pairs.invariant.log c.in_ok-pipe.ensures.planned c.in-Ok.is c.in_ok-item.ensures.meant w p) gr);
+    }
+
+pub record-returns-clause-grows : goal.record-returns-clause-grows
+record-returns-clause-grows g t c =
+    λ w start h s gr.
+    c.loop-field.invariant.grows w start (ap (are_covered_fields (world c.args.self.now) w) c.as_slice-field-items.ensures ∙ h) s gr
+
+pub record-returns-in_err-value-clause-grows : goal.record-returns-in_err-value-clause-grows
+record-returns-in_err-value-clause-grows g t c =
+    λ w start h s gr.
+    c.evaluate.ensures.grows w start (all_there (λ (field : Field Form). is_covered (world c.args.self.now) w field.value) _ _ _ (ap (are_covered_fields (world c.args.self.now) w) c.as_slice-field-items.ensures ∙ h) c.field-item.is c.loop-field-test.true) s
+    (c.loop-field.invariant.grows w start (ap (are_covered_fields (world c.args.self.now) w) c.as_slice-field-items.ensures ∙ h) s gr)
+
+pub record-returns-in_err-push_member-clause-grows : goal.record-returns-in_err-push_member-clause-grows
+record-returns-in_err-push_member-clause-grows g t c =
+    λ w start h s gr.
+    c.evaluate.ensures.grows w start (all_there (λ (field : Field Form). is_covered (world c.args.self.now) w field.value) _ _ _ (ap (are_covered_fields (world c.args.self.now) w) c.as_slice-field-items.ensures ∙ h) c.field-item.is c.loop-field-test.true) s
+    (c.loop-field.invariant.grows w start (ap (are_covered_fields (world c.args.self.now) w) c.as_slice-field-items.ensures ∙ h) s gr)
+
+pub record-loop-field-preserved : goal.record-loop-field-preserved
+record-loop-field-preserved g t c =
+    record {
+      meant = members_goes (world c.args.self.now) _ _ _ _ _ _ _ _
+          c.field-item.is c.loop-field-test.true c.in_ok-value.ensures.meant c.in_ok-push_member.ensures c.loop-field.invariant.meant;
+      grows = λ w start h s gr.
+          c.evaluate.ensures.grows w start (all_there (λ (field : Field Form). is_covered (world c.args.self.now) w field.value) _ _ _ h c.field-item.is c.loop-field-test.true) s
+          (c.loop-field.invariant.grows w start h s gr);
+    }
+
+pub select_all-returns-clause-grows : goal.select_all-returns-clause-grows
+select_all-returns-clause-grows g t c =
+    λ w start h s a gr.
+    c.loop-item.invariant.grows w start h s a gr
+
+pub select_all-returns-in-Err-clause-grows : goal.select_all-returns-in-Err-clause-grows
+select_all-returns-in-Err-clause-grows g t c =
+    λ w start h s a gr.
+    c.value_of_item.ensures.grows w start h s (all_there (has_watched_rows w) _ _ _ a c.item-item.is c.loop-item-test.true) (c.loop-item.invariant.grows w start h s a gr)
+
+pub select_all-returns-in_err-value-clause-grows : goal.select_all-returns-in_err-value-clause-grows
+select_all-returns-in_err-value-clause-grows g t c =
+    λ w start h s a gr.
+    c.value_of_item.ensures.grows w start h s (all_there (has_watched_rows w) _ _ _ a c.item-item.is c.loop-item-test.true) (c.loop-item.invariant.grows w start h s a gr)
+
+pub select_all-returns-in_err-push-in-Ok-clause-grows : goal.select_all-returns-in_err-push-in-Ok-clause-grows
+select_all-returns-in_err-push-in-Ok-clause-grows g t c =
+    λ w start h s a gr.
+    c.value_of_item.ensures.grows w start h s (all_there (has_watched_rows w) _ _ _ a c.item-item.is c.loop-item-test.true) (c.loop-item.invariant.grows w start h s a gr)
+
+pub select_all-loop-item-preserved : goal.select_all-loop-item-preserved
+select_all-loop-item-preserved g t c =
+    record {
+      meant = select_goes (value_of_item (world c.args.self.now) c.args.body.now c.args.slots.now) c.args.items.now end.Done _ c.loop-item.values _ _ _ _
+          c.item-item.is c.loop-item-test.true (sym c.in-Ok.is ∙ c.in_ok-value.ensures.meant) c.in_ok-push-in-Ok.ensures.ok c.loop-item.invariant.meant;
+      grows = λ w start h s a gr. c.value_of_item.ensures.grows w start h s (all_there (has_watched_rows w) _ _ _ a c.item-item.is c.loop-item-test.true) (c.loop-item.invariant.grows w start h s a gr);
+    }
+
+pub key_column-returns-clause-grows : goal.key_column-returns-clause-grows
+key_column-returns-clause-grows g t c =
+    λ w start h s a gr.
+    c.loop-item.invariant.grows w start h s a gr
+
+pub key_column-returns-in_err-scalar-clause-grows : goal.key_column-returns-in_err-scalar-clause-grows
+key_column-returns-in_err-scalar-clause-grows g t c =
+    λ w start h s a gr.
+    c.scalar.ensures.grows w start h (slot_more w (values_in c.args.slots.now) _ _ c.with.ensures s (all_there (has_watched_rows w) _ _ _ a c.item-item.is c.loop-item-test.true)) (c.loop-item.invariant.grows w start h s a gr)
+
+pub key_column-returns-in_err-push-clause-grows : goal.key_column-returns-in_err-push-clause-grows
+key_column-returns-in_err-push-clause-grows g t c =
+    λ w start h s a gr.
+    c.scalar.ensures.grows w start h (slot_more w (values_in c.args.slots.now) _ _ c.with.ensures s (all_there (has_watched_rows w) _ _ _ a c.item-item.is c.loop-item-test.true)) (c.loop-item.invariant.grows w start h s a gr)
+
+pub key_column-loop-item-preserved : goal.key_column-loop-item-preserved
+key_column-loop-item-preserved g t c =
+    record {
+      meant = all_goes (key_at (world c.args.self.now) (values_in c.args.slots.now) c.args.key.now) c.args.items.now _ c.loop-item.column _ _ _ _
+          c.item-item.is c.loop-item-test.true
+          (key_answer (world c.args.self.now) (values_in c.args.slots.now) _ _ c.args.key.now (Ok c.in_ok-scalar.scalar) c.with.ensures c.in_ok-scalar.ensures.meant)
+          c.in_ok-push.ensures.ok c.loop-item.invariant.meant;
+      grows = λ w start h s a gr. c.scalar.ensures.grows w start h (slot_more w (values_in c.args.slots.now) _ _ c.with.ensures s (all_there (has_watched_rows w) _ _ _ a c.item-item.is c.loop-item-test.true)) (c.loop-item.invariant.grows w start h s a gr);
+    }
+
+pub key_columns-returns-clause-grows : goal.key_columns-returns-clause-grows
+key_columns-returns-clause-grows g t c =
+    λ w start h s a gr.
+    c.loop-key.invariant.grows w start (ap (are_covered_keys (world c.args.self.now) w) c.as_slice-key-items.ensures ∙ h) s a gr
+
+pub key_columns-returns-in_err-column-clause-grows : goal.key_columns-returns-in_err-column-clause-grows
+key_columns-returns-in_err-column-clause-grows g t c =
+    λ w start h s a gr.
+    c.key_column.ensures.grows w start (all_there (λ (k : SortKey Form). is_covered (world c.args.self.now) w k.value) _ _ _ (ap (are_covered_keys (world c.args.self.now) w) c.as_slice-key-items.ensures ∙ h) c.key-item.is c.loop-key-test.true) s a
+    (c.loop-key.invariant.grows w start (ap (are_covered_keys (world c.args.self.now) w) c.as_slice-key-items.ensures ∙ h) s a gr)
+
+pub key_columns-returns-in_err-push-clause-grows : goal.key_columns-returns-in_err-push-clause-grows
+key_columns-returns-in_err-push-clause-grows g t c =
+    λ w start h s a gr.
+    c.key_column.ensures.grows w start (all_there (λ (k : SortKey Form). is_covered (world c.args.self.now) w k.value) _ _ _ (ap (are_covered_keys (world c.args.self.now) w) c.as_slice-key-items.ensures ∙ h) c.key-item.is c.loop-key-test.true) s a
+    (c.loop-key.invariant.grows w start (ap (are_covered_keys (world c.args.self.now) w) c.as_slice-key-items.ensures ∙ h) s a gr)
+
+pub key_columns-loop-key-preserved : goal.key_columns-loop-key-preserved
+key_columns-loop-key-preserved g t c =
+    record {
+      meant = all_goes (column_of (world c.args.self.now) (values_in c.args.slots.now) c.args.items.now) _ _ c.loop-key.columns _ _ _ _
+          c.key-item.is c.loop-key-test.true c.in_ok-column.ensures.meant c.in_ok-push.ensures.ok c.loop-key.invariant.meant;
+      grows = λ w start h s a gr.
+          c.key_column.ensures.grows w start (all_there (λ (k : SortKey Form). is_covered (world c.args.self.now) w k.value) _ _ _ h c.key-item.is c.loop-key-test.true) s a
+          (c.loop-key.invariant.grows w start h s a gr);
+    }
+
+pub sequence-returns-clause-grows : goal.sequence-returns-clause-grows
+sequence-returns-clause-grows g t c =
+    λ w start st h s gr.
+    c.read.ensures.grows w start (covered_as (world c.args.self.now) w _ _ c.in_ok-pipe.ensures.source h) (stage_as (world c.args.self.now) w _ _ c.in_ok-pipe.ensures.stage st) s gr
+
+pub sequence-returns-in_err-items-clause-grows : goal.sequence-returns-in_err-items-clause-grows
+sequence-returns-in_err-items-clause-grows g t c =
+    λ w start st h s gr.
+    c.read.ensures.grows w start (covered_as (world c.args.self.now) w _ _ c.in_ok-pipe.ensures.source h) (stage_as (world c.args.self.now) w _ _ c.in_ok-pipe.ensures.stage st) s gr
+
+pub simple-returns-in_ok-pipe-in-Some-clause-grows : goal.simple-returns-in_ok-pipe-in-Some-clause-grows
+simple-returns-in_ok-pipe-in-Some-clause-grows g t c =
+    λ w start h s gr.
+    c.simple_items.ensures.grows w start (covered_as (world c.args.self.now) w _ _ c.in_ok-pipe-in-Some.ensures.source (source_of (world c.args.self.now) w c.in-Some.stage c.args.source.now c.in-Some.source.now c.in-Some.ensures.stage h))
+    (stage_as (world c.args.self.now) w _ _ c.in_ok-pipe-in-Some.ensures.stage (stage_over (world c.args.self.now) w c.in-Some.stage c.args.source.now c.in-Some.source.now c.in-Some.ensures.stage h)) s gr
+
+pub simple-returns-in_ok-pipe-in-None-clause-grows : goal.simple-returns-in_ok-pipe-in-None-clause-grows
+simple-returns-in_ok-pipe-in-None-clause-grows g t c =
+    λ w start h s gr.
+    c.simple_items-in-None.ensures.grows w start (covered_as (world c.args.self.now) w _ _ c.in_ok-pipe-in-None.ensures.source h) (stage_as (world c.args.self.now) w _ _ c.in_ok-pipe-in-None.ensures.stage refl) s gr
+
+pub given-returns-clause-grows : goal.given-returns-clause-grows
+given-returns-clause-grows g t c =
+    λ w start h k s gr.
+    c.given_items.ensures.grows w start (covered_as (world c.args.self.now) w _ _ c.in_ok-pipe.ensures.source h) (stage_as (world c.args.self.now) w _ _ c.in_ok-pipe.ensures.stage refl) s (c.evaluate.ensures.grows w start k s gr)
+
+pub all-returns-clause-grows : goal.all-returns-clause-grows
+all-returns-clause-grows g t c =
+    λ w start h k s gr.
+    c.all_hold.ensures.grows w start k (covered_as (world c.args.self.now) w _ _ c.in_ok-pipe.ensures.source h) (stage_as (world c.args.self.now) w _ _ c.in_ok-pipe.ensures.stage refl) s gr
+
+pub select_many-returns-clause-grows : goal.select_many-returns-clause-grows
+select_many-returns-clause-grows g t c =
+    λ w start h hi hb s gr.
+    c.expand.ensures.grows w start (covered_as (world c.args.self.now) w _ _ c.in_ok-pipe.ensures.source h) (stage_as (world c.args.self.now) w _ _ c.in_ok-pipe.ensures.stage refl) hi hb s gr
+
+pub select_many-returns-in_err-values-clause-grows : goal.select_many-returns-in_err-values-clause-grows
+select_many-returns-in_err-values-clause-grows g t c =
+    λ w start h hi hb s gr.
+    c.expand.ensures.grows w start (covered_as (world c.args.self.now) w _ _ c.in_ok-pipe.ensures.source h) (stage_as (world c.args.self.now) w _ _ c.in_ok-pipe.ensures.stage refl) hi hb s gr
+
+pub expand_item-returns-clause-grows : goal.expand_item-returns-clause-grows
+expand_item-returns-clause-grows g t c =
+    λ w start hi hb s i gr.
+    c.read.ensures.grows w start (covered_as (world c.args.self.now) w _ _ c.in_ok-pipe.ensures.source hi) (stage_as (world c.args.self.now) w _ _ c.in_ok-pipe.ensures.stage hb) (slot_more w (values_in c.args.slots.now) _ _ c.with-deeper.ensures s i) gr
+
+pub group_by-returns-clause-grows : goal.group_by-returns-clause-grows
+group_by-returns-clause-grows g t c =
+    λ w start h hk he s gr.
+    c.key_pairs.ensures.grows w start h hk he s gr
+
+pub group_by-returns-in_err-pairs-clause-grows : goal.group_by-returns-in_err-pairs-clause-grows
+group_by-returns-in_err-pairs-clause-grows g t c =
+    λ w start h hk he s gr.
+    c.key_pairs.ensures.grows w start h hk he s gr
+
+pub group_by-returns-in_err-groups-clause-grows : goal.group_by-returns-in_err-groups-clause-grows
+group_by-returns-in_err-groups-clause-grows g t c =
+    λ w start h hk he s gr.
+    c.key_pairs.ensures.grows w start h hk he s gr
+
+pub holds-returns-clause-grows : goal.holds-returns-clause-grows
+holds-returns-clause-grows g t c =
+    λ w start h s i gr.
+    c.truth.ensures.grows w start h (slot_more w (values_in c.args.slots.now) _ _ c.with.ensures s i) gr
+
+pub value_of_item-returns-in-None-clause-grows : goal.value_of_item-returns-in-None-clause-grows
+value_of_item-returns-in-None-clause-grows g t c =
+    λ w start h s i gr.
+    c.evaluate.ensures.grows w start h (slot_more w (values_in c.args.slots.now) _ _ c.with-deeper.ensures s i) gr
+
+pub key_pair-returns-in-Ok-2-clause-grows : goal.key_pair-returns-in-Ok-2-clause-grows
+key_pair-returns-in-Ok-2-clause-grows g t c =
+    λ w start hk he s i gr.
+    c.value_of_item-in-Some.ensures.grows w start (subst (λ e. is_covered_element (world c.args.self.now) w e ≡ true) c.in-Some.is he) s i (c.value_of_item.ensures.grows w start hk s i gr)
+
+pub key_pair-returns-in-Some-clause-grows : goal.key_pair-returns-in-Some-clause-grows
+key_pair-returns-in-Some-clause-grows g t c =
+    λ w start hk he s i gr.
+    c.value_of_item-in-Some.ensures.grows w start (subst (λ e. is_covered_element (world c.args.self.now) w e ≡ true) c.in-Some.is he) s i (c.value_of_item.ensures.grows w start hk s i gr)
+
+pub key_pair-returns-in_err-element-in-Some-clause-grows : goal.key_pair-returns-in_err-element-in-Some-clause-grows
+key_pair-returns-in_err-element-in-Some-clause-grows g t c =
+    λ w start hk he s i gr.
+    c.value_of_item-in-Some.ensures.grows w start (subst (λ e. is_covered_element (world c.args.self.now) w e ≡ true) c.in-Some.is he) s i (c.value_of_item.ensures.grows w start hk s i gr)
+
+pub join-returns-in_err-pairs-clause-grows : goal.join-returns-in_err-pairs-clause-grows
+join-returns-in_err-pairs-clause-grows g t c =
+    λ w start h a s gr.
+    c.key_pairs.ensures.grows w start (join_inner (world c.args.self.now) w c.args.joined.now h) (join_inner_key (world c.args.self.now) w c.args.joined.now h) refl s gr
+
+pub join-returns-in_err-matches-in-Done-clause-grows : goal.join-returns-in_err-matches-in-Done-clause-grows
+join-returns-in_err-matches-in-Done-clause-grows g t c =
+    λ w start h a s gr.
+    c.key_pairs.ensures.grows w start (join_inner (world c.args.self.now) w c.args.joined.now h) (join_inner_key (world c.args.self.now) w c.args.joined.now h) refl s gr
+
+pub join-returns-in_err-outer-in-Done-clause-grows : goal.join-returns-in_err-outer-in-Done-clause-grows
+join-returns-in_err-outer-in-Done-clause-grows g t c =
+    λ w start h a s gr.
+    c.key_pairs.ensures.grows w start (join_inner (world c.args.self.now) w c.args.joined.now h) (join_inner_key (world c.args.self.now) w c.args.joined.now h) refl s gr
+
+pub join-returns-in-Fault-clause-grows : goal.join-returns-in-Fault-clause-grows
+join-returns-in-Fault-clause-grows g t c =
+    λ w start h a s gr.
+    c.key_pairs.ensures.grows w start (join_inner (world c.args.self.now) w c.args.joined.now h) (join_inner_key (world c.args.self.now) w c.args.joined.now h) refl s gr
+
+pub join-returns-in_ok-values-in-Done-clause-grows : goal.join-returns-in_ok-values-in-Done-clause-grows
+join-returns-in_ok-values-in-Done-clause-grows g t c =
+    λ w start h a s gr.
+    c.join_items.ensures.grows w start h
+    (pairs_match (world c.args.self.now) w (values_in c.args.slots.now) c.args.joined.now.inner c.args.joined.now.inner_key _ _ _ c.in_ok-pairs.ensures.meant c.in_ok-matches-in-Done.ensures (join_inner (world c.args.self.now) w c.args.joined.now h) s)
+    (covered_as (world c.args.self.now) w _ _ c.in_ok-outer-in-Done.ensures.source a) (stage_as (world c.args.self.now) w _ _ c.in_ok-outer-in-Done.ensures.stage refl) s
+    (c.key_pairs.ensures.grows w start (join_inner (world c.args.self.now) w c.args.joined.now h) (join_inner_key (world c.args.self.now) w c.args.joined.now h) refl s gr)
+
+pub join-returns-in_err-values-in-Done-clause-grows : goal.join-returns-in_err-values-in-Done-clause-grows
+join-returns-in_err-values-in-Done-clause-grows g t c =
+    λ w start h a s gr.
+    c.join_items.ensures.grows w start h
+    (pairs_match (world c.args.self.now) w (values_in c.args.slots.now) c.args.joined.now.inner c.args.joined.now.inner_key _ _ _ c.in_ok-pairs.ensures.meant c.in_ok-matches-in-Done.ensures (join_inner (world c.args.self.now) w c.args.joined.now h) s)
+    (covered_as (world c.args.self.now) w _ _ c.in_ok-outer-in-Done.ensures.source a) (stage_as (world c.args.self.now) w _ _ c.in_ok-outer-in-Done.ensures.stage refl) s
+    (c.key_pairs.ensures.grows w start (join_inner (world c.args.self.now) w c.args.joined.now h) (join_inner_key (world c.args.self.now) w c.args.joined.now h) refl s gr)
+
+pub join_item-returns-in_err-key-clause-grows : goal.join_item-returns-in_err-key-clause-grows
+join_item-returns-in_err-key-clause-grows g t c =
+    λ w start h m s i gr.
+    c.value_of_item.ensures.grows w start (join_outer_key (world c.args.self.now) w c.args.joined.now h) s i gr
+
+pub join_item-returns-in_err-inner-in-Ok-clause-grows : goal.join_item-returns-in_err-inner-in-Ok-clause-grows
+join_item-returns-in_err-inner-in-Ok-clause-grows g t c =
+    λ w start h m s i gr.
+    c.value_of_item.ensures.grows w start (join_outer_key (world c.args.self.now) w c.args.joined.now h) s i gr
+
+pub join_item-returns-in-Err-clause-grows : goal.join_item-returns-in-Err-clause-grows
+join_item-returns-in-Err-clause-grows g t c =
+    λ w start h m s i gr.
+    c.value_of_item.ensures.grows w start (join_outer_key (world c.args.self.now) w c.args.joined.now h) s i gr
+
+pub join_item-returns-in_ok-inner-in-Ok-clause-grows : goal.join_item-returns-in_ok-inner-in-Ok-clause-grows
+join_item-returns-in_ok-inner-in-Ok-clause-grows g t c =
+    λ w start h m s i gr.
+    c.select_all.ensures.grows w start (join_result (world c.args.self.now) w c.args.joined.now h) (slot_more w (values_in c.args.slots.now) _ _ c.with-deeper.ensures s i)
+    (ap (have_watched_rows w) (c.as_slice.ensures ∙ c.in_ok-inner-in-Ok.ensures (world c.args.self.now)) ∙ matched_pass w (world c.args.self.now) _ _ _ m)
+    (c.value_of_item.ensures.grows w start (join_outer_key (world c.args.self.now) w c.args.joined.now h) s i gr)
+
+pub order_by-returns-clause-grows : goal.order_by-returns-clause-grows
+order_by-returns-clause-grows g t c =
+    λ w start k h s gr.
+    c.read.ensures.grows w start (covered_as (world c.args.self.now) w _ _ c.in_ok-pipe.ensures.source h) (stage_as (world c.args.self.now) w _ _ c.in_ok-pipe.ensures.stage refl) s gr
+
+pub order_by-returns-in_err-items-clause-grows : goal.order_by-returns-in_err-items-clause-grows
+order_by-returns-in_err-items-clause-grows g t c =
+    λ w start k h s gr.
+    c.read.ensures.grows w start (covered_as (world c.args.self.now) w _ _ c.in_ok-pipe.ensures.source h) (stage_as (world c.args.self.now) w _ _ c.in_ok-pipe.ensures.stage refl) s gr
+
+pub order_by-returns-in-Done-clause-grows : goal.order_by-returns-in-Done-clause-grows
+order_by-returns-in-Done-clause-grows g t c =
+    λ w start k h s gr.
+    c.key_columns-columns.ensures.grows w start k s
+    (ap (have_watched_rows w) c.as_slice.ensures ∙ items_read (world c.args.self.now) w (values_in c.args.slots.now) c.in_ok-pipe.pipe None _ c.in_ok-items.ensures.meant (covered_as (world c.args.self.now) w _ _ c.in_ok-pipe.ensures.source h) (stage_as (world c.args.self.now) w _ _ c.in_ok-pipe.ensures.stage refl) s)
+    (c.read.ensures.grows w start (covered_as (world c.args.self.now) w _ _ c.in_ok-pipe.ensures.source h) (stage_as (world c.args.self.now) w _ _ c.in_ok-pipe.ensures.stage refl) s gr)
+
+pub order_by-returns-in_err-sort_by-in-Done-clause-grows : goal.order_by-returns-in_err-sort_by-in-Done-clause-grows
+order_by-returns-in_err-sort_by-in-Done-clause-grows g t c =
+    λ w start k h s gr.
+    c.key_columns-columns.ensures.grows w start k s
+    (ap (have_watched_rows w) c.as_slice.ensures ∙ items_read (world c.args.self.now) w (values_in c.args.slots.now) c.in_ok-pipe.pipe None _ c.in_ok-items.ensures.meant (covered_as (world c.args.self.now) w _ _ c.in_ok-pipe.ensures.source h) (stage_as (world c.args.self.now) w _ _ c.in_ok-pipe.ensures.stage refl) s)
+    (c.read.ensures.grows w start (covered_as (world c.args.self.now) w _ _ c.in_ok-pipe.ensures.source h) (stage_as (world c.args.self.now) w _ _ c.in_ok-pipe.ensures.stage refl) s gr)

@@ -1,6 +1,7 @@
 -- What each function of the running goes down by: the size of the form, and at one size how far the function stands from `evaluate`; and
 -- what each loop keeps.
-use Rattle.std.proofs.Common.{◌≡◌, ◌+◌, ◌*◌, ◌++◌, Ok, length, map, max, drop}
+use Rattle.std.proofs.Common.{◌≡◌, ◌+◌, ◌*◌, ◌++◌, List, Ok, length, map, max, drop, true}
+use Rattle.lq_host.specs.declared.call.Call.{Call}
 use Rattle.lq_language.specs.Arrangement.{all_of}
 use Rattle.lq_language.specs.Operations.{on_ok}
 use Rattle.lq_language.specs.Enumerable.{all, contains}
@@ -9,6 +10,7 @@ use Rattle.lq_value.specs.SameAndOrder.{same_values}
 use Rattle.lq_value.specs.declared.value.End.TheVariants as end
 use Rattle.lq_tree.specs.declared.tree.Form.{size-Form}
 use Rattle.lq_tree.specs.FormMeaning.{members_of}
+use Rattle.lq_tree.specs.Watches.{Watch, are_covered_fields, are_covered_keys, have_watched_rows, is_covered, is_covered_join}
 use Rattle.lq_operators.specs.Matching.{pairs_of}
 use Rattle.lq_operators.specs.Tallies.{tallied}
 use Rattle.lq_plan.specs.Arrangements.{column_of, key_at}
@@ -18,8 +20,10 @@ use Rattle.lq_plan.specs.Meanings.{holds_of, items_meant, value_of_item}
 use Rattle.lq_plan.specs.Pipes.{all_items, items_left}
 use Rattle.lq_plan.specs.PlannedRows.{kept_stream}
 use Rattle.lq_plan.specs.Slots.{values_in}
+use Rattle.lq_plan.specs.Watching.{facts, is_covered_element, matches_pass, watches}
 use Rattle.lq_pipe.specs.Items.{item_expansion, item_join, keys_and_elements, stream_expansion, stream_join}
-use Rattle.lq_pipe.specs.Runs.{world}
+use Rattle.lq_pipe.specs.Runs.{Grown, HasTaken, covers, world}
+use Rattle.lq_pipe.proofs.LogLemmas.{Covers, Keeps}
 use Rattle.lq_pipe.proofs.PullLemmas.{Comes}
 use Rattle.lq_pipe.proofs.Sizes.{body_size, pipe_size, stage_size}
 use Rattle.lq_pipe.proofs.StreamLemmas.{Goes}
@@ -154,6 +158,12 @@ decreases-has_item g l = 32 * pipe_size l.pipe.now + 16
 abbrev pub decreases-part : goal.decreases-part
 decreases-part g l = 32 * size-Form l.form.now + 10
 
+abbrev pub decreases-key : goal.decreases-key
+decreases-key g l = 32 * size-Form l.group.now + 12
+
+abbrev pub decreases-null_test : goal.decreases-null_test
+decreases-null_test g l = 32 * size-Form l.of.now + 12
+
 abbrev pub decreases-simple_items : goal.decreases-simple_items
 decreases-simple_items g l = 32 * pipe_size l.pipe.now + 18
 
@@ -180,36 +190,52 @@ decreases-pass_pulled g l = 32 * pipe_size l.pipe.now + 13
 -- what was made, and what comes of the items that are left
 abbrev pub invariant-select_all-loop-item : goal.invariant-select_all-loop-item
 invariant-select_all-loop-item g l =
-    Goes (λ v. one (value_of_item (world l.fn.self) l.fn.body l.fn.slots v)) l.items end.Done
-    (select_by (value_of_item (world l.fn.self) l.fn.body l.fn.slots) l.items end.Done) l.values l.item-index
+    record {
+      meant : Goes (λ v. one (value_of_item (world l.fn.self) l.fn.body l.fn.slots v)) l.items end.Done
+          (select_by (value_of_item (world l.fn.self) l.fn.body l.fn.slots) l.items end.Done) l.values l.item-index;
+      grows : ((w : Watch _) (start : List Call) → covers l.fn.self w l.fn.body ≡ true → watches w l.fn.slots ≡ true → have_watched_rows w l.items ≡ true → Grown l.fn.self w start l.fn.log → Grown l.fn.self w start l.log);
+    }
 
 -- the members so far, and those that are left
 abbrev pub invariant-record-loop-field : goal.invariant-record-loop-field
 invariant-record-loop-field g l =
-    on_ok
-    (members_of (world l.fn.self)
-    (map (field_means (world l.fn.self)) (drop l.field-index l.field-items)) (values_in l.fn.slots))
-    (λ ms. Ok (l.members ++ ms))
-    ≡ members_of (world l.fn.self)
-    (map (field_means (world l.fn.self)) l.field-items) (values_in l.fn.slots)
+    record {
+      meant : on_ok
+          (members_of (world l.fn.self)
+          (map (field_means (world l.fn.self)) (drop l.field-index l.field-items)) (values_in l.fn.slots))
+          (λ ms. Ok (l.members ++ ms))
+          ≡ members_of (world l.fn.self)
+          (map (field_means (world l.fn.self)) l.field-items) (values_in l.fn.slots);
+      grows : ((w : Watch _) (start : List Call) → are_covered_fields (world l.fn.self) w l.field-items ≡ true → watches w l.fn.slots ≡ true → Grown l.fn.self w start l.fn.log → Grown l.fn.self w start l.log);
+    }
 
 -- the keys so far, and those of the items that are left
 abbrev pub invariant-key_column-loop-item : goal.invariant-key_column-loop-item
 invariant-key_column-loop-item g l =
-    on_ok (all_of (key_at (world l.fn.self) (values_in l.fn.slots) l.fn.key) (drop l.item-index l.items)) (λ ks. Ok (l.column ++ ks))
-    ≡ all_of (key_at (world l.fn.self) (values_in l.fn.slots) l.fn.key) l.items
+    record {
+      meant : on_ok (all_of (key_at (world l.fn.self) (values_in l.fn.slots) l.fn.key) (drop l.item-index l.items)) (λ ks. Ok (l.column ++ ks))
+          ≡ all_of (key_at (world l.fn.self) (values_in l.fn.slots) l.fn.key) l.items;
+      grows : ((w : Watch _) (start : List Call) → covers l.fn.self w l.fn.key ≡ true → watches w l.fn.slots ≡ true → have_watched_rows w l.items ≡ true → Grown l.fn.self w start l.fn.log → Grown l.fn.self w start l.log);
+    }
 
 -- the columns so far, and those of the keys that are left
 abbrev pub invariant-key_columns-loop-key : goal.invariant-key_columns-loop-key
 invariant-key_columns-loop-key g l =
-    on_ok (all_of (column_of (world l.fn.self) (values_in l.fn.slots) l.fn.items) (drop l.key-index l.key-items)) (λ cs. Ok (l.columns ++ cs))
-    ≡ all_of (column_of (world l.fn.self) (values_in l.fn.slots) l.fn.items) l.key-items
+    record {
+      meant : on_ok (all_of (column_of (world l.fn.self) (values_in l.fn.slots) l.fn.items) (drop l.key-index l.key-items)) (λ cs. Ok (l.columns ++ cs))
+          ≡ all_of (column_of (world l.fn.self) (values_in l.fn.slots) l.fn.items) l.key-items;
+      grows : ((w : Watch _) (start : List Call) → are_covered_keys (world l.fn.self) w l.key-items ≡ true → watches w l.fn.slots ≡ true → have_watched_rows w l.fn.items ≡ true → Grown l.fn.self w start l.fn.log → Grown l.fn.self w start l.log);
+    }
 
 -- ---- loops that pull
 
 -- what is left of a pipe is what was left before, an item that was dropped aside
 abbrev pub invariant-next-loop-pulled : goal.invariant-next-loop-pulled
-invariant-next-loop-pulled g l = items_left (world l.fn.self) (values_in l.fn.slots) l.fn.pipe l.base ≡ items_left (world l.fn.self) (values_in l.fn.slots) l.fn.pipe l.fn.base
+invariant-next-loop-pulled g l =
+    record {
+      meant : items_left (world l.fn.self) (values_in l.fn.slots) l.fn.pipe l.base ≡ items_left (world l.fn.self) (values_in l.fn.slots) l.fn.pipe l.fn.base;
+      pulled : HasTaken l.fn.self l.fn.slots l.fn.pipe l.fn.base l.fn.log l.base l.log;
+    }
 
 abbrev pub decreases-next-loop-pulled : goal.decreases-next-loop-pulled
 decreases-next-loop-pulled g l = length (kept_stream g.R.TableRow.table_of g.R.RowRef.shown l.fn.pipe.plan l.base).0
@@ -217,14 +243,21 @@ decreases-next-loop-pulled g l = length (kept_stream g.R.TableRow.table_of g.R.R
 -- the items so far, and those that are left up to the limit
 abbrev pub invariant-read-loop-less : goal.invariant-read-loop-less
 invariant-read-loop-less g l =
-    then_ending l.items end.Done (read_first l.left (items_left (world l.fn.self) (values_in l.fn.slots) l.fn.pipe l.base)) ≡ read_first l.fn.limit (all_items (world l.fn.self) (values_in l.fn.slots) l.fn.pipe)
+    record {
+      meant : then_ending l.items end.Done (read_first l.left (items_left (world l.fn.self) (values_in l.fn.slots) l.fn.pipe l.base)) ≡ read_first l.fn.limit (all_items (world l.fn.self) (values_in l.fn.slots) l.fn.pipe);
+      log : Keeps (world l.fn.self) (facts l.fn.self.sources) g.R.TableRow.table_of g.R.RowRef.shown (values_in l.fn.slots) l.fn.pipe (Covers (world l.fn.self) (values_in l.fn.slots) l.fn.pipe) l.fn.log l.log l.base;
+    }
 
 abbrev pub decreases-read-loop-less : goal.decreases-read-loop-less
 decreases-read-loop-less g l = length (items_left (world l.fn.self) (values_in l.fn.slots) l.fn.pipe l.base).0
 
 -- the tally so far comes to the same over the items that are left
 abbrev pub invariant-tally-loop-base : goal.invariant-tally-loop-base
-invariant-tally-loop-base g l = tallied l.fn.of l.tally (items_left (world l.fn.self) (values_in l.fn.slots) l.fn.pipe l.base) ≡ tallied l.fn.of l.fn.tally (all_items (world l.fn.self) (values_in l.fn.slots) l.fn.pipe)
+invariant-tally-loop-base g l =
+    record {
+      meant : tallied l.fn.of l.tally (items_left (world l.fn.self) (values_in l.fn.slots) l.fn.pipe l.base) ≡ tallied l.fn.of l.fn.tally (all_items (world l.fn.self) (values_in l.fn.slots) l.fn.pipe);
+      log : Keeps (world l.fn.self) (facts l.fn.self.sources) g.R.TableRow.table_of g.R.RowRef.shown (values_in l.fn.slots) l.fn.pipe (Covers (world l.fn.self) (values_in l.fn.slots) l.fn.pipe) l.fn.log l.log l.base;
+    }
 
 abbrev pub decreases-tally-loop-base : goal.decreases-tally-loop-base
 decreases-tally-loop-base g l = length (items_left (world l.fn.self) (values_in l.fn.slots) l.fn.pipe l.base).0
@@ -232,15 +265,21 @@ decreases-tally-loop-base g l = length (items_left (world l.fn.self) (values_in 
 -- what the items that are left answer is what all answer
 abbrev pub invariant-has_item-loop-base : goal.invariant-has_item-loop-base
 invariant-has_item-loop-base g l =
-    contains same_values l.fn.value (items_left (world l.fn.self) (values_in l.fn.slots) l.fn.pipe l.base).0 (items_left (world l.fn.self) (values_in l.fn.slots) l.fn.pipe l.base).1 ≡ contains same_values l.fn.value (all_items (world l.fn.self) (values_in l.fn.slots) l.fn.pipe).0 (all_items (world l.fn.self) (values_in l.fn.slots) l.fn.pipe).1
+    record {
+      meant : contains same_values l.fn.value (items_left (world l.fn.self) (values_in l.fn.slots) l.fn.pipe l.base).0 (items_left (world l.fn.self) (values_in l.fn.slots) l.fn.pipe l.base).1 ≡ contains same_values l.fn.value (all_items (world l.fn.self) (values_in l.fn.slots) l.fn.pipe).0 (all_items (world l.fn.self) (values_in l.fn.slots) l.fn.pipe).1;
+      log : Keeps (world l.fn.self) (facts l.fn.self.sources) g.R.TableRow.table_of g.R.RowRef.shown (values_in l.fn.slots) l.fn.pipe (Covers (world l.fn.self) (values_in l.fn.slots) l.fn.pipe) l.fn.log l.log l.base;
+    }
 
 abbrev pub decreases-has_item-loop-base : goal.decreases-has_item-loop-base
 decreases-has_item-loop-base g l = length (items_left (world l.fn.self) (values_in l.fn.slots) l.fn.pipe l.base).0
 
 abbrev pub invariant-all_hold-loop-base : goal.invariant-all_hold-loop-base
 invariant-all_hold-loop-base g l =
-    all (holds_of (world l.fn.self) l.fn.condition l.fn.slots) (items_left (world l.fn.self) (values_in l.fn.slots) l.fn.pipe l.base).0 (items_left (world l.fn.self) (values_in l.fn.slots) l.fn.pipe l.base).1
-    ≡ all (holds_of (world l.fn.self) l.fn.condition l.fn.slots) (all_items (world l.fn.self) (values_in l.fn.slots) l.fn.pipe).0 (all_items (world l.fn.self) (values_in l.fn.slots) l.fn.pipe).1
+    record {
+      meant : all (holds_of (world l.fn.self) l.fn.condition l.fn.slots) (items_left (world l.fn.self) (values_in l.fn.slots) l.fn.pipe l.base).0 (items_left (world l.fn.self) (values_in l.fn.slots) l.fn.pipe l.base).1
+          ≡ all (holds_of (world l.fn.self) l.fn.condition l.fn.slots) (all_items (world l.fn.self) (values_in l.fn.slots) l.fn.pipe).0 (all_items (world l.fn.self) (values_in l.fn.slots) l.fn.pipe).1;
+      log : Keeps (world l.fn.self) (facts l.fn.self.sources) g.R.TableRow.table_of g.R.RowRef.shown (values_in l.fn.slots) l.fn.pipe (λ w. Covers (world l.fn.self) (values_in l.fn.slots) l.fn.pipe w × (is_covered (world l.fn.self) w l.fn.condition ≡ true)) l.fn.log l.log l.base;
+    }
 
 abbrev pub decreases-all_hold-loop-base : goal.decreases-all_hold-loop-base
 decreases-all_hold-loop-base g l = length (items_left (world l.fn.self) (values_in l.fn.slots) l.fn.pipe l.base).0
@@ -248,16 +287,22 @@ decreases-all_hold-loop-base g l = length (items_left (world l.fn.self) (values_
 -- what was made, and what comes of the items that are left
 abbrev pub invariant-expand-loop-values : goal.invariant-expand-loop-values
 invariant-expand-loop-values g l =
-    Comes (item_expansion (world l.fn.self) (values_in l.fn.slots) l.fn.inner l.fn.body) (items_left (world l.fn.self) (values_in l.fn.slots) l.fn.pipe l.base)
-    (stream_expansion (world l.fn.self) (values_in l.fn.slots) l.fn.inner l.fn.body (all_items (world l.fn.self) (values_in l.fn.slots) l.fn.pipe)) l.values
+    record {
+      meant : Comes (item_expansion (world l.fn.self) (values_in l.fn.slots) l.fn.inner l.fn.body) (items_left (world l.fn.self) (values_in l.fn.slots) l.fn.pipe l.base)
+          (stream_expansion (world l.fn.self) (values_in l.fn.slots) l.fn.inner l.fn.body (all_items (world l.fn.self) (values_in l.fn.slots) l.fn.pipe)) l.values;
+      log : Keeps (world l.fn.self) (facts l.fn.self.sources) g.R.TableRow.table_of g.R.RowRef.shown (values_in l.fn.slots) l.fn.pipe (λ w. Covers (world l.fn.self) (values_in l.fn.slots) l.fn.pipe w × (is_covered (world l.fn.self) w l.fn.inner ≡ true) × (is_covered (world l.fn.self) w l.fn.body ≡ true)) l.fn.log l.log l.base;
+    }
 
 abbrev pub decreases-expand-loop-values : goal.decreases-expand-loop-values
 decreases-expand-loop-values g l = length (items_left (world l.fn.self) (values_in l.fn.slots) l.fn.pipe l.base).0
 
 abbrev pub invariant-join_items-loop-values : goal.invariant-join_items-loop-values
 invariant-join_items-loop-values g l =
-    Comes (item_join (world l.fn.self) (values_in l.fn.slots) l.fn.joined (pairs_of l.fn.matches)) (items_left (world l.fn.self) (values_in l.fn.slots) l.fn.pipe l.base)
-    (stream_join (world l.fn.self) (values_in l.fn.slots) l.fn.joined (pairs_of l.fn.matches) (all_items (world l.fn.self) (values_in l.fn.slots) l.fn.pipe)) l.values
+    record {
+      meant : Comes (item_join (world l.fn.self) (values_in l.fn.slots) l.fn.joined (pairs_of l.fn.matches)) (items_left (world l.fn.self) (values_in l.fn.slots) l.fn.pipe l.base)
+          (stream_join (world l.fn.self) (values_in l.fn.slots) l.fn.joined (pairs_of l.fn.matches) (all_items (world l.fn.self) (values_in l.fn.slots) l.fn.pipe)) l.values;
+      log : Keeps (world l.fn.self) (facts l.fn.self.sources) g.R.TableRow.table_of g.R.RowRef.shown (values_in l.fn.slots) l.fn.pipe (λ w. Covers (world l.fn.self) (values_in l.fn.slots) l.fn.pipe w × (is_covered_join (world l.fn.self) w l.fn.joined ≡ true) × (matches_pass w (pairs_of l.fn.matches) ≡ true)) l.fn.log l.log l.base;
+    }
 
 abbrev pub decreases-join_items-loop-values : goal.decreases-join_items-loop-values
 decreases-join_items-loop-values g l = length (items_left (world l.fn.self) (values_in l.fn.slots) l.fn.pipe l.base).0
@@ -265,8 +310,11 @@ decreases-join_items-loop-values g l = length (items_left (world l.fn.self) (val
 -- the pairs so far, and those of the items that are left
 abbrev pub invariant-key_pairs-loop-pairs : goal.invariant-key_pairs-loop-pairs
 invariant-key_pairs-loop-pairs g l =
-    then_ending l.pairs end.Done (keys_and_elements (world l.fn.self) (values_in l.fn.slots) l.fn.key l.fn.element (items_left (world l.fn.self) (values_in l.fn.slots) l.pipe l.base))
-    ≡ keys_and_elements (world l.fn.self) (values_in l.fn.slots) l.fn.key l.fn.element (items_meant (world l.fn.self) l.fn.source l.fn.slots)
+    record {
+      meant : then_ending l.pairs end.Done (keys_and_elements (world l.fn.self) (values_in l.fn.slots) l.fn.key l.fn.element (items_left (world l.fn.self) (values_in l.fn.slots) l.pipe l.base))
+          ≡ keys_and_elements (world l.fn.self) (values_in l.fn.slots) l.fn.key l.fn.element (items_meant (world l.fn.self) l.fn.source l.fn.slots);
+      log : Keeps (world l.fn.self) (facts l.fn.self.sources) g.R.TableRow.table_of g.R.RowRef.shown (values_in l.fn.slots) l.pipe (λ w. Covers (world l.fn.self) (values_in l.fn.slots) l.pipe w × (is_covered (world l.fn.self) w l.fn.key ≡ true) × (is_covered_element (world l.fn.self) w l.fn.element ≡ true)) l.fn.log l.log l.base;
+    }
 
 abbrev pub decreases-key_pairs-loop-pairs : goal.decreases-key_pairs-loop-pairs
 decreases-key_pairs-loop-pairs g l = length (items_left (world l.fn.self) (values_in l.fn.slots) l.pipe l.base).0
