@@ -18,7 +18,7 @@ pub record IsScript (known : Option (List ℕ)) (script : List ℕ) : Type 0 whe
   pub in_size : IsInSize script
   pub utf8 : IsUtf8 script
 
--- Each line was stepped in order, and their replies were written, whole and nothing else. The log grew by the calls that they made.
+-- Each line was stepped in order, and their replies were written, whole and nothing else. The log grew by calls that they allow, line by line.
 pub record LinesServed (all : List (List ℕ)) (old new : State) (hosts hosts_after : Hosts) (before after : Option (List ℕ)) (summary : Summary) : Type 0 where
   pub replies : List Reply
   pub calls : List Call

@@ -41,7 +41,7 @@ pub fn serve<R: Read, W: Write>(
     requires reader { is_failed reader.old ≡ false }
     requires writer { is_failed writer.old ≡ false }
 
-    // What is written is the output of the machine over the script's lines, and the log grows by the calls that these make.
+    // What is written is the output of the machine over the script's lines, and the log grows by calls that these allow.
     ensures ok { IfOk result (λ summary.
         ServedWhole (R.remaining (inner_of reader.old)) (state_of session.old)
         (state_of session.new) (hosts_in session.old) (hosts_in session.new)

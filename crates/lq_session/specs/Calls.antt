@@ -30,7 +30,7 @@ PerformsAndCalls predicates opened statement old calls result new calls_after =
 abbrev pub Logs : Hosts → List Call → Hosts → Type 0
 Logs old calls new = (new.calls ≡ old.calls ++ calls) × (new.predicates ≡ old.predicates)
 
--- The line is answered, and the log grows by just the calls that it makes.
+-- The line is answered, and the log grows by calls that it allows.
 pub record AnswersAndLogs (old : State) (hosts : Hosts) (line : List ℕ) (reply : Reply) (new : State) (hosts_after : Hosts) : Type 0 where
   pub calls : List Call
   pub logged : Logs hosts calls hosts_after
